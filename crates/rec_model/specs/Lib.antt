@@ -1,0 +1,9 @@
+pub mod Asking
+pub mod Heap
+pub mod LegalOrder
+pub mod Listing
+pub mod Numbering
+pub mod Reach
+pub mod Sight
+pub use Rattle.rec_word.specs.Place
+pub use Rattle.rec_word.specs.Word

@@ -1,0 +1,17 @@
+//! What the collector's heap means: plain values and definitions that every other crate speaks of.
+//!
+//! Commands and their answers; the heap that never frees, which says what each command has to answer; what a register
+//! reaches, and in which order a listing numbers it; when one order of events explains the answers of all mutators; and
+//! when such a heap stands for the words of a running one. The crate knows no machine and no buffer.
+//! The layer above may use the definitions of `specs/`, and the laws, which are the contracts of the functions in `laws`.
+//! The heap that never frees is the specification of this project; what it specifies is the collector of the paper
+//! "Java without the Coffee Breaks" (2001).
+#![tactic(auto)]
+
+mod answer;
+mod command;
+mod told;
+
+pub use answer::Answer;
+pub use command::Cmd;
+pub use told::Told;

@@ -1,0 +1,35 @@
+ghost use Rattle.std.specs.Prelude.{◌≡◌, ◌<◌, ◌^◌};
+
+/// One atomic operation on one shared word. A place numbers a field, a slot a header.
+#[derive(Clone, Copy, Debug, PartialEq, Eq)]
+pub enum Op {
+    /// Load a field.
+    LoadField(u32),
+    /// Exchange a field for a word.
+    SwapField(u32, u64),
+    /// Load the header of a held slot.
+    LoadHeader(u16),
+    /// Compare a header with 0, and where it is 0 put the label plus one there.
+    ClaimHeader(u16, u32),
+}
+
+impl Op {
+    ghost use Rattle.rec_word.specs.Op.{written};
+
+    /// The word that stands there afterwards, where this one was found.
+    pub fn written(self, found: u64) -> u64
+        ensures { result ≡ written self found }
+    {
+        match self {
+            Op::LoadField(_) | Op::LoadHeader(_) => found,
+            Op::SwapField(_, word) => word,
+            Op::ClaimHeader(_, label) => {
+                if found == 0 {
+                    u64::from(label) + 1
+                } else {
+                    found
+                }
+            }
+        }
+    }
+}
