@@ -1,5 +1,7 @@
 pub mod Answered
+pub mod Collected
 pub mod Names
+pub mod Opened
 pub mod Standing
 pub mod Within
 pub mod Words
