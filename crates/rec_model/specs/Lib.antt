@@ -1,4 +1,5 @@
 pub mod Asking
+pub mod Explained
 pub mod Heap
 pub mod LegalOrder
 pub mod Listing

@@ -61,7 +61,7 @@ IsCollected w = (slot : ℕ) → IsTaken w slot ↔ Reaches w slot
 -- What every running heap keeps: registers and the fields of taken slots name taken slots, and a free slot's fields are null.
 pub record IsSound (w : Sight) : Type 0 where
   pub places : length w.words ≡ length w.headers * w.fields
-  pub registers : (t r slot : ℕ) → register w.registers t r ≡ Some slot → IsTaken w slot
+  pub registers : (slot : ℕ) → is_in slot (roots w.registers) ≡ true → IsTaken w slot
   pub fields : (s slot : ℕ) → IsTaken w s → is_in slot (targets_of w s) ≡ true → IsTaken w slot
   pub free : (s : ℕ) → s < length w.headers → (IsTaken w s → ⊥) → words_of w s ≡ replicate w.fields 0
 

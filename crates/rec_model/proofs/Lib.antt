@@ -1,0 +1,5 @@
+pub mod Answered
+pub mod Names
+pub mod Standing
+pub mod Within
+pub mod Words
