@@ -2,7 +2,7 @@ ghost use Rattle.std.specs.Prelude.{◌≡◌, ℕ, ◌+◌, ◌*◌, ◌<◌, �
 ghost use Rattle.rec_word.specs.Place.{place_of};
 ghost use Rattle.rec_word.specs.Word.{IsTarget, packed, stamp_of, target_of};
 ghost use Rattle.rec_model.specs.Heap.{Heap, opening, register, set_register};
-ghost use Rattle.rec_model.specs.Asking.{IsTold, asked};
+ghost use Rattle.rec_model.specs.Explained.{IsExplained};
 ghost use Rattle.rec_model.specs.LegalOrder.{is_birth, word_left};
 ghost use Rattle.rec_model.specs.Sight.{IsTaken, IsCollected, StandsFor, word_at};
 ghost use Rattle.rec_world.specs.Config.{IsConfig, IsMutator, HasOperands, IsValid};
@@ -83,10 +83,9 @@ impl World {
         requires valid { IsValid self.old.config t cmd }
         requires unmarked { self.old.marked ≡ false }
 
-        // Whatever heap that never frees stands for the world, what is told is what asking gives, and the heap that
-        // asking gives stands for the world afterwards.
-        ensures told { (heap : Heap) → StandsFor heap (sight self.old) → IsTold self.old.config.fields heap t cmd result }
-        ensures stands { (heap : Heap) → StandsFor heap (sight self.old) → StandsFor (asked self.old.config.fields heap t cmd result).heap (sight self.new) }
+        // Whatever heap that never frees stands for the world, what is told is what asking it gives, and what it then is
+        // stands for the world afterwards.
+        ensures explained { IsExplained (sight self.old) t cmd result (sight self.new) }
 
         // When each refusal comes; it changes nothing.
         ensures log_full { (result.answer ≡ Answer.LogFull) ↔ IsLogFull self.old t cmd }
@@ -108,13 +107,8 @@ impl World {
 
         ensures kept { IsWorld self.new }
     {
-        match cmd {
-            Cmd::New { reg, label } => self.new_object(t, reg, label),
-            Cmd::Null { reg } => self.null(t, reg),
-            Cmd::Get { dst, src, field } => self.get(t, dst, src, field),
-            Cmd::Put { src, field, val } => self.put(t, src, field, val),
-            Cmd::Value { reg } => self.value(t, reg),
-        }
+        prove!(!self.marked);
+        self.carry_out(t, cmd)
     }
 
     /// Marks from the registers, and clears the header and the fields of every slot that no register reaches.
@@ -218,6 +212,22 @@ impl World {
         self.logged == self.config.log_entries
     }
 
+    fn carry_out(&mut self, t: u8, cmd: Cmd) -> Told
+        requires valid { IsValid self.old.config t cmd }
+        requires unmarked { self.old.marked ≡ false }
+
+        ensures world { self.new ≡ (outcome self.old t cmd).world }
+        ensures told { result ≡ (outcome self.old t cmd).told }
+    {
+        match cmd {
+            Cmd::New { reg, label } => self.new_object(t, reg, label),
+            Cmd::Null { reg } => self.null(t, reg),
+            Cmd::Get { dst, src, field } => self.get(t, dst, src, field),
+            Cmd::Put { src, field, val } => self.put(t, src, field, val),
+            Cmd::Value { reg } => self.value(t, reg),
+        }
+    }
+
     fn new_object(&mut self, t: u8, reg: u8, label: u32) -> Told
         requires valid { IsValid self.old.config t (Cmd.New reg label) }
         requires unmarked { self.old.marked ≡ false }
@@ -316,6 +326,7 @@ impl World {
         requires room { self.now.logged < self.now.config.log_entries }
 
         ensures word { result ≡ packed target (next_stamp self.now t) }
+        ensures target { target_of result ≡ target }
     {
         let stamp = Stamp {
             writer: t,
