@@ -108,7 +108,9 @@ impl World {
         ensures kept { IsWorld self.new }
     {
         prove!(!self.marked);
-        self.carry_out(t, cmd)
+        let told = self.carry_out(t, cmd);
+        prove!(!self.marked);
+        told
     }
 
     /// Marks from the registers, and clears the header and the fields of every slot that no register reaches.
