@@ -1,5 +1,5 @@
 -- What a command does to registers, headers and words is what asking gives, whatever heap stood before.
-use Rattle.std.proofs.Common.{◌≡◌, ◌≢◌, inl, inr, ℕ, ◌+◌, ◌-◌, ◌<◌, List, [], Option, None, Some, Bool, true, false, slice_index_or, length, map, replicate, zero, suc, ◌∷◌, refl, sym, ap, subst, ◌∙◌, arith}
+use Rattle.std.proofs.Common.{◌≡◌, inl, inr, ℕ, ◌+◌, ◌-◌, ◌<◌, [], Option, None, Some, true, false, slice_index_or, length, map, replicate, refl, sym, ap, subst, ◌∙◌, arith}
 use Rattle.std.specs.Option.{option_map, is_some}
 use Rattle.std.proofs.Math.ListN.{get_or-map}
 use Rattle.rec_word.specs.Word.{target_of}
@@ -8,14 +8,14 @@ use Rattle.rec_model.specs.declared.command.Cmd.TheVariants as commands
 use Rattle.rec_model.specs.declared.answer.Answer.{Answer}
 use Rattle.rec_model.specs.declared.answer.Answer.TheVariants as answers
 use Rattle.rec_model.specs.declared.told.Told.{Told}
-use Rattle.rec_model.specs.Reach.{named, is_in, IsReached}
+use Rattle.rec_model.specs.Reach.{named}
 use Rattle.rec_model.specs.Reach.IsReached.{root, child}
-use Rattle.rec_model.specs.Heap.{Heap, Field, Object, null_field, object, field, born, register, roots, with_register, with_field, with_object}
+use Rattle.rec_model.specs.Heap.{Heap, Field, Object, object, field, born, register, with_register, with_field, with_object}
 use Rattle.rec_model.specs.Asking.{Asked, asked, asks, answered, refused, AnswersAs, LeavesWord, IsTold, null_or_object, got, put, value, is_done, refuses_new}
-use Rattle.rec_model.specs.Sight.{Sight, IsTaken, words_of, targets_of, word_at, Reaches, field_of, StandsBy, StandsFor, IsSound, sight_with_register, sight_with_word, sight_with_header}
+use Rattle.rec_model.specs.Sight.{Sight, words_of, targets_of, word_at, Reaches, field_of, StandsBy, StandsFor, IsSound, sight_with_register, sight_with_word, sight_with_header}
 use Rattle.rec_model.specs.Explained.{IsExplained}
 use Rattle.rec_model.proofs.Names.{register_root, named_at}
-use Rattle.rec_model.proofs.Words.{named-nulls}
+use Rattle.rec_model.proofs.Words.{named-nulls, null_fields}
 use Rattle.rec_model.proofs.Standing.{MayName, taken_is_other, reached_is_taken, register_stands, register_names, field_agrees, word_in, with_birth, with_birth-same, object_born, birth_stands, write_stands}
 
 -- an answer that leaves and saw no word
@@ -38,18 +38,20 @@ some_register heap w number t r slot by is = register_names heap w number t r by
 told_by : (fields : ℕ) (heap : Heap) (t : ℕ) (cmd : Cmd) (told : Told) (next : Asked) (after : Sight) → asked fields heap t cmd told ≡ next
     → AnswersAs cmd next.answer told.answer → told.saw ≡ next.saw → LeavesWord heap t cmd told → StandsFor next.heap after
     → IsTold fields heap t cmd told × StandsFor (asked fields heap t cmd told).heap after
-told_by fields heap t cmd told next after is answer saw left stands =
-    (record {
-      answer = subst (λ (x : Asked). AnswersAs cmd x.answer told.answer) (sym is) answer;
-      saw = saw ∙ ap (λ (x : Asked). x.saw) (sym is);
-      left = left;
-    }, subst (λ (x : Asked). StandsFor x.heap after) (sym is) stands)
+told_by fields heap t cmd told next after is answer saw left stands = (
+  record {
+    answer = subst (λ (x : Asked). AnswersAs cmd x.answer told.answer) (sym is) answer;
+    saw = saw ∙ ap (λ (x : Asked). x.saw) (sym is);
+    left = left;
+  },
+  subst (λ (x : Asked). StandsFor x.heap after) (sym is) stands,
+)
 
 -- a read through a null register
 pub get_of_null : (w : Sight) (t dst src f : ℕ) → register w.registers t src ≡ None → IsExplained w t (commands.Get dst src f) (plain answers.NoObject) w
 get_of_null w t dst src f is heap (number, by) =
     told_by w.fields heap t (commands.Get dst src f) (plain answers.NoObject) (answered heap answers.NoObject 0) w
-      (ap (got heap t dst f) (null_register heap w number t src by is)) refl refl refl (number, by)
+    (ap (got heap t dst f) (null_register heap w number t src by is)) refl refl refl (number, by)
 
 -- a numbering keeps what is null null
 null_or_object-map : (number : ℕ → ℕ) (x : Option ℕ) → null_or_object x ≡ null_or_object (option_map number x)
@@ -73,21 +75,21 @@ get_explained w t dst src f slot in_range is heap (number, by) =
     let from : Reaches w slot = root slot (register_root w.registers t src slot is) in
     let read : Field → Asked = λ x. answered (with_register heap t dst x.target) (null_or_object x.target) x.word in
     told_by w.fields heap t (commands.Get dst src f) (record { answer = null_or_object (target_of word); saw = word; left = 0 }) (read (field_of number word)) (sight_with_register w t dst (target_of word))
-      (ap (got heap t dst f) (some_register heap w number t src slot by is) ∙ ap read (field_agrees heap w number slot f by from in_range))
-      (null_or_object-map number (target_of word)) refl refl
-      (number, register_stands heap w number t dst (target_of word) (λ n there. inl (target_reached w slot f n in_range from there)) by)
+    (ap (got heap t dst f) (some_register heap w number t src slot by is) ∙ ap read (field_agrees heap w number slot f by from in_range))
+    (null_or_object-map number (target_of word)) refl refl
+    (number, register_stands heap w number t dst (target_of word) (λ n there. inl (target_reached w slot f n in_range from there)) by)
 
 -- a write through a null register
 pub put_of_null : (w : Sight) (t src f val : ℕ) → register w.registers t src ≡ None → IsExplained w t (commands.Put src f val) (plain answers.NoObject) w
 put_of_null w t src f val is heap (number, by) =
     told_by w.fields heap t (commands.Put src f val) (plain answers.NoObject) (answered heap answers.NoObject 0) w
-      (ap (put heap f (register heap.registers t val) false 0) (null_register heap w number t src by is)) refl refl refl (number, by)
+    (ap (put heap f (register heap.registers t val) false 0) (null_register heap w number t src by is)) refl refl refl (number, by)
 
 -- a write that finds no room in the log
 pub put_refused : (w : Sight) (t src f val slot : ℕ) → register w.registers t src ≡ Some slot → IsExplained w t (commands.Put src f val) (plain answers.LogFull) w
 put_refused w t src f val slot is heap (number, by) =
     told_by w.fields heap t (commands.Put src f val) (plain answers.LogFull) (refused heap) w
-      (ap (put heap f (register heap.registers t val) false 0) (some_register heap w number t src slot by is)) refl refl refl (number, by)
+    (ap (put heap f (register heap.registers t val) false 0) (some_register heap w number t src slot by is)) refl refl refl (number, by)
 
 -- a write of a field
 pub put_explained : (w : Sight) (t src f val slot word : ℕ) → IsSound w → f < w.fields → register w.registers t src ≡ Some slot → target_of word ≡ register w.registers t val
@@ -97,20 +99,15 @@ put_explained w t src f val slot word sound in_range is names heap (number, by) 
     let target : register heap.registers t val ≡ option_map number (target_of word) = register_names heap w number t val by ∙ ap (option_map number) (sym names) in
     let write : Option ℕ → Asked = λ x. answered (with_field heap (number slot) f (record { target = x; word = word })) answers.Done (field heap (number slot) f).word in
     told_by w.fields heap t (commands.Put src f val) (record { answer = answers.Done; saw = word_at w slot f; left = word }) (write (option_map number (target_of word))) (sight_with_word w slot f word)
-      (ap (put heap f (register heap.registers t val) true word) (some_register heap w number t src slot by is) ∙ ap write target)
-      refl
-      (sym (ap (λ (x : Field). x.word) (field_agrees heap w number slot f by from in_range)))
-      (is_some-map number (target_of word) ∙ ap is_some (sym target))
-      (number, write_stands heap w number slot f word sound in_range from (λ n there. root n (register_root w.registers t val n (sym names ∙ there))) by)
+    (ap (put heap f (register heap.registers t val) true word) (some_register heap w number t src slot by is) ∙ ap write target)
+    refl
+    (sym (ap (λ (x : Field). x.word) (field_agrees heap w number slot f by from in_range)))
+    (is_some-map number (target_of word) ∙ ap is_some (sym target))
+    (number, write_stands heap w number slot f word sound in_range from (λ n there. root n (register_root w.registers t val n (sym names ∙ there))) by)
 
 -- one value in two options
 some_same : (m n : ℕ) → ◌≡◌ {A = Option ℕ} (Some m) (Some n) → m ≡ n
 some_same m n is = cc
-
--- null fields, under any numbering
-null_fields : (number : ℕ → ℕ) (n : ℕ) → replicate n null_field ≡ map (field_of number) (replicate n 0)
-null_fields number zero = refl
-null_fields number (suc n) = ap (λ (xs : List Field). null_field ∷ xs) (null_fields number n)
 
 -- a birth in a free slot
 pub new_explained : (w : Sight) (t reg label slot : ℕ) → IsSound w → slot < length w.headers → slice_index_or w.headers slot 0 ≡ 0
@@ -122,24 +119,28 @@ new_explained w t reg label slot sound in_range free heap (number, by) =
     let is : next slot ≡ length heap.objects = with_birth-same number slot (length heap.objects) in
     let nulls : words_of w slot ≡ replicate w.fields 0 = sound.free slot in_range (λ taken. taken_is_other w slot slot free taken refl) in
     let fields : (object grown (next slot)).fields ≡ map (field_of next) (words_of after slot)
-        = ap (λ n. (object grown n).fields) is ∙ ap (λ (x : Object). x.fields) (object_born heap (born w.fields label)) ∙ null_fields next w.fields ∙ ap (map (field_of next)) (sym nulls) in
+    = ap (λ n. (object grown n).fields) is ∙ ap (λ (x : Object). x.fields) (object_born heap (born w.fields label)) ∙ null_fields next w.fields ∙ ap (map (field_of next)) (sym nulls) in
     let none : targets_of after slot ≡ [] = ap (λ ws. named (map target_of ws)) nulls ∙ named-nulls w.fields in
-    let may : MayName grown after next (Some slot) = λ n there. inr (subst (λ s. ((object grown (next s)).fields ≡ map (field_of next) (words_of after s)) × (targets_of after s ≡ [])) (some_same slot n there) (fields, none)) in
-    (record { answer = refl; saw = refl; left = refl },
-      (next, subst (λ n. StandsBy (with_register grown t reg (Some n)) (sight_with_register after t reg (Some slot)) next) is
-        (register_stands grown after next t reg (Some slot) may (birth_stands heap w number slot label sound in_range free by))))
+    let may : MayName grown after next (Some slot) = λ n there. inr (subst (λ s. ((object grown (next s)).fields ≡ map (field_of next) (words_of after s)) × (targets_of after s ≡ [])) (some_same slot n there) (fields, none)) in (
+      record { answer = refl; saw = refl; left = refl },
+      (
+        next,
+        subst (λ n. StandsBy (with_register grown t reg (Some n)) (sight_with_register after t reg (Some slot)) next) is
+            (register_stands grown after next t reg (Some slot) may (birth_stands heap w number slot label sound in_range free by)),
+      ),
+    )
 
 -- an allocation that is refused
 pub new_refused : (w : Sight) (t reg label : ℕ) (answer : Answer) → refuses_new answer ≡ true → is_done answer ≡ false → IsExplained w t (commands.New reg label) (plain answer) w
 new_refused w t reg label answer refuses undone heap (number, by) =
     told_by w.fields heap t (commands.New reg label) (plain answer) (refused heap) w
-      (ap (λ made. asks w.fields heap t (commands.New reg label) made 0) undone) refuses refl refl (number, by)
+    (ap (λ made. asks w.fields heap t (commands.New reg label) made 0) undone) refuses refl refl (number, by)
 
 -- the label of a null register
 pub value_of_null : (w : Sight) (t reg : ℕ) → register w.registers t reg ≡ None → IsExplained w t (commands.Value reg) (plain answers.NoObject) w
 value_of_null w t reg is heap (number, by) =
     told_by w.fields heap t (commands.Value reg) (plain answers.NoObject) (answered heap answers.NoObject 0) w
-      (ap (λ x. answered heap (value heap x) 0) (null_register heap w number t reg by is)) refl refl refl (number, by)
+    (ap (λ x. answered heap (value heap x) 0) (null_register heap w number t reg by is)) refl refl refl (number, by)
 
 -- the label of an object
 pub value_explained : (w : Sight) (t reg slot : ℕ) → IsSound w → register w.registers t reg ≡ Some slot
@@ -149,4 +150,4 @@ value_explained w t reg slot sound is heap (number, by) =
     let label : slice_index_or w.headers slot 0 ≡ (object heap (number slot)).label + 1 = by.label slot (reached_is_taken w sound slot from) in
     let same : slice_index_or w.headers slot 0 - 1 ≡ (object heap (number slot)).label = omega arith in
     told_by w.fields heap t (commands.Value reg) (plain (answers.Value (slice_index_or w.headers slot 0 - 1))) (answered heap (answers.Value (object heap (number slot)).label) 0) w
-      (ap (λ x. answered heap (value heap x) 0) (some_register heap w number t reg slot by is)) (ap answers.Value same) refl refl (number, by)
+    (ap (λ x. answered heap (value heap x) 0) (some_register heap w number t reg slot by is)) (ap answers.Value same) refl refl (number, by)

@@ -1,6 +1,6 @@
 -- What lists of registers name.
-use Rattle.std.proofs.Common.{◌≡◌, ◌≢◌, ◌⊎◌, inl, inr, ℕ, ◌+◌, ◌-◌, ◌<◌, suc, zero, List, [], ◌∷◌, ◌++◌, Option, None, Some, Bool, true, false, ◌==◌, ◌||◌, slice_index_or, slice_set, map, refl, sym, ap, ◌∙◌, arith}
-use Rattle.std.proofs.lemmas.Bool.{or_cases, or_left, or_right, or_from, eq-eqb, eqb-true}
+use Rattle.std.proofs.Common.{◌≡◌, ◌⊎◌, inl, inr, ℕ, ◌-◌, suc, zero, List, [], ◌∷◌, ◌++◌, Option, None, Some, true, ◌==◌, slice_index_or, slice_set, map, refl, sym, ap, ◌∙◌}
+use Rattle.std.proofs.lemmas.Bool.{or_cases, or_left, or_right, eq-eqb, eqb-true}
 use Rattle.std.proofs.lemmas.List.Folds.{list_any-append}
 use Rattle.std.proofs.lemmas.List.{map-set}
 use Rattle.std.proofs.Math.ListN.{get_or-map}
@@ -50,8 +50,8 @@ named_set (Some k ∷ xs) zero n (Some m) there =
 named_set (None ∷ xs) (suc r) n x there = named_set xs r n x there
 named_set (Some k ∷ xs) (suc r) n x there =
     elim (or_cases (k == n) (is_in n (named (slice_set xs r x))) there) [
-    | inl is ↦ inl (or_left (k == n) (is_in n (named xs)) is)
-    | inr rest ↦ elim (named_set xs r n x rest) [ inl old ↦ inl (is_in_tail n k (named xs) old) | inr new ↦ inr new ]
+      | inl is ↦ inl (or_left (k == n) (is_in n (named xs)) is)
+      | inr rest ↦ elim (named_set xs r n x rest) [ inl old ↦ inl (is_in_tail n k (named xs) old) | inr new ↦ inr new ]
     ]
 
 -- what a mutator's registers name is a root
@@ -67,8 +67,8 @@ roots_set (ss ∷ rss) zero n rs there =
     elim (is_in_cases n (named rs) (roots rss) there) [ inl new ↦ inr new | inr rest ↦ inl (is_in_right n (named ss) (roots rss) rest) ]
 roots_set (ss ∷ rss) (suc i) n rs there =
     elim (is_in_cases n (named ss) (roots (slice_set rss i rs)) there) [
-    | inl first ↦ inl (is_in_left n (named ss) (roots rss) first)
-    | inr rest ↦ elim (roots_set rss i n rs rest) [ inl old ↦ inl (is_in_right n (named ss) (roots rss) old) | inr new ↦ inr new ]
+      | inl first ↦ inl (is_in_left n (named ss) (roots rss) first)
+      | inr rest ↦ elim (roots_set rss i n rs rest) [ inl old ↦ inl (is_in_right n (named ss) (roots rss) old) | inr new ↦ inr new ]
     ]
 
 -- what a register names is a root
@@ -79,8 +79,8 @@ register_root rss t r n is = roots_at rss (t - 1) n (named_at (registers_of rss 
 pub set_register_roots : (rss : List (List (Option ℕ))) (t r n : ℕ) (x : Option ℕ) → is_in n (roots (set_register rss t r x)) ≡ true → (is_in n (roots rss) ≡ true) ⊎ (x ≡ Some n)
 set_register_roots rss t r n x there =
     elim (roots_set rss (t - 1) n (slice_set (registers_of rss t) r x) there) [
-    | inl old ↦ inl old
-    | inr new ↦ elim (named_set (registers_of rss t) r n x new) [ inl old ↦ inl (roots_at rss (t - 1) n old) | inr is ↦ inr is ]
+      | inl old ↦ inl old
+      | inr new ↦ elim (named_set (registers_of rss t) r n x new) [ inl old ↦ inl (roots_at rss (t - 1) n old) | inr is ↦ inr is ]
     ]
 
 -- under a numbering of what is named, a register names the number
@@ -94,6 +94,6 @@ pub set_register-map : (number : ℕ → ℕ) (rss : List (List (Option ℕ))) (
 set_register-map number rss t r x =
     let own : registers_of (map (map (option_map number)) rss) t ≡ map (option_map number) (registers_of rss t) = get_or-map (map (option_map number)) rss (t - 1) [] in
     let written : slice_set (registers_of (map (map (option_map number)) rss) t) r (option_map number x) ≡ map (option_map number) (slice_set (registers_of rss t) r x)
-        = ap (λ rs. slice_set rs r (option_map number x)) own ∙ sym (map-set (option_map number) (registers_of rss t) r x) in
+    = ap (λ rs. slice_set rs r (option_map number x)) own ∙ sym (map-set (option_map number) (registers_of rss t) r x) in
     ap (λ rs. slice_set (map (map (option_map number)) rss) (t - 1) rs) written
     ∙ sym (map-set (map (option_map number)) rss (t - 1) (slice_set (registers_of rss t) r x))

@@ -1,16 +1,16 @@
 -- A heap goes on standing for what is seen: one lemma for each thing that a command does to registers, headers and words.
-use Rattle.std.proofs.Common.{◌≡◌, ◌≢◌, ◌⊎◌, inl, inr, ℕ, ◌+◌, ◌-◌, ◌*◌, ◌<◌, ◌≤◌, List, [], ◌∷◌, ◌++◌, Option, None, Some, Bool, true, false, ◌==◌, if◌then◌else◌, slice_index_or, slice_set, length, map, take, drop, replicate, refl, sym, ap, subst, ◌∙◌, arith}
+use Rattle.std.proofs.Common.{◌≡◌, ◌≢◌, ◌⊎◌, inl, inr, ℕ, ◌+◌, ◌-◌, ◌*◌, ◌<◌, List, [], ◌∷◌, ◌++◌, Option, None, Some, true, ◌==◌, if◌then◌else◌, slice_index_or, slice_set, length, map, drop, replicate, refl, sym, ap, subst, ◌∙◌, arith}
 use Rattle.std.proofs.lemmas.Bool.{false≢true, cond-true, cond-false, eq-eqb, ne_eqb, cases_eq}
 use Rattle.std.specs.Option.{option_map}
 use Rattle.rec_word.specs.Word.{target_of}
 use Rattle.rec_word.specs.Place.{place_of}
-use Rattle.rec_model.specs.Reach.{named, is_in, IsReached}
+use Rattle.rec_model.specs.Reach.{named, is_in}
 use Rattle.rec_model.specs.Reach.IsReached.{root, child}
-use Rattle.rec_model.specs.Heap.{Heap, Field, Object, object, field, born, null_field, nothing, register, registers_of, set_register, roots, with_register, with_field, with_object}
-use Rattle.rec_model.specs.Sight.{Sight, IsTaken, words_of, targets_of, word_at, Reaches, field_of, StandsBy, StandsFor, IsSound, sight_with_register, sight_with_word, sight_with_header}
+use Rattle.rec_model.specs.Heap.{Heap, Field, Object, object, field, born, null_field, nothing, register, set_register, roots, with_register, with_field, with_object}
+use Rattle.rec_model.specs.Sight.{Sight, IsTaken, words_of, targets_of, word_at, Reaches, field_of, StandsBy, IsSound, sight_with_register, sight_with_word, sight_with_header}
 use Rattle.std.proofs.Math.ListN.{get_or-map}
 use Rattle.std.proofs.lemmas.List.{get_or-take, get_or-drop, get_or-set_same, get_or-set_other, get_or_append_left, get_or_push, length_push, length-set, map-set}
-use Rattle.rec_model.proofs.Names.{named_at, named_set, named_tail, is_in_head, is_in_tail, is_in_left, is_in_right, register_root, set_register_roots, set_register-map, register-map}
+use Rattle.rec_model.proofs.Names.{named_at, named_set, named_tail, is_in_head, is_in_tail, is_in_left, is_in_right, set_register_roots, set_register-map, register-map}
 use Rattle.rec_model.proofs.Within.{all_reached}
 use Rattle.rec_model.proofs.Words.{words_of-set_same, words_of-set_other, named-nulls}
 
@@ -27,14 +27,14 @@ reached_after_register : (heap : Heap) (w : Sight) (number : ℕ → ℕ) (t r :
     → (slot : ℕ) → Reaches (sight_with_register w t r x) slot → Reaches w slot ⊎ (x ≡ Some slot)
 reached_after_register heap w number t r x may =
     all_reached (λ slot. Reaches w slot ⊎ (x ≡ Some slot)) (roots (set_register w.registers t r x)) (targets_of w)
-      (λ n there. elim (set_register_roots w.registers t r n x there) [ inl old ↦ inl (root n old) | inr is ↦ inr is ])
-      (λ m n from before there. elim before [
+    (λ n there. elim (set_register_roots w.registers t r n x there) [ inl old ↦ inl (root n old) | inr is ↦ inr is ])
+    (λ m n from before there. elim before [
       | inl old ↦ inl (child m n old there)
       | inr is ↦ elim (may m is) [
         | inl old ↦ inl (child m n old there)
         | inr alone ↦ absurd (false≢true (sym (ap (is_in n) alone.1) ∙ there))
-        ]
-      ])
+      ]
+    ])
 
 -- a register is set, on both sides
 pub register_stands : (heap : Heap) (w : Sight) (number : ℕ → ℕ) (t r : ℕ) (x : Option ℕ) → MayName heap w number x
@@ -46,8 +46,8 @@ register_stands heap w number t r x may by =
       label = by.label;
       registers = ap (λ rss. set_register rss t r (option_map number x)) by.registers ∙ set_register-map number w.registers t r x;
       fields = λ s from. elim (reached_after_register heap w number t r x may s from) [
-      | inl old ↦ by.fields s old
-      | inr is ↦ elim (may s is) [ inl old ↦ by.fields s old | inr alone ↦ alone.0 ]
+        | inl old ↦ by.fields s old
+        | inr is ↦ elim (may s is) [ inl old ↦ by.fields s old | inr alone ↦ alone.0 ]
       ];
     }
 
@@ -102,9 +102,9 @@ fields_agree : (number next : ℕ → ℕ) (words : List ℕ) → ((n : ℕ) →
 fields_agree number next [] same = refl
 fields_agree number next (word ∷ words) same =
     let first : option_map number (target_of word) ≡ option_map next (target_of word)
-        = option_agree number next (target_of word) (λ n is. same n (named_at (target_of word ∷ map target_of words) 0 n is)) in
+    = option_agree number next (target_of word) (λ n is. same n (named_at (target_of word ∷ map target_of words) 0 n is)) in
     let rest : map (field_of number) words ≡ map (field_of next) words
-        = fields_agree number next words (λ n there. same n (named_tail (target_of word) (map target_of words) n there)) in
+    = fields_agree number next words (λ n there. same n (named_tail (target_of word) (map target_of words) n there)) in
     let head : field_of number word ≡ field_of next word = ap (λ (x : Option ℕ). let y : Field = record { target = x; word = word } in y) first in
     ap (λ (x : Field). x ∷ map (field_of number) words) head ∙ ap (λ (xs : List Field). field_of next word ∷ xs) rest
 
@@ -149,13 +149,13 @@ there_after : (heap : Heap) (x : Object) (number : ℕ → ℕ) (slot s : ℕ) �
 there_after heap x number slot s there =
     let more : length (heap.objects ++ x ∷ []) ≡ length heap.objects + 1 = length_push heap.objects x in
     elim (cases_eq s slot) [
-    | inl is ↦
-        let new : with_birth number slot (length heap.objects) s ≡ length heap.objects = ap (with_birth number slot (length heap.objects)) is ∙ with_birth-same number slot (length heap.objects) in
-        omega arith
-    | inr other ↦
-        let old : with_birth number slot (length heap.objects) s ≡ number s = with_birth-other number slot (length heap.objects) s other in
-        let below : number s < length heap.objects = there other in
-        omega arith
+      | inl is ↦
+          let new : with_birth number slot (length heap.objects) s ≡ length heap.objects = ap (with_birth number slot (length heap.objects)) is ∙ with_birth-same number slot (length heap.objects) in
+          omega arith
+      | inr other ↦
+          let old : with_birth number slot (length heap.objects) s ≡ number s = with_birth-other number slot (length heap.objects) s other in
+          let below : number s < length heap.objects = there other in
+          omega arith
     ]
 
 -- an object is born in a free slot, on both sides; nothing names it yet
@@ -169,25 +169,25 @@ birth_stands heap w number slot label sound in_range free by =
     let before : (s : ℕ) → s ≢ slot → IsTaken (sight_with_header w slot (label + 1)) s → IsTaken w s = taken_before w slot (label + 1) in
     record {
       one_to_one = λ s t s_taken t_taken same. elim (cases_eq s slot) [
-      | inl s_is ↦ elim (cases_eq t slot) [
-        | inl t_is ↦ s_is ∙ sym t_is
-        | inr t_other ↦ absurd (born_apart number slot (length heap.objects) s t (by.there t (before t t_other t_taken)) same s_is t_other)
+        | inl s_is ↦ elim (cases_eq t slot) [
+          | inl t_is ↦ s_is ∙ sym t_is
+          | inr t_other ↦ absurd (born_apart number slot (length heap.objects) s t (by.there t (before t t_other t_taken)) same s_is t_other)
         ]
-      | inr s_other ↦ elim (cases_eq t slot) [
-        | inl t_is ↦ absurd (born_apart number slot (length heap.objects) t s (by.there s (before s s_other s_taken)) (sym same) t_is s_other)
-        | inr t_other ↦ by.one_to_one s t (before s s_other s_taken) (before t t_other t_taken) (sym (old s s_other) ∙ same ∙ old t t_other)
+        | inr s_other ↦ elim (cases_eq t slot) [
+          | inl t_is ↦ absurd (born_apart number slot (length heap.objects) t s (by.there s (before s s_other s_taken)) (sym same) t_is s_other)
+          | inr t_other ↦ by.one_to_one s t (before s s_other s_taken) (before t t_other t_taken) (sym (old s s_other) ∙ same ∙ old t t_other)
         ]
       ];
       there = λ s s_taken. there_after heap (born w.fields label) number slot s (λ other. by.there s (before s other s_taken));
       label = λ s s_taken. elim (cases_eq s slot) [
-      | inl s_is ↦
-          let P : ℕ → Type 0 = λ n. slice_index_or (slice_set w.headers slot (label + 1)) n 0 ≡ (object (with_object heap (born w.fields label)) (next n)).label + 1 in
-          subst P (sym s_is)
+        | inl s_is ↦
+            let P : ℕ → Type 0 = λ n. slice_index_or (slice_set w.headers slot (label + 1)) n 0 ≡ (object (with_object heap (born w.fields label)) (next n)).label + 1 in
+            subst P (sym s_is)
             (get_or-set_same w.headers slot (label + 1) 0 in_range
             ∙ sym (ap (λ n. (object (with_object heap (born w.fields label)) n).label + 1) (with_birth-same number slot (length heap.objects)) ∙ ap (λ (x : Object). x.label + 1) (object_born heap (born w.fields label))))
-      | inr s_other ↦
-          get_or-set_other w.headers slot s (label + 1) 0 s_other ∙ by.label s (before s s_other s_taken)
-          ∙ sym (ap (λ n. (object (with_object heap (born w.fields label)) n).label + 1) (old s s_other) ∙ ap (λ (x : Object). x.label + 1) (object_old heap (born w.fields label) (number s) (by.there s (before s s_other s_taken))))
+        | inr s_other ↦
+            get_or-set_other w.headers slot s (label + 1) 0 s_other ∙ by.label s (before s s_other s_taken)
+            ∙ sym (ap (λ n. (object (with_object heap (born w.fields label)) n).label + 1) (old s s_other) ∙ ap (λ (x : Object). x.label + 1) (object_old heap (born w.fields label) (number s) (by.there s (before s s_other s_taken))))
       ];
       registers = by.registers ∙ registers_agree number next w.registers (λ n there. apart n (sound.registers n there));
       fields = λ s from.
@@ -210,11 +210,11 @@ birth_sound w slot header in_range free sound =
       places = sound.places ∙ ap (λ n. n * w.fields) (sym (length-set w.headers slot header));
       registers = λ s there. stays s (sound.registers s there);
       fields = λ s n taken there. elim (cases_eq s slot) [
-      | inl is ↦
-          let nulls : words_of w slot ≡ replicate w.fields 0 = sound.free slot in_range (λ old. taken_is_other w slot slot free old refl) in
-          let none : targets_of w s ≡ [] = ap (targets_of w) is ∙ ap (λ ws. named (map target_of ws)) nulls ∙ named-nulls w.fields in
-          absurd (false≢true (sym (ap (is_in n) none) ∙ there))
-      | inr other ↦ stays n (sound.fields s n (taken_before w slot header s other taken) there)
+        | inl is ↦
+            let nulls : words_of w slot ≡ replicate w.fields 0 = sound.free slot in_range (λ old. taken_is_other w slot slot free old refl) in
+            let none : targets_of w s ≡ [] = ap (targets_of w) is ∙ ap (λ ws. named (map target_of ws)) nulls ∙ named-nulls w.fields in
+            absurd (false≢true (sym (ap (is_in n) none) ∙ there))
+        | inr other ↦ stays n (sound.fields s n (taken_before w slot header s other taken) there)
       ];
       free = λ s there open_slot. sound.free s (subst (λ n. s < n) (length-set w.headers slot header) there) (λ taken. open_slot (stays s taken));
     }
@@ -224,8 +224,8 @@ targets_after_write : (w : Sight) (slot f word s n : ℕ) → f < w.fields → i
 targets_after_write w slot f word s n in_range there = elim (cases_eq s slot) [
   | inl is ↦
       let own : map target_of (words_of (sight_with_word w slot f word) s) ≡ slice_set (map target_of (words_of w s)) f (target_of word)
-          = let P : ℕ → Type 0 = λ m. map target_of (words_of (sight_with_word w slot f word) m) ≡ slice_set (map target_of (words_of w m)) f (target_of word) in
-            subst P (sym is) (ap (map target_of) (words_of-set_same w slot f word in_range) ∙ map-set target_of (words_of w slot) f word) in
+      = let P : ℕ → Type 0 = λ m. map target_of (words_of (sight_with_word w slot f word) m) ≡ slice_set (map target_of (words_of w m)) f (target_of word) in
+      subst P (sym is) (ap (map target_of) (words_of-set_same w slot f word in_range) ∙ map-set target_of (words_of w slot) f word) in
       named_set (map target_of (words_of w s)) f n (target_of word) (sym (ap (λ xs. is_in n (named xs)) own) ∙ there)
   | inr other ↦ inl (sym (ap (λ ws. is_in n (named (map target_of ws))) (words_of-set_other w slot f word s in_range other)) ∙ there)
 ]
@@ -234,7 +234,7 @@ targets_after_write w slot f word s n in_range there = elim (cases_eq s slot) [
 reached_after_write : (w : Sight) (slot f word : ℕ) → f < w.fields → ((n : ℕ) → target_of word ≡ Some n → Reaches w n) → (s : ℕ) → Reaches (sight_with_word w slot f word) s → Reaches w s
 reached_after_write w slot f word in_range may =
     all_reached (Reaches w) (roots w.registers) (targets_of (sight_with_word w slot f word)) (λ n there. root n there)
-      (λ m n from before there. elim (targets_after_write w slot f word m n in_range there) [ inl old ↦ child m n before old | inr is ↦ may n is ])
+    (λ m n from before there. elim (targets_after_write w slot f word m n in_range there) [ inl old ↦ child m n before old | inr is ↦ may n is ])
 
 -- the object written
 object_written : (heap : Heap) (n f : ℕ) (x : Field) → n < length heap.objects → object (with_field heap n f x) n ≡ record (object heap n) { fields = slice_set (object heap n).fields f x }
@@ -266,17 +266,17 @@ write_stands heap w number slot f word sound in_range from may by =
       fields = λ s after.
           let before : Reaches w s = reached_after_write w slot f word in_range may s after in
           elim (cases_eq s slot) [
-          | inl is ↦
-              let P : ℕ → Type 0 = λ n. (object (with_field heap (number slot) f x) (number n)).fields ≡ map (field_of number) (words_of (sight_with_word w slot f word) n) in
-              subst P (sym is)
+            | inl is ↦
+                let P : ℕ → Type 0 = λ n. (object (with_field heap (number slot) f x) (number n)).fields ≡ map (field_of number) (words_of (sight_with_word w slot f word) n) in
+                subst P (sym is)
                 (ap (λ (o : Object). o.fields) (object_written heap (number slot) f x there)
                 ∙ ap (λ fs. slice_set fs f x) (by.fields slot from)
                 ∙ sym (map-set (field_of number) (words_of w slot) f word)
                 ∙ ap (map (field_of number)) (sym (words_of-set_same w slot f word in_range)))
-          | inr other ↦
-              ap (λ (o : Object). o.fields) (object_unwritten heap (number slot) f (number s) x (λ same. other (by.one_to_one s slot (reached_is_taken w sound s before) taken same)))
-              ∙ by.fields s before
-              ∙ ap (map (field_of number)) (sym (words_of-set_other w slot f word s in_range other))
+            | inr other ↦
+                ap (λ (o : Object). o.fields) (object_unwritten heap (number slot) f (number s) x (λ same. other (by.one_to_one s slot (reached_is_taken w sound s before) taken same)))
+                ∙ by.fields s before
+                ∙ ap (map (field_of number)) (sym (words_of-set_other w slot f word s in_range other))
           ];
     }
 

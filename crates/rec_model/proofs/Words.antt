@@ -1,5 +1,5 @@
 -- The words of a slot, after a write.
-use Rattle.std.proofs.Common.{◌≡◌, ◌≢◌, inl, inr, ℕ, ◌+◌, ◌-◌, ◌*◌, ◌<◌, ◌≤◌, zero, suc, List, [], ◌∷◌, slice_set, length, map, take, drop, replicate, refl, sym, ap, ◌∙◌, arith}
+use Rattle.std.proofs.Common.{◌≡◌, ◌≢◌, inl, inr, ℕ, ◌+◌, ◌-◌, ◌*◌, ◌<◌, ◌≤◌, zero, suc, List, [], ◌∷◌, slice_set, map, take, drop, replicate, refl, ap, ◌∙◌, arith}
 use Rattle.std.proofs.Math.Nat.{mul-le-mul_left}
 use Rattle.std.proofs.Math.Seq.{take-set-lt}
 use Rattle.std.proofs.lemmas.Bool.{cases_lt}
@@ -7,7 +7,8 @@ use Rattle.std.proofs.lemmas.List.{drop-set-add, drop-set-lt, take-set-le}
 use Rattle.rec_word.specs.Place.{place_of}
 use Rattle.rec_word.specs.Word.{target_of}
 use Rattle.rec_model.specs.Reach.{named}
-use Rattle.rec_model.specs.Sight.{Sight, words_of, sight_with_word}
+use Rattle.rec_model.specs.Heap.{Field, null_field}
+use Rattle.rec_model.specs.Sight.{Sight, words_of, field_of, sight_with_word}
 
 -- the slot's own words
 pub words_of-set_same : (w : Sight) (slot f word : ℕ) → f < w.fields → words_of (sight_with_word w slot f word) slot ≡ slice_set (words_of w slot) f word
@@ -42,3 +43,8 @@ words_of-set_other w slot f word s in_range other = elim (cases_lt s slot) [
 pub named-nulls : (n : ℕ) → named (map target_of (replicate n 0)) ≡ []
 named-nulls zero = refl
 named-nulls (suc n) = named-nulls n
+
+-- null fields, under any numbering
+pub null_fields : (number : ℕ → ℕ) (n : ℕ) → replicate n null_field ≡ map (field_of number) (replicate n 0)
+null_fields number zero = refl
+null_fields number (suc n) = ap (λ (xs : List Field). null_field ∷ xs) (null_fields number n)

@@ -1,0 +1,37 @@
+-- On several reads of one source: together they give the front of its rest, in order.
+use Rattle.std.proofs.Common.{◌≡◌, ℕ, List, [], ◌++◌, take, drop, Option, refl, sym, ◌∙◌, ap, append_assoc, arith}
+use Rattle.std.proofs.lemmas.List.{take-append-drop}
+use Rattle.std.proofs.lemmas.Grind.{common_steps}
+use Rattle.std.specs.Option.{ForSome}
+use Rattle.rec_io.specs.Source.{GivesFront, IsSpent, Passes}
+use Rattle.rec_io.specs.Told.{KeepsTold}
+
+-- one read that gave n bytes passes them
+pub passes_given : (before after : Option (List ℕ)) (n : ℕ) (into : List ℕ) → GivesFront before after n into →
+    Passes before after (take n into)
+passes_given before after n into gives rest told = record {
+  left = drop n rest;
+  told = gives.moves_on rest told;
+  front = rw (gives.bytes rest told, take-append-drop) refl;
+}
+
+-- a read that failed passes nothing
+pub passes_kept : (before after : Option (List ℕ)) → KeepsTold before after → Passes before after []
+passes_kept before after keeps rest told = record { left = rest; told = keeps rest told; front = refl }
+
+-- reads one after the other pass what each of them passes
+pub passes_more : (first then last : Option (List ℕ)) (xs ys : List ℕ) → Passes first then xs → Passes then last ys →
+    Passes first last (xs ++ ys)
+passes_more first then last xs ys one two rest told =
+    let a = one rest told in
+    let b = two a.left a.told in
+    record { left = b.left; told = b.told; front = a.front ∙ ap (λ left. xs ++ left) b.front ∙ sym (append_assoc xs ys b.left) }
+
+-- what was passed up to the end is all of the rest
+pub passes_all : (first then last : Option (List ℕ)) (xs : List ℕ) → Passes first then xs → IsSpent then last →
+    ForSome first (λ rest. rest ≡ xs)
+passes_all first then last xs passed spent rest told =
+    let a = passed rest told in
+    let e : a.left ≡ [] = spent.empty a.left a.told in
+    let f : rest ≡ xs ++ a.left = a.front in
+    grind (arith, common_steps)

@@ -1,0 +1,7 @@
+pub mod Faults
+pub mod Told
+pub mod Source
+pub mod Sink
+pub mod Calls
+pub mod BytesSource
+pub mod RoomSink

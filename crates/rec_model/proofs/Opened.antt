@@ -1,0 +1,98 @@
+-- The opening heap stands for what is seen at opening.
+use Rattle.std.proofs.Common.{◌≡◌, inl, inr, ℕ, ◌+◌, ◌-◌, ◌*◌, ◌<◌, ◌≤◌, zero, suc, List, [], ◌∷◌, Option, None, Some, true, ◌==◌, slice_index_or, length, map, take, replicate, refl, sym, ap, subst, ◌∙◌, arith, lit<}
+use Rattle.std.proofs.Math.Nat.{mul-le-mul_left}
+use Rattle.std.proofs.lemmas.Bool.{eqb-true, or_cases, false≢true, cases_lt}
+use Rattle.std.proofs.lemmas.List.{get_or_past, get_or-replicate, length-replicate, drop-replicate, take-replicate}
+use Rattle.std.specs.Option.{option_map}
+use Rattle.rec_word.specs.Word.{target_of}
+use Rattle.rec_model.specs.Reach.{named, is_in}
+use Rattle.rec_model.specs.Heap.{opening, roots}
+use Rattle.rec_model.specs.Sight.{Sight, IsTaken, words_of, targets_of, field_of, StandsFor, IsSound, opening_sight}
+use Rattle.rec_model.proofs.Names.{is_in_cases}
+use Rattle.rec_model.proofs.Standing.{reached_is_taken}
+use Rattle.rec_model.proofs.Words.{named-nulls, null_fields}
+
+-- the registers of a mutator at opening name slot 0
+-- nulls name nothing
+named-nones : (n : ℕ) → named (replicate n None) ≡ []
+named-nones zero = refl
+named-nones (suc n) = named-nones n
+
+first_register : (registers n : ℕ) → is_in n (named (Some 0 ∷ replicate (registers - 1) None)) ≡ true → n ≡ 0
+first_register registers n there = elim (or_cases (0 == n) (is_in n (named (replicate (registers - 1) None))) there) [
+  | inl is ↦ sym (eqb-true 0 n is)
+  | inr rest ↦ absurd (false≢true (sym (ap (is_in n) (named-nones (registers - 1))) ∙ rest))
+]
+
+-- and so do those of all mutators
+first_registers : (registers mutators n : ℕ) → is_in n (roots (replicate mutators (Some 0 ∷ replicate (registers - 1) None))) ≡ true → n ≡ 0
+first_registers registers zero n there = absurd (false≢true there)
+first_registers registers (suc mutators) n there =
+    elim (is_in_cases n (named (Some 0 ∷ replicate (registers - 1) None)) (roots (replicate mutators (Some 0 ∷ replicate (registers - 1) None))) there) [
+      | inl own ↦ first_register registers n own
+      | inr others ↦ first_registers registers mutators n others
+    ]
+
+-- a free slot's header
+nulls_at : (n s : ℕ) → slice_index_or {A = ℕ} (replicate n 0) s 0 ≡ 0
+nulls_at n s = elim (cases_lt s n) [
+  | inl there ↦ get_or-replicate n s 0 0 there
+  | inr past ↦ get_or_past (replicate n 0) s 0 (subst (λ m. m ≤ s) (sym (length-replicate n 0)) past)
+]
+
+-- only slot 0 is taken
+only_first : (slots fields registers mutators s : ℕ) → IsTaken (opening_sight slots fields registers mutators) s → s ≡ 0
+only_first slots fields registers mutators zero taken = refl
+only_first slots fields registers mutators (suc s) taken = let zero_there : slice_index_or {A = ℕ} (replicate (slots - 1) 0) s 0 ≡ 0 = nulls_at (slots - 1) s in absurd (omega arith)
+
+-- every slot's words are null
+null_words : (slots fields registers mutators s : ℕ) → s < slots → words_of (opening_sight slots fields registers mutators) s ≡ replicate fields 0
+null_words slots fields registers mutators s there =
+    let next : fields * (s + 1) ≤ fields * slots = mul-le-mul_left fields (omega arith) in
+    let many : s * fields + fields - s * fields ≡ fields = omega arith in
+    ap (take (s * fields + fields - s * fields)) (drop-replicate (s * fields) (slots * fields) 0)
+    ∙ take-replicate (s * fields + fields - s * fields) (slots * fields - s * fields) 0 (omega (arith, next))
+    ∙ ap (λ n. replicate n 0) many
+
+-- as many headers as slots
+length_headers : (slots : ℕ) → 0 < slots → length {A = ℕ} (1 ∷ replicate (slots - 1) 0) ≡ slots
+length_headers slots some = let rest : length {A = ℕ} (replicate (slots - 1) 0) ≡ slots - 1 = length-replicate (slots - 1) 0 in omega arith
+
+-- registers and fields name taken slots
+pub opening_sound : (slots fields registers mutators : ℕ) → 0 < slots → IsSound (opening_sight slots fields registers mutators)
+opening_sound slots fields registers mutators some =
+    record {
+      places = length-replicate (slots * fields) 0 ∙ ap (λ n. n * fields) (sym (length_headers slots some));
+      registers = λ n there. let P : ℕ → Type 0 = λ s. IsTaken (opening_sight slots fields registers mutators) s in subst P (sym (first_registers registers mutators n there)) (lit< tt);
+      fields = λ s n taken there.
+          let none : targets_of (opening_sight slots fields registers mutators) s ≡ []
+          = ap (targets_of (opening_sight slots fields registers mutators)) (only_first slots fields registers mutators s taken)
+          ∙ ap (λ ws. named (map target_of ws)) (null_words slots fields registers mutators 0 some) ∙ named-nulls fields in
+          absurd (false≢true (sym (ap (is_in n) none) ∙ there));
+      free = λ s there open_slot. null_words slots fields registers mutators s (subst (λ n. s < n) (length_headers slots some) there);
+    }
+
+-- a list of one value, under a function
+map-replicate : {A B : Type 0} (f : A → B) (n : ℕ) (x : A) → map f (replicate n x) ≡ replicate n (f x)
+map-replicate f zero x = refl
+map-replicate f (suc n) x = ap (λ xs. f x ∷ xs) (map-replicate f n x)
+
+-- the object in slot 0, as every register of number 0 names it
+pub opening_stands : (slots fields registers mutators : ℕ) → 0 < slots → StandsFor (opening fields registers mutators) (opening_sight slots fields registers mutators)
+opening_stands slots fields registers mutators some =
+    let number : ℕ → ℕ = λ _. 0 in
+    let w : Sight = opening_sight slots fields registers mutators in
+    let first : (s : ℕ) → IsTaken w s → s ≡ 0 = only_first slots fields registers mutators in
+    let own : Some 0 ∷ replicate (registers - 1) None ≡ map (option_map number) (Some 0 ∷ replicate (registers - 1) None)
+    = ap (λ (xs : List (Option ℕ)). Some 0 ∷ xs) (sym (map-replicate (option_map number) (registers - 1) None)) in (
+      number,
+      record {
+        one_to_one = λ s t s_taken t_taken same. first s s_taken ∙ sym (first t t_taken);
+        there = λ s taken. lit< tt;
+        label = λ s taken. ap (λ n. slice_index_or w.headers n 0) (first s taken);
+        registers = ap (replicate mutators) own ∙ sym (map-replicate (map (option_map number)) mutators (Some 0 ∷ replicate (registers - 1) None));
+        fields = λ s from.
+            let is : s ≡ 0 = first s (reached_is_taken w (opening_sound slots fields registers mutators some) s from) in
+            null_fields number fields ∙ ap (map (field_of number)) (sym (ap (words_of w) is ∙ null_words slots fields registers mutators 0 some));
+      },
+    )
