@@ -46,7 +46,7 @@ registers_kept : (w : State) → IsWorld w → (t r : ℕ) (x : Option ℕ) → 
     → All (λ (own : List (Option ℕ)). length own ≡ w.config.registers) (set_register w.registers t r x)
 registers_kept w world t r x is =
     All-set (λ (own : List (Option ℕ)). length own ≡ w.config.registers) w.registers (t - 1) (slice_set (registers_of w.registers t) r x)
-      (length-set (registers_of w.registers t) r x ∙ own_length w world t is) world.registers
+    (length-set (registers_of w.registers t) r x ∙ own_length w world t is) world.registers
 
 -- a register is set to null or to a taken slot
 pub register_kept : (w : State) → IsWorld w → (t r : ℕ) (x : Option ℕ) → IsMutator w.config t → ((slot : ℕ) → x ≡ Some slot → IsTaken (sight w) slot)
@@ -88,11 +88,11 @@ births_more : (w : State) → IsWorld w → w.marked ≡ false → (label slot :
 births_more w world unmarked label slot in_range = elim (cases_eq slot w.made) [
   | inl is ↦
       let same : slice_index_or (slice_set w.headers w.made (label + 1)) slot 0 ≡ label + 1
-          = ap (λ s. slice_index_or (slice_set w.headers w.made (label + 1)) s 0) is ∙ get_or-set_same w.headers w.made (label + 1) 0 in_range in
+      = ap (λ s. slice_index_or (slice_set w.headers w.made (label + 1)) s 0) is ∙ get_or-set_same w.headers w.made (label + 1) 0 in_range in
       (λ taken. omega arith, λ below. omega arith)
   | inr other ↦
       let same : slice_index_or (slice_set w.headers w.made (label + 1)) slot 0 ≡ slice_index_or w.headers slot 0
-          = get_or-set_other w.headers w.made slot (label + 1) 0 other in
+      = get_or-set_other w.headers w.made slot (label + 1) 0 other in
       let old : IsTaken (sight w) slot ↔ (slot < w.made) = world.births unmarked slot in
       (λ taken. let below : slot < w.made = old.0 (omega arith) in omega arith, λ below. let taken : IsTaken (sight w) slot = old.1 (omega arith) in omega arith)
 ]
@@ -115,7 +115,7 @@ birth_kept w world t r label is unmarked room log_room fits =
       made = omega arith;
       logged = omega arith;
       sound = register_sound seen t r (Some w.made) (λ slot there. let at : w.made ≡ slot = some_same w.made slot there in subst (IsTaken seen) at (omega arith))
-        (birth_sound (sight w) w.made (label + 1) in_range free world.sound);
+          (birth_sound (sight w) w.made (label + 1) in_range free world.sound);
       births = λ _ slot. births_more w world unmarked label slot in_range;
     }
 

@@ -133,15 +133,3 @@ sight_after w t (commands.Null reg) told = sight_with_register (sight w) t reg N
 sight_after w t (commands.Get dst src f) told = sight_after_get (sight w) t dst (register w.registers t src) (target_of told.saw)
 sight_after w t (commands.Put src f val) told = sight_after_put (sight w) f (register w.registers t src) (is_done told.answer) told.left
 sight_after w t (commands.Value reg) told = sight w
-
--- A marking: the slots that a register reaches keep header and words, every other is cleared, and all else stays.
-pub record IsMarking (w after : State) : Type 0 where
-  pub config : after.config ≡ w.config
-  pub registers : after.registers ≡ w.registers
-  pub made : after.made ≡ w.made
-  pub logged : after.logged ≡ w.logged
-  pub marked : after.marked ≡ true
-  pub reached_header : (slot : ℕ) → Reaches (sight w) slot → slice_index_or after.headers slot 0 ≡ slice_index_or w.headers slot 0
-  pub reached_words : (slot : ℕ) → Reaches (sight w) slot → words_of (sight after) slot ≡ words_of (sight w) slot
-  pub other_header : (slot : ℕ) → (Reaches (sight w) slot → ⊥) → slice_index_or after.headers slot 0 ≡ 0
-  pub other_words : (slot : ℕ) → slot < w.config.slots → (Reaches (sight w) slot → ⊥) → words_of (sight after) slot ≡ replicate w.config.fields 0

@@ -1,3 +1,4 @@
+use std::alloc::AllocError;
 use thiserror::Error;
 
 /// Why a heap wasn't opened.
@@ -6,4 +7,10 @@ pub enum OpenError {
     /// There is no memory for its words.
     #[error("out of memory")]
     NoMemory,
+}
+
+impl From<AllocError> for OpenError {
+    fn from(_: AllocError) -> OpenError {
+        OpenError::NoMemory
+    }
 }

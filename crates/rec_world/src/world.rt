@@ -1,19 +1,19 @@
-ghost use Rattle.std.specs.Prelude.{◌≡◌, ℕ, ◌+◌, ◌*◌, ◌<◌, ◌==◌, ◌↔◌, if◌then◌else◌, true, false, slice_index_or, IsTrue, IsNone, IfOk, IfSome};
+ghost use Rattle.std.specs.Prelude.{◌≡◌, ℕ, ◌+◌, ◌-◌, ◌*◌, ◌∷◌, replicate, ◌<◌, ◌==◌, ◌↔◌, if◌then◌else◌, true, false, slice_index_or, IsTrue, IsNone, IfOk, IfSome};
 ghost use Rattle.rec_word.specs.Place.{place_of};
 ghost use Rattle.rec_word.specs.Word.{IsTarget, packed, stamp_of, target_of};
-ghost use Rattle.rec_model.specs.Heap.{Heap, opening, register, set_register};
+ghost use Rattle.rec_model.specs.Heap.{Heap, opening, register};
 ghost use Rattle.rec_model.specs.Explained.{IsExplained};
 ghost use Rattle.rec_model.specs.LegalOrder.{is_birth, word_left};
-ghost use Rattle.rec_model.specs.Sight.{IsTaken, IsCollected, StandsFor, word_at};
+ghost use Rattle.rec_model.specs.Sight.{IsTaken, IsCollected, Collects, StandsFor};
 ghost use Rattle.rec_world.specs.Config.{IsConfig, IsMutator, HasOperands, IsValid};
 ghost use Rattle.rec_world.specs.Outcome.{outcome, next_stamp};
-ghost use Rattle.rec_world.specs.World.{State, sight, opened, IsWorld, label_of, IsLogFull, IsFull, LacksObject, is_refusal, is_plain, entries_of, IsLowestFree, sight_after, IsMarking};
+ghost use Rattle.rec_world.specs.World.{State, sight, opened, IsWorld, label_of, IsLogFull, IsFull, LacksObject, is_refusal, is_plain, entries_of, IsLowestFree, sight_after};
 
 use crate::memory::Memory;
 use crate::{Config, OpenError};
 use rec_model::{Answer, Cmd, Told};
 use rec_word::{Op, Stamp, pack, place, target};
-use std::alloc::Global;
+use std::alloc::{AllocError as NoMemory, Global};
 use std::marker::Model;
 
 /// A heap on which one mutator's commands run, with no collector: nothing is freed until it is marked.
@@ -50,16 +50,8 @@ impl World {
         ensures kept { IfOk result IsWorld }
     {
         let slots = config.slots as usize;
-        let places = slots * config.fields as usize;
-        let mut memory = Memory {
-            headers: vec![in alloc; 0; slots].map_err(|_| OpenError::NoMemory)?,
-            words: vec![in alloc; 0; places].map_err(|_| OpenError::NoMemory)?,
-        };
-        memory.perform(Op::ClaimHeader(0, 0));
-        let mut registers = vec![in alloc; None; config.registers as usize].map_err(
-            |_| OpenError::NoMemory,
-        )?;
-        registers[0] = Some(0);
+        let memory = Memory::open(alloc, slots, slots * config.fields as usize)?;
+        let registers = opening_registers(alloc, config.registers as usize)?;
         Ok(World {
             config,
             memory,
@@ -115,7 +107,9 @@ impl World {
 
     /// Marks from the registers, and clears the header and the fields of every slot that no register reaches.
     pub fn mark(&mut self)
-        ensures marking { IsMarking self.old self.new }
+        // The slots that a register reaches keep header and words, and every other is cleared. All else stays.
+        ensures collects { Collects (sight self.old) self.new.headers self.new.words }
+        ensures others { self.new ≡ record self.old { headers = self.new.headers; words = self.new.words; marked = true } }
         ensures collected { IsCollected (sight self.new) }
 
         // Whatever heap that never frees stood for the world still does.
@@ -355,4 +349,14 @@ fn only(answer: Answer) -> Told
         saw: 0,
         left: 0,
     }
+}
+
+// A mutator's registers at opening: the first names slot 0.
+fn opening_registers(alloc: Global, count: usize) -> Result<Vec<Option<u16>>, NoMemory>
+    requires { 0 < count }
+    ensures { IfOk result (λ registers. registers.items ≡ Some 0 ∷ replicate (count - 1) None) }
+{
+    let mut registers = vec![in alloc; None; count]?;
+    registers[0] = Some(0);
+    Ok(registers)
 }

@@ -22,10 +22,10 @@ invariant_of-self c =
     let unmarked : c.self.inside.marked ≡ false = ap (λ (s : State). s.marked) c.self.view_is ∙ c.requires.unmarked in
     let found : c.perform.result ≡ 0 = c.perform.ensures.found ∙ made_is_free (state c.self.inside) c.self.invariant unmarked in
     let memory : c.perform.new.self ≡ record { headers = slice_set c.self.inside.memory.headers c.self.inside.made (c.args.label + 1); words = c.self.inside.memory.words }
-        = c.perform.ensures.left ∙ ap (λ n. let cells : Cells = record { headers = slice_set c.self.inside.memory.headers c.self.inside.made (if n == 0 then c.args.label + 1 else n); words = c.self.inside.memory.words } in cells) found in
+    = c.perform.ensures.left ∙ ap (λ n. let cells : Cells = record { headers = slice_set c.self.inside.memory.headers c.self.inside.made (if n == 0 then c.args.label + 1 else n); words = c.self.inside.memory.words } in cells) found in
     let room : c.self.inside.made < c.self.inside.config.slots = let most : c.self.inside.made ≤ c.self.inside.config.slots = c.self.invariant.made in omega arith in
     let log : c.self.inside.logged < c.self.inside.config.log_entries
-        = log_room c.self.inside.logged c.self.inside.config.log_entries c.self.invariant.logged
-            (sym (ap (λ (s : State). s.logged == s.config.log_entries) c.self.view_is ∙ sym c.log_is_full.ensures ∙ c.if-log_is_full.false)) in
+    = log_room c.self.inside.logged c.self.inside.config.log_entries c.self.invariant.logged
+    (sym (ap (λ (s : State). s.logged == s.config.log_entries) c.self.view_is ∙ sym c.log_is_full.ensures ∙ c.if-log_is_full.false)) in
     let label : c.args.label < 2 ^ 32 = omega arith in
     rw memory (birth_kept (state c.self.inside) c.self.invariant 1 c.from.result c.args.label (omega arith, omega arith) unmarked room log label)
