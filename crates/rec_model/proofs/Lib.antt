@@ -1,8 +1,12 @@
 pub mod Answered
 pub mod Collected
+pub mod Firsts
 pub mod Growing
+pub mod Members
+pub mod Named
 pub mod Names
 pub mod Opened
+pub mod Positions
 pub mod Standing
 pub mod Within
 pub mod Words

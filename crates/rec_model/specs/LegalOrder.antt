@@ -8,6 +8,7 @@ use Rattle.rec_model.specs.declared.answer.Answer.{Answer}
 use Rattle.rec_model.specs.declared.answer.Answer.TheVariants as answers
 use Rattle.rec_model.specs.declared.told.Told.{Told}
 use Rattle.rec_model.specs.Reach.{is_in}
+use Rattle.rec_model.specs.Numbering.{IsDistinct}
 use Rattle.rec_model.specs.Heap.{Heap, IsLive}
 use Rattle.rec_model.specs.Asking.{asked, is_done, IsTold}
 
@@ -128,11 +129,6 @@ IsQuiet t events i j = (k : ℕ) (e : Event) → i ≤ k → k < j → slice_get
 abbrev pub WasUnfreed : Limits → Moment → List Event → ℕ → ℕ → ℕ → Type 0
 WasUnfreed limits start events t i n =
     (j : ℕ) × (j ≤ i) × IsQuiet t events j i × (is_in n (moment limits start events j).unfreed ≡ true)
-
--- all different
-abbrev pub IsDistinct : List ℕ → Type 0
-IsDistinct [] = Unit {0}
-IsDistinct (n ∷ ns) = (is_in n ns ≡ false) × IsDistinct ns
 
 -- the evidence of a busy answer at event i: a sweep ran, began or ended, and as many objects as slots were unfreed meanwhile
 pub record BusyFits (limits : Limits) (start : Moment) (events : List Event) (t i before after : ℕ) : Type 0 where

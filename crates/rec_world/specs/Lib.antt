@@ -2,6 +2,7 @@ pub mod Config
 pub mod Inside
 pub mod Journal
 pub mod Memory
+pub mod Numbering
 pub mod Order
 pub mod Outcome
 pub mod World

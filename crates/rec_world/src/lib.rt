@@ -4,7 +4,9 @@
 //! order who was told. At the end the heap is marked from the registers, and what no register reaches is cleared.
 //! The rule that it keeps: whatever heap that never frees stood for the world before a command, the heap that asking
 //! gives stands for it afterwards, and the answer is the one asked.
-//! The layer above may use the contracts of `World`, `Journal` and `Order`, and the definitions of `specs/`.
+//! A `Numbering` lists the slots that registers reach, in the order of a listing: the marking goes by it, and so does the
+//! text of a script. Its list is the one list of the reached slots in that order.
+//! The layer above may use the contracts of `World`, `Journal`, `Order` and `Numbering`, and the definitions of `specs/`.
 //! The commands and their refusals are this project's profile (`docs/PROFILE.md`); field words are packed as a
 //! collector's log needs them, so that nothing changes here for a script when the collector comes.
 #![tactic(auto)]
@@ -12,12 +14,14 @@
 mod config;
 mod journal;
 mod memory;
+mod numbering;
 mod open_error;
 mod order;
 mod world;
 
 pub use config::Config;
 pub use journal::Journal;
+pub use numbering::Numbering;
 pub use open_error::OpenError;
 pub use order::Order;
 pub use world::World;

@@ -1,0 +1,102 @@
+-- What registers and fields name lies below the number of slots: by a test of each, and in every sound heap.
+use Rattle.std.proofs.Common.{◌≡◌, inl, inr, ℕ, zero, suc, ◌+◌, ◌-◌, ◌*◌, ◌<◌, ◌≤◌, Bool, Option, None, Some, true, false, List, [], ◌∷◌, All, map, take, length, replicate, get_or, refl, ◌∙◌, ap, subst, arith, ltb}
+use Rattle.std.specs.List.{list_all}
+use Rattle.std.specs.Option.{IfSome}
+use Rattle.std.proofs.lemmas.Bool.{false≢true, ltb-true, cases_lt, and_parts, both_ways}
+use Rattle.std.proofs.lemmas.List.{get_or_past, drop_all}
+use Rattle.std.proofs.Math.Nat.{mul-le-mul_right, add-sub_cancel}
+use Rattle.std.proofs.Math.Seq.{take-nil}
+use Rattle.std.proofs.lemmas.List.Elements.{All-nil, All-cons, All-head, All-tail, All-map, All-take, All-drop}
+use Rattle.rec_word.specs.Word.{target_of}
+use Rattle.rec_model.specs.Reach.{named, is_in}
+use Rattle.rec_model.specs.Heap.{roots}
+use Rattle.rec_model.specs.Sight.{Sight, targets_of, words_of, IsTaken, IsSound}
+use Rattle.rec_model.proofs.Members.{is_in-cons, is_in-cases}
+use Rattle.rec_world.specs.Numbering.{sight_of, NamesBelow}
+
+-- what each of them may name, they all do
+named_all : (P : ℕ → Type 0) (xs : List (Option ℕ)) → All (λ x. IfSome x P) xs → (n : ℕ) → is_in n (named xs) ≡ true → P n
+named_all P [] all n h = absurd (false≢true h)
+named_all P (None ∷ xs) all n h = named_all P xs (All-tail (λ x. IfSome x P) None xs all) n h
+named_all P (Some m ∷ xs) all n h = elim (is_in-cons n m (named xs) h) [
+  | inl e ↦ subst P e (All-head (λ x. IfSome x P) (Some m) xs all)
+  | inr later ↦ named_all P xs (All-tail (λ x. IfSome x P) (Some m) xs all) n later
+]
+
+-- registers and words that are each below the number of slots
+pub names_each : (registers : List (Option ℕ)) (words : List ℕ) (fields slots : ℕ) → All (λ x. IfSome x (λ n. n < slots)) registers → All (λ word. IfSome (target_of word) (λ n. n < slots)) words → NamesBelow (sight_of registers words fields) slots
+names_each registers words fields slots each all = record {
+  registers = λ slot h. elim (is_in-cases slot (named registers) [] h) [ inl there ↦ named_all (λ n. n < slots) registers each slot there | inr none ↦ absurd (false≢true none) ];
+  fields = λ s slot h. named_all (λ n. n < slots) (map target_of (words_of (sight_of registers words fields) s))
+      (All-map (λ x. IfSome x (λ n. n < slots)) target_of (words_of (sight_of registers words fields) s)
+      (All-take (λ word. IfSome (target_of word) (λ n. n < slots)) _ _ (All-drop (λ word. IfSome (target_of word) (λ n. n < slots)) (s * fields) words all)))
+      slot h;
+}
+
+-- whether a register or a field names a slot below this number, or none
+abbrev pub is_below : ℕ → Option ℕ → Bool
+is_below slots None = true
+is_below slots (Some n) = ltb n slots
+
+below_tested : (slots : ℕ) (x : Option ℕ) → is_below slots x ≡ true → IfSome x (λ n. n < slots)
+below_tested slots None e = tt
+below_tested slots (Some n) e = ltb-true n slots e
+
+all_tested : {X : Type 0} (f : X → Option ℕ) (slots : ℕ) (xs : List X) → list_all (λ x. is_below slots (f x)) xs ≡ true → All (λ x. IfSome (f x) (λ n. n < slots)) xs
+all_tested f slots [] e = All-nil (λ x. IfSome (f x) (λ n. n < slots))
+all_tested f slots (x ∷ xs) e =
+    let parts : (is_below slots (f x) ≡ true) × (list_all (λ y. is_below slots (f y)) xs ≡ true) = and_parts (is_below slots (f x)) (list_all (λ y. is_below slots (f y)) xs) e in
+    All-cons (λ y. IfSome (f y) (λ n. n < slots)) x xs (below_tested slots (f x) parts.0) (all_tested f slots xs parts.1)
+
+-- registers and words of which each is tested
+pub names_tested : (registers : List (Option ℕ)) (words : List ℕ) (fields slots count : ℕ) → count ≡ slots → list_all (is_below slots) registers ≡ true → list_all (λ word. is_below slots (target_of word)) words ≡ true → NamesBelow (sight_of registers words fields) count
+names_tested registers words fields slots count e each all = rw e (names_each registers words fields slots (all_tested (λ x. x) slots registers each) (all_tested target_of slots words all))
+
+-- what is named stands somewhere
+in_named : (n : ℕ) (xs : List (Option ℕ)) → is_in n (named xs) ≡ true → (r : ℕ) × (get_or xs r None ≡ Some n)
+in_named n [] h = absurd (false≢true h)
+in_named n (None ∷ xs) h = let (r, e) = in_named n xs h in (suc r, e)
+in_named n (Some m ∷ xs) h = elim (is_in-cons n m (named xs) h) [
+  | inl e ↦ (0, ap (λ k. Some k) e)
+  | inr later ↦ let (r, e) = in_named n xs later in (suc r, e)
+]
+
+in_roots : (n : ℕ) (registers : List (List (Option ℕ))) → is_in n (roots registers) ≡ true → (t : ℕ) × (r : ℕ) × (get_or (get_or registers t []) r None ≡ Some n)
+in_roots n [] h = absurd (false≢true h)
+in_roots n (xs ∷ registers) h = elim (is_in-cases n (named xs) (roots registers) h) [
+  | inl here ↦ let (r, e) = in_named n xs here in (0, r, e)
+  | inr later ↦ let (t, r, e) = in_roots n registers later in (suc t, r, e)
+]
+
+-- a free slot's fields name nothing
+nothing_named : (n fields : ℕ) → is_in n (named (map target_of (replicate fields 0))) ≡ false
+nothing_named n zero = refl
+nothing_named n (suc fields) = nothing_named n fields
+
+-- a slot that holds an object is one of the slots
+taken_below : (w : Sight) (slot : ℕ) → IsTaken w slot → slot < length w.headers
+taken_below w slot taken = elim (cases_lt slot (length w.headers)) [
+  | inl lt ↦ lt
+  | inr ge ↦ absurd (let e : get_or w.headers slot 0 ≡ 0 = get_or_past w.headers slot 0 ge in omega arith)
+]
+
+-- past the last slot there are no words
+no_words : (w : Sight) (s : ℕ) → IsSound w → length w.headers ≤ s → words_of w s ≡ []
+no_words w s sound ge =
+    let bound : length w.headers * w.fields ≤ s * w.fields = mul-le-mul_right w.fields ge in
+    let past : length w.words ≤ s * w.fields = rw sound.places bound in
+    ap (λ ws. take (s * w.fields + w.fields - s * w.fields) ws) (drop_all (s * w.fields) w.words past) ∙ take-nil (s * w.fields + w.fields - s * w.fields)
+
+-- In a sound heap registers and fields name slots that there are.
+pub names_sound : (w : Sight) → IsSound w → NamesBelow w (length w.headers)
+names_sound w sound = record {
+  registers = λ slot h. let (t, r, e) = in_roots slot w.registers h in
+      taken_below w slot (sound.registers (t + 1) r slot (rw (add-sub_cancel t 1) e));
+  fields = λ s slot h. elim (cases_lt 0 (get_or w.headers s 0)) [
+    | inl taken ↦ taken_below w slot (sound.fields s slot taken h)
+    | inr free ↦ elim (cases_lt s (length w.headers)) [
+      | inl lt ↦ absurd (both_ways (is_in slot (targets_of w s)) (rw (sound.free s lt (λ (taken : IsTaken w s). omega arith)) (nothing_named slot w.fields)) h)
+      | inr ge ↦ absurd (false≢true (rw (no_words w s sound ge) at h))
+    ]
+  ];
+}
