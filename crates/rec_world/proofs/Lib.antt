@@ -1,3 +1,7 @@
 pub mod Filled
+pub mod Kept
 pub mod Names
 pub mod Numbers
+pub mod Openings
+pub mod Outcomes
+pub mod Stamps

@@ -1,1 +1,11 @@
+pub mod Config
+pub mod Inside
+pub mod Journal
+pub mod Memory
 pub mod Numbering
+pub mod Order
+pub mod Outcome
+pub mod World
+pub use Rattle.rec_model.specs.Asking
+pub use Rattle.rec_model.specs.Heap
+pub use Rattle.rec_model.specs.Sight

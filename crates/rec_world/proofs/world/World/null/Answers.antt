@@ -1,0 +1,7 @@
+use Rattle.std.proofs.Common.{◌≡◌, None, arith}
+use Rattle.rec_world.proofs.Kept.{register_kept}
+use Rattle.rec_world.specs.Inside.{state}
+use Rattle.rec_world.proofs.world.World.null.Goals as goal
+
+pub invariant_of-self : goal.invariant_of-self
+invariant_of-self c = register_kept (state c.self.inside) c.self.invariant 1 c.from.result None (omega arith, omega arith) (λ slot is. cc)
