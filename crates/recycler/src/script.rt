@@ -1,6 +1,6 @@
 //! Scripts: how large a heap is, and what each mutator asks of it, as text.
 
-ghost use Rattle.std.specs.Prelude.{◌≡◌, ◌≢◌, ◌≤◌, ◌-◌, ℕ, List, Err, Some, length, All, Any, IfOk, slice_get};
+ghost use Rattle.std.specs.Prelude.{◌≡◌, ◌≢◌, ◌<◌, ◌≤◌, ◌-◌, ℕ, List, Err, Some, length, All, Any, IfOk, slice_get};
 ghost use Rattle.std.specs.List.{flat_map};
 ghost use Rattle.rec_model.specs.declared.command.Cmd.{Cmd};
 ghost use Rattle.recycler.specs.declared.script.error.Kind.{Kind};
@@ -12,9 +12,8 @@ mod error;
 mod heap;
 mod line;
 
-pub use error::{Kind, ScriptError};
-
 use command::command;
+pub use error::{Kind, ScriptError};
 use heap::read_heap;
 use line::plain_line;
 use rec_model::Cmd;
@@ -108,8 +107,13 @@ impl Script {
 }
 
 /// The commands of a mutator, which all of the bytes are.
-fn commands_of(alloc: Global, registers: u64, fields: u64, bytes: &[u8]) -> Result<Vec<Cmd>, ScriptError>
-    requires some { (1 ≤ registers) × (1 ≤ fields) }
+fn commands_of(
+    alloc: Global,
+    registers: u64,
+    fields: u64,
+    bytes: &[u8],
+) -> Result<Vec<Cmd>, ScriptError>
+    requires some { (0 < registers) × (0 < fields) }
     requires most { (registers ≤ 64) × (fields ≤ 16) }
     ensures found { IfOk result (λ cmds. AreCommands registers fields cmds.items × (bytes.now ≡ flat_map command_line cmds.items)) }
     ensures place { (line : ℕ) (kind : Kind) → result ≡ Err (ScriptError.Bad line kind) → (line ≡ 0) × (kind ≡ NotBuilt) }
@@ -148,7 +152,12 @@ pub fn read(alloc: Global, bytes: &[u8]) -> Result<Script, ScriptError>
     let Some(rest) = plain_line(b"mutator", rest) else {
         return Err(NOT_BUILT);
     };
-    let commands = commands_of(alloc, u64::from(heap.registers), u64::from(heap.fields), rest)?;
+    let commands = commands_of(
+        alloc,
+        u64::from(heap.registers),
+        u64::from(heap.fields),
+        rest,
+    )?;
     Ok(Script {
         slots: heap.slots,
         fields: heap.fields,
@@ -156,3 +165,6 @@ pub fn read(alloc: Global, bytes: &[u8]) -> Result<Script, ScriptError>
         commands,
     })
 }
+
+#[cfg(test)]
+mod tests;

@@ -4,7 +4,7 @@ ghost use Rattle.std.specs.Prelude.{◌≡◌, ◌≢◌, ◌<◌, ◌≤◌, �
 ghost use Rattle.recycler.specs.Script.{IsCommand, command_line};
 ghost use Rattle.rec_model.specs.declared.command.Cmd.{Cmd};
 
-use crate::script::line::{one_operand, three_operands, two_operands};
+use crate::script::line::{behind, one_operand, three_operands, two_operands};
 use rec_model::Cmd;
 
 /// How many labels there are.
@@ -18,30 +18,26 @@ pub fn command(registers: u64, fields: u64, bytes: &[u8]) -> Option<(Cmd, &[u8])
     ensures found { IfSome result (λ x. bytes.now ≡ command_line x.0 ++ x.1.now) }
     ensures none { IfNone result ((cmd : Cmd) (rest : List ℕ) → IsCommand registers fields cmd → bytes.now ≢ command_line cmd ++ rest) }
 {
-    match bytes {
-        [b'n', b'e', b'w', rest @ ..] => {
-            let ([reg, label], rest) = two_operands([registers, LABELS], rest)?;
-            let reg = reg as u8;
-            Some((Cmd::New { reg, label }, rest))
-        }
-        [b'n', b'u', b'l', b'l', rest @ ..] => {
-            let (reg, rest) = one_operand(registers, rest)?;
-            Some((Cmd::Null { reg: reg as u8 }, rest))
-        }
-        [b'g', b'e', b't', rest @ ..] => {
-            let ([dst, src, field], rest) = three_operands([registers, registers, fields], rest)?;
-            let (dst, src, field) = (dst as u8, src as u8, field as u8);
-            Some((Cmd::Get { dst, src, field }, rest))
-        }
-        [b'p', b'u', b't', rest @ ..] => {
-            let ([src, field, val], rest) = three_operands([registers, fields, registers], rest)?;
-            let (src, field, val) = (src as u8, field as u8, val as u8);
-            Some((Cmd::Put { src, field, val }, rest))
-        }
-        [b'v', b'a', b'l', b'u', b'e', rest @ ..] => {
-            let (reg, rest) = one_operand(registers, rest)?;
-            Some((Cmd::Value { reg: reg as u8 }, rest))
-        }
-        _ => None,
+    if let Some(rest) = behind(b"new", bytes) {
+        let ([reg, label], rest) = two_operands([registers, LABELS], rest)?;
+        let reg = reg as u8;
+        return Some((Cmd::New { reg, label }, rest));
     }
+    if let Some(rest) = behind(b"null", bytes) {
+        let (reg, rest) = one_operand(registers, rest)?;
+        return Some((Cmd::Null { reg: reg as u8 }, rest));
+    }
+    if let Some(rest) = behind(b"get", bytes) {
+        let ([dst, src, field], rest) = three_operands([registers, registers, fields], rest)?;
+        let (dst, src, field) = (dst as u8, src as u8, field as u8);
+        return Some((Cmd::Get { dst, src, field }, rest));
+    }
+    if let Some(rest) = behind(b"put", bytes) {
+        let ([src, field, val], rest) = three_operands([registers, fields, registers], rest)?;
+        let (src, field, val) = (src as u8, field as u8, val as u8);
+        return Some((Cmd::Put { src, field, val }, rest));
+    }
+    let rest = behind(b"value", bytes)?;
+    let (reg, rest) = one_operand(registers, rest)?;
+    Some((Cmd::Value { reg: reg as u8 }, rest))
 }

@@ -1,7 +1,5 @@
 //! Why bytes are no script.
 
-
-
 use std::fmt;
 use thiserror::Error;
 

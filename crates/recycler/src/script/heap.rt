@@ -3,7 +3,7 @@
 ghost use Rattle.std.specs.Prelude.{◌≡◌, ◌≢◌, ℕ, List, ◌++◌, IfSome, IfNone};
 ghost use Rattle.recycler.specs.Script.{IsHeap, heap_lines};
 
-use crate::script::line::{plain_line, three_operands};
+use crate::script::line::{behind, plain_line, three_operands};
 
 /// How large the heap of a script is.
 #[derive(Clone, Copy, Debug)]
@@ -20,7 +20,7 @@ pub fn read_heap(bytes: &[u8]) -> Option<(Heap, &[u8])>
     ensures none { IfNone result ((slots fields registers : ℕ) (rest : List ℕ) → IsHeap slots fields registers → bytes.now ≢ heap_lines slots fields registers ++ rest) }
 {
     let rest = plain_line(b"recycler 1", bytes)?;
-    let rest = rest.strip_prefix(b"heap")?;
+    let rest = behind(b"heap", rest)?;
     let ([slots, fields, registers], rest) = three_operands([65_536, 17, 65], rest)?;
     if slots == 0 || fields == 0 || registers == 0 {
         return None;

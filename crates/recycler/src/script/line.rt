@@ -65,12 +65,21 @@ fn end(bytes: &[u8]) -> Option<&[u8]>
     after(b'\n', bytes)
 }
 
+/// The bytes behind this word, which they begin with.
+#[inline(always)]
+pub fn behind<'a>(word: &[u8], bytes: &'a [u8]) -> Option<&'a [u8]>
+    ensures found { IfSome result (λ rest. bytes.now ≡ word.now ++ rest.now) }
+    ensures none { IfNone result ((rest : List ℕ) → bytes.now ≢ word.now ++ rest) }
+{
+    bytes.strip_prefix(word)
+}
+
 /// A line of one word.
 pub fn plain_line<'a>(word: &[u8], bytes: &'a [u8]) -> Option<&'a [u8]>
     ensures found { IfSome result (λ rest. bytes.now ≡ line word.now [] ++ rest.now) }
     ensures none { IfNone result ((rest : List ℕ) → bytes.now ≢ line word.now [] ++ rest) }
 {
-    end(bytes.strip_prefix(word)?)
+    end(behind(word, bytes)?)
 }
 
 /// The last operand of a line, below its limit.
