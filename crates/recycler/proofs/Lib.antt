@@ -3,4 +3,5 @@ pub mod HeapLines
 pub mod MutatorLines
 pub mod Numerals
 pub mod Operands
+pub mod Playing
 pub mod Spellings
