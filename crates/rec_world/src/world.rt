@@ -10,7 +10,7 @@ ghost use Rattle.rec_world.specs.Outcome.{outcome, next_stamp};
 ghost use Rattle.rec_world.specs.World.{State, sight, opened, IsWorld, label_of, IsLogFull, IsFull, LacksObject, is_refusal, is_plain, entries_of, IsLowestFree, sight_after};
 
 use crate::memory::Memory;
-use crate::{Config, OpenError};
+use crate::{Config, Numbering, OpenError};
 use rec_model::{Answer, Cmd, Told};
 use rec_word::{Op, Stamp, pack, place, target};
 use std::alloc::{AllocError as NoMemory, Global};
@@ -22,6 +22,7 @@ pub struct World {
     config: Config,
     memory: Memory,
     registers: Vec<Option<u16>>,
+    numbering: Numbering,
     made: u32,
     logged: u32,
     marked: bool,
@@ -29,15 +30,15 @@ pub struct World {
 
 impl Model for World {
     ghost use Rattle.std.specs.Prelude.{◌∷◌, []};
-    ghost use Rattle.rec_world.specs.World.{State, IsWorld};
+    ghost use Rattle.rec_world.specs.World.{State};
 
     ghost Value = { State };
 
-    ghost use Rattle.rec_world.specs.Inside.{state};
+    ghost use Rattle.rec_world.specs.Inside.{state, IsWhole};
 
     ghost view = { state };
 
-    ghost invariant = { λ w. IsWorld (state w) };
+    ghost invariant = { IsWhole };
 }
 
 impl World {
@@ -52,10 +53,12 @@ impl World {
         let slots = config.slots as usize;
         let memory = Memory::open(alloc, slots, slots * config.fields as usize)?;
         let registers = opening_registers(alloc, config.registers as usize)?;
+        let numbering = Numbering::open(alloc, config.slots as u16)?;
         Ok(World {
             config,
             memory,
             registers,
+            numbering,
             made: 1,
             logged: 0,
             marked: false,
@@ -116,6 +119,10 @@ impl World {
         ensures stands { (heap : Heap) → StandsFor heap (sight self.old) → StandsFor heap (sight self.new) }
         ensures kept { IsWorld self.new }
     {
+        let fields = self.config.fields as u8;
+        self.numbering
+            .fill(&self.registers, self.memory.words(), fields);
+        self.memory.keep(&self.numbering, fields);
         self.marked = true;
     }
 
