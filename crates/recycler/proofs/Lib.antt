@@ -1,7 +1,10 @@
 pub mod CommandLines
+pub mod Endings
+pub mod Fronts
 pub mod HeapLines
 pub mod MutatorLines
 pub mod Numerals
 pub mod Operands
 pub mod Playing
 pub mod Spellings
+pub mod Turns

@@ -16,7 +16,7 @@ longest (cmds ∷ rest) = max (length cmds) (longest rest)
 
 -- the room of each log: that of the longest mutator, and at least one entry
 abbrev pub log_room : Contents → ℕ
-log_room script = max 1 (longest script.commands)
+log_room script = max (longest script.commands) 1
 
 -- the numbers of the heap that a script runs on
 abbrev pub config_of : Contents → Config

@@ -11,6 +11,8 @@
 mod gate;
 mod play;
 mod reading;
+mod report;
+mod run;
 pub mod script;
 mod status;
 mod writing;

@@ -65,7 +65,7 @@ fn read_more<S: Source>(
 /// Reads a source to its end, or past the limit: then it stops, since no script is that long.
 pub fn read_all<S: Source>(alloc: Global, source: &mut S) -> Result<Vec<u8>, ReadStop>
     ensures passed { IfOk result (λ bytes. Passes (S.rest source.old) (S.rest source.new) bytes.items) }
-    ensures whole { IfOk result (λ bytes. vec_len bytes ≤ 16777216 → IsAtEnd (S.rest source.old) (S.rest source.new)) }
+    ensures whole { IfOk result (λ bytes. length bytes.items ≤ 16777216 → IsAtEnd (S.rest source.old) (S.rest source.new)) }
     ensures fault { IsErrOf result ReadStop.Fault → Rose (S.faults source.old) (S.faults source.new) }
     ensures never_falls { S.faults source.old ≤ S.faults source.new }
 {

@@ -1,0 +1,6 @@
+//! Stub.
+mod lines;
+mod making;
+
+pub use lines::{Line, Text};
+pub use making::text;
