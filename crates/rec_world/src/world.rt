@@ -367,3 +367,6 @@ fn opening_registers(alloc: Global, count: usize) -> Result<Vec<Option<u16>>, No
     registers[0] = Some(0);
     Ok(registers)
 }
+
+#[cfg(test)]
+mod tests;
