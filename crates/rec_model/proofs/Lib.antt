@@ -1,10 +1,13 @@
 pub mod Answered
+pub mod Carried
 pub mod Collected
 pub mod Firsts
 pub mod Growing
+pub mod Listed
 pub mod Members
 pub mod Named
 pub mod Names
+pub mod Numbered
 pub mod Opened
 pub mod Positions
 pub mod Standing

@@ -10,8 +10,12 @@
 
 mod answer;
 mod command;
+mod laws;
 mod told;
 
 pub use answer::Answer;
 pub use command::Cmd;
+pub use laws::{
+    listing_is_unique, listing_stands, numbering_is_unique, numbering_lists_the_reached,
+};
 pub use told::Told;
