@@ -102,6 +102,7 @@ impl World {
 
         ensures kept { IsWorld self.new }
     {
+        // A heap is asked until it is marked, and no command marks it.
         prove!(!self.marked);
         let told = self.carry_out(t, cmd);
         prove!(!self.marked);
