@@ -1,5 +1,5 @@
 -- The played run so far, and one command more.
-use Rattle.std.proofs.Common.{◌≡◌, ◌≢◌, ◌⊎◌, inl, inr, ℕ, ◌+◌, ◌-◌, ◌<◌, ◌≤◌, zero, suc, List, [], ◌∷◌, ◌++◌, Option, None, Some, Bool, true, false, if◌then◌else◌, ◌&&◌, slice_index_or, length, map, take, replicate, refl, sym, ap, subst, ◌∙◌, arith}
+use Rattle.std.proofs.Common.{◌≡◌, ◌≢◌, ◌⊎◌, inl, inr, ℕ, ◌+◌, ◌-◌, ◌<◌, ◌≤◌, zero, suc, List, [], ◌∷◌, ◌++◌, Option, None, Some, Bool, true, false, if◌then◌else◌, ◌&&◌, slice_index_or, length, map, max, take, replicate, refl, sym, ap, subst, ◌∙◌, arith}
 use Rattle.std.specs.List.{slice_get}
 use Rattle.std.specs.Option.{IfSome}
 use Rattle.std.proofs.lemmas.Bool.{false≢true}
@@ -23,7 +23,7 @@ use Rattle.rec_model.proofs.Opened.{opening_stands}
 use Rattle.rec_world.specs.World.{opened, State, sight, IsWorld, IsLogFull, IsFull, IsLowestFree, is_plain, entries_of}
 use Rattle.rec_world.specs.declared.config.Config.{Config}
 use Rattle.recycler.specs.Script.{Contents}
-use Rattle.recycler.specs.Played.{config_of, log_room, limits_of, opening_moment, last_moment, is_answer, IsPlayed}
+use Rattle.recycler.specs.Played.{config_of, longest, log_room, limits_of, opening_moment, last_moment, is_answer, IsPlayed}
 
 -- one mutator's first commands were played
 pub record PlayedSo (script : Contents) (cmds : List Cmd) (world : State) (lines : List Line) (order : List ℕ) (events : List Event) : Type 0 where
@@ -50,7 +50,7 @@ pub record Commanded (before after : State) (t : ℕ) (cmd : Cmd) (told : Told) 
   pub logged : after.logged ≡ before.logged + entries_of cmd told.answer
   pub config : after.config ≡ before.config
   pub marked : after.marked ≡ false
-  pub lowest : is_birth (cmd, told) ≡ true → before.made < before.config.slots
+  pub within : after.made ≤ after.config.slots
   pub stamp : IfSome (word_left cmd told) (λ word. stamp_of word ≡ record { writer = t; epoch = before.config.first_epoch; index = before.logged })
 
 -- births are counted: a read, a write and the others make none
@@ -125,7 +125,11 @@ one_more script cmds before after lines order events cmd told room more is done 
           told = asks;
           allocation = allocation_fits (limits_of script) w before.made cmd told.answer so.unfreed
               (λ full. let (new, room, made) = done.full full in made ∙ slots)
-              (λ birth. subst (λ n. before.made < n) slots (done.lowest birth));
+              (λ birth.
+                let made : after.made ≡ before.made + 1 = done.made ∙ ap (λ b. before.made + (if b then 1 else 0)) birth in
+                let same : after.config.slots ≡ before.config.slots = ap (λ (c : Config). c.slots) done.config in
+                let within : after.made ≤ after.config.slots = done.within in
+                omega arith);
           log_full = λ full. absurd (never_full full);
         } in
     let anew : StampsAnew events 1 (cmd, told) =
@@ -199,6 +203,16 @@ begun script cmds some one =
     empty_journals zero = refl
     empty_journals (suc n) = refl
 
+-- there is one mutator, with these commands
+pub alone : (all : List (List Cmd)) (cmds : List Cmd) → length all ≡ 1 → slice_get all 0 ≡ Some cmds → all ≡ cmds ∷ []
+alone [] cmds one is = cc
+alone (first ∷ []) cmds one is = ap (λ (x : List Cmd). x ∷ []) (let same : first ≡ cmds = (cc) in same)
+alone (first ∷ next ∷ rest) cmds one is = absurd (omega (arith, one))
+
+-- its commands fit the log
+pub fits_log : (script : Contents) (cmds : List Cmd) → script.commands ≡ cmds ∷ [] → length cmds ≤ log_room script
+fits_log script cmds is = let room : longest script.commands ≡ max (length cmds) 0 = ap longest is in omega arith
+
 -- after the last command
 pub ended : (script : Contents) (cmds : List Cmd) (world : State) (lines : List Line) (order : List ℕ) (events : List Event)
     → script.commands ≡ cmds ∷ [] → length cmds ≤ length lines → PlayedSo script cmds world lines order events → IsPlayed script (lines ∷ []) events
@@ -208,3 +222,16 @@ ended script cmds world lines order events alone all so =
       legal = so.legal;
       answers_only = so.answers_only;
     }
+
+-- one command more, as a journal and an order note it
+pub noted : (script : Contents) (cmds : List Cmd) (before after : State) (lines next : List Line) (order turns : List ℕ) (events : List Event) (cmd : Cmd) (told : Told) (index : ℕ)
+    → length cmds ≤ log_room script → length lines ≡ index → index < length cmds → slice_get cmds index ≡ Some cmd
+    → next ≡ lines ++ (cmd, told) ∷ [] → turns ≡ order ++ 1 ∷ []
+    → Commanded before after 1 cmd told → PlayedSo script cmds before lines order events
+    → PlayedSo script cmds after next turns (events ++ Answers 1 (cmd, told) ∷ [])
+noted script cmds before after lines next order turns events cmd told index room at more is next_is turns_is done so =
+    let here : PlayedSo script cmds after (lines ++ (cmd, told) ∷ []) (order ++ 1 ∷ []) (events ++ Answers 1 (cmd, told) ∷ [])
+        = one_more script cmds before after lines order events cmd told room (subst (λ n. n < length cmds) (sym at) more) (ap (slice_get cmds) at ∙ is) done so in
+    let P : List Line → Type 0 = λ ls. PlayedSo script cmds after ls turns (events ++ Answers 1 (cmd, told) ∷ []) in
+    let Q : List ℕ → Type 0 = λ ts. PlayedSo script cmds after (lines ++ (cmd, told) ∷ []) ts (events ++ Answers 1 (cmd, told) ∷ []) in
+    subst P (sym next_is) (subst Q (sym turns_is) here)

@@ -1,8 +1,9 @@
 //! The commands of a script, carried out one after the other.
-ghost use Rattle.std.specs.Prelude.{◌≡◌, ◌≤◌, ℕ, List, [], ◌∷◌, length};
+ghost use Rattle.std.specs.Prelude.{◌≡◌, ℕ, List, [], ◌∷◌, length, false};
 ghost use Rattle.rec_model.specs.LegalOrder.{Event, actors};
 ghost use Rattle.rec_model.specs.Sight.{StandsFor};
-ghost use Rattle.rec_world.specs.World.{sight, opened, IsWorld};
+ghost use Rattle.rec_world.specs.World.{sight, opened};
+ghost use Rattle.recycler.specs.Script.{IsScript};
 ghost use Rattle.recycler.specs.Played.{config_of, log_room, IsPlayed, last_moment};
 
 use crate::script::Script;
@@ -10,6 +11,7 @@ use rec_world::{Journal, Order, World};
 
 /// Runs the commands of a script on the heap that was opened for it, and notes what was told and in which order.
 pub fn play(script: &Script, world: &mut World, journal: &mut Journal, order: &mut Order)
+    requires script { IsScript script.now }
     requires opened { world.old ≡ opened (config_of script.now) }
     requires journal { journal.old ≡ record { lines = []; room = log_room script.now } }
     requires order { order.old ≡ record { list = []; room = log_room script.now } }
