@@ -102,6 +102,7 @@ impl World {
 
         ensures kept { IsWorld self.new }
     {
+        // A heap is asked until it is marked, and no command marks it.
         prove!(!self.marked);
         let told = self.carry_out(t, cmd);
         prove!(!self.marked);
@@ -367,3 +368,6 @@ fn opening_registers(alloc: Global, count: usize) -> Result<Vec<Option<u16>>, No
     registers[0] = Some(0);
     Ok(registers)
 }
+
+#[cfg(test)]
+mod tests;
