@@ -1,4 +1,5 @@
 pub mod CommandLine
+pub mod Fields
 pub mod Headline
 pub mod Played
 pub mod Reading
