@@ -1,5 +1,6 @@
 pub mod CommandLines
 pub mod HeapLines
+pub mod Lines
 pub mod MutatorLines
 pub mod Numerals
 pub mod Operands

@@ -6,4 +6,5 @@
 //! The form of a script is this project's profile (`docs/PROFILE.md`).
 #![tactic(auto)]
 
+pub mod report;
 pub mod script;
