@@ -1,4 +1,5 @@
 pub mod CommandLines
+pub mod Counting
 pub mod HeapLines
 pub mod Lines
 pub mod MutatorLines

@@ -1,3 +1,4 @@
+pub mod Holders
 pub mod Reading
 pub mod Script
 pub mod Text

@@ -3,6 +3,7 @@
 ghost use Rattle.std.specs.Prelude.{◌≡◌, ◌+◌, ◌<◌, ◌^◌, ◌++◌, ◌∷◌, [], List, map, length, slice_index_or, IfOk, OnOk};
 ghost use Rattle.recycler.specs.Text.{own_lines, lines_by_mutator, lines_in_order, IsOrderOf};
 
+mod holders;
 mod line;
 
 pub use line::Line;
