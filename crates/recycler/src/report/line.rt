@@ -1,11 +1,14 @@
 //! The lines of a report.
 
-ghost use Rattle.std.specs.Prelude.{◌≡◌, ◌++◌, IfOk, OnOk, string_bytes};
-ghost use Rattle.recycler.specs.Text.{answer_line, field_word, live_line, totals_line};
+ghost use Rattle.std.specs.Prelude.{◌≡◌, ◌++◌, map, IfOk, OnOk, string_bytes};
+ghost use Rattle.rec_word.specs.Word.{target_of};
+ghost use Rattle.recycler.specs.Text.{answer_line, field_number, field_word, live_line, row_head as head_of, row_line, totals_line};
 
 use rec_model::Answer;
+use rec_word::target;
+use rec_world::Numbering;
 use std::alloc::{AllocError as NoMemory, Global};
-use std::fmt;
+use std::fmt::{self, Write};
 use std::marker::Model;
 
 /// One line, with its line feed.
@@ -49,6 +52,25 @@ impl Line {
         })
     }
 
+    /// The live object with this number: `words` are those of its fields.
+    pub(super) fn row(
+        alloc: Global,
+        number: usize,
+        label: u32,
+        count: u32,
+        words: &[u64],
+        numbering: &Numbering,
+    ) -> Result<Line, NoMemory>
+        ensures { IfOk result (λ line. line ≡ row_line number (record { label = label; count = count; fields = map (λ word. field_number numbering.now.list (target_of word)) words.now })) }
+    {
+        let mut text = row_head(alloc, number, label, count)?;
+        for word in words {
+            push_field(&mut text, number_of_field(numbering, *word))?;
+        }
+        text.push('\n')?;
+        Ok(Line { text })
+    }
+
     /// Births, refusals, and how many objects are live no more.
     pub(super) fn totals(alloc: Global, made: u64, refused: u64, live: u64) -> Result<Line, NoMemory>
         ensures { IfOk result (λ line. line ≡ totals_line made refused live) }
@@ -57,6 +79,30 @@ impl Line {
         Ok(Line {
             text: format!(in alloc; "made {made} refused {refused} freed {freed}\n")?,
         })
+    }
+}
+
+/// The line of a live object without its fields.
+fn row_head(alloc: Global, number: usize, label: u32, count: u32) -> Result<String, NoMemory>
+    ensures { IfOk result (λ text. string_bytes text ≡ head_of number label count) }
+{
+    format!(in alloc; "#{number} label {label} count {count} fields")
+}
+
+/// The number of the slot that a field's word leads to.
+fn number_of_field(numbering: &Numbering, word: u64) -> Option<u16>
+    ensures { result ≡ field_number numbering.now.list (target_of word) }
+{
+    numbering.number(target(word)?)
+}
+
+/// Adds what a field leads to, behind a space.
+fn push_field(text: &mut String, number: Option<u16>) -> Result<(), NoMemory>
+    ensures { OnOk result (string_bytes text.new ≡ string_bytes text.old ++ field_word number) }
+{
+    match number {
+        None => text.push_str(" -"),
+        Some(number) => write!(text, " #{number}"),
     }
 }
 
