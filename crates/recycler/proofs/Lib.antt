@@ -1,6 +1,7 @@
 pub mod CommandLines
 pub mod Counting
 pub mod HeapLines
+pub mod Held
 pub mod Lines
 pub mod MutatorLines
 pub mod Numerals

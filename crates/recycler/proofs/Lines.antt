@@ -1,15 +1,16 @@
 -- Answer lines one after another: the next line of a journal, the next journal, and the next turn of an order.
 use Rattle.std.proofs.Common.{◌≡◌, ◌⊎◌, inl, inr, ℕ, zero, suc, ◌+◌, ◌-◌, ◌<◌, ◌≤◌, ◌==◌, true, false, List, [], ◌∷◌, ◌++◌, map, take, drop, length, get_or, set, get_or-set_same, get_or-set_other, add-zero, le_trans, refl, sym, ◌∙◌, ap, subst, append_assoc, append-nil, arith, cond}
 use Rattle.std.specs.List.{flat_map, enumerate_from}
+use Rattle.std.specs.Prelude.{count_by}
 use Rattle.std.proofs.lemmas.List.{map-append, take_more, drop_more, length-take-le, take-append-drop, take-map, length-map, get_or-map, get_or_past, get_or_default}
 use Rattle.std.proofs.lemmas.List.FromFn.{length-enumerate_from, get_or-enumerate_from}
-use Rattle.std.proofs.lemmas.List.Sums.{sum_by-append, sum_by-cons, count_by-le-length}
+use Rattle.std.proofs.lemmas.List.Sums.{sum_by-append, sum_by-cons, sum_by_push, count_by-le-length}
 use Rattle.std.proofs.lemmas.Bool.{cases_eq, cases_lt, eq-eqb, ne_eqb}
 use Rattle.std.proofs.lemmas.Grind.{flat_map-append}
 use Rattle.rec_model.specs.LegalOrder.{Line}
 use Rattle.rec_world.specs.Journal.{Notes}
 use Rattle.rec_model.specs.Numbering.{times}
-use Rattle.recycler.specs.Text.{answer_line, own_lines, lines_by_mutator, turn_line, lines_in_order, IsOrderOf}
+use Rattle.recycler.specs.Text.{answer_line, own_lines, lines_by_mutator, turn_line, lines_in_order, IsOrderOf, is_refused, refusals}
 
 -- one element more has the next number
 pub enumerate_from-push : {X : Type 0} (n : ℕ) (xs : List X) (x : X) → enumerate_from n (xs ++ x ∷ []) ≡ enumerate_from n xs ++ (n + length xs, x) ∷ []
@@ -171,3 +172,14 @@ turn_step first so_far more journals order p t i journal reads within at e g =
       next_numbered f 0 order p 0 within
       ∙ ap (λ n. map f (enumerate_from 0 (take p order)) ++ f (n, get_or order p 0) ∷ []) zero_more
       ∙ ap (λ l. map f (enumerate_from 0 (take p order)) ++ l ∷ []) (sym line))
+
+-- the refusals of the next journal
+pub refusals_step : (journals : List Notes) (i : ℕ) (d : Notes) (so_far own : ℕ) (lines : List Line) → i < length journals → so_far ≡ refusals (map (λ journal. journal.lines) (take i journals)) → own ≡ count_by (λ line. is_refused line.1.answer) lines → lines ≡ d.lines → d ≡ get_or journals i d → so_far + own ≡ refusals (map (λ journal. journal.lines) (take (i + 1) journals))
+refusals_step journals i d so_far own lines within e f g is =
+    let count : List Line → ℕ = count_by (λ line. is_refused line.1.answer) in
+    let one : own ≡ count (get_or journals i d).lines = f ∙ ap count (g ∙ ap (λ (j : Notes). j.lines) is) in
+    let all : refusals (map (λ journal. journal.lines) (take (i + 1) journals)) ≡ refusals (map (λ journal. journal.lines) (take i journals)) + count (get_or journals i d).lines =
+      ap (λ js. refusals (map (λ journal. journal.lines) js)) (take_more journals i d within)
+      ∙ ap refusals (map-append (λ (journal : Notes). journal.lines) (take i journals) (get_or journals i d ∷ []))
+      ∙ sum_by_push count (map (λ journal. journal.lines) (take i journals)) (get_or journals i d).lines in
+    omega arith

@@ -1,4 +1,5 @@
 pub mod Holders
 pub mod Reading
+pub mod Report
 pub mod Script
 pub mod Text

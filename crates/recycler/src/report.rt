@@ -1,111 +1,70 @@
 //! What a run writes: the answers, the listing of the live objects, and totals.
 
-ghost use Rattle.std.specs.Prelude.{◌≡◌, ◌+◌, ◌<◌, ◌^◌, ◌++◌, ◌∷◌, [], List, map, length, slice_index_or, IfOk, OnOk};
-ghost use Rattle.recycler.specs.Text.{own_lines, lines_by_mutator, lines_in_order, IsOrderOf};
+ghost use Rattle.std.specs.Prelude.{◌≡◌, ◌+◌, ◌<◌, ◌≤◌, ◌^◌, ◌++◌, ◌∷◌, [], List, map, count_by, length, option_map, slice_index_or, IfOk, IfSome, OnOk};
+ghost use Rattle.rec_model.specs.Listing.{Row, ListsSlots};
+ghost use Rattle.rec_model.specs.Sight.{IsCollected};
+ghost use Rattle.rec_world.specs.World.{sight};
+ghost use Rattle.recycler.specs.Report.{AreFor};
+ghost use Rattle.recycler.specs.Text.{IsOrderOf, is_refused, refusals, play_lines};
 
 mod holders;
 mod line;
+mod listing;
+mod page;
 
 pub use line::Line;
-use rec_model::{Cmd, Told};
-use rec_world::Journal;
+pub use page::Text;
+use crate::script::Script;
+use rec_model::{Answer, Cmd, Told};
+use rec_world::{Journal, Order, World};
 use std::alloc::{AllocError as NoMemory, Global};
-use std::marker::Model;
 
-/// A text, line by line.
-#[derive(Debug, Drop)]
-pub struct Text {
-    lines: Vec<Line>,
+// How many of these commands were refused.
+fn own_refusals(journal: &[(Cmd, Told)]) -> u64
+    ensures value { result ≡ count_by (λ line. is_refused line.1.answer) journal.now }
+    ensures few { result < 2 ^ 58 }
+{
+    let refused = |line: &&(Cmd, Told)| matches!(line.1.answer, Answer::Full | Answer::Busy { .. });
+    journal.iter().filter(refused).count() as u64
 }
 
-impl Model for Text {
-    ghost use Rattle.std.specs.Prelude.{ℕ, List};
-
-    ghost Value = { List (List ℕ) };
-
-    ghost view = { λ text. text.lines.items };
+// How many commands were refused.
+fn refusals_of(journals: &[Journal]) -> u64
+    requires { length journals.now ≤ 63 }
+    ensures { result ≡ refusals (map (λ journal. journal.lines) journals.now) }
+{
+    let mut refused = 0;
+    for journal in journals {
+        refused += own_refusals(journal.lines());
+    }
+    refused
 }
 
-impl Text {
-    /// The lines in order.
-    pub fn lines(&self) -> &[Line]
-        ensures { result.now ≡ self.now }
-    {
-        self.lines.as_slice()
-    }
+/// What a run writes: the answers in their order, or without one mutator by mutator, then the listing, then totals.
+pub fn text(
+    alloc: Global,
+    script: &Script,
+    journals: &[Journal],
+    order: Option<&Order>,
+    world: &World,
+) -> Result<Text, NoMemory>
+    // The script's numbers are the world's, there is one journal per mutator, an order names each mutator as often as its
+    // journal has lines and nobody else, and just what a register reaches is taken.
+    requires script { AreFor script.now world.now }
+    requires journals { length journals.now ≡ world.now.config.mutators }
+    requires order { IfSome order (λ turns. IsOrderOf (map (λ journal. journal.lines) journals.now) turns.now.list) }
+    requires collected { IsCollected (sight world.now) }
 
-    fn new(alloc: Global) -> Text
-        ensures { result ≡ [] }
-    {
-        Text {
-            lines: Vec::new(alloc),
-        }
+    // The rows are those read off the slots. Wherever a heap that never frees stands for the world, they are its listing.
+    ensures lines { IfOk result (λ text. (rows : List Row) × ListsSlots (sight world.now) rows × (text ≡ play_lines (map (λ journal. journal.lines) journals.now) (option_map (λ turns. turns.now.list) order.entry) rows world.now.made)) }
+{
+    let mut text = Text::new(alloc);
+    match order {
+        Some(order) => text.add_turns(alloc, journals, order.list())?,
+        None => text.add_journals(alloc, journals)?,
     }
-
-    fn add(&mut self, line: Line) -> Result<(), NoMemory>
-        ensures { OnOk result (self.new ≡ self.old ++ line ∷ []) }
-    {
-        self.lines.push(line)?;
-        Ok(())
-    }
-
-    // The answers to mutator `t`.
-    fn add_journal(
-        &mut self,
-        alloc: Global,
-        t: usize,
-        journal: &[(Cmd, Told)],
-    ) -> Result<(), NoMemory>
-        ensures { OnOk result (self.new ≡ self.old ++ own_lines t journal.now) }
-    {
-        for (i, line) in journal.iter().enumerate() {
-            self.add(Line::answer(alloc, t, i + 1, line.1.answer)?)?;
-        }
-        Ok(())
-    }
-
-    // The answers mutator by mutator.
-    fn add_journals(&mut self, alloc: Global, journals: &[Journal]) -> Result<(), NoMemory>
-        ensures { OnOk result (self.new ≡ self.old ++ lines_by_mutator (map (λ journal. journal.lines) journals.now)) }
-    {
-        for (i, journal) in journals.iter().enumerate() {
-            self.add_journal(alloc, i + 1, journal.lines())?;
-        }
-        Ok(())
-    }
-
-    // The answers in the order of the mutators' turns.
-    fn add_turns(
-        &mut self,
-        alloc: Global,
-        journals: &[Journal],
-        order: &[u8],
-    ) -> Result<(), NoMemory>
-        requires { IsOrderOf (map (λ journal. journal.lines) journals.now) order.now }
-        ensures { OnOk result (self.new ≡ self.old ++ lines_in_order (map (λ journal. journal.lines) journals.now) order.now) }
-    {
-        let mut next: Vec<usize> = vec![in alloc; 0; journals.len()]?;
-        for t in order {
-            let own = usize::from(*t) - 1;
-            let i = next[own];
-            self.add_turn(alloc, own + 1, i, journals[own].lines())?;
-            next[own] = i + 1;
-        }
-        Ok(())
-    }
-
-    // The answer to command `i` of mutator `t`; here commands are numbered from 0.
-    fn add_turn(
-        &mut self,
-        alloc: Global,
-        t: usize,
-        i: usize,
-        journal: &[(Cmd, Told)],
-    ) -> Result<(), NoMemory>
-        requires { i < length journal.now }
-        ensures { OnOk result (self.new ≡ self.old ++ slice_index_or (own_lines t journal.now) i [] ∷ []) }
-    {
-        self.add(Line::answer(alloc, t, i + 1, journal[i].1.answer)?)?;
-        Ok(())
-    }
+    let live = text.add_listing(alloc, script, world)?;
+    let totals = Line::totals(alloc, world.made(), refusals_of(journals), live as u64)?;
+    text.add(totals)?;
+    Ok(text)
 }

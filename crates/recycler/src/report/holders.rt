@@ -1,16 +1,12 @@
 //! How many registers and fields hold each slot.
 
-ghost use Rattle.std.specs.Prelude.{◌≡◌, ℕ, ◌+◌, ◌*◌, ◌<◌, ◌≤◌, ◌^◌, true, List, [], ◌∷◌, ◌++◌, map, length, replicate, slice_index_or, IfOk};
-ghost use Rattle.std.specs.List.{flat_map};
+ghost use Rattle.std.specs.Prelude.{◌≡◌, ◌<◌, [], ◌∷◌, map, length, replicate, slice_index_or, IfOk};
 ghost use Rattle.rec_word.specs.Word.{target_of};
-ghost use Rattle.rec_model.specs.Reach.{named, is_in};
-ghost use Rattle.rec_model.specs.Numbering.{times, holders};
-ghost use Rattle.rec_model.specs.Heap.{roots};
-ghost use Rattle.rec_model.specs.Sight.{targets_of};
-ghost use Rattle.rec_world.specs.Numbering.{sight_of, NamesBelow};
 ghost use Rattle.recycler.specs.Holders.{Names, Adds};
+ghost use Rattle.recycler.specs.Report.{IsNumbered, AreHolders};
 
 use rec_word::target;
+use rec_world::{Numbering, World};
 use std::alloc::{AllocError as NoMemory, Global};
 use std::marker::Model;
 
@@ -36,6 +32,26 @@ impl Holders {
         Ok(Holders {
             counts: vec![in alloc; 0; slots]?,
         })
+    }
+
+    /// The counts of a world's listing.
+    pub fn of(
+        alloc: Global,
+        world: &World,
+        fields: u8,
+        numbering: &Numbering,
+    ) -> Result<Holders, NoMemory>
+        requires { IsNumbered world.now fields numbering.now }
+        ensures { IfOk result (λ holders. AreHolders world.now numbering.now.list holders) }
+    {
+        let words = world.words();
+        let mut holders = Holders::new(alloc, usize::from(numbering.slots()))?;
+        holders.add_registers(world.registers(1));
+        for slot in numbering.list() {
+            let first = usize::from(*slot) * usize::from(fields);
+            holders.add_fields(&words[first..first + usize::from(fields)]);
+        }
+        Ok(holders)
     }
 
     /// How many were counted that hold this slot.

@@ -2,7 +2,7 @@
 use Rattle.std.proofs.Common.{◌≡◌, ◌≤◌, ◌∙◌, ◌++◌, ◌+◌, ◌-◌, ◌∷◌, [], ap, ◌<◌, arith, get_or, length-set, subst}
 use Rattle.recycler.specs.Text.{own_lines}
 use Rattle.recycler.proofs.Lines.{TurnReads, turn_reads, turn_step, turns_more}
-use Rattle.recycler.proofs.report.Text.add_turns.Goals as goal
+use Rattle.recycler.proofs.report.page.Text.add_turns.Goals as goal
 
 pub add_turn-requires : goal.add_turn-requires
 add_turn-requires c =

@@ -3,7 +3,7 @@ use Rattle.std.proofs.Common.{◌≡◌, ◌++◌, ◌+◌, ◌<◌, ℕ, take, 
 use Rattle.std.specs.List.{enumerate_from}
 use Rattle.rec_model.specs.Numbering.{times}
 use Rattle.recycler.specs.Text.{turn_line}
-use Rattle.recycler.proofs.report.Text.add_turns.Given as goal
+use Rattle.recycler.proofs.report.page.Text.add_turns.Given as goal
 
 abbrev pub invariant-loop-t : goal.invariant-loop-t
 invariant-loop-t l = record {

@@ -3,7 +3,7 @@ use Rattle.std.proofs.Common.{◌≡◌, ◌∙◌, ◌++◌, ◌+◌, ap}
 use Rattle.rec_world.specs.Journal.{Notes}
 use Rattle.recycler.specs.Text.{own_lines}
 use Rattle.recycler.proofs.Lines.{journals_step}
-use Rattle.recycler.proofs.report.Text.add_journals.Goals as goal
+use Rattle.recycler.proofs.report.page.Text.add_journals.Goals as goal
 
 pub loop-i-preserved : goal.loop-i-preserved
 loop-i-preserved c = journals_step _ _ _ _ _ c.index-journals-i.result c.loop-i-test.true c.loop-i.invariant (
