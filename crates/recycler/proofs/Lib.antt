@@ -6,4 +6,5 @@ pub mod Lines
 pub mod MutatorLines
 pub mod Numerals
 pub mod Operands
+pub mod Rows
 pub mod Spellings
