@@ -7,6 +7,7 @@ use Rattle.rec_model.specs.declared.answer.Answer.TheVariants as answers
 use Rattle.rec_model.specs.LegalOrder.{Line}
 use Rattle.rec_model.specs.Numbering.{times}
 use Rattle.rec_model.specs.Listing.{Row}
+use Rattle.rec_world.specs.Numbering.{number_of}
 
 -- the word of an answer
 abbrev pub answer_word : Answer → List ℕ
@@ -64,10 +65,18 @@ abbrev pub field_word : Option ℕ → List ℕ
 field_word None = codes " -"
 field_word (Some n) = codes " #" ++ decimal n
 
+-- what a field's target is in a listing of slots
+abbrev pub field_number : List ℕ → Option ℕ → Option ℕ
+field_number slots None = None
+field_number slots (Some slot) = number_of slots slot
+
+-- the number of a live object, its label and its count
+abbrev pub row_head : (n label count : ℕ) → List ℕ
+row_head n label count = codes "#" ++ decimal n ++ codes " label " ++ decimal label ++ codes " count " ++ decimal count ++ codes " fields"
+
 -- the live object with this number
 abbrev pub row_line : ℕ → Row → List ℕ
-row_line n row =
-    codes "#" ++ decimal n ++ codes " label " ++ decimal row.label ++ codes " count " ++ decimal row.count ++ codes " fields" ++ flat_map field_word row.fields ++ line_feed
+row_line n row = row_head n row.label row.count ++ flat_map field_word row.fields ++ line_feed
 
 -- the listing
 abbrev pub row_lines : List Row → List (List ℕ)
