@@ -50,6 +50,13 @@ impl Numbering {
         &self.list
     }
 
+    /// How many slots there are.
+    pub fn slots(&self) -> u16
+        ensures { result ≡ self.now.slots }
+    {
+        self.numbers.len() as u16
+    }
+
     /// The slot's number, from 1, or `None` where it isn't numbered.
     pub fn number(&self, slot: u16) -> Option<u16>
         ensures { result ≡ number_of self.now.list slot }

@@ -1,7 +1,7 @@
 ghost use Rattle.std.specs.Prelude.{◌≡◌, ℕ, ◌+◌, ◌-◌, ◌*◌, ◌∷◌, replicate, ◌<◌, ◌==◌, ◌↔◌, if◌then◌else◌, true, false, slice_index_or, IsTrue, IsNone, IfOk, IfSome};
 ghost use Rattle.rec_word.specs.Place.{place_of};
 ghost use Rattle.rec_word.specs.Word.{IsTarget, packed, stamp_of, target_of};
-ghost use Rattle.rec_model.specs.Heap.{Heap, opening, register};
+ghost use Rattle.rec_model.specs.Heap.{Heap, opening, register, registers_of};
 ghost use Rattle.rec_model.specs.Explained.{IsExplained};
 ghost use Rattle.rec_model.specs.LegalOrder.{is_birth, word_left};
 ghost use Rattle.rec_model.specs.Sight.{IsTaken, IsCollected, Collects, StandsFor};
@@ -166,6 +166,24 @@ impl World {
         ensures { result ≡ register self.now.registers t r }
     {
         self.registers[usize::from(r)]
+    }
+
+    /// The words of all fields, by their places.
+    pub fn words(&self) -> &[u64]
+        ensures words { result.now ≡ self.now.words }
+        ensures kept { IsWorld self.now }
+    {
+        self.memory.words()
+    }
+
+    /// What the registers of mutator `t` name, in order.
+    pub fn registers(&self, t: u8) -> &[Option<u16>]
+        requires { IsMutator self.now.config t }
+
+        ensures registers { result.now ≡ registers_of self.now.registers t }
+        ensures kept { IsWorld self.now }
+    {
+        &self.registers
     }
 
     /// How many objects were born, with the opening one.
