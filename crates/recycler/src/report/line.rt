@@ -11,6 +11,9 @@ use std::alloc::{AllocError as NoMemory, Global};
 use std::fmt::{self, Write};
 use std::marker::Model;
 
+// What most answer lines fit, so that they take memory once.
+const ANSWER_BYTES: usize = 24;
+
 /// One line, with its line feed.
 #[derive(Debug, Drop)]
 pub struct Line {
@@ -38,9 +41,9 @@ impl Line {
         ensures { IfOk result (λ line. line ≡ answer_line t i answer) }
     {
         let word = Word(answer);
-        Ok(Line {
-            text: format!(in alloc; "{t}.{i} {word}\n")?,
-        })
+        let mut text = String::with_capacity(alloc, ANSWER_BYTES)?;
+        write!(text, "{t}.{i} {word}\n")?;
+        Ok(Line { text })
     }
 
     /// How many objects are live.
