@@ -4,6 +4,7 @@ ghost use Rattle.std.specs.Prelude.{◌≡◌, ◌++◌, map, IfOk, OnOk, string
 ghost use Rattle.rec_word.specs.Word.{target_of};
 ghost use Rattle.recycler.specs.Text.{answer_line, answer_word, field_number, field_word, live_line, row_head as head_of, row_line, totals_line};
 
+use itoa::Buffer;
 use rec_model::Answer;
 use rec_word::target;
 use rec_world::Numbering;
@@ -40,8 +41,12 @@ impl Line {
     pub(super) fn answer(alloc: Global, t: usize, i: usize, answer: Answer) -> Result<Line, NoMemory>
         ensures { IfOk result (λ line. line ≡ answer_line t i answer) }
     {
+        let mut number = Buffer::new();
         let mut text = String::with_capacity(alloc, ANSWER_BYTES)?;
-        write!(text, "{t}.{i} ")?;
+        text.push_str(number.format(t))?;
+        text.push('.')?;
+        text.push_str(number.format(i))?;
+        text.push(' ')?;
         push_word(&mut text, answer)?;
         text.push('\n')?;
         Ok(Line { text })
