@@ -1,19 +1,18 @@
 -- What every plain heap keeps is kept by each thing that a command does to it.
-use Rattle.std.proofs.Common.{◌≡◌, ◌≢◌, inl, inr, ℕ, ◌+◌, ◌-◌, ◌*◌, ◌^◌, ◌<◌, ◌≤◌, ◌↔◌, List, [], ◌∷◌, ◌==◌, Option, None, Some, Bool, true, false, IfSome, slice_index_or, slice_set, length, map, refl, sym, ap, subst, ◌∙◌, arith}
+use Rattle.std.proofs.Common.{◌≡◌, inl, inr, ℕ, ◌+◌, ◌-◌, ◌^◌, ◌<◌, ◌≤◌, ◌↔◌, List, [], ◌==◌, Option, None, Some, false, slice_index_or, slice_set, length, map, ap, subst, ◌∙◌, arith}
 use Rattle.std.specs.List.{All}
 use Rattle.std.proofs.Math.ListN.{get_or-map}
-use Rattle.std.proofs.Math.Nat.{mul-le-mul_left}
 use Rattle.std.proofs.lemmas.Bool.{cases_lt, cases_eq, false≢true, eq-eqb}
 use Rattle.std.proofs.lemmas.List.{length-set, get_or_past, get_or-set_same, get_or-set_other}
 use Rattle.std.proofs.lemmas.List.Elements.{All-set, All-get_or}
 use Rattle.rec_word.specs.Place.{place_of}
 use Rattle.rec_word.specs.Word.{target_of, IsTarget}
 use Rattle.rec_model.specs.Heap.{register, registers_of, set_register}
-use Rattle.rec_model.specs.Sight.{Sight, IsTaken, IsSound, word_at, words_of, sight_with_header}
+use Rattle.rec_model.specs.Sight.{Sight, IsTaken, word_at, words_of, sight_with_header}
 use Rattle.rec_model.proofs.Names.{register_root, named_at}
 use Rattle.rec_model.proofs.Standing.{register_sound, birth_sound, write_sound, word_in}
 use Rattle.rec_world.proofs.Places.{place_within}
-use Rattle.rec_world.specs.Config.{IsConfig, IsMutator}
+use Rattle.rec_world.specs.Config.{IsMutator}
 use Rattle.rec_world.specs.World.{State, sight, IsWorld}
 
 -- a taken slot is a slot

@@ -1,11 +1,11 @@
 -- Keeping the slots that a numbering lists is keeping what a register reaches.
-use Rattle.std.proofs.Common.{◌≡◌, ◌⊎◌, inl, inr, ℕ, ◌*◌, ◌^◌, ◌<◌, ◌≤◌, List, [], ◌∷◌, ◌++◌, Option, Bool, true, false, length, slice_index_or, refl, sym, ap, subst, ◌∙◌, arith}
-use Rattle.std.specs.List.{All, flat_map}
+use Rattle.std.proofs.Common.{◌≡◌, ◌⊎◌, inl, inr, ℕ, ◌^◌, ◌<◌, ◌≤◌, List, [], ◌∷◌, ◌++◌, Option, Bool, true, false, length, slice_index_or, refl, sym, ap, subst, ◌∙◌, arith}
+use Rattle.std.specs.List.{flat_map}
 use Rattle.std.proofs.lemmas.Bool.{false≢true}
 use Rattle.std.proofs.lemmas.List.Elements.{All-from_get_or, All-get_or}
 use Rattle.rec_model.specs.Reach.{is_in}
 use Rattle.rec_model.specs.Heap.{roots}
-use Rattle.rec_model.specs.Sight.{Sight, Reaches, NumbersSlots, Collects, sight_with, targets_of}
+use Rattle.rec_model.specs.Sight.{Sight, Reaches, NumbersSlots, Collects, targets_of}
 use Rattle.rec_model.proofs.Collected.{collects_sound}
 use Rattle.rec_model.proofs.Firsts.{is_in-joined}
 use Rattle.rec_model.proofs.Members.{of_all, is_in-left, is_in-right, is_in-flat_map}

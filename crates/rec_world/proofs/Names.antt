@@ -4,7 +4,7 @@ use Rattle.std.specs.List.{list_all}
 use Rattle.std.specs.Option.{IfSome}
 use Rattle.std.proofs.lemmas.Bool.{false≢true, ltb-true, cases_lt, and_parts, both_ways}
 use Rattle.std.proofs.lemmas.List.{get_or_past, drop_all}
-use Rattle.std.proofs.Math.Nat.{mul-le-mul_right, add-sub_cancel}
+use Rattle.std.proofs.Math.Nat.{mul-le-mul_right}
 use Rattle.std.proofs.Math.Seq.{take-nil}
 use Rattle.std.proofs.lemmas.List.Elements.{All-nil, All-cons, All-head, All-tail, All-map, All-take, All-drop}
 use Rattle.rec_word.specs.Word.{target_of}

@@ -1,16 +1,13 @@
 -- What every plain heap keeps holds as it is opened.
-use Rattle.std.proofs.Common.{◌≡◌, inl, inr, ℕ, ◌+◌, ◌-◌, ◌*◌, ◌^◌, ◌<◌, ◌≤◌, ◌↔◌, zero, suc, List, [], ◌∷◌, Option, None, Some, false, slice_index_or, length, replicate, refl, sym, ap, subst, ◌∙◌, arith, lit<, lit≤}
-use Rattle.std.specs.List.{All}
+use Rattle.std.proofs.Common.{◌≡◌, inl, inr, ℕ, ◌-◌, ◌*◌, ◌^◌, ◌<◌, ◌≤◌, ◌↔◌, zero, suc, List, [], ◌∷◌, Option, None, Some, false, slice_index_or, length, replicate, refl, sym, subst, arith, lit<, lit≤}
 use Rattle.std.proofs.lemmas.Bool.{cases_lt}
 use Rattle.std.proofs.lemmas.List.{get_or_past, get_or-replicate, length-replicate}
 use Rattle.std.proofs.lemmas.List.Elements.{All-from_get_or}
-use Rattle.rec_model.specs.Heap.{opening}
-use Rattle.rec_model.specs.Sight.{IsTaken, StandsFor}
-use Rattle.rec_model.proofs.Opened.{opening_sound, opening_stands}
+use Rattle.rec_model.proofs.Opened.{opening_sound}
 use Rattle.rec_world.specs.Config.{IsConfig}
 use Rattle.rec_world.specs.Memory.{Cells}
 use Rattle.rec_world.specs.declared.config.Config.{Config}
-use Rattle.rec_world.specs.World.{State, sight, opened, IsWorld}
+use Rattle.rec_world.specs.World.{State, opened, IsWorld}
 
 -- a list of one value, within and past its end
 free_at : (n s : ℕ) → slice_index_or {A = ℕ} (replicate n 0) s 0 ≡ 0

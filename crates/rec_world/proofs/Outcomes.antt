@@ -1,17 +1,16 @@
 -- What is said of each command, of what a plain heap does with it.
-use Rattle.std.proofs.Common.{◌≡◌, ◌≢◌, ℕ, ◌+◌, ◌-◌, ◌<◌, ◌≤◌, ◌==◌, if◌then◌else◌, ◌↔◌, Option, None, Some, IfSome, Bool, true, false, length, refl, sym, ap, ◌∙◌, arith, add-zero}
+use Rattle.std.proofs.Common.{◌≡◌, ◌≢◌, ℕ, ◌+◌, ◌<◌, ◌≤◌, ◌==◌, if◌then◌else◌, ◌↔◌, Option, None, Some, IfSome, Bool, true, false, length, refl, sym, ap, ◌∙◌, arith, add-zero}
 use Rattle.std.specs.Option.{is_some}
 use Rattle.std.proofs.lemmas.Bool.{false≢true, eq-eqb, eqb-true}
 use Rattle.rec_word.specs.Word.{packed, target_of, stamp_of, IsStamp, IsTarget}
 use Rattle.rec_model.specs.declared.command.Cmd.{Cmd}
 use Rattle.rec_model.specs.declared.command.Cmd.TheVariants as commands
-use Rattle.rec_model.specs.declared.answer.Answer.{Answer}
 use Rattle.rec_model.specs.declared.answer.Answer.TheVariants as answers
 use Rattle.rec_model.specs.Asking.{null_or_object}
 use Rattle.rec_model.specs.Explained.{IsExplained}
 use Rattle.rec_model.specs.Heap.{register}
 use Rattle.rec_model.specs.LegalOrder.{is_birth, word_left}
-use Rattle.rec_model.specs.Sight.{Sight, word_at}
+use Rattle.rec_model.specs.Sight.{word_at}
 use Rattle.rec_model.proofs.Answered.{null_explained, get_of_null, get_explained, put_of_null, put_refused, put_explained, new_explained, new_refused, value_of_null, value_explained}
 use Rattle.rec_world.specs.Config.{IsMutator, IsValid}
 use Rattle.rec_world.specs.Outcome.{Outcome, outcome, next_stamp, new_outcome, get_outcome, put_outcome, value_outcome}

@@ -1,5 +1,5 @@
 -- The stamps of a heap's log entries, and the words that bear them.
-use Rattle.std.proofs.Common.{◌≡◌, ℕ, ◌+◌, ◌*◌, ◌^◌, ◌%◌, ◌/◌, ◌<◌, ◌≤◌, Option, None, Some, refl, arith}
+use Rattle.std.proofs.Common.{◌≡◌, ℕ, Option, None, Some, arith}
 use Rattle.rec_word.specs.Word.{packed, target_of, stamp_of, IsStamp, IsTarget}
 use Rattle.rec_word.specs.declared.stamps.Stamp.{Stamp}
 

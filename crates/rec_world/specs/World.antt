@@ -1,7 +1,6 @@
 -- A plain heap as a whole, and what a command leaves of it.
-use Rattle.std.specs.Prelude.{◌≡◌, ℕ, ◌+◌, ◌-◌, ◌^◌, ◌<◌, ◌≤◌, ◌==◌, ◌↔◌, Bool, true, false, if◌then◌else◌, Option, None, Some, IsSome, List, All, length, replicate, slice_index_or}
+use Rattle.std.specs.Prelude.{◌≡◌, ℕ, ◌+◌, ◌-◌, ◌^◌, ◌<◌, ◌≤◌, ◌==◌, ◌↔◌, Bool, true, false, if◌then◌else◌, Option, None, Some, IsSome, List, All, length, slice_index_or}
 use Rattle.rec_word.specs.Word.{target_of}
-use Rattle.rec_word.specs.declared.stamps.Stamp.{Stamp}
 use Rattle.rec_model.specs.declared.command.Cmd.{Cmd}
 use Rattle.rec_model.specs.declared.command.Cmd.TheVariants as commands
 use Rattle.rec_model.specs.declared.answer.Answer.{Answer}
@@ -10,7 +9,7 @@ use Rattle.rec_model.specs.declared.told.Told.{Told}
 use Rattle.rec_model.specs.Asking.{is_done}
 use Rattle.rec_model.specs.Heap.{register}
 use Rattle.rec_model.specs.LegalOrder.{is_new}
-use Rattle.rec_model.specs.Sight.{Sight, IsSound, IsTaken, Reaches, words_of, opening_sight, sight_with_register, sight_with_word, sight_with_header}
+use Rattle.rec_model.specs.Sight.{Sight, IsSound, IsTaken, opening_sight, sight_with_register, sight_with_word, sight_with_header}
 use Rattle.rec_world.specs.declared.config.Config.{Config}
 use Rattle.rec_world.specs.Config.{IsConfig}
 

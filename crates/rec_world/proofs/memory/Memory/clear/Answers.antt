@@ -1,4 +1,4 @@
-use Rattle.std.proofs.Common.{◌≡◌, ◌<◌, ◌*◌, ℕ, slice_set, length, subst, sym, ap, ◌∙◌, arith}
+use Rattle.std.proofs.Common.{◌≡◌, ◌<◌, ◌*◌, slice_set, length, subst, sym, ap, ◌∙◌, arith}
 use Rattle.rec_world.specs.Memory.{Cells}
 use Rattle.rec_world.proofs.Clears.{IsClearing, clearing_first, clearing_next, clearing_last}
 use Rattle.rec_world.proofs.Places.{place_within}

@@ -1,8 +1,7 @@
-use Rattle.std.proofs.Common.{◌≡◌, ◌<◌, ◌+◌, ◌*◌, ℕ, Bool, true, false, not, length, refl, subst, sym, ap, ◌∙◌, arith}
-use Rattle.std.specs.Vec.{vec_len}
+use Rattle.std.proofs.Common.{◌≡◌, ◌*◌, not, length, sym, ap, ◌∙◌, arith}
 use Rattle.rec_model.specs.Reach.{is_in}
 use Rattle.rec_world.specs.Memory.{Cells}
-use Rattle.rec_world.proofs.Keeps.{IsKeeping, keeping_first, keeping_listed, keeping_cleared, keeping_last, has_number}
+use Rattle.rec_world.proofs.Keeps.{keeping_first, keeping_listed, keeping_cleared, keeping_last, has_number}
 use Rattle.rec_world.proofs.memory.Memory.keep.Goals as goal
 use Rattle.rec_world.proofs.memory.Memory.keep.Goals.{After-len-slots, After-is_none, then-is_none, else-is_none}
 

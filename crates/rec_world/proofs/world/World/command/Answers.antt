@@ -1,11 +1,5 @@
-use Rattle.std.proofs.Common.{◌≡◌, ℕ, ◌+◌, if◌then◌else◌, ◌^◌, ◌<◌, IfSome, true, false, sym, ap, subst, ◌∙◌, arith}
-use Rattle.rec_word.specs.Word.{stamp_of}
-use Rattle.rec_model.specs.declared.told.Told.{Told}
-use Rattle.rec_model.specs.Explained.{IsExplained}
-use Rattle.rec_model.specs.LegalOrder.{is_birth, word_left}
-use Rattle.rec_world.specs.Inside.{state}
-use Rattle.rec_world.specs.Outcome.{outcome, next_stamp}
-use Rattle.rec_world.specs.World.{State, IsWorld, sight, sight_after, entries_of}
+use Rattle.std.proofs.Common.{subst}
+use Rattle.rec_world.specs.World.{IsWorld}
 use Rattle.rec_world.proofs.Outcomes.{IsAnswered, answered}
 use Rattle.rec_world.proofs.world.World.command.Goals as goal
 use Rattle.rec_world.proofs.world.World.command.Goals.{After-carry_out-told}

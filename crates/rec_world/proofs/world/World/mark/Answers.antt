@@ -1,9 +1,7 @@
-use Rattle.std.proofs.Common.{◌≡◌, ◌≤◌, ◌*◌, ◌∷◌, [], ℕ, List, Option, length, true, sym, ap, refl, subst, ◌∙◌, arith}
-use Rattle.rec_model.specs.Heap.{Heap}
-use Rattle.rec_model.specs.Sight.{Sight, StandsFor, NumbersSlots, Collects, IsCollected}
+use Rattle.std.proofs.Common.{◌≡◌, ◌≤◌, ◌*◌, length, sym, ap, refl, subst, ◌∙◌, arith}
+use Rattle.rec_model.specs.Sight.{Sight, StandsFor, NumbersSlots, Collects}
 use Rattle.rec_model.proofs.Collected.{collects_collected, collects_stands}
 use Rattle.rec_world.specs.Inside.{state}
-use Rattle.rec_world.specs.Memory.{Cells, KeepsListed}
 use Rattle.rec_world.specs.Numbering.{NamesBelow, sight_of}
 use Rattle.rec_world.specs.World.{State, sight, IsWorld}
 use Rattle.rec_world.proofs.Marks.{keeps_collects, mark_kept, decided, names_below}

@@ -1,4 +1,4 @@
-use Rattle.std.proofs.Common.{◌≡◌, None, arith}
+use Rattle.std.proofs.Common.{None, arith}
 use Rattle.rec_world.proofs.Kept.{register_kept}
 use Rattle.rec_world.specs.Inside.{state}
 use Rattle.rec_world.proofs.world.World.null.Goals as goal

@@ -1,13 +1,9 @@
-use Rattle.std.proofs.Common.{◌≡◌, ◌<◌, ◌≤◌, ℕ, ◌+◌, ◌-◌, ◌^◌, List, [], ◌==◌, if◌then◌else◌, Option, None, Some, Bool, true, false, arith, slice_index_or, slice_set, length, refl, sym, ap, subst, ◌∙◌}
-use Rattle.std.proofs.lemmas.List.{set-get_or}
-use Rattle.rec_word.specs.Place.{place_of}
-use Rattle.rec_word.specs.Word.{target_of}
+use Rattle.std.proofs.Common.{◌≤◌, arith, slice_index_or, sym, ap, ◌∙◌}
 use Rattle.rec_model.specs.Heap.{register}
-use Rattle.rec_model.specs.Sight.{IsTaken, word_at}
-use Rattle.rec_world.specs.Memory.{Cells}
-use Rattle.rec_world.specs.World.{State, sight, IsWorld}
+use Rattle.rec_model.specs.Sight.{IsTaken}
+use Rattle.rec_world.specs.World.{State, sight}
 use Rattle.rec_world.specs.Inside.{state}
-use Rattle.rec_world.proofs.Kept.{register_taken, register_target, register_kept, birth_kept, write_kept, taken_in_range, object_place, target_taken, made_is_free, log_room}
+use Rattle.rec_world.proofs.Kept.{register_taken, taken_in_range}
 use Rattle.rec_world.proofs.world.World.value.Goals as goal
 use Rattle.rec_world.proofs.world.World.value.Goals.{In-Some}
 
