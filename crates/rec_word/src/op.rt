@@ -33,3 +33,17 @@ impl Op {
         }
     }
 }
+
+#[cfg(test)]
+mod tests {
+    use super::*;
+
+    #[test]
+    fn each_operation_leaves_a_word(rt: HostRuntime) {
+        assert_eq!(rt; Op::LoadField(3).written(8), 8);
+        assert_eq!(rt; Op::SwapField(3, 9).written(8), 9);
+        assert_eq!(rt; Op::LoadHeader(3).written(8), 8);
+        assert_eq!(rt; Op::ClaimHeader(3, 20).written(0), 21);
+        assert_eq!(rt; Op::ClaimHeader(3, 20).written(8), 8);
+    }
+}
