@@ -64,7 +64,8 @@ impl Source for BytesSource {
         // What each source promises.
         ensures some { IfGiven result (λ n. 1 ≤ n) }
         ensures fits { IfGiven result (λ n. n ≤ length into.new) }
-        ensures in_order { IfGiven result (λ n. GivesFront (Some self.old.rest) (Some self.new.rest) n into.new) }
+        ensures in_order { IfGiven result (λ n.
+            GivesFront (Some self.old.rest) (Some self.new.rest) n into.new) }
         ensures ended { OnEnd result (IsSpent (Some self.old.rest) (Some self.new.rest)) }
         ensures kept { OnReadFailed result (KeepsTold (Some self.old.rest) (Some self.new.rest)) }
         ensures rose { OnReadFailed result (Rose self.old.faults self.new.faults) }
@@ -74,7 +75,8 @@ impl Source for BytesSource {
 
         // It fails at the calls that are listed and at no others, and else gives as much as fits.
         ensures fails { (result ≡ Given.Failed) ↔ NextFails self.old.fails self.old.calls }
-        ensures ends { (result ≡ Given.End) ↔ ((¬ NextFails self.old.fails self.old.calls) × (self.old.rest ≡ [])) }
+        ensures ends { (result ≡ Given.End) ↔
+            ((¬ NextFails self.old.fails self.old.calls) × (self.old.rest ≡ [])) }
         ensures gives { IfGiven result (λ n. n ≡ min (length into.old) (length self.old.rest)) }
 
         // What it holds afterwards.
@@ -82,7 +84,9 @@ impl Source for BytesSource {
           rest = drop n self.old.rest;
           calls = counted_up self.old.calls;
         }) }
-        ensures after_end { OnEnd result (self.new ≡ record self.old { calls = counted_up self.old.calls }) }
+        ensures after_end { OnEnd result (self.new ≡ record self.old {
+          calls = counted_up self.old.calls;
+        }) }
         ensures after_failed { OnReadFailed result (self.new ≡ record self.old {
           calls = counted_up self.old.calls;
           faults = counted_up self.old.faults;

@@ -1,4 +1,5 @@
 //! The fault of a flush.
+ghost use Rattle.std.specs.Prelude.{Some, codes};
 
 use std::error::Error;
 use std::fmt;
@@ -8,6 +9,8 @@ use std::fmt;
 pub struct FlushFault;
 
 impl fmt::Display for FlushFault {
+    ghost output = { λ _. Some (codes "flushing the output failed") };
+
     fn fmt<W: fmt::Write>(&self, f: &mut fmt::Formatter<W>) -> fmt::Result {
         write!(f, "flushing the output failed")
     }

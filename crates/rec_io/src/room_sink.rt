@@ -34,7 +34,8 @@ impl Model for RoomSink {
       faults = s.calls.faults;
     } };
 
-    ghost invariant = { λ s. (vec_len s.bytes + s.room ≤ vec_capacity s.bytes) × (s.calls.faults ≤ last_count) };
+    ghost invariant = { λ s. (vec_len s.bytes + s.room ≤ vec_capacity s.bytes)
+        × (s.calls.faults ≤ last_count) };
 }
 
 impl RoomSink {
@@ -71,15 +72,17 @@ impl Sink for RoomSink {
         // What each sink promises.
         ensures some { IfTaken result (λ n. 0 < length piece.now → 1 ≤ n) }
         ensures fits { IfTaken result (λ n. n ≤ length piece.now) }
-        ensures appends { IfTaken result (λ n. Appends (Some self.old.written) (Some self.new.written) (take n piece.now)) }
-        ensures kept { OnWriteFailed result (KeepsTold (Some self.old.written) (Some self.new.written)) }
+        ensures appends { IfTaken result (λ n.
+            Appends (Some self.old.written) (Some self.new.written) (take n piece.now)) }
+        ensures kept { OnWriteFailed result
+            (KeepsTold (Some self.old.written) (Some self.new.written)) }
         ensures rose { OnWriteFailed result (Rose self.old.faults self.new.faults) }
         ensures never_falls { self.old.faults ≤ self.new.faults }
         ensures within_count { self.new.faults ≤ last_count }
         ensures stays_told { StaysTold (Some self.old.written) (Some self.new.written) }
 
-        // It fails at the calls that are listed, and where no room is left for a piece that is not empty; else
-        // it takes as much as there is room for.
+        // It fails at the calls that are listed, and where no room is left for a piece that is not
+        // empty; else it takes as much as there is room for.
         ensures fails { (result ≡ Taken.Failed) ↔ (NextFails self.old.fails self.old.calls
             ⊎ ((self.old.room ≡ 0) × (0 < length piece.now))) }
         ensures takes { IfTaken result (λ n. n ≡ min (length piece.now) self.old.room) }

@@ -23,10 +23,12 @@ pub trait Sink {
 
     /// Writes bytes from the front of `piece`.
     fn write(&mut self, piece: &[u8]) -> Taken
-        // Of a piece that is not empty at least one byte is taken, no more than it has, and those at its front.
+        // Of a piece that is not empty at least one byte is taken, no more than it has, and those
+        // at its front.
         ensures some { IfTaken result (λ n. 0 < length piece.now → 1 ≤ n) }
         ensures fits { IfTaken result (λ n. n ≤ length piece.now) }
-        ensures appends { IfTaken result (λ n. Appends (written self.old) (written self.new) (take n piece.now)) }
+        ensures appends { IfTaken result (λ n.
+            Appends (written self.old) (written self.new) (take n piece.now)) }
 
         // A failed write takes nothing, and is counted.
         ensures kept { OnWriteFailed result (KeepsTold (written self.old) (written self.new)) }

@@ -27,10 +27,12 @@ pub trait Source {
     fn read(&mut self, into: &mut [u8]) -> Given
         requires { 0 < length into.old }
 
-        // At least one byte is given, no more than there is place for, and those at the front of the rest.
+        // At least one byte is given, no more than there is place for, and those at the front of
+        // the rest.
         ensures some { IfGiven result (λ n. 1 ≤ n) }
         ensures fits { IfGiven result (λ n. n ≤ length into.new) }
-        ensures in_order { IfGiven result (λ n. GivesFront (rest self.old) (rest self.new) n into.new) }
+        ensures in_order { IfGiven result (λ n.
+            GivesFront (rest self.old) (rest self.new) n into.new) }
 
         // The end comes only where nothing is left.
         ensures ended { OnEnd result (IsSpent (rest self.old) (rest self.new)) }

@@ -65,14 +65,16 @@ impl<W: Write> Sink for StdSink<W> {
     ghost faults = { λ s. s };
 
     fn write(&mut self, piece: &[u8]) -> Taken
-        // What each sink promises. That no writer takes more than the piece is in the contract of std's `Write`.
+        // What each sink promises. That no writer takes more than the piece is in the contract of
+        // std's `Write`.
         ensures some { IfTaken result (λ n. 0 < length piece.now → 1 ≤ n) }
         ensures fits { IfTaken result (λ n. n ≤ length piece.now) }
         ensures rose { OnWriteFailed result (Rose self.old self.new) }
         ensures never_falls { self.old ≤ self.new }
         ensures within_count { self.new ≤ last_count }
 
-        // The count rises by one at each failure, and at nothing else; a piece that is empty never fails.
+        // The count rises by one at each failure, and at nothing else; a piece that is empty never
+        // fails.
         ensures after_bytes { IfTaken result (λ _. self.new ≡ self.old) }
         ensures after_failed { OnWriteFailed result (self.new ≡ counted_up self.old) }
         ensures nothing { length piece.now ≡ 0 → result ≡ Taken.Bytes 0 }

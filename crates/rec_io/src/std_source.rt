@@ -50,7 +50,8 @@ impl<R: Read> Source for StdSource<R> {
     fn read(&mut self, into: &mut [u8]) -> Given
         requires { 0 < length into.old }
 
-        // What each source promises. That no reader gives more than fits is in the contract of std's `Read`.
+        // What each source promises. That no reader gives more than fits is in the contract of
+        // std's `Read`.
         ensures some { IfGiven result (λ n. 1 ≤ n) }
         ensures fits { IfGiven result (λ n. n ≤ length into.new) }
         ensures rose { OnReadFailed result (Rose self.old self.new) }

@@ -40,7 +40,8 @@ impl<'a> Source for SteadySource<'a> {
         // What each source promises of bytes and of the end.
         ensures some { IfGiven result (λ n. 1 ≤ n) }
         ensures fits { IfGiven result (λ n. n ≤ length into.new) }
-        ensures in_order { IfGiven result (λ n. GivesFront (Some self.old) (Some self.new) n into.new) }
+        ensures in_order { IfGiven result (λ n.
+            GivesFront (Some self.old) (Some self.new) n into.new) }
         ensures ended { OnEnd result (IsSpent (Some self.old) (Some self.new)) }
 
         // It never fails, and gives as much as fits.

@@ -12,7 +12,7 @@ use Rattle.rec_model.specs.LegalOrder.{Line, Event, Limits, Moment, after, after
 use Rattle.rec_model.specs.LegalOrder.Event.{Answers}
 
 -- an element of a list with one more is an old one, or the new one
-get_cases : {X : Type 0} (xs : List X) (y : X) (i : ℕ) (z : X) → slice_get (xs ++ y ∷ []) i ≡ Some z → (slice_get xs i ≡ Some z) ⊎ ((i ≡ length xs) × (y ≡ z))
+pub get_cases : {X : Type 0} (xs : List X) (y : X) (i : ℕ) (z : X) → slice_get (xs ++ y ∷ []) i ≡ Some z → (slice_get xs i ≡ Some z) ⊎ ((i ≡ length xs) × (y ≡ z))
 get_cases [] y zero z is = inr (refl, cc)
 get_cases [] y (suc i) z is = cc
 get_cases (x ∷ xs) y zero z is = inl is

@@ -12,6 +12,7 @@ use Rattle.rec_model.specs.Heap.{register, registers_of, set_register}
 use Rattle.rec_model.specs.Sight.{Sight, IsTaken, IsSound, word_at, words_of, sight_with_header}
 use Rattle.rec_model.proofs.Names.{register_root, named_at}
 use Rattle.rec_model.proofs.Standing.{register_sound, birth_sound, write_sound, word_in}
+use Rattle.rec_world.proofs.Places.{place_within}
 use Rattle.rec_world.specs.Config.{IsConfig, IsMutator}
 use Rattle.rec_world.specs.World.{State, sight, IsWorld}
 
@@ -135,15 +136,6 @@ write_kept w world slot f word in_range taken may log_room =
       births = world.births;
     }
 
--- a field of a slot is one of the words
-pub place_in_range : (w : State) → IsWorld w → (slot f : ℕ) → slot < w.config.slots → f < w.config.fields → place_of slot f w.config.fields < length w.words
-place_in_range w world slot f there in_range =
-    let places : length w.words ≡ length w.headers * w.config.fields = world.sound.places in
-    let headers : length w.headers ≡ w.config.slots = world.headers in
-    let next : w.config.fields * (slot + 1) ≤ w.config.fields * w.config.slots = mul-le-mul_left w.config.fields (omega arith) in
-    let all : length w.words ≡ w.config.slots * w.config.fields = places ∙ ap (λ n. n * w.config.fields) headers in
-    omega (arith, next, all)
-
 -- what a field of a taken slot leads to is taken
 pub target_taken : (w : State) → IsWorld w → (slot f n : ℕ) → f < w.config.fields → IsTaken (sight w) slot → target_of (word_at (sight w) slot f) ≡ Some n → IsTaken (sight w) n
 target_taken w world slot f n in_range taken is =
@@ -152,6 +144,4 @@ target_taken w world slot f n in_range taken is =
 -- a field of what a register names is one of the words
 pub object_place : (w : State) → IsWorld w → (t r slot f : ℕ) → register w.registers t r ≡ Some slot → f < w.config.fields → place_of slot f w.config.fields < length w.words
 object_place w world t r slot f is in_range =
-    let below : slot < length w.headers = taken_in_range (sight w) slot (register_taken w world t r slot is) in
-    let headers : length w.headers ≡ w.config.slots = world.headers in
-    place_in_range w world slot f (omega arith) in_range
+    place_within w.config.fields (length w.headers) (length w.words) slot f world.sound.places (taken_in_range (sight w) slot (register_taken w world t r slot is)) in_range

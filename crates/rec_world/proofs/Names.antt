@@ -90,8 +90,7 @@ no_words w s sound ge =
 -- In a sound heap registers and fields name slots that there are.
 pub names_sound : (w : Sight) → IsSound w → NamesBelow w (length w.headers)
 names_sound w sound = record {
-  registers = λ slot h. let (t, r, e) = in_roots slot w.registers h in
-      taken_below w slot (sound.registers (t + 1) r slot (rw (add-sub_cancel t 1) e));
+  registers = λ slot h. taken_below w slot (sound.registers slot h);
   fields = λ s slot h. elim (cases_lt 0 (get_or w.headers s 0)) [
     | inl taken ↦ taken_below w slot (sound.fields s slot taken h)
     | inr free ↦ elim (cases_lt s (length w.headers)) [

@@ -41,7 +41,7 @@ opened_kept config is =
       headers = omega arith;
       mutators = length-replicate config.mutators (Some 0 ∷ replicate (config.registers - 1) None);
       registers = All-from_get_or (λ (own : List (Option ℕ)). length own ≡ config.registers) (replicate config.mutators (Some 0 ∷ replicate (config.registers - 1) None)) []
-        (λ i there. subst (λ (own : List (Option ℕ)). length own ≡ config.registers)
+          (λ i there. subst (λ (own : List (Option ℕ)). length own ≡ config.registers)
           (sym (get_or-replicate config.mutators i (Some 0 ∷ replicate (config.registers - 1) None) [] (subst (λ n. i < n) (length-replicate config.mutators (Some 0 ∷ replicate (config.registers - 1) None)) there))) all);
       labels = All-from_get_or (λ header. header ≤ 2 ^ 32) (1 ∷ replicate (config.slots - 1) 0) 0 (λ i there. small_header config.slots i);
       made = slots;

@@ -1,6 +1,7 @@
 -- The words of a heap, and the one that an operation names.
-use Rattle.std.specs.Prelude.{ℕ, ◌<◌, List, length, slice_index_or, slice_set}
+use Rattle.std.specs.Prelude.{◌≡◌, ◌≢◌, ℕ, ◌+◌, ◌*◌, ◌<◌, true, false, List, length, replicate, slice_index_or, slice_range, slice_set}
 use Rattle.rec_word.specs.declared.op.Op.{Op}
+use Rattle.rec_model.specs.Reach.{is_in}
 use Rattle.rec_word.specs.declared.op.Op.TheVariants.{LoadField, SwapField, LoadHeader, ClaimHeader}
 
 -- a header for each slot, and a word for each field of each slot
@@ -28,3 +29,21 @@ with_cell cells (LoadField place) x = record cells { words = slice_set cells.wor
 with_cell cells (SwapField place word) x = record cells { words = slice_set cells.words place x }
 with_cell cells (LoadHeader slot) x = record cells { headers = slice_set cells.headers slot x }
 with_cell cells (ClaimHeader slot label) x = record cells { headers = slice_set cells.headers slot x }
+
+-- the words of a slot's fields, in order, where each slot has so many
+abbrev pub own_words : ℕ → Cells → ℕ → List ℕ
+own_words fields cells slot = slice_range cells.words (slot * fields) (slot * fields + fields)
+
+-- a slot's header and words are 0, and all else is as it was
+pub record IsCleared (fields : ℕ) (before after : Cells) (slot : ℕ) : Type 0 where
+  pub headers : after.headers ≡ slice_set before.headers slot 0
+  pub places : length after.words ≡ length before.words
+  pub own : own_words fields after slot ≡ replicate fields 0
+  pub others : (s : ℕ) → s ≢ slot → own_words fields after s ≡ own_words fields before s
+
+-- the listed slots keep header and words, and every other slot's are 0
+pub record KeepsListed (fields : ℕ) (before after : Cells) (list : List ℕ) : Type 0 where
+  pub slots : length after.headers ≡ length before.headers
+  pub places : length after.words ≡ length before.words
+  pub kept : (s : ℕ) → is_in s list ≡ true → (slice_index_or after.headers s 0 ≡ slice_index_or before.headers s 0) × (own_words fields after s ≡ own_words fields before s)
+  pub freed : (s : ℕ) → s < length before.headers → is_in s list ≡ false → (slice_index_or after.headers s 0 ≡ 0) × (own_words fields after s ≡ replicate fields 0)

@@ -1,8 +1,9 @@
-ghost use Rattle.std.specs.Prelude.{◌≡◌, ℕ, ◌-◌, ◌<◌, ◌∷◌, replicate, IfOk};
+ghost use Rattle.std.specs.Prelude.{◌≡◌, ℕ, ◌-◌, ◌*◌, ◌<◌, ◌≤◌, length, ◌∷◌, replicate, IfOk};
 ghost use Rattle.rec_word.specs.Op.{written};
-ghost use Rattle.rec_world.specs.Memory.{IsWithin, cell, with_cell};
+ghost use Rattle.rec_world.specs.Memory.{IsWithin, cell, with_cell, IsCleared, KeepsListed};
 
-use rec_word::Op;
+use crate::Numbering;
+use rec_word::{Op, place};
 use std::alloc::{AllocError as NoMemory, Global};
 use std::marker::Model;
 
@@ -54,5 +55,39 @@ impl Memory {
                 found
             }
         }
+    }
+
+    /// The words of all fields, by place.
+    pub fn words(&self) -> &[u64]
+        ensures { result.now ≡ self.now.words }
+    {
+        self.words.as_slice()
+    }
+
+    /// Clears the header and the fields of every slot that isn't numbered.
+    pub fn keep(&mut self, numbering: &Numbering, fields: u8)
+        requires slots { length self.old.headers ≤ 65535 }
+        requires places { length self.old.words ≡ length self.old.headers * fields }
+
+        ensures { KeepsListed fields self.old self.new numbering.now.list }
+    {
+        let slots = self.headers.len() as u16;
+        for slot in 0..slots {
+            if numbering.number(slot).is_none() {
+                self.clear(slot, fields);
+            }
+        }
+    }
+
+    fn clear(&mut self, slot: u16, fields: u8)
+        requires slot { slot < length self.old.headers }
+        requires places { length self.old.words ≡ length self.old.headers * fields }
+
+        ensures { IsCleared fields self.old self.new slot }
+    {
+        for field in 0..fields {
+            self.perform(Op::SwapField(place(slot, field, fields), 0));
+        }
+        self.headers[usize::from(slot)] = 0;
     }
 }

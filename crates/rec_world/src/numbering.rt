@@ -11,7 +11,7 @@ use std::marker::Model;
 
 /// The slots that registers reach, numbered from 1: by the registers in order, then by the fields of each numbered slot
 /// in order, each slot where it is first met.
-#[derive(Drop)]
+#[derive(Debug, Drop)]
 pub struct Numbering {
     list: Vec<u16>,
     /// For each slot its number, 0 where it isn't in the list.
@@ -48,6 +48,13 @@ impl Numbering {
         ensures in_range { self.now.slots < 2 ^ 16 }
     {
         &self.list
+    }
+
+    /// How many slots there are.
+    pub fn slots(&self) -> u16
+        ensures { result ≡ self.now.slots }
+    {
+        self.numbers.len() as u16
     }
 
     /// The slot's number, from 1, or `None` where it isn't numbered.

@@ -1,7 +1,7 @@
 ghost use Rattle.std.specs.Prelude.{◌≡◌, ℕ, ◌+◌, ◌-◌, ◌*◌, ◌∷◌, replicate, ◌<◌, ◌==◌, ◌↔◌, if◌then◌else◌, true, false, slice_index_or, IsTrue, IsNone, IfOk, IfSome};
 ghost use Rattle.rec_word.specs.Place.{place_of};
 ghost use Rattle.rec_word.specs.Word.{IsTarget, packed, stamp_of, target_of};
-ghost use Rattle.rec_model.specs.Heap.{Heap, opening, register};
+ghost use Rattle.rec_model.specs.Heap.{Heap, opening, register, registers_of};
 ghost use Rattle.rec_model.specs.Explained.{IsExplained};
 ghost use Rattle.rec_model.specs.LegalOrder.{is_birth, word_left};
 ghost use Rattle.rec_model.specs.Sight.{IsTaken, IsCollected, Collects, StandsFor};
@@ -10,7 +10,7 @@ ghost use Rattle.rec_world.specs.Outcome.{outcome, next_stamp};
 ghost use Rattle.rec_world.specs.World.{State, sight, opened, IsWorld, label_of, IsLogFull, IsFull, LacksObject, is_refusal, is_plain, entries_of, IsLowestFree, sight_after};
 
 use crate::memory::Memory;
-use crate::{Config, OpenError};
+use crate::{Config, Numbering, OpenError};
 use rec_model::{Answer, Cmd, Told};
 use rec_word::{Op, Stamp, pack, place, target};
 use std::alloc::{AllocError as NoMemory, Global};
@@ -22,6 +22,7 @@ pub struct World {
     config: Config,
     memory: Memory,
     registers: Vec<Option<u16>>,
+    numbering: Numbering,
     made: u32,
     logged: u32,
     marked: bool,
@@ -29,15 +30,15 @@ pub struct World {
 
 impl Model for World {
     ghost use Rattle.std.specs.Prelude.{◌∷◌, []};
-    ghost use Rattle.rec_world.specs.World.{State, IsWorld};
+    ghost use Rattle.rec_world.specs.World.{State};
 
     ghost Value = { State };
 
-    ghost use Rattle.rec_world.specs.Inside.{state};
+    ghost use Rattle.rec_world.specs.Inside.{state, IsWhole};
 
     ghost view = { state };
 
-    ghost invariant = { λ w. IsWorld (state w) };
+    ghost invariant = { IsWhole };
 }
 
 impl World {
@@ -52,10 +53,12 @@ impl World {
         let slots = config.slots as usize;
         let memory = Memory::open(alloc, slots, slots * config.fields as usize)?;
         let registers = opening_registers(alloc, config.registers as usize)?;
+        let numbering = Numbering::open(alloc, config.slots as u16)?;
         Ok(World {
             config,
             memory,
             registers,
+            numbering,
             made: 1,
             logged: 0,
             marked: false,
@@ -99,6 +102,7 @@ impl World {
 
         ensures kept { IsWorld self.new }
     {
+        // A heap is asked until it is marked, and no command marks it.
         prove!(!self.marked);
         let told = self.carry_out(t, cmd);
         prove!(!self.marked);
@@ -116,6 +120,10 @@ impl World {
         ensures stands { (heap : Heap) → StandsFor heap (sight self.old) → StandsFor heap (sight self.new) }
         ensures kept { IsWorld self.new }
     {
+        let fields = self.config.fields as u8;
+        self.numbering
+            .fill(&self.registers, self.memory.words(), fields);
+        self.memory.keep(&self.numbering, fields);
         self.marked = true;
     }
 
@@ -158,6 +166,24 @@ impl World {
         ensures { result ≡ register self.now.registers t r }
     {
         self.registers[usize::from(r)]
+    }
+
+    /// The words of all fields, by their places.
+    pub fn words(&self) -> &[u64]
+        ensures words { result.now ≡ self.now.words }
+        ensures kept { IsWorld self.now }
+    {
+        &self.memory.words
+    }
+
+    /// What the registers of mutator `t` name, in order.
+    pub fn registers(&self, t: u8) -> &[Option<u16>]
+        requires { IsMutator self.now.config t }
+
+        ensures registers { result.now ≡ registers_of self.now.registers t }
+        ensures kept { IsWorld self.now }
+    {
+        &self.registers
     }
 
     /// How many objects were born, with the opening one.
@@ -360,3 +386,6 @@ fn opening_registers(alloc: Global, count: usize) -> Result<Vec<Option<u16>>, No
     registers[0] = Some(0);
     Ok(registers)
 }
+
+#[cfg(test)]
+mod tests;

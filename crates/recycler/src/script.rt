@@ -42,14 +42,15 @@ pub struct Script {
 }
 
 impl Model for Script {
-    ghost use Rattle.std.specs.Prelude.{[], ◌∷◌};
     ghost use Rattle.recycler.specs.Script.{Contents, IsScript};
 
     ghost Value = { Contents };
 
-    ghost view = { λ s. record { slots = s.slots; fields = s.fields; registers = s.registers; commands = s.commands.items ∷ [] } };
+    ghost use Rattle.recycler.specs.Fields.{contents};
 
-    ghost invariant = { λ s. IsScript (record { slots = s.slots; fields = s.fields; registers = s.registers; commands = s.commands.items ∷ [] }) };
+    ghost view = { contents };
+
+    ghost invariant = { λ s. IsScript (contents s) };
 }
 
 impl Script {
@@ -115,9 +116,13 @@ fn commands_of(
 ) -> Result<Vec<Cmd>, ScriptError>
     requires some { (0 < registers) × (0 < fields) }
     requires most { (registers ≤ 64) × (fields ≤ 16) }
-    ensures found { IfOk result (λ cmds. AreCommands registers fields cmds.items × (bytes.now ≡ flat_map command_line cmds.items)) }
-    ensures place { (line : ℕ) (kind : Kind) → result ≡ Err (ScriptError.Bad line kind) → (line ≡ 0) × (kind ≡ NotBuilt) }
-    ensures refused { (line : ℕ) (kind : Kind) → result ≡ Err (ScriptError.Bad line kind) → (cmds : List Cmd) → AreCommands registers fields cmds → bytes.now ≢ flat_map command_line cmds }
+    ensures found { IfOk result (λ cmds. AreCommands registers fields cmds.items
+        × (bytes.now ≡ flat_map command_line cmds.items)) }
+    ensures place { (line : ℕ) (kind : Kind) → result ≡ Err (ScriptError.Bad line kind)
+        → (line ≡ 0) × (kind ≡ NotBuilt) }
+    ensures refused { (line : ℕ) (kind : Kind) → result ≡ Err (ScriptError.Bad line kind)
+        → (cmds : List Cmd) → AreCommands registers fields cmds
+        → bytes.now ≢ flat_map command_line cmds }
 {
     let mut commands = Vec::new(alloc);
     let mut rest = bytes;
@@ -137,11 +142,14 @@ fn commands_of(
 /// The script that the bytes spell.
 pub fn read(alloc: Global, bytes: &[u8]) -> Result<Script, ScriptError>
     // What is read is a script, and all of the bytes are its spelling.
-    ensures found { IfOk result (λ script. IsScript script × (length bytes.now ≤ 16777216) × (bytes.now ≡ spelling script)) }
+    ensures found { IfOk result (λ script. IsScript script × (length bytes.now ≤ 16777216)
+        × (bytes.now ≡ spelling script)) }
     // It is the only one.
-    ensures only { IfOk result (λ script. (other : Contents) → IsScript other → bytes.now ≡ spelling other → other ≡ script) }
+    ensures only { IfOk result (λ script. (other : Contents) → IsScript other
+        → bytes.now ≡ spelling other → other ≡ script) }
     // What is refused is no script's spelling: a script is read, unless memory runs out.
-    ensures refused { (line : ℕ) (kind : Kind) → result ≡ Err (ScriptError.Bad line kind) → IsRefused bytes.now line kind }
+    ensures refused { (line : ℕ) (kind : Kind) → result ≡ Err (ScriptError.Bad line kind)
+        → IsRefused bytes.now line kind }
 {
     if bytes.len() > MOST_BYTES {
         return Err(NOT_BUILT);

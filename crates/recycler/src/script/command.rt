@@ -16,7 +16,8 @@ pub fn command(registers: u64, fields: u64, bytes: &[u8]) -> Option<(Cmd, &[u8])
     requires most { (registers ≤ 64) × (fields ≤ 16) }
     ensures in_range { IfSome result (λ x. IsCommand registers fields x.0) }
     ensures found { IfSome result (λ x. bytes.now ≡ command_line x.0 ++ x.1.now) }
-    ensures none { IfNone result ((cmd : Cmd) (rest : List ℕ) → IsCommand registers fields cmd → bytes.now ≢ command_line cmd ++ rest) }
+    ensures none { IfNone result ((cmd : Cmd) (rest : List ℕ) → IsCommand registers fields cmd
+        → bytes.now ≢ command_line cmd ++ rest) }
 {
     if let Some(rest) = behind(b"new", bytes) {
         let ([reg, label], rest) = two_operands([registers, LABELS], rest)?;

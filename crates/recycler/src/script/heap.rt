@@ -16,8 +16,11 @@ pub struct Heap {
 /// The heap of a script, from its first two lines, and the bytes after them.
 pub fn read_heap(bytes: &[u8]) -> Option<(Heap, &[u8])>
     ensures limits { IfSome result (λ x. IsHeap x.0.slots x.0.fields x.0.registers) }
-    ensures found { IfSome result (λ x. bytes.now ≡ heap_lines x.0.slots x.0.fields x.0.registers ++ x.1.now) }
-    ensures none { IfNone result ((slots fields registers : ℕ) (rest : List ℕ) → IsHeap slots fields registers → bytes.now ≢ heap_lines slots fields registers ++ rest) }
+    ensures found { IfSome result (λ x.
+        bytes.now ≡ heap_lines x.0.slots x.0.fields x.0.registers ++ x.1.now) }
+    ensures none { IfNone result ((slots fields registers : ℕ) (rest : List ℕ)
+        → IsHeap slots fields registers
+        → bytes.now ≢ heap_lines slots fields registers ++ rest) }
 {
     let rest = plain_line(b"recycler 1", bytes)?;
     let rest = behind(b"heap", rest)?;

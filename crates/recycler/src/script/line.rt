@@ -66,6 +66,7 @@ fn end(bytes: &[u8]) -> Option<&[u8]>
 }
 
 /// The bytes behind this word, which they begin with.
+// A line is tried on one word after the other: in place, each trial is a few comparisons.
 #[inline(always)]
 pub fn behind<'a>(word: &[u8], bytes: &'a [u8]) -> Option<&'a [u8]>
     ensures found { IfSome result (λ rest. bytes.now ≡ word.now ++ rest.now) }
@@ -74,7 +75,7 @@ pub fn behind<'a>(word: &[u8], bytes: &'a [u8]) -> Option<&'a [u8]>
     bytes.strip_prefix(word)
 }
 
-/// A line of one word.
+/// A line without operands.
 pub fn plain_line<'a>(word: &[u8], bytes: &'a [u8]) -> Option<&'a [u8]>
     ensures found { IfSome result (λ rest. bytes.now ≡ line word.now [] ++ rest.now) }
     ensures none { IfNone result ((rest : List ℕ) → bytes.now ≢ line word.now [] ++ rest) }
@@ -82,7 +83,7 @@ pub fn plain_line<'a>(word: &[u8], bytes: &'a [u8]) -> Option<&'a [u8]>
     end(behind(word, bytes)?)
 }
 
-/// The last operand of a line, below its limit.
+/// The last operand of a line, below its limit, and the line's end.
 pub fn one_operand(limit: u64, bytes: &[u8]) -> Option<(u32, &[u8])>
     requires some { 0 < limit }
     requires most { limit ≤ 2 ^ 32 }
@@ -93,7 +94,7 @@ pub fn one_operand(limit: u64, bytes: &[u8]) -> Option<(u32, &[u8])>
     Some((number, end(rest)?))
 }
 
-/// The last two operands of a line, each below its limit.
+/// The last two operands of a line, each below its limit, and the line's end.
 pub fn two_operands(limits: [u64; 2], bytes: &[u8]) -> Option<([u32; 2], &[u8])>
     requires some { All (λ limit. 0 < limit) limits }
     requires most { All (λ limit. limit ≤ 2 ^ 32) limits }
@@ -105,7 +106,7 @@ pub fn two_operands(limits: [u64; 2], bytes: &[u8]) -> Option<([u32; 2], &[u8])>
     Some(([first, second], rest))
 }
 
-/// The three operands of a line, each below its limit.
+/// The three operands of a line, each below its limit, and the line's end.
 pub fn three_operands(limits: [u64; 3], bytes: &[u8]) -> Option<([u32; 3], &[u8])>
     requires some { All (λ limit. 0 < limit) limits }
     requires most { All (λ limit. limit ≤ 2 ^ 32) limits }

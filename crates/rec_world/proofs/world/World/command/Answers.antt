@@ -13,7 +13,7 @@ use Rattle.rec_world.proofs.world.World.command.Goals.{After-carry_out-told}
 -- what is said of the command
 said : (c : After-carry_out-told) → IsAnswered c.args.self.now c.args.t c.args.cmd (record { world = c.carry_out-told.new.self; told = c.carry_out-told.result })
 said c =
-    let world : IsWorld c.args.self.now = subst IsWorld c.self.view_is c.self.invariant in
+    let world : IsWorld c.args.self.now = subst IsWorld c.self.view_is c.self.invariant.world in
     rw (c.carry_out-told.ensures.world, c.carry_out-told.ensures.told) (answered c.args.self.now c.args.t c.args.cmd world c.requires.unmarked c.requires.valid)
 
 pub returns-clause-explained : goal.returns-clause-explained
@@ -56,4 +56,4 @@ pub returns-clause-stamp : goal.returns-clause-stamp
 returns-clause-stamp c = (said (goal.at.returns-clause-stamp c).After-carry_out-told).stamp
 
 pub returns-clause-kept : goal.returns-clause-kept
-returns-clause-kept c = subst IsWorld c.self-2.view_is c.self-2.invariant
+returns-clause-kept c = subst IsWorld c.self-2.view_is c.self-2.invariant.world

@@ -27,7 +27,7 @@ perform-saw-requires c =
     let fields : c.self.inside.config.fields ≡ c.args.self.now.config.fields = ap (λ (s : State). s.config.fields) c.self.view_is in
     let at : c.place_of-at.result ≡ place_of c.in-Some.slot c.args.field c.self.inside.config.fields = c.place_of-at.ensures ∙ ap (place_of c.in-Some.slot c.args.field) (sym fields) in
     subst (λ n. n < length c.self.inside.memory.words) (sym at)
-    (object_place (state c.self.inside) c.self.invariant c.args.t c.args.src c.in-Some.slot c.args.field (slot_is (goal.at.perform-saw-requires c).In-Some) (field_in_range (goal.at.perform-saw-requires c).In-Some))
+    (object_place (state c.self.inside) c.self.invariant.world c.args.t c.args.src c.in-Some.slot c.args.field (slot_is (goal.at.perform-saw-requires c).In-Some) (field_in_range (goal.at.perform-saw-requires c).In-Some))
 
 pub invariant_of-self : goal.invariant_of-self
 invariant_of-self c =
@@ -40,6 +40,9 @@ invariant_of-self c =
     = ap (slice_set c.self.inside.memory.words c.place_of-at.result) c.perform-saw.ensures.found ∙ set-get_or c.self.inside.memory.words c.place_of-at.result 0 in
     let memory : c.perform-saw.new.self ≡ c.self.inside.memory
     = c.perform-saw.ensures.left ∙ ap (λ (xs : List ℕ). let cells : Cells = record { headers = c.self.inside.memory.headers; words = xs } in cells) same in
-    let taken : IsTaken (sight (state c.self.inside)) c.in-Some.slot = register_taken (state c.self.inside) c.self.invariant c.args.t c.args.src c.in-Some.slot (slot_is (goal.at.invariant_of-self c).In-Some) in
-    rw memory (register_kept (state c.self.inside) c.self.invariant 1 c.from.result c.target-target.result (omega arith, omega arith)
-    (λ n is. target_taken (state c.self.inside) c.self.invariant c.in-Some.slot c.args.field n (field_in_range (goal.at.invariant_of-self c).In-Some) taken (sym target ∙ is)))
+    let taken : IsTaken (sight (state c.self.inside)) c.in-Some.slot = register_taken (state c.self.inside) c.self.invariant.world c.args.t c.args.src c.in-Some.slot (slot_is (goal.at.invariant_of-self c).In-Some) in
+    rw memory (record {
+      numbering = c.self.invariant.numbering;
+      world = register_kept (state c.self.inside) c.self.invariant.world 1 c.from.result c.target-target.result (omega arith, omega arith)
+          (λ n is. target_taken (state c.self.inside) c.self.invariant.world c.in-Some.slot c.args.field n (field_in_range (goal.at.invariant_of-self c).In-Some) taken (sym target ∙ is));
+    })

@@ -14,7 +14,7 @@ use Rattle.rec_world.proofs.world.World.value.Goals.{In-Some}
 -- the slot is taken
 taken : (c : In-Some) → IsTaken (sight (state c.self.inside)) c.in-Some.slot
 taken c =
-    register_taken (state c.self.inside) c.self.invariant c.args.t c.args.reg c.in-Some.slot
+    register_taken (state c.self.inside) c.self.invariant.world c.args.t c.args.reg c.in-Some.slot
     (ap (λ (s : State). register s.registers c.args.t c.args.reg) c.self.view_is ∙ sym c.register.ensures ∙ c.in-Some.is)
 
 pub perform-header-requires : goal.perform-header-requires

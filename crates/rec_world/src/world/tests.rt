@@ -1,0 +1,202 @@
+ghost use Rattle.std.specs.Prelude.{◌≡◌};
+
+use super::*;
+use std::process::Abort;
+use std::test::Fail;
+
+const CONFIG: Config = Config {
+    slots: 4,
+    fields: 2,
+    registers: 2,
+    mutators: 1,
+    log_entries: 100,
+    first_epoch: 1,
+};
+
+// What the mutator is told, of a command that it may ask.
+fn ask(rt: &impl Abort, world: &mut World, cmd: Cmd) -> Told
+    ensures { world.new.config ≡ world.old.config }
+{
+    assert!(rt; world.valid(1, &cmd));
+    assert!(rt; !world.marked());
+    world.command(1, cmd)
+}
+
+#[test]
+fn opens_with_one_object(rt: HostRuntime) -> Result<(), Fail> {
+    let world = World::open(rt.alloc(), CONFIG)?;
+    assert!(rt; world.taken(0));
+    assert!(rt; !world.taken(1));
+    assert_eq!(rt; world.label(0), Some(0));
+    assert_eq!(rt; world.label(3), None);
+    assert_eq!(rt; world.field(7), 0);
+    assert_eq!(rt; world.register(1, 0), Some(0));
+    assert_eq!(rt; world.register(1, 1), None);
+    assert_eq!(rt; world.made(), 1);
+    assert!(rt; !world.marked());
+    assert!(rt;
+        world.valid(
+            1,
+            &Cmd::Get {
+                dst: 1,
+                src: 0,
+                field: 1
+            }
+        )
+    );
+    assert!(rt;
+        !world.valid(
+            1,
+            &Cmd::Get {
+                dst: 1,
+                src: 0,
+                field: 2
+            }
+        )
+    );
+    assert!(rt; !world.valid(2, &Cmd::Null { reg: 0 }));
+    Ok(())
+}
+
+#[test]
+fn each_command(rt: HostRuntime) -> Result<(), Fail> {
+    let mut world = World::open(rt.alloc(), CONFIG)?;
+    let word = 2 + (1 << 16) + (1 << 40) + (1 << 46);
+    let rows = [
+        (Cmd::New { reg: 1, label: 7 }, Answer::Done, 0, 0),
+        (
+            Cmd::Put {
+                src: 0,
+                field: 1,
+                val: 1,
+            },
+            Answer::Done,
+            0,
+            word,
+        ),
+        (Cmd::Null { reg: 1 }, Answer::Done, 0, 0),
+        (Cmd::Value { reg: 1 }, Answer::NoObject, 0, 0),
+        (
+            Cmd::Get {
+                dst: 1,
+                src: 0,
+                field: 0,
+            },
+            Answer::Null,
+            0,
+            0,
+        ),
+        (
+            Cmd::Get {
+                dst: 1,
+                src: 0,
+                field: 1,
+            },
+            Answer::Object,
+            word,
+            0,
+        ),
+        (Cmd::Value { reg: 1 }, Answer::Value(7), 0, 0),
+    ];
+    for (cmd, answer, saw, left) in rows {
+        assert_eq!(rt; ask(&rt, &mut world, cmd), Told { answer, saw, left });
+    }
+    Ok(())
+}
+
+#[test]
+fn a_full_log_refuses_writes(rt: HostRuntime) -> Result<(), Fail> {
+    let config = Config {
+        log_entries: 1,
+        ..CONFIG
+    };
+    let mut world = World::open(rt.alloc(), config)?;
+    let first = ask(
+        &rt,
+        &mut world,
+        Cmd::Put {
+            src: 0,
+            field: 0,
+            val: 0,
+        },
+    );
+    assert_eq!(rt;
+        first,
+        Told {
+            answer: Answer::Done,
+            saw: 0,
+            left: 1_099_511_693_313
+        }
+    );
+    let second = ask(
+        &rt,
+        &mut world,
+        Cmd::Put {
+            src: 0,
+            field: 1,
+            val: 0,
+        },
+    );
+    assert_eq!(rt; second.answer, Answer::LogFull);
+    assert_eq!(rt; world.field(1), 0);
+    let third = ask(&rt, &mut world, Cmd::New { reg: 0, label: 1 });
+    assert_eq!(rt; third.answer, Answer::LogFull);
+    Ok(())
+}
+
+#[test]
+fn a_full_heap_refuses_births(rt: HostRuntime) -> Result<(), Fail> {
+    let config = Config { slots: 1, ..CONFIG };
+    let mut world = World::open(rt.alloc(), config)?;
+    let told = ask(&rt, &mut world, Cmd::New { reg: 1, label: 1 });
+    assert_eq!(rt; told.answer, Answer::Full);
+    assert_eq!(rt; world.made(), 1);
+    Ok(())
+}
+
+// Slots 1 and 2 hold each other, and register 1 holds the second; slot 3 and, once register 0 is null, slot 0 are garbage.
+#[test]
+fn marking_keeps_a_cycle_in_reach(rt: HostRuntime) -> Result<(), Fail> {
+    let mut world = World::open(rt.alloc(), CONFIG)?;
+    ask(&rt, &mut world, Cmd::New { reg: 0, label: 5 });
+    ask(&rt, &mut world, Cmd::New { reg: 1, label: 6 });
+    ask(
+        &rt,
+        &mut world,
+        Cmd::Put {
+            src: 0,
+            field: 0,
+            val: 1,
+        },
+    );
+    ask(
+        &rt,
+        &mut world,
+        Cmd::Put {
+            src: 1,
+            field: 1,
+            val: 0,
+        },
+    );
+    ask(&rt, &mut world, Cmd::New { reg: 0, label: 8 });
+    ask(
+        &rt,
+        &mut world,
+        Cmd::Put {
+            src: 0,
+            field: 0,
+            val: 1,
+        },
+    );
+    ask(&rt, &mut world, Cmd::Null { reg: 0 });
+    world.mark();
+    assert!(rt; world.marked());
+    assert!(rt; !world.taken(0));
+    assert_eq!(rt; world.label(1), Some(5));
+    assert_eq!(rt; world.label(2), Some(6));
+    assert!(rt; !world.taken(3));
+    assert_eq!(rt; world.field(6), 0);
+    assert_eq!(rt; target(world.field(2)), Some(2));
+    assert_eq!(rt; world.made(), 4);
+    Ok(())
+}

@@ -1,0 +1,165 @@
+-- How a run ends, from what its parts tell.
+use Rattle.std.proofs.Common.{◌≡◌, ◌⊎◌, inl, inr, ℕ, ◌+◌, ◌<◌, ◌≤◌, List, [], ◌∷◌, ◌++◌, Option, None, Some, Result, Ok, Err, length, map, max, refl, sym, ap, subst, ◌∙◌, arith}
+use Rattle.std.specs.Result.{IfOk}
+use Rattle.std.proofs.lemmas.Bool.{cases_lt}
+use Rattle.std.proofs.lemmas.List.{append-nil, length-append}
+use Rattle.rec_io.specs.Faults.{Rose}
+use Rattle.rec_io.specs.Sink.{Appends}
+use Rattle.rec_io.specs.Source.{Passes}
+use Rattle.rec_model.specs.LegalOrder.{Line, Event, actors}
+use Rattle.rec_model.specs.Listing.{Row, ListsSlots}
+use Rattle.rec_model.specs.Sight.{StandsFor, IsCollected}
+use Rattle.rec_model.proofs.Listed.{listing_carried}
+use Rattle.rec_world.specs.World.{State, sight}
+use Rattle.rec_world.specs.declared.config.Config.{Config}
+use Rattle.recycler.specs.declared.status.Status.{Status}
+use Rattle.recycler.specs.declared.status.Status.TheVariants as statuses
+use Rattle.recycler.specs.declared.script.error.Kind.{Kind}
+use Rattle.recycler.specs.declared.script.error.ScriptError.{ScriptError}
+use Rattle.recycler.specs.declared.script.error.ScriptError.TheVariants.{Bad}
+use Rattle.recycler.specs.Headline.{Are, IsReadOut, IsAnswer, Answers, IsSettledAs, WroteAnswer, WroteFront, ReadNoScript}
+use Rattle.recycler.specs.Played.{config_of, log_room, IsPlayed, last_moment}
+use Rattle.recycler.specs.Script.{Contents, IsText, IsRefused}
+use Rattle.recycler.specs.Text.{play_text}
+use Rattle.recycler.specs.Whole.{IsAtEnd}
+
+-- one value in two options
+pub some_same : {X : Type 0} (x y : X) → ◌≡◌ {A = Option X} (Some x) (Some y) → x ≡ y
+some_same x y is = cc
+
+-- what was read up to the end is all that was told
+pub all_read : (rest left : Option (List ℕ)) (bytes : List ℕ) → Passes rest left bytes → IsAtEnd rest left → Are rest bytes
+all_read rest left bytes passes end whole told =
+    let passed = passes whole told in
+    let none : passed.left ≡ [] = some_same passed.left [] (sym passed.told ∙ end whole told) in
+    passed.front ∙ ap (λ (more : List ℕ). bytes ++ more) none ∙ append-nil bytes
+
+-- a source that tells nothing
+untold : (P : List ℕ → Type 0) (whole : List ℕ) → ◌≡◌ {A = Option (List ℕ)} None (Some whole) → P whole
+untold P whole told = cc
+
+-- bytes past the limit are no script
+past_limit : (bytes more rest : List ℕ) (line : ℕ) (kind : Kind) → 16777216 < length bytes → rest ≡ bytes ++ more → IsRefused bytes line kind → IsRefused rest line kind
+past_limit bytes more rest line kind long is refused =
+    record {
+      no_line = refused.no_line;
+      not_built = refused.not_built;
+      no_text = λ (script, limits, short, spelled).
+          let longer : length rest ≡ length bytes + length more = ap length is ∙ length-append bytes more in
+          omega arith;
+    }
+
+-- bytes that were refused, read to the end or past the limit
+pub no_script : (rest left : Option (List ℕ)) (bytes : List ℕ) (line : ℕ) (kind : Kind) → Passes rest left bytes → (length bytes ≤ 16777216 → IsAtEnd rest left)
+    → IsRefused bytes line kind → ReadNoScript rest left line kind
+no_script None left bytes line kind passes end refused =
+    record {
+      bytes = bytes;
+      read = λ whole told. untold (λ w. w ≡ bytes) whole told;
+      ended = λ whole told. untold (λ w. (left ≡ Some []) ⊎ (16777216 < length w)) whole told;
+      refused = refused;
+    }
+no_script (Some rest) left bytes line kind passes end refused =
+    let passed = passes rest refl in
+    elim (cases_lt 16777216 (length bytes)) [
+      | inl long ↦
+          record {
+            bytes = rest;
+            read = λ whole told. sym (some_same rest whole told);
+            ended = λ whole told.
+                let same : rest ≡ whole = some_same rest whole told in
+                let longer : length rest ≡ length bytes + length passed.left = ap length passed.front ∙ length-append bytes passed.left in
+                inr (subst (λ w. 16777216 < length w) same (omega arith));
+            refused = past_limit bytes passed.left rest line kind long passed.front refused;
+          }
+      | inr short ↦
+          record {
+            bytes = bytes;
+            read = all_read (Some rest) left bytes passes (end short);
+            ended = λ whole told. inl (end short whole told);
+            refused = refused;
+          }
+    ]
+
+-- a text was written whole
+pub wrote_answer : (rest left before after : Option (List ℕ)) (bytes text : List ℕ) → Passes rest left bytes → (length bytes ≤ 16777216 → IsAtEnd rest left)
+    → IsAnswer bytes text → Appends before after text → WroteAnswer rest left before after
+wrote_answer rest left before after bytes text passes end answer appends =
+    record {
+      bytes = bytes;
+      read = all_read rest left bytes passes (end answer.short);
+      ended = end answer.short;
+      text = text;
+      answer = answer;
+      written = appends;
+    }
+
+-- a front of a text was written
+pub wrote_front : (rest left before after : Option (List ℕ)) (bytes text : List ℕ) → Passes rest left bytes → (length bytes ≤ 16777216 → IsAtEnd rest left)
+    → IsAnswer bytes text → (front back : List ℕ) × (text ≡ front ++ back) × Appends before after front → WroteFront rest left before after
+wrote_front rest left before after bytes text passes end answer (front, back, cut, appends) =
+    record {
+      bytes = bytes;
+      read = all_read rest left bytes passes (end answer.short);
+      ended = end answer.short;
+      text = text;
+      answer = answer;
+      front = front;
+      back = back;
+      cut = cut;
+      written = appends;
+    }
+
+-- a script that is told is answered, unless a count rises or memory runs out
+pub completes : (status : Status) (rest left : Option (List ℕ)) (reads reads_after writes writes_after : ℕ)
+    → (status ≡ statuses.Usage → ⊥)
+    → ((line : ℕ) (kind : Kind) → status ≡ statuses.BadScript line kind → ReadNoScript rest left line kind)
+    → (status ≡ statuses.ReadFault → Rose reads reads_after) → (status ≡ statuses.WriteFault → Rose writes writes_after)
+    → (bytes : List ℕ) → rest ≡ Some bytes → IsText bytes → (Rose reads reads_after → ⊥) → (Rose writes writes_after → ⊥)
+    → (status ≡ statuses.Done) ⊎ (status ≡ statuses.NoMemory)
+completes statuses.Done rest left reads reads_after writes writes_after usage bad read write bytes told text no_read no_write = inl refl
+completes statuses.NoMemory rest left reads reads_after writes writes_after usage bad read write bytes told text no_read no_write = inr refl
+completes statuses.Usage rest left reads reads_after writes writes_after usage bad read write bytes told text no_read no_write = absurd (usage refl)
+completes statuses.ReadFault rest left reads reads_after writes writes_after usage bad read write bytes told text no_read no_write = absurd (no_read (read refl))
+completes statuses.WriteFault rest left reads reads_after writes writes_after usage bad read write bytes told text no_read no_write = absurd (no_write (write refl))
+completes (statuses.BadScript line kind) rest left reads reads_after writes writes_after usage bad read write bytes told text no_read no_write =
+    let refused = bad line kind refl in
+    absurd (refused.refused.no_text (subst IsText (refused.read bytes told) text))
+
+-- a fact of each value that was made
+pub if_ok : {T E : Type 0} (r : Result T E) (P Q : T → Type 0) → ((x : T) → P x → Q x) → IfOk r P → IfOk r Q
+if_ok (Ok x) P Q step held = step x held
+if_ok (Err e) P Q step held = held
+
+-- the heap's numbers
+pub config_is : (script : Contents) (slots fields registers mutators room : ℕ) → slots ≡ script.slots → fields ≡ script.fields → registers ≡ script.registers → mutators ≡ length script.commands → room ≡ log_room script
+    → ◌≡◌ {A = Config} (record { slots = slots; fields = fields; registers = registers; mutators = mutators; log_entries = room; first_epoch = 1 }) (config_of script)
+config_is script slots fields registers mutators room s f r m l = cc
+
+-- what was played, settled and listed is the answer
+pub answers_script : (script : Contents) (lines : List Line) (events : List Event) (world : State) (rows : List Row) (text : List ℕ)
+    → IsPlayed script (lines ∷ []) events → StandsFor (last_moment script events).heap (sight world) → IsCollected (sight world)
+    → length world.headers ≡ script.slots → ListsSlots (sight world) rows
+    → text ≡ play_text (lines ∷ []) (Some (actors events)) rows (length (last_moment script events).heap.objects) → Answers script text
+answers_script script lines events world rows text played stands collected room listed written =
+    record {
+      journals = lines ∷ [];
+      events = events;
+      played = played;
+      rows = rows;
+      settled = record {
+        seen = sight world;
+        stands = stands;
+        collected = collected;
+        room = room;
+        listing = listing_carried (last_moment script events).heap (sight world) rows stands collected listed;
+      };
+      written = written;
+    }
+
+-- the line and the kind that are passed on
+pub bad_same : {T : Type 0} (e : ScriptError) (l m : ℕ) (j k : Kind) → e ≡ Bad l j → statuses.BadScript l j ≡ statuses.BadScript m k → ◌≡◌ {A = Result T ScriptError} (Err e) (Err (Bad m k))
+bad_same e l m j k e_is is =
+    let lines : l ≡ m = (cc) in
+    let kinds : j ≡ k = (cc) in
+    (cc)

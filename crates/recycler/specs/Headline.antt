@@ -1,0 +1,76 @@
+-- What the program's answer to a script is.
+use Rattle.std.specs.Prelude.{◌≡◌, ◌⊎◌, ℕ, ◌<◌, ◌≤◌, Option, Some, List, [], ◌++◌, length}
+use Rattle.std.specs.Option.{ForSome}
+use Rattle.rec_model.specs.Heap.{Heap}
+use Rattle.rec_model.specs.LegalOrder.{Line, Event, actors}
+use Rattle.rec_model.specs.Listing.{Row, IsListing}
+use Rattle.rec_model.specs.Sight.{Sight, StandsFor, IsCollected}
+use Rattle.recycler.specs.Played.{IsPlayed, last_moment}
+use Rattle.rec_io.specs.Sink.{Appends}
+use Rattle.recycler.specs.Script.{Contents, IsScript, IsRefused, spelling}
+use Rattle.recycler.specs.declared.script.error.Kind.{Kind}
+use Rattle.recycler.specs.Text.{play_text}
+use Rattle.recycler.specs.Whole.{IsAtEnd}
+
+-- The heap is settled: just what registers reach holds slots, of which there are so many, and these are its rows.
+pub record IsSettledAs (heap : Heap) (slots : ℕ) (rows : List Row) : Type 0 where
+  pub seen : Sight
+  pub stands : StandsFor heap seen
+  pub collected : IsCollected seen
+  pub room : length seen.headers ≡ slots
+  pub listing : IsListing heap rows
+
+-- The text answers the script: each printed answer is the one that the heap that never frees gives to the script's
+-- commands in one order that keeps each mutator's own; an allocation is answered full only where no slot was free; and
+-- after settling just the objects that registers reach hold slots, listed with true counts.
+pub record Answers (script : Contents) (text : List ℕ) : Type 0 where
+  pub journals : List (List Line)
+  pub events : List Event
+  pub played : IsPlayed script journals events
+  pub rows : List Row
+  pub settled : IsSettledAs (last_moment script events).heap script.slots rows
+  pub written : text ≡ play_text journals (Some (actors events)) rows (length (last_moment script events).heap.objects)
+
+-- The bytes spell a script within the limits, and the text answers it.
+pub record IsAnswer (bytes text : List ℕ) : Type 0 where
+  pub script : Contents
+  pub in_limits : IsScript script
+  pub short : length bytes ≤ 16777216
+  pub spelled : bytes ≡ spelling script
+  pub answered : Answers script text
+
+-- the bytes are those told, where any are told
+abbrev pub Are : Option (List ℕ) → List ℕ → Type 0
+Are told bytes = ForSome told (λ all. all ≡ bytes)
+
+-- a source was read to its end, or past the limit of a script
+abbrev pub IsReadOut : Option (List ℕ) → Option (List ℕ) → Type 0
+IsReadOut before after = ForSome before (λ rest. (after ≡ Some []) ⊎ (16777216 < length rest))
+
+-- The bytes of the source were read to their end, and the whole answer to them was written.
+pub record WroteAnswer (rest left before after : Option (List ℕ)) : Type 0 where
+  pub bytes : List ℕ
+  pub read : Are rest bytes
+  pub ended : IsAtEnd rest left
+  pub text : List ℕ
+  pub answer : IsAnswer bytes text
+  pub written : Appends before after text
+
+-- The bytes of the source were read to their end, and a front of the answer to them was written.
+pub record WroteFront (rest left before after : Option (List ℕ)) : Type 0 where
+  pub bytes : List ℕ
+  pub read : Are rest bytes
+  pub ended : IsAtEnd rest left
+  pub text : List ℕ
+  pub answer : IsAnswer bytes text
+  pub front : List ℕ
+  pub back : List ℕ
+  pub cut : text ≡ front ++ back
+  pub written : Appends before after front
+
+-- The source was read to its end or past the limit, and its bytes are no script, with this line and kind.
+pub record ReadNoScript (rest left : Option (List ℕ)) (line : ℕ) (kind : Kind) : Type 0 where
+  pub bytes : List ℕ
+  pub read : Are rest bytes
+  pub ended : IsReadOut rest left
+  pub refused : IsRefused bytes line kind
