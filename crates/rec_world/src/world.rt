@@ -173,7 +173,7 @@ impl World {
         ensures words { result.now ≡ self.now.words }
         ensures kept { IsWorld self.now }
     {
-        &self.memory.words
+        self.memory.words()
     }
 
     /// What the registers of mutator `t` name, in order.

@@ -62,23 +62,23 @@ no_script None left bytes line kind passes end refused =
 no_script (Some rest) left bytes line kind passes end refused =
     let passed = passes rest refl in
     elim (cases_lt 16777216 (length bytes)) [
-      | inl long ↦
-          record {
-            bytes = rest;
-            read = λ whole told. sym (some_same rest whole told);
-            ended = λ whole told.
-                let same : rest ≡ whole = some_same rest whole told in
-                let longer : length rest ≡ length bytes + length passed.left = ap length passed.front ∙ length-append bytes passed.left in
-                inr (subst (λ w. 16777216 < length w) same (omega arith));
-            refused = past_limit bytes passed.left rest line kind long passed.front refused;
-          }
-      | inr short ↦
-          record {
-            bytes = bytes;
-            read = all_read (Some rest) left bytes passes (end short);
-            ended = λ whole told. inl (end short whole told);
-            refused = refused;
-          }
+    | inl long ↦
+        record {
+          bytes = rest;
+          read = λ whole told. sym (some_same rest whole told);
+          ended = λ whole told.
+              let same : rest ≡ whole = some_same rest whole told in
+              let longer : length rest ≡ length bytes + length passed.left = ap length passed.front ∙ length-append bytes passed.left in
+              inr (subst (λ w. 16777216 < length w) same (omega arith));
+          refused = past_limit bytes passed.left rest line kind long passed.front refused;
+        }
+    | inr short ↦
+        record {
+          bytes = bytes;
+          read = all_read (Some rest) left bytes passes (end short);
+          ended = λ whole told. inl (end short whole told);
+          refused = refused;
+        }
     ]
 
 -- a text was written whole

@@ -13,8 +13,57 @@ mod play;
 mod reading;
 mod report;
 mod run;
-pub mod script;
+mod script;
 mod status;
 mod writing;
 
-fn main() {}
+use gate::OpenGate;
+use rec_io::{StdSink, StdSource};
+use run::run;
+use status::Status;
+use std::io::{self, BufWriter, ErrorKind};
+use std::process::ExitCode;
+use std::rt::Env;
+use std::sync::Wait;
+use std::thread::Threads;
+use std::{env, io::Input};
+
+// How many bytes go to standard output at once.
+const OUTPUT_BUFFER: usize = 65_536;
+
+// The run that the program's arguments ask for, over standard input and standard output.
+fn run_arguments<R: Env + AllocGlobal + Input + Print + Threads + Wait + Sync>(rt: &R) -> Status {
+    let alloc = rt.alloc();
+    let arguments = match env::args(rt) {
+        Ok(arguments) => arguments,
+        Err(error) if error.kind() == ErrorKind::OutOfMemory => return Status::NoMemory,
+        Err(_) => return Status::Usage,
+    };
+    let Ok(arguments): Result<Vec<String>, _> = arguments.collect(alloc) else {
+        return Status::NoMemory;
+    };
+    let Ok(words): Result<Vec<&str>, _> = arguments.iter().map(|word| word.as_str()).collect(alloc)
+    else {
+        return Status::NoMemory;
+    };
+    let Ok(writer) = BufWriter::with_capacity(alloc, OUTPUT_BUFFER, io::writer(rt)) else {
+        return Status::NoMemory;
+    };
+    let mut source = StdSource::over(rt.reader());
+    let mut sink = StdSink::over(writer);
+    let status = run(rt, alloc, &words, &mut source, &mut sink, &OpenGate);
+    // What the buffer holds back is written now, and a fault of that is a fault of writing too.
+    match sink.flush() {
+        Err(_) if status == Status::Done => Status::WriteFault,
+        _ => status,
+    }
+}
+
+fn main(rt: HostRuntime) -> ExitCode {
+    let status = run_arguments(&rt);
+    if status != Status::Done {
+        // Where standard error can't be written either, the exit status still tells.
+        let _ = rt.eprintln(status);
+    }
+    ExitCode::from(status.number())
+}

@@ -1,10 +1,10 @@
 //! What a run writes: the answers, the listing of the live objects, and totals.
 
-ghost use Rattle.std.specs.Prelude.{◌≡◌, ◌+◌, ◌<◌, ◌≤◌, ◌^◌, ◌++◌, ◌∷◌, [], List, map, count_by, length, option_map, IfOk};
-ghost use Rattle.std.specs.Option.{ForSome};
+ghost use Rattle.std.specs.Prelude.{◌≡◌, ◌+◌, ◌<◌, ◌≤◌, ◌^◌, ◌++◌, ◌∷◌, [], List, map, count_by, length, option_map, slice_index_or, IfOk, IfSome, OnOk};
 ghost use Rattle.rec_model.specs.Listing.{Row, ListsSlots};
 ghost use Rattle.rec_model.specs.Sight.{IsCollected};
 ghost use Rattle.rec_world.specs.World.{sight};
+ghost use Rattle.recycler.specs.Report.{AreFor};
 ghost use Rattle.recycler.specs.Text.{IsOrderOf, is_refused, refusals, play_lines};
 
 mod holders;
@@ -12,9 +12,9 @@ mod line;
 mod listing;
 mod page;
 
-use crate::script::Script;
 pub use line::Line;
 pub use page::Text;
+use crate::script::Script;
 use rec_model::{Answer, Cmd, Told};
 use rec_world::{Journal, Order, World};
 use std::alloc::{AllocError as NoMemory, Global};
@@ -48,20 +48,15 @@ pub fn text(
     order: Option<&Order>,
     world: &World,
 ) -> Result<Text, NoMemory>
-    // The script's numbers are the world's.
-    requires slots { world.now.config.slots ≡ script.now.slots }
-    requires fields { world.now.config.fields ≡ script.now.fields }
-    requires registers { world.now.config.registers ≡ script.now.registers }
-    requires mutators { world.now.config.mutators ≡ length script.now.commands }
-
-    // There is one journal per mutator, an order names each mutator as often as its journal has lines, and nobody else,
-    // and just the slots that registers reach are taken.
-    requires journals { length journals.now ≡ length script.now.commands }
-    requires order { ForSome order (λ turns. IsOrderOf (map (λ journal. journal.lines) journals.now) turns.now.list) }
+    // The script's numbers are the world's, there is one journal per mutator, an order names each mutator as often as its
+    // journal has lines and nobody else, and just what a register reaches is taken.
+    requires script { AreFor script.now world.now }
+    requires journals { length journals.now ≡ world.now.config.mutators }
+    requires order { IfSome order (λ turns. IsOrderOf (map (λ journal. journal.lines) journals.now) turns.now.list) }
     requires collected { IsCollected (sight world.now) }
 
-    // The rows are those that are read off the slots; a heap that never frees and stands for the world has the same.
-    ensures { IfOk result (λ text. (rows : List Row) × ListsSlots (sight world.now) rows × (text ≡ play_lines (map (λ journal. journal.lines) journals.now) (option_map (λ turns. turns.now.list) order.entry) rows world.now.made)) }
+    // The rows are those read off the slots. Wherever a heap that never frees stands for the world, they are its listing.
+    ensures lines { IfOk result (λ text. (rows : List Row) × ListsSlots (sight world.now) rows × (text ≡ play_lines (map (λ journal. journal.lines) journals.now) (option_map (λ turns. turns.now.list) order.entry) rows world.now.made)) }
 {
     let mut text = Text::new(alloc);
     match order {

@@ -113,3 +113,6 @@ fn answer_script(alloc: Global, script: &Script) -> Result<Text, NoMemory>
     world.mark();
     text(alloc, script, &[journal], Some(&order), &world)
 }
+
+#[cfg(test)]
+mod tests;

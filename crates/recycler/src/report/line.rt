@@ -2,14 +2,17 @@
 
 ghost use Rattle.std.specs.Prelude.{◌≡◌, ◌++◌, map, IfOk, OnOk, string_bytes};
 ghost use Rattle.rec_word.specs.Word.{target_of};
-ghost use Rattle.recycler.specs.Text.{answer_line, field_number, field_word, live_line, row_head as head_of, row_line, totals_line};
+ghost use Rattle.recycler.specs.Text.{answer_line, answer_word, field_number, field_word, live_line, row_head as head_of, row_line, totals_line};
 
 use rec_model::Answer;
 use rec_word::target;
 use rec_world::Numbering;
 use std::alloc::{AllocError as NoMemory, Global};
-use std::fmt::{self, Write};
+use std::fmt::Write;
 use std::marker::Model;
+
+// What most answer lines fit, so that they take memory once.
+const ANSWER_BYTES: usize = 24;
 
 /// One line, with its line feed.
 #[derive(Debug, Drop)]
@@ -34,18 +37,14 @@ impl Line {
     }
 
     /// The answer to command `i` of mutator `t`.
-    pub(super) fn answer(
-        alloc: Global,
-        t: usize,
-        i: usize,
-        answer: Answer,
-    ) -> Result<Line, NoMemory>
+    pub(super) fn answer(alloc: Global, t: usize, i: usize, answer: Answer) -> Result<Line, NoMemory>
         ensures { IfOk result (λ line. line ≡ answer_line t i answer) }
     {
-        let word = Word(answer);
-        Ok(Line {
-            text: format!(in alloc; "{t}.{i} {word}\n")?,
-        })
+        let mut text = String::with_capacity(alloc, ANSWER_BYTES)?;
+        write!(text, "{t}.{i} ")?;
+        push_word(&mut text, answer)?;
+        text.push('\n')?;
+        Ok(Line { text })
     }
 
     /// How many objects are live.
@@ -77,12 +76,7 @@ impl Line {
     }
 
     /// Births, refusals, and how many objects are live no more.
-    pub(super) fn totals(
-        alloc: Global,
-        made: u64,
-        refused: u64,
-        live: u64,
-    ) -> Result<Line, NoMemory>
+    pub(super) fn totals(alloc: Global, made: u64, refused: u64, live: u64) -> Result<Line, NoMemory>
         ensures { IfOk result (λ line. line ≡ totals_line made refused live) }
     {
         let freed = made.saturating_sub(live);
@@ -116,28 +110,20 @@ fn push_field(text: &mut String, number: Option<u16>) -> Result<(), NoMemory>
     }
 }
 
-/// The word of an answer.
-#[derive(Drop)]
-struct Word(Answer);
-
-impl fmt::Display for Word {
-    ghost use Rattle.std.specs.Prelude.{Some};
-    ghost use Rattle.recycler.specs.Text.{answer_word};
-
-    ghost output = { λ word. Some (answer_word word.0) };
-
-    fn fmt<W: fmt::Write>(&self, f: &mut fmt::Formatter<W>) -> fmt::Result {
-        match self.0 {
-            Answer::Done => write!(f, "done"),
-            Answer::Null => write!(f, "null"),
-            Answer::Object => write!(f, "object"),
-            Answer::Value(label) => write!(f, "value {label}"),
-            Answer::Yes => write!(f, "yes"),
-            Answer::No => write!(f, "no"),
-            Answer::NoObject => write!(f, "none"),
-            Answer::Full => write!(f, "full"),
-            Answer::Busy { before, after } => write!(f, "busy {before} {after}"),
-            Answer::LogFull => write!(f, "logfull"),
-        }
+/// Adds the word of an answer.
+fn push_word(text: &mut String, answer: Answer) -> Result<(), NoMemory>
+    ensures { OnOk result (string_bytes text.new ≡ string_bytes text.old ++ answer_word answer) }
+{
+    match answer {
+        Answer::Done => text.push_str("done"),
+        Answer::Null => text.push_str("null"),
+        Answer::Object => text.push_str("object"),
+        Answer::Value(label) => write!(text, "value {label}"),
+        Answer::Yes => text.push_str("yes"),
+        Answer::No => text.push_str("no"),
+        Answer::NoObject => text.push_str("none"),
+        Answer::Full => text.push_str("full"),
+        Answer::Busy { before, after } => write!(text, "busy {before} {after}"),
+        Answer::LogFull => text.push_str("logfull"),
     }
 }

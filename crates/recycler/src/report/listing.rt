@@ -3,7 +3,7 @@
 ghost use Rattle.std.specs.Prelude.{◌≡◌, ◌++◌, ◌∷◌, List, length, map, IfOk, OnOk};
 ghost use Rattle.rec_model.specs.Listing.{Row, slot_row, ListsSlots};
 ghost use Rattle.rec_world.specs.World.{sight};
-ghost use Rattle.recycler.specs.Report.{AreHolders, IsNumbered};
+ghost use Rattle.recycler.specs.Report.{AreFor, AreHolders, IsNumbered};
 ghost use Rattle.recycler.specs.Text.{live_line, row_lines};
 
 use crate::report::holders::Holders;
@@ -20,9 +20,7 @@ impl Text {
         script: &Script,
         world: &World,
     ) -> Result<usize, NoMemory>
-        requires slots { world.now.config.slots ≡ script.now.slots }
-        requires fields { world.now.config.fields ≡ script.now.fields }
-
+        requires { AreFor script.now world.now }
         ensures { IfOk result (λ live. (rows : List Row) × ListsSlots (sight world.now) rows × (live ≡ length rows) × (self.new ≡ self.old ++ live_line live ∷ row_lines rows)) }
     {
         let fields = script.fields() as u8;

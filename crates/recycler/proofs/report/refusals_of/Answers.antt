@@ -5,6 +5,6 @@ use Rattle.recycler.proofs.report.refusals_of.Goals as goal
 
 pub loop-journal-preserved : goal.loop-journal-preserved
 loop-journal-preserved c = record {
-  few = omega arith;
-  value = refusals_step _ _ _ _ _ _ c.loop-journal-test.true c.loop-journal.invariant.value c.own_refusals-refused.ensures.value c.lines.ensures c.journal-item.is;
-}
+    few = omega arith;
+    value = refusals_step _ _ _ _ _ _ c.loop-journal-test.true c.loop-journal.invariant.value c.own_refusals-refused.ensures.value c.lines.ensures c.journal-item.is;
+  }

@@ -7,7 +7,8 @@ use Rattle.recycler.specs.Headline.{Answers}
 use Rattle.recycler.specs.Played.{config_of, log_room, last_moment}
 use Rattle.recycler.specs.Script.{Contents}
 use Rattle.recycler.specs.Text.{IsOrderOf, play_text}
-use Rattle.recycler.proofs.Endings.{some_same, if_ok, config_is, answers_script}
+use Rattle.recycler.proofs.Endings.{if_ok, config_is, answers_script}
+use Rattle.recycler.proofs.Fronts.{joined}
 use Rattle.recycler.proofs.Turns.{longest_is, legal_turns}
 use Rattle.recycler.proofs.run.answer_script.Goals as goal
 
@@ -34,9 +35,9 @@ play-requires-clause-order c =
     rw (← room) c.in_ok-order.ensures
 
 pub text-requires-clause-order : goal.text-requires-clause-order
-text-requires-clause-order c = λ order is.
+text-requires-clause-order c =
     let (events, played, stands, made, in_order) = c.play.ensures.played in
-    subst (IsOrderOf (c.play.new.journal.lines ∷ [])) (sym in_order ∙ ap (λ o. o.now.list) (some_same _ _ is)) (legal_turns _ _ _ events played.legal)
+    subst (IsOrderOf (c.play.new.journal.lines ∷ [])) (sym in_order) (legal_turns _ _ _ events played.legal)
 
 pub returns : goal.returns
 returns c =
@@ -44,10 +45,10 @@ returns c =
     let (events, played, stands, made, in_order) = c.play.ensures.played in
     let world : State = c.mark.new.self in
     if_ok c.text.result _ (λ text. Answers script (flat_map (λ line. line) text))
-    (λ text (rows, listed, is). answers_script script c.play.new.journal.lines events world rows (flat_map (λ line. line) text) played
-    (c.mark.ensures.stands (last_moment script events).heap stands) c.mark.ensures.collected
-    (c.mark.ensures.kept.headers ∙ ap (λ (w : State). w.config.slots) c.mark.ensures.others ∙ ap (λ (k : Config). k.slots) c.play.ensures.config)
-    listed
-    (ap (flat_map (λ line. line)) is ∙ ap (λ (ts : List ℕ). play_text (c.play.new.journal.lines ∷ []) (Some ts) rows c.mark.new.self.made) in_order
-    ∙ ap (λ n. play_text (c.play.new.journal.lines ∷ []) (Some (actors events)) rows n) (ap (λ (w : State). w.made) c.mark.ensures.others ∙ made)))
-    c.text.ensures
+      (λ text (rows, listed, is). answers_script script c.play.new.journal.lines events world rows (flat_map (λ line. line) text) played
+        (c.mark.ensures.stands (last_moment script events).heap stands) c.mark.ensures.collected
+        (c.mark.ensures.kept.headers ∙ ap (λ (w : State). w.config.slots) c.mark.ensures.others ∙ ap (λ (k : Config). k.slots) c.play.ensures.config)
+        listed
+        (ap joined is ∙ ap (λ (ts : List ℕ). play_text (c.play.new.journal.lines ∷ []) (Some ts) rows c.mark.new.self.made) in_order
+          ∙ ap (λ n. play_text (c.play.new.journal.lines ∷ []) (Some (actors events)) rows n) (ap (λ (w : State). w.made) c.mark.ensures.others ∙ made)))
+      c.text.ensures.lines

@@ -7,4 +7,4 @@ use Rattle.recycler.proofs.report.page.Text.add_journals.Goals as goal
 
 pub loop-i-preserved : goal.loop-i-preserved
 loop-i-preserved c = journals_step _ _ _ _ _ c.index-journals-i.result c.loop-i-test.true c.loop-i.invariant (
-    c.in_ok-add_journal.ensures ∙ ap (λ ls. c.loop-i.self ++ own_lines (c.loop-i.i + 1) ls) (c.lines.ensures ∙ ap (λ (one : Notes). one.lines) c.index-journals-i.is))
+  c.in_ok-add_journal.ensures ∙ ap (λ ls. c.loop-i.self ++ own_lines (c.loop-i.i + 1) ls) (c.lines.ensures ∙ ap (λ (one : Notes). one.lines) c.index-journals-i.is))
