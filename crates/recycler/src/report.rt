@@ -68,3 +68,6 @@ pub fn text(
     text.add(totals)?;
     Ok(text)
 }
+
+#[cfg(test)]
+mod tests;
