@@ -1,5 +1,5 @@
 -- How a run ends, from what its parts tell.
-use Rattle.std.proofs.Common.{◌≡◌, ◌⊎◌, inl, inr, ℕ, ◌+◌, ◌<◌, ◌≤◌, List, [], ◌∷◌, ◌++◌, Option, None, Some, Result, Ok, Err, length, map, max, refl, sym, ap, subst, ◌∙◌, arith}
+use Rattle.std.proofs.Common.{◌≡◌, ◌⊎◌, inl, inr, ℕ, ◌+◌, ◌<◌, ◌≤◌, List, [], ◌∷◌, ◌++◌, Option, None, Some, Result, Ok, Err, length, refl, sym, ap, subst, ◌∙◌, arith}
 use Rattle.std.specs.Result.{IfOk}
 use Rattle.std.proofs.lemmas.Bool.{cases_lt}
 use Rattle.std.proofs.lemmas.List.{append-nil, length-append}
@@ -17,7 +17,7 @@ use Rattle.recycler.specs.declared.status.Status.TheVariants as statuses
 use Rattle.recycler.specs.declared.script.error.Kind.{Kind}
 use Rattle.recycler.specs.declared.script.error.ScriptError.{ScriptError}
 use Rattle.recycler.specs.declared.script.error.ScriptError.TheVariants.{Bad}
-use Rattle.recycler.specs.Headline.{Are, IsReadOut, IsAnswer, Answers, IsSettledAs, WroteAnswer, WroteFront, ReadNoScript}
+use Rattle.recycler.specs.Headline.{Are, IsAnswer, Answers, WroteAnswer, WroteFront, ReadNoScript}
 use Rattle.recycler.specs.Played.{config_of, log_room, IsPlayed, last_moment}
 use Rattle.recycler.specs.Script.{Contents, IsText, IsRefused}
 use Rattle.recycler.specs.Text.{play_text}
@@ -62,23 +62,23 @@ no_script None left bytes line kind passes end refused =
 no_script (Some rest) left bytes line kind passes end refused =
     let passed = passes rest refl in
     elim (cases_lt 16777216 (length bytes)) [
-    | inl long ↦
-        record {
-          bytes = rest;
-          read = λ whole told. sym (some_same rest whole told);
-          ended = λ whole told.
-              let same : rest ≡ whole = some_same rest whole told in
-              let longer : length rest ≡ length bytes + length passed.left = ap length passed.front ∙ length-append bytes passed.left in
-              inr (subst (λ w. 16777216 < length w) same (omega arith));
-          refused = past_limit bytes passed.left rest line kind long passed.front refused;
-        }
-    | inr short ↦
-        record {
-          bytes = bytes;
-          read = all_read (Some rest) left bytes passes (end short);
-          ended = λ whole told. inl (end short whole told);
-          refused = refused;
-        }
+      | inl long ↦
+          record {
+            bytes = rest;
+            read = λ whole told. sym (some_same rest whole told);
+            ended = λ whole told.
+                let same : rest ≡ whole = some_same rest whole told in
+                let longer : length rest ≡ length bytes + length passed.left = ap length passed.front ∙ length-append bytes passed.left in
+                inr (subst (λ w. 16777216 < length w) same (omega arith));
+            refused = past_limit bytes passed.left rest line kind long passed.front refused;
+          }
+      | inr short ↦
+          record {
+            bytes = bytes;
+            read = all_read (Some rest) left bytes passes (end short);
+            ended = λ whole told. inl (end short whole told);
+            refused = refused;
+          }
     ]
 
 -- a text was written whole

@@ -1,5 +1,5 @@
 -- Counting the holders of a world's slots: registers first, then the fields of each listed slot.
-use Rattle.std.proofs.Common.{◌≡◌, ◌⊎◌, inl, inr, ℕ, zero, suc, ◌+◌, ◌-◌, ◌*◌, ◌<◌, ◌≤◌, ◌==◌, ◌++◌, ◌^◌, Bool, true, false, cond, All, List, [], ◌∷◌, Option, None, Some, map, take, drop, length, replicate, get_or, refl, sym, ◌∙◌, ap, subst, arith, append-nil}
+use Rattle.std.proofs.Common.{◌≡◌, ℕ, zero, suc, ◌+◌, ◌-◌, ◌*◌, ◌<◌, ◌≤◌, ◌==◌, ◌++◌, true, List, [], ◌∷◌, Option, map, take, drop, length, replicate, get_or, refl, sym, ◌∙◌, ap, subst, arith, append-nil}
 use Rattle.std.specs.List.{flat_map}
 use Rattle.std.specs.Prelude.{slice_range}
 use Rattle.std.proofs.lemmas.Grind.{flat_map-append}
@@ -78,30 +78,30 @@ swap_zero n = omega arith
 -- the registers can be counted, and are counted first
 pub names_registers : (w : State) (registers : List (Option ℕ)) (slots : ℕ) (counts : List ℕ) → IsWorld w → registers ≡ registers_of w.registers 1 → slots ≡ w.config.slots → counts ≡ replicate slots 0 → Names registers counts
 names_registers w registers slots counts world own same none = record {
-    there = λ slot h.
+  there = λ slot h.
       let in_roots : is_in slot (roots w.registers) ≡ true = subst (λ rows. is_in slot (roots rows) ≡ true) (world_row w world) (is_in-left slot (named (registers_of w.registers 1)) [] (rw own at h)) in
       let below : slot < length w.headers = (names_sound (sight w) world.sound).registers slot in_roots in
       let size : length counts ≡ w.config.slots = ap length none ∙ length-replicate slots 0 ∙ same in
       let all : length w.headers ≡ w.config.slots = world.headers in
       omega arith;
-    room = λ slot.
+  room = λ slot.
       let zero_count : get_or counts slot 0 ≡ 0 = ap (λ xs. get_or xs slot 0) none ∙ get_or-zeros slots slot in
       let few : length (registers_of w.registers 1) ≤ 64 = few_registers w world in
       let size : length registers ≡ length (registers_of w.registers 1) = ap length own in
       omega arith;
-  }
+}
 
 pub held_first : (w : State) (list : List ℕ) (registers : List (Option ℕ)) (slots : ℕ) (before counts : List ℕ) → IsWorld w → registers ≡ registers_of w.registers 1 → slots ≡ w.config.slots → before ≡ replicate slots 0 → Adds registers before counts → IsHeld w list 0 counts
 held_first w list registers slots before counts world own same none adds = record {
-    slots = adds.slots ∙ ap length none ∙ length-replicate slots 0 ∙ same;
-    each = λ slot.
+  slots = adds.slots ∙ ap length none ∙ length-replicate slots 0 ∙ same;
+  each = λ slot.
       let rows : named registers ≡ roots w.registers = ap named own ∙ sym (append-nil (named (registers_of w.registers 1))) ∙ ap roots (world_row w world) in
       adds.counts slot
       ∙ ap (λ xs. get_or xs slot 0 + times slot (named registers)) none
       ∙ ap (λ n. n + times slot (named registers)) (get_or-zeros slots slot)
       ∙ ap (λ ns. 0 + times slot ns) rows
       ∙ swap_zero (times slot (roots w.registers));
-  }
+}
 
 -- a listed slot is one of the slots, and its words stand among all
 pub listed_below : (w : State) (fields : ℕ) (n : Numbered) (i : ℕ) → IsWorld w → IsNumbered w fields n → i < length n.list → get_or n.list i 0 < w.config.slots
@@ -114,7 +114,7 @@ listed_below w fields n i world numbered within =
 few_roots : (w : State) → IsWorld w → length (roots w.registers) ≤ 64
 few_roots w world =
     let same : length (roots w.registers) ≡ length (named (registers_of w.registers 1)) =
-      ap (λ rows. length (roots rows)) (sym (world_row w world)) ∙ ap length (append-nil (named (registers_of w.registers 1))) in
+    ap (λ rows. length (roots rows)) (sym (world_row w world)) ∙ ap length (append-nil (named (registers_of w.registers 1))) in
     let few : length (named (registers_of w.registers 1)) ≤ length (registers_of w.registers 1) = length-named-le (registers_of w.registers 1) in
     let fewer : length (registers_of w.registers 1) ≤ 64 = few_registers w world in
     omega arith
@@ -122,19 +122,19 @@ few_roots w world =
 pub few_listed : (w : State) (fields : ℕ) (n : Numbered) → IsWorld w → IsNumbered w fields n → length n.list ≤ w.config.slots
 few_listed w fields n world numbered =
     distinct_below n.list w.config.slots (numbering_distinct (roots w.registers) (targets_of (sight w)) n.list numbered.numbers) (λ slot h.
-      let below : slot < length w.headers = reached_below (sight w) (length w.headers) (names_sound (sight w) world.sound) slot (of_all (Reaches (sight w)) n.list numbered.numbers.reached slot h) in
-      let all : length w.headers ≡ w.config.slots = world.headers in
-      omega arith)
+    let below : slot < length w.headers = reached_below (sight w) (length w.headers) (names_sound (sight w) world.sound) slot (of_all (Reaches (sight w)) n.list numbered.numbers.reached slot h) in
+    let all : length w.headers ≡ w.config.slots = world.headers in
+    omega arith)
 
 -- the fields of the next slot can be counted, and are counted next
 pub names_fields : (w : State) (fields : ℕ) (n : Numbered) (i slot : ℕ) (counts : List ℕ) → IsWorld w → IsNumbered w fields n → IsHeld w n.list i counts → i < length n.list → Names (map target_of (words_of (sight w) slot)) counts
 names_fields w fields n i slot counts world numbered held within = record {
-    there = λ s h.
+  there = λ s h.
       let below : s < length w.headers = (names_sound (sight w) world.sound).fields slot s h in
       let size : length counts ≡ w.config.slots = held.slots in
       let all : length w.headers ≡ w.config.slots = world.headers in
       omega arith;
-    room = λ s.
+  room = λ s.
       let list : List ℕ = n.list in
       let fields_of : ℕ = w.config.fields in
       let seen : List ℕ = flat_map (targets_of (sight w)) (take i list) in
@@ -152,27 +152,27 @@ names_fields w fields n i slot counts world numbered held within = record {
       let product : (i + 1) * fields_of ≤ 65535 * fields_of = mul-le-mul_right fields_of (omega arith) in
       let total : get_or counts s 0 + length (map target_of (words_of (sight w) slot)) ≤ 64 + (i + 1) * fields_of = omega arith in
       omega arith;
-  }
+}
 
 pub held_next : (w : State) (list : List ℕ) (i slot : ℕ) (counts more : List ℕ) → IsHeld w list i counts → i < length list → slot ≡ get_or list i 0 → Adds (map target_of (words_of (sight w) slot)) counts more → IsHeld w list (i + 1) more
 held_next w list i slot counts more held within at adds = record {
-    slots = adds.slots ∙ held.slots;
-    each = λ s.
+  slots = adds.slots ∙ held.slots;
+  each = λ s.
       let before : get_or counts s 0 ≡ times s (roots w.registers) + times s (flat_map (targets_of (sight w)) (take i list)) = held.each s in
       let after : get_or more s 0 ≡ get_or counts s 0 + times s (targets_of (sight w) slot) = adds.counts s in
       let both : times s (flat_map (targets_of (sight w)) (take (i + 1) list)) ≡ times s (flat_map (targets_of (sight w)) (take i list)) + times s (targets_of (sight w) slot) =
-        ap (λ xs. times s (flat_map (targets_of (sight w)) xs)) (take_more list i 0 within ∙ ap (λ n. take i list ++ n ∷ []) (sym at))
-        ∙ ap (times s) (flat_map-append (targets_of (sight w)) (take i list) (slot ∷ []) ∙ ap (λ ns. flat_map (targets_of (sight w)) (take i list) ++ ns) (append-nil (targets_of (sight w) slot)))
-        ∙ times-append s (flat_map (targets_of (sight w)) (take i list)) (targets_of (sight w) slot) in
+      ap (λ xs. times s (flat_map (targets_of (sight w)) xs)) (take_more list i 0 within ∙ ap (λ n. take i list ++ n ∷ []) (sym at))
+      ∙ ap (times s) (flat_map-append (targets_of (sight w)) (take i list) (slot ∷ []) ∙ ap (λ ns. flat_map (targets_of (sight w)) (take i list) ++ ns) (append-nil (targets_of (sight w) slot)))
+      ∙ times-append s (flat_map (targets_of (sight w)) (take i list)) (targets_of (sight w) slot) in
       omega arith;
-  }
+}
 
 -- with the last slot's they are the holders
 pub held_last : (w : State) (list : List ℕ) (i : ℕ) (counts : List ℕ) → IsHeld w list i counts → length list ≤ i → AreHolders w list counts
 held_last w list i counts held all = record {
-    slots = held.slots;
-    each = λ slot. held.each slot ∙ ap (λ xs. times slot (roots w.registers) + times slot (flat_map (targets_of (sight w)) xs)) (take_all i list all);
-  }
+  slots = held.slots;
+  each = λ slot. held.each slot ∙ ap (λ xs. times slot (roots w.registers) + times slot (flat_map (targets_of (sight w)) xs)) (take_all i list all);
+}
 
 -- the words of a listed slot stand among all
 pub words_end : (w : State) (fields : ℕ) (n : Numbered) (i slot wide again : ℕ) (words list : List ℕ) → IsWorld w → IsNumbered w fields n → list ≡ n.list → i < length list → slot ≡ get_or list i 0 → wide ≡ fields → again ≡ fields → words ≡ w.words → slot * wide + again ≤ length words

@@ -1,5 +1,5 @@
 -- Answer lines one after another: the next line of a journal, the next journal, and the next turn of an order.
-use Rattle.std.proofs.Common.{◌≡◌, ◌⊎◌, inl, inr, ℕ, zero, suc, ◌+◌, ◌-◌, ◌<◌, ◌≤◌, ◌==◌, true, false, List, [], ◌∷◌, ◌++◌, map, take, drop, length, get_or, set, get_or-set_same, get_or-set_other, add-zero, le_trans, refl, sym, ◌∙◌, ap, subst, append_assoc, append-nil, arith, cond}
+use Rattle.std.proofs.Common.{◌≡◌, inl, inr, ℕ, ◌+◌, ◌-◌, ◌<◌, ◌≤◌, ◌==◌, true, false, List, [], ◌∷◌, ◌++◌, map, take, drop, length, get_or, set, get_or-set_same, get_or-set_other, add-zero, le_trans, refl, sym, ◌∙◌, ap, subst, append_assoc, append-nil, arith, cond}
 use Rattle.std.specs.List.{flat_map, enumerate_from}
 use Rattle.std.specs.Prelude.{count_by}
 use Rattle.std.proofs.lemmas.List.{map-append, take_more, drop_more, length-take-le, take-append-drop, take-map, length-map, get_or-map, get_or_past, get_or_default}
@@ -10,7 +10,7 @@ use Rattle.std.proofs.lemmas.Grind.{flat_map-append}
 use Rattle.rec_model.specs.LegalOrder.{Line}
 use Rattle.rec_world.specs.Journal.{Notes}
 use Rattle.rec_model.specs.Numbering.{times}
-use Rattle.recycler.specs.Text.{answer_line, own_lines, lines_by_mutator, turn_line, lines_in_order, IsOrderOf, is_refused, refusals}
+use Rattle.recycler.specs.Text.{answer_line, own_lines, lines_by_mutator, turn_line, IsOrderOf, is_refused, refusals}
 
 -- one element more has the next number
 pub enumerate_from-push : {X : Type 0} (n : ℕ) (xs : List X) (x : X) → enumerate_from n (xs ++ x ∷ []) ≡ enumerate_from n xs ++ (n + length xs, x) ∷ []
@@ -62,8 +62,8 @@ times_before order p within =
     let t : ℕ = get_or order p 0 in
     let whole : order ≡ take p order ++ t ∷ drop (p + 1) order = sym (take-append-drop p order) ∙ ap (λ ns. take p order ++ ns) (drop_more order p 0 within) in
     let parts : times t order ≡ times t (take p order) + (1 + times t (drop (p + 1) order)) =
-      ap (times t) whole ∙ times-append t (take p order) (t ∷ drop (p + 1) order)
-      ∙ ap (λ k. times t (take p order) + k) (times-cons t t (drop (p + 1) order) ∙ ap (λ b. cond b 1 0 + times t (drop (p + 1) order)) (eq-eqb t t refl)) in
+    ap (times t) whole ∙ times-append t (take p order) (t ∷ drop (p + 1) order)
+    ∙ ap (λ k. times t (take p order) + k) (times-cons t t (drop (p + 1) order) ∙ ap (λ b. cond b 1 0 + times t (drop (p + 1) order)) (eq-eqb t t refl)) in
     omega arith
 
 -- the mutators of an order are there, and their journals have the lines
@@ -77,14 +77,14 @@ has_turn journals order p names within =
     let t : ℕ = get_or order p 0 in
     let more : times t (take p order) < times t order = times_before order p within in
     let some : 0 < t = elim (cases_eq t 0) [
-        inl e ↦ absurd (let none : times t order ≡ 0 = rw e names.nobody in omega arith)
+      | inl e ↦ absurd (let none : times t order ≡ 0 = rw e names.nobody in omega arith)
       | inr apart ↦ omega arith
     ] in
     let line : times t (take p order) < length (get_or journals (t - 1) []) = subst (λ k. times t (take p order) < k) (names.each t some) more in
     record {
       some = some;
       there = elim (cases_lt (t - 1) (length journals)) [
-          inl lt ↦ lt
+        | inl lt ↦ lt
         | inr ge ↦ absurd (let e : length (get_or journals (t - 1) []) ≡ 0 = ap length (get_or_past journals (t - 1) [] ge) in omega arith)
       ];
       line = line;
@@ -95,9 +95,9 @@ pub turns_more : (order next : List ℕ) (p count own i : ℕ) → p < length or
 turns_more order next p count own i within e some in_next size read turns k small =
     let t : ℕ = get_or order p 0 in
     let more : times (k + 1) (take (p + 1) order) ≡ times (k + 1) (take p order) + (cond (t == k + 1) 1 0 + 0) =
-      ap (times (k + 1)) (take_more order p 0 within) ∙ times-append (k + 1) (take p order) (t ∷ []) ∙ ap (λ n. times (k + 1) (take p order) + n) (times-cons (k + 1) t []) in
+    ap (times (k + 1)) (take_more order p 0 within) ∙ times-append (k + 1) (take p order) (t ∷ []) ∙ ap (λ n. times (k + 1) (take p order) + n) (times-cons (k + 1) t []) in
     elim (cases_eq k own) [
-        inl same ↦
+      | inl same ↦
           let one : (t == k + 1) ≡ true = eq-eqb t (k + 1) (omega arith) in
           let value : i ≡ times (k + 1) (take p order) = read ∙ get_or_default next own i 0 in_next ∙ subst (λ j. get_or next j 0 ≡ times (k + 1) (take p order)) same (turns k small) in
           rw same (rw get_or-set_same (subst (λ j. i + 1 ≡ times (j + 1) (take (p + 1) order)) same (sym (more ∙ ap (λ b. times (k + 1) (take p order) + (cond b 1 0 + 0)) one ∙ ap (λ n. n + (1 + 0)) (sym value)))))
@@ -113,9 +113,9 @@ pub journal_step : (first so_far more : List (List ℕ)) (line : List ℕ) (t i 
 journal_step first so_far more line t i journal d within e f g =
     let n : 1 + i ≡ i + 1 = omega arith in
     added first so_far more (line ∷ []) (own_lines t (take i journal)) (own_lines t (take (i + 1) journal)) e g (
-      next_numbered (λ p. answer_line t p.0 p.1.1.answer) 1 journal i d within
-      ∙ ap (λ k. own_lines t (take i journal) ++ answer_line t k (get_or journal i d).1.answer ∷ []) n
-      ∙ ap (λ l. own_lines t (take i journal) ++ l ∷ []) (sym f))
+    next_numbered (λ p. answer_line t p.0 p.1.1.answer) 1 journal i d within
+    ∙ ap (λ k. own_lines t (take i journal) ++ answer_line t k (get_or journal i d).1.answer ∷ []) n
+    ∙ ap (λ l. own_lines t (take i journal) ++ l ∷ []) (sym f))
 
 -- the answers to the next mutator
 pub journals_step : (first so_far more : List (List ℕ)) (i : ℕ) (journals : List Notes) (d : Notes) → i < length journals → so_far ≡ first ++ lines_by_mutator (map (λ journal. journal.lines) (take i journals)) → more ≡ so_far ++ own_lines (i + 1) (get_or journals i d).lines → more ≡ first ++ lines_by_mutator (map (λ journal. journal.lines) (take (i + 1) journals))
@@ -123,11 +123,11 @@ journals_step first so_far more i journals d within e g =
     let n : 1 + i ≡ i + 1 = omega arith in
     let size : i < length (map (λ journal. journal.lines) journals) = rw length-map within in
     added first so_far more (own_lines (i + 1) (get_or journals i d).lines) (lines_by_mutator (map (λ journal. journal.lines) (take i journals))) (lines_by_mutator (map (λ journal. journal.lines) (take (i + 1) journals))) e g (
-      ap lines_by_mutator (sym (take-map (λ journal. journal.lines) (i + 1) journals))
-      ∙ next_pieces (λ p. own_lines p.0 p.1) 1 (map (λ journal. journal.lines) journals) i d.lines size
-      ∙ ap (λ ls. lines_by_mutator (take i (map (λ journal. journal.lines) journals)) ++ own_lines (1 + i) ls) (get_or-map (λ journal. journal.lines) journals i d d.lines within)
-      ∙ ap (λ k. lines_by_mutator (take i (map (λ journal. journal.lines) journals)) ++ own_lines k (get_or journals i d).lines) n
-      ∙ ap (λ ls. lines_by_mutator ls ++ own_lines (i + 1) (get_or journals i d).lines) (take-map (λ journal. journal.lines) i journals))
+    ap lines_by_mutator (sym (take-map (λ journal. journal.lines) (i + 1) journals))
+    ∙ next_pieces (λ p. own_lines p.0 p.1) 1 (map (λ journal. journal.lines) journals) i d.lines size
+    ∙ ap (λ ls. lines_by_mutator (take i (map (λ journal. journal.lines) journals)) ++ own_lines (1 + i) ls) (get_or-map (λ journal. journal.lines) journals i d d.lines within)
+    ∙ ap (λ k. lines_by_mutator (take i (map (λ journal. journal.lines) journals)) ++ own_lines k (get_or journals i d).lines) n
+    ∙ ap (λ ls. lines_by_mutator ls ++ own_lines (i + 1) (get_or journals i d).lines) (take-map (λ journal. journal.lines) i journals))
 
 -- what a turn reads: the next number of its mutator, and that mutator's journal
 pub record TurnReads (journals : List Notes) (order : List ℕ) (p t i : ℕ) (journal : Notes) : Type 0 where
@@ -164,14 +164,14 @@ turn_step first so_far more journals order p t i journal reads within at e g =
     let back : t - 1 + 1 ≡ t = omega arith in
     let zero_more : 0 + p ≡ p = omega arith in
     let line : get_or (own_lines (t - 1 + 1) journal.lines) i [] ≡ f (p, get_or order p 0) =
-      ap (λ n. get_or (own_lines n journal.lines) i []) back
-      ∙ ap (λ ls. get_or (own_lines t ls) i []) reads.lines
-      ∙ ap (λ n. get_or (own_lines t (get_or all (t - 1) [])) n []) reads.number
-      ∙ ap (λ n. turn_line all n (times n (take p order))) at in
+    ap (λ n. get_or (own_lines n journal.lines) i []) back
+    ∙ ap (λ ls. get_or (own_lines t ls) i []) reads.lines
+    ∙ ap (λ n. get_or (own_lines t (get_or all (t - 1) [])) n []) reads.number
+    ∙ ap (λ n. turn_line all n (times n (take p order))) at in
     added first so_far more (get_or (own_lines (t - 1 + 1) journal.lines) i [] ∷ []) (map f (enumerate_from 0 (take p order))) (map f (enumerate_from 0 (take (p + 1) order))) e g (
-      next_numbered f 0 order p 0 within
-      ∙ ap (λ n. map f (enumerate_from 0 (take p order)) ++ f (n, get_or order p 0) ∷ []) zero_more
-      ∙ ap (λ l. map f (enumerate_from 0 (take p order)) ++ l ∷ []) (sym line))
+    next_numbered f 0 order p 0 within
+    ∙ ap (λ n. map f (enumerate_from 0 (take p order)) ++ f (n, get_or order p 0) ∷ []) zero_more
+    ∙ ap (λ l. map f (enumerate_from 0 (take p order)) ++ l ∷ []) (sym line))
 
 -- the refusals of the next journal
 pub refusals_step : (journals : List Notes) (i : ℕ) (d : Notes) (so_far own : ℕ) (lines : List Line) → i < length journals → so_far ≡ refusals (map (λ journal. journal.lines) (take i journals)) → own ≡ count_by (λ line. is_refused line.1.answer) lines → lines ≡ d.lines → d ≡ get_or journals i d → so_far + own ≡ refusals (map (λ journal. journal.lines) (take (i + 1) journals))
@@ -179,7 +179,7 @@ refusals_step journals i d so_far own lines within e f g is =
     let count : List Line → ℕ = count_by (λ line. is_refused line.1.answer) in
     let one : own ≡ count (get_or journals i d).lines = f ∙ ap count (g ∙ ap (λ (j : Notes). j.lines) is) in
     let all : refusals (map (λ journal. journal.lines) (take (i + 1) journals)) ≡ refusals (map (λ journal. journal.lines) (take i journals)) + count (get_or journals i d).lines =
-      ap (λ js. refusals (map (λ journal. journal.lines) js)) (take_more journals i d within)
-      ∙ ap refusals (map-append (λ (journal : Notes). journal.lines) (take i journals) (get_or journals i d ∷ []))
-      ∙ sum_by_push count (map (λ journal. journal.lines) (take i journals)) (get_or journals i d).lines in
+    ap (λ js. refusals (map (λ journal. journal.lines) js)) (take_more journals i d within)
+    ∙ ap refusals (map-append (λ (journal : Notes). journal.lines) (take i journals) (get_or journals i d ∷ []))
+    ∙ sum_by_push count (map (λ journal. journal.lines) (take i journals)) (get_or journals i d).lines in
     omega arith

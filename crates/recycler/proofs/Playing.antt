@@ -1,5 +1,5 @@
 -- The played run so far, and one command more.
-use Rattle.std.proofs.Common.{◌≡◌, ◌≢◌, ◌⊎◌, inl, inr, ℕ, ◌+◌, ◌-◌, ◌<◌, ◌≤◌, zero, suc, List, [], ◌∷◌, ◌++◌, Option, None, Some, Bool, true, false, if◌then◌else◌, ◌&&◌, slice_index_or, length, map, max, take, replicate, refl, sym, ap, subst, ◌∙◌, arith}
+use Rattle.std.proofs.Common.{◌≡◌, inl, inr, ℕ, ◌+◌, ◌-◌, ◌<◌, ◌≤◌, zero, suc, List, [], ◌∷◌, ◌++◌, Option, None, Some, Bool, true, false, if◌then◌else◌, ◌&&◌, slice_index_or, length, map, max, take, refl, sym, ap, subst, ◌∙◌, arith}
 use Rattle.std.specs.List.{slice_get}
 use Rattle.std.specs.Option.{IfSome}
 use Rattle.std.proofs.lemmas.Bool.{false≢true}
@@ -13,14 +13,14 @@ use Rattle.rec_model.specs.declared.command.Cmd.TheVariants as commands
 use Rattle.rec_model.specs.declared.answer.Answer.{Answer}
 use Rattle.rec_model.specs.declared.answer.Answer.TheVariants as answers
 use Rattle.rec_model.specs.declared.told.Told.{Told}
-use Rattle.rec_model.specs.Heap.{Heap, Object, register, with_object, born}
-use Rattle.rec_model.specs.Asking.{asked, asks, is_done, IsTold, got, put, value}
-use Rattle.rec_model.specs.LegalOrder.{after_answer, actor, Line, Event, Limits, Moment, is_new, is_birth, after, after_all, actors, AllocationFits, AnswerFits, NewFits, IsLegalOrder, word_left, left_by}
+use Rattle.rec_model.specs.Heap.{Heap, Object, register, born}
+use Rattle.rec_model.specs.Asking.{asked, asks, is_done, IsTold, got, put}
+use Rattle.rec_model.specs.LegalOrder.{after_answer, actor, Line, Event, Limits, Moment, is_new, is_birth, after, actors, AllocationFits, AnswerFits, IsLegalOrder, word_left, left_by}
 use Rattle.rec_model.specs.LegalOrder.Event.{Answers}
 use Rattle.rec_model.specs.Sight.{StandsFor}
 use Rattle.rec_model.proofs.Growing.{StampsAnew, legal_empty, legal_grows, after_all-grow, get_cases}
 use Rattle.rec_model.proofs.Opened.{opening_stands}
-use Rattle.rec_world.specs.World.{opened, State, sight, IsWorld, IsLogFull, IsFull, IsLowestFree, is_plain, entries_of}
+use Rattle.rec_world.specs.World.{opened, State, sight, IsLogFull, IsFull, is_plain, entries_of}
 use Rattle.rec_world.specs.declared.config.Config.{Config}
 use Rattle.recycler.specs.Script.{Contents}
 use Rattle.recycler.specs.Played.{config_of, longest, log_room, limits_of, opening_moment, last_moment, is_answer, IsPlayed}
@@ -121,26 +121,26 @@ one_more script cmds before after lines order events cmd told room more is done 
     let next : StandsFor (asked script.fields w.heap 1 cmd told).heap (sight after) = subst (λ n. StandsFor (asked n w.heap 1 cmd told).heap (sight after)) fields (done.stands w.heap so.stands) in
     let never_full : told.answer ≡ answers.LogFull → ⊥ = λ full. let (spent, needs) = done.log_full full in absurd (let logged : before.logged ≤ length lines = so.logged in omega arith) in
     let fits : AnswerFits (limits_of script) w 1 (cmd, told) =
-        record {
-          told = asks;
-          allocation = allocation_fits (limits_of script) w before.made cmd told.answer so.unfreed
-              (λ full. let (new, room, made) = done.full full in made ∙ slots)
-              (λ birth.
-                let made : after.made ≡ before.made + 1 = done.made ∙ ap (λ b. before.made + (if b then 1 else 0)) birth in
-                let same : after.config.slots ≡ before.config.slots = ap (λ (c : Config). c.slots) done.config in
-                let within : after.made ≤ after.config.slots = done.within in
-                omega arith);
-          log_full = λ full. absurd (never_full full);
-        } in
+    record {
+      told = asks;
+      allocation = allocation_fits (limits_of script) w before.made cmd told.answer so.unfreed
+          (λ full. let (new, room, made) = done.full full in made ∙ slots)
+          (λ birth.
+          let made : after.made ≡ before.made + 1 = done.made ∙ ap (λ b. before.made + (if b then 1 else 0)) birth in
+          let same : after.config.slots ≡ before.config.slots = ap (λ (c : Config). c.slots) done.config in
+          let within : after.made ≤ after.config.slots = done.within in
+          omega arith);
+      log_full = λ full. absurd (never_full full);
+    } in
     let anew : StampsAnew events 1 (cmd, told) =
-        record {
-          writer = λ word leaves. ap (λ (s : Stamp). s.writer) (stamp_is cmd told _ word done.stamp leaves);
-          anew = λ i v word d there left leaves same.
-              let index : (stamp_of word).index ≡ before.logged = ap (λ (s : Stamp). s.index) (stamp_is cmd told _ word done.stamp leaves) in
-              let lower : (stamp_of v).index < before.logged = so.stamps i v d there left in
-              let alike : (stamp_of v).index ≡ (stamp_of word).index = ap (λ (s : Stamp). s.index) same in
-              omega arith;
-        } in
+    record {
+      writer = λ word leaves. ap (λ (s : Stamp). s.writer) (stamp_is cmd told _ word done.stamp leaves);
+      anew = λ i v word d there left leaves same.
+          let index : (stamp_of word).index ≡ before.logged = ap (λ (s : Stamp). s.index) (stamp_is cmd told _ word done.stamp leaves) in
+          let lower : (stamp_of v).index < before.logged = so.stamps i v d there left in
+          let alike : (stamp_of v).index ≡ (stamp_of word).index = ap (λ (s : Stamp). s.index) same in
+          omega arith;
+    } in
     let now : last_moment script (events ++ Answers 1 (cmd, told) ∷ []) ≡ after_answer (limits_of script) w 1 (cmd, told) = after_all-grow (limits_of script) start events (Answers 1 (cmd, told)) in
     let fewer : entries_of cmd told.answer ≤ 1 = one_entry cmd told.answer in
     record {
@@ -164,16 +164,16 @@ one_more script cmds before after lines order events cmd told room more is done 
           let longer : length (lines ++ (cmd, told) ∷ []) ≡ length lines + 1 = length_push lines (cmd, told) in
           omega arith;
       stamps = λ i v d there left. elim (get_cases events (Answers 1 (cmd, told)) i d there) [
-      | inl old ↦
-          let lower : (stamp_of v).index < before.logged = so.stamps i v d old left in
-          let logged : after.logged ≡ before.logged + entries_of cmd told.answer = done.logged in
-          omega arith
-      | inr last ↦
-          let leaves : word_left cmd told ≡ Some v = ap left_by last.1 ∙ left in
-          let index : (stamp_of v).index ≡ before.logged = ap (λ (x : Stamp). x.index) (stamp_is cmd told _ v done.stamp leaves) in
-          let entry : entries_of cmd told.answer ≡ 1 = entry_of_word cmd told v leaves in
-          let logged : after.logged ≡ before.logged + entries_of cmd told.answer = done.logged in
-          omega arith
+        | inl old ↦
+            let lower : (stamp_of v).index < before.logged = so.stamps i v d old left in
+            let logged : after.logged ≡ before.logged + entries_of cmd told.answer = done.logged in
+            omega arith
+        | inr last ↦
+            let leaves : word_left cmd told ≡ Some v = ap left_by last.1 ∙ left in
+            let index : (stamp_of v).index ≡ before.logged = ap (λ (x : Stamp). x.index) (stamp_is cmd told _ v done.stamp leaves) in
+            let entry : entries_of cmd told.answer ≡ 1 = entry_of_word cmd told v leaves in
+            let logged : after.logged ≡ before.logged + entries_of cmd told.answer = done.logged in
+            omega arith
       ];
       config = done.config ∙ so.config;
       unmarked = done.marked;
@@ -231,7 +231,7 @@ pub noted : (script : Contents) (cmds : List Cmd) (before after : State) (lines 
     → PlayedSo script cmds after next turns (events ++ Answers 1 (cmd, told) ∷ [])
 noted script cmds before after lines next order turns events cmd told index room at more is next_is turns_is done so =
     let here : PlayedSo script cmds after (lines ++ (cmd, told) ∷ []) (order ++ 1 ∷ []) (events ++ Answers 1 (cmd, told) ∷ [])
-        = one_more script cmds before after lines order events cmd told room (subst (λ n. n < length cmds) (sym at) more) (ap (slice_get cmds) at ∙ is) done so in
+    = one_more script cmds before after lines order events cmd told room (subst (λ n. n < length cmds) (sym at) more) (ap (slice_get cmds) at ∙ is) done so in
     let P : List Line → Type 0 = λ ls. PlayedSo script cmds after ls turns (events ++ Answers 1 (cmd, told) ∷ []) in
     let Q : List ℕ → Type 0 = λ ts. PlayedSo script cmds after (lines ++ (cmd, told) ∷ []) ts (events ++ Answers 1 (cmd, told) ∷ []) in
     subst P (sym next_is) (subst Q (sym turns_is) here)

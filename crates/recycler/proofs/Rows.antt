@@ -1,8 +1,7 @@
 -- The rows of a world's listing, one after another, and what a numbering of its slots is given.
-use Rattle.std.proofs.Common.{◌≡◌, ◌⊎◌, inl, inr, ℕ, zero, suc, ◌+◌, ◌-◌, ◌*◌, ◌<◌, ◌≤◌, ◌++◌, Bool, true, false, All, List, [], ◌∷◌, Option, None, Some, map, take, drop, length, get_or, refl, sym, ◌∙◌, ap, subst, arith, append-nil, append_assoc}
+use Rattle.std.proofs.Common.{◌≡◌, inl, inr, ℕ, ◌+◌, ◌-◌, ◌*◌, ◌<◌, ◌++◌, true, List, [], ◌∷◌, Option, None, Some, map, take, length, get_or, refl, sym, ◌∙◌, ap, subst, arith, append_assoc}
 use Rattle.std.specs.Prelude.{option_map, slice_range, unwrap_or}
-use Rattle.std.specs.List.{flat_map, enumerate_from}
-use Rattle.std.proofs.lemmas.Bool.{cases_eq, eq-eqb, ne_eqb}
+use Rattle.std.proofs.lemmas.Bool.{cases_eq, ne_eqb}
 use Rattle.std.proofs.lemmas.List.{get_or-map, length-map, take-map}
 use Rattle.std.proofs.lemmas.List.Elements.{All-get_or}
 use Rattle.rec_word.specs.Word.{target_of}
@@ -29,8 +28,8 @@ fields_numbered list (Some n ∷ xs) listed =
     ap (λ x. x ∷ map (field_number list) xs) (here (listed n (is_in-head n (named xs))))
     ∙ ap (λ ys. Some (number_in list n) ∷ ys) (fields_numbered list xs (λ m h. listed m (is_in-tail m n (named xs) h)))
   where
-  here : is_in n list ≡ true → number_of list n ≡ Some (number_in list n)
-  here h = rw h refl
+    here : is_in n list ≡ true → number_of list n ≡ Some (number_in list n)
+    here h = rw h refl
 
 by_targets : {Y : Type 0} (f : Option ℕ → Y) (words : List ℕ) → map (λ word. f (target_of word)) words ≡ map f (map target_of words)
 by_targets f [] = refl
@@ -44,7 +43,7 @@ slot_fields w list slot numbers reached =
 
 header_label : (header : ℕ) → unwrap_or (label_of header) 0 ≡ header - 1
 header_label header = elim (cases_eq header 0) [
-    inl e ↦ rw e refl
+  | inl e ↦ rw e refl
   | inr apart ↦ rw (ne_eqb header 0 apart) refl
 ]
 
@@ -58,8 +57,8 @@ read_row w fields n i slot wide again label count found words counts numbered he
     ap (λ k. row_of k count (map (λ word. field_number n.list (target_of word)) (slice_range words (slot * wide) (slot * wide + again)))) (opened ∙ ap (λ x. unwrap_or x 0) look ∙ header_label (get_or w.headers slot 0))
     ∙ ap (λ k. row_of (get_or w.headers slot 0 - 1) k (map (λ word. field_number n.list (target_of word)) (slice_range words (slot * wide) (slot * wide + again)))) (counted ∙ held.each slot)
     ∙ ap (row_of (get_or w.headers slot 0 - 1) (holders_of (sight w) n.list slot)) (
-      ap (map (λ word. field_number n.list (target_of word))) (own_words w fields slot wide again words numbered.same_fields e f all)
-      ∙ slot_fields (sight w) n.list slot numbered.numbers reached)
+    ap (map (λ word. field_number n.list (target_of word))) (own_words w fields slot wide again words numbered.same_fields e f all)
+    ∙ slot_fields (sight w) n.list slot numbered.numbers reached)
     ∙ ap (slot_row (sight w) n.list) at
 
 -- the next row
@@ -70,12 +69,12 @@ row_step first so_far more line w list i row within e f is g =
     let n : 1 + i ≡ i + 1 = omega arith in
     let d : Row = slot_row (sight w) list 0 in
     added first so_far more (line ∷ []) (row_lines (map (slot_row (sight w) list) (take i list))) (row_lines (map (slot_row (sight w) list) (take (i + 1) list))) e g (
-      ap row_lines (sym (take-map (slot_row (sight w) list) (i + 1) list))
-      ∙ next_numbered (λ p. row_line p.0 p.1) 1 rows i d size
-      ∙ ap (λ rs. row_lines rs ++ row_line (1 + i) (get_or rows i d) ∷ []) (take-map (slot_row (sight w) list) i list)
-      ∙ ap (λ r. row_lines (map (slot_row (sight w) list) (take i list)) ++ row_line (1 + i) r ∷ []) (get_or-map (slot_row (sight w) list) list i 0 d within ∙ sym is)
-      ∙ ap (λ k. row_lines (map (slot_row (sight w) list) (take i list)) ++ row_line k row ∷ []) n
-      ∙ ap (λ l. row_lines (map (slot_row (sight w) list) (take i list)) ++ l ∷ []) (sym f))
+    ap row_lines (sym (take-map (slot_row (sight w) list) (i + 1) list))
+    ∙ next_numbered (λ p. row_line p.0 p.1) 1 rows i d size
+    ∙ ap (λ rs. row_lines rs ++ row_line (1 + i) (get_or rows i d) ∷ []) (take-map (slot_row (sight w) list) i list)
+    ∙ ap (λ r. row_lines (map (slot_row (sight w) list) (take i list)) ++ row_line (1 + i) r ∷ []) (get_or-map (slot_row (sight w) list) list i 0 d within ∙ sym is)
+    ∙ ap (λ k. row_lines (map (slot_row (sight w) list) (take i list)) ++ row_line k row ∷ []) n
+    ∙ ap (λ l. row_lines (map (slot_row (sight w) list) (take i list)) ++ l ∷ []) (sym f))
 
 -- what the registers and words that were read name
 pub names_world : (w : State) (registers : List (Option ℕ)) (words : List ℕ) (fields slots : ℕ) → IsWorld w → registers ≡ registers_of w.registers 1 → words ≡ w.words → fields ≡ w.config.fields → slots ≡ w.config.slots → NamesBelow (sight_of registers words fields) slots
@@ -97,10 +96,10 @@ numbers_world w registers words fields list world own all same numbers =
 
 pub is_numbered : (w : State) (registers : List (Option ℕ)) (words : List ℕ) (fields : ℕ) (n : Numbered) (slots : ℕ) → IsWorld w → registers ≡ registers_of w.registers 1 → words ≡ w.words → fields ≡ w.config.fields → slots ≡ w.config.slots → n.slots ≡ slots → NumbersSlots (sight_of registers words fields) n.list → IsNumbered w fields n
 is_numbered w registers words fields n slots world own all same count kept numbers = record {
-    slots = kept ∙ count;
-    same_fields = same;
-    numbers = numbers_world w registers words fields n.list world own all same numbers;
-  }
+  slots = kept ∙ count;
+  same_fields = same;
+  numbers = numbers_world w registers words fields n.list world own all same numbers;
+}
 
 -- the same where the slot was read off the list
 pub row_read : (w : State) (fields : ℕ) (n : Numbered) (i slot wide again label count : ℕ) (found : Option ℕ) (words counts now : List ℕ) → IsNumbered w fields n → AreHolders w n.list counts → now ≡ n.list → i < length n.list → slot ≡ get_or now i 0 → wide ≡ fields → again ≡ fields → words ≡ w.words → found ≡ label_of (get_or w.headers (get_or now i 0) 0) → label ≡ unwrap_or found 0 → count ≡ get_or counts (get_or now i 0) 0 → row_of label count (map (λ word. field_number n.list (target_of word)) (slice_range words (slot * wide) (slot * wide + again))) ≡ slot_row (sight w) n.list (get_or n.list i 0)
@@ -111,6 +110,9 @@ row_read w fields n i slot wide again label count found words counts now numbere
 -- a listing behind the number of its rows
 pub listed : (w : State) (n : Numbered) (list : List ℕ) (live : ℕ) (first line more : List (List ℕ)) (head : List ℕ) → NumbersSlots (sight w) n.list → list ≡ n.list → live ≡ length list → head ≡ live_line live → line ≡ first ++ head ∷ [] → more ≡ line ++ row_lines (map (slot_row (sight w) n.list) n.list) → (rows : List Row) × ListsSlots (sight w) rows × (live ≡ length rows) × (more ≡ first ++ live_line live ∷ row_lines rows)
 listed w n list live first line more head numbers same size e f g =
-    let rows : List Row = map (slot_row (sight w) n.list) n.list in
-    (rows, (n.list, numbers, refl), size ∙ ap length same ∙ sym (length-map n.list (slot_row (sight w) n.list)),
-      g ∙ ap (λ ls. ls ++ row_lines rows) (f ∙ ap (λ l. first ++ l ∷ []) e) ∙ append_assoc first (live_line live ∷ []) (row_lines rows))
+    let rows : List Row = map (slot_row (sight w) n.list) n.list in (
+      rows,
+      (n.list, numbers, refl),
+      size ∙ ap length same ∙ sym (length-map n.list (slot_row (sight w) n.list)),
+      g ∙ ap (λ ls. ls ++ row_lines rows) (f ∙ ap (λ l. first ++ l ∷ []) e) ∙ append_assoc first (live_line live ∷ []) (row_lines rows),
+    )

@@ -1,5 +1,5 @@
 -- Which words are a command line.
-use Rattle.std.specs.Prelude.{◌≡◌, ℕ, List, Some, length, map, codes}
+use Rattle.std.specs.Prelude.{◌≡◌, ℕ, List, Some, length, codes}
 use Rattle.std.specs.List.{slice_get}
 
 -- two words, of which the second is `play`: the first is the program's name

@@ -1,11 +1,9 @@
 -- What the commands of a script gave when they were played.
-use Rattle.std.specs.Prelude.{◌≡◌, ℕ, max, Bool, true, false, Option, Some, is_some, List, [], ◌∷◌, map, length, replicate}
+use Rattle.std.specs.Prelude.{◌≡◌, ℕ, max, Bool, true, Some, is_some, List, [], ◌∷◌, map, length, replicate}
 use Rattle.std.specs.List.{slice_get}
 use Rattle.rec_model.specs.declared.command.Cmd.{Cmd}
-use Rattle.rec_model.specs.Heap.{Heap, opening}
-use Rattle.rec_model.specs.LegalOrder.{Line, Event, Limits, Moment, after_all, actors, actor, IsLegalOrder}
-use Rattle.rec_model.specs.Sight.{StandsFor}
-use Rattle.rec_world.specs.World.{State, sight, opened}
+use Rattle.rec_model.specs.Heap.{opening}
+use Rattle.rec_model.specs.LegalOrder.{Line, Event, Limits, Moment, after_all, actor, IsLegalOrder}
 use Rattle.rec_world.specs.declared.config.Config.{Config}
 use Rattle.recycler.specs.Script.{Contents}
 

@@ -1,5 +1,5 @@
 -- The text that a run writes, line by line.
-use Rattle.std.specs.Prelude.{ℕ, ◌+◌, ◌-◌, ◌<◌, Bool, true, false, ◌≡◌, List, [], ◌∷◌, ◌++◌, Option, None, Some, codes, length, map, take, count_by, slice_index_or}
+use Rattle.std.specs.Prelude.{ℕ, ◌-◌, ◌<◌, Bool, true, false, ◌≡◌, List, [], ◌∷◌, ◌++◌, Option, None, Some, codes, length, map, take, count_by, slice_index_or}
 use Rattle.std.specs.Fmt.{decimal}
 use Rattle.std.specs.List.{flat_map, enumerate_from, sum_by}
 use Rattle.rec_model.specs.declared.answer.Answer.{Answer}

@@ -21,12 +21,12 @@ use gate::OpenGate;
 use rec_io::{StdSink, StdSource};
 use run::run;
 use status::Status;
-use std::io::{self, BufWriter, ErrorKind};
+use std::env;
+use std::io::{self, BufWriter, ErrorKind, Input};
 use std::process::ExitCode;
 use std::rt::Env;
 use std::sync::Wait;
 use std::thread::Threads;
-use std::{env, io::Input};
 
 // How many bytes go to standard output at once.
 const OUTPUT_BUFFER: usize = 65_536;

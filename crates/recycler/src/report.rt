@@ -12,9 +12,9 @@ mod line;
 mod listing;
 mod page;
 
+use crate::script::Script;
 pub use line::Line;
 pub use page::Text;
-use crate::script::Script;
 use rec_model::{Answer, Cmd, Told};
 use rec_world::{Journal, Order, World};
 use std::alloc::{AllocError as NoMemory, Global};

@@ -38,7 +38,12 @@ impl Line {
     }
 
     /// The answer to command `i` of mutator `t`.
-    pub(super) fn answer(alloc: Global, t: usize, i: usize, answer: Answer) -> Result<Line, NoMemory>
+    pub(super) fn answer(
+        alloc: Global,
+        t: usize,
+        i: usize,
+        answer: Answer,
+    ) -> Result<Line, NoMemory>
         ensures { IfOk result (λ line. line ≡ answer_line t i answer) }
     {
         let mut number = Buffer::new();
@@ -81,7 +86,12 @@ impl Line {
     }
 
     /// Births, refusals, and how many objects are live no more.
-    pub(super) fn totals(alloc: Global, made: u64, refused: u64, live: u64) -> Result<Line, NoMemory>
+    pub(super) fn totals(
+        alloc: Global,
+        made: u64,
+        refused: u64,
+        live: u64,
+    ) -> Result<Line, NoMemory>
         ensures { IfOk result (λ line. line ≡ totals_line made refused live) }
     {
         let freed = made.saturating_sub(live);

@@ -62,7 +62,11 @@ impl Text {
     }
 
     // The answers mutator by mutator.
-    pub(super) fn add_journals(&mut self, alloc: Global, journals: &[Journal]) -> Result<(), NoMemory>
+    pub(super) fn add_journals(
+        &mut self,
+        alloc: Global,
+        journals: &[Journal],
+    ) -> Result<(), NoMemory>
         ensures { OnOk result (self.new ≡ self.old ++ lines_by_mutator (map (λ journal. journal.lines) journals.now)) }
     {
         for (i, journal) in journals.iter().enumerate() {

@@ -6,7 +6,8 @@ use std::test::Fail;
 
 const PLAY: [&str; 2] = ["recycler", "play"];
 
-const SIX: &str = "recycler 1\nheap 4 1 2\nmutator\nnew 1 7\nput 0 0 1\nnull 1\nget 1 0 0\nvalue 1\n";
+const SIX: &str =
+    "recycler 1\nheap 4 1 2\nmutator\nnew 1 7\nput 0 0 1\nnull 1\nget 1 0 0\nvalue 1\n";
 
 const EMPTY_HEAP: &str = "live 1\n#1 label 0 count 1 fields -\nmade 1 refused 0 freed 0\n";
 
@@ -53,7 +54,11 @@ fn a_refused_script_writes_nothing(rt: HostRuntime) -> Result<(), Fail> {
         line: 0,
         kind: Kind::NotBuilt,
     };
-    for script in ["", "recycler 2\n", "recycler 1\nheap 4 1 2\nmutator\nput 1 0"] {
+    for script in [
+        "",
+        "recycler 2\n",
+        "recycler 1\nheap 4 1 2\nmutator\nput 1 0",
+    ] {
         let mut source = SteadySource::over(script.as_bytes());
         let mut sink = RoomSink::open(rt.alloc(), 1_000, &[])?;
         let status = run(&rt, rt.alloc(), &PLAY, &mut source, &mut sink, &OpenGate);
@@ -111,7 +116,13 @@ fn too_long_a_script_is_not_read_for_ever(rt: HostRuntime) -> Result<(), Fail> {
     let mut source = SteadySource::over(&spaces);
     let mut sink = RoomSink::open(rt.alloc(), 1_000, &[])?;
     let status = run(&rt, rt.alloc(), &PLAY, &mut source, &mut sink, &OpenGate);
-    assert_eq!(rt; status, Status::BadScript { line: 0, kind: Kind::NotBuilt });
+    assert_eq!(rt;
+        status,
+        Status::BadScript {
+            line: 0,
+            kind: Kind::NotBuilt
+        }
+    );
     let mut more = [0];
     assert_eq!(rt; source.read(&mut more), Given::Bytes(1));
     Ok(())
@@ -123,7 +134,8 @@ fn statuses_have_numbers_and_texts(rt: HostRuntime) -> Result<(), Fail> {
         line: 12,
         kind: Kind::NotBuilt,
     };
-    let usage = "recycler: usage: recycler play [--seed N] [--turns N] [--summary] or threads or make [--seed N] [--mutators N] [--commands N]";
+    let usage =
+        "recycler: usage: recycler play [--seed N] [--turns N] [--summary] or threads or make [--seed N] [--mutators N] [--commands N]";
     for (status, number, text) in [
         (Status::Done, 0, ""),
         (Status::Usage, 2, usage),

@@ -1,4 +1,4 @@
-use Rattle.std.proofs.Common.{ℕ, List, ◌<◌, sym, subst, arith}
+use Rattle.std.proofs.Common.{ℕ, List, sym, subst, arith}
 use Rattle.rec_io.specs.Source.{Passes}
 use Rattle.rec_io.proofs.Reading.{passes_more}
 use Rattle.recycler.proofs.reading.read_all.Goals as goal

@@ -1,10 +1,10 @@
-use Rattle.std.proofs.Common.{◌≡◌, ℕ, List, [], ◌∷◌, Some, Option, max, map, length, sym, ap, subst, ◌∙◌}
+use Rattle.std.proofs.Common.{◌≡◌, ℕ, List, [], ◌∷◌, Some, max, length, sym, ap, subst, ◌∙◌}
 use Rattle.std.specs.List.{flat_map}
-use Rattle.rec_model.specs.LegalOrder.{Line, Event, actors}
+use Rattle.rec_model.specs.LegalOrder.{actors}
 use Rattle.rec_world.specs.World.{State, opened}
 use Rattle.rec_world.specs.declared.config.Config.{Config}
 use Rattle.recycler.specs.Headline.{Answers}
-use Rattle.recycler.specs.Played.{config_of, log_room, last_moment}
+use Rattle.recycler.specs.Played.{log_room, last_moment}
 use Rattle.recycler.specs.Script.{Contents}
 use Rattle.recycler.specs.Text.{IsOrderOf, play_text}
 use Rattle.recycler.proofs.Endings.{if_ok, config_is, answers_script}
@@ -45,10 +45,10 @@ returns c =
     let (events, played, stands, made, in_order) = c.play.ensures.played in
     let world : State = c.mark.new.self in
     if_ok c.text.result _ (λ text. Answers script (flat_map (λ line. line) text))
-      (λ text (rows, listed, is). answers_script script c.play.new.journal.lines events world rows (flat_map (λ line. line) text) played
-        (c.mark.ensures.stands (last_moment script events).heap stands) c.mark.ensures.collected
-        (c.mark.ensures.kept.headers ∙ ap (λ (w : State). w.config.slots) c.mark.ensures.others ∙ ap (λ (k : Config). k.slots) c.play.ensures.config)
-        listed
-        (ap joined is ∙ ap (λ (ts : List ℕ). play_text (c.play.new.journal.lines ∷ []) (Some ts) rows c.mark.new.self.made) in_order
-          ∙ ap (λ n. play_text (c.play.new.journal.lines ∷ []) (Some (actors events)) rows n) (ap (λ (w : State). w.made) c.mark.ensures.others ∙ made)))
-      c.text.ensures.lines
+    (λ text (rows, listed, is). answers_script script c.play.new.journal.lines events world rows (flat_map (λ line. line) text) played
+    (c.mark.ensures.stands (last_moment script events).heap stands) c.mark.ensures.collected
+    (c.mark.ensures.kept.headers ∙ ap (λ (w : State). w.config.slots) c.mark.ensures.others ∙ ap (λ (k : Config). k.slots) c.play.ensures.config)
+    listed
+    (ap joined is ∙ ap (λ (ts : List ℕ). play_text (c.play.new.journal.lines ∷ []) (Some ts) rows c.mark.new.self.made) in_order
+    ∙ ap (λ n. play_text (c.play.new.journal.lines ∷ []) (Some (actors events)) rows n) (ap (λ (w : State). w.made) c.mark.ensures.others ∙ made)))
+    c.text.ensures.lines

@@ -11,9 +11,12 @@ returns-in_err-write_piece-clause-front g c =
     let lines : List (List ℕ) = c.args.lines.now in
     let i : ℕ = c.loop-line.line-index in
     let p = err_from_is_err_and c.from_residual.result c.from_residual.ensures.1 in
-    rw p.1 (joined (take i lines) ++ front, back ++ joined (drop (i + 1) lines),
+    rw p.1 (
+      joined (take i lines) ++ front,
+      back ++ joined (drop (i + 1) lines),
       joined_cut lines i c.bytes.result.now front back _ c.loop-line-test.true (c.bytes.ensures ∙ c.line-item.is) cut,
-      appends_more _ (g.K.Sink.written c.loop-line.sink) _ (joined (take i lines)) front c.loop-line.invariant.front appends)
+      appends_more _ (g.K.Sink.written c.loop-line.sink) _ (joined (take i lines)) front c.loop-line.invariant.front appends,
+    )
 
 pub loop-line-preserved : goal.loop-line-preserved
 loop-line-preserved g c =

@@ -1,4 +1,4 @@
-use Rattle.std.proofs.Common.{◌≤◌, List, ℕ, take}
+use Rattle.std.proofs.Common.{◌≤◌, take}
 use Rattle.std.specs.List.{flat_map}
 use Rattle.rec_io.specs.Sink.{Appends}
 use Rattle.recycler.proofs.writing.write_lines.Given as goal

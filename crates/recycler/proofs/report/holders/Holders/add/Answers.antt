@@ -1,6 +1,5 @@
 -- The slot has a count, and one more is counted there.
-use Rattle.std.proofs.Common.{◌≡◌, ◌<◌, ◌+◌, ◌^◌, ◌∷◌, [], arith, length, get_or, sym, ap, ◌∙◌}
-use Rattle.recycler.specs.Holders.{Adds}
+use Rattle.std.proofs.Common.{◌≡◌, ◌<◌, ◌+◌, ◌^◌, arith, length, ap}
 use Rattle.recycler.proofs.Counting.{one_there, one_room, one_counted}
 use Rattle.recycler.proofs.report.holders.Holders.add.Goals as goal
 

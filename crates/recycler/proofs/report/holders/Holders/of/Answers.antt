@@ -1,5 +1,5 @@
 -- The registers and the fields of each listed slot name slots, and are counted.
-use Rattle.recycler.proofs.Held.{names_registers, held_first, names_read, held_read, held_last, words_end}
+use Rattle.recycler.proofs.Held.{names_read, words_end}
 use Rattle.recycler.proofs.report.holders.Holders.of.Goals as goal
 
 pub slice_bounds-add_fields-end : goal.slice_bounds-add_fields-end

@@ -1,5 +1,5 @@
 -- What was read is the world's, so its numbering is that of the listing, and the rows stand behind their number.
-use Rattle.std.proofs.Common.{◌≡◌, ◌∙◌, refl}
+use Rattle.std.proofs.Common.{◌∙◌, refl}
 use Rattle.recycler.specs.Report.{IsNumbered}
 use Rattle.recycler.proofs.Rows.{names_world, is_numbered, listed}
 use Rattle.recycler.proofs.report.page.Text.add_listing.Goals as goal
@@ -16,5 +16,5 @@ add_rows-requires-clause-numbers c = is_numbered _ _ _ _ _ _ c.words-words.ensur
 pub returns : goal.returns
 returns c =
     let numbered : IsNumbered c.args.world.now c.fields-fields.result c.fill.new.self =
-      is_numbered _ _ _ _ _ _ c.words-words.ensures.kept c.registers.ensures.registers c.words-words.ensures.words (c.fields-fields.ensures.value ∙ c.requires.fields) (c.in_ok-numbering.ensures.slots ∙ c.slots.ensures.value ∙ c.requires.slots) c.fill.ensures.slots c.fill.ensures.numbers in
+    is_numbered _ _ _ _ _ _ c.words-words.ensures.kept c.registers.ensures.registers c.words-words.ensures.words (c.fields-fields.ensures.value ∙ c.requires.fields) (c.in_ok-numbering.ensures.slots ∙ c.slots.ensures.value ∙ c.requires.slots) c.fill.ensures.slots c.fill.ensures.numbers in
     listed c.args.world.now c.fill.new.self _ _ _ _ _ _ numbered.numbers c.list-live.ensures.list refl c.in_ok-live.ensures c.in_ok-add.ensures c.in_ok-add_rows.ensures

@@ -1,5 +1,5 @@
 -- The line is that of the command in its journal.
-use Rattle.std.proofs.Common.{◌≡◌, ◌∙◌, ◌++◌, ◌∷◌, [], sym, ap}
+use Rattle.std.proofs.Common.{◌∙◌, ◌++◌, ◌∷◌, [], sym, ap}
 use Rattle.recycler.proofs.Lines.{own_line}
 use Rattle.recycler.proofs.report.page.Text.add_turn.Goals as goal
 
