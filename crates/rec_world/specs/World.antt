@@ -28,10 +28,6 @@ pub record State : Type 0 where
 abbrev pub sight : State → Sight
 sight w = record { fields = w.config.fields; headers = w.headers; words = w.words; registers = w.registers }
 
--- with what is seen of it changed
-abbrev pub with_sight : State → Sight → State
-with_sight w seen = record w { headers = seen.headers; words = seen.words; registers = seen.registers }
-
 -- a heap as it is opened
 abbrev pub opened : Config → State
 opened config =
