@@ -1,7 +1,9 @@
 -- What a command does to registers, headers and words is what asking gives, whatever heap stood before.
-use Rattle.std.proofs.Common.{◌≡◌, inl, inr, ℕ, ◌+◌, ◌-◌, ◌<◌, [], Option, None, Some, true, false, slice_index_or, length, map, replicate, refl, sym, ap, subst, ◌∙◌, arith}
+use Rattle.std.proofs.Common.{◌≡◌, inl, inr, ℕ, ◌+◌, ◌-◌, ◌<◌, ◌==◌, [], Option, None, Some, true, false, slice_index_or, length, map, replicate, refl, sym, ap, subst, ◌∙◌, arith}
 use Rattle.std.specs.Option.{option_map, is_some}
 use Rattle.std.proofs.Math.ListN.{get_or-map}
+use Rattle.std.proofs.lemmas.Bool.{eq-eqb, eqb-true}
+use Rattle.std.proofs.lemmas.Bool.Decides.{same_from_decides}
 use Rattle.rec_word.specs.Word.{target_of}
 use Rattle.rec_model.specs.declared.command.Cmd.{Cmd}
 use Rattle.rec_model.specs.declared.command.Cmd.TheVariants as commands
@@ -11,7 +13,7 @@ use Rattle.rec_model.specs.declared.told.Told.{Told}
 use Rattle.rec_model.specs.Reach.{named}
 use Rattle.rec_model.specs.Reach.IsReached.{root, child}
 use Rattle.rec_model.specs.Heap.{Heap, Field, Object, object, field, born, register, with_register, with_field, with_object}
-use Rattle.rec_model.specs.Asking.{Asked, asked, asks, answered, refused, AnswersAs, LeavesWord, IsTold, null_or_object, got, put, value, is_done, refuses_new}
+use Rattle.rec_model.specs.Asking.{Asked, asked, asks, answered, refused, AnswersAs, LeavesWord, IsTold, null_or_object, got, put, value, same, yes_or_no, is_done, refuses_new}
 use Rattle.rec_model.specs.Sight.{Sight, words_of, targets_of, word_at, Reaches, field_of, StandsBy, StandsFor, IsSound, sight_with_register, sight_with_word, sight_with_header}
 use Rattle.rec_model.specs.Explained.{IsExplained}
 use Rattle.rec_model.proofs.Names.{register_root, named_at}
@@ -46,6 +48,15 @@ told_by fields heap t cmd told next after is answer saw left stands = (
   },
   subst (λ (x : Asked). StandsFor x.heap after) (sym is) stands,
 )
+
+-- a register that becomes what another is
+pub copy_explained : (w : Sight) (t dst src : ℕ) → IsExplained w t (commands.Copy dst src) (plain answers.Done) (sight_with_register w t dst (register w.registers t src))
+copy_explained w t dst src heap (number, by) =
+    let named : Option ℕ = register w.registers t src in
+    let become : Option ℕ → Asked = λ x. answered (with_register heap t dst x) answers.Done 0 in
+    told_by w.fields heap t (commands.Copy dst src) (plain answers.Done) (become (option_map number named)) (sight_with_register w t dst named)
+    (ap become (register_names heap w number t src by)) refl refl refl
+    (number, register_stands heap w number t dst named (λ n there. inl (root n (register_root w.registers t src n there))) by)
 
 -- a read through a null register
 pub get_of_null : (w : Sight) (t dst src f : ℕ) → register w.registers t src ≡ None → IsExplained w t (commands.Get dst src f) (plain answers.NoObject) w
@@ -151,3 +162,26 @@ value_explained w t reg slot sound is heap (number, by) =
     let same : slice_index_or w.headers slot 0 - 1 ≡ (object heap (number slot)).label = omega arith in
     told_by w.fields heap t (commands.Value reg) (plain (answers.Value (slice_index_or w.headers slot 0 - 1))) (answered heap (answers.Value (object heap (number slot)).label) 0) w
     (ap (λ x. answered heap (value heap x) 0) (some_register heap w number t reg slot by is)) (ap answers.Value same) refl refl (number, by)
+
+-- the numbering keeps apart what two registers name
+same_numbered : (heap : Heap) (w : Sight) (number : ℕ → ℕ) (t a b : ℕ) (x y : Option ℕ) → IsSound w → StandsBy heap w number
+    → register w.registers t a ≡ x → register w.registers t b ≡ y → same x y ≡ same (option_map number x) (option_map number y)
+same_numbered heap w number t a b None None sound by x-is y-is = refl
+same_numbered heap w number t a b None (Some n) sound by x-is y-is = refl
+same_numbered heap w number t a b (Some m) None sound by x-is y-is = refl
+same_numbered heap w number t a b (Some m) (Some n) sound by x-is y-is =
+    let taken-m = sound.registers m (register_root w.registers t a m x-is) in
+    let taken-n = sound.registers n (register_root w.registers t b n y-is) in
+    same_from_decides (m == n) (number m == number n) (eqb-true m n, eq-eqb m n)
+    (λ is. by.one_to_one m n taken-m taken-n (eqb-true (number m) (number n) is), λ is. eq-eqb (number m) (number n) (ap number is))
+
+-- a comparison of two registers
+pub same_explained : (w : Sight) (t a b : ℕ) → IsSound w
+    → IsExplained w t (commands.Same a b) (plain (yes_or_no (same (register w.registers t a) (register w.registers t b)))) w
+same_explained w t a b sound heap (number, by) =
+    let x : Option ℕ = register w.registers t a in
+    let y : Option ℕ = register w.registers t b in
+    let tell : Option ℕ → Option ℕ → Asked = λ m n. answered heap (yes_or_no (same m n)) 0 in
+    told_by w.fields heap t (commands.Same a b) (plain (yes_or_no (same x y))) (tell (option_map number x) (option_map number y)) w
+    (ap (λ m. tell m (register heap.registers t b)) (register_names heap w number t a by) ∙ ap (tell (option_map number x)) (register_names heap w number t b by))
+    (ap yes_or_no (same_numbered heap w number t a b x y sound by refl refl)) refl refl (number, by)

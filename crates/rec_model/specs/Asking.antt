@@ -1,5 +1,5 @@
 -- What a command gives on the heap that never frees.
-use Rattle.std.specs.Prelude.{◌≡◌, ℕ, Bool, true, false, Option, None, Some, is_some, length, MatchBool}
+use Rattle.std.specs.Prelude.{◌≡◌, ◌==◌, ℕ, Bool, true, false, Option, None, Some, is_some, length, MatchBool}
 use Rattle.rec_word.specs.Word.{target_of}
 use Rattle.rec_model.specs.declared.command.Cmd.{Cmd}
 use Rattle.rec_model.specs.declared.command.Cmd.TheVariants as commands
@@ -43,15 +43,28 @@ abbrev pub value : Heap → Option ℕ → Answer
 value heap None = answers.NoObject
 value heap (Some n) = answers.Value (object heap n).label
 
+-- whether two registers name one object, or both are null
+abbrev pub same : Option ℕ → Option ℕ → Bool
+same None None = true
+same (Some m) (Some n) = m == n
+same _ _ = false
+
+-- a comparison in words
+abbrev pub yes_or_no : Bool → Answer
+yes_or_no true = answers.Yes
+yes_or_no false = answers.No
+
 -- What asking gives. Every object has this many fields; `made` bears on New, and on Put where its object is there;
 -- `left` is the word that a Put leaves.
 abbrev pub asks : (fields : ℕ) → Heap → (t : ℕ) → Cmd → (made : Bool) → (left : ℕ) → Asked
 asks fields heap t (commands.New reg label) true left = answered (with_register (with_object heap (born fields label)) t reg (Some (length heap.objects))) answers.Done 0
 asks fields heap t (commands.New reg label) false left = refused heap
 asks fields heap t (commands.Null reg) made left = answered (with_register heap t reg None) answers.Done 0
+asks fields heap t (commands.Copy dst src) made left = answered (with_register heap t dst (register heap.registers t src)) answers.Done 0
 asks fields heap t (commands.Get dst src f) made left = got heap t dst f (register heap.registers t src)
 asks fields heap t (commands.Put src f val) made left = put heap f (register heap.registers t val) made left (register heap.registers t src)
 asks fields heap t (commands.Value reg) made left = answered heap (value heap (register heap.registers t reg)) 0
+asks fields heap t (commands.Same a b) made left = answered heap (yes_or_no (same (register heap.registers t a) (register heap.registers t b))) 0
 
 -- the refusals of an allocation
 abbrev pub refuses_new : Answer → Bool

@@ -5,10 +5,14 @@ pub enum Cmd {
     New { reg: u8, label: u32 },
     /// Let `reg` be null.
     Null { reg: u8 },
+    /// Let `dst` name what `src` names, null too.
+    Copy { dst: u8, src: u8 },
     /// Let `dst` name what the field of the object in `src` leads to.
     Get { dst: u8, src: u8, field: u8 },
     /// Let the field of the object in `src` lead to what `val` names, null too.
     Put { src: u8, field: u8, val: u8 },
     /// Tell the label of the object in `reg`.
     Value { reg: u8 },
+    /// Tell whether both registers name one object, or both are null.
+    Same { a: u8, b: u8 },
 }

@@ -1,6 +1,7 @@
 ghost use Rattle.std.specs.Prelude.{◌≡◌, ◌<◌, ◌^◌};
 
-/// One atomic operation on one shared word. A place numbers a field, a slot a header.
+/// One atomic operation on one shared word. A place numbers a field, a slot a header, a mutator's number its crossing word;
+/// the epoch word and the freed word are one each.
 #[derive(Clone, Copy, Debug, PartialEq, Eq)]
 pub enum Op {
     /// Load a field.
@@ -9,8 +10,14 @@ pub enum Op {
     SwapField(u32, u64),
     /// Load the header of a held slot.
     LoadHeader(u16),
+    /// Load the epoch word, the requested epoch.
+    LoadEpoch,
+    /// Load the crossing word of a mutator.
+    LoadCross(u8),
     /// Compare a header with 0, and where it is 0 put the label plus one there.
     ClaimHeader(u16, u32),
+    /// Load the freed word, which is odd exactly during a sweep.
+    LoadFreed,
 }
 
 impl Op {
@@ -21,7 +28,11 @@ impl Op {
         ensures { result ≡ written self found }
     {
         match self {
-            Op::LoadField(_) | Op::LoadHeader(_) => found,
+            Op::LoadField(_)
+            | Op::LoadHeader(_)
+            | Op::LoadEpoch
+            | Op::LoadCross(_)
+            | Op::LoadFreed => found,
             Op::SwapField(_, word) => word,
             Op::ClaimHeader(_, label) => {
                 if found == 0 {
@@ -45,5 +56,6 @@ mod tests {
         assert_eq!(rt; Op::LoadHeader(3).written(8), 8);
         assert_eq!(rt; Op::ClaimHeader(3, 20).written(0), 21);
         assert_eq!(rt; Op::ClaimHeader(3, 20).written(8), 8);
+        assert_eq!(rt; Op::LoadFreed.written(8), 8);
     }
 }

@@ -6,12 +6,12 @@ use Rattle.rec_word.specs.Word.{packed, target_of, stamp_of, IsStamp, IsTarget}
 use Rattle.rec_model.specs.declared.command.Cmd.{Cmd}
 use Rattle.rec_model.specs.declared.command.Cmd.TheVariants as commands
 use Rattle.rec_model.specs.declared.answer.Answer.TheVariants as answers
-use Rattle.rec_model.specs.Asking.{null_or_object}
+use Rattle.rec_model.specs.Asking.{null_or_object, same, yes_or_no}
 use Rattle.rec_model.specs.Explained.{IsExplained}
 use Rattle.rec_model.specs.Heap.{register}
 use Rattle.rec_model.specs.LegalOrder.{is_birth, word_left}
 use Rattle.rec_model.specs.Sight.{word_at}
-use Rattle.rec_model.proofs.Answered.{null_explained, get_of_null, get_explained, put_of_null, put_refused, put_explained, new_explained, new_refused, value_of_null, value_explained}
+use Rattle.rec_model.proofs.Answered.{null_explained, copy_explained, same_explained, get_of_null, get_explained, put_of_null, put_refused, put_explained, new_explained, new_refused, value_of_null, value_explained}
 use Rattle.rec_world.specs.Config.{IsMutator, IsValid}
 use Rattle.rec_world.specs.Outcome.{Outcome, outcome, next_stamp, new_outcome, get_outcome, put_outcome, value_outcome}
 use Rattle.rec_world.specs.World.{State, sight, IsWorld, sight_after, sight_after_get, sight_after_put, entries_of, IsLogFull, IsFull, LacksObject, is_plain, is_refusal, IsLowestFree}
@@ -112,6 +112,55 @@ null_answered w t reg unmarked =
       no_object = (λ is. cc, λ is. absurd is);
       never = refl;
       refused = λ is. cc;
+      seen = refl;
+      made = sym (add-zero w.made);
+      logged = sym (add-zero w.logged);
+      config = refl;
+      marked = unmarked;
+      lowest = λ is. cc;
+      stamp = tt;
+    }
+
+-- a register that becomes what another is
+copy_answered : (w : State) (t dst src : ℕ) → w.marked ≡ false → IsAnswered w t (commands.Copy dst src) (outcome w t (commands.Copy dst src))
+copy_answered w t dst src unmarked =
+    record {
+      explained = copy_explained (sight w) t dst src;
+      log_full = (λ is. cc, λ is. absurd is.1);
+      full = (λ is. cc, λ is. absurd (false≢true is.0));
+      no_object = (λ is. cc, λ is. absurd is);
+      never = refl;
+      refused = λ is. cc;
+      seen = refl;
+      made = sym (add-zero w.made);
+      logged = sym (add-zero w.logged);
+      config = refl;
+      marked = unmarked;
+      lowest = λ is. cc;
+      stamp = tt;
+    }
+
+-- a comparison is no refusal
+compare_plain : (equal : Bool) → is_plain (yes_or_no equal) ≡ true
+compare_plain true = refl
+compare_plain false = refl
+
+compare_made : (equal : Bool) → is_refusal (yes_or_no equal) ≡ false
+compare_made true = refl
+compare_made false = refl
+
+-- a comparison of two registers
+same_answered : (w : State) (t a b : ℕ) → IsWorld w → w.marked ≡ false → IsAnswered w t (commands.Same a b) (outcome w t (commands.Same a b))
+same_answered w t a b world unmarked =
+    let equal : Bool = same (register w.registers t a) (register w.registers t b) in
+    let done : is_refusal (yes_or_no equal) ≡ false = compare_made equal in
+    record {
+      explained = same_explained (sight w) t a b world.sound;
+      log_full = (λ is. absurd (false≢true (sym done ∙ ap is_refusal is)), λ is. absurd is.1);
+      full = (λ is. absurd (false≢true (sym done ∙ ap is_refusal is)), λ is. absurd (false≢true is.0));
+      no_object = (λ is. absurd (false≢true (sym done ∙ ap is_refusal is)), λ is. absurd is);
+      never = compare_plain equal;
+      refused = λ _. refl;
       seen = refl;
       made = sym (add-zero w.made);
       logged = sym (add-zero w.logged);
@@ -265,6 +314,8 @@ value_answered w t reg (Some slot) world unmarked there =
 pub answered : (w : State) (t : ℕ) (cmd : Cmd) → IsWorld w → w.marked ≡ false → IsValid w.config t cmd → IsAnswered w t cmd (outcome w t cmd)
 answered w t (commands.New reg label) world unmarked valid = new_answered w t reg label (w.logged == w.config.log_entries) (w.made == w.config.slots) world unmarked refl refl
 answered w t (commands.Null reg) world unmarked valid = null_answered w t reg unmarked
+answered w t (commands.Copy dst src) world unmarked valid = copy_answered w t dst src unmarked
 answered w t (commands.Get dst src f) world unmarked valid = get_answered w t dst src f (register w.registers t src) unmarked valid.1.2 refl
 answered w t (commands.Put src f val) world unmarked valid = put_answered w t src f val (register w.registers t val) (register w.registers t src) (w.logged == w.config.log_entries) world unmarked valid.0 valid.1.1 refl refl refl
 answered w t (commands.Value reg) world unmarked valid = value_answered w t reg (register w.registers t reg) world unmarked refl
+answered w t (commands.Same a b) world unmarked valid = same_answered w t a b world unmarked

@@ -21,9 +21,11 @@ pub record IsConfig (config : Config) : Type 0 where
 abbrev pub HasOperands : Config → Cmd → Type 0
 HasOperands config (commands.New reg label) = reg < config.registers
 HasOperands config (commands.Null reg) = reg < config.registers
+HasOperands config (commands.Copy dst src) = (dst < config.registers) × (src < config.registers)
 HasOperands config (commands.Get dst src f) = (dst < config.registers) × (src < config.registers) × (f < config.fields)
 HasOperands config (commands.Put src f val) = (src < config.registers) × (f < config.fields) × (val < config.registers)
 HasOperands config (commands.Value reg) = reg < config.registers
+HasOperands config (commands.Same a b) = (a < config.registers) × (b < config.registers)
 
 -- a mutator's number: they are numbered from 1
 abbrev pub IsMutator : Config → ℕ → Type 0

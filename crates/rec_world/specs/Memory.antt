@@ -9,12 +9,13 @@ pub record Cells : Type 0 where
   pub headers : List ℕ
   pub words : List ℕ
 
--- the word that the operation names is there
+-- the word that the operation names is there: a plain heap has no epoch word, no crossing words and no freed word
 abbrev pub IsWithin : Cells → Op → Type 0
 IsWithin cells (LoadField place) = place < length cells.words
 IsWithin cells (SwapField place word) = place < length cells.words
 IsWithin cells (LoadHeader slot) = slot < length cells.headers
 IsWithin cells (ClaimHeader slot label) = slot < length cells.headers
+IsWithin cells _ = ⊥
 
 -- the word that the operation names
 abbrev pub cell : Cells → Op → ℕ
@@ -22,6 +23,7 @@ cell cells (LoadField place) = slice_index_or cells.words place 0
 cell cells (SwapField place word) = slice_index_or cells.words place 0
 cell cells (LoadHeader slot) = slice_index_or cells.headers slot 0
 cell cells (ClaimHeader slot label) = slice_index_or cells.headers slot 0
+cell cells _ = 0
 
 -- with the word that the operation names replaced
 abbrev pub with_cell : Cells → Op → ℕ → Cells
@@ -29,6 +31,7 @@ with_cell cells (LoadField place) x = record cells { words = slice_set cells.wor
 with_cell cells (SwapField place word) x = record cells { words = slice_set cells.words place x }
 with_cell cells (LoadHeader slot) x = record cells { headers = slice_set cells.headers slot x }
 with_cell cells (ClaimHeader slot label) x = record cells { headers = slice_set cells.headers slot x }
+with_cell cells _ x = cells
 
 -- the words of a slot's fields, in order, where each slot has so many
 abbrev pub own_words : ℕ → Cells → ℕ → List ℕ

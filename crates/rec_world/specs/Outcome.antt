@@ -8,7 +8,7 @@ use Rattle.rec_model.specs.declared.command.Cmd.TheVariants as commands
 use Rattle.rec_model.specs.declared.answer.Answer.{Answer}
 use Rattle.rec_model.specs.declared.answer.Answer.TheVariants as answers
 use Rattle.rec_model.specs.declared.told.Told.{Told}
-use Rattle.rec_model.specs.Asking.{null_or_object}
+use Rattle.rec_model.specs.Asking.{null_or_object, same, yes_or_no}
 use Rattle.rec_model.specs.Heap.{register, set_register}
 use Rattle.rec_model.specs.Sight.{word_at}
 use Rattle.rec_world.specs.World.{State, sight}
@@ -73,14 +73,20 @@ abbrev pub value_outcome : State → Option ℕ → Outcome
 value_outcome w None = answers_only w answers.NoObject
 value_outcome w (Some slot) = answers_only w (answers.Value (slice_index_or w.headers slot 0 - 1))
 
+-- a register becomes null, or what another names
+abbrev pub register_outcome : State → (t reg : ℕ) → Option ℕ → Outcome
+register_outcome w t reg x =
+    record {
+      world = record w { registers = set_register w.registers t reg x };
+      told = record { answer = answers.Done; saw = 0; left = 0 };
+    }
+
 -- what a command does
 abbrev pub outcome : State → ℕ → Cmd → Outcome
 outcome w t (commands.New reg label) = new_outcome w t reg label (w.logged == w.config.log_entries) (w.made == w.config.slots)
-outcome w t (commands.Null reg) =
-    record {
-      world = record w { registers = set_register w.registers t reg None };
-      told = record { answer = answers.Done; saw = 0; left = 0 };
-    }
+outcome w t (commands.Null reg) = register_outcome w t reg None
+outcome w t (commands.Copy dst src) = register_outcome w t dst (register w.registers t src)
 outcome w t (commands.Get dst src f) = get_outcome w t dst f (register w.registers t src)
 outcome w t (commands.Put src f val) = put_outcome w t f (register w.registers t val) (register w.registers t src) (w.logged == w.config.log_entries)
 outcome w t (commands.Value reg) = value_outcome w (register w.registers t reg)
+outcome w t (commands.Same a b) = answers_only w (yes_or_no (same (register w.registers t a) (register w.registers t b)))

@@ -90,8 +90,6 @@ is_refusal _ = false
 -- an answer that a plain heap gives
 abbrev pub is_plain : Answer → Bool
 is_plain (answers.Busy before after) = false
-is_plain answers.Yes = false
-is_plain answers.No = false
 is_plain _ = true
 
 -- the log entries that a command made: one for a birth and one for a write
@@ -120,11 +118,13 @@ abbrev pub sight_after_put : Sight → ℕ → Option ℕ → Bool → ℕ → S
 sight_after_put w f (Some slot) true word = sight_with_word w slot f word
 sight_after_put w f _ _ word = w
 
--- What is seen after a command that was told this: a birth takes a slot and a register, a write one field's word, a read
--- or a null one register, and all else stays.
+-- What is seen after a command that was told this: a birth takes a slot and a register, a write one field's word, a read,
+-- a copy or a null one register, and all else stays.
 abbrev pub sight_after : State → ℕ → Cmd → Told → Sight
 sight_after w t (commands.New reg label) told = if is_done told.answer then sight_with_birth (sight w) t reg w.made label else sight w
 sight_after w t (commands.Null reg) told = sight_with_register (sight w) t reg None
+sight_after w t (commands.Copy dst src) told = sight_with_register (sight w) t dst (register w.registers t src)
 sight_after w t (commands.Get dst src f) told = sight_after_get (sight w) t dst (register w.registers t src) (target_of told.saw)
 sight_after w t (commands.Put src f val) told = sight_after_put (sight w) f (register w.registers t src) (is_done told.answer) told.left
 sight_after w t (commands.Value reg) told = sight w
+sight_after w t (commands.Same a b) told = sight w

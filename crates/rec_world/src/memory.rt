@@ -54,6 +54,8 @@ impl Memory {
                 *header = op.written(found);
                 found
             }
+            // A plain heap has none of these words.
+            Op::LoadEpoch | Op::LoadCross(_) | Op::LoadFreed => 0,
         }
     }
 

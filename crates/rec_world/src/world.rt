@@ -207,12 +207,14 @@ impl World {
     {
         match *cmd {
             Cmd::New { reg, .. } | Cmd::Null { reg } | Cmd::Value { reg } => self.has_register(reg),
+            Cmd::Copy { dst, src } => self.has_register(dst) && self.has_register(src),
             Cmd::Get { dst, src, field } => {
                 self.has_register(dst) && self.has_register(src) && self.has_field(field)
             }
             Cmd::Put { src, field, val } => {
                 self.has_register(src) && self.has_field(field) && self.has_register(val)
             }
+            Cmd::Same { a, b } => self.has_register(a) && self.has_register(b),
         }
     }
 
@@ -244,9 +246,11 @@ impl World {
         match cmd {
             Cmd::New { reg, label } => self.new_object(t, reg, label),
             Cmd::Null { reg } => self.null(t, reg),
+            Cmd::Copy { dst, src } => self.copy(t, dst, src),
             Cmd::Get { dst, src, field } => self.get(t, dst, src, field),
             Cmd::Put { src, field, val } => self.put(t, src, field, val),
             Cmd::Value { reg } => self.value(t, reg),
+            Cmd::Same { a, b } => self.same(t, a, b),
         }
     }
 
@@ -278,6 +282,17 @@ impl World {
         ensures told { result ≡ (outcome self.old t (Cmd.Null reg)).told }
     {
         self.registers[usize::from(reg)] = None;
+        only(Answer::Done)
+    }
+
+    fn copy(&mut self, t: u8, dst: u8, src: u8) -> Told
+        requires valid { IsValid self.old.config t (Cmd.Copy dst src) }
+
+        ensures world { self.new ≡ (outcome self.old t (Cmd.Copy dst src)).world }
+        ensures told { result ≡ (outcome self.old t (Cmd.Copy dst src)).told }
+    {
+        let named = self.register(t, src);
+        self.registers[usize::from(dst)] = named;
         only(Answer::Done)
     }
 
@@ -339,6 +354,16 @@ impl World {
         };
         let header = self.memory.perform(Op::LoadHeader(slot));
         only(Answer::Value((header - 1) as u32))
+    }
+
+    fn same(&mut self, t: u8, a: u8, b: u8) -> Told
+        requires valid { IsValid self.old.config t (Cmd.Same a b) }
+
+        ensures world { self.new ≡ (outcome self.old t (Cmd.Same a b)).world }
+        ensures told { result ≡ (outcome self.old t (Cmd.Same a b)).told }
+    {
+        let equal = self.register(t, a) == self.register(t, b);
+        only(if equal { Answer::Yes } else { Answer::No })
     }
 
     // The word that leads to this, with the stamp of the next log entry.

@@ -2,7 +2,7 @@
 use Rattle.std.proofs.Common.{◌≡◌, ℕ, ◌+◌, ◌*◌, ◌^◌, ◌<◌, ◌≤◌, List, [], ◌∷◌, ◌++◌, get_or, Some, None, refl, sym, ap, ◌∙◌, arith}
 use Rattle.std.specs.Prelude.{◌≢◌, codes}
 use Rattle.rec_model.specs.declared.command.Cmd.{Cmd}
-use Rattle.rec_model.specs.declared.command.Cmd.TheVariants.{New, Null, Get, Put, Value}
+use Rattle.rec_model.specs.declared.command.Cmd.TheVariants.{New, Null, Copy, Get, Put, Value, Same}
 use Rattle.recycler.specs.Reading.{operands_at}
 use Rattle.recycler.specs.Script.{IsCommand, line, command_line}
 use Rattle.recycler.proofs.Operands.{AreLimits, AreBelow, operands_sound, operands_only, same_operands, line_found}
@@ -97,6 +97,8 @@ same_command registers fields (Null reg) (Null reg') x y h f g e =
     let same = same_operands (registers ∷ []) (reg ∷ []) (reg' ∷ []) x y (register_limits registers fields h) (f, tt) (g, tt) (cc) in
     let all : reg ∷ [] ≡ reg' ∷ [] = same.0 in
     (cc, same.1)
+same_command registers fields (Copy dst src) b x y h f g e = absurd f
+same_command registers fields (Same m n) b x y h f g e = absurd f
 same_command registers fields (Get dst src field) (Get dst' src' field') x y h f g e =
     let same = same_operands (registers ∷ registers ∷ fields ∷ []) (dst ∷ src ∷ field ∷ []) (dst' ∷ src' ∷ field' ∷ []) x y (get_limits registers fields h) (f.0, (f.1, (f.2, tt))) (g.0, (g.1, (g.2, tt))) (cc) in
     let all : dst ∷ src ∷ field ∷ [] ≡ dst' ∷ src' ∷ field' ∷ [] = same.0 in

@@ -4,7 +4,7 @@ use Rattle.std.specs.List.{flat_map, AllByRecursion}
 use Rattle.std.proofs.lemmas.List.{append-nil, flat_map_more}
 use Rattle.std.proofs.lemmas.List.Elements.{recursion_from_All, All-push}
 use Rattle.rec_model.specs.declared.command.Cmd.{Cmd}
-use Rattle.rec_model.specs.declared.command.Cmd.TheVariants.{New, Null, Get, Put, Value}
+use Rattle.rec_model.specs.declared.command.Cmd.TheVariants.{New, Null, Copy, Get, Put, Value, Same}
 use Rattle.recycler.specs.Script.{IsCommand, AreCommands, command_line}
 use Rattle.recycler.proofs.CommandLines.{AreNumbers, NoCommand, same_command}
 
@@ -16,9 +16,11 @@ lines cmds = flat_map command_line cmds
 some_line : (cmd : Cmd) (x : List ℕ) → command_line cmd ++ x ≢ []
 some_line (New reg label) x e = absurd (cc)
 some_line (Null reg) x e = absurd (cc)
+some_line (Copy dst src) x e = absurd (cc)
 some_line (Get dst src field) x e = absurd (cc)
 some_line (Put src field val) x e = absurd (cc)
 some_line (Value reg) x e = absurd (cc)
+some_line (Same a b) x e = absurd (cc)
 
 -- what follows the commands that were read
 pub record Follows (registers fields : ℕ) (done : List Cmd) (rest : List ℕ) (all : List Cmd) : Type 0 where

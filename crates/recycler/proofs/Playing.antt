@@ -68,9 +68,11 @@ births_at : (fields : ℕ) (heap : Heap) (t : ℕ) (cmd : Cmd) (made : Bool) (le
 births_at fields heap t (commands.New reg label) true left = length_push heap.objects (born fields label)
 births_at fields heap t (commands.New reg label) false left = omega arith
 births_at fields heap t (commands.Null reg) made left = omega arith
+births_at fields heap t (commands.Copy dst src) made left = omega arith
 births_at fields heap t (commands.Get dst src f) made left = got_births heap t dst f (register heap.registers t src)
 births_at fields heap t (commands.Put src f val) made left = put_births heap f (register heap.registers t val) made left (register heap.registers t src)
 births_at fields heap t (commands.Value reg) made left = omega arith
+births_at fields heap t (commands.Same a b) made left = omega arith
 
 births : (fields : ℕ) (heap : Heap) (t : ℕ) (cmd : Cmd) (told : Told) → length (asked fields heap t cmd told).heap.objects ≡ length heap.objects + (if is_birth (cmd, told) then 1 else 0)
 births fields heap t cmd told = births_at fields heap t cmd (is_done told.answer) told.left

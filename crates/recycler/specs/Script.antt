@@ -3,7 +3,7 @@ use Rattle.std.specs.Prelude.{◌≡◌, ℕ, ◌<◌, ◌≤◌, ◌^◌, List,
 use Rattle.std.specs.Fmt.{decimal}
 use Rattle.std.specs.List.{flat_map}
 use Rattle.rec_model.specs.declared.command.Cmd.{Cmd}
-use Rattle.rec_model.specs.declared.command.Cmd.TheVariants.{New, Null, Get, Put, Value}
+use Rattle.rec_model.specs.declared.command.Cmd.TheVariants.{New, Null, Copy, Get, Put, Value, Same}
 use Rattle.recycler.specs.declared.script.error.Kind.{Kind}
 use Rattle.recycler.specs.declared.script.error.Kind.TheVariants.{NotBuilt}
 
@@ -14,13 +14,15 @@ pub record Contents : Type 0 where
   pub registers : ℕ
   pub commands : List (List Cmd)
 
--- the operands of a command are in range
+-- the operands of a command are in range; `copy` and `same` are no commands of a script yet
 abbrev pub IsCommand : (registers fields : ℕ) → Cmd → Type 0
 IsCommand registers fields (New reg label) = (reg < registers) × (label < 2 ^ 32)
 IsCommand registers fields (Null reg) = reg < registers
+IsCommand registers fields (Copy dst src) = ⊥
 IsCommand registers fields (Get dst src field) = (dst < registers) × (src < registers) × (field < fields)
 IsCommand registers fields (Put src field val) = (src < registers) × (field < fields) × (val < registers)
 IsCommand registers fields (Value reg) = reg < registers
+IsCommand registers fields (Same a b) = ⊥
 
 -- the limits of a heap
 pub record IsHeap (slots fields registers : ℕ) : Type 0 where
@@ -54,9 +56,11 @@ line word numbers = word ++ operands numbers
 abbrev pub command_line : Cmd → List ℕ
 command_line (New reg label) = line (codes "new") (reg ∷ label ∷ [])
 command_line (Null reg) = line (codes "null") (reg ∷ [])
+command_line (Copy dst src) = line (codes "copy") (dst ∷ src ∷ [])
 command_line (Get dst src field) = line (codes "get") (dst ∷ src ∷ field ∷ [])
 command_line (Put src field val) = line (codes "put") (src ∷ field ∷ val ∷ [])
 command_line (Value reg) = line (codes "value") (reg ∷ [])
+command_line (Same a b) = line (codes "same") (a ∷ b ∷ [])
 
 -- the two lines above the first mutator
 abbrev pub heap_lines : (slots fields registers : ℕ) → List ℕ

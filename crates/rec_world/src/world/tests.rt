@@ -74,6 +74,9 @@ fn each_command(rt: HostRuntime) -> Result<(), Fail> {
             0,
             word,
         ),
+        (Cmd::Same { a: 0, b: 1 }, Answer::No, 0, 0),
+        (Cmd::Copy { dst: 1, src: 0 }, Answer::Done, 0, 0),
+        (Cmd::Same { a: 0, b: 1 }, Answer::Yes, 0, 0),
         (Cmd::Null { reg: 1 }, Answer::Done, 0, 0),
         (Cmd::Value { reg: 1 }, Answer::NoObject, 0, 0),
         (

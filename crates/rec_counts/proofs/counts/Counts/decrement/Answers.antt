@@ -1,0 +1,38 @@
+use Rattle.std.proofs.Common.{◌≡◌, ◌<◌, length, get_or, arith, sym, ◌∙◌, ap}
+use Rattle.std.proofs.lemmas.List.{get_or_read, length-set}
+use Rattle.rec_counts.specs.declared.slot.Slot.{Slot}
+use Rattle.rec_counts.specs.Slot.{absent}
+use Rattle.rec_counts.proofs.Keeping.{root_room}
+use Rattle.rec_counts.proofs.Lessening.{to_zeros, to_roots, keep_zero, keep_root, new_zero, room_kept}
+use Rattle.rec_counts.proofs.Times.{room_once}
+use Rattle.rec_counts.proofs.counts.Counts.decrement.Goals as goal
+
+pub push-requires : goal.push-requires
+push-requires c =
+    let l : c.args.slot < length c.self.inside.slots.items = rw (← c.self.view_is) at c.requires.in_range in
+    let e : c.index_mut.result.now ≡ get_or c.self.inside.slots.items c.args.slot absent = get_or_read _ _ _ l c.index_mut.ensures.value absent in
+    let t = to_zeros c.index_mut.result.now (sym c.lessen.ensures.due ∙ c.in-Zero.is) in
+    let n = new_zero c.args.slot c.self.inside.zeros.list t e (rw (← c.self.view_is) at c.requires.new_zero) in
+    omega (arith, room_once _ _ _ c.self.invariant.0.zeros_once n l, c.self.invariant.1.zeros_room)
+
+pub invariant_of-self-in-Zero : goal.invariant_of-self-in-Zero
+invariant_of-self-in-Zero c =
+    let l : c.args.slot < length c.self.inside.slots.items = rw (← c.self.view_is) at c.requires.in_range in
+    let e : c.index_mut.result.now ≡ get_or c.self.inside.slots.items c.args.slot absent = get_or_read _ _ _ l c.index_mut.ensures.value absent in
+    let t = to_zeros c.index_mut.result.now (sym c.lessen.ensures.due ∙ c.in-Zero.is) in
+    let n = new_zero c.args.slot c.self.inside.zeros.list t e (rw (← c.self.view_is) at c.requires.new_zero) in
+    rw (c.push.ensures, c.lessen.ensures.after) (keep_zero c.self.invariant.0 c.args.slot _ l t e n, room_kept c.self.invariant.1 (length-set c.self.inside.slots.items c.args.slot _))
+
+pub push-requires-in-Root : goal.push-requires-in-Root
+push-requires-in-Root c =
+    let l : c.args.slot < length c.self.inside.slots.items = rw (← c.self.view_is) at c.requires.in_range in
+    let e : c.index_mut.result.now ≡ get_or c.self.inside.slots.items c.args.slot absent = get_or_read _ _ _ l c.index_mut.ensures.value absent in
+    let t = to_roots c.index_mut.result.now (sym c.lessen.ensures.due ∙ c.in-Root.is) in
+    omega (arith, root_room c.self.invariant.0 c.args.slot l (ap (λ (w : Slot). w.buffered) (sym e) ∙ t.unbuffered), c.self.invariant.1.roots_room)
+
+pub invariant_of-self-in-Root : goal.invariant_of-self-in-Root
+invariant_of-self-in-Root c =
+    let l : c.args.slot < length c.self.inside.slots.items = rw (← c.self.view_is) at c.requires.in_range in
+    let e : c.index_mut.result.now ≡ get_or c.self.inside.slots.items c.args.slot absent = get_or_read _ _ _ l c.index_mut.ensures.value absent in
+    let t = to_roots c.index_mut.result.now (sym c.lessen.ensures.due ∙ c.in-Root.is) in
+    rw (c.push-in-Root.ensures, c.lessen.ensures.after) (keep_root c.self.invariant.0 c.args.slot _ l t e, room_kept c.self.invariant.1 (length-set c.self.inside.slots.items c.args.slot _))

@@ -1,0 +1,6 @@
+pub mod Counts
+pub mod Groups
+pub mod Kept
+pub mod Lists
+pub mod Shelf
+pub mod Slot

@@ -1,0 +1,16 @@
+//! Slots that leave their buffer together.
+ghost use Rattle.std.specs.Prelude.{◌≡◌, ℕ, nat_lt, length, slice_index_or as item_at};
+ghost use Rattle.rec_counts.specs.Lists.{EachOnce, times};
+ghost use Rattle.rec_counts.specs.Slot.{absent, unbuffered_if};
+
+use crate::slot::Slot;
+
+/// Takes the members out of their buffer.
+pub(crate) fn unbuffer(slots: &mut [Slot], members: &[u16])
+    requires { EachOnce (length slots.old) members.now }
+    ensures { (x : ℕ) → item_at slots.new x absent ≡ unbuffered_if (nat_lt 0 (times x members.now)) (item_at slots.old x absent) }
+{
+    for slot in members {
+        slots[*slot as usize].leave();
+    }
+}

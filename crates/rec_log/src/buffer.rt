@@ -1,0 +1,99 @@
+ghost use Rattle.std.specs.Prelude.{◌≡◌, ◌≤◌, ◌↔◌, ◌∷◌, ◌++◌, [], length, replicate, IsTrue, IfOk, OnOk, OnErr, IsErr};
+
+use crate::{Entry, Full};
+use std::alloc::{AllocError as NoMemory, Global};
+use std::marker::Model;
+
+/// The log of a mutator. Its memory is taken when it is opened.
+#[derive(Debug, Drop)]
+pub struct Buffer {
+    entries: Vec<Entry>,
+    snapshot: Vec<Option<u16>>,
+    capacity: u32,
+}
+
+impl Model for Buffer {
+    ghost use Rattle.rec_log.specs.declared.contents.Contents.{Contents};
+
+    ghost Value = { Contents };
+
+    ghost use Rattle.rec_log.specs.Buffer.{contents, IsRoomy};
+
+    ghost view = { contents };
+
+    ghost invariant = { IsRoomy };
+}
+
+impl Buffer {
+    /// An empty buffer for `cap` entries, with a null snapshot of `regs` registers.
+    pub fn open(alloc: Global, cap: u32, regs: u8) -> Result<Buffer, NoMemory>
+        ensures { IfOk result (λ buffer. buffer ≡ record { entries = []; snapshot = replicate regs None; capacity = cap }) }
+    {
+        Ok(Buffer {
+            entries: Vec::with_capacity(alloc, cap as usize)?,
+            snapshot: vec![in alloc; None; usize::from(regs)]?,
+            capacity: cap,
+        })
+    }
+
+    /// Adds an entry at the end.
+    pub fn push(&mut self, entry: Entry) -> Result<(), Full>
+        ensures full { IsErr result ↔ (length self.old.entries ≡ self.old.capacity) }
+        ensures ok { OnOk result (self.new ≡ record self.old { entries = self.old.entries ++ entry ∷ [] }) }
+        ensures err { OnErr result (self.new ≡ self.old) }
+    {
+        if self.is_full() {
+            return Err(Full);
+        }
+        self.entries.push_reserved(entry);
+        Ok(())
+    }
+
+    /// Whether the buffer is at its capacity.
+    pub fn is_full(&self) -> bool
+        ensures full { IsTrue result ↔ (length self.now.entries ≡ self.now.capacity) }
+        ensures within { length self.now.entries ≤ self.now.capacity }
+    {
+        self.entries.len() == self.capacity as usize
+    }
+
+    /// The entries so far, in order.
+    pub fn entries(&self) -> &[Entry]
+        ensures entries { result.now ≡ self.now.entries }
+        ensures within { length self.now.entries ≤ self.now.capacity }
+    {
+        self.entries.as_slice()
+    }
+
+    /// What the registers named when the buffer was retired; all null before.
+    pub fn snapshot(&self) -> &[Option<u16>]
+        ensures { result.now ≡ self.now.snapshot }
+    {
+        self.snapshot.as_slice()
+    }
+}
+
+#[cfg(test)]
+mod tests {
+    use super::*;
+    use std::test::Fail;
+
+    #[test]
+    fn keeps_its_entries(rt: HostRuntime) -> Result<(), Fail> {
+        let put = Entry::Put {
+            place: 7,
+            new: 2,
+            old: 1,
+        };
+        let born = Entry::Born { slot: 3 };
+        let mut buffer = Buffer::open(rt.alloc(), 2, 1)?;
+        assert!(rt; !buffer.is_full());
+        assert_eq!(rt; buffer.push(put), Ok(()));
+        assert_eq!(rt; buffer.push(born), Ok(()));
+        assert!(rt; buffer.is_full());
+        assert_eq!(rt; buffer.push(put), Err(Full));
+        assert_eq!(rt; buffer.entries(), [put, born].as_slice());
+        assert_eq!(rt; buffer.snapshot(), [None].as_slice());
+        Ok(())
+    }
+}

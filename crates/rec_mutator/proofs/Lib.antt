@@ -1,0 +1,5 @@
+pub mod Found
+pub mod Refusals
+pub mod Sizes
+pub mod Steps
+pub mod Words

@@ -1,0 +1,202 @@
+-- Each refusal has its cause, rule by rule.
+use Rattle.std.proofs.Common.{◌≡◌, ℕ, ◌<◌, Bool, true, false, Option, None, Some, List, length, refl, sym, ap, subst, ◌∙◌, arith}
+use Rattle.std.proofs.lemmas.Bool.{false≢true}
+use Rattle.rec_word.specs.Word.{target_of}
+use Rattle.rec_word.specs.declared.op.Op.{Op}
+use Rattle.rec_model.specs.declared.answer.Answer.{Answer}
+use Rattle.rec_model.specs.declared.answer.Answer.TheVariants as answers
+use Rattle.rec_model.specs.declared.command.Cmd.{Cmd}
+use Rattle.rec_model.specs.declared.command.Cmd.TheVariants as commands
+use Rattle.rec_model.specs.declared.told.Told.{Told}
+use Rattle.rec_model.specs.Asking.{null_or_object, same, yes_or_no}
+use Rattle.rec_log.specs.declared.entry.Entry.{Entry}
+use Rattle.rec_mutator.specs.Causes.{AnswersBy, is_refusal, LacksObject, MakesEntry, FoundNoneAt, FoundNone, HasCause}
+use Rattle.rec_mutator.specs.Private.{Private, register, work_of, work_at, answer_of, answer_at, IsAt, IsScan, IsMachine}
+use Rattle.rec_mutator.specs.Took.{took_of}
+use Rattle.rec_mutator.specs.Step.{Step, Decides, GoesOn, IsLogFull, IsStill}
+use Rattle.rec_mutator.specs.declared.made.Made.{Made}
+use Rattle.rec_mutator.specs.declared.made.Made.TheVariants as makes
+use Rattle.rec_mutator.specs.declared.phase.Phase.{Phase}
+use Rattle.rec_mutator.specs.declared.phase.Phase.TheVariants.{Scanned}
+use Rattle.rec_mutator.specs.declared.work.Work.{Work}
+use Rattle.rec_mutator.specs.declared.work.Work.TheVariants as works
+use Rattle.rec_mutator.proofs.Steps.{step_made}
+
+-- one answer in two results
+same_told : (s t : Told) → ◌≡◌ {A = Option Made} (Some (makes.Answered s)) (Some (makes.Answered t)) → s ≡ t
+same_told s t is = cc
+
+-- one command in two works
+same_command : (c d : Cmd) → ◌≡◌ {A = Option Work} (Some (works.Command c)) (Some (works.Command d)) → c ≡ d
+same_command c d is = cc
+
+-- what a step decides has its cause, if the answer that it decides has
+decided : {p : Private} {op : Op} {q : Private} {its_cmd : Cmd} {at : Phase} {its_op : Op} {registers : List (Option ℕ)} {entries : List Entry} {its_told : Told} (word : ℕ) (cmd : Cmd) (told : Told)
+    → work_at at ≡ Some (works.Command its_cmd) → work_of p ≡ Some (works.Command cmd) → answer_of q ≡ Some (makes.Answered told)
+    → (d : Decides p op q its_cmd at its_op registers entries its_told) → HasCause p q its_cmd word its_told.answer → HasCause p q cmd word told.answer
+decided {p = p} {q = q} {its_cmd = its_cmd} {at = at} {its_told = its_told} word cmd told at_work work answer d cause =
+    let cmds : its_cmd ≡ cmd = same_command its_cmd cmd (sym at_work ∙ sym (ap work_at d.phase) ∙ work) in
+    let tolds : its_told ≡ told = same_told its_told told (sym (ap answer_of d.after) ∙ answer) in
+    subst (λ (c : Cmd). HasCause p q c word told.answer) cmds (subst (λ (t : Told). HasCause p q its_cmd word t.answer) tolds cause)
+
+-- a step that goes on answers nothing
+goes_on : {p : Private} {op : Op} {q : Private} {at : Phase} {its_op : Op} {next_phase : Phase} (told : Told)
+    → answer_at next_phase ≡ None → answer_of q ≡ Some (makes.Answered told) → GoesOn p op q at its_op next_phase → ⊥
+goes_on told none answer g =
+    let not_so : ◌≡◌ {A = Option Made} None (Some (makes.Answered told)) = sym none ∙ sym (ap answer_of g.after) ∙ answer in
+    (cc)
+
+-- the registers and the log stay
+stays : {p : Private} {op : Op} {q : Private} {cmd : Cmd} {at : Phase} {its_op : Op} {told : Told}
+    → Decides p op q cmd at its_op p.registers p.log.entries told → (q.registers ≡ p.registers) × (q.log ≡ p.log)
+stays d = (ap (λ (x : Private). x.registers) d.after, ap (λ (x : Private). x.log) d.after)
+
+-- no scan ended
+not_scanned : (p : Private) (at : Phase) → p.phase ≡ at → ((before : ℕ) → FoundNoneAt at before → ⊥) → (before : ℕ) → FoundNone p before → ⊥
+not_scanned p at is none before found = none before (subst (λ x. FoundNoneAt x before) is found)
+
+-- an answer that is no refusal
+plain_cause : (p q : Private) (cmd : Cmd) (word : ℕ) (answer : Answer) → is_refusal answer ≡ false
+    → (LacksObject p cmd → ⊥) → (IsLogFull p × MakesEntry p cmd → ⊥) → ((before : ℕ) → FoundNone p before → ⊥) → HasCause p q cmd word answer
+plain_cause p q cmd word answer not_so some room none =
+    record {
+      no_object = (λ is. absurd (false≢true (sym not_so ∙ ap is_refusal is)), λ is. absurd (some is));
+      log_full = (λ is. absurd (false≢true (sym not_so ∙ ap is_refusal is)), λ is. absurd (room is));
+      full = (λ is. absurd (false≢true (sym not_so ∙ ap is_refusal is)), λ is. absurd (none is.0 is.1));
+      busy = λ before after. (λ is. absurd (false≢true (sym not_so ∙ ap is_refusal is)), λ is. absurd (none before is.0));
+      refused = λ is. absurd (false≢true (sym not_so ∙ is));
+    }
+
+-- the refusal of a command whose register is null
+lacking_cause : (p q : Private) (cmd : Cmd) (word : ℕ) → (q.registers ≡ p.registers) × (q.log ≡ p.log) → LacksObject p cmd → (MakesEntry p cmd → ⊥) → ((before : ℕ) → FoundNone p before → ⊥)
+    → HasCause p q cmd word answers.NoObject
+lacking_cause p q cmd word kept lacks no_entry none =
+    record {
+      no_object = (λ _. lacks, λ _. refl);
+      log_full = (λ is. cc, λ is. absurd (no_entry is.1));
+      full = (λ is. cc, λ is. absurd (none is.0 is.1));
+      busy = λ before after. (λ is. cc, λ is. absurd (none before is.0));
+      refused = λ _. kept;
+    }
+
+-- the refusal of a command whose entry finds no room
+full_log_cause : (p q : Private) (cmd : Cmd) (word : ℕ) → (q.registers ≡ p.registers) × (q.log ≡ p.log) → IsLogFull p → MakesEntry p cmd → (LacksObject p cmd → ⊥) → ((before : ℕ) → FoundNone p before → ⊥)
+    → HasCause p q cmd word answers.LogFull
+full_log_cause p q cmd word kept full entry some none =
+    record {
+      no_object = (λ is. cc, λ is. absurd (some is));
+      log_full = (λ _. (full, entry), λ _. refl);
+      full = (λ is. cc, λ is. absurd (none is.0 is.1));
+      busy = λ before after. (λ is. cc, λ is. absurd (none before is.0));
+      refused = λ _. kept;
+    }
+
+-- a log that has room isn't full
+has_room : (p : Private) (reg : ℕ) → IsScan p reg → IsLogFull p → ⊥
+has_room p reg scan full = let room : length p.log.entries < p.log.capacity = scan.room in omega arith
+
+-- what holds in the phase of a machine
+at_phase : (p : Private) (at : Phase) → IsMachine p → p.phase ≡ at → IsAt p at
+at_phase p at kept is = subst (IsAt p) is kept.now
+
+-- the freed word stays the same along an equation
+still_along : (m n word : ℕ) → m ≡ n → IsStill m word → IsStill n word
+still_along m n word is still = subst (λ k. IsStill k word) is still
+
+-- a scan that found every slot taken, with no sweep
+full_cause : (p q : Private) (reg label before word : ℕ) → (q.registers ≡ p.registers) × (q.log ≡ p.log) → (IsLogFull p → ⊥) → p.phase ≡ Scanned reg label before → IsStill before word
+    → HasCause p q (commands.New reg label) word answers.Full
+full_cause p q reg label before word kept room is still =
+    record {
+      no_object = (λ e. cc, λ e. absurd e);
+      log_full = (λ e. cc, λ e. absurd (room e.0));
+      full = (λ _. (before, subst (λ x. FoundNoneAt x before) (sym is) refl, still), λ _. refl);
+      busy = λ first after. (λ e. cc, λ e. absurd (e.2 (still_along before first word (subst (λ x. FoundNoneAt x first) is e.0) still)));
+      refused = λ _. kept;
+    }
+
+-- the parts of a busy answer
+busy_parts : (m n k l : ℕ) → answers.Busy m n ≡ answers.Busy k l → (m ≡ k) × (n ≡ l)
+busy_parts m n k l is = let first : m ≡ k = cc in let second : n ≡ l = cc in (first, second)
+
+-- a scan that found every slot taken, while a sweep ran, began or ended
+busy_cause : (p q : Private) (reg label before word : ℕ) → (q.registers ≡ p.registers) × (q.log ≡ p.log) → (IsLogFull p → ⊥) → p.phase ≡ Scanned reg label before → (IsStill before word → ⊥)
+    → HasCause p q (commands.New reg label) word (answers.Busy before word)
+busy_cause p q reg label before word kept room is moves =
+    record {
+      no_object = (λ e. cc, λ e. absurd e);
+      log_full = (λ e. cc, λ e. absurd (room e.0));
+      full = (λ e. cc, λ e. absurd (moves (still_along e.0 before word (sym (subst (λ x. FoundNoneAt x e.0) is e.1)) e.2)));
+      busy = λ first after. (
+        λ e.
+            let parts : (before ≡ first) × (word ≡ after) = busy_parts before word first after e in
+            (subst (λ x. FoundNoneAt x first) (sym is) parts.0, sym parts.1, λ still. moves (still_along first before word (sym parts.0) still)),
+        λ e.
+            let begin : before ≡ first = subst (λ x. FoundNoneAt x first) is e.0 in
+            let end : word ≡ after = sym e.1 in
+            (cc),
+      );
+      refused = λ _. kept;
+    }
+
+-- an answer of a read is no refusal
+read_plain : (x : Option ℕ) → is_refusal (null_or_object x) ≡ false
+read_plain None = refl
+read_plain (Some slot) = refl
+
+-- nor is one of a comparison
+compare_plain : (b : Bool) → is_refusal (yes_or_no b) ≡ false
+compare_plain true = refl
+compare_plain false = refl
+
+-- a register isn't null and an object at once
+not_both : (x : Option ℕ) (slot : ℕ) → x ≡ Some slot → x ≡ None → ⊥
+not_both x slot some none = cc
+
+-- every step that answers has its cause
+step_cause : {p : Private} {word : ℕ} {op : Op} {q : Private} (cmd : Cmd) (told : Told) → IsMachine p → work_of p ≡ Some (works.Command cmd) → answer_of q ≡ Some (makes.Answered told)
+    → Step p word op q → HasCause p q cmd word told.answer
+step_cause {p = p} {word = word} {q = q} cmd told kept work answer (Step.null reg d) =
+    decided word cmd told refl work answer d (plain_cause p q (commands.Null reg) word answers.Done refl (λ e. e) (λ e. e.1) (not_scanned p _ d.phase (λ _ e. e)))
+step_cause {p = p} {word = word} {q = q} cmd told kept work answer (Step.copy dst src d) =
+    decided word cmd told refl work answer d (plain_cause p q (commands.Copy dst src) word answers.Done refl (λ e. e) (λ e. e.1) (not_scanned p _ d.phase (λ _ e. e)))
+step_cause {p = p} {word = word} {q = q} cmd told kept work answer (Step.compare a b d) =
+    decided word cmd told refl work answer d
+    (plain_cause p q (commands.Same a b) word (yes_or_no (same (register p a) (register p b))) (compare_plain (same (register p a) (register p b))) (λ e. e) (λ e. e.1) (not_scanned p _ d.phase (λ _ e. e)))
+step_cause {p = p} {word = word} {q = q} cmd told kept work answer (Step.get_of_null dst src f names d) =
+    decided word cmd told refl work answer d (lacking_cause p q (commands.Get dst src f) word (stays d) names (λ e. e) (not_scanned p _ d.phase (λ _ e. e)))
+step_cause {p = p} {word = word} {q = q} cmd told kept work answer (Step.get dst src f slot names d) =
+    decided word cmd told refl work answer d
+    (plain_cause p q (commands.Get dst src f) word (null_or_object (target_of word)) (read_plain (target_of word)) (not_both (register p src) slot names) (λ e. e.1) (not_scanned p _ d.phase (λ _ e. e)))
+step_cause {p = p} {word = word} {q = q} cmd told kept work answer (Step.put_of_null src f val names d) =
+    decided word cmd told refl work answer d (lacking_cause p q (commands.Put src f val) word (stays d) names (λ e. not_both (register p src) e.0 e.1 names) (not_scanned p _ d.phase (λ _ e. e)))
+step_cause {p = p} {word = word} {q = q} cmd told kept work answer (Step.put_refused src f val slot names full d) =
+    decided word cmd told refl work answer d
+    (full_log_cause p q (commands.Put src f val) word (stays d) full (slot, names) (not_both (register p src) slot names) (not_scanned p _ d.phase (λ _ e. e)))
+step_cause {p = p} {word = word} {q = q} cmd told kept work answer (Step.put src f val slot names room d) =
+    decided word cmd told refl work answer d
+    (plain_cause p q (commands.Put src f val) word answers.Done refl (not_both (register p src) slot names) (λ e. room e.0) (not_scanned p _ d.phase (λ _ e. e)))
+step_cause {p = p} {word = word} {q = q} cmd told kept work answer (Step.value_of_null reg names d) =
+    decided word cmd told refl work answer d (lacking_cause p q (commands.Value reg) word (stays d) names (λ e. e) (not_scanned p _ d.phase (λ _ e. e)))
+step_cause {p = p} {word = word} {q = q} cmd told kept work answer (Step.value reg slot names d) =
+    decided word cmd told refl work answer d
+    (plain_cause p q (commands.Value reg) word _ refl (not_both (register p reg) slot names) (λ e. e.1) (not_scanned p _ d.phase (λ _ e. e)))
+step_cause {p = p} {word = word} {q = q} cmd told kept work answer (Step.new_refused reg label full d) =
+    decided word cmd told refl work answer d (full_log_cause p q (commands.New reg label) word (stays d) full tt (λ e. e) (not_scanned p _ d.phase (λ _ e. e)))
+step_cause cmd told kept work answer (Step.new_begins reg label room g) = absurd (goes_on told refl answer g)
+step_cause {p = p} {word = word} {q = q} cmd told kept work answer (Step.new_wins reg label before slot free d) =
+    decided word cmd told refl work answer d
+    (plain_cause p q (commands.New reg label) word answers.Done refl (λ e. e) (λ e. has_room p reg (at_phase p _ kept d.phase).0 e.0) (not_scanned p _ d.phase (λ _ e. e)))
+step_cause cmd told kept work answer (Step.new_goes_on reg label before slot taken more g) = absurd (goes_on told refl answer g)
+step_cause cmd told kept work answer (Step.new_finds_none reg label before slot taken last g) = absurd (goes_on told refl answer g)
+step_cause {p = p} {word = word} {q = q} cmd told kept work answer (Step.new_is_full reg label before still d) =
+    decided word cmd told refl work answer d (full_cause p q reg label before word (stays d) (has_room p reg (at_phase p _ kept d.phase).0) d.phase still)
+step_cause {p = p} {word = word} {q = q} cmd told kept work answer (Step.new_is_busy reg label before moves d) =
+    decided word cmd told refl work answer d (busy_cause p q reg label before word (stays d) (has_room p reg (at_phase p _ kept d.phase).0) d.phase moves)
+step_cause cmd told kept work answer (Step.poll g) =
+    let not_so : ◌≡◌ {A = Option Made} (Some (makes.Crossed None)) (Some (makes.Answered told)) = sym (ap answer_of g.after) ∙ answer in
+    (cc)
+
+-- every answer has its cause
+pub answer_cause : (p : Private) (word : ℕ) (cmd : Cmd) (told : Told) → IsMachine p → AnswersBy p word cmd told → HasCause p (took_of p word) cmd word told.answer
+answer_cause p word cmd told kept by = step_cause cmd told kept by.work by.answer (step_made p word by.busy)

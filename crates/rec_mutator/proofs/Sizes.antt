@@ -1,0 +1,64 @@
+-- No step changes the numbers of a machine, how many registers it has, what its log can hold, or which work was begun.
+use Rattle.std.proofs.Common.{◌≡◌, ℕ, Option, Some, List, true, length, refl, sym, ap, subst, ◌∙◌}
+use Rattle.std.proofs.lemmas.List.{length-set}
+use Rattle.rec_word.specs.declared.op.Op.{Op}
+use Rattle.rec_model.specs.declared.command.Cmd.{Cmd}
+use Rattle.rec_model.specs.declared.told.Told.{Told}
+use Rattle.rec_log.specs.declared.entry.Entry.{Entry}
+use Rattle.rec_mutator.specs.Private.{Private, KeepsSizes, is_busy, is_busy_at, work_of, work_at}
+use Rattle.rec_mutator.specs.Took.{took_of, took_at, begun_by}
+use Rattle.rec_mutator.specs.Step.{Step, Decides, GoesOn}
+use Rattle.rec_mutator.specs.declared.phase.Phase.{Phase}
+use Rattle.rec_mutator.specs.declared.phase.Phase.TheVariants.{Begun}
+use Rattle.rec_mutator.specs.declared.work.Work.{Work}
+use Rattle.rec_mutator.specs.declared.work.Work.TheVariants as works
+use Rattle.rec_mutator.proofs.Steps.{step_made}
+
+-- an answer keeps them, if it leaves as many registers, and the work, if it is the command's
+decided_keeps : {p : Private} {op : Op} {q : Private} {cmd : Cmd} {at : Phase} {its_op : Op} {registers : List (Option ℕ)} {entries : List Entry} {told : Told}
+    → length registers ≡ length p.registers → work_at at ≡ Some (works.Command cmd) → Decides p op q cmd at its_op registers entries told → KeepsSizes p q × (work_of q ≡ work_of p)
+decided_keeps {p = p} {cmd = cmd} {registers = registers} {entries = entries} {told = told} many work d = (
+  subst (KeepsSizes p) (sym d.after) (record { number = refl; epoch = refl; slots = refl; fields = refl; registers = many; snapshot = refl; capacity = refl }),
+  ap work_of d.after ∙ sym (ap work_at d.phase ∙ work),
+)
+
+-- so does a step after which the work goes on
+going_on_keeps : {p : Private} {op : Op} {q : Private} {at : Phase} {its_op : Op} {next_phase : Phase}
+    → work_at at ≡ work_at next_phase → GoesOn p op q at its_op next_phase → KeepsSizes p q × (work_of q ≡ work_of p)
+going_on_keeps {p = p} work g = (
+  subst (KeepsSizes p) (sym g.after) (record { number = refl; epoch = refl; slots = refl; fields = refl; registers = refl; snapshot = refl; capacity = refl }),
+  ap work_of g.after ∙ sym (ap work_at g.phase ∙ work),
+)
+
+-- every step keeps sizes and work
+step_keeps : {p : Private} {word : ℕ} {op : Op} {q : Private} → Step p word op q → KeepsSizes p q × (work_of q ≡ work_of p)
+step_keeps {p = p} (Step.null reg d) = decided_keeps (length-set p.registers reg _) refl d
+step_keeps {p = p} (Step.copy dst src d) = decided_keeps (length-set p.registers dst _) refl d
+step_keeps (Step.compare a b d) = decided_keeps refl refl d
+step_keeps (Step.get_of_null dst src f names d) = decided_keeps refl refl d
+step_keeps {p = p} (Step.get dst src f slot names d) = decided_keeps (length-set p.registers dst _) refl d
+step_keeps (Step.put_of_null src f val names d) = decided_keeps refl refl d
+step_keeps (Step.put_refused src f val slot names full d) = decided_keeps refl refl d
+step_keeps (Step.put src f val slot names room d) = decided_keeps refl refl d
+step_keeps (Step.value_of_null reg names d) = decided_keeps refl refl d
+step_keeps (Step.value reg slot names d) = decided_keeps refl refl d
+step_keeps (Step.new_refused reg label full d) = decided_keeps refl refl d
+step_keeps (Step.new_begins reg label room g) = going_on_keeps refl g
+step_keeps {p = p} (Step.new_wins reg label before slot free d) = decided_keeps (length-set p.registers reg _) refl d
+step_keeps (Step.new_goes_on reg label before slot taken more g) = going_on_keeps refl g
+step_keeps (Step.new_finds_none reg label before slot taken last g) = going_on_keeps refl g
+step_keeps (Step.new_is_full reg label before still d) = decided_keeps refl refl d
+step_keeps (Step.new_is_busy reg label before moves d) = decided_keeps refl refl d
+step_keeps (Step.poll g) = going_on_keeps refl g
+
+-- so does what is learnt
+pub took_keeps : (p : Private) (word : ℕ) → is_busy p ≡ true → KeepsSizes p (took_of p word) × (work_of (took_of p word) ≡ work_of p)
+took_keeps p word busy = step_keeps (step_made p word busy)
+
+-- so does what the first step of a work learns
+pub first_keeps : (p q : Private) (word : ℕ) (work : Work) → p.phase ≡ Begun work → q ≡ begun_by p word work → KeepsSizes p q × (work_of q ≡ work_of p)
+unfolding took_of took_at
+first_keeps p q word work begun is =
+    let took : took_of p word ≡ begun_by p word work = ap (took_at p word) begun in
+    let busy : is_busy p ≡ true = ap is_busy_at begun in
+    subst (λ (x : Private). KeepsSizes p x × (work_of x ≡ work_of p)) (sym (is ∙ sym took)) (took_keeps p word busy)

@@ -1,0 +1,5 @@
+use Rattle.rec_mutator.proofs.Found.{finds_fitting}
+use Rattle.rec_mutator.proofs.laws.machine_finds_fitting_words.Goals as goal
+
+pub returns : goal.returns
+returns c = finds_fitting

@@ -1,0 +1,58 @@
+-- Why a command is refused, and that a refusal changes nothing.
+use Rattle.std.specs.Prelude.{◌≡◌, ◌↔◌, ℕ, Bool, true, false, None, Some}
+use Rattle.rec_model.specs.declared.answer.Answer.{Answer}
+use Rattle.rec_model.specs.declared.answer.Answer.TheVariants as answers
+use Rattle.rec_model.specs.declared.command.Cmd.{Cmd}
+use Rattle.rec_model.specs.declared.command.Cmd.TheVariants as commands
+use Rattle.rec_model.specs.declared.told.Told.{Told}
+use Rattle.rec_mutator.specs.Private.{Private, register, is_busy, work_of, answer_of}
+use Rattle.rec_mutator.specs.Step.{IsLogFull, IsStill}
+use Rattle.rec_mutator.specs.Took.{took_of}
+use Rattle.rec_mutator.specs.declared.made.Made.TheVariants as makes
+use Rattle.rec_mutator.specs.declared.phase.Phase.{Phase}
+use Rattle.rec_mutator.specs.declared.phase.Phase.TheVariants.{Scanned}
+use Rattle.rec_mutator.specs.declared.work.Work.TheVariants as works
+
+-- the step that finds this word answers this command with what is told
+pub record AnswersBy (p : Private) (word : ℕ) (cmd : Cmd) (told : Told) : Type 0 where
+  pub busy : is_busy p ≡ true
+  pub work : work_of p ≡ Some (works.Command cmd)
+  pub answer : answer_of (took_of p word) ≡ Some (makes.Answered told)
+
+-- an answer that refuses
+abbrev pub is_refusal : Answer → Bool
+is_refusal answers.NoObject = true
+is_refusal answers.Full = true
+is_refusal answers.LogFull = true
+is_refusal (answers.Busy before after) = true
+is_refusal _ = false
+
+-- the command needs an object in a register that is null
+abbrev pub LacksObject : Private → Cmd → Type 0
+LacksObject p (commands.Get dst src f) = register p src ≡ None
+LacksObject p (commands.Put src f val) = register p src ≡ None
+LacksObject p (commands.Value reg) = register p reg ≡ None
+LacksObject p _ = ⊥
+
+-- a command that makes a log entry where it is done: a birth, or a write into an object
+abbrev pub MakesEntry : Private → Cmd → Type 0
+MakesEntry p (commands.New reg label) = Unit {0}
+MakesEntry p (commands.Put src f val) = (slot : ℕ) × (register p src ≡ Some slot)
+MakesEntry p _ = ⊥
+
+-- every probe of the scan failed, before which this freed word was found, by phase
+abbrev pub FoundNoneAt : Phase → (before : ℕ) → Type 0
+FoundNoneAt (Scanned reg label first) before = first ≡ before
+FoundNoneAt _ before = ⊥
+
+-- every probe of the scan failed, before which this freed word was found
+abbrev pub FoundNone : Private → (before : ℕ) → Type 0
+FoundNone p before = FoundNoneAt p.phase before
+
+-- When each refusal comes, at the step that answers; and it changes no register and no log.
+pub record HasCause (p q : Private) (cmd : Cmd) (word : ℕ) (answer : Answer) : Type 0 where
+  pub no_object : (answer ≡ answers.NoObject) ↔ LacksObject p cmd
+  pub log_full : (answer ≡ answers.LogFull) ↔ (IsLogFull p × MakesEntry p cmd)
+  pub full : (answer ≡ answers.Full) ↔ ((before : ℕ) × FoundNone p before × IsStill before word)
+  pub busy : (before after : ℕ) → (answer ≡ answers.Busy before after) ↔ (FoundNone p before × (after ≡ word) × (IsStill before word → ⊥))
+  pub refused : is_refusal answer ≡ true → (q.registers ≡ p.registers) × (q.log ≡ p.log)

@@ -1,0 +1,21 @@
+-- The private record that the fields of a machine make up.
+use Rattle.rec_mutator.specs.Private.{Private, IsMachine}
+use Rattle.rec_mutator.specs.declared.machine.Machine.TheInside.{Inside}
+
+-- the private record
+abbrev pub private : Inside → Private
+private inside =
+    record {
+      number = inside.number;
+      epoch = inside.epoch;
+      slots = inside.slots;
+      fields = inside.fields;
+      registers = inside.frame;
+      log = inside.log;
+      phase = inside.phase;
+      steps = inside.steps;
+    }
+
+-- what the fields of every machine keep
+abbrev pub IsKept : Inside → Type 0
+IsKept inside = IsMachine (private inside)

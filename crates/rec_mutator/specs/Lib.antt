@@ -1,0 +1,6 @@
+pub mod Causes
+pub mod Inside
+pub mod Next
+pub mod Private
+pub mod Step
+pub mod Took

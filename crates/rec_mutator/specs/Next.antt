@@ -1,0 +1,59 @@
+-- Which operation comes next: a function of the private record alone.
+use Rattle.std.specs.Prelude.{ℕ, Bool, true, false, Option, None, Some, if◌then◌else◌}
+use Rattle.rec_word.specs.Place.{place_of}
+use Rattle.rec_word.specs.declared.op.Op.{Op}
+use Rattle.rec_word.specs.declared.op.Op.TheVariants as ops
+use Rattle.rec_model.specs.declared.command.Cmd.{Cmd}
+use Rattle.rec_model.specs.declared.command.Cmd.TheVariants as commands
+use Rattle.rec_mutator.specs.Private.{Private, register, is_full, word_for}
+use Rattle.rec_mutator.specs.declared.phase.Phase.{Phase}
+use Rattle.rec_mutator.specs.declared.phase.Phase.TheVariants.{Idle, Begun, Scanning, Scanned, Finished}
+use Rattle.rec_mutator.specs.declared.work.Work.{Work}
+use Rattle.rec_mutator.specs.declared.work.Work.TheVariants as works
+
+-- the step in which a command is decided that needs no shared word: the own crossing word is loaded
+abbrev pub own_word : Private → Op
+own_word p = ops.LoadCross p.number
+
+-- a read of a field, of the object in a register if there is one
+abbrev pub read_op : Private → (f : ℕ) → Option ℕ → Op
+read_op p f None = own_word p
+read_op p f (Some slot) = ops.LoadField (place_of slot f p.fields)
+
+-- a write of a field, if there is an object and the log has room
+abbrev pub write_op : Private → (f val : ℕ) → Option ℕ → (full : Bool) → Op
+write_op p f val None full = own_word p
+write_op p f val (Some slot) true = own_word p
+write_op p f val (Some slot) false = ops.SwapField (place_of slot f p.fields) (word_for p val)
+
+-- a look at a label, if there is an object
+abbrev pub label_op : Private → Option ℕ → Op
+label_op p None = own_word p
+label_op p (Some slot) = ops.LoadHeader slot
+
+-- the first step of a command
+abbrev pub first_op : Private → Cmd → Op
+first_op p (commands.New reg label) = if is_full p then own_word p else ops.LoadFreed
+first_op p (commands.Null reg) = own_word p
+first_op p (commands.Copy dst src) = own_word p
+first_op p (commands.Get dst src f) = read_op p f (register p src)
+first_op p (commands.Put src f val) = write_op p f val (register p src) (is_full p)
+first_op p (commands.Value reg) = label_op p (register p reg)
+first_op p (commands.Same a b) = own_word p
+
+-- the first step of a work
+abbrev pub begun_op : Private → Work → Op
+begun_op p (works.Command cmd) = first_op p cmd
+begun_op p works.Poll = ops.LoadEpoch
+
+-- what comes next, by phase
+unfoldable pub next_at : Private → Phase → Op
+next_at p Idle = own_word p
+next_at p (Begun work) = begun_op p work
+next_at p (Scanning reg label before slot) = ops.ClaimHeader slot label
+next_at p (Scanned reg label before) = ops.LoadFreed
+next_at p (Finished work made) = own_word p
+
+-- what comes next
+unfoldable pub next_of : Private → Op
+next_of p = next_at p p.phase

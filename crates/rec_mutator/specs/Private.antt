@@ -1,0 +1,141 @@
+-- A mutator's machine as a whole: plain data, and what every machine keeps.
+use Rattle.std.specs.Prelude.{◌≡◌, ℕ, ◌+◌, ◌-◌, ◌^◌, ◌<◌, ◌≤◌, ◌==◌, Bool, true, false, Option, None, Some, List, [], ◌∷◌, All, length, replicate, slice_index_or}
+use Rattle.rec_word.specs.Word.{packed, IsTarget}
+use Rattle.rec_word.specs.declared.stamps.Stamp.{Stamp}
+use Rattle.rec_model.specs.declared.command.Cmd.{Cmd}
+use Rattle.rec_model.specs.declared.command.Cmd.TheVariants as commands
+use Rattle.rec_log.specs.declared.contents.Contents.{Contents}
+use Rattle.rec_mutator.specs.declared.made.Made.{Made}
+use Rattle.rec_mutator.specs.declared.phase.Phase.{Phase}
+use Rattle.rec_mutator.specs.declared.phase.Phase.TheVariants.{Idle, Begun, Scanning, Scanned, Finished}
+use Rattle.rec_mutator.specs.declared.work.Work.{Work}
+use Rattle.rec_mutator.specs.declared.work.Work.TheVariants as works
+
+-- the mutator's number and epoch, slots of the heap and fields of an object, its registers, its log, how far its work has
+-- come, and how many steps that took
+pub record Private : Type 0 where
+  pub number : ℕ
+  pub epoch : ℕ
+  pub slots : ℕ
+  pub fields : ℕ
+  pub registers : List (Option ℕ)
+  pub log : Contents
+  pub phase : Phase
+  pub steps : ℕ
+
+-- a machine as it is opened: register 0 names slot 0, all else is null or empty
+abbrev pub opened : (number epoch slots fields regs cap : ℕ) → Private
+opened number epoch slots fields regs cap =
+    record {
+      number = number;
+      epoch = epoch;
+      slots = slots;
+      fields = fields;
+      registers = Some 0 ∷ replicate (regs - 1) None;
+      log = record { entries = []; snapshot = replicate regs None; capacity = cap };
+      phase = Idle;
+      steps = 0;
+    }
+
+-- what a register names
+abbrev pub register : Private → ℕ → Option ℕ
+register p r = slice_index_or p.registers r None
+
+-- the log has no room for another entry
+abbrev pub is_full : Private → Bool
+is_full p = length p.log.entries == p.log.capacity
+
+-- the stamp of the next log entry
+abbrev pub next_stamp : Private → Stamp
+next_stamp p = record { writer = p.number; epoch = p.epoch; index = length p.log.entries }
+
+-- the word that leads where a register does, with that stamp
+abbrev pub word_for : Private → ℕ → ℕ
+word_for p r = packed (register p r) (next_stamp p)
+
+-- whether a work isn't finished, by phase
+abbrev pub is_busy_at : Phase → Bool
+is_busy_at Idle = false
+is_busy_at (Begun work) = true
+is_busy_at (Scanning reg label before slot) = true
+is_busy_at (Scanned reg label before) = true
+is_busy_at (Finished work made) = false
+
+-- whether a work was begun that isn't finished
+abbrev pub is_busy : Private → Bool
+is_busy p = is_busy_at p.phase
+
+-- the work that was begun last, by phase
+abbrev pub work_at : Phase → Option Work
+work_at Idle = None
+work_at (Begun work) = Some work
+work_at (Scanning reg label before slot) = Some (works.Command (commands.New reg label))
+work_at (Scanned reg label before) = Some (works.Command (commands.New reg label))
+work_at (Finished work made) = Some work
+
+-- the work that was begun last
+abbrev pub work_of : Private → Option Work
+work_of p = work_at p.phase
+
+-- what came of a finished work, by phase
+abbrev pub answer_at : Phase → Option Made
+answer_at (Finished work made) = Some made
+answer_at _ = None
+
+-- what came of the last work, if it is finished
+abbrev pub answer_of : Private → Option Made
+answer_of p = answer_at p.phase
+
+-- the registers and fields that a command names are there
+abbrev pub HasOperands : Private → Cmd → Type 0
+HasOperands p (commands.New reg label) = reg < length p.registers
+HasOperands p (commands.Null reg) = reg < length p.registers
+HasOperands p (commands.Copy dst src) = (dst < length p.registers) × (src < length p.registers)
+HasOperands p (commands.Get dst src f) = (dst < length p.registers) × (src < length p.registers) × (f < p.fields)
+HasOperands p (commands.Put src f val) = (src < length p.registers) × (f < p.fields) × (val < length p.registers)
+HasOperands p (commands.Value reg) = reg < length p.registers
+HasOperands p (commands.Same a b) = (a < length p.registers) × (b < length p.registers)
+
+-- a poll, or a command whose operands are there
+abbrev pub IsValid : Private → Work → Type 0
+IsValid p (works.Command cmd) = HasOperands p cmd
+IsValid p works.Poll = Unit {0}
+
+-- the most steps that a work takes: an allocation loads the freed word, probes each slot, and loads it again
+abbrev pub limit_of : (slots : ℕ) → Work → ℕ
+limit_of slots (works.Command (commands.New reg label)) = slots + 2
+limit_of slots _ = 1
+
+-- an allocation that goes on has a register and room in the log
+pub record IsScan (p : Private) (reg : ℕ) : Type 0 where
+  pub register : reg < length p.registers
+  pub room : length p.log.entries < p.log.capacity
+
+-- what holds in each phase
+abbrev pub IsAt : Private → Phase → Type 0
+IsAt p Idle = p.steps ≡ 0
+IsAt p (Begun work) = IsValid p work × (p.steps ≡ 0)
+IsAt p (Scanning reg label before slot) = IsScan p reg × (slot < p.slots) × (p.steps ≡ slot + 1)
+IsAt p (Scanned reg label before) = IsScan p reg × (p.steps ≡ p.slots + 1)
+IsAt p (Finished work made) = p.steps ≤ limit_of p.slots work
+
+-- what every machine keeps
+pub record IsMachine (p : Private) : Type 0 where
+  pub number : p.number < 2 ^ 6
+  pub epoch : p.epoch < 2 ^ 24
+  pub first_slot : 0 < p.slots
+  pub last_slot : p.slots < 2 ^ 16
+  pub capacity : p.log.capacity ≤ 2 ^ 18
+  pub entries : length p.log.entries ≤ p.log.capacity
+  pub registers : All IsTarget p.registers
+  pub now : IsAt p p.phase
+
+-- what no step and no new work changes: the numbers, the number of registers and what the log can hold
+pub record KeepsSizes (p q : Private) : Type 0 where
+  pub number : q.number ≡ p.number
+  pub epoch : q.epoch ≡ p.epoch
+  pub slots : q.slots ≡ p.slots
+  pub fields : q.fields ≡ p.fields
+  pub registers : length q.registers ≡ length p.registers
+  pub snapshot : q.log.snapshot ≡ p.log.snapshot
+  pub capacity : q.log.capacity ≡ p.log.capacity

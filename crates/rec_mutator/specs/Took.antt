@@ -1,0 +1,107 @@
+-- What begins, and what is learnt: a function of the private record and of the word found.
+use Rattle.std.specs.Prelude.{◌≡◌, ℕ, ◌+◌, ◌-◌, ◌%◌, ◌^◌, ◌<◌, ◌≤◌, ◌==◌, ◌&&◌, Bool, true, false, Option, None, Some, [], ◌∷◌, ◌++◌, if◌then◌else◌, slice_set}
+use Rattle.rec_word.specs.Place.{place_of}
+use Rattle.rec_word.specs.Word.{target_of}
+use Rattle.rec_word.specs.declared.op.Op.{Op}
+use Rattle.rec_word.specs.declared.op.Op.TheVariants as ops
+use Rattle.rec_model.specs.declared.answer.Answer.{Answer}
+use Rattle.rec_model.specs.declared.answer.Answer.TheVariants as answers
+use Rattle.rec_model.specs.declared.command.Cmd.{Cmd}
+use Rattle.rec_model.specs.declared.command.Cmd.TheVariants as commands
+use Rattle.rec_model.specs.declared.told.Told.{Told}
+use Rattle.rec_model.specs.Asking.{null_or_object, same, yes_or_no}
+use Rattle.rec_log.specs.declared.entry.Entry.{Entry}
+use Rattle.rec_log.specs.declared.entry.Entry.TheVariants as entries
+use Rattle.rec_mutator.specs.Private.{Private, register, is_full, word_for}
+use Rattle.rec_mutator.specs.declared.made.Made.TheVariants as makes
+use Rattle.rec_mutator.specs.declared.phase.Phase.{Phase}
+use Rattle.rec_mutator.specs.declared.phase.Phase.TheVariants.{Idle, Begun, Scanning, Scanned, Finished}
+use Rattle.rec_mutator.specs.declared.work.Work.{Work}
+use Rattle.rec_mutator.specs.declared.work.Work.TheVariants as works
+
+-- a work begins; no step of it is made
+unfoldable pub begun_of : Private → Work → Private
+begun_of p work = record p { phase = Begun work; steps = 0 }
+
+-- an answer that saw and left no word
+abbrev pub plain : Answer → Told
+plain answer = record { answer = answer; saw = 0; left = 0 }
+
+-- one step was made, and this comes next
+abbrev pub moved : Private → Phase → Private
+moved p phase = record p { phase = phase; steps = p.steps + 1 }
+
+-- one step was made, and a command is answered
+abbrev pub answered : Private → Cmd → Told → Private
+answered p cmd told = moved p (Finished (works.Command cmd) (makes.Answered told))
+
+-- with a register changed
+abbrev pub with_register : Private → ℕ → Option ℕ → Private
+with_register p r target = record p { registers = slice_set p.registers r target }
+
+-- with one entry more in the log
+abbrev pub with_entry : Private → Entry → Private
+with_entry p entry = record p { log = record p.log { entries = p.log.entries ++ entry ∷ [] } }
+
+-- a register becomes what a field's word leads to, if there was an object
+abbrev pub read_by : Private → Cmd → (dst word : ℕ) → Option ℕ → Private
+read_by p cmd dst word None = answered p cmd (plain answers.NoObject)
+read_by p cmd dst word (Some slot) = answered (with_register p dst (target_of word)) cmd (record { answer = null_or_object (target_of word); saw = word; left = 0 })
+
+-- the write of a field is logged with the word that stood there, if there was an object and room
+abbrev pub written_by : Private → Cmd → (f val word : ℕ) → Option ℕ → (full : Bool) → Private
+written_by p cmd f val word None full = answered p cmd (plain answers.NoObject)
+written_by p cmd f val word (Some slot) true = answered p cmd (plain answers.LogFull)
+written_by p cmd f val word (Some slot) false =
+    answered (with_entry p (entries.Put (place_of slot f p.fields) (word_for p val) word)) cmd (record { answer = answers.Done; saw = word; left = word_for p val })
+
+-- the label that a header tells, if there was an object
+abbrev pub label_by : (word : ℕ) → Option ℕ → Answer
+label_by word None = answers.NoObject
+label_by word (Some slot) = answers.Value (word - 1)
+
+-- the first step of a command
+abbrev pub first_by : Private → (word : ℕ) → Cmd → Private
+first_by p word (commands.New reg label) = if is_full p then answered p (commands.New reg label) (plain answers.LogFull) else moved p (Scanning reg label word 0)
+first_by p word (commands.Null reg) = answered (with_register p reg None) (commands.Null reg) (plain answers.Done)
+first_by p word (commands.Copy dst src) = answered (with_register p dst (register p src)) (commands.Copy dst src) (plain answers.Done)
+first_by p word (commands.Get dst src f) = read_by p (commands.Get dst src f) dst word (register p src)
+first_by p word (commands.Put src f val) = written_by p (commands.Put src f val) f val word (register p src) (is_full p)
+first_by p word (commands.Value reg) = answered p (commands.Value reg) (plain (label_by word (register p reg)))
+first_by p word (commands.Same a b) = answered p (commands.Same a b) (plain (yes_or_no (same (register p a) (register p b))))
+
+-- the first step of a work; a poll that finds its own epoch crosses nowhere
+abbrev pub begun_by : Private → (word : ℕ) → Work → Private
+begun_by p word (works.Command cmd) = first_by p word cmd
+begun_by p word works.Poll = moved p (Finished works.Poll (makes.Crossed None))
+
+-- an object is born in a slot
+abbrev pub born_in : Private → (reg label slot : ℕ) → Private
+born_in p reg label slot = answered (with_entry (with_register p reg (Some slot)) (entries.Born slot)) (commands.New reg label) (plain answers.Done)
+
+-- a probe of a slot: the slot was free and is won, or it was taken and the next one follows, if there is one
+abbrev pub probed : Private → (reg label before slot word : ℕ) → Private
+probed p reg label before slot word =
+    if word == 0 then born_in p reg label slot else moved p (if slot + 1 == p.slots then Scanned reg label before else Scanning reg label before (slot + 1))
+
+-- no slot was free: the freed word was even and the same before and after the scan, or a sweep ran, began or ended meanwhile
+abbrev pub none_free : (before after : ℕ) → Answer
+none_free before after = if (before % 2 == 0) && (before == after) then answers.Full else answers.Busy before after
+
+-- what is learnt, by phase
+unfoldable pub took_at : Private → (word : ℕ) → Phase → Private
+took_at p word Idle = moved p Idle
+took_at p word (Begun work) = begun_by p word work
+took_at p word (Scanning reg label before slot) = probed p reg label before slot word
+took_at p word (Scanned reg label before) = answered p (commands.New reg label) (plain (none_free before word))
+took_at p word (Finished work made) = moved p (Finished work made)
+
+-- what is learnt
+unfoldable pub took_of : Private → (word : ℕ) → Private
+took_of p word = took_at p word p.phase
+
+-- what the word found has to be: the header of a taken slot, the own epoch
+abbrev pub IsFound : Private → Op → ℕ → Type 0
+IsFound p (ops.LoadHeader slot) word = (0 < word) × (word ≤ 2 ^ 32)
+IsFound p ops.LoadEpoch word = word ≡ p.epoch
+IsFound p _ word = Unit {0}

@@ -1,0 +1,25 @@
+//! A mutator's machine: it decides which atomic step comes next, and learns the word that the step found.
+//!
+//! A work, which is a command or a poll, is begun; then `next` names one operation on one shared word, whoever has the
+//! words carries it out, and `took` learns what was found, until `answer` has the answer. The machine never sees the words.
+//! The rule that it keeps: what comes next and what is learnt are functions of the machine's private record and of the
+//! word found alone, and each work ends: an allocation after at most two steps more than there are slots, every other work
+//! after one.
+//! The layer above may use that `next`, `took` and `begin` are exactly `next_of`, `took_of` and `begun_of` of `specs/`, and
+//! the laws, which are the contracts of the functions in `laws`.
+//! That a mutator logs what it writes and is never stopped is the idea of the paper "Java without the Coffee Breaks"
+//! (2001); the steps of each command are this project's profile (`docs/PROFILE.md`).
+#![tactic(auto)]
+
+mod laws;
+mod machine;
+mod made;
+mod phase;
+mod work;
+
+pub use laws::{
+    machine_finds_fitting_words, machine_makes_steps, machine_names_words, refusals_have_causes,
+};
+pub use machine::Machine;
+pub use made::Made;
+pub use work::Work;

@@ -1,0 +1,576 @@
+ghost use Rattle.std.specs.Prelude.{◌≡◌, ◌⊎◌, ◌+◌, ◌^◌, ◌<◌, ◌≤◌, ◌↔◌, ◌∷◌, ◌++◌, [], true, false, length, slice_set, IfOk, IfSome, IsNone};
+ghost use Rattle.rec_word.specs.Place.{place_of};
+ghost use Rattle.rec_mutator.specs.Private.{Private, opened, register, is_full, word_for, is_busy, work_of, answer_of, HasOperands, IsValid, limit_of, IsScan, IsMachine, KeepsSizes};
+ghost use Rattle.rec_mutator.specs.Next.{next_of, begun_op, first_op, own_word};
+ghost use Rattle.rec_model.specs.Asking.{null_or_object, same, yes_or_no};
+ghost use Rattle.rec_mutator.specs.Took.{begun_of, begun_by, took_of, plain, moved, answered, with_register, first_by, probed, none_free, IsFound};
+
+use crate::phase::Phase;
+use crate::{Made, Work};
+use rec_frame::Frame;
+use rec_log::{Buffer, Entry};
+use rec_model::{Answer, Cmd, Told};
+use rec_word::{Op, Stamp, pack, place, target};
+use std::alloc::{AllocError as NoMemory, Global};
+use std::marker::Model;
+
+/// A mutator: its registers, its log, and how far its work has come. Its memory is taken when it is opened.
+#[derive(Debug, Drop)]
+pub struct Machine {
+    number: u8,
+    epoch: u32,
+    slots: u16,
+    fields: u8,
+    frame: Frame,
+    log: Buffer,
+    phase: Phase,
+    steps: u32,
+}
+
+impl Model for Machine {
+    ghost use Rattle.rec_mutator.specs.Private.{Private};
+
+    ghost Value = { Private };
+
+    ghost use Rattle.rec_mutator.specs.Inside.{private, IsKept};
+
+    ghost view = { private };
+
+    ghost invariant = { IsKept };
+}
+
+impl Machine {
+    /// Mutator `number` of a heap with so many slots and fields per object, in this epoch, with no work. It has `regs`
+    /// registers, of which register 0 names slot 0, and a log for `cap` entries.
+    pub fn open(
+        alloc: Global,
+        number: u8,
+        epoch: u32,
+        slots: u16,
+        fields: u8,
+        regs: u8,
+        cap: u32,
+    ) -> Result<Machine, NoMemory>
+        requires number { number < 2 ^ 6 }
+        requires epoch { epoch < 2 ^ 24 }
+        requires slots { 0 < slots }
+        requires registers { 0 < regs }
+        requires capacity { cap ≤ 2 ^ 18 }
+
+        ensures opened { IfOk result (λ machine. machine ≡ opened number epoch slots fields regs cap) }
+        ensures kept { IfOk result IsMachine }
+    {
+        let mut frame = Frame::open(alloc, regs)?;
+        frame.set(0, 0);
+        let log = Buffer::open(alloc, cap, regs)?;
+        Ok(Machine {
+            number,
+            epoch,
+            slots,
+            fields,
+            frame,
+            log,
+            phase: Phase::Idle,
+            steps: 0,
+        })
+    }
+
+    /// Begins a work. No step of it is made.
+    #[tactic(auto, unfolding(crate::specs::Took::begun_of))]
+    pub fn begin(&mut self, work: Work)
+        requires idle { is_busy self.old ≡ false }
+        requires valid { IsValid self.old work }
+
+        ensures begun { self.new ≡ begun_of self.old work }
+        ensures same { KeepsSizes self.old self.new }
+
+        // It is the work now, and its steps are counted from here.
+        ensures busy { is_busy self.new ≡ true }
+        ensures work { work_of self.new ≡ Some work }
+        ensures steps { self.new.steps ≡ 0 }
+        ensures kept { IsMachine self.new }
+    {
+        self.phase = Phase::Begun { work };
+        self.steps = 0;
+    }
+
+    /// The operation of the next step.
+    #[tactic(auto, unfolding(crate::specs::Next::next_of, crate::specs::Next::next_at))]
+    pub fn next(&self) -> Op
+        requires busy { is_busy self.now ≡ true }
+        ensures { result ≡ next_of self.now }
+    {
+        match self.phase {
+            Phase::Begun { work } => self.begun(work),
+            Phase::Scanning { label, slot, .. } => Op::ClaimHeader(slot, label),
+            Phase::Scanned { .. } => Op::LoadFreed,
+            Phase::Idle | Phase::Finished { .. } => self.own_word(),
+        }
+    }
+
+    /// Learns the word that the operation of `next` found: the step is made.
+    #[tactic(auto, unfolding(crate::specs::Next::next_of, crate::specs::Next::next_at, crate::specs::Took::took_of, crate::specs::Took::took_at))]
+    pub fn took(&mut self, word: u64)
+        requires busy { is_busy self.old ≡ true }
+        requires found { IsFound self.old (next_of self.old) word }
+
+        ensures took { self.new ≡ took_of self.old word }
+        ensures same { KeepsSizes self.old self.new }
+
+        // Each step counts, and a work ends in time.
+        ensures steps { self.new.steps ≡ self.old.steps + 1 }
+        ensures work { work_of self.new ≡ work_of self.old }
+        ensures limit { IfSome (work_of self.new) (λ work. self.new.steps ≤ limit_of self.new.slots work) }
+        ensures kept { IsMachine self.new }
+    {
+        match self.phase {
+            Phase::Begun { work } => self.took_begun(work, word),
+            Phase::Scanning {
+                reg,
+                label,
+                before,
+                slot,
+            } => self.took_probe(reg, label, before, slot, word),
+            Phase::Scanned { reg, label, before } => self.took_last(reg, label, before, word),
+            Phase::Idle | Phase::Finished { .. } => {}
+        }
+    }
+
+    /// What came of the last work, or `None` where none was begun yet or it isn't finished.
+    pub fn answer(&self) -> Option<Made>
+        ensures answer { result ≡ answer_of self.now }
+        ensures none { IsNone result ↔ (IsNone (work_of self.now) ⊎ (is_busy self.now ≡ true)) }
+    {
+        match self.phase {
+            Phase::Finished { made, .. } => Some(made),
+            _ => None,
+        }
+    }
+
+    /// Whether a work was begun that isn't finished.
+    pub fn is_busy(&self) -> bool
+        ensures { result ≡ is_busy self.now }
+    {
+        match self.phase {
+            Phase::Idle | Phase::Finished { .. } => false,
+            Phase::Begun { .. } | Phase::Scanning { .. } | Phase::Scanned { .. } => true,
+        }
+    }
+
+    /// What register `r` names.
+    pub fn register(&self, r: u8) -> Option<u16>
+        requires { r < length self.now.registers }
+        ensures { result ≡ register self.now r }
+    {
+        self.frame.read(r)
+    }
+
+    /// The epoch that the mutator is in.
+    pub fn epoch(&self) -> u32
+        ensures { result ≡ self.now.epoch }
+    {
+        self.epoch
+    }
+
+    /// The entries of its log, in order.
+    pub fn entries(&self) -> &[Entry]
+        ensures { result.now ≡ self.now.log.entries }
+    {
+        self.log.entries()
+    }
+
+    /// How many steps were made since the last `begin`.
+    pub fn steps(&self) -> u32
+        ensures steps { result ≡ self.now.steps }
+        ensures limit { IfSome (work_of self.now) (λ work. result ≤ limit_of self.now.slots work) }
+        ensures kept { IsMachine self.now }
+    {
+        self.steps
+    }
+
+    // The operation of a work's first step.
+    fn begun(&self, work: Work) -> Op
+        requires { IsValid self.now work }
+        ensures { result ≡ begun_op self.now work }
+    {
+        match work {
+            Work::Command(cmd) => self.first(cmd),
+            Work::Poll => Op::LoadEpoch,
+        }
+    }
+
+    // The operation of a command's first step.
+    fn first(&self, cmd: Cmd) -> Op
+        requires { HasOperands self.now cmd }
+        ensures { result ≡ first_op self.now cmd }
+    {
+        match cmd {
+            Cmd::New { .. } => {
+                if self.is_full() {
+                    self.own_word()
+                } else {
+                    Op::LoadFreed
+                }
+            }
+            Cmd::Null { .. } | Cmd::Copy { .. } | Cmd::Same { .. } => self.own_word(),
+            Cmd::Get { src, field, .. } => match self.frame.read(src) {
+                Some(slot) => Op::LoadField(self.place_of(slot, field)),
+                None => self.own_word(),
+            },
+            Cmd::Put { src, field, val } => self.first_of_put(src, field, val),
+            Cmd::Value { reg } => match self.frame.read(reg) {
+                Some(slot) => Op::LoadHeader(slot),
+                None => self.own_word(),
+            },
+        }
+    }
+
+    // The operation of a write's first step.
+    fn first_of_put(&self, src: u8, field: u8, val: u8) -> Op
+        requires { HasOperands self.now (Cmd.Put src field val) }
+        ensures { result ≡ first_op self.now (Cmd.Put src field val) }
+    {
+        let Some(slot) = self.frame.read(src) else {
+            return self.own_word();
+        };
+        if self.is_full() {
+            return self.own_word();
+        }
+        Op::SwapField(self.place_of(slot, field), self.word_for(val))
+    }
+
+    // Learns what the first step of a work found.
+    fn took_begun(&mut self, work: Work, word: u64)
+        requires valid { IsValid self.old work }
+        requires first { self.old.steps ≡ 0 }
+        requires found { IsFound self.old (begun_op self.old work) word }
+
+        ensures took { self.new ≡ begun_by self.old word work }
+        ensures kept { IsMachine self.new }
+    {
+        match work {
+            Work::Command(cmd) => self.took_first(cmd, word),
+            Work::Poll => self.took_poll(),
+        }
+    }
+
+    // Learns what the first step of a command found.
+    fn took_first(&mut self, cmd: Cmd, word: u64)
+        requires valid { HasOperands self.old cmd }
+        requires first { self.old.steps ≡ 0 }
+        requires found { IsFound self.old (first_op self.old cmd) word }
+
+        ensures took { self.new ≡ first_by self.old word cmd }
+        ensures kept { IsMachine self.new }
+    {
+        match cmd {
+            Cmd::New { reg, label } => self.took_new(reg, label, word),
+            Cmd::Null { reg } => self.took_null(reg),
+            Cmd::Copy { dst, src } => self.took_copy(dst, src),
+            Cmd::Get { dst, src, field } => self.took_get(dst, src, field, word),
+            Cmd::Put { src, field, val } => self.took_put(src, field, val, word),
+            Cmd::Value { reg } => self.took_value(reg, word),
+            Cmd::Same { a, b } => self.took_same(a, b),
+        }
+    }
+
+    // An allocation begins its scan, if the log has room.
+    fn took_new(&mut self, reg: u8, label: u32, word: u64)
+        requires valid { HasOperands self.old (Cmd.New reg label) }
+        requires first { self.old.steps ≡ 0 }
+
+        ensures took { self.new ≡ first_by self.old word (Cmd.New reg label) }
+        ensures kept { IsMachine self.new }
+    {
+        if self.is_full() {
+            self.phase = answered(Cmd::New { reg, label }, only(Answer::LogFull));
+            self.steps += 1;
+        } else {
+            self.phase = Phase::Scanning {
+                reg,
+                label,
+                before: word,
+                slot: 0,
+            };
+            self.steps += 1;
+        }
+    }
+
+    fn took_null(&mut self, reg: u8)
+        requires valid { HasOperands self.old (Cmd.Null reg) }
+        requires first { self.old.steps ≡ 0 }
+
+        ensures took { self.new ≡ answered (with_register self.old reg None) (Cmd.Null reg) (plain Answer.Done) }
+        ensures kept { IsMachine self.new }
+    {
+        self.frame.clear(reg);
+        self.phase = answered(Cmd::Null { reg }, only(Answer::Done));
+        self.steps += 1;
+    }
+
+    fn took_copy(&mut self, dst: u8, src: u8)
+        requires valid { HasOperands self.old (Cmd.Copy dst src) }
+        requires first { self.old.steps ≡ 0 }
+
+        ensures took { self.new ≡ answered (with_register self.old dst (register self.old src)) (Cmd.Copy dst src) (plain Answer.Done) }
+        ensures kept { IsMachine self.new }
+    {
+        self.frame.copy(dst, src);
+        self.phase = answered(Cmd::Copy { dst, src }, only(Answer::Done));
+        self.steps += 1;
+    }
+
+    // A register becomes what the field's word leads to.
+    fn took_get(&mut self, dst: u8, src: u8, field: u8, word: u64)
+        requires valid { HasOperands self.old (Cmd.Get dst src field) }
+        requires first { self.old.steps ≡ 0 }
+
+        ensures took { self.new ≡ first_by self.old word (Cmd.Get dst src field) }
+        ensures kept { IsMachine self.new }
+    {
+        let cmd = Cmd::Get { dst, src, field };
+        if self.frame.read(src).is_none() {
+            self.phase = answered(cmd, only(Answer::NoObject));
+            self.steps += 1;
+            return;
+        }
+        let target = target(word);
+        put_in(&mut self.frame, dst, target);
+        let told = Told {
+            answer: null_or_object(target),
+            saw: word,
+            left: 0,
+        };
+        self.phase = answered(cmd, told);
+        self.steps += 1;
+    }
+
+    // The write is logged with the word that it replaced.
+    fn took_put(&mut self, src: u8, field: u8, val: u8, word: u64)
+        requires valid { HasOperands self.old (Cmd.Put src field val) }
+        requires first { self.old.steps ≡ 0 }
+
+        ensures took { self.new ≡ first_by self.old word (Cmd.Put src field val) }
+        ensures kept { IsMachine self.new }
+    {
+        let cmd = Cmd::Put { src, field, val };
+        let Some(slot) = self.frame.read(src) else {
+            self.phase = answered(cmd, only(Answer::NoObject));
+            self.steps += 1;
+            return;
+        };
+        if self.is_full() {
+            self.phase = answered(cmd, only(Answer::LogFull));
+            self.steps += 1;
+            return;
+        }
+        let left = self.word_for(val);
+        let entry = Entry::Put {
+            place: self.place_of(slot, field),
+            new: left,
+            old: word,
+        };
+        note(&mut self.log, entry);
+        let told = Told {
+            answer: Answer::Done,
+            saw: word,
+            left,
+        };
+        self.phase = answered(cmd, told);
+        self.steps += 1;
+    }
+
+    // The header tells the label.
+    fn took_value(&mut self, reg: u8, word: u64)
+        requires valid { HasOperands self.old (Cmd.Value reg) }
+        requires first { self.old.steps ≡ 0 }
+        requires found { IsFound self.old (first_op self.old (Cmd.Value reg)) word }
+
+        ensures took { self.new ≡ first_by self.old word (Cmd.Value reg) }
+        ensures kept { IsMachine self.new }
+    {
+        let answer = match self.frame.read(reg) {
+            Some(_) => Answer::Value((word - 1) as u32),
+            None => Answer::NoObject,
+        };
+        self.phase = answered(Cmd::Value { reg }, only(answer));
+        self.steps += 1;
+    }
+
+    // Two registers are compared.
+    fn took_same(&mut self, a: u8, b: u8)
+        requires valid { HasOperands self.old (Cmd.Same a b) }
+        requires first { self.old.steps ≡ 0 }
+
+        ensures took { self.new ≡ answered self.old (Cmd.Same a b) (plain (yes_or_no (same (register self.old a) (register self.old b)))) }
+        ensures kept { IsMachine self.new }
+    {
+        let answer = yes_or_no(self.frame.read(a), self.frame.read(b));
+        self.phase = answered(Cmd::Same { a, b }, only(answer));
+        self.steps += 1;
+    }
+
+    // A probe of a slot: it was free and is won, or the next one follows, if there is one.
+    fn took_probe(&mut self, reg: u8, label: u32, before: u64, slot: u16, word: u64)
+        requires scan { IsScan self.old reg }
+        requires slot { slot < self.old.slots }
+        requires steps { self.old.steps ≡ slot + 1 }
+
+        ensures took { self.new ≡ probed self.old reg label before slot word }
+        ensures kept { IsMachine self.new }
+    {
+        if word == 0 {
+            self.frame.set(reg, slot);
+            note(&mut self.log, Entry::Born { slot });
+            self.phase = answered(Cmd::New { reg, label }, only(Answer::Done));
+            self.steps += 1;
+        } else if slot + 1 == self.slots {
+            self.phase = Phase::Scanned { reg, label, before };
+            self.steps += 1;
+        } else {
+            self.phase = Phase::Scanning {
+                reg,
+                label,
+                before,
+                slot: slot + 1,
+            };
+            self.steps += 1;
+        }
+    }
+
+    // No slot was free.
+    fn took_last(&mut self, reg: u8, label: u32, before: u64, word: u64)
+        requires steps { self.old.steps ≡ self.old.slots + 1 }
+
+        ensures took { self.new ≡ answered self.old (Cmd.New reg label) (plain (none_free before word)) }
+        ensures kept { IsMachine self.new }
+    {
+        self.phase = answered(Cmd::New { reg, label }, only(none_free(before, word)));
+        self.steps += 1;
+    }
+
+    // The epoch word was the own epoch, so there is nothing to cross into.
+    fn took_poll(&mut self)
+        requires first { self.old.steps ≡ 0 }
+
+        ensures took { self.new ≡ moved self.old (Phase.Finished Work.Poll (Made.Crossed None)) }
+        ensures kept { IsMachine self.new }
+    {
+        self.phase = Phase::Finished {
+            work: Work::Poll,
+            made: Made::Crossed(None),
+        };
+        self.steps += 1;
+    }
+
+    fn is_full(&self) -> bool
+        ensures { result ≡ is_full self.now }
+    {
+        self.log.is_full()
+    }
+
+    // The step of what is decided without a shared word.
+    fn own_word(&self) -> Op
+        ensures { result ≡ own_word self.now }
+    {
+        Op::LoadCross(self.number)
+    }
+
+    fn place_of(&self, slot: u16, field: u8) -> u32
+        requires { field < self.now.fields }
+        ensures { result ≡ place_of slot field self.now.fields }
+    {
+        place(slot, field, self.fields)
+    }
+
+    // The word that leads where a register does, with the stamp of the next log entry.
+    fn word_for(&self, r: u8) -> u64
+        requires register { r < length self.now.registers }
+        requires room { length self.now.log.entries < self.now.log.capacity }
+
+        ensures { result ≡ word_for self.now r }
+    {
+        let stamp = Stamp {
+            writer: self.number,
+            epoch: self.epoch,
+            index: self.log.entries().len() as u32,
+        };
+        pack(self.frame.read(r), stamp)
+    }
+}
+
+// The phase after a command's last step.
+fn answered(cmd: Cmd, told: Told) -> Phase
+    ensures { result ≡ Phase.Finished (Work.Command cmd) (Made.Answered told) }
+{
+    Phase::Finished {
+        work: Work::Command(cmd),
+        made: Made::Answered(told),
+    }
+}
+
+// Adds an entry to a log that has room.
+fn note(log: &mut Buffer, entry: Entry)
+    requires { length log.old.entries < log.old.capacity }
+    ensures { log.new ≡ record log.old { entries = log.old.entries ++ entry ∷ [] } }
+{
+    let noted = log.push(entry).is_ok();
+    prove!(noted);
+}
+
+// Lets a register be this.
+fn put_in(frame: &mut Frame, r: u8, target: Option<u16>)
+    requires { r < length frame.old }
+    ensures { frame.new ≡ slice_set frame.old r target }
+{
+    match target {
+        Some(slot) => frame.set(r, slot),
+        None => frame.clear(r),
+    }
+}
+
+// What a read of a field that leads there answers.
+fn null_or_object(target: Option<u16>) -> Answer
+    ensures { result ≡ null_or_object target }
+{
+    match target {
+        Some(_) => Answer::Object,
+        None => Answer::Null,
+    }
+}
+
+// What a comparison answers.
+fn yes_or_no(one: Option<u16>, other: Option<u16>) -> Answer
+    ensures { result ≡ yes_or_no (same one other) }
+{
+    if one == other {
+        Answer::Yes
+    } else {
+        Answer::No
+    }
+}
+
+// An answer that saw and left no word.
+fn only(answer: Answer) -> Told
+    ensures { result ≡ plain answer }
+{
+    Told {
+        answer,
+        saw: 0,
+        left: 0,
+    }
+}
+
+// Why an allocation found no free slot.
+fn none_free(before: u64, after: u64) -> Answer
+    ensures { result ≡ none_free before after }
+{
+    if before % 2 == 0 && before == after {
+        Answer::Full
+    } else {
+        Answer::Busy { before, after }
+    }
+}
+
+#[cfg(test)]
+mod tests;
