@@ -14,13 +14,13 @@ use Rattle.rec_world.specs.World.{State, sight}
 use Rattle.rec_world.specs.declared.config.Config.{Config}
 use Rattle.recycler.specs.declared.status.Status.{Status}
 use Rattle.recycler.specs.declared.status.Status.TheVariants as statuses
-use Rattle.recycler.specs.declared.script.error.Kind.{Kind}
-use Rattle.recycler.specs.declared.script.error.ScriptError.{ScriptError}
-use Rattle.recycler.specs.declared.script.error.ScriptError.TheVariants.{Bad}
+use Rattle.rec_script.specs.declared.error.Kind.{Kind}
+use Rattle.rec_script.specs.declared.error.ScriptError.{ScriptError}
+use Rattle.rec_script.specs.declared.error.ScriptError.TheVariants.{Bad}
 use Rattle.recycler.specs.Headline.{Are, IsAnswer, Answers, WroteAnswer, WroteFront, ReadNoScript}
 use Rattle.recycler.specs.Played.{config_of, log_room, IsPlayed, last_moment}
-use Rattle.recycler.specs.Script.{Contents, IsText, IsRefused}
-use Rattle.recycler.specs.Text.{play_text}
+use Rattle.rec_script.specs.Script.{Contents, IsText, IsRefused}
+use Rattle.rec_report.specs.Text.{play_text}
 use Rattle.recycler.specs.Whole.{IsAtEnd}
 
 -- one value in two options

@@ -1,14 +1,4 @@
-pub mod CommandLines
-pub mod Counting
 pub mod Endings
 pub mod Fronts
-pub mod HeapLines
-pub mod Held
-pub mod Lines
-pub mod MutatorLines
-pub mod Numerals
-pub mod Operands
 pub mod Playing
-pub mod Rows
-pub mod Spellings
 pub mod Turns

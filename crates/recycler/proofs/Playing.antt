@@ -22,7 +22,7 @@ use Rattle.rec_model.proofs.Growing.{StampsAnew, legal_empty, legal_grows, after
 use Rattle.rec_model.proofs.Opened.{opening_stands}
 use Rattle.rec_world.specs.World.{opened, State, sight, IsLogFull, IsFull, is_plain, entries_of}
 use Rattle.rec_world.specs.declared.config.Config.{Config}
-use Rattle.recycler.specs.Script.{Contents}
+use Rattle.rec_script.specs.Script.{Contents}
 use Rattle.recycler.specs.Played.{config_of, longest, log_room, limits_of, opening_moment, last_moment, is_answer, IsPlayed}
 
 -- one mutator's first commands were played

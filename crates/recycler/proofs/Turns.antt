@@ -8,7 +8,7 @@ use Rattle.rec_model.specs.LegalOrder.{Line, Event, Limits, Moment, actors, line
 use Rattle.rec_model.specs.LegalOrder.Event.{Answers, Frees, Marks}
 use Rattle.rec_model.specs.Numbering.{times}
 use Rattle.recycler.specs.Played.{longest}
-use Rattle.recycler.specs.Text.{IsOrderOf}
+use Rattle.rec_report.specs.Text.{IsOrderOf}
 
 -- one turn more or none, and one line more or none
 turns_of_one : (t s : ℕ) (line : Line) (order : List ℕ) (lines : List Line) → times t order ≡ length lines

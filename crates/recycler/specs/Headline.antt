@@ -7,9 +7,9 @@ use Rattle.rec_model.specs.Listing.{Row, IsListing}
 use Rattle.rec_model.specs.Sight.{Sight, StandsFor, IsCollected}
 use Rattle.recycler.specs.Played.{IsPlayed, last_moment}
 use Rattle.rec_io.specs.Sink.{Appends}
-use Rattle.recycler.specs.Script.{Contents, IsScript, IsRefused, spelling}
-use Rattle.recycler.specs.declared.script.error.Kind.{Kind}
-use Rattle.recycler.specs.Text.{play_text}
+use Rattle.rec_script.specs.Script.{Contents, IsScript, IsRefused, spelling}
+use Rattle.rec_script.specs.declared.error.Kind.{Kind}
+use Rattle.rec_report.specs.Text.{play_text}
 use Rattle.recycler.specs.Whole.{IsAtEnd}
 
 -- The heap is settled: just what registers reach holds slots, of which there are so many, and these are its rows.

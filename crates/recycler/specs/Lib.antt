@@ -1,11 +1,5 @@
 pub mod CommandLine
-pub mod Fields
 pub mod Headline
-pub mod Holders
 pub mod Played
-pub mod Reading
-pub mod Report
-pub mod Script
 pub mod Status
-pub mod Text
 pub mod Whole

@@ -5,7 +5,7 @@ use Rattle.rec_model.specs.declared.command.Cmd.{Cmd}
 use Rattle.rec_model.specs.Heap.{opening}
 use Rattle.rec_model.specs.LegalOrder.{Line, Event, Limits, Moment, after_all, actor, IsLegalOrder}
 use Rattle.rec_world.specs.declared.config.Config.{Config}
-use Rattle.recycler.specs.Script.{Contents}
+use Rattle.rec_script.specs.Script.{Contents}
 
 -- the greatest number of commands of a mutator
 abbrev pub longest : List (List Cmd) → ℕ

@@ -11,9 +11,7 @@
 mod gate;
 mod play;
 mod reading;
-mod report;
 mod run;
-mod script;
 mod status;
 mod writing;
 

@@ -3,10 +3,10 @@ ghost use Rattle.std.specs.Prelude.{◌≡◌, ℕ, List, [], ◌∷◌, length,
 ghost use Rattle.rec_model.specs.LegalOrder.{Event, actors};
 ghost use Rattle.rec_model.specs.Sight.{StandsFor};
 ghost use Rattle.rec_world.specs.World.{sight, opened};
-ghost use Rattle.recycler.specs.Script.{IsScript};
+ghost use Rattle.rec_script.specs.Script.{IsScript};
 ghost use Rattle.recycler.specs.Played.{config_of, log_room, IsPlayed, last_moment};
 
-use crate::script::Script;
+use rec_script::Script;
 use rec_world::{Journal, Order, World};
 
 /// Runs the commands of a script on the heap that was opened for it, and notes what was told and in which order.

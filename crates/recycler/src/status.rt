@@ -1,4 +1,4 @@
-use crate::script::Kind;
+use rec_script::Kind;
 use std::fmt;
 
 /// How a run of the program ended.

@@ -4,8 +4,8 @@ ghost use Rattle.std.specs.List.{flat_map};
 ghost use Rattle.rec_io.specs.Faults.{Rose};
 ghost use Rattle.rec_io.specs.Sink.{Appends};
 
-use crate::report::Line;
 use rec_io::{Sink, Taken};
+use rec_report::Line;
 
 /// A write failed.
 #[derive(Clone, Copy, Debug, PartialEq, Eq)]

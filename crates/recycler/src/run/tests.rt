@@ -1,7 +1,7 @@
 use super::*;
 use crate::gate::OpenGate;
-use crate::script::Kind;
 use rec_io::{BytesSource, Given, RoomSink, SteadySource};
+use rec_script::Kind;
 use std::test::Fail;
 
 const PLAY: [&str; 2] = ["recycler", "play"];

@@ -2,7 +2,7 @@ use Rattle.std.proofs.Common.{◌+◌, ◌≤◌, List, [], length, refl, ap, �
 use Rattle.std.proofs.lemmas.List.{length_push}
 use Rattle.std.proofs.lemmas.Option.{slice_get-get_or}
 use Rattle.rec_model.specs.declared.command.Cmd.{Cmd}
-use Rattle.recycler.specs.Script.{Contents}
+use Rattle.rec_script.specs.Script.{Contents}
 use Rattle.recycler.specs.Played.{log_room}
 use Rattle.recycler.proofs.Playing.{begun, noted, ended, alone, fits_log}
 use Rattle.recycler.proofs.play.play.Goals as goal

@@ -5,8 +5,8 @@ use Rattle.rec_world.specs.World.{State, opened}
 use Rattle.rec_world.specs.declared.config.Config.{Config}
 use Rattle.recycler.specs.Headline.{Answers}
 use Rattle.recycler.specs.Played.{log_room, last_moment}
-use Rattle.recycler.specs.Script.{Contents}
-use Rattle.recycler.specs.Text.{IsOrderOf, play_text}
+use Rattle.rec_script.specs.Script.{Contents}
+use Rattle.rec_report.specs.Text.{IsOrderOf, play_text}
 use Rattle.recycler.proofs.Endings.{if_ok, config_is, answers_script}
 use Rattle.recycler.proofs.Fronts.{joined}
 use Rattle.recycler.proofs.Turns.{longest_is, legal_turns}

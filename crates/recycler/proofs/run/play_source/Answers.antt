@@ -1,7 +1,7 @@
 use Rattle.std.proofs.Common.{sym, subst}
 use Rattle.rec_io.specs.Sink.{Appends}
 use Rattle.recycler.specs.Headline.{IsAnswer}
-use Rattle.recycler.specs.Script.{IsRefused}
+use Rattle.rec_script.specs.Script.{IsRefused}
 use Rattle.recycler.proofs.Endings.{bad_same, no_script, wrote_answer, wrote_front}
 use Rattle.recycler.proofs.Fronts.{joined}
 use Rattle.recycler.proofs.run.play_source.Goals as goal

@@ -1,0 +1,4 @@
+pub mod Counting
+pub mod Held
+pub mod Lines
+pub mod Rows

@@ -1,0 +1,118 @@
+-- The rows of a world's listing, one after another, and what a numbering of its slots is given.
+use Rattle.std.proofs.Common.{◌≡◌, inl, inr, ℕ, ◌+◌, ◌-◌, ◌*◌, ◌<◌, ◌++◌, true, List, [], ◌∷◌, Option, None, Some, map, take, length, get_or, refl, sym, ◌∙◌, ap, subst, arith, append_assoc}
+use Rattle.std.specs.Prelude.{option_map, slice_range, unwrap_or}
+use Rattle.std.proofs.lemmas.Bool.{cases_eq, ne_eqb}
+use Rattle.std.proofs.lemmas.List.{get_or-map, length-map, take-map}
+use Rattle.std.proofs.lemmas.List.Elements.{All-get_or}
+use Rattle.rec_word.specs.Word.{target_of}
+use Rattle.rec_model.specs.Reach.{named, is_in}
+use Rattle.rec_model.specs.Reach.IsReached.{child}
+use Rattle.rec_model.specs.Heap.{roots, registers_of}
+use Rattle.rec_model.specs.Sight.{Sight, Reaches, NumbersSlots, targets_of, words_of, holders_of}
+use Rattle.rec_model.specs.Listing.{Row, number_in, slot_row, ListsSlots}
+use Rattle.rec_model.proofs.Members.{is_in-head, is_in-tail}
+use Rattle.rec_model.proofs.Numbered.{lists_reached}
+use Rattle.rec_world.specs.Numbering.{Numbered, number_of, sight_of, NamesBelow}
+use Rattle.rec_world.specs.World.{State, sight, IsWorld, label_of}
+use Rattle.rec_world.proofs.Names.{names_sound}
+use Rattle.rec_report.specs.Report.{IsNumbered, AreHolders}
+use Rattle.rec_report.specs.Text.{field_number, live_line, row_line, row_lines}
+use Rattle.rec_report.proofs.Held.{world_row, own_words}
+use Rattle.rec_report.proofs.Lines.{added, next_numbered}
+
+-- what a listed object's fields lead to is listed
+fields_numbered : (list : List ℕ) (xs : List (Option ℕ)) → ((n : ℕ) → is_in n (named xs) ≡ true → is_in n list ≡ true) → map (field_number list) xs ≡ map (option_map (number_in list)) xs
+fields_numbered list [] listed = refl
+fields_numbered list (None ∷ xs) listed = ap (λ ys. None ∷ ys) (fields_numbered list xs listed)
+fields_numbered list (Some n ∷ xs) listed =
+    ap (λ x. x ∷ map (field_number list) xs) (here (listed n (is_in-head n (named xs))))
+    ∙ ap (λ ys. Some (number_in list n) ∷ ys) (fields_numbered list xs (λ m h. listed m (is_in-tail m n (named xs) h)))
+  where
+    here : is_in n list ≡ true → number_of list n ≡ Some (number_in list n)
+    here h = rw h refl
+
+by_targets : {Y : Type 0} (f : Option ℕ → Y) (words : List ℕ) → map (λ word. f (target_of word)) words ≡ map f (map target_of words)
+by_targets f [] = refl
+by_targets f (word ∷ words) = ap (λ ys. f (target_of word) ∷ ys) (by_targets f words)
+
+slot_fields : (w : Sight) (list : List ℕ) (slot : ℕ) → NumbersSlots w list → Reaches w slot → map (λ word. field_number list (target_of word)) (words_of w slot) ≡ map (λ word. option_map (number_in list) (target_of word)) (words_of w slot)
+slot_fields w list slot numbers reached =
+    by_targets (field_number list) (words_of w slot)
+    ∙ fields_numbered list (map target_of (words_of w slot)) (λ n there. (lists_reached (roots w.registers) (targets_of w) list numbers n).0 (child slot n reached there))
+    ∙ sym (by_targets (option_map (number_in list)) (words_of w slot))
+
+header_label : (header : ℕ) → unwrap_or (label_of header) 0 ≡ header - 1
+header_label header = elim (cases_eq header 0) [
+  | inl e ↦ rw e refl
+  | inr apart ↦ rw (ne_eqb header 0 apart) refl
+]
+
+abbrev row_of : ℕ → ℕ → List (Option ℕ) → Row
+row_of label count fields = record { label = label; count = count; fields = fields }
+
+-- the row that is read off a listed slot
+pub read_row : (w : State) (fields : ℕ) (n : Numbered) (i slot wide again label count : ℕ) (found : Option ℕ) (words counts : List ℕ) → IsNumbered w fields n → AreHolders w n.list counts → i < length n.list → slot ≡ get_or n.list i 0 → wide ≡ fields → again ≡ fields → words ≡ w.words → found ≡ label_of (get_or w.headers slot 0) → label ≡ unwrap_or found 0 → count ≡ get_or counts slot 0 → row_of label count (map (λ word. field_number n.list (target_of word)) (slice_range words (slot * wide) (slot * wide + again))) ≡ slot_row (sight w) n.list (get_or n.list i 0)
+read_row w fields n i slot wide again label count found words counts numbered held within at e f all look opened counted =
+    let reached : Reaches (sight w) slot = subst (Reaches (sight w)) (sym at) (All-get_or (Reaches (sight w)) n.list i 0 within numbered.numbers.reached) in
+    ap (λ k. row_of k count (map (λ word. field_number n.list (target_of word)) (slice_range words (slot * wide) (slot * wide + again)))) (opened ∙ ap (λ x. unwrap_or x 0) look ∙ header_label (get_or w.headers slot 0))
+    ∙ ap (λ k. row_of (get_or w.headers slot 0 - 1) k (map (λ word. field_number n.list (target_of word)) (slice_range words (slot * wide) (slot * wide + again)))) (counted ∙ held.each slot)
+    ∙ ap (row_of (get_or w.headers slot 0 - 1) (holders_of (sight w) n.list slot)) (
+    ap (map (λ word. field_number n.list (target_of word))) (own_words w fields slot wide again words numbered.same_fields e f all)
+    ∙ slot_fields (sight w) n.list slot numbered.numbers reached)
+    ∙ ap (slot_row (sight w) n.list) at
+
+-- the next row
+pub row_step : (first so_far more : List (List ℕ)) (line : List ℕ) (w : State) (list : List ℕ) (i : ℕ) (row : Row) → i < length list → so_far ≡ first ++ row_lines (map (slot_row (sight w) list) (take i list)) → line ≡ row_line (i + 1) row → row ≡ slot_row (sight w) list (get_or list i 0) → more ≡ so_far ++ line ∷ [] → more ≡ first ++ row_lines (map (slot_row (sight w) list) (take (i + 1) list))
+row_step first so_far more line w list i row within e f is g =
+    let rows : List Row = map (slot_row (sight w) list) list in
+    let size : i < length rows = rw length-map within in
+    let n : 1 + i ≡ i + 1 = omega arith in
+    let d : Row = slot_row (sight w) list 0 in
+    added first so_far more (line ∷ []) (row_lines (map (slot_row (sight w) list) (take i list))) (row_lines (map (slot_row (sight w) list) (take (i + 1) list))) e g (
+    ap row_lines (sym (take-map (slot_row (sight w) list) (i + 1) list))
+    ∙ next_numbered (λ p. row_line p.0 p.1) 1 rows i d size
+    ∙ ap (λ rs. row_lines rs ++ row_line (1 + i) (get_or rows i d) ∷ []) (take-map (slot_row (sight w) list) i list)
+    ∙ ap (λ r. row_lines (map (slot_row (sight w) list) (take i list)) ++ row_line (1 + i) r ∷ []) (get_or-map (slot_row (sight w) list) list i 0 d within ∙ sym is)
+    ∙ ap (λ k. row_lines (map (slot_row (sight w) list) (take i list)) ++ row_line k row ∷ []) n
+    ∙ ap (λ l. row_lines (map (slot_row (sight w) list) (take i list)) ++ l ∷ []) (sym f))
+
+-- what the registers and words that were read name
+pub names_world : (w : State) (registers : List (Option ℕ)) (words : List ℕ) (fields slots : ℕ) → IsWorld w → registers ≡ registers_of w.registers 1 → words ≡ w.words → fields ≡ w.config.fields → slots ≡ w.config.slots → NamesBelow (sight_of registers words fields) slots
+names_world w registers words fields slots world own all same count =
+    let sound : NamesBelow (sight w) (length w.headers) = names_sound (sight w) world.sound in
+    let size : length w.headers ≡ slots = world.headers ∙ sym count in
+    rw (own, all, same, ← size) (record {
+      registers = subst (λ rows. (slot : ℕ) → is_in slot (roots rows) ≡ true → slot < length w.headers) (sym (world_row w world)) sound.registers;
+      fields = sound.fields;
+    })
+
+-- and their numbering is the world's
+pub numbers_world : (w : State) (registers : List (Option ℕ)) (words : List ℕ) (fields : ℕ) (list : List ℕ) → IsWorld w → registers ≡ registers_of w.registers 1 → words ≡ w.words → fields ≡ w.config.fields → NumbersSlots (sight_of registers words fields) list → NumbersSlots (sight w) list
+numbers_world w registers words fields list world own all same numbers =
+    let a : NumbersSlots (sight_of registers words w.config.fields) list = subst (λ k. NumbersSlots (sight_of registers words k) list) same numbers in
+    let b : NumbersSlots (sight_of registers w.words w.config.fields) list = subst (λ ws. NumbersSlots (sight_of registers ws w.config.fields) list) all a in
+    let c : NumbersSlots (sight_of (registers_of w.registers 1) w.words w.config.fields) list = subst (λ rs. NumbersSlots (sight_of rs w.words w.config.fields) list) own b in
+    subst (λ rows. NumbersSlots (record (sight w) { registers = rows }) list) (world_row w world) c
+
+pub is_numbered : (w : State) (registers : List (Option ℕ)) (words : List ℕ) (fields : ℕ) (n : Numbered) (slots : ℕ) → IsWorld w → registers ≡ registers_of w.registers 1 → words ≡ w.words → fields ≡ w.config.fields → slots ≡ w.config.slots → n.slots ≡ slots → NumbersSlots (sight_of registers words fields) n.list → IsNumbered w fields n
+is_numbered w registers words fields n slots world own all same count kept numbers = record {
+  slots = kept ∙ count;
+  same_fields = same;
+  numbers = numbers_world w registers words fields n.list world own all same numbers;
+}
+
+-- the same where the slot was read off the list
+pub row_read : (w : State) (fields : ℕ) (n : Numbered) (i slot wide again label count : ℕ) (found : Option ℕ) (words counts now : List ℕ) → IsNumbered w fields n → AreHolders w n.list counts → now ≡ n.list → i < length n.list → slot ≡ get_or now i 0 → wide ≡ fields → again ≡ fields → words ≡ w.words → found ≡ label_of (get_or w.headers (get_or now i 0) 0) → label ≡ unwrap_or found 0 → count ≡ get_or counts (get_or now i 0) 0 → row_of label count (map (λ word. field_number n.list (target_of word)) (slice_range words (slot * wide) (slot * wide + again))) ≡ slot_row (sight w) n.list (get_or n.list i 0)
+row_read w fields n i slot wide again label count found words counts now numbered held same within at e f all look opened counted =
+    read_row w fields n i slot wide again label count found words counts numbered held within (at ∙ ap (λ ns. get_or ns i 0) same) e f all
+    (look ∙ ap (λ s. label_of (get_or w.headers s 0)) (sym at)) opened (counted ∙ ap (λ s. get_or counts s 0) (sym at))
+
+-- a listing behind the number of its rows
+pub listed : (w : State) (n : Numbered) (list : List ℕ) (live : ℕ) (first line more : List (List ℕ)) (head : List ℕ) → NumbersSlots (sight w) n.list → list ≡ n.list → live ≡ length list → head ≡ live_line live → line ≡ first ++ head ∷ [] → more ≡ line ++ row_lines (map (slot_row (sight w) n.list) n.list) → (rows : List Row) × ListsSlots (sight w) rows × (live ≡ length rows) × (more ≡ first ++ live_line live ∷ row_lines rows)
+listed w n list live first line more head numbers same size e f g =
+    let rows : List Row = map (slot_row (sight w) n.list) n.list in (
+      rows,
+      (n.list, numbers, refl),
+      size ∙ ap length same ∙ sym (length-map n.list (slot_row (sight w) n.list)),
+      g ∙ ap (λ ls. ls ++ row_lines rows) (f ∙ ap (λ l. first ++ l ∷ []) e) ∙ append_assoc first (live_line live ∷ []) (row_lines rows),
+    )

@@ -1,0 +1,6 @@
+-- The next answer has the next number.
+use Rattle.rec_report.proofs.Lines.{journal_step}
+use Rattle.rec_report.proofs.page.Text.add_journal.Goals as goal
+
+pub loop-i-preserved : goal.loop-i-preserved
+loop-i-preserved c = journal_step _ _ _ _ _ _ _ _ c.loop-i-test.true c.loop-i.invariant c.in_ok-answer.ensures c.in_ok-add.ensures

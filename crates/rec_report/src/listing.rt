@@ -1,0 +1,61 @@
+//! The listing of a world's live objects.
+
+ghost use Rattle.std.specs.Prelude.{◌≡◌, ◌++◌, ◌∷◌, List, length, map, IfOk, OnOk};
+ghost use Rattle.rec_model.specs.Listing.{Row, slot_row, ListsSlots};
+ghost use Rattle.rec_world.specs.World.{sight};
+ghost use Rattle.rec_report.specs.Report.{AreFor, AreHolders, IsNumbered};
+ghost use Rattle.rec_report.specs.Text.{live_line, row_lines};
+
+use crate::holders::Holders;
+use crate::{Line, Text};
+use rec_script::Script;
+use rec_world::{Numbering, World};
+use std::alloc::{AllocError as NoMemory, Global};
+
+impl Text {
+    /// How many objects are live, and then their listing.
+    pub(super) fn add_listing(
+        &mut self,
+        alloc: Global,
+        script: &Script,
+        world: &World,
+    ) -> Result<usize, NoMemory>
+        requires { AreFor script.now world.now }
+        ensures { IfOk result (λ live. (rows : List Row) × ListsSlots (sight world.now) rows × (live ≡ length rows) × (self.new ≡ self.old ++ live_line live ∷ row_lines rows)) }
+    {
+        let fields = script.fields() as u8;
+        let words = world.words();
+        let mut numbering = Numbering::open(alloc, script.slots() as u16)?;
+        numbering.fill(world.registers(1), words, fields);
+        let holders = Holders::of(alloc, world, fields, &numbering)?;
+        let live = numbering.list().len();
+        self.add(Line::live(alloc, live)?)?;
+        self.add_rows(alloc, world, fields, &numbering, &holders)?;
+        Ok(live)
+    }
+
+    // The rows of the numbered slots.
+    fn add_rows(
+        &mut self,
+        alloc: Global,
+        world: &World,
+        fields: u8,
+        numbering: &Numbering,
+        holders: &Holders,
+    ) -> Result<(), NoMemory>
+        requires numbers { IsNumbered world.now fields numbering.now }
+        requires counts { AreHolders world.now numbering.now.list holders.now }
+
+        ensures { OnOk result (self.new ≡ self.old ++ row_lines (map (slot_row (sight world.now) numbering.now.list) numbering.now.list)) }
+    {
+        let words = world.words();
+        for (i, slot) in numbering.list().iter().enumerate() {
+            let label = world.label(*slot).unwrap_or(0);
+            let first = usize::from(*slot) * usize::from(fields);
+            let own = &words[first..first + usize::from(fields)];
+            let count = holders.count(*slot);
+            self.add(Line::row(alloc, i + 1, label, count, own, numbering)?)?;
+        }
+        Ok(())
+    }
+}

@@ -1,0 +1,52 @@
+use super::*;
+use std::test::Fail;
+
+#[test]
+fn prints_each_answer(rt: HostRuntime) -> Result<(), Fail> {
+    let cases = [
+        (Answer::Done, "2.7 done\n"),
+        (Answer::Null, "2.7 null\n"),
+        (Answer::Object, "2.7 object\n"),
+        (Answer::Value(4_294_967_295), "2.7 value 4294967295\n"),
+        (Answer::Yes, "2.7 yes\n"),
+        (Answer::No, "2.7 no\n"),
+        (Answer::NoObject, "2.7 none\n"),
+        (Answer::Full, "2.7 full\n"),
+        (
+            Answer::Busy {
+                before: 10,
+                after: 11,
+            },
+            "2.7 busy 10 11\n",
+        ),
+        (Answer::LogFull, "2.7 logfull\n"),
+    ];
+    for (answer, wanted) in cases {
+        let line = Line::answer(rt.alloc(), 2, 7, answer)?;
+        assert_eq!(rt; line.bytes(), wanted.as_bytes());
+    }
+    Ok(())
+}
+
+#[test]
+fn lists_mutator_by_mutator(rt: HostRuntime) -> Result<(), Fail> {
+    let mut journals = Vec::new(rt.alloc());
+    for answer in [Answer::Done, Answer::Full] {
+        let mut journal = Journal::open(rt.alloc(), 1)?;
+        let told = Told {
+            answer,
+            saw: 0,
+            left: 0,
+        };
+        journal.note(Cmd::New { reg: 0, label: 5 }, told);
+        journals.push(journal)?;
+    }
+    let mut text = Text::new(rt.alloc());
+    text.add_journals(rt.alloc(), &journals)?;
+    assert_eq!(rt; text.lines().len(), 2);
+    assert_eq!(rt; text.lines()[0].bytes(), b"1.1 done\n".as_slice());
+    assert_eq!(rt; text.lines()[1].bytes(), b"2.1 full\n".as_slice());
+    assert_eq!(rt; journals.len(), 2);
+    assert_eq!(rt; refusals_of(&journals), 1);
+    Ok(())
+}

@@ -1,6 +1,0 @@
--- The registers and the fields of the slots so far are counted.
-use Rattle.recycler.proofs.Held.{IsHeld}
-use Rattle.recycler.proofs.report.holders.Holders.of.Given as goal
-
-abbrev pub invariant-loop-slot : goal.invariant-loop-slot
-invariant-loop-slot l = IsHeld l.world l.numbering.list l.slot-index l.holders

@@ -1,7 +1,0 @@
--- The pieces of the format one after another.
-use Rattle.std.proofs.Common.{append_assoc}
-use Rattle.std.proofs.lemmas.Result.{IfOk-weaker}
-use Rattle.recycler.proofs.report.line.row_head.Goals as goal
-
-pub returns : goal.returns
-returns c = IfOk-weaker c.format.result _ _ (λ text h. simp append_assoc h) c.format.ensures.ok
