@@ -7,17 +7,16 @@ use Rattle.std.proofs.lemmas.List.Elements.{All-get_or}
 use Rattle.rec_word.specs.Word.{target_of}
 use Rattle.rec_model.specs.Reach.{named, is_in}
 use Rattle.rec_model.specs.Reach.IsReached.{child}
-use Rattle.rec_model.specs.Heap.{roots, registers_of}
+use Rattle.rec_model.specs.Heap.{roots}
 use Rattle.rec_model.specs.Sight.{Sight, Reaches, NumbersSlots, targets_of, words_of, holders_of}
 use Rattle.rec_model.specs.Listing.{Row, number_in, slot_row, ListsSlots}
 use Rattle.rec_model.proofs.Members.{is_in-head, is_in-tail}
 use Rattle.rec_model.proofs.Numbered.{lists_reached}
-use Rattle.rec_world.specs.Numbering.{Numbered, number_of, sight_of, NamesBelow}
-use Rattle.rec_world.specs.World.{State, sight, IsWorld, label_of}
-use Rattle.rec_world.proofs.Names.{names_sound}
+use Rattle.rec_world.specs.Numbering.{Numbered, number_of}
+use Rattle.rec_world.specs.World.{State, sight, label_of}
 use Rattle.rec_report.specs.Report.{IsNumbered, AreHolders}
 use Rattle.rec_report.specs.Text.{field_number, live_line, row_line, row_lines}
-use Rattle.rec_report.proofs.Held.{world_row, own_words}
+use Rattle.rec_report.proofs.Held.{own_words}
 use Rattle.rec_report.proofs.Lines.{added, next_numbered}
 
 -- what a listed object's fields lead to is listed
@@ -75,31 +74,6 @@ row_step first so_far more line w list i row within e f is g =
     ∙ ap (λ r. row_lines (map (slot_row (sight w) list) (take i list)) ++ row_line (1 + i) r ∷ []) (get_or-map (slot_row (sight w) list) list i 0 d within ∙ sym is)
     ∙ ap (λ k. row_lines (map (slot_row (sight w) list) (take i list)) ++ row_line k row ∷ []) n
     ∙ ap (λ l. row_lines (map (slot_row (sight w) list) (take i list)) ++ l ∷ []) (sym f))
-
--- what the registers and words that were read name
-pub names_world : (w : State) (registers : List (Option ℕ)) (words : List ℕ) (fields slots : ℕ) → IsWorld w → registers ≡ registers_of w.registers 1 → words ≡ w.words → fields ≡ w.config.fields → slots ≡ w.config.slots → NamesBelow (sight_of registers words fields) slots
-names_world w registers words fields slots world own all same count =
-    let sound : NamesBelow (sight w) (length w.headers) = names_sound (sight w) world.sound in
-    let size : length w.headers ≡ slots = world.headers ∙ sym count in
-    rw (own, all, same, ← size) (record {
-      registers = subst (λ rows. (slot : ℕ) → is_in slot (roots rows) ≡ true → slot < length w.headers) (sym (world_row w world)) sound.registers;
-      fields = sound.fields;
-    })
-
--- and their numbering is the world's
-pub numbers_world : (w : State) (registers : List (Option ℕ)) (words : List ℕ) (fields : ℕ) (list : List ℕ) → IsWorld w → registers ≡ registers_of w.registers 1 → words ≡ w.words → fields ≡ w.config.fields → NumbersSlots (sight_of registers words fields) list → NumbersSlots (sight w) list
-numbers_world w registers words fields list world own all same numbers =
-    let a : NumbersSlots (sight_of registers words w.config.fields) list = subst (λ k. NumbersSlots (sight_of registers words k) list) same numbers in
-    let b : NumbersSlots (sight_of registers w.words w.config.fields) list = subst (λ ws. NumbersSlots (sight_of registers ws w.config.fields) list) all a in
-    let c : NumbersSlots (sight_of (registers_of w.registers 1) w.words w.config.fields) list = subst (λ rs. NumbersSlots (sight_of rs w.words w.config.fields) list) own b in
-    subst (λ rows. NumbersSlots (record (sight w) { registers = rows }) list) (world_row w world) c
-
-pub is_numbered : (w : State) (registers : List (Option ℕ)) (words : List ℕ) (fields : ℕ) (n : Numbered) (slots : ℕ) → IsWorld w → registers ≡ registers_of w.registers 1 → words ≡ w.words → fields ≡ w.config.fields → slots ≡ w.config.slots → n.slots ≡ slots → NumbersSlots (sight_of registers words fields) n.list → IsNumbered w fields n
-is_numbered w registers words fields n slots world own all same count kept numbers = record {
-  slots = kept ∙ count;
-  same_fields = same;
-  numbers = numbers_world w registers words fields n.list world own all same numbers;
-}
 
 -- the same where the slot was read off the list
 pub row_read : (w : State) (fields : ℕ) (n : Numbered) (i slot wide again label count : ℕ) (found : Option ℕ) (words counts now : List ℕ) → IsNumbered w fields n → AreHolders w n.list counts → now ≡ n.list → i < length n.list → slot ≡ get_or now i 0 → wide ≡ fields → again ≡ fields → words ≡ w.words → found ≡ label_of (get_or w.headers (get_or now i 0) 0) → label ≡ unwrap_or found 0 → count ≡ get_or counts (get_or now i 0) 0 → row_of label count (map (λ word. field_number n.list (target_of word)) (slice_range words (slot * wide) (slot * wide + again))) ≡ slot_row (sight w) n.list (get_or n.list i 0)

@@ -45,11 +45,22 @@ impl Holders {
         ensures { IfOk result (λ holders. AreHolders world.now numbering.now.list holders) }
     {
         let words = world.words();
-        let mut holders = Holders::new(alloc, usize::from(numbering.slots()))?;
-        holders.add_registers(world.registers(1));
+        let mut holders = Holders::of_registers(alloc, world, numbering.slots())?;
         for slot in numbering.list() {
             let first = usize::from(*slot) * usize::from(fields);
             holders.add_fields(&words[first..first + usize::from(fields)]);
+        }
+        Ok(holders)
+    }
+
+    // The counts where only the registers hold slots.
+    fn of_registers(alloc: Global, world: &World, slots: u16) -> Result<Holders, NoMemory>
+        requires { slots ≡ world.now.config.slots }
+        ensures { IfOk result (λ holders. AreHolders world.now [] holders) }
+    {
+        let mut holders = Holders::new(alloc, usize::from(slots))?;
+        for t in 0..world.mutators() {
+            holders.add_registers(world.registers(t + 1));
         }
         Ok(holders)
     }

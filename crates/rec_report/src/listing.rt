@@ -24,9 +24,8 @@ impl Text {
         ensures { IfOk result (λ live. (rows : List Row) × ListsSlots (sight world.now) rows × (live ≡ length rows) × (self.new ≡ self.old ++ live_line live ∷ row_lines rows)) }
     {
         let fields = script.fields() as u8;
-        let words = world.words();
         let mut numbering = Numbering::open(alloc, script.slots() as u16)?;
-        numbering.fill(world.registers(1), words, fields);
+        world.number(&mut numbering);
         let holders = Holders::of(alloc, world, fields, &numbering)?;
         let live = numbering.list().len();
         self.add(Line::live(alloc, live)?)?;

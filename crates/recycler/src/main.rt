@@ -8,6 +8,7 @@
 //! The form of a script and of its answer is this project's profile (`docs/PROFILE.md`).
 #![tactic(auto)]
 
+mod command_line;
 mod gate;
 mod play;
 mod reading;
