@@ -4,7 +4,7 @@ ghost use Rattle.rec_word.specs.Word.{IsTarget, packed, stamp_of, target_of};
 ghost use Rattle.rec_model.specs.Heap.{Heap, opening, register, registers_of};
 ghost use Rattle.rec_model.specs.Explained.{IsExplained};
 ghost use Rattle.rec_model.specs.LegalOrder.{is_birth, word_left};
-ghost use Rattle.rec_model.specs.Sight.{IsTaken, IsCollected, Collects, NumbersSlots, StandsFor};
+ghost use Rattle.rec_model.specs.Sight.{IsTaken, IsCollected, Collects, StandsFor};
 ghost use Rattle.rec_world.specs.Config.{IsConfig, IsMutator, HasOperands, IsValid};
 ghost use Rattle.rec_world.specs.Outcome.{outcome, next_stamp};
 ghost use Rattle.rec_world.specs.World.{State, sight, opened, IsWorld, label_of, IsLogFull, IsFull, LacksObject, is_refusal, is_plain, entries_of, IsLowestFree, sight_after};
@@ -184,25 +184,6 @@ impl World {
         ensures kept { IsWorld self.now }
     {
         &self.registers
-    }
-
-    /// How many mutators there are.
-    pub fn mutators(&self) -> u8
-        ensures mutators { result ≡ self.now.config.mutators }
-        ensures kept { IsWorld self.now }
-    {
-        self.config.mutators as u8
-    }
-
-    /// Numbers the slots that the registers reach, mutator by mutator, in the order of a listing.
-    pub fn number(&self, numbering: &mut Numbering)
-        requires slots { numbering.old.slots ≡ self.now.config.slots }
-
-        ensures slots { numbering.new.slots ≡ self.now.config.slots }
-        ensures numbers { NumbersSlots (sight self.now) numbering.new.list }
-    {
-        let fields = self.config.fields as u8;
-        numbering.fill(&self.registers, self.memory.words(), fields);
     }
 
     /// How many objects were born, with the opening one.
