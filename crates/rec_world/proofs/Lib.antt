@@ -1,11 +1,7 @@
 pub mod Clears
 pub mod Filled
 pub mod Keeps
-pub mod Kept
-pub mod Marks
 pub mod Names
 pub mod Numbers
-pub mod Openings
-pub mod Outcomes
 pub mod Places
 pub mod Stamps

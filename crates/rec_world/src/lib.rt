@@ -17,6 +17,7 @@ mod memory;
 mod numbering;
 mod open_error;
 mod order;
+mod part;
 mod world;
 
 pub use config::Config;
@@ -24,4 +25,5 @@ pub use journal::Journal;
 pub use numbering::Numbering;
 pub use open_error::OpenError;
 pub use order::Order;
+pub use part::Part;
 pub use world::World;

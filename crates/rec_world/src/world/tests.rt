@@ -18,6 +18,7 @@ fn ask(rt: &impl Abort, world: &mut World, cmd: Cmd) -> Told
     ensures { world.new.config ≡ world.old.config }
 {
     assert!(rt; world.valid(1, &cmd));
+    assert!(rt; !world.busy(1));
     assert!(rt; !world.marked());
     world.command(1, cmd)
 }
