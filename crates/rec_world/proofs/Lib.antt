@@ -1,7 +1,16 @@
 pub mod Clears
+pub mod Commands
+pub mod Deciding
 pub mod Filled
 pub mod Keeps
+pub mod Kept
+pub mod Machines
+pub mod Marks
+pub mod Moves
 pub mod Names
 pub mod Numbers
+pub mod Openings
 pub mod Places
+pub mod Runs
+pub mod Shapes
 pub mod Stamps

@@ -1,5 +1,5 @@
 -- The moves of mutators, and the runs that they make up.
-use Rattle.std.specs.Prelude.{◌≡◌, ℕ, ◌+◌, ◌<◌, ◌^◌, true, false, List, [], ◌∷◌, slice_set}
+use Rattle.std.specs.Prelude.{◌≡◌, ℕ, ◌+◌, ◌-◌, ◌<◌, ◌^◌, true, false, List, [], ◌∷◌, slice_set}
 use Rattle.rec_word.specs.Op.{written}
 use Rattle.rec_word.specs.declared.op.Op.{Op}
 use Rattle.rec_model.specs.declared.command.Cmd.{Cmd}
@@ -60,12 +60,12 @@ Fits w (Move.Begins t work) = IsMutator w.config t × (is_busy (mutator w t) ≡
 Fits w (Move.Steps t) = IsMutator w.config t × (is_busy (mutator w t) ≡ true)
 
 -- after some moves
-pub after_moves : State → List Move → State
+abbrev pub after_moves : State → List Move → State
 after_moves w [] = w
 after_moves w (m ∷ ms) = after_moves (after_move w m) ms
 
 -- each move fits the state that the earlier ones left
-pub AllFit : State → List Move → Type 0
+abbrev pub AllFit : State → List Move → Type 0
 AllFit w [] = Unit {0}
 AllFit w (m ∷ ms) = Fits w m × AllFit (after_move w m) ms
 

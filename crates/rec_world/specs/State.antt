@@ -48,7 +48,7 @@ abbrev pub opened_mutator : Config → ℕ → Private
 opened_mutator config t = opened_machine t config.first_epoch config.slots config.fields config.registers config.log_entries
 
 -- the first so many mutators as they are opened, numbered from 1
-pub opened_mutators : Config → ℕ → List Private
+abbrev pub opened_mutators : Config → ℕ → List Private
 opened_mutators config zero = []
 opened_mutators config (suc n) = opened_mutators config n ++ opened_mutator config (suc n) ∷ []
 

@@ -65,9 +65,9 @@ pub record IsMarked (before after : State) : Type 0 where
   pub others : after ≡ record before { headers = after.headers; words = after.words; marked = true }
 
 -- a heap that isn't marked is the end of a run from its opening; a marked one is what marking made of one
-pub data HasRun (w : State) : Type 0 where
-  runs : w.marked ≡ false → EndsRun w → HasRun w
-  marks : (before : State) → HasRun before → IsMarked before w → HasRun w
+pub data HasRun : State → Type 0 where
+  runs : (w : State) → w.marked ≡ false → EndsRun w → HasRun w
+  marks : (before w : State) → HasRun before → IsMarked before w → HasRun w
 
 -- what every heap is
 pub record IsWorld (w : State) : Type 0 where

@@ -13,6 +13,7 @@
 
 mod config;
 mod journal;
+mod laws;
 mod memory;
 mod numbering;
 mod open_error;
@@ -22,6 +23,7 @@ mod world;
 
 pub use config::Config;
 pub use journal::Journal;
+pub use laws::{runs_go_on, runs_keep};
 pub use numbering::Numbering;
 pub use open_error::OpenError;
 pub use order::Order;

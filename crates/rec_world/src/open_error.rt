@@ -1,3 +1,5 @@
+ghost use Rattle.std.specs.Prelude.{◌≡◌};
+
 use crate::Part;
 use std::alloc::AllocError;
 use thiserror::Error;

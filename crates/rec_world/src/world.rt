@@ -1,5 +1,6 @@
-ghost use Rattle.std.specs.Prelude.{◌≡◌, ◌≢◌, ℕ, ◌+◌, ◌*◌, ◌<◌, ◌↔◌, if◌then◌else◌, true, false, length, slice_index_or, IsTrue, IsNone, IfOk, IfErr, IfSome};
+ghost use Rattle.std.specs.Prelude.{◌≡◌, ◌≢◌, ℕ, ◌+◌, ◌*◌, ◌<◌, ◌≤◌, ◌↔◌, if◌then◌else◌, true, false, is_none, length, slice_index_or, IsTrue, IsNone, IfOk, IfErr, IfSome};
 ghost use Rattle.rec_word.specs.Word.{stamp_of};
+ghost use Rattle.rec_model.specs.declared.answer.Answer.TheVariants as answers;
 ghost use Rattle.rec_model.specs.Heap.{Heap, opening, register, registers_of};
 ghost use Rattle.rec_model.specs.Explained.{IsExplained};
 ghost use Rattle.rec_model.specs.LegalOrder.{is_birth, word_left};
@@ -105,7 +106,7 @@ impl World {
 
         ensures stepped { self.new ≡ stepped self.old t }
         ensures answer { result ≡ answer_of (mutator self.new t) }
-        ensures idle { IsNone result ↔ (is_busy (mutator self.new t) ≡ true) }
+        ensures busy { is_busy (mutator self.new t) ≡ is_none result }
 
         // Where the step answers a command, whatever heap stood for the world explains the answer; else all that is seen stays.
         ensures shown { IsShown self.old t result self.new }
@@ -134,10 +135,10 @@ impl World {
         ensures explained { IsExplained (sight self.old) t cmd result (sight self.new) }
 
         // When each refusal comes. It changes no register, no field, no header and no log: only the mutator's work differs.
-        ensures log_full { (result.answer ≡ Answer.LogFull) ↔ IsLogFull self.old t cmd }
-        ensures full { (result.answer ≡ Answer.Full) ↔ IsFull self.old t cmd }
-        ensures no_object { (result.answer ≡ Answer.NoObject) ↔ LacksObject (mutator self.old t) cmd }
-        ensures busy { (before after : ℕ) → result.answer ≡ Answer.Busy before after → (before ≡ self.old.freed) × (after ≡ self.new.freed) × (IsStill before after → ⊥) }
+        ensures log_full { (result.answer ≡ answers.LogFull) ↔ IsLogFull self.old t cmd }
+        ensures full { (result.answer ≡ answers.Full) ↔ IsFull self.old t cmd }
+        ensures no_object { (result.answer ≡ answers.NoObject) ↔ LacksObject (mutator self.old t) cmd }
+        ensures busy { (before after : ℕ) → result.answer ≡ answers.Busy before after → (before ≡ self.old.freed) × (after ≡ self.new.freed) × (IsStill before after → ⊥) }
         ensures never { is_plain result.answer ≡ true }
         ensures refused { is_refusal result.answer ≡ true → OnlyWorks self.old self.new t }
 
