@@ -4,6 +4,7 @@ use Rattle.std.specs.Option.{is_none}
 use Rattle.std.proofs.lemmas.Bool.{false≢true}
 use Rattle.std.proofs.lemmas.List.{set-set, set-get_or}
 use Rattle.rec_word.specs.Word.{stamp_of}
+use Rattle.rec_word.specs.declared.op.Op.{Op}
 use Rattle.rec_model.specs.declared.command.Cmd.{Cmd}
 use Rattle.rec_model.specs.declared.command.Cmd.TheVariants as commands
 use Rattle.rec_model.specs.declared.answer.Answer.{Answer}
@@ -15,8 +16,8 @@ use Rattle.rec_model.specs.Sight.{Sight}
 use Rattle.rec_mutator.specs.Causes.{AnswersBy, HasCause, LacksObject, MakesEntry, is_refusal}
 use Rattle.rec_mutator.specs.Next.{next_of}
 use Rattle.rec_mutator.specs.Private.{Private, IsAt, IsMachine, is_busy, is_busy_at, work_of, work_at, answer_of, answer_at, limit_of}
-use Rattle.rec_mutator.specs.Step.{IsStill, IsLogFull as IsLogFullOf}
-use Rattle.rec_mutator.specs.Took.{took_of}
+use Rattle.rec_mutator.specs.Step.{Step, Decides, GoesOn, IsStill, IsLogFull as IsLogFullOf}
+use Rattle.rec_mutator.specs.Took.{took_of, begun_of}
 use Rattle.rec_mutator.specs.declared.made.Made.{Made}
 use Rattle.rec_mutator.specs.declared.made.Made.TheVariants as makes_
 use Rattle.rec_mutator.specs.declared.phase.Phase.{Phase}
@@ -25,9 +26,10 @@ use Rattle.rec_mutator.specs.declared.work.Work.{Work}
 use Rattle.rec_mutator.specs.declared.work.Work.TheVariants as works
 use Rattle.rec_mutator.proofs.Refusals.{answer_cause}
 use Rattle.rec_mutator.proofs.Sizes.{took_keeps}
+use Rattle.rec_mutator.proofs.Steps.{step_made}
 use Rattle.rec_world.specs.declared.config.Config.{Config}
 use Rattle.rec_world.specs.Config.{IsMutator}
-use Rattle.rec_world.specs.Run.{stepped, found_by, EndsRun, Move}
+use Rattle.rec_world.specs.Run.{begun, stepped, found_by, EndsRun, Move}
 use Rattle.rec_world.specs.State.{nobody}
 use Rattle.rec_world.specs.World.{State, sight, mutator, with_mutator, log_length, IsOwn, IsKept, IsWorld, HasRun, IsLogFull, IsFull, is_plain, IsShown, IsFinished, OnlyWorks}
 use Rattle.rec_world.proofs.Deciding.{IsToldOf, IsDecided, Says, performed_says}
@@ -310,3 +312,57 @@ no_answer w v t q told work answer (Says.going none only) =
 no_answer w v t q told work answer (Says.polled crossed its_work only) =
     let not_so : ◌≡◌ {A = Option Made} (Some (makes_.Crossed None)) (Some (makes_.Answered told)) = sym crossed ∙ answer in
     (cc)
+
+-- the begin of a work changes nothing but the work
+pub begun_works : (w : State) (t : ℕ) (work : Work) → IsKept w → IsMutator w.config t → OnlyWorks w (begun w t work) t
+unfolding begun_of
+begun_works w t work kept is =
+    let all : length w.mutators ≡ w.config.mutators = kept.mutators in
+    let here : mutator (begun w t work) t ≡ begun_of (mutator w t) work = changed_same w.mutators t (begun_of (mutator w t) work) is.0 (omega (arith, is.1)) in
+    let P : Private → Type 0 = λ x. x ≡ record (mutator w t) { phase = x.phase; steps = x.steps } in
+    record { others = ap (with_mutator w t) (sym here); own = subst P (sym here) refl }
+
+-- a step counts
+step_counts : {p : Private} {word : ℕ} {op : Op} {q : Private} → Step p word op q → q.steps ≡ p.steps + 1
+step_counts (Step.null reg d) = ap (λ (x : Private). x.steps) d.after
+step_counts (Step.copy dst src d) = ap (λ (x : Private). x.steps) d.after
+step_counts (Step.compare a b d) = ap (λ (x : Private). x.steps) d.after
+step_counts (Step.get_of_null dst src f names d) = ap (λ (x : Private). x.steps) d.after
+step_counts (Step.get dst src f slot names d) = ap (λ (x : Private). x.steps) d.after
+step_counts (Step.put_of_null src f val names d) = ap (λ (x : Private). x.steps) d.after
+step_counts (Step.put_refused src f val slot names full d) = ap (λ (x : Private). x.steps) d.after
+step_counts (Step.put src f val slot names room d) = ap (λ (x : Private). x.steps) d.after
+step_counts (Step.value_of_null reg names d) = ap (λ (x : Private). x.steps) d.after
+step_counts (Step.value reg slot names d) = ap (λ (x : Private). x.steps) d.after
+step_counts (Step.new_refused reg label full d) = ap (λ (x : Private). x.steps) d.after
+step_counts (Step.new_begins reg label room g) = ap (λ (x : Private). x.steps) g.after
+step_counts (Step.new_wins reg label before slot free d) = ap (λ (x : Private). x.steps) d.after
+step_counts (Step.new_goes_on reg label before slot taken more g) = ap (λ (x : Private). x.steps) g.after
+step_counts (Step.new_finds_none reg label before slot taken last g) = ap (λ (x : Private). x.steps) g.after
+step_counts (Step.new_is_full reg label before still d) = ap (λ (x : Private). x.steps) d.after
+step_counts (Step.new_is_busy reg label before moves d) = ap (λ (x : Private). x.steps) d.after
+step_counts (Step.poll g) = ap (λ (x : Private). x.steps) g.after
+
+pub steps_counted : (w : State) (t : ℕ) → IsKept w → IsMutator w.config t → is_busy (mutator w t) ≡ true → (mutator (stepped w t) t).steps ≡ (mutator w t).steps + 1
+steps_counted w t kept is busy = ap (λ (p : Private). p.steps) (stepped_mutator w t kept is) ∙ step_counts (step_made (mutator w t) (found_by w t) busy)
+
+-- a loop of steps comes nearer to its end
+pub nearer : (before w v : State) (t : ℕ) → IsKept w → IsMutator w.config t → is_busy (mutator w t) ≡ true → OnlyWorks before w t → v ≡ stepped w t
+    → before.config.slots + 3 - (mutator v t).steps < before.config.slots + 3 - (mutator w t).steps
+nearer before w v t kept is busy only steps =
+    let slots : w.config.slots ≡ before.config.slots = ap (λ (x : State). x.config.slots) only.others in
+    let most : (mutator w t).steps ≤ w.config.slots + 2 = most_steps w t kept is busy in
+    let more : (mutator v t).steps ≡ (mutator w t).steps + 1 = ap (λ (x : State). (mutator x t).steps) steps ∙ steps_counted w t kept is busy in
+    omega arith
+
+-- where only a mutator's work changed, its number is still there, and the heap isn't marked
+pub mutator_there : (before w : State) (t : ℕ) → OnlyWorks before w t → IsMutator before.config t → IsMutator w.config t
+mutator_there before w t only is = subst (λ (c : Config). IsMutator c t) (sym (ap (λ (x : State). x.config) only.others)) is
+
+pub unmarked_there : (before w : State) (t : ℕ) → OnlyWorks before w t → before.marked ≡ false → w.marked ≡ false
+unmarked_there before w t only unmarked = ap (λ (x : State). x.marked) only.others ∙ unmarked
+
+-- a step that answers nothing leaves all as it was but the work
+pub waited : (w v : State) (t : ℕ) → IsKept w → w.marked ≡ false → IsMutator w.config t → is_busy (mutator w t) ≡ true → v ≡ stepped w t → answer_of (mutator v t) ≡ None → OnlyWorks w v t
+waited w v t kept unmarked is busy steps none =
+    step_waits w v t (mutator v t) none (subst (λ (x : State). Says w t (mutator x t) x) (sym steps) (step_says w t kept unmarked is busy))

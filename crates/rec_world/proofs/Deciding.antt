@@ -147,14 +147,14 @@ read_made None = refl
 read_made (Some slot) = refl
 
 -- the field that a read or a write names is there
-read_range : (w : State) (t dst src f : ℕ) → IsKept w → IsMutator w.config t → (mutator w t).phase ≡ Begun (works.Command (commands.Get dst src f)) → f < w.config.fields
+pub read_range : (w : State) (t dst src f : ℕ) → IsKept w → IsMutator w.config t → (mutator w t).phase ≡ Begun (works.Command (commands.Get dst src f)) → f < w.config.fields
 read_range w t dst src f kept is phase =
     let own : IsOwn w.config w.made t (mutator w t) = kept.own t is in
     let fields : (mutator w t).fields ≡ w.config.fields = own.fields in
     let in_range : f < (mutator w t).fields = (at_phase (mutator w t) (Begun (works.Command (commands.Get dst src f))) own.machine phase).0.2 in
     omega arith
 
-write_range : (w : State) (t src f val : ℕ) → IsKept w → IsMutator w.config t → (mutator w t).phase ≡ Begun (works.Command (commands.Put src f val)) → f < w.config.fields
+pub write_range : (w : State) (t src f val : ℕ) → IsKept w → IsMutator w.config t → (mutator w t).phase ≡ Begun (works.Command (commands.Put src f val)) → f < w.config.fields
 write_range w t src f val kept is phase =
     let own : IsOwn w.config w.made t (mutator w t) = kept.own t is in
     let fields : (mutator w t).fields ≡ w.config.fields = own.fields in

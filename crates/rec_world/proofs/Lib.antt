@@ -1,3 +1,4 @@
+pub mod Calls
 pub mod Clears
 pub mod Commands
 pub mod Deciding

@@ -10,7 +10,7 @@ ghost use Rattle.rec_mutator.specs.Private.{is_busy, answer_of, limit_of, work_o
 ghost use Rattle.rec_mutator.specs.Step.{IsStill};
 ghost use Rattle.rec_world.specs.Config.{IsConfig, IsMutator, IsRefused, HasOperands, IsValid};
 ghost use Rattle.rec_world.specs.Memory.{births_of};
-ghost use Rattle.rec_world.specs.Run.{begun, stepped, EndsRun};
+ghost use Rattle.rec_world.specs.Run.{begun, stepped, EndsRun, HasLabel};
 ghost use Rattle.rec_world.specs.State.{opened_mutators, opened_mutator};
 ghost use Rattle.rec_world.specs.World.{State, sight, mutator, with_mutator, log_length, opened, IsWorld, label_of, IsLogFull, IsFull, is_plain, entries_of, IsLowestFree, IsMarked, IsWork, IsShown, IsFinished, OnlyWorks, sight_after};
 
@@ -94,6 +94,7 @@ impl World {
         ensures run { EndsRun self.new }
         ensures kept { IsWorld self.new }
     {
+        see_label(work);
         self.machines[usize::from(t) - 1].begin(work);
     }
 
@@ -112,6 +113,9 @@ impl World {
         ensures shown { IsShown self.old t result self.new }
 
         ensures work { work_of (mutator self.new t) ≡ work_of (mutator self.old t) }
+
+        // Each step counts, and a work ends in time.
+        ensures steps { (mutator self.new t).steps ≡ (mutator self.old t).steps + 1 }
         ensures limit { IfSome (work_of (mutator self.new t)) (λ work. (mutator self.new t).steps ≤ limit_of self.new.config.slots work) }
         ensures run { EndsRun self.new }
         ensures kept { IsWorld self.new }
@@ -356,6 +360,7 @@ impl World {
         requires mutator { IsMutator self.old.config t }
         requires unmarked { self.old.marked ≡ false }
         requires busy { is_busy (mutator self.old t) ≡ true }
+        requires world { IsWorld self.old }
 
         ensures finished { IsFinished self.old t result self.new }
         ensures run { EndsRun self.new }
@@ -423,6 +428,15 @@ fn open_machine(alloc: Global, config: &Config, number: u8) -> Result<Machine, N
         config.registers as u8,
         config.log_entries,
     )
+}
+
+// The label of an allocation fits a header.
+fn see_label(work: Work)
+    ensures { HasLabel work }
+{
+    if let Work::Command(Cmd::New { label, .. }) = work {
+        prove!(label <= u32::MAX);
+    }
 }
 
 // The births of an operation that found this word.

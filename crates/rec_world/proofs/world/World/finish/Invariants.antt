@@ -4,13 +4,13 @@ use Rattle.rec_mutator.specs.Private.{is_busy, work_of}
 use Rattle.rec_world.specs.World.{mutator, IsWorld, OnlyWorks}
 use Rattle.rec_world.proofs.world.World.finish.Given as goal
 
-abbrev pub invariant-loop : goal.invariant-loop
-invariant-loop l = record {
+abbrev pub invariant-loop-made : goal.invariant-loop-made
+invariant-loop-made l = record {
   waits : OnlyWorks l.fn.self l.self l.t;
   work : work_of (mutator l.self l.t) ≡ work_of (mutator l.fn.self l.t);
   busy : is_busy (mutator l.self l.t) ≡ true;
   world : IsWorld l.self;
 }
 
-abbrev pub decreases-loop : goal.decreases-loop
-decreases-loop l = l.fn.self.config.slots + 3 - (mutator l.self l.t).steps
+abbrev pub decreases-loop-made : goal.decreases-loop-made
+decreases-loop-made l = l.fn.self.config.slots + 3 - (mutator l.self l.t).steps
