@@ -366,3 +366,55 @@ unmarked_there before w t only unmarked = ap (λ (x : State). x.marked) only.oth
 pub waited : (w v : State) (t : ℕ) → IsKept w → w.marked ≡ false → IsMutator w.config t → is_busy (mutator w t) ≡ true → v ≡ stepped w t → answer_of (mutator v t) ≡ None → OnlyWorks w v t
 waited w v t kept unmarked is busy steps none =
     step_waits w v t (mutator v t) none (subst (λ (x : State). Says w t (mutator x t) x) (sym steps) (step_says w t kept unmarked is busy))
+
+-- A work that was begun, and whose steps are finished: the last of them is the last step of the work, of the heap before.
+pub ends_work : (w v : State) (t : ℕ) (work : Work) (made : Made) → IsKept w → IsMutator w.config t → work_of (mutator (begun w t work) t) ≡ Some work → (f : IsFinished (begun w t work) t made v) → IsEnd w f.last t work made v
+ends_work w v t work made kept is its f =
+    record {
+      only = works_both w (begun w t work) f.last t (begun_works w t work kept is) f.waits;
+      kept = f.world.kept;
+      busy = f.busy;
+      its_work = f.work ∙ its;
+      steps = f.steps;
+      answer = f.answer;
+    }
+
+-- what the last step of a work says
+pub end_says : (w last v : State) (t : ℕ) (work : Work) (made : Made) → w.marked ≡ false → IsMutator w.config t → IsEnd w last t work made v → Says last t (mutator v t) v
+end_says w last v t work made unmarked is e =
+    subst (λ (x : State). Says last t (mutator x t) x) (sym e.steps)
+    (step_says last t e.kept (unmarked_there w last t e.only unmarked) (mutator_there w last t e.only is) e.busy)
+
+-- what a command is told whose work was begun and finished
+pub command_said : (w b v : State) (t : ℕ) (cmd : Cmd) (told : Told) → IsKept w → w.marked ≡ false → IsMutator w.config t → b ≡ begun w t (works.Command cmd) → work_of (mutator b t) ≡ Some (works.Command cmd)
+    → IsFinished b t (makes_.Answered told) v → IsAnswered w t cmd told v
+command_said w b v t cmd told kept unmarked is begins its f =
+    let its_begun : work_of (mutator (begun w t (works.Command cmd)) t) ≡ Some (works.Command cmd) = ap (λ (x : State). work_of (mutator x t)) (sym begins) ∙ its in
+    let finished : IsFinished (begun w t (works.Command cmd)) t (makes_.Answered told) v = subst (λ (x : State). IsFinished x t (makes_.Answered told) v) begins f in
+    answers_all w finished.last v t cmd told kept unmarked is (ends_work w v t (works.Command cmd) (makes_.Answered told) kept is its_begun finished)
+
+-- a command never ends as a poll does
+pub command_crosses : (w b v : State) (t : ℕ) (cmd : Cmd) (crossed : Option ℕ) → IsKept w → w.marked ≡ false → IsMutator w.config t → b ≡ begun w t (works.Command cmd) → work_of (mutator b t) ≡ Some (works.Command cmd)
+    → IsFinished b t (makes_.Crossed crossed) v → ⊥
+command_crosses w b v t cmd crossed kept unmarked is begins its f =
+    let its_begun : work_of (mutator (begun w t (works.Command cmd)) t) ≡ Some (works.Command cmd) = ap (λ (x : State). work_of (mutator x t)) (sym begins) ∙ its in
+    let finished : IsFinished (begun w t (works.Command cmd)) t (makes_.Crossed crossed) v = subst (λ (x : State). IsFinished x t (makes_.Crossed crossed) v) begins f in
+    let e : IsEnd w finished.last t (works.Command cmd) (makes_.Crossed crossed) v = ends_work w v t (works.Command cmd) (makes_.Crossed crossed) kept is its_begun finished in
+    no_crossing finished.last v t (mutator v t) cmd crossed e.its_work e.answer (end_says w finished.last v t (works.Command cmd) (makes_.Crossed crossed) unmarked is e)
+
+-- what a poll is told whose work was begun and finished
+pub poll_said : (w b v : State) (t : ℕ) (crossed : Option ℕ) → IsKept w → w.marked ≡ false → IsMutator w.config t → b ≡ begun w t works.Poll → work_of (mutator b t) ≡ Some works.Poll
+    → IsFinished b t (makes_.Crossed crossed) v → IsPolled w t crossed v
+poll_said w b v t crossed kept unmarked is begins its f =
+    let its_begun : work_of (mutator (begun w t works.Poll) t) ≡ Some works.Poll = ap (λ (x : State). work_of (mutator x t)) (sym begins) ∙ its in
+    let finished : IsFinished (begun w t works.Poll) t (makes_.Crossed crossed) v = subst (λ (x : State). IsFinished x t (makes_.Crossed crossed) v) begins f in
+    polls_all w finished.last v t crossed unmarked is (ends_work w v t works.Poll (makes_.Crossed crossed) kept is its_begun finished)
+
+-- a poll never ends as a command does
+pub poll_answers : (w b v : State) (t : ℕ) (told : Told) → IsKept w → w.marked ≡ false → IsMutator w.config t → b ≡ begun w t works.Poll → work_of (mutator b t) ≡ Some works.Poll
+    → IsFinished b t (makes_.Answered told) v → ⊥
+poll_answers w b v t told kept unmarked is begins its f =
+    let its_begun : work_of (mutator (begun w t works.Poll) t) ≡ Some works.Poll = ap (λ (x : State). work_of (mutator x t)) (sym begins) ∙ its in
+    let finished : IsFinished (begun w t works.Poll) t (makes_.Answered told) v = subst (λ (x : State). IsFinished x t (makes_.Answered told) v) begins f in
+    let e : IsEnd w finished.last t works.Poll (makes_.Answered told) v = ends_work w v t works.Poll (makes_.Answered told) kept is its_begun finished in
+    no_answer finished.last v t (mutator v t) told e.its_work e.answer (end_says w finished.last v t works.Poll (makes_.Answered told) unmarked is e)

@@ -7,6 +7,7 @@ use Rattle.std.proofs.lemmas.List.{take_more, take-append-le, take_all, get_or-m
 use Rattle.std.proofs.lemmas.List.Elements.{All-get_or}
 use Rattle.std.proofs.lemmas.Bool.{false≢true}
 use Rattle.std.proofs.lemmas.Grind.{flat_map-append}
+use Rattle.std.proofs.Math.ListN.{get_or-map as list_get_or-map}
 use Rattle.std.proofs.Math.Nat.{mul-le-mul_right}
 use Rattle.rec_word.specs.Word.{target_of}
 use Rattle.rec_model.specs.Reach.{named, is_in}
@@ -17,7 +18,9 @@ use Rattle.rec_model.specs.Sight.{Sight, Reaches, targets_of, NumbersSlots}
 use Rattle.rec_model.proofs.Firsts.{joined-append, joined-cases}
 use Rattle.rec_model.proofs.Members.{of_all, all_of}
 use Rattle.rec_model.proofs.Named.{joined-step, named-at}
+use Rattle.rec_mutator.specs.Private.{Private}
 use Rattle.rec_world.specs.Numbering.{sight_of, NamesBelow}
+use Rattle.rec_world.specs.State.{nobody}
 
 -- the target of the next word joins those before it
 pub joined-word : (first met more : List ℕ) (x : Option ℕ) (words : List ℕ) (i : ℕ) → met ≡ joined first (named (map target_of (take i words))) → x ≡ target_of (get_or words i 0) → i < length words → more ≡ joined met (named (x ∷ [])) → more ≡ joined first (named (map target_of (take (i + 1) words)))
@@ -116,3 +119,8 @@ fields_within registers words fields next slot wide again slots list now filled 
     let here : slot ≡ get_or list next 0 = at_next ∙ ap (λ ns. get_or ns next 0) same in
     let below : slot < slots = rw here (reached_below (sight_of registers words fields) slots names (get_or list next 0) reached) in
     rw (e, f, places) (fields_end slot slots fields below)
+
+-- the registers of a mutator that was read from a list
+pub own_at : (ms : List Private) (p : Private) (own : List (Option ℕ)) (i : ℕ) → i < length ms → p ≡ get_or ms i p → own ≡ p.registers → own ≡ get_or (map (λ (x : Private). x.registers) ms) i []
+own_at ms p own i there read is =
+    is ∙ ap (λ (x : Private). x.registers) (read ∙ get_or_default ms i p nobody there) ∙ sym (list_get_or-map (λ (x : Private). x.registers) ms i nobody)

@@ -1,4 +1,4 @@
-ghost use Rattle.std.specs.Prelude.{IfSome, IsNone, ◌↔◌, ◌≤◌, IsTrue};
+ghost use Rattle.std.specs.Prelude.{IfSome, ◌≡◌, ◌↔◌, ◌≤◌, IsTrue};
 ghost use Rattle.rec_world.specs.Config.{IsConfig, IsFirstWrong};
 
 use crate::Part;
@@ -24,7 +24,7 @@ impl Config {
     /// The first number that is out of its range, or `None` where each is in its own.
     pub(crate) fn first_wrong(&self) -> Option<Part>
         ensures wrong { IfSome result (λ part. IsFirstWrong self.now part) }
-        ensures none { IsNone result ↔ IsConfig self.now }
+        ensures none { (result ≡ None) ↔ IsConfig self.now }
     {
         if !is_from_one(self.slots, 65_535) {
             Some(Part::Slots)

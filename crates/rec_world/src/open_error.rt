@@ -16,9 +16,11 @@ pub enum OpenError {
 }
 
 impl From<AllocError> for OpenError {
-    fn from(_: AllocError) -> OpenError
-        ensures { result ≡ OpenError.NoMemory }
-    {
+    ghost use Rattle.rec_world.specs.declared.open_error.OpenError.TheVariants as errors;
+
+    ghost from_gives = { λ _ e. e ≡ errors.NoMemory };
+
+    fn from(_: AllocError) -> OpenError {
         OpenError::NoMemory
     }
 }

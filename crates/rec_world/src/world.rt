@@ -162,6 +162,8 @@ impl World {
         ensures run { EndsRun self.new }
         ensures kept { IsWorld self.new }
     {
+        // A heap is asked until it is marked.
+        prove!(!self.marked);
         self.begin(t, Work::Command(cmd));
         match self.finish(t) {
             Made::Answered(told) => told,
@@ -176,14 +178,15 @@ impl World {
         requires unmarked { self.old.marked ≡ false }
         requires idle { is_busy (mutator self.old t) ≡ false }
 
-        ensures none { IsNone result ↔ (self.old.epoch ≡ (mutator self.old t).epoch) }
-        ensures stays { IsNone result }
+        ensures none { (result ≡ None) ↔ (self.old.epoch ≡ (mutator self.old t).epoch) }
+        ensures stays { result ≡ None }
         ensures others { OnlyWorks self.old self.new t }
         ensures seen { sight self.new ≡ sight self.old }
         ensures idle { is_busy (mutator self.new t) ≡ false }
         ensures run { EndsRun self.new }
         ensures kept { IsWorld self.new }
     {
+        prove!(!self.marked);
         self.begin(t, Work::Poll);
         match self.finish(t) {
             Made::Crossed(epoch) => epoch,
