@@ -31,7 +31,7 @@ use Rattle.rec_world.specs.declared.config.Config.{Config}
 use Rattle.rec_world.specs.Config.{IsMutator}
 use Rattle.rec_world.specs.Run.{begun, stepped, found_by, EndsRun, Move}
 use Rattle.rec_world.specs.State.{nobody}
-use Rattle.rec_world.specs.World.{State, sight, mutator, with_mutator, log_length, IsOwn, IsKept, IsWorld, HasRun, IsLogFull, IsFull, is_plain, IsShown, IsFinished, OnlyWorks}
+use Rattle.rec_world.specs.World.{State, sight, mutator, with_mutator, log_length, IsOwn, IsKept, IsWorld, HasRun, IsLogFull, IsFull, is_plain, IsCaused, IsShown, IsFinished, OnlyWorks}
 use Rattle.rec_world.proofs.Deciding.{IsToldOf, IsDecided, Says, performed_says}
 use Rattle.rec_world.proofs.Moves.{makes, step_kept}
 use Rattle.rec_world.proofs.Runs.{run_more}
@@ -64,12 +64,6 @@ works_both w v u t first second =
       others = second.others ∙ ap set_set first.others ∙ ap (λ ms. let x : State = record w { mutators = ms } in x) (set-set w.mutators (t - 1) (mutator v t) (mutator u t));
       own = second.own ∙ ap (λ (p : Private). let q : Private = record p { phase = (mutator u t).phase; steps = (mutator u t).steps } in q) first.own;
     }
-
--- a step shows what it answers
-pub step_shown : (w v : State) (t : ℕ) (q : Private) → Says w t q v → IsShown w t (answer_of q) v
-step_shown w v t q (Says.decided cmd told work answer said refused) = subst (λ x. IsShown w t x v) (sym answer) (cmd, work, said.explained)
-step_shown w v t q (Says.going answer only) = subst (λ x. IsShown w t x v) (sym answer) (works_sight w v t only)
-step_shown w v t q (Says.polled answer work only) = subst (λ x. IsShown w t x v) (sym answer) (works_sight w v t only)
 
 -- a step that answers nothing leaves all but the work
 pub step_waits : (w v : State) (t : ℕ) (q : Private) → answer_of q ≡ None → Says w t q v → OnlyWorks w v t
@@ -418,3 +412,20 @@ poll_answers w b v t told kept unmarked is begins its f =
     let finished : IsFinished (begun w t works.Poll) t (makes_.Answered told) v = subst (λ (x : State). IsFinished x t (makes_.Answered told) v) begins f in
     let e : IsEnd w finished.last t works.Poll (makes_.Answered told) v = ends_work w v t works.Poll (makes_.Answered told) kept is its_begun finished in
     no_answer finished.last v t (mutator v t) told e.its_work e.answer (end_says w finished.last v t works.Poll (makes_.Answered told) unmarked is e)
+
+-- why a step that answers a command refuses it
+step_caused : (w : State) (t : ℕ) (cmd : Cmd) (told : Told) → IsKept w → IsMutator w.config t → is_busy (mutator w t) ≡ true → work_of (mutator w t) ≡ Some (works.Command cmd)
+    → answer_of (mutator (stepped w t) t) ≡ Some (makes_.Answered told) → IsDecided w t cmd told (stepped w t) → IsCaused w t cmd told (stepped w t)
+step_caused w t cmd told kept is busy work answer said =
+    record {
+      cause = subst (λ (q : Private). HasCause (mutator w t) q cmd (found_by w t) told.answer) (sym (stepped_mutator w t kept is))
+          (answer_cause (mutator w t) (found_by w t) cmd told (kept.own t is).machine (record { busy = busy; work = work; answer = ap answer_of (sym (stepped_mutator w t kept is)) ∙ answer }));
+      taken = λ full. (said.full.0 full).2;
+    }
+
+-- a step shows what it answers
+pub step_shown : (w : State) (t : ℕ) → IsKept w → IsMutator w.config t → is_busy (mutator w t) ≡ true → Says w t (mutator (stepped w t) t) (stepped w t) → IsShown w t (answer_of (mutator (stepped w t) t)) (stepped w t)
+step_shown w t kept is busy (Says.decided cmd told work answer said refused) =
+    subst (λ x. IsShown w t x (stepped w t)) (sym answer) (cmd, work, said.explained, step_caused w t cmd told kept is busy work answer said)
+step_shown w t kept is busy (Says.going answer only) = subst (λ x. IsShown w t x (stepped w t)) (sym answer) (works_sight w (stepped w t) t only)
+step_shown w t kept is busy (Says.polled answer work only) = subst (λ x. IsShown w t x (stepped w t)) (sym answer) (works_sight w (stepped w t) t only)

@@ -11,7 +11,7 @@ use Rattle.rec_model.specs.Explained.{IsExplained}
 use Rattle.rec_model.specs.Heap.{register}
 use Rattle.rec_model.specs.LegalOrder.{is_new}
 use Rattle.rec_model.specs.Sight.{Sight, IsSound, IsTaken, Collects, sight_with_register, sight_with_word, sight_with_header}
-use Rattle.rec_mutator.specs.Causes.{MakesEntry}
+use Rattle.rec_mutator.specs.Causes.{MakesEntry, HasCause}
 use Rattle.rec_mutator.specs.Private.{Private, IsMachine, is_busy, work_of, answer_of}
 use Rattle.rec_mutator.specs.declared.made.Made.{Made}
 use Rattle.rec_mutator.specs.declared.made.Made.TheVariants as makes
@@ -21,7 +21,7 @@ use Rattle.rec_mutator.specs.declared.work.Work.{Work}
 use Rattle.rec_mutator.specs.declared.work.Work.TheVariants as works
 use Rattle.rec_world.specs.declared.config.Config.{Config}
 use Rattle.rec_world.specs.Config.{IsConfig, IsMutator, HasOperands}
-use Rattle.rec_world.specs.Run.{stepped, EndsRun, HasLabel}
+use Rattle.rec_world.specs.Run.{stepped, found_by, EndsRun, HasLabel}
 pub use Rattle.rec_world.specs.State.{State, sight, mutator, with_mutator, log_length, opened}
 
 -- What is known of a mutator's work, of a heap with so many births and slots. Nothing is freed, so each slot that a scan has
@@ -142,10 +142,16 @@ abbrev pub IsWork : Config → Work → Type 0
 IsWork config (works.Command cmd) = HasOperands config cmd
 IsWork config works.Poll = Unit {0}
 
--- What came of a step. Where it answers a command, whatever heap stood for what was seen explains the answer; else all that
--- is seen stays.
+-- Why a step that answers a command refuses it, if it does, and that it answers Full only where every slot is taken.
+pub record IsCaused (before : State) (t : ℕ) (cmd : Cmd) (told : Told) (after : State) : Type 0 where
+  pub cause : HasCause (mutator before t) (mutator after t) cmd (found_by before t) told.answer
+  pub taken : told.answer ≡ answers.Full → before.made ≡ before.config.slots
+
+-- What came of a step. Where it answers a command, whatever heap stood for what was seen explains the answer, and each
+-- refusal has its cause; else all that is seen stays.
 abbrev pub IsShown : (before : State) (t : ℕ) → Option Made → (after : State) → Type 0
-IsShown before t (Some (makes.Answered told)) after = (cmd : Cmd) × (work_of (mutator before t) ≡ Some (works.Command cmd)) × IsExplained (sight before) t cmd told (sight after)
+IsShown before t (Some (makes.Answered told)) after =
+    (cmd : Cmd) × (work_of (mutator before t) ≡ Some (works.Command cmd)) × IsExplained (sight before) t cmd told (sight after) × IsCaused before t cmd told after
 IsShown before t _ after = sight after ≡ sight before
 
 -- The work of a mutator was finished by steps, of which all but the last left registers, logs and words as they were.

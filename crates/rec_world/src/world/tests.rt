@@ -34,11 +34,11 @@ fn ask_of(rt: &impl Abort, world: &mut World, t: u8, cmd: Cmd) -> Told
 }
 
 // Why a heap with these numbers isn't opened: its text, and the number that it names.
-fn refusal(rt: HostRuntime, config: Config) -> Result<(String, Option<Part>), Fail> {
-    match World::open(rt.alloc(), config) {
-        Ok(_) => Ok((format!(in rt.alloc(); "opened")?, None)),
+fn refusal(alloc: Global, config: Config) -> Result<(String, Option<Part>), Fail> {
+    match World::open(alloc, config) {
+        Ok(_) => Ok((format!(in alloc; "opened")?, None)),
         Err(error) => {
-            let text = format!(in rt.alloc(); "{error}")?;
+            let text = format!(in alloc; "{error}")?;
             let part = match error {
                 OpenError::Config { field } => Some(field),
                 OpenError::NoMemory => None,
@@ -55,11 +55,11 @@ fn names_the_first_number_out_of_range(rt: HostRuntime) -> Result<(), Fail> {
         registers: 65,
         ..CONFIG
     };
-    let (text, part) = refusal(rt, wrong)?;
+    let (text, part) = refusal(rt.alloc(), wrong)?;
     assert_eq!(rt; text.as_str(), "number out of range");
     assert_eq!(rt; part, Some(Part::Slots));
     let (_, next) = refusal(
-        rt,
+        rt.alloc(),
         Config {
             slots: 1,
             registers: 65,
@@ -67,6 +67,8 @@ fn names_the_first_number_out_of_range(rt: HostRuntime) -> Result<(), Fail> {
         },
     )?;
     assert_eq!(rt; next, Some(Part::Registers));
+    let out = OpenError::NoMemory;
+    assert_eq!(rt; format!(in rt.alloc(); "{out}")?.as_str(), "out of memory");
     Ok(())
 }
 

@@ -108,7 +108,7 @@ pub returns-clause-shown : goal.returns-clause-shown
 returns-clause-shown c =
     let w : State = first c in
     let says = step_says w c.args.t c.self.invariant.world.kept (was_unmarked c) (its_mutator c) (was_busy c) in
-    let shown : IsShown w c.args.t (answer_of (mutator (stepped w c.args.t) c.args.t)) (stepped w c.args.t) = step_shown w (stepped w c.args.t) c.args.t (mutator (stepped w c.args.t) c.args.t) says in
+    let shown : IsShown w c.args.t (answer_of (mutator (stepped w c.args.t) c.args.t)) (stepped w c.args.t) = step_shown w c.args.t c.self.invariant.world.kept (its_mutator c) (was_busy c) says in
     subst (λ (s : State). IsShown s c.args.t c.answer.result (after c)) c.self.view_is
     (subst (λ (s : State). IsShown w c.args.t c.answer.result s) (sym (left c))
     (subst (λ x. IsShown w c.args.t x (stepped w c.args.t)) (sym (answered c)) shown))
