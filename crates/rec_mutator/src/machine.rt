@@ -165,6 +165,13 @@ impl Machine {
         self.frame.read(r)
     }
 
+    /// What the registers name, in order.
+    pub fn registers(&self) -> &[Option<u16>]
+        ensures { result.now ≡ self.now.registers }
+    {
+        self.frame.registers()
+    }
+
     /// The epoch that the mutator is in.
     pub fn epoch(&self) -> u32
         ensures { result ≡ self.now.epoch }

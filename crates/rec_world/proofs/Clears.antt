@@ -6,7 +6,7 @@ use Rattle.std.proofs.lemmas.List.{take_all, length-set, length-take, length-dro
 use Rattle.rec_word.specs.Place.{place_of}
 use Rattle.rec_model.specs.Sight.{Sight}
 use Rattle.rec_model.proofs.Words.{words_of-set_same, words_of-set_other}
-use Rattle.rec_world.specs.Memory.{Cells, own_words, IsCleared}
+use Rattle.rec_world.specs.Memory.{Cells, own_words, KeepsOthers, IsCleared}
 
 -- the first fields are cleared
 pub record IsClearing (fields : ℕ) (before now : Cells) (slot f : ℕ) : Type 0 where
@@ -14,6 +14,7 @@ pub record IsClearing (fields : ℕ) (before now : Cells) (slot f : ℕ) : Type 
   pub places : length now.words ≡ length before.words
   pub own : take f (own_words fields now slot) ≡ replicate f 0
   pub others : (s : ℕ) → s ≢ slot → own_words fields now s ≡ own_words fields before s
+  pub rest : KeepsOthers before now
 
 -- one value more at the end
 replicate-push : (n : ℕ) → ◌≡◌ {A = List ℕ} (replicate n 0 ++ 0 ∷ []) (replicate (suc n) 0)
@@ -33,11 +34,11 @@ length-own_words fields cells slot there places =
 
 -- none yet
 pub clearing_first : (fields : ℕ) (cells : Cells) (slot : ℕ) → IsClearing fields cells cells slot 0
-clearing_first fields cells slot = record { headers = refl; places = refl; own = refl; others = λ s other. refl }
+clearing_first fields cells slot = record { headers = refl; places = refl; own = refl; others = λ s other. refl; rest = record { epoch = refl; freed = refl; crossing = refl } }
 
 -- one more
 pub clearing_next : (fields : ℕ) (before now next : Cells) (slot f at : ℕ) → slot < length before.headers → length before.words ≡ length before.headers * fields → f < fields
-    → IsClearing fields before now slot f → at ≡ place_of slot f fields → next ≡ record { headers = now.headers; words = slice_set now.words at 0 } → IsClearing fields before next slot (f + 1)
+    → IsClearing fields before now slot f → at ≡ place_of slot f fields → next ≡ record now { words = slice_set now.words at 0 } → IsClearing fields before next slot (f + 1)
 clearing_next fields before now next slot f at there places in_range clearing at_is is =
     let words : next.words ≡ slice_set now.words (place_of slot f fields) 0 = ap (λ (x : Cells). x.words) is ∙ ap (λ n. slice_set now.words n 0) at_is in
     let seen : Sight = seen_words fields now in
@@ -53,11 +54,16 @@ clearing_next fields before now next slot f at there places in_range clearing at
           ∙ ap (λ xs. xs ++ 0 ∷ []) clearing.own ∙ replicate-push f ∙ ap (λ n. replicate n 0) (sym (add-one f));
       others = λ s other.
           ap (λ ws. take (s * fields + fields - s * fields) (drop (s * fields) ws)) words ∙ words_of-set_other seen slot f 0 s in_range other ∙ clearing.others s other;
+      rest = record {
+        epoch = ap (λ (x : Cells). x.epoch) is ∙ clearing.rest.epoch;
+        freed = ap (λ (x : Cells). x.freed) is ∙ clearing.rest.freed;
+        crossing = ap (λ (x : Cells). x.crossing) is ∙ clearing.rest.crossing;
+      };
     }
 
 -- all of them, and then the header
 pub clearing_last : (fields : ℕ) (before now after : Cells) (slot f : ℕ) → slot < length before.headers → length before.words ≡ length before.headers * fields → f ≡ fields
-    → IsClearing fields before now slot f → after ≡ record { headers = slice_set now.headers slot 0; words = now.words } → IsCleared fields before after slot
+    → IsClearing fields before now slot f → after ≡ record now { headers = slice_set now.headers slot 0 } → IsCleared fields before after slot
 clearing_last fields before now after slot f there places all clearing is =
     let words : after.words ≡ now.words = ap (λ (x : Cells). x.words) is in
     let headers : length now.headers ≡ length before.headers = ap length clearing.headers in
@@ -69,4 +75,9 @@ clearing_last fields before now after slot f there places all clearing is =
       places = ap length words ∙ clearing.places;
       own = ap (λ ws. take (slot * fields + fields - slot * fields) (drop (slot * fields) ws)) words ∙ sym (take_all fields (own_words fields now slot) (omega arith)) ∙ own;
       others = λ s other. ap (λ ws. take (s * fields + fields - s * fields) (drop (s * fields) ws)) words ∙ clearing.others s other;
+      rest = record {
+        epoch = ap (λ (x : Cells). x.epoch) is ∙ clearing.rest.epoch;
+        freed = ap (λ (x : Cells). x.freed) is ∙ clearing.rest.freed;
+        crossing = ap (λ (x : Cells). x.crossing) is ∙ clearing.rest.crossing;
+      };
     }

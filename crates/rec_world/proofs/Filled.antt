@@ -7,6 +7,7 @@ use Rattle.std.proofs.lemmas.List.{take_more, take-append-le, take_all, get_or-m
 use Rattle.std.proofs.lemmas.List.Elements.{All-get_or}
 use Rattle.std.proofs.lemmas.Bool.{false≢true}
 use Rattle.std.proofs.lemmas.Grind.{flat_map-append}
+use Rattle.std.proofs.Math.ListN.{get_or-map as list_get_or-map}
 use Rattle.std.proofs.Math.Nat.{mul-le-mul_right}
 use Rattle.rec_word.specs.Word.{target_of}
 use Rattle.rec_model.specs.Reach.{named, is_in}
@@ -17,7 +18,9 @@ use Rattle.rec_model.specs.Sight.{Sight, Reaches, targets_of, NumbersSlots}
 use Rattle.rec_model.proofs.Firsts.{joined-append, joined-cases}
 use Rattle.rec_model.proofs.Members.{of_all, all_of}
 use Rattle.rec_model.proofs.Named.{joined-step, named-at}
+use Rattle.rec_mutator.specs.Private.{Private}
 use Rattle.rec_world.specs.Numbering.{sight_of, NamesBelow}
+use Rattle.rec_world.specs.State.{nobody}
 
 -- the target of the next word joins those before it
 pub joined-word : (first met more : List ℕ) (x : Option ℕ) (words : List ℕ) (i : ℕ) → met ≡ joined first (named (map target_of (take i words))) → x ≡ target_of (get_or words i 0) → i < length words → more ≡ joined met (named (x ∷ [])) → more ≡ joined first (named (map target_of (take (i + 1) words)))
@@ -85,11 +88,17 @@ fields_end slot slots fields lt =
     let e : (slot + 1) * fields ≤ slots * fields = mul-le-mul_right fields more in
     omega (arith, e)
 
--- one mutator's registers joined an empty list
-pub filled_registers : (registers : List (Option ℕ)) (words : List ℕ) (fields : ℕ) (empty list : List ℕ) → empty ≡ [] → list ≡ joined empty (named registers) → IsFilled (sight_of registers words fields) 0 list
-filled_registers registers words fields empty list none e =
-    filled_first (sight_of registers words fields) list
-    (e ∙ ap (λ ns. joined ns (named registers)) none ∙ ap firsts (sym (append-nil (named registers))))
+-- the registers joined an empty list
+pub filled_registers : (registers : List (List (Option ℕ))) (words : List ℕ) (fields : ℕ) (empty list : List ℕ) → empty ≡ [] → list ≡ joined empty (roots registers) → IsFilled (sight_of registers words fields) 0 list
+filled_registers registers words fields empty list none e = filled_first (sight_of registers words fields) list (e ∙ ap (λ ns. joined ns (roots registers)) none)
+
+-- the registers of one mutator more joined the list
+pub joined_registers : (first met more : List ℕ) (own : List (Option ℕ)) (registers : List (List (Option ℕ))) (i : ℕ) → met ≡ joined first (roots (take i registers)) → own ≡ get_or registers i [] → i < length registers
+    → more ≡ joined met (named own) → more ≡ joined first (roots (take (i + 1) registers))
+joined_registers first met more own registers i so_far at within e =
+    let parts : roots (take (i + 1) registers) ≡ roots (take i registers) ++ named own
+    = ap roots (take_more registers i [] within ∙ ap (λ rs. take i registers ++ rs ∷ []) (sym at)) ∙ flat_map-append named (take i registers) (own ∷ []) ∙ ap (λ ns. roots (take i registers) ++ ns) (append-nil (named own)) in
+    e ∙ ap (λ ns. joined ns (named own)) so_far ∙ sym (joined-append first (roots (take i registers)) (named own)) ∙ ap (joined first) (sym parts)
 
 -- a slot that is reached has a name
 pub reached_below : (w : Sight) (slots : ℕ) → NamesBelow w slots → (slot : ℕ) → Reaches w slot → slot < slots
@@ -97,16 +106,21 @@ reached_below w slots names slot (root n there) = names.registers n there
 reached_below w slots names slot (child m n from there) = names.fields m n there
 
 -- the words of a slot joined the list; the slot and the number of fields were read and widened
-pub filled_fields : (registers : List (Option ℕ)) (words : List ℕ) (fields next slot wide again : ℕ) (list now more : List ℕ) → IsFilled (sight_of registers words fields) next list → now ≡ list → next < length list → slot ≡ get_or now next 0 → wide ≡ fields → again ≡ fields → more ≡ joined list (named (map target_of (slice_range words (slot * wide) (slot * wide + again)))) → IsFilled (sight_of registers words fields) (next + 1) more
+pub filled_fields : (registers : List (List (Option ℕ))) (words : List ℕ) (fields next slot wide again : ℕ) (list now more : List ℕ) → IsFilled (sight_of registers words fields) next list → now ≡ list → next < length list → slot ≡ get_or now next 0 → wide ≡ fields → again ≡ fields → more ≡ joined list (named (map target_of (slice_range words (slot * wide) (slot * wide + again)))) → IsFilled (sight_of registers words fields) (next + 1) more
 filled_fields registers words fields next slot wide again list now more filled same in_list at_next e f joins =
     filled_next (sight_of registers words fields) next slot list more filled in_list
     (at_next ∙ ap (λ ns. get_or ns next 0) same ∙ get_or_default list next 0 slot in_list)
     (joins ∙ ap (λ n. joined list (named (map target_of (slice_range words (slot * n) (slot * n + again))))) e ∙ ap (λ n. joined list (named (map target_of (slice_range words (slot * fields) (slot * fields + n))))) f)
 
 -- and they stand among all the words
-pub fields_within : (registers : List (Option ℕ)) (words : List ℕ) (fields next slot wide again slots : ℕ) (list now : List ℕ) → IsFilled (sight_of registers words fields) next list → NamesBelow (sight_of registers words fields) slots → length words ≡ slots * fields → now ≡ list → next < length list → slot ≡ get_or now next 0 → wide ≡ fields → again ≡ fields → slot * wide + again ≤ length words
+pub fields_within : (registers : List (List (Option ℕ))) (words : List ℕ) (fields next slot wide again slots : ℕ) (list now : List ℕ) → IsFilled (sight_of registers words fields) next list → NamesBelow (sight_of registers words fields) slots → length words ≡ slots * fields → now ≡ list → next < length list → slot ≡ get_or now next 0 → wide ≡ fields → again ≡ fields → slot * wide + again ≤ length words
 fields_within registers words fields next slot wide again slots list now filled names places same in_list at_next e f =
     let reached : Reaches (sight_of registers words fields) (get_or list next 0) = All-get_or (Reaches (sight_of registers words fields)) list next 0 in_list filled.reached in
     let here : slot ≡ get_or list next 0 = at_next ∙ ap (λ ns. get_or ns next 0) same in
     let below : slot < slots = rw here (reached_below (sight_of registers words fields) slots names (get_or list next 0) reached) in
     rw (e, f, places) (fields_end slot slots fields below)
+
+-- the registers of a mutator that was read from a list
+pub own_at : (ms : List Private) (p : Private) (own : List (Option ℕ)) (i : ℕ) → i < length ms → p ≡ get_or ms i p → own ≡ p.registers → own ≡ get_or (map (λ (x : Private). x.registers) ms) i []
+own_at ms p own i there read is =
+    is ∙ ap (λ (x : Private). x.registers) (read ∙ get_or_default ms i p nobody there) ∙ sym (list_get_or-map (λ (x : Private). x.registers) ms i nobody)

@@ -6,7 +6,7 @@ use Rattle.std.proofs.lemmas.List.{length-set, get_or-set_same, get_or-set_other
 use Rattle.rec_model.specs.Reach.{is_in}
 use Rattle.rec_model.specs.Listing.{number_in}
 use Rattle.rec_world.specs.Numbering.{number_of}
-use Rattle.rec_world.specs.Memory.{Cells, own_words, IsCleared, KeepsListed}
+use Rattle.rec_world.specs.Memory.{Cells, KeepsOthers, own_words, IsCleared, KeepsListed}
 
 -- a slot's header and words are as they were
 abbrev pub IsSame : ℕ → Cells → Cells → ℕ → Type 0
@@ -23,11 +23,12 @@ pub record IsKeeping (fields : ℕ) (before now : Cells) (list : List ℕ) (slot
   pub ahead : (s : ℕ) → slot ≤ s → IsSame fields before now s
   pub kept : (s : ℕ) → is_in s list ≡ true → IsSame fields before now s
   pub freed : (s : ℕ) → s < slot → is_in s list ≡ false → IsNull fields now s
+  pub rest : KeepsOthers before now
 
 -- none yet
 pub keeping_first : (fields : ℕ) (cells : Cells) (list : List ℕ) → IsKeeping fields cells cells list 0
 keeping_first fields cells list =
-    record { slots = refl; places = refl; ahead = λ s there. (refl, refl); kept = λ s there. (refl, refl); freed = λ s there. absurd (omega arith) }
+    record { slots = refl; places = refl; ahead = λ s there. (refl, refl); kept = λ s there. (refl, refl); freed = λ s there. absurd (omega arith); rest = record { epoch = refl; freed = refl; crossing = refl } }
 
 -- a listed slot is passed by
 pub keeping_listed : (fields : ℕ) (before now : Cells) (list : List ℕ) (slot : ℕ) → is_in slot list ≡ true → IsKeeping fields before now list slot → IsKeeping fields before now list (slot + 1)
@@ -41,6 +42,7 @@ keeping_listed fields before now list slot listed keeping =
         | inl is ↦ absurd (false≢true (sym free ∙ ap (λ n. is_in n list) is ∙ listed))
         | inr other ↦ keeping.freed s (omega arith) free
       ];
+      rest = keeping.rest;
     }
 
 -- another slot as a clearing leaves it
@@ -70,6 +72,7 @@ keeping_cleared fields before now next list slot there free cleared keeping =
             let same : IsSame fields now next s = untouched fields now next slot s cleared other in
             (same.0 ∙ old.0, same.1 ∙ old.1)
       ];
+      rest = record { epoch = cleared.rest.epoch ∙ keeping.rest.epoch; freed = cleared.rest.freed ∙ keeping.rest.freed; crossing = cleared.rest.crossing ∙ keeping.rest.crossing };
     }
 
 -- all of them
@@ -80,6 +83,7 @@ keeping_last fields before now list slot end keeping =
       places = keeping.places;
       kept = keeping.kept;
       freed = λ s there free. keeping.freed s (omega arith) free;
+      rest = keeping.rest;
     }
 
 -- a choice between a number and none

@@ -1,19 +1,40 @@
--- What every plain heap keeps is kept by each thing that a command does to it.
-use Rattle.std.proofs.Common.{◌≡◌, inl, inr, ℕ, ◌+◌, ◌-◌, ◌^◌, ◌<◌, ◌≤◌, ◌↔◌, List, [], ◌==◌, Option, None, Some, false, slice_index_or, slice_set, length, map, ap, subst, ◌∙◌, arith}
+-- What every heap keeps is kept by each move of a mutator.
+use Rattle.std.proofs.Common.{◌≡◌, ◌≢◌, inl, inr, ℕ, ◌+◌, ◌-◌, ◌*◌, ◌^◌, ◌<◌, ◌≤◌, ◌↔◌, List, [], ◌==◌, Option, None, Some, true, false, slice_index_or, slice_set, length, map, refl, sym, ap, subst, ◌∙◌, arith}
 use Rattle.std.specs.List.{All}
 use Rattle.std.proofs.Math.ListN.{get_or-map}
-use Rattle.std.proofs.lemmas.Bool.{cases_lt, cases_eq, false≢true, eq-eqb}
+use Rattle.std.proofs.lemmas.Bool.{cases_lt, cases_eq}
 use Rattle.std.proofs.lemmas.List.{length-set, get_or_past, get_or-set_same, get_or-set_other}
 use Rattle.std.proofs.lemmas.List.Elements.{All-set, All-get_or}
 use Rattle.rec_word.specs.Place.{place_of}
 use Rattle.rec_word.specs.Word.{target_of, IsTarget}
-use Rattle.rec_model.specs.Heap.{register, registers_of, set_register}
-use Rattle.rec_model.specs.Sight.{Sight, IsTaken, word_at, words_of, sight_with_header}
+use Rattle.rec_word.specs.declared.op.Op.{Op}
+use Rattle.rec_word.specs.declared.op.Op.TheVariants as ops
+use Rattle.rec_model.specs.declared.command.Cmd.{Cmd}
+use Rattle.rec_model.specs.declared.command.Cmd.TheVariants as commands
+use Rattle.rec_model.specs.declared.told.Told.{Told}
+use Rattle.rec_model.specs.Heap.{set_register}
+use Rattle.rec_model.specs.Sight.{Sight, IsTaken, IsSound, word_at, words_of, sight_with_header, sight_with_register, sight_with_word}
 use Rattle.rec_model.proofs.Names.{register_root, named_at}
 use Rattle.rec_model.proofs.Standing.{register_sound, birth_sound, write_sound, word_in}
-use Rattle.rec_world.proofs.Places.{place_within}
-use Rattle.rec_world.specs.Config.{IsMutator}
-use Rattle.rec_world.specs.World.{State, sight, IsWorld}
+use Rattle.rec_log.specs.declared.entry.Entry.{Entry}
+use Rattle.rec_mutator.specs.Private.{Private, KeepsSizes, is_busy, register, next_stamp, word_for}
+use Rattle.rec_mutator.specs.Took.{took_of}
+use Rattle.rec_mutator.specs.Next.{next_of}
+use Rattle.rec_mutator.specs.Step.{Step, Decides, GoesOn, HasRoom}
+use Rattle.rec_mutator.specs.declared.phase.Phase.{Phase}
+use Rattle.rec_mutator.specs.declared.phase.Phase.TheVariants.{Idle, Begun, Scanning, Scanned, Finished}
+use Rattle.rec_mutator.specs.declared.work.Work.TheVariants as works
+use Rattle.rec_mutator.proofs.Sizes.{took_keeps}
+use Rattle.rec_mutator.proofs.Steps.{step_made}
+use Rattle.rec_world.specs.declared.config.Config.{Config}
+use Rattle.rec_world.specs.Config.{IsConfig, IsMutator}
+use Rattle.rec_world.specs.Memory.{cell}
+use Rattle.rec_world.specs.Run.{performed, stepped, found_by}
+use Rattle.rec_world.specs.State.{cells_of, nobody}
+use Rattle.rec_world.specs.World.{State, sight, mutator, with_mutator, IsOwn, IsWorking, IsKept}
+use Rattle.rec_world.proofs.Machines.{step_machine, has_room, register_target}
+use Rattle.rec_world.proofs.Shapes.{changed, left_by_field, left_by_header, left_by_cross, left_by_epoch, left_by_freed, left_by_swap, left_by_probe, left_by_claim, own_register, registers_stay, registers_set, changed_same, changed_other}
+use Rattle.rec_world.proofs.Stamps.{target_of-packed}
 
 -- a taken slot is a slot
 pub taken_in_range : (w : Sight) (slot : ℕ) → IsTaken w slot → slot < length w.headers
@@ -22,70 +43,129 @@ taken_in_range w slot taken = elim (cases_lt slot (length w.headers)) [
   | inr past ↦ let is : slice_index_or w.headers slot 0 ≡ 0 = get_or_past w.headers slot 0 past in absurd (omega arith)
 ]
 
--- what a register names is taken
-pub register_taken : (w : State) → IsWorld w → (t r slot : ℕ) → register w.registers t r ≡ Some slot → IsTaken (sight w) slot
-register_taken w world t r slot is = world.sound.registers slot (register_root w.registers t r slot is)
+-- what a register of a mutator names is taken
+pub register_taken : (w : State) → IsKept w → (t r slot : ℕ) → register (mutator w t) r ≡ Some slot → IsTaken (sight w) slot
+register_taken w kept t r slot is = kept.sound.registers slot (register_root (sight w).registers t r slot (own_register w t r ∙ is))
 
--- what a register names fits a field word
-pub register_target : (w : State) → IsWorld w → (t r : ℕ) (x : Option ℕ) → register w.registers t r ≡ x → IsTarget x
-register_target w world t r None is = tt
-register_target w world t r (Some slot) is =
-    let below : slot < length w.headers = taken_in_range (sight w) slot (register_taken w world t r slot is) in
-    let headers : length w.headers ≡ w.config.slots = world.headers in
-    let few : w.config.slots ≤ 65535 = world.config.few_slots in
-    omega arith
-
--- a mutator has its registers
-pub own_length : (w : State) → IsWorld w → (t : ℕ) → IsMutator w.config t → length (registers_of w.registers t) ≡ w.config.registers
-own_length w world t is =
-    let mutators : length w.registers ≡ w.config.mutators = world.mutators in
-    All-get_or (λ (own : List (Option ℕ)). length own ≡ w.config.registers) w.registers (t - 1) [] (omega arith) world.registers
-
--- registers, with one changed
-registers_kept : (w : State) → IsWorld w → (t r : ℕ) (x : Option ℕ) → IsMutator w.config t
-    → All (λ (own : List (Option ℕ)). length own ≡ w.config.registers) (set_register w.registers t r x)
-registers_kept w world t r x is =
-    All-set (λ (own : List (Option ℕ)). length own ≡ w.config.registers) w.registers (t - 1) (slice_set (registers_of w.registers t) r x)
-    (length-set (registers_of w.registers t) r x ∙ own_length w world t is) world.registers
-
--- a register is set to null or to a taken slot
-pub register_kept : (w : State) → IsWorld w → (t r : ℕ) (x : Option ℕ) → IsMutator w.config t → ((slot : ℕ) → x ≡ Some slot → IsTaken (sight w) slot)
-    → IsWorld (record w { registers = set_register w.registers t r x })
-register_kept w world t r x is may =
-    record {
-      config = world.config;
-      headers = world.headers;
-      mutators = length-set w.registers (t - 1) (slice_set (registers_of w.registers t) r x) ∙ world.mutators;
-      registers = registers_kept w world t r x is;
-      labels = world.labels;
-      made = world.made;
-      logged = world.logged;
-      sound = register_sound (sight w) t r x may world.sound;
-      births = world.births;
-    }
+-- what a field of a taken slot leads to is taken
+pub target_taken : (w : State) → IsKept w → (slot f n : ℕ) → f < w.config.fields → IsTaken (sight w) slot → target_of (word_at (sight w) slot f) ≡ Some n → IsTaken (sight w) n
+target_taken w kept slot f n in_range taken is =
+    kept.sound.fields slot n taken (named_at (map target_of (words_of (sight w) slot)) f n (get_or-map target_of (words_of (sight w) slot) f 0 ∙ ap target_of (word_in (sight w) slot f in_range) ∙ is))
 
 -- one value in two options
-some_same : (m n : ℕ) → ◌≡◌ {A = Option ℕ} (Some m) (Some n) → m ≡ n
+pub some_same : (m n : ℕ) → ◌≡◌ {A = Option ℕ} (Some m) (Some n) → m ≡ n
 some_same m n is = cc
 
--- a log that isn't full has room
-pub log_room : (logged entries : ℕ) → logged ≤ entries → false ≡ (logged == entries) → logged < entries
-log_room logged entries most open_log = elim (cases_eq logged entries) [
-  | inl is ↦ absurd (false≢true (open_log ∙ eq-eqb logged entries is))
-  | inr other ↦ omega arith
+-- more births leave what is known of a work
+working_more : (made more slots : ℕ) (at : Phase) → made ≤ more → more ≤ slots → IsWorking made slots at → IsWorking more slots at
+working_more made more slots Idle grows few is = tt
+working_more made more slots (Begun work) grows few is = is
+working_more made more slots (Scanning reg label before slot) grows few is = let passed : slot ≤ made = is.2 in (is.0, is.1, omega arith)
+working_more made more slots (Scanned reg label before) grows few is = let all : made ≡ slots = is.1 in (is.0, omega arith)
+working_more made more slots (Finished work made_of) grows few is = tt
+
+-- so what is known of a mutator
+own_more : (config : Config) (made more t : ℕ) (p : Private) → made ≤ more → more ≤ config.slots → IsOwn config made t p → IsOwn config more t p
+own_more config made more t p grows few own =
+    record {
+      number = own.number;
+      epoch = own.epoch;
+      slots = own.slots;
+      fields = own.fields;
+      registers = own.registers;
+      capacity = own.capacity;
+      machine = own.machine;
+      working = working_more made more config.slots p.phase grows few own.working;
+    }
+
+-- every mutator of a heap in which one was changed
+changed_own : (w : State) (t : ℕ) (headers words : List ℕ) (q : Private) (made : ℕ) → IsKept w → IsMutator w.config t → w.made ≤ made → made ≤ w.config.slots → IsOwn w.config made t q
+    → (s : ℕ) → IsMutator w.config s → IsOwn w.config made s (mutator (changed w t headers words q made) s)
+changed_own w t headers words q made kept is grows few own s there = elim (cases_eq s t) [
+  | inl same ↦
+      let all : length w.mutators ≡ w.config.mutators = kept.mutators in
+      let here : mutator (changed w t headers words q made) s ≡ q = ap (λ n. slice_index_or (slice_set w.mutators (t - 1) q) (n - 1) nobody) same ∙ changed_same w.mutators t q is.0 (omega (arith, is.1)) in
+      subst (IsOwn w.config made s) (sym here) (subst (λ n. IsOwn w.config made n q) (sym same) own)
+  | inr other ↦ subst (IsOwn w.config made s) (sym (changed_other w.mutators t s q is.0 there.0 other)) (own_more w.config w.made made s (mutator w s) grows few (kept.own s there))
 ]
 
+-- a heap in which one mutator, headers, words and births were changed
+pub changed_kept : (w : State) (t : ℕ) (headers words : List ℕ) (q : Private) (made : ℕ) → IsKept w → IsMutator w.config t → length headers ≡ length w.headers → w.made ≤ made → made ≤ w.config.slots
+    → IsOwn w.config made t q → All (λ header. header ≤ 2 ^ 32) headers → IsSound (sight (changed w t headers words q made))
+    → (w.marked ≡ false → (slot : ℕ) → (0 < slice_index_or headers slot 0) ↔ (slot < made)) → IsKept (changed w t headers words q made)
+changed_kept w t headers words q made kept is same grows few own labels sound births =
+    record {
+      config = kept.config;
+      headers = same ∙ kept.headers;
+      epoch = kept.epoch;
+      freed = kept.freed;
+      crossing = kept.crossing;
+      mutators = length-set w.mutators (t - 1) q ∙ kept.mutators;
+      own = changed_own w t headers words q made kept is grows few own;
+      labels = labels;
+      made = few;
+      sound = sound;
+      births = births;
+    }
+
+-- what is known of a mutator after a step
+pub own_after : (w : State) (t : ℕ) (q : Private) (made : ℕ) → IsKept w → IsMutator w.config t → KeepsSizes (mutator w t) q → (word : ℕ) (op : Op) → Step (mutator w t) word op q → IsWorking made w.config.slots q.phase → IsOwn w.config made t q
+own_after w t q made kept is same word op step working =
+    let own : IsOwn w.config w.made t (mutator w t) = kept.own t is in
+    record {
+      number = same.number ∙ own.number;
+      epoch = same.epoch ∙ own.epoch;
+      slots = same.slots ∙ own.slots;
+      fields = same.fields ∙ own.fields;
+      registers = same.registers ∙ own.registers;
+      capacity = same.capacity ∙ own.capacity;
+      machine = step_machine own.machine step;
+      working = working;
+    }
+
+-- a heap in which one mutator was changed
+pub mutator_kept : (w : State) (t : ℕ) (q : Private) → IsKept w → IsMutator w.config t → IsOwn w.config w.made t q → IsSound (sight (with_mutator w t q)) → IsKept (with_mutator w t q)
+mutator_kept w t q kept is own sound = changed_kept w t w.headers w.words q w.made kept is refl (omega arith) kept.made own kept.labels sound kept.births
+
+-- its registers stayed
+pub stays_sound : (w : State) (t : ℕ) (q : Private) → IsKept w → q.registers ≡ (mutator w t).registers → IsSound (sight (with_mutator w t q))
+stays_sound w t q kept same = subst (λ (rss : List (List (Option ℕ))). IsSound (record (sight w) { registers = rss })) (sym (registers_stay w t q same)) kept.sound
+
+-- one of its registers became null or a taken slot
+pub sets_sound : (w : State) (t r : ℕ) (x : Option ℕ) (q : Private) → IsKept w → ((slot : ℕ) → x ≡ Some slot → IsTaken (sight w) slot) → q.registers ≡ slice_set (mutator w t).registers r x → IsSound (sight (with_mutator w t q))
+sets_sound w t r x q kept may is = subst (λ (rss : List (List (Option ℕ))). IsSound (record (sight w) { registers = rss })) (sym (registers_set w t r x q is)) (register_sound (sight w) t r x may kept.sound)
+
+-- what is known after an answer
+pub answered_working : {p : Private} {op : Op} {q : Private} {cmd : Cmd} {at : Phase} {its_op : Op} {registers : List (Option ℕ)} {entries : List Entry} {told : Told} (made slots : ℕ)
+    → Decides p op q cmd at its_op registers entries told → IsWorking made slots q.phase
+answered_working made slots d = subst (λ (x : Private). IsWorking made slots x.phase) (sym d.after) tt
+
+-- what is known in a phase
+pub working_at : (w : State) (t : ℕ) (at : Phase) → IsKept w → IsMutator w.config t → (mutator w t).phase ≡ at → IsWorking w.made w.config.slots at
+working_at w t at kept is phase = subst (IsWorking w.made w.config.slots) phase (kept.own t is).working
+
+-- a header that isn't 0 is of a slot that is taken
+pub not_zero : (word : ℕ) → word ≢ 0 → 0 < word
+not_zero word is = omega arith
+
 -- until it is marked, the slot numbered by the births is free
-pub made_is_free : (w : State) → IsWorld w → w.marked ≡ false → slice_index_or w.headers w.made 0 ≡ 0
-made_is_free w world unmarked = elim (cases_eq (slice_index_or w.headers w.made 0) 0) [
+pub made_is_free : (w : State) → IsKept w → w.marked ≡ false → slice_index_or w.headers w.made 0 ≡ 0
+made_is_free w kept unmarked = elim (cases_eq (slice_index_or w.headers w.made 0) 0) [
   | inl free ↦ free
-  | inr taken ↦ let below : w.made < w.made = (world.births unmarked w.made).0 (omega arith) in absurd (omega arith)
+  | inr taken ↦ let below : w.made < w.made = (kept.births unmarked w.made).0 (omega arith) in absurd (omega arith)
+]
+
+-- a free slot that a scan has come to is the one after the births
+pub scanned_free : (w : State) (slot : ℕ) → IsKept w → w.marked ≡ false → slot ≤ w.made → slice_index_or w.headers slot 0 ≡ 0 → slot ≡ w.made
+scanned_free w slot kept unmarked passed free = elim (cases_eq slot w.made) [
+  | inl is ↦ is
+  | inr other ↦ let taken : 0 < slice_index_or w.headers slot 0 = (kept.births unmarked slot).1 (omega arith) in absurd (omega arith)
 ]
 
 -- a birth takes the slot, and no other
-births_more : (w : State) → IsWorld w → w.marked ≡ false → (label slot : ℕ) → w.made < length w.headers
-    → IsTaken (sight_with_header (sight w) w.made (label + 1)) slot ↔ (slot < w.made + 1)
-births_more w world unmarked label slot in_range = elim (cases_eq slot w.made) [
+births_more : (w : State) → IsKept w → w.marked ≡ false → (label slot : ℕ) → w.made < length w.headers
+    → (0 < slice_index_or (slice_set w.headers w.made (label + 1)) slot 0) ↔ (slot < w.made + 1)
+births_more w kept unmarked label slot in_range = elim (cases_eq slot w.made) [
   | inl is ↦
       let same : slice_index_or (slice_set w.headers w.made (label + 1)) slot 0 ≡ label + 1
       = ap (λ s. slice_index_or (slice_set w.headers w.made (label + 1)) s 0) is ∙ get_or-set_same w.headers w.made (label + 1) 0 in_range in
@@ -93,54 +173,41 @@ births_more w world unmarked label slot in_range = elim (cases_eq slot w.made) [
   | inr other ↦
       let same : slice_index_or (slice_set w.headers w.made (label + 1)) slot 0 ≡ slice_index_or w.headers slot 0
       = get_or-set_other w.headers w.made slot (label + 1) 0 other in
-      let old : IsTaken (sight w) slot ↔ (slot < w.made) = world.births unmarked slot in
+      let old : IsTaken (sight w) slot ↔ (slot < w.made) = kept.births unmarked slot in
       (λ taken. let below : slot < w.made = old.0 (omega arith) in omega arith, λ below. let taken : IsTaken (sight w) slot = old.1 (omega arith) in omega arith)
 ]
 
 -- a birth in the first slot that no birth took
-pub birth_kept : (w : State) → IsWorld w → (t r label : ℕ) → IsMutator w.config t → w.marked ≡ false → w.made < w.config.slots → w.logged < w.config.log_entries → label < 2 ^ 32
-    → IsWorld (record w { headers = slice_set w.headers w.made (label + 1); registers = set_register w.registers t r (Some w.made); made = w.made + 1; logged = w.logged + 1 })
-birth_kept w world t r label is unmarked room log_room fits =
+pub birth_kept : (w : State) (t reg label : ℕ) (q : Private) → IsKept w → IsMutator w.config t → w.marked ≡ false → w.made < w.config.slots → label < 2 ^ 32
+    → IsOwn w.config (w.made + 1) t q → q.registers ≡ slice_set (mutator w t).registers reg (Some w.made)
+    → IsKept (changed w t (slice_set w.headers w.made (label + 1)) w.words q (w.made + 1))
+birth_kept w t reg label q kept is unmarked room fits own registers =
     let seen : Sight = sight_with_header (sight w) w.made (label + 1) in
-    let headers : length w.headers ≡ w.config.slots = world.headers in
+    let headers : length w.headers ≡ w.config.slots = kept.headers in
     let in_range : w.made < length w.headers = omega arith in
-    let free : slice_index_or w.headers w.made 0 ≡ 0 = made_is_free w world unmarked in
+    let free : slice_index_or w.headers w.made 0 ≡ 0 = made_is_free w kept unmarked in
     let same : slice_index_or (slice_set w.headers w.made (label + 1)) w.made 0 ≡ label + 1 = get_or-set_same w.headers w.made (label + 1) 0 in_range in
-    record {
-      config = world.config;
-      headers = length-set w.headers w.made (label + 1) ∙ headers;
-      mutators = length-set w.registers (t - 1) (slice_set (registers_of w.registers t) r (Some w.made)) ∙ world.mutators;
-      registers = registers_kept w world t r (Some w.made) is;
-      labels = All-set (λ header. header ≤ 2 ^ 32) w.headers w.made (label + 1) (omega arith) world.labels;
-      made = omega arith;
-      logged = omega arith;
-      sound = register_sound seen t r (Some w.made) (λ slot there. let at : w.made ≡ slot = some_same w.made slot there in subst (IsTaken seen) at (omega arith))
-          (birth_sound (sight w) w.made (label + 1) in_range free world.sound);
-      births = λ _ slot. births_more w world unmarked label slot in_range;
-    }
+    let sound : IsSound (sight_with_register seen t reg (Some w.made))
+    = register_sound seen t reg (Some w.made) (λ slot there. let at : w.made ≡ slot = some_same w.made slot there in subst (IsTaken seen) at (omega arith))
+    (birth_sound (sight w) w.made (label + 1) in_range free kept.sound) in
+    changed_kept w t (slice_set w.headers w.made (label + 1)) w.words q (w.made + 1) kept is (length-set w.headers w.made (label + 1)) (omega arith) (omega arith) own
+    (All-set (λ header. header ≤ 2 ^ 32) w.headers w.made (label + 1) (omega arith) kept.labels)
+    (subst (λ (rss : List (List (Option ℕ))). IsSound (record seen { registers = rss })) (sym (registers_set w t reg (Some w.made) q registers)) sound)
+    (λ _ slot. births_more w kept unmarked label slot in_range)
 
--- a field of a taken slot becomes a word that leads to a taken slot or to none
-pub write_kept : (w : State) → IsWorld w → (slot f word : ℕ) → f < w.config.fields → IsTaken (sight w) slot → ((n : ℕ) → target_of word ≡ Some n → IsTaken (sight w) n) → w.logged < w.config.log_entries
-    → IsWorld (record w { words = slice_set w.words (place_of slot f w.config.fields) word; logged = w.logged + 1 })
-write_kept w world slot f word in_range taken may log_room =
-    record {
-      config = world.config;
-      headers = world.headers;
-      mutators = world.mutators;
-      registers = world.registers;
-      labels = world.labels;
-      made = world.made;
-      logged = omega arith;
-      sound = write_sound (sight w) slot f word in_range taken may world.sound;
-      births = world.births;
-    }
+-- the word that a write leaves leads where its register does
+pub word_leads : (w : State) (t val : ℕ) → IsKept w → IsMutator w.config t → HasRoom (mutator w t) → target_of (word_for (mutator w t) val) ≡ register (mutator w t) val
+word_leads w t val kept is room =
+    let own : IsOwn w.config w.made t (mutator w t) = kept.own t is in
+    let free : length (mutator w t).log.entries < (mutator w t).log.capacity = has_room (mutator w t) own.machine room in
+    let most : (mutator w t).log.capacity ≤ 2 ^ 18 = own.machine.capacity in
+    target_of-packed (register (mutator w t) val) (next_stamp (mutator w t)) (register_target (mutator w t) val own.machine)
+    (record { writer = own.machine.number; epoch = own.machine.epoch; index = omega arith })
 
--- what a field of a taken slot leads to is taken
-pub target_taken : (w : State) → IsWorld w → (slot f n : ℕ) → f < w.config.fields → IsTaken (sight w) slot → target_of (word_at (sight w) slot f) ≡ Some n → IsTaken (sight w) n
-target_taken w world slot f n in_range taken is =
-    world.sound.fields slot n taken (named_at (map target_of (words_of (sight w) slot)) f n (get_or-map target_of (words_of (sight w) slot) f 0 ∙ ap target_of (word_in (sight w) slot f in_range) ∙ is))
-
--- a field of what a register names is one of the words
-pub object_place : (w : State) → IsWorld w → (t r slot f : ℕ) → register w.registers t r ≡ Some slot → f < w.config.fields → place_of slot f w.config.fields < length w.words
-object_place w world t r slot f is in_range =
-    place_within w.config.fields (length w.headers) (length w.words) slot f world.sound.places (taken_in_range (sight w) slot (register_taken w world t r slot is)) in_range
+-- a field of what a register names becomes a word that leads to a taken slot or to none
+pub write_kept : (w : State) (t slot f word : ℕ) (q : Private) → IsKept w → IsMutator w.config t → f < w.config.fields → IsTaken (sight w) slot → ((n : ℕ) → target_of word ≡ Some n → IsTaken (sight w) n)
+    → IsOwn w.config w.made t q → q.registers ≡ (mutator w t).registers → IsKept (changed w t w.headers (slice_set w.words (place_of slot f w.config.fields) word) q w.made)
+write_kept w t slot f word q kept is in_range taken may own same =
+    changed_kept w t w.headers (slice_set w.words (place_of slot f w.config.fields) word) q w.made kept is refl (omega arith) kept.made own kept.labels
+    (subst (λ (rss : List (List (Option ℕ))). IsSound (record (sight_with_word (sight w) slot f word) { registers = rss })) (sym (registers_stay w t q same)) (write_sound (sight w) slot f word in_range taken may kept.sound))
+    kept.births

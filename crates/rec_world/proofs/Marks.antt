@@ -12,7 +12,8 @@ use Rattle.rec_model.proofs.Members.{of_all, is_in-left, is_in-right, is_in-flat
 use Rattle.rec_model.proofs.Within.{all_reached}
 use Rattle.rec_world.specs.Memory.{Cells, KeepsListed}
 use Rattle.rec_world.specs.Numbering.{NamesBelow, sight_of}
-use Rattle.rec_world.specs.World.{State, sight, IsWorld}
+use Rattle.rec_world.specs.State.{cells_of}
+use Rattle.rec_world.specs.World.{State, sight, IsKept, HasRun, IsMarked, IsWorld}
 use Rattle.rec_world.proofs.Names.{names_sound}
 
 -- what is reached is listed
@@ -41,52 +42,67 @@ told_reached w list s false numbers is = inr (λ from. false≢true (sym is ∙ 
 pub decided : (w : Sight) (list : List ℕ) → NumbersSlots w list → (s : ℕ) → Reaches w s ⊎ (Reaches w s → ⊥)
 decided w list numbers s = told_reached w list s (is_in s list) numbers refl
 
--- the words and headers of a heap
-abbrev pub cells_of : Sight → Cells
-cells_of w = record { headers = w.headers; words = w.words }
-
 -- keeping what is listed is keeping what is reached
-pub keeps_collects : (w : Sight) (list : List ℕ) (after : Cells) → NumbersSlots w list → KeepsListed w.fields (cells_of w) after list → Collects w after.headers after.words
+pub keeps_collects : (w : State) (list : List ℕ) (after : Cells) → NumbersSlots (sight w) list → KeepsListed w.config.fields (cells_of w) after list → Collects (sight w) after.headers after.words
 keeps_collects w list after numbers keeps =
     record {
       slots = keeps.slots;
       places = keeps.places;
-      kept = λ s from. keeps.kept s (reached_listed w list numbers s from);
-      freed = λ s there out. keeps.freed s there (out_unlisted w list s (is_in s list) numbers refl out);
+      kept = λ s from. keeps.kept s (reached_listed (sight w) list numbers s from);
+      freed = λ s there out. keeps.freed s there (out_unlisted (sight w) list s (is_in s list) numbers refl out);
     }
 
 -- the labels still fit
-labels_kept : (w : State) (list : List ℕ) (after : Cells) → IsWorld w → KeepsListed w.config.fields (cells_of (sight w)) after list → (s : ℕ) (listed : Bool) → s < length w.headers → is_in s list ≡ listed
+labels_kept : (w : State) (list : List ℕ) (after : Cells) → IsKept w → KeepsListed w.config.fields (cells_of w) after list → (s : ℕ) (listed : Bool) → s < length w.headers → is_in s list ≡ listed
     → slice_index_or after.headers s 0 ≤ 2 ^ 32
-labels_kept w list after world keeps s true there is =
-    let old : slice_index_or w.headers s 0 ≤ 2 ^ 32 = All-get_or (λ header. header ≤ 2 ^ 32) w.headers s 0 there world.labels in
+labels_kept w list after kept keeps s true there is =
+    let old : slice_index_or w.headers s 0 ≤ 2 ^ 32 = All-get_or (λ header. header ≤ 2 ^ 32) w.headers s 0 there kept.labels in
     let same : slice_index_or after.headers s 0 ≡ slice_index_or w.headers s 0 = (keeps.kept s is).0 in
     omega arith
-labels_kept w list after world keeps s false there is =
+labels_kept w list after kept keeps s false there is =
     let none : slice_index_or after.headers s 0 ≡ 0 = (keeps.freed s there is).0 in
     omega arith
 
 -- a marked heap
-pub mark_kept : (w : State) (list : List ℕ) (after : Cells) → IsWorld w → NumbersSlots (sight w) list → KeepsListed w.config.fields (cells_of (sight w)) after list
-    → IsWorld (record w { headers = after.headers; words = after.words; marked = true })
-mark_kept w list after world numbers keeps =
+marked_kept : (w : State) (list : List ℕ) (after : Cells) → IsKept w → NumbersSlots (sight w) list → KeepsListed w.config.fields (cells_of w) after list
+    → IsKept (record w { headers = after.headers; words = after.words; marked = true })
+marked_kept w list after kept numbers keeps =
     record {
-      config = world.config;
-      headers = keeps.slots ∙ world.headers;
-      mutators = world.mutators;
-      registers = world.registers;
-      labels = All-from_get_or (λ header. header ≤ 2 ^ 32) after.headers 0 (λ s there. labels_kept w list after world keeps s (is_in s list) (subst (λ n. s < n) keeps.slots there) refl);
-      made = world.made;
-      logged = world.logged;
-      sound = collects_sound (sight w) after.headers after.words world.sound (decided (sight w) list numbers) (keeps_collects (sight w) list after numbers keeps);
+      config = kept.config;
+      headers = keeps.slots ∙ kept.headers;
+      epoch = kept.epoch;
+      freed = kept.freed;
+      crossing = kept.crossing;
+      mutators = kept.mutators;
+      own = kept.own;
+      labels = All-from_get_or (λ header. header ≤ 2 ^ 32) after.headers 0 (λ s there. labels_kept w list after kept keeps s (is_in s list) (subst (λ n. s < n) keeps.slots there) refl);
+      made = kept.made;
+      sound = collects_sound (sight w) after.headers after.words kept.sound (decided (sight w) list numbers) (keeps_collects w list after numbers keeps);
       births = λ is. absurd (false≢true (sym is));
     }
 
--- registers and fields name slots
-pub names_below : (w : State) (registers : List (Option ℕ)) → IsWorld w → w.registers ≡ registers ∷ [] → NamesBelow (sight_of registers w.words w.config.fields) w.config.slots
-names_below w registers world is =
-    let names : NamesBelow (sight w) (length w.headers) = names_sound (sight w) world.sound in
+-- with the headers and words of some cells, and marked
+abbrev pub marked_with : State → Cells → State
+marked_with w cells = record w { headers = cells.headers; words = cells.words; marked = true }
+
+-- it is a heap
+pub mark_kept : (w : State) (list : List ℕ) (after : Cells) → IsWorld w → NumbersSlots (sight w) list → KeepsListed w.config.fields (cells_of w) after list → IsWorld (marked_with w after)
+mark_kept w list after world numbers keeps =
     record {
-      registers = λ slot there. subst (λ n. slot < n) world.headers (names.registers slot (ap (λ rss. is_in slot (roots rss)) is ∙ there));
-      fields = λ s slot there. subst (λ n. slot < n) world.headers (names.fields s slot there);
+      kept = marked_kept w list after world.kept numbers keeps;
+      run = HasRun.marks w (marked_with w after) world.run (record { collects = keeps_collects w list after numbers keeps; others = refl });
+    }
+
+-- its other words are those of before
+pub marked_same : (w : State) (list : List ℕ) (after : Cells) → KeepsListed w.config.fields (cells_of w) after list
+    → ◌≡◌ {A = State} (record w { headers = after.headers; words = after.words; epoch = after.epoch; freed = after.freed; crossing = after.crossing; marked = true }) (marked_with w after)
+marked_same w list after keeps = rw (keeps.rest.epoch, keeps.rest.freed, keeps.rest.crossing) refl
+
+-- registers and fields name slots
+pub names_below : (w : State) → IsKept w → NamesBelow (sight_of (sight w).registers w.words w.config.fields) w.config.slots
+names_below w kept =
+    let names : NamesBelow (sight w) (length w.headers) = names_sound (sight w) kept.sound in
+    record {
+      registers = λ slot there. subst (λ n. slot < n) kept.headers (names.registers slot there);
+      fields = λ s slot there. subst (λ n. slot < n) kept.headers (names.fields s slot there);
     }

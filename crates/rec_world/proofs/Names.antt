@@ -23,35 +23,6 @@ named_all P (Some m ∷ xs) all n h = elim (is_in-cons n m (named xs) h) [
   | inr later ↦ named_all P xs (All-tail (λ x. IfSome x P) (Some m) xs all) n later
 ]
 
--- registers and words that are each below the number of slots
-pub names_each : (registers : List (Option ℕ)) (words : List ℕ) (fields slots : ℕ) → All (λ x. IfSome x (λ n. n < slots)) registers → All (λ word. IfSome (target_of word) (λ n. n < slots)) words → NamesBelow (sight_of registers words fields) slots
-names_each registers words fields slots each all = record {
-  registers = λ slot h. elim (is_in-cases slot (named registers) [] h) [ inl there ↦ named_all (λ n. n < slots) registers each slot there | inr none ↦ absurd (false≢true none) ];
-  fields = λ s slot h. named_all (λ n. n < slots) (map target_of (words_of (sight_of registers words fields) s))
-      (All-map (λ x. IfSome x (λ n. n < slots)) target_of (words_of (sight_of registers words fields) s)
-      (All-take (λ word. IfSome (target_of word) (λ n. n < slots)) _ _ (All-drop (λ word. IfSome (target_of word) (λ n. n < slots)) (s * fields) words all)))
-      slot h;
-}
-
--- whether a register or a field names a slot below this number, or none
-abbrev pub is_below : ℕ → Option ℕ → Bool
-is_below slots None = true
-is_below slots (Some n) = ltb n slots
-
-below_tested : (slots : ℕ) (x : Option ℕ) → is_below slots x ≡ true → IfSome x (λ n. n < slots)
-below_tested slots None e = tt
-below_tested slots (Some n) e = ltb-true n slots e
-
-all_tested : {X : Type 0} (f : X → Option ℕ) (slots : ℕ) (xs : List X) → list_all (λ x. is_below slots (f x)) xs ≡ true → All (λ x. IfSome (f x) (λ n. n < slots)) xs
-all_tested f slots [] e = All-nil (λ x. IfSome (f x) (λ n. n < slots))
-all_tested f slots (x ∷ xs) e =
-    let parts : (is_below slots (f x) ≡ true) × (list_all (λ y. is_below slots (f y)) xs ≡ true) = and_parts (is_below slots (f x)) (list_all (λ y. is_below slots (f y)) xs) e in
-    All-cons (λ y. IfSome (f y) (λ n. n < slots)) x xs (below_tested slots (f x) parts.0) (all_tested f slots xs parts.1)
-
--- registers and words of which each is tested
-pub names_tested : (registers : List (Option ℕ)) (words : List ℕ) (fields slots count : ℕ) → count ≡ slots → list_all (is_below slots) registers ≡ true → list_all (λ word. is_below slots (target_of word)) words ≡ true → NamesBelow (sight_of registers words fields) count
-names_tested registers words fields slots count e each all = rw e (names_each registers words fields slots (all_tested (λ x. x) slots registers each) (all_tested target_of slots words all))
-
 -- what is named stands somewhere
 in_named : (n : ℕ) (xs : List (Option ℕ)) → is_in n (named xs) ≡ true → (r : ℕ) × (get_or xs r None ≡ Some n)
 in_named n [] h = absurd (false≢true h)

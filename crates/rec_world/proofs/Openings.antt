@@ -1,13 +1,18 @@
--- What every plain heap keeps holds as it is opened.
-use Rattle.std.proofs.Common.{◌≡◌, inl, inr, ℕ, ◌-◌, ◌*◌, ◌^◌, ◌<◌, ◌≤◌, ◌↔◌, zero, suc, List, [], ◌∷◌, Option, None, Some, false, slice_index_or, length, replicate, refl, sym, subst, arith, lit<, lit≤}
-use Rattle.std.proofs.lemmas.Bool.{cases_lt}
-use Rattle.std.proofs.lemmas.List.{get_or_past, get_or-replicate, length-replicate}
-use Rattle.std.proofs.lemmas.List.Elements.{All-from_get_or}
-use Rattle.rec_model.proofs.Opened.{opening_sound}
-use Rattle.rec_world.specs.Config.{IsConfig}
-use Rattle.rec_world.specs.Memory.{Cells}
+-- What every heap keeps holds as it is opened.
+use Rattle.std.proofs.Common.{◌≡◌, inl, inr, ℕ, ◌+◌, ◌-◌, ◌*◌, ◌^◌, ◌<◌, ◌≤◌, ◌↔◌, zero, suc, List, [], ◌∷◌, ◌++◌, Option, None, Some, false, slice_index_or, length, map, replicate, refl, sym, ap, subst, ◌∙◌, arith, lit<, lit≤, add-one}
+use Rattle.std.specs.List.{All}
+use Rattle.std.proofs.lemmas.Bool.{cases_lt, cases_eq}
+use Rattle.std.proofs.lemmas.List.{get_or_past, get_or-replicate, get_or_append_left, get_or-append_right, length-replicate, length_push, map_push}
+use Rattle.std.proofs.lemmas.List.Elements.{All-cons, All-from_get_or, All-replicate}
+use Rattle.rec_word.specs.Word.{IsTarget}
+use Rattle.rec_model.specs.Heap.{opening}
+use Rattle.rec_model.specs.Sight.{StandsFor, IsSound, opening_sight}
+use Rattle.rec_model.proofs.Opened.{opening_sound, opening_stands}
+use Rattle.rec_mutator.specs.Private.{Private, IsMachine}
+use Rattle.rec_world.specs.Config.{IsConfig, IsMutator}
 use Rattle.rec_world.specs.declared.config.Config.{Config}
-use Rattle.rec_world.specs.World.{State, opened, IsWorld}
+use Rattle.rec_world.specs.State.{nobody, opened_mutator, opened_mutators}
+use Rattle.rec_world.specs.World.{State, sight, mutator, opened, IsOwn, IsKept}
 
 -- a list of one value, within and past its end
 free_at : (n s : ℕ) → slice_index_or {A = ℕ} (replicate n 0) s 0 ≡ 0
@@ -25,31 +30,100 @@ small_header : (slots s : ℕ) → slice_index_or {A = ℕ} (1 ∷ replicate (sl
 small_header slots zero = lit≤ tt
 small_header slots (suc s) = let free : slice_index_or {A = ℕ} (replicate (slots - 1) 0) s 0 ≡ 0 = free_at (slots - 1) s in omega arith
 
+-- the registers of a mutator at opening
+abbrev own_opened : Config → List (Option ℕ)
+own_opened config = Some 0 ∷ replicate (config.registers - 1) None
+
+-- one value more at the end
+replicate_push : {X : Type 0} (n : ℕ) (x : X) → replicate n x ++ x ∷ [] ≡ replicate (suc n) x
+replicate_push zero x = refl
+replicate_push (suc n) x = ap (λ xs. x ∷ xs) (replicate_push n x)
+
+-- all mutators have the same registers
+registers_opened : (config : Config) (n : ℕ) → map (λ (p : Private). p.registers) (opened_mutators config n) ≡ replicate n (own_opened config)
+registers_opened config zero = refl
+registers_opened config (suc n) =
+    map_push (λ (p : Private). p.registers) (opened_mutators config n) (opened_mutator config (suc n))
+    ∙ ap (λ rss. rss ++ own_opened config ∷ []) (registers_opened config n) ∙ replicate_push n (own_opened config)
+
+-- so many mutators
+pub length-opened : (config : Config) (n : ℕ) → length (opened_mutators config n) ≡ n
+length-opened config zero = refl
+length-opened config (suc n) = length_push (opened_mutators config n) (opened_mutator config (suc n)) ∙ ap (λ m. m + 1) (length-opened config n) ∙ add-one n
+
+-- what is seen at opening
+pub sight_opened : (config : Config) → sight (opened config) ≡ opening_sight config.slots config.fields config.registers config.mutators
+sight_opened config = rw (registers_opened config config.mutators) refl
+
+-- one of the mutators
+opened_at : (config : Config) (n i : ℕ) → i < n → slice_index_or (opened_mutators config n) i nobody ≡ opened_mutator config (i + 1)
+opened_at config zero i below = absurd (omega arith)
+opened_at config (suc n) i below = elim (cases_lt i n) [
+  | inl before ↦
+      let own : slice_index_or (opened_mutators config n) i nobody ≡ opened_mutator config (i + 1) = opened_at config n i before in
+      get_or_append_left (opened_mutators config n) (opened_mutator config (suc n) ∷ []) nobody i (subst (λ m. i < m) (sym (length-opened config n)) before) ∙ own
+  | inr past ↦
+      let last : i - n ≡ 0 = omega arith in
+      let number : suc n ≡ i + 1 = omega arith in
+      get_or-append_right (opened_mutators config n) (opened_mutator config (suc n) ∷ []) n i nobody (length-opened config n) past
+      ∙ ap (λ k. slice_index_or (opened_mutator config (suc n) ∷ []) k nobody) last ∙ ap (opened_mutator config) number
+]
+
+-- what is known of a mutator as it is opened
+own_kept : (config : Config) (t : ℕ) → IsConfig config → IsMutator config t → IsOwn config 1 t (opened_mutator config t)
+own_kept config t is there =
+    let few : config.mutators ≤ 8 = is.few_mutators in
+    let last : t ≤ config.mutators = there.1 in
+    let slots : 1 ≤ config.slots = is.some_slots in
+    let few_slots : config.slots ≤ 65535 = is.few_slots in
+    let epoch : config.first_epoch ≤ 16777215 = is.few_epochs in
+    let entries : config.log_entries ≤ 262143 = is.few_log_entries in
+    let some : 1 ≤ config.registers = is.some_registers in
+    let rest : length {A = Option ℕ} (replicate (config.registers - 1) None) ≡ config.registers - 1 = length-replicate (config.registers - 1) None in
+    let first : IsTarget (Some 0) = omega arith in
+    record {
+      number = refl;
+      epoch = refl;
+      slots = refl;
+      fields = refl;
+      registers = omega arith;
+      capacity = refl;
+      machine = record {
+        number = omega arith;
+        epoch = omega arith;
+        first_slot = omega arith;
+        last_slot = omega arith;
+        capacity = omega arith;
+        entries = omega arith;
+        registers = All-cons IsTarget (Some 0) (replicate (config.registers - 1) None) first (All-replicate IsTarget (config.registers - 1) None tt);
+        now = refl;
+      };
+      working = tt;
+    }
+
 -- the opened heap
-pub opened_kept : (config : Config) → IsConfig config → IsWorld (opened config)
+pub opened_kept : (config : Config) → IsConfig config → IsKept (opened config)
 opened_kept config is =
     let slots : 1 ≤ config.slots = is.some_slots in
-    let registers : 1 ≤ config.registers = is.some_registers in
     let free : length {A = ℕ} (replicate (config.slots - 1) 0) ≡ config.slots - 1 = length-replicate (config.slots - 1) 0 in
-    let own : length {A = Option ℕ} (replicate (config.registers - 1) None) ≡ config.registers - 1 = length-replicate (config.registers - 1) None in
-    let all : length {A = Option ℕ} (Some 0 ∷ replicate (config.registers - 1) None) ≡ config.registers = omega arith in
     record {
       config = is;
       headers = omega arith;
-      mutators = length-replicate config.mutators (Some 0 ∷ replicate (config.registers - 1) None);
-      registers = All-from_get_or (λ (own : List (Option ℕ)). length own ≡ config.registers) (replicate config.mutators (Some 0 ∷ replicate (config.registers - 1) None)) []
-          (λ i there. subst (λ (own : List (Option ℕ)). length own ≡ config.registers)
-          (sym (get_or-replicate config.mutators i (Some 0 ∷ replicate (config.registers - 1) None) [] (subst (λ n. i < n) (length-replicate config.mutators (Some 0 ∷ replicate (config.registers - 1) None)) there))) all);
+      epoch = refl;
+      freed = refl;
+      crossing = refl;
+      mutators = length-opened config config.mutators;
+      own = λ t there.
+          let number : t - 1 + 1 ≡ t = let some : 1 ≤ t = there.0 in omega arith in
+          let below : t - 1 < config.mutators = let some : 1 ≤ t = there.0 in let last : t ≤ config.mutators = there.1 in omega arith in
+          subst (IsOwn config 1 t) (sym (opened_at config config.mutators (t - 1) below ∙ ap (opened_mutator config) number)) (own_kept config t is there);
       labels = All-from_get_or (λ header. header ≤ 2 ^ 32) (1 ∷ replicate (config.slots - 1) 0) 0 (λ i there. small_header config.slots i);
       made = slots;
-      logged = omega arith;
-      sound = opening_sound config.slots config.fields config.registers config.mutators slots;
+      sound = subst IsSound (sym (sight_opened config)) (opening_sound config.slots config.fields config.registers config.mutators slots);
       births = λ _ slot. first_header config.slots slot;
     }
 
--- the memory and the registers of one mutator make up the heap as it is opened
-pub opened_parts : (config : Config) (memory : Cells) (registers : List (Option ℕ)) → IsConfig config
-    → memory ≡ record { headers = 1 ∷ replicate (config.slots - 1) 0; words = replicate (config.slots * config.fields) 0 }
-    → registers ≡ Some 0 ∷ replicate (config.registers - 1) None
-    → ◌≡◌ {A = State} (record { config = config; headers = memory.headers; words = memory.words; registers = registers ∷ []; made = 1; logged = 0; marked = false }) (opened config)
-opened_parts config memory registers is cells own = rw (is.one_mutator, cells, own) refl
+-- the opening heap stands for it
+pub opened_stands : (config : Config) → IsConfig config → StandsFor (opening config.fields config.registers config.mutators) (sight (opened config))
+opened_stands config is =
+    subst (StandsFor (opening config.fields config.registers config.mutators)) (sym (sight_opened config)) (opening_stands config.slots config.fields config.registers config.mutators is.some_slots)

@@ -3,8 +3,12 @@ use Rattle.std.specs.Prelude.{◌≡◌, ℕ, ◌<◌, ◌≤◌}
 use Rattle.rec_model.specs.declared.command.Cmd.{Cmd}
 use Rattle.rec_model.specs.declared.command.Cmd.TheVariants as commands
 use Rattle.rec_world.specs.declared.config.Config.{Config}
+use Rattle.rec_world.specs.declared.open_error.OpenError.{OpenError}
+use Rattle.rec_world.specs.declared.open_error.OpenError.TheVariants as errors
+use Rattle.rec_world.specs.declared.part.Part.{Part}
+use Rattle.rec_world.specs.declared.part.Part.TheVariants.{Slots, Fields, Registers, Mutators, LogEntries, FirstEpoch}
 
--- every number is in its range; there is one mutator, and the first epoch is 1
+-- every number is in its range
 pub record IsConfig (config : Config) : Type 0 where
   pub some_slots : 1 ≤ config.slots
   pub few_slots : config.slots ≤ 65535
@@ -12,10 +16,40 @@ pub record IsConfig (config : Config) : Type 0 where
   pub few_fields : config.fields ≤ 16
   pub some_registers : 1 ≤ config.registers
   pub few_registers : config.registers ≤ 64
-  pub one_mutator : config.mutators ≡ 1
+  pub some_mutators : 1 ≤ config.mutators
+  pub few_mutators : config.mutators ≤ 8
   pub some_log_entries : 1 ≤ config.log_entries
   pub few_log_entries : config.log_entries ≤ 262143
-  pub epoch_one : config.first_epoch ≡ 1
+  pub some_epoch : 1 ≤ config.first_epoch
+  pub few_epochs : config.first_epoch ≤ 16777215
+
+-- one of the numbers is in its range
+abbrev pub IsInRange : Config → Part → Type 0
+IsInRange config Slots = (1 ≤ config.slots) × (config.slots ≤ 65535)
+IsInRange config Fields = (1 ≤ config.fields) × (config.fields ≤ 16)
+IsInRange config Registers = (1 ≤ config.registers) × (config.registers ≤ 64)
+IsInRange config Mutators = (1 ≤ config.mutators) × (config.mutators ≤ 8)
+IsInRange config LogEntries = (1 ≤ config.log_entries) × (config.log_entries ≤ 262143)
+IsInRange config FirstEpoch = (1 ≤ config.first_epoch) × (config.first_epoch ≤ 16777215)
+
+-- where a number stands among the numbers of a heap
+abbrev pub rank : Part → ℕ
+rank Slots = 0
+rank Fields = 1
+rank Registers = 2
+rank Mutators = 3
+rank LogEntries = 4
+rank FirstEpoch = 5
+
+-- the number is out of its range, and each before it is in its own
+pub record IsFirstWrong (config : Config) (part : Part) : Type 0 where
+  pub wrong : IsInRange config part → ⊥
+  pub before : (other : Part) → rank other < rank part → IsInRange config other
+
+-- why a heap isn't opened: the first wrong number is named; want of memory comes only where every number is in its range
+abbrev pub IsRefused : Config → OpenError → Type 0
+IsRefused config (errors.Config part) = IsFirstWrong config part
+IsRefused config errors.NoMemory = IsConfig config
 
 -- the registers and the field that a command names are there
 abbrev pub HasOperands : Config → Cmd → Type 0

@@ -1,18 +1,20 @@
--- The plain heap that the fields of a world make up.
-use Rattle.std.specs.Prelude.{◌≡◌, ◌∷◌, []}
+-- The heap that the fields of a world make up.
+use Rattle.std.specs.Prelude.{◌≡◌}
 use Rattle.rec_world.specs.World.{State, IsWorld}
 use Rattle.rec_world.specs.declared.world.World.TheInside.{Inside}
 
--- there is one mutator, so there is one list of registers
+-- the words and the private records of the mutators
 abbrev pub state : Inside → State
 state inside =
     record {
       config = inside.config;
       headers = inside.memory.headers;
       words = inside.memory.words;
-      registers = inside.registers.items ∷ [];
+      epoch = inside.memory.epoch;
+      freed = inside.memory.freed;
+      crossing = inside.memory.crossing;
+      mutators = inside.machines.items;
       made = inside.made;
-      logged = inside.logged;
       marked = inside.marked;
     }
 

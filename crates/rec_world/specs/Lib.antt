@@ -4,7 +4,8 @@ pub mod Journal
 pub mod Memory
 pub mod Numbering
 pub mod Order
-pub mod Outcome
+pub mod Run
+pub mod State
 pub mod World
 pub use Rattle.rec_model.specs.Asking
 pub use Rattle.rec_model.specs.Heap

@@ -1,41 +1,66 @@
 -- The words of a heap, and the one that an operation names.
-use Rattle.std.specs.Prelude.{◌≡◌, ◌≢◌, ℕ, ◌+◌, ◌*◌, ◌<◌, true, false, List, length, replicate, slice_index_or, slice_range, slice_set}
+use Rattle.std.specs.Prelude.{◌≡◌, ◌≢◌, ℕ, ◌+◌, ◌-◌, ◌*◌, ◌<◌, ◌≤◌, ◌==◌, if◌then◌else◌, true, false, List, length, replicate, slice_index_or, slice_range, slice_set}
 use Rattle.rec_word.specs.declared.op.Op.{Op}
 use Rattle.rec_model.specs.Reach.{is_in}
-use Rattle.rec_word.specs.declared.op.Op.TheVariants.{LoadField, SwapField, LoadHeader, ClaimHeader}
+use Rattle.rec_word.specs.declared.op.Op.TheVariants.{LoadField, SwapField, LoadHeader, LoadEpoch, LoadCross, ClaimHeader, LoadFreed}
 
--- a header for each slot, and a word for each field of each slot
+-- a header for each slot, a word for each field of each slot, the epoch word, the freed word, and a crossing word for each mutator
 pub record Cells : Type 0 where
   pub headers : List ℕ
   pub words : List ℕ
+  pub epoch : ℕ
+  pub freed : ℕ
+  pub crossing : List ℕ
 
--- the word that the operation names is there: a plain heap has no epoch word, no crossing words and no freed word
+-- the word that the operation names is there
 abbrev pub IsWithin : Cells → Op → Type 0
 IsWithin cells (LoadField place) = place < length cells.words
 IsWithin cells (SwapField place word) = place < length cells.words
 IsWithin cells (LoadHeader slot) = slot < length cells.headers
+IsWithin cells LoadEpoch = Unit {0}
+IsWithin cells (LoadCross t) = (1 ≤ t) × (t ≤ length cells.crossing)
 IsWithin cells (ClaimHeader slot label) = slot < length cells.headers
-IsWithin cells _ = ⊥
+IsWithin cells LoadFreed = Unit {0}
 
 -- the word that the operation names
 abbrev pub cell : Cells → Op → ℕ
 cell cells (LoadField place) = slice_index_or cells.words place 0
 cell cells (SwapField place word) = slice_index_or cells.words place 0
 cell cells (LoadHeader slot) = slice_index_or cells.headers slot 0
+cell cells LoadEpoch = cells.epoch
+cell cells (LoadCross t) = slice_index_or cells.crossing (t - 1) 0
 cell cells (ClaimHeader slot label) = slice_index_or cells.headers slot 0
-cell cells _ = 0
+cell cells LoadFreed = cells.freed
 
 -- with the word that the operation names replaced
 abbrev pub with_cell : Cells → Op → ℕ → Cells
 with_cell cells (LoadField place) x = record cells { words = slice_set cells.words place x }
 with_cell cells (SwapField place word) x = record cells { words = slice_set cells.words place x }
 with_cell cells (LoadHeader slot) x = record cells { headers = slice_set cells.headers slot x }
+with_cell cells LoadEpoch x = record cells { epoch = x }
+with_cell cells (LoadCross t) x = record cells { crossing = slice_set cells.crossing (t - 1) x }
 with_cell cells (ClaimHeader slot label) x = record cells { headers = slice_set cells.headers slot x }
-with_cell cells _ x = cells
+with_cell cells LoadFreed x = record cells { freed = x }
+
+-- the births of an operation that found this word: one where it claimed a free slot
+abbrev pub births_of : Op → ℕ → ℕ
+births_of (LoadField place) found = 0
+births_of (SwapField place word) found = 0
+births_of (LoadHeader slot) found = 0
+births_of LoadEpoch found = 0
+births_of (LoadCross t) found = 0
+births_of (ClaimHeader slot label) found = if found == 0 then 1 else 0
+births_of LoadFreed found = 0
 
 -- the words of a slot's fields, in order, where each slot has so many
 abbrev pub own_words : ℕ → Cells → ℕ → List ℕ
 own_words fields cells slot = slice_range cells.words (slot * fields) (slot * fields + fields)
+
+-- the words that are no header and no field's stay
+pub record KeepsOthers (before after : Cells) : Type 0 where
+  pub epoch : after.epoch ≡ before.epoch
+  pub freed : after.freed ≡ before.freed
+  pub crossing : after.crossing ≡ before.crossing
 
 -- a slot's header and words are 0, and all else is as it was
 pub record IsCleared (fields : ℕ) (before after : Cells) (slot : ℕ) : Type 0 where
@@ -43,6 +68,7 @@ pub record IsCleared (fields : ℕ) (before after : Cells) (slot : ℕ) : Type 0
   pub places : length after.words ≡ length before.words
   pub own : own_words fields after slot ≡ replicate fields 0
   pub others : (s : ℕ) → s ≢ slot → own_words fields after s ≡ own_words fields before s
+  pub rest : KeepsOthers before after
 
 -- the listed slots keep header and words, and every other slot's are 0
 pub record KeepsListed (fields : ℕ) (before after : Cells) (list : List ℕ) : Type 0 where
@@ -50,3 +76,4 @@ pub record KeepsListed (fields : ℕ) (before after : Cells) (list : List ℕ) :
   pub places : length after.words ≡ length before.words
   pub kept : (s : ℕ) → is_in s list ≡ true → (slice_index_or after.headers s 0 ≡ slice_index_or before.headers s 0) × (own_words fields after s ≡ own_words fields before s)
   pub freed : (s : ℕ) → s < length before.headers → is_in s list ≡ false → (slice_index_or after.headers s 0 ≡ 0) × (own_words fields after s ≡ replicate fields 0)
+  pub rest : KeepsOthers before after

@@ -22,9 +22,9 @@ pub record HoldsNumbers (list by_slot : List ℕ) (capacity : ℕ) : Type 0 wher
   pub distinct : IsDistinct list
   pub numbers : (slot : ℕ) → slice_index_or by_slot slot 0 ≡ unwrap_or (number_of list slot) 0
 
--- what one mutator's registers and the words show; a numbering asks for no header
-abbrev pub sight_of : (registers : List (Option ℕ)) (words : List ℕ) (fields : ℕ) → Sight
-sight_of registers words fields = record { fields = fields; headers = []; words = words; registers = registers ∷ [] }
+-- what the registers, mutator by mutator, and the words show; a numbering asks for no header
+abbrev pub sight_of : (registers : List (List (Option ℕ))) (words : List ℕ) (fields : ℕ) → Sight
+sight_of registers words fields = record { fields = fields; headers = []; words = words; registers = registers }
 
 -- registers and fields name slots below this number
 pub record NamesBelow (w : Sight) (slots : ℕ) : Type 0 where

@@ -12,6 +12,9 @@ use std::marker::Model;
 pub struct Memory {
     pub headers: Vec<u64>,
     pub words: Vec<u64>,
+    pub epoch: u64,
+    pub freed: u64,
+    pub crossing: Vec<u64>,
 }
 
 impl Model for Memory {
@@ -19,19 +22,45 @@ impl Model for Memory {
 
     ghost Value = { Cells };
 
-    ghost view = { λ memory. record { headers = memory.headers.items; words = memory.words.items } };
+    ghost view = { λ memory. record {
+      headers = memory.headers.items;
+      words = memory.words.items;
+      epoch = memory.epoch;
+      freed = memory.freed;
+      crossing = memory.crossing.items;
+    } };
 }
 
 impl Memory {
-    /// The words of a heap with one object, whose label is 0, in slot 0. All its memory is taken here.
-    pub fn open(alloc: Global, slots: usize, places: usize) -> Result<Memory, NoMemory>
+    /// The words of a heap with one object, whose label is 0, in slot 0, and with so many mutators in epoch `epoch`. All its
+    /// memory is taken here.
+    pub fn open(
+        alloc: Global,
+        slots: usize,
+        places: usize,
+        mutators: usize,
+        epoch: u32,
+    ) -> Result<Memory, NoMemory>
         requires { 0 < slots }
-        ensures { IfOk result (λ memory. memory ≡ record { headers = 1 ∷ replicate (slots - 1) 0; words = replicate places 0 }) }
+        ensures { IfOk result (λ memory. memory ≡ record {
+          headers = 1 ∷ replicate (slots - 1) 0;
+          words = replicate places 0;
+          epoch = epoch;
+          freed = 0;
+          crossing = replicate mutators (4 * epoch);
+        }) }
     {
         let mut headers = vec![in alloc; 0; slots]?;
         headers[0] = 1;
         let words = vec![in alloc; 0; places]?;
-        Ok(Memory { headers, words })
+        let crossing = vec![in alloc; 4 * u64::from(epoch); mutators]?;
+        Ok(Memory {
+            headers,
+            words,
+            epoch: u64::from(epoch),
+            freed: 0,
+            crossing,
+        })
     }
 
     /// Carries out one operation, and answers the word that it found.
@@ -54,8 +83,22 @@ impl Memory {
                 *header = op.written(found);
                 found
             }
-            // A plain heap has none of these words.
-            Op::LoadEpoch | Op::LoadCross(_) | Op::LoadFreed => 0,
+            Op::LoadEpoch => {
+                let found = self.epoch;
+                self.epoch = op.written(found);
+                found
+            }
+            Op::LoadCross(t) => {
+                let crossing = &mut self.crossing[usize::from(t) - 1];
+                let found = *crossing;
+                *crossing = op.written(found);
+                found
+            }
+            Op::LoadFreed => {
+                let found = self.freed;
+                self.freed = op.written(found);
+                found
+            }
         }
     }
 

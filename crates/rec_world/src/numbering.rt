@@ -1,10 +1,12 @@
 ghost use Rattle.std.specs.Prelude.{◌≡◌, ℕ, ◌+◌, ◌*◌, ◌<◌, ◌≤◌, ◌^◌, true, List, [], ◌∷◌, map, length, IfOk, IfSome};
 ghost use Rattle.rec_word.specs.Word.{target_of};
+ghost use Rattle.rec_model.specs.Heap.{roots};
 ghost use Rattle.rec_model.specs.Reach.{is_in, named};
 ghost use Rattle.rec_model.specs.Numbering.{joined};
 ghost use Rattle.rec_model.specs.Sight.{NumbersSlots};
 ghost use Rattle.rec_world.specs.Numbering.{number_of, sight_of, NamesBelow};
 
+use rec_mutator::Machine;
 use rec_word::target;
 use std::alloc::{AllocError as NoMemory, Global};
 use std::marker::Model;
@@ -67,16 +69,17 @@ impl Numbering {
         }
     }
 
-    /// Numbers the slots that these registers reach over these words, each slot's `fields` words in order, and no others.
-    pub fn fill(&mut self, registers: &[Option<u16>], words: &[u64], fields: u8)
+    /// Numbers the slots that the registers of these mutators, in order, reach over these words, each slot's `fields` words
+    /// in order, and no others.
+    pub fn fill(&mut self, machines: &[Machine], words: &[u64], fields: u8)
         requires places { length words.now ≡ self.old.slots * fields }
-        requires names { NamesBelow (sight_of registers.now words.now fields) self.old.slots }
+        requires names { NamesBelow (sight_of (map (λ p. p.registers) machines.now) words.now fields) self.old.slots }
 
         ensures slots { self.new.slots ≡ self.old.slots }
-        ensures numbers { NumbersSlots (sight_of registers.now words.now fields) self.new.list }
+        ensures numbers { NumbersSlots (sight_of (map (λ p. p.registers) machines.now) words.now fields) self.new.list }
     {
         self.clear();
-        self.meet_registers(registers);
+        self.meet_machines(machines);
         let mut next = 0;
         while next < self.list().len() {
             let slot = self.list()[next];
@@ -110,7 +113,19 @@ impl Numbering {
         }
     }
 
-    /// Numbers what the registers name.
+    /// Numbers what the registers of these mutators name.
+    fn meet_machines(&mut self, machines: &[Machine])
+        requires { (slot : ℕ) → is_in slot (roots (map (λ p. p.registers) machines.now)) ≡ true → slot < self.old.slots }
+
+        ensures slots { self.new.slots ≡ self.old.slots }
+        ensures joined { self.new.list ≡ joined self.old.list (roots (map (λ p. p.registers) machines.now)) }
+    {
+        for machine in machines {
+            self.meet_registers(machine.registers());
+        }
+    }
+
+    /// Numbers what the registers of a mutator name.
     fn meet_registers(&mut self, registers: &[Option<u16>])
         requires { (slot : ℕ) → is_in slot (named registers.now) ≡ true → slot < self.old.slots }
 
@@ -145,13 +160,15 @@ mod tests {
     #[test]
     fn numbers_what_is_reached(rt: HostRuntime) -> Result<(), Fail> {
         let words = [4, 2, 0, 0, 3, 0, 1, 0];
+        let mut machines = Vec::new(rt.alloc());
         let mut numbering = Numbering::open(rt.alloc(), 4)?;
-        numbering.fill(&[None, Some(0)], &words, 2);
+        numbering.fill(&machines, &words, 2);
+        assert!(rt; numbering.list().is_empty());
+        machines.push(Machine::open(rt.alloc(), 1, 1, 4, 2, 2, 1)?)?;
+        numbering.fill(&machines, &words, 2);
         assert_eq!(rt; numbering.list(), [0, 3, 1].as_slice());
         assert_eq!(rt; numbering.number(3), Some(2));
         assert_eq!(rt; numbering.number(2), None);
-        numbering.fill(&[Some(2)], &words, 2);
-        assert_eq!(rt; numbering.list(), [2].as_slice());
         Ok(())
     }
 }

@@ -1,35 +1,40 @@
-ghost use Rattle.std.specs.Prelude.{◌≡◌, ℕ, ◌+◌, ◌-◌, ◌*◌, ◌∷◌, replicate, ◌<◌, ◌==◌, ◌↔◌, if◌then◌else◌, true, false, slice_index_or, IsTrue, IsNone, IfOk, IfSome};
-ghost use Rattle.rec_word.specs.Place.{place_of};
-ghost use Rattle.rec_word.specs.Word.{IsTarget, packed, stamp_of, target_of};
+ghost use Rattle.std.specs.Prelude.{◌≡◌, ◌≢◌, ℕ, ◌+◌, ◌*◌, ◌<◌, ◌≤◌, ◌↔◌, if◌then◌else◌, true, false, is_none, length, slice_index_or, IsTrue, IsNone, IfOk, IfErr, IfSome};
+ghost use Rattle.rec_word.specs.Word.{stamp_of};
+ghost use Rattle.rec_model.specs.declared.answer.Answer.TheVariants as answers;
 ghost use Rattle.rec_model.specs.Heap.{Heap, opening, register, registers_of};
 ghost use Rattle.rec_model.specs.Explained.{IsExplained};
 ghost use Rattle.rec_model.specs.LegalOrder.{is_birth, word_left};
-ghost use Rattle.rec_model.specs.Sight.{IsTaken, IsCollected, Collects, StandsFor};
-ghost use Rattle.rec_world.specs.Config.{IsConfig, IsMutator, HasOperands, IsValid};
-ghost use Rattle.rec_world.specs.Outcome.{outcome, next_stamp};
-ghost use Rattle.rec_world.specs.World.{State, sight, opened, IsWorld, label_of, IsLogFull, IsFull, LacksObject, is_refusal, is_plain, entries_of, IsLowestFree, sight_after};
+ghost use Rattle.rec_model.specs.Sight.{IsTaken, IsCollected, Collects, StandsFor, NumbersSlots};
+ghost use Rattle.rec_mutator.specs.Causes.{is_refusal, LacksObject};
+ghost use Rattle.rec_mutator.specs.Private.{is_busy, answer_of, limit_of, work_of};
+ghost use Rattle.rec_mutator.specs.Step.{IsStill};
+ghost use Rattle.rec_world.specs.Config.{IsConfig, IsMutator, IsRefused, HasOperands, IsValid};
+ghost use Rattle.rec_world.specs.Memory.{births_of};
+ghost use Rattle.rec_world.specs.Run.{begun, stepped, EndsRun, HasLabel};
+ghost use Rattle.rec_world.specs.State.{opened_mutators, opened_mutator};
+ghost use Rattle.rec_world.specs.World.{State, sight, mutator, with_mutator, log_length, opened, IsWorld, label_of, IsLogFull, IsFull, is_plain, entries_of, IsLowestFree, IsMarked, IsWork, IsShown, IsFinished, OnlyWorks, sight_after};
 
 use crate::memory::Memory;
 use crate::{Config, Numbering, OpenError};
-use rec_model::{Answer, Cmd, Told};
-use rec_word::{Op, Stamp, pack, place, target};
+use rec_model::{Cmd, Told};
+use rec_mutator::{Machine, Made, Work};
+use rec_word::Op;
 use std::alloc::{AllocError as NoMemory, Global};
 use std::marker::Model;
 
-/// A heap on which one mutator's commands run, with no collector: nothing is freed until it is marked.
+/// A heap on which the commands of one to eight mutators run, step by step, with no collector: nothing is freed until it
+/// is marked.
 #[derive(Debug, Drop)]
 pub struct World {
     config: Config,
     memory: Memory,
-    registers: Vec<Option<u16>>,
+    machines: Vec<Machine>,
     numbering: Numbering,
     made: u32,
-    logged: u32,
     marked: bool,
 }
 
 impl Model for World {
-    ghost use Rattle.std.specs.Prelude.{◌∷◌, []};
     ghost use Rattle.rec_world.specs.World.{State};
 
     ghost Value = { State };
@@ -44,25 +49,19 @@ impl Model for World {
 impl World {
     /// A heap with one object, whose label is 0, in slot 0 and in register 0 of every mutator. All its memory is taken here.
     pub fn open(alloc: Global, config: Config) -> Result<World, OpenError>
-        requires { IsConfig config }
+        // The first number that is out of its range is named, before any memory is asked for.
+        ensures refused { IfErr result (λ error. IsRefused config error) }
+        ensures config { IfOk result (λ world. IsConfig config) }
 
         ensures opened { IfOk result (λ world. world ≡ opened config) }
         ensures stands { IfOk result (λ world. StandsFor (opening config.fields config.registers config.mutators) (sight world)) }
         ensures kept { IfOk result IsWorld }
     {
-        let slots = config.slots as usize;
-        let memory = Memory::open(alloc, slots, slots * config.fields as usize)?;
-        let registers = opening_registers(alloc, config.registers as usize)?;
-        let numbering = Numbering::open(alloc, config.slots as u16)?;
-        Ok(World {
-            config,
-            memory,
-            registers,
-            numbering,
-            made: 1,
-            logged: 0,
-            marked: false,
-        })
+        if let Some(field) = config.first_wrong() {
+            return Err(OpenError::Config { field });
+        }
+        let world = open_in_range(alloc, config)?;
+        Ok(world)
     }
 
     /// Whether mutator `t` may ask this: its number, the registers and the field are there.
@@ -73,40 +72,126 @@ impl World {
         is_mutator && self.has_operands(cmd)
     }
 
+    /// Whether mutator `t` has begun a work that isn't finished.
+    pub fn busy(&self, t: u8) -> bool
+        requires { IsMutator self.now.config t }
+        ensures { result ≡ is_busy (mutator self.now t) }
+    {
+        self.machines[usize::from(t) - 1].is_busy()
+    }
+
+    /// Begins a work of mutator `t`. No step of it is made.
+    pub fn begin(&mut self, t: u8, work: Work)
+        requires mutator { IsMutator self.old.config t }
+        requires work { IsWork self.old.config work }
+        requires unmarked { self.old.marked ≡ false }
+        requires idle { is_busy (mutator self.old t) ≡ false }
+
+        ensures begun { self.new ≡ begun self.old t work }
+        ensures seen { sight self.new ≡ sight self.old }
+        ensures busy { is_busy (mutator self.new t) ≡ true }
+        ensures work { work_of (mutator self.new t) ≡ Some work }
+        ensures run { EndsRun self.new }
+        ensures kept { IsWorld self.new }
+    {
+        see_label(work);
+        self.machines[usize::from(t) - 1].begin(work);
+    }
+
+    /// Makes one step of the work of mutator `t`: the operation that its machine names, on the word that this names. The
+    /// answer is what came of the work, or `None` where it isn't finished.
+    pub fn step(&mut self, t: u8) -> Option<Made>
+        requires mutator { IsMutator self.old.config t }
+        requires unmarked { self.old.marked ≡ false }
+        requires busy { is_busy (mutator self.old t) ≡ true }
+
+        ensures stepped { self.new ≡ stepped self.old t }
+        ensures answer { result ≡ answer_of (mutator self.new t) }
+        ensures busy { is_busy (mutator self.new t) ≡ is_none result }
+
+        // Where the step answers a command, whatever heap stood for the world explains the answer; else all that is seen stays.
+        ensures shown { IsShown self.old t result self.new }
+
+        ensures work { work_of (mutator self.new t) ≡ work_of (mutator self.old t) }
+
+        // Each step counts, and a work ends in time.
+        ensures steps { (mutator self.new t).steps ≡ (mutator self.old t).steps + 1 }
+        ensures limit { IfSome (work_of (mutator self.new t)) (λ work. (mutator self.new t).steps ≤ limit_of self.new.config.slots work) }
+        ensures run { EndsRun self.new }
+        ensures kept { IsWorld self.new }
+    {
+        let index = usize::from(t) - 1;
+        let op = self.machines[index].next();
+        let found = self.memory.perform(op);
+        self.machines[index].took(found);
+        self.made += births(op, found);
+        self.machines[index].answer()
+    }
+
     /// Carries out a command of mutator `t`, and tells the answer with the field words that it saw and left.
     pub fn command(&mut self, t: u8, cmd: Cmd) -> Told
         requires valid { IsValid self.old.config t cmd }
         requires unmarked { self.old.marked ≡ false }
+        requires idle { is_busy (mutator self.old t) ≡ false }
 
         // Whatever heap that never frees stands for the world, what is told is what asking it gives, and what it then is
         // stands for the world afterwards.
         ensures explained { IsExplained (sight self.old) t cmd result (sight self.new) }
 
-        // When each refusal comes; it changes nothing.
-        ensures log_full { (result.answer ≡ Answer.LogFull) ↔ IsLogFull self.old t cmd }
-        ensures full { (result.answer ≡ Answer.Full) ↔ IsFull self.old cmd }
-        ensures no_object { (result.answer ≡ Answer.NoObject) ↔ LacksObject self.old t cmd }
+        // When each refusal comes. It changes no register, no field, no header and no log: only the mutator's work differs.
+        ensures log_full { (result.answer ≡ answers.LogFull) ↔ IsLogFull self.old t cmd }
+        ensures full { (result.answer ≡ answers.Full) ↔ IsFull self.old t cmd }
+        ensures no_object { (result.answer ≡ answers.NoObject) ↔ LacksObject (mutator self.old t) cmd }
+        ensures busy { (before after : ℕ) → result.answer ≡ answers.Busy before after → (before ≡ self.old.freed) × (after ≡ self.new.freed) × (IsStill before after → ⊥) }
         ensures never { is_plain result.answer ≡ true }
-        ensures refused { is_refusal result.answer ≡ true → self.new ≡ self.old }
+        ensures refused { is_refusal result.answer ≡ true → OnlyWorks self.old self.new t }
 
-        // What changes.
+        // What changes, and what stays.
         ensures seen { sight self.new ≡ sight_after self.old t cmd result }
+        ensures others { (s : ℕ) → s ≢ t → 1 ≤ s → mutator self.new s ≡ mutator self.old s }
+        ensures idle { is_busy (mutator self.new t) ≡ false }
         ensures made { self.new.made ≡ self.old.made + (if is_birth (cmd, result) then 1 else 0) }
-        ensures logged { self.new.logged ≡ self.old.logged + entries_of cmd result.answer }
+        ensures logged { log_length self.new t ≡ log_length self.old t + entries_of cmd result.answer }
         ensures config { self.new.config ≡ self.old.config }
         ensures marked { self.new.marked ≡ false }
 
         // A birth takes the lowest free slot; a write leaves the stamp of its log entry.
         ensures lowest { is_birth (cmd, result) ≡ true → IsLowestFree (sight self.old) self.old.made }
-        ensures stamp { IfSome (word_left cmd result) (λ word. stamp_of word ≡ record { writer = t; epoch = self.old.config.first_epoch; index = self.old.logged }) }
+        ensures stamp { IfSome (word_left cmd result) (λ word. stamp_of word ≡ record { writer = t; epoch = (mutator self.old t).epoch; index = log_length self.old t }) }
 
+        ensures run { EndsRun self.new }
         ensures kept { IsWorld self.new }
     {
-        // A heap is asked until it is marked, and no command marks it.
+        // A heap is asked until it is marked.
         prove!(!self.marked);
-        let told = self.carry_out(t, cmd);
+        self.begin(t, Work::Command(cmd));
+        match self.finish(t) {
+            Made::Answered(told) => told,
+            Made::Crossed(_) => unreachable!(),
+        }
+    }
+
+    /// Lets mutator `t` look at the epoch word, and cross into the requested epoch where it is another one. The answer is
+    /// that epoch, or `None` where the mutator is in it already; no epoch is requested yet.
+    pub fn poll(&mut self, t: u8) -> Option<u32>
+        requires mutator { IsMutator self.old.config t }
+        requires unmarked { self.old.marked ≡ false }
+        requires idle { is_busy (mutator self.old t) ≡ false }
+
+        ensures none { (result ≡ None) ↔ (self.old.epoch ≡ (mutator self.old t).epoch) }
+        ensures stays { result ≡ None }
+        ensures others { OnlyWorks self.old self.new t }
+        ensures seen { sight self.new ≡ sight self.old }
+        ensures idle { is_busy (mutator self.new t) ≡ false }
+        ensures run { EndsRun self.new }
+        ensures kept { IsWorld self.new }
+    {
         prove!(!self.marked);
-        told
+        self.begin(t, Work::Poll);
+        match self.finish(t) {
+            Made::Crossed(epoch) => epoch,
+            Made::Answered(_) => unreachable!(),
+        }
     }
 
     /// Marks from the registers, and clears the header and the fields of every slot that no register reaches.
@@ -122,7 +207,7 @@ impl World {
     {
         let fields = self.config.fields as u8;
         self.numbering
-            .fill(&self.registers, self.memory.words(), fields);
+            .fill(&self.machines, self.memory.words(), fields);
         self.memory.keep(&self.numbering, fields);
         self.marked = true;
     }
@@ -163,9 +248,9 @@ impl World {
         requires mutator { IsMutator self.now.config t }
         requires register { r < self.now.config.registers }
 
-        ensures { result ≡ register self.now.registers t r }
+        ensures { result ≡ register (sight self.now).registers t r }
     {
-        self.registers[usize::from(r)]
+        self.machines[usize::from(t) - 1].register(r)
     }
 
     /// The words of all fields, by their places.
@@ -180,10 +265,53 @@ impl World {
     pub fn registers(&self, t: u8) -> &[Option<u16>]
         requires { IsMutator self.now.config t }
 
-        ensures registers { result.now ≡ registers_of self.now.registers t }
+        ensures registers { result.now ≡ registers_of (sight self.now).registers t }
         ensures kept { IsWorld self.now }
     {
-        &self.registers
+        self.machines[usize::from(t) - 1].registers()
+    }
+
+    /// Numbers the slots that the registers reach, mutator by mutator, in the order of a listing.
+    pub fn number(&self, numbering: &mut Numbering)
+        requires slots { numbering.old.slots ≡ self.now.config.slots }
+
+        ensures slots { numbering.new.slots ≡ self.now.config.slots }
+        ensures numbers { NumbersSlots (sight self.now) numbering.new.list }
+    {
+        let fields = self.config.fields as u8;
+        numbering.fill(&self.machines, self.memory.words(), fields);
+    }
+
+    /// The epoch word: the epoch that the mutators are to be in.
+    pub fn epoch(&self) -> u32
+        ensures epoch { result ≡ self.now.epoch }
+        ensures kept { IsWorld self.now }
+    {
+        self.memory.epoch as u32
+    }
+
+    /// The epoch that mutator `t` is in.
+    pub fn epoch_of(&self, t: u8) -> u32
+        requires { IsMutator self.now.config t }
+        ensures { result ≡ (mutator self.now t).epoch }
+    {
+        self.machines[usize::from(t) - 1].epoch()
+    }
+
+    /// The freed word, which is odd exactly during a sweep.
+    pub fn freed_word(&self) -> u64
+        ensures freed { result ≡ self.now.freed }
+        ensures kept { IsWorld self.now }
+    {
+        self.memory.freed
+    }
+
+    /// How many mutators there are.
+    pub fn mutators(&self) -> u8
+        ensures mutators { result ≡ self.now.config.mutators }
+        ensures kept { IsWorld self.now }
+    {
+        self.config.mutators as u8
     }
 
     /// How many objects were born, with the opening one.
@@ -230,186 +358,98 @@ impl World {
         u32::from(field) < self.config.fields
     }
 
-    fn log_is_full(&self) -> bool
-        ensures { result ≡ (self.now.logged == self.now.config.log_entries) }
-    {
-        self.logged == self.config.log_entries
-    }
-
-    fn carry_out(&mut self, t: u8, cmd: Cmd) -> Told
-        requires valid { IsValid self.old.config t cmd }
+    // Steps of mutator `t` until its work is finished, and what came of it.
+    fn finish(&mut self, t: u8) -> Made
+        requires mutator { IsMutator self.old.config t }
         requires unmarked { self.old.marked ≡ false }
+        requires busy { is_busy (mutator self.old t) ≡ true }
+        requires world { IsWorld self.old }
 
-        ensures world { self.new ≡ (outcome self.old t cmd).world }
-        ensures told { result ≡ (outcome self.old t cmd).told }
+        ensures finished { IsFinished self.old t result self.new }
+        ensures run { EndsRun self.new }
+        ensures kept { IsWorld self.new }
     {
-        match cmd {
-            Cmd::New { reg, label } => self.new_object(t, reg, label),
-            Cmd::Null { reg } => self.null(t, reg),
-            Cmd::Copy { dst, src } => self.copy(t, dst, src),
-            Cmd::Get { dst, src, field } => self.get(t, dst, src, field),
-            Cmd::Put { src, field, val } => self.put(t, src, field, val),
-            Cmd::Value { reg } => self.value(t, reg),
-            Cmd::Same { a, b } => self.same(t, a, b),
+        loop {
+            if let Some(made) = self.step(t) {
+                return made;
+            }
         }
-    }
-
-    fn new_object(&mut self, t: u8, reg: u8, label: u32) -> Told
-        requires valid { IsValid self.old.config t (Cmd.New reg label) }
-        requires unmarked { self.old.marked ≡ false }
-
-        ensures world { self.new ≡ (outcome self.old t (Cmd.New reg label)).world }
-        ensures told { result ≡ (outcome self.old t (Cmd.New reg label)).told }
-    {
-        if self.log_is_full() {
-            return only(Answer::LogFull);
-        }
-        if self.made == self.config.slots {
-            return only(Answer::Full);
-        }
-        let slot = self.made as u16;
-        self.memory.perform(Op::ClaimHeader(slot, label));
-        self.registers[usize::from(reg)] = Some(slot);
-        self.made += 1;
-        self.logged += 1;
-        only(Answer::Done)
-    }
-
-    fn null(&mut self, t: u8, reg: u8) -> Told
-        requires valid { IsValid self.old.config t (Cmd.Null reg) }
-
-        ensures world { self.new ≡ (outcome self.old t (Cmd.Null reg)).world }
-        ensures told { result ≡ (outcome self.old t (Cmd.Null reg)).told }
-    {
-        self.registers[usize::from(reg)] = None;
-        only(Answer::Done)
-    }
-
-    fn copy(&mut self, t: u8, dst: u8, src: u8) -> Told
-        requires valid { IsValid self.old.config t (Cmd.Copy dst src) }
-
-        ensures world { self.new ≡ (outcome self.old t (Cmd.Copy dst src)).world }
-        ensures told { result ≡ (outcome self.old t (Cmd.Copy dst src)).told }
-    {
-        let named = self.register(t, src);
-        self.registers[usize::from(dst)] = named;
-        only(Answer::Done)
-    }
-
-    fn get(&mut self, t: u8, dst: u8, src: u8, field: u8) -> Told
-        requires valid { IsValid self.old.config t (Cmd.Get dst src field) }
-
-        ensures world { self.new ≡ (outcome self.old t (Cmd.Get dst src field)).world }
-        ensures told { result ≡ (outcome self.old t (Cmd.Get dst src field)).told }
-    {
-        let Some(slot) = self.register(t, src) else {
-            return only(Answer::NoObject);
-        };
-        let at = self.place_of(slot, field);
-        let saw = self.memory.perform(Op::LoadField(at));
-        let target = target(saw);
-        self.registers[usize::from(dst)] = target;
-        Told {
-            answer: if target.is_some() {
-                Answer::Object
-            } else {
-                Answer::Null
-            },
-            saw,
-            left: 0,
-        }
-    }
-
-    fn put(&mut self, t: u8, src: u8, field: u8, val: u8) -> Told
-        requires valid { IsValid self.old.config t (Cmd.Put src field val) }
-
-        ensures world { self.new ≡ (outcome self.old t (Cmd.Put src field val)).world }
-        ensures told { result ≡ (outcome self.old t (Cmd.Put src field val)).told }
-    {
-        let Some(slot) = self.register(t, src) else {
-            return only(Answer::NoObject);
-        };
-        if self.log_is_full() {
-            return only(Answer::LogFull);
-        }
-        let left = self.word_for(t, self.register(t, val));
-        let at = self.place_of(slot, field);
-        let saw = self.memory.perform(Op::SwapField(at, left));
-        self.logged += 1;
-        Told {
-            answer: Answer::Done,
-            saw,
-            left,
-        }
-    }
-
-    fn value(&mut self, t: u8, reg: u8) -> Told
-        requires valid { IsValid self.old.config t (Cmd.Value reg) }
-
-        ensures world { self.new ≡ (outcome self.old t (Cmd.Value reg)).world }
-        ensures told { result ≡ (outcome self.old t (Cmd.Value reg)).told }
-    {
-        let Some(slot) = self.register(t, reg) else {
-            return only(Answer::NoObject);
-        };
-        let header = self.memory.perform(Op::LoadHeader(slot));
-        only(Answer::Value((header - 1) as u32))
-    }
-
-    fn same(&mut self, t: u8, a: u8, b: u8) -> Told
-        requires valid { IsValid self.old.config t (Cmd.Same a b) }
-
-        ensures world { self.new ≡ (outcome self.old t (Cmd.Same a b)).world }
-        ensures told { result ≡ (outcome self.old t (Cmd.Same a b)).told }
-    {
-        let equal = self.register(t, a) == self.register(t, b);
-        only(if equal { Answer::Yes } else { Answer::No })
-    }
-
-    // The word that leads to this, with the stamp of the next log entry.
-    fn word_for(&self, t: u8, target: Option<u16>) -> u64
-        requires mutator { IsMutator self.now.config t }
-        requires target { IsTarget target }
-        requires room { self.now.logged < self.now.config.log_entries }
-
-        ensures word { result ≡ packed target (next_stamp self.now t) }
-        ensures target { target_of result ≡ target }
-    {
-        let stamp = Stamp {
-            writer: t,
-            epoch: self.config.first_epoch,
-            index: self.logged,
-        };
-        pack(target, stamp)
-    }
-
-    fn place_of(&self, slot: u16, field: u8) -> u32
-        requires { field < self.now.config.fields }
-        ensures { result ≡ place_of slot field self.now.config.fields }
-    {
-        place(slot, field, self.config.fields as u8)
     }
 }
 
-// An answer with no field word.
-fn only(answer: Answer) -> Told
-    ensures { result ≡ record { answer = answer; saw = 0; left = 0 } }
+// A heap with these numbers, which are in their ranges.
+fn open_in_range(alloc: Global, config: Config) -> Result<World, NoMemory>
+    requires { IsConfig config }
+
+    ensures opened { IfOk result (λ world. world ≡ opened config) }
+    ensures kept { IfOk result IsWorld }
 {
-    Told {
-        answer,
-        saw: 0,
-        left: 0,
+    let slots = config.slots as usize;
+    let memory = Memory::open(
+        alloc,
+        slots,
+        slots * config.fields as usize,
+        config.mutators as usize,
+        config.first_epoch,
+    )?;
+    let machines = open_machines(alloc, &config)?;
+    let numbering = Numbering::open(alloc, config.slots as u16)?;
+    Ok(World {
+        config,
+        memory,
+        machines,
+        numbering,
+        made: 1,
+        marked: false,
+    })
+}
+
+// The mutators of a heap with these numbers, in order.
+fn open_machines(alloc: Global, config: &Config) -> Result<Vec<Machine>, NoMemory>
+    requires { IsConfig config.now }
+    ensures { IfOk result (λ machines. machines.items ≡ opened_mutators config.now config.now.mutators) }
+{
+    let mut machines = Vec::with_capacity(alloc, config.mutators as usize)?;
+    for t in 0..config.mutators as u8 {
+        machines.push_reserved(open_machine(alloc, config, t + 1)?);
+    }
+    Ok(machines)
+}
+
+// Mutator `number` of a heap with these numbers.
+fn open_machine(alloc: Global, config: &Config, number: u8) -> Result<Machine, NoMemory>
+    requires config { IsConfig config.now }
+    requires number { IsMutator config.now number }
+    ensures { IfOk result (λ machine. machine ≡ opened_mutator config.now number) }
+{
+    Machine::open(
+        alloc,
+        number,
+        config.first_epoch,
+        config.slots as u16,
+        config.fields as u8,
+        config.registers as u8,
+        config.log_entries,
+    )
+}
+
+// The label of an allocation fits a header.
+fn see_label(work: Work)
+    ensures { HasLabel work }
+{
+    if let Work::Command(Cmd::New { label, .. }) = work {
+        prove!(label <= u32::MAX);
     }
 }
 
-// A mutator's registers at opening: the first names slot 0.
-fn opening_registers(alloc: Global, count: usize) -> Result<Vec<Option<u16>>, NoMemory>
-    requires { 0 < count }
-    ensures { IfOk result (λ registers. registers.items ≡ Some 0 ∷ replicate (count - 1) None) }
+// The births of an operation that found this word.
+fn births(op: Op, found: u64) -> u32
+    ensures { result ≡ births_of op found }
 {
-    let mut registers = vec![in alloc; None; count]?;
-    registers[0] = Some(0);
-    Ok(registers)
+    match op {
+        Op::ClaimHeader(..) if found == 0 => 1,
+        _ => 0,
+    }
 }
 
 #[cfg(test)]

@@ -62,6 +62,7 @@ fn opens(rt: HostRuntime) -> Result<(), Fail> {
     assert_eq!(rt; machine.epoch(), 1);
     assert_eq!(rt; machine.register(0), Some(0));
     assert_eq!(rt; machine.register(1), None);
+    assert_eq!(rt; machine.registers(), [Some(0), None].as_slice());
     assert_eq!(rt; machine.steps(), 0);
     assert_eq!(rt; machine.answer(), None);
     assert!(rt; machine.entries().is_empty());

@@ -1,6 +1,9 @@
 ghost use Rattle.std.specs.Prelude.{◌≡◌};
 
 use super::*;
+use crate::Part;
+use rec_model::Answer;
+use rec_word::target;
 use std::process::Abort;
 use std::test::Fail;
 
@@ -13,13 +16,114 @@ const CONFIG: Config = Config {
     first_epoch: 1,
 };
 
-// What the mutator is told, of a command that it may ask.
+// What mutator 1 is told, of a command that it may ask.
 fn ask(rt: &impl Abort, world: &mut World, cmd: Cmd) -> Told
     ensures { world.new.config ≡ world.old.config }
 {
-    assert!(rt; world.valid(1, &cmd));
+    ask_of(rt, world, 1, cmd)
+}
+
+// What a mutator is told, of a command that it may ask.
+fn ask_of(rt: &impl Abort, world: &mut World, t: u8, cmd: Cmd) -> Told
+    ensures { world.new.config ≡ world.old.config }
+{
+    assert!(rt; world.valid(t, &cmd));
+    assert!(rt; !world.busy(t));
     assert!(rt; !world.marked());
-    world.command(1, cmd)
+    world.command(t, cmd)
+}
+
+// Why a heap with these numbers isn't opened: its text, and the number that it names.
+fn refusal(alloc: Global, config: Config) -> Result<(String, Option<Part>), Fail> {
+    match World::open(alloc, config) {
+        Ok(_) => Ok((format!(in alloc; "opened")?, None)),
+        Err(error) => {
+            let text = format!(in alloc; "{error}")?;
+            let part = match error {
+                OpenError::Config { field } => Some(field),
+                OpenError::NoMemory => None,
+            };
+            Ok((text, part))
+        }
+    }
+}
+
+#[test]
+fn names_the_first_number_out_of_range(rt: HostRuntime) -> Result<(), Fail> {
+    let wrong = Config {
+        slots: 0,
+        registers: 65,
+        ..CONFIG
+    };
+    let (text, part) = refusal(rt.alloc(), wrong)?;
+    assert_eq!(rt; text.as_str(), "number out of range");
+    assert_eq!(rt; part, Some(Part::Slots));
+    let (_, next) = refusal(
+        rt.alloc(),
+        Config {
+            slots: 1,
+            registers: 65,
+            ..CONFIG
+        },
+    )?;
+    assert_eq!(rt; next, Some(Part::Registers));
+    let out = OpenError::NoMemory;
+    assert_eq!(rt; format!(in rt.alloc(); "{out}")?.as_str(), "out of memory");
+    Ok(())
+}
+
+// Two mutators: the first allocates step by step while the second reads, writes and polls; a command of one leaves the
+// other's registers.
+#[test]
+fn mutators_take_turns(rt: HostRuntime) -> Result<(), Fail> {
+    let config = Config {
+        mutators: 2,
+        first_epoch: 5,
+        ..CONFIG
+    };
+    let mut world = World::open(rt.alloc(), config)?;
+    assert_eq!(rt; world.mutators(), 2);
+    assert_eq!(rt; world.epoch(), 5);
+    assert_eq!(rt; world.epoch_of(2), 5);
+    assert_eq!(rt; world.freed_word(), 0);
+    let new = Cmd::New { reg: 1, label: 9 };
+    assert!(rt; world.valid(1, &new));
+    assert!(rt; !world.busy(1));
+    assert!(rt; !world.marked());
+    world.begin(1, Work::Command(new));
+    assert!(rt; world.busy(1));
+    assert_eq!(rt; world.step(1), None);
+    let put = Cmd::Put {
+        src: 0,
+        field: 0,
+        val: 0,
+    };
+    assert_eq!(rt; ask_of(&rt, &mut world, 2, put).answer, Answer::Done);
+    assert!(rt; !world.busy(2));
+    assert!(rt; !world.marked());
+    assert_eq!(rt; world.poll(2), None);
+    assert!(rt; world.busy(1));
+    assert!(rt; !world.marked());
+    assert_eq!(rt; world.step(1), None);
+    assert!(rt; world.busy(1));
+    assert_eq!(rt; world.made(), 1);
+    let done = Told {
+        answer: Answer::Done,
+        saw: 0,
+        left: 0,
+    };
+    assert!(rt; !world.marked());
+    assert_eq!(rt; world.step(1), Some(Made::Answered(done)));
+    assert!(rt; !world.busy(1));
+    assert_eq!(rt; world.made(), 2);
+    assert_eq!(rt; world.register(1, 1), Some(1));
+    assert_eq!(rt; world.register(2, 1), None);
+    assert_eq!(rt; world.registers(2), [Some(0), None].as_slice());
+    assert_eq!(rt; world.label(1), Some(9));
+    let mut numbering = Numbering::open(rt.alloc(), 4)?;
+    world.number(&mut numbering);
+    assert_eq!(rt; numbering.list(), [0, 1].as_slice());
+    Ok(())
 }
 
 #[test]

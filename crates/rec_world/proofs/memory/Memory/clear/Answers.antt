@@ -1,5 +1,6 @@
 use Rattle.std.proofs.Common.{◌≡◌, ◌<◌, ◌*◌, slice_set, length, subst, sym, ap, ◌∙◌, arith}
 use Rattle.rec_world.specs.Memory.{Cells}
+use Rattle.rec_world.specs.declared.memory.Memory.TheInside.{Inside}
 use Rattle.rec_world.proofs.Clears.{IsClearing, clearing_first, clearing_next, clearing_last}
 use Rattle.rec_world.proofs.Places.{place_within}
 use Rattle.rec_world.proofs.memory.Memory.clear.Goals as goal
@@ -18,11 +19,15 @@ loop-field-preserved c =
     clearing_next c.args.fields c.args.self.now c.loop-field.self c.perform.new.self c.args.slot c.loop-field.field c.place.result
     c.requires.slot c.requires.places c.loop-field-test.true c.loop-field.invariant c.place.ensures.place c.perform.ensures.left
 
+-- the words of the memory
+abbrev now_is : Inside → Cells
+now_is inside = record { headers = inside.headers.items; words = inside.words.items; epoch = inside.epoch; freed = inside.freed; crossing = inside.crossing.items }
+
 pub returns : goal.returns
 returns c =
     let end : c.loop-field.field ≡ c.args.fields = omega arith in
-    let now : IsClearing c.args.fields c.args.self.now (record { headers = c.self.inside.headers.items; words = c.self.inside.words.items }) c.args.slot c.loop-field.field
+    let now : IsClearing c.args.fields c.args.self.now (now_is c.self.inside) c.args.slot c.loop-field.field
     = subst (λ (x : Cells). IsClearing c.args.fields c.args.self.now x c.args.slot c.loop-field.field) (sym c.self.view_is) c.loop-field.invariant in
-    clearing_last c.args.fields c.args.self.now (record { headers = c.self.inside.headers.items; words = c.self.inside.words.items }) _ c.args.slot c.loop-field.field
+    clearing_last c.args.fields c.args.self.now (now_is c.self.inside) _ c.args.slot c.loop-field.field
     c.requires.slot c.requires.places end now
-    (ap (λ n. let cells : Cells = record { headers = slice_set c.self.inside.headers.items n 0; words = c.self.inside.words.items } in cells) c.from.ensures)
+    (ap (λ n. let cells : Cells = record (now_is c.self.inside) { headers = slice_set c.self.inside.headers.items n 0 } in cells) c.from.ensures)

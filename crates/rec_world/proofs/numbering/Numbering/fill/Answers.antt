@@ -5,8 +5,8 @@ use Rattle.rec_world.proofs.numbering.Numbering.fill.Goals as goal
 
 pub loop-next-init : goal.loop-next-init
 loop-next-init c = record {
-  slots = c.meet_registers.ensures.slots ∙ c.clear.ensures.slots;
-  filled = filled_registers _ _ _ _ _ c.clear.ensures.empty c.meet_registers.ensures.joined;
+  slots = c.meet_machines.ensures.slots ∙ c.clear.ensures.slots;
+  filled = filled_registers _ _ _ _ _ c.clear.ensures.empty c.meet_machines.ensures.joined;
 }
 
 pub slice_bounds-meet_fields-end : goal.slice_bounds-meet_fields-end

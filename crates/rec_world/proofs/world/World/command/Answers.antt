@@ -1,53 +1,65 @@
-use Rattle.std.proofs.Common.{subst}
-use Rattle.rec_world.specs.World.{IsWorld}
-use Rattle.rec_world.proofs.Outcomes.{IsAnswered, answered}
+-- The last step of the command says all.
+use Rattle.std.proofs.Common.{◌≡◌, subst}
+use Rattle.rec_world.specs.World.{State, IsKept}
+use Rattle.rec_world.proofs.Commands.{IsAnswered, command_said, command_crosses}
 use Rattle.rec_world.proofs.world.World.command.Goals as goal
-use Rattle.rec_world.proofs.world.World.command.Goals.{After-carry_out-told}
+use Rattle.rec_world.proofs.world.World.command.Goals.{In-Answered}
 
 -- what is said of the command
-said : (c : After-carry_out-told) → IsAnswered c.args.self.now c.args.t c.args.cmd (record { world = c.carry_out-told.new.self; told = c.carry_out-told.result })
+said : (c : In-Answered) → IsAnswered c.args.self.now c.args.t c.args.cmd c.in-Answered.told c.finish.new.self
 said c =
-    let world : IsWorld c.args.self.now = subst IsWorld c.self.view_is c.self.invariant.world in
-    rw (c.carry_out-told.ensures.world, c.carry_out-told.ensures.told) (answered c.args.self.now c.args.t c.args.cmd world c.requires.unmarked c.requires.valid)
+    command_said c.args.self.now c.begin.new.self c.finish.new.self c.args.t c.args.cmd c.in-Answered.told (subst IsKept c.self.view_is c.self.invariant.world.kept)
+    c.requires.unmarked c.requires.valid.0 c.begin.ensures.begun c.begin.ensures.work c.in-Answered.ensures.finished
+
+pub unreachable-requires : goal.unreachable-requires
+unreachable-requires c =
+    command_crosses c.args.self.now c.begin.new.self c.finish.new.self c.args.t c.args.cmd c.in-Crossed.field-0 (subst IsKept c.self.view_is c.self.invariant.world.kept)
+    c.requires.unmarked c.requires.valid.0 c.begin.ensures.begun c.begin.ensures.work c.in-Crossed.ensures.finished
 
 pub returns-clause-explained : goal.returns-clause-explained
-returns-clause-explained c = (said (goal.at.returns-clause-explained c).After-carry_out-told).explained
-
-pub returns-clause-log_full : goal.returns-clause-log_full
-returns-clause-log_full c = (said (goal.at.returns-clause-log_full c).After-carry_out-told).log_full
+returns-clause-explained c = (said c).told_of.explained
 
 pub returns-clause-full : goal.returns-clause-full
-returns-clause-full c = (said (goal.at.returns-clause-full c).After-carry_out-told).full
-
-pub returns-clause-no_object : goal.returns-clause-no_object
-returns-clause-no_object c = (said (goal.at.returns-clause-no_object c).After-carry_out-told).no_object
+returns-clause-full c = (said c).told_of.full
 
 pub returns-clause-never : goal.returns-clause-never
-returns-clause-never c = (said (goal.at.returns-clause-never c).After-carry_out-told).never
-
-pub returns-clause-refused : goal.returns-clause-refused
-returns-clause-refused c = (said (goal.at.returns-clause-refused c).After-carry_out-told).refused
+returns-clause-never c = (said c).told_of.never
 
 pub returns-clause-seen : goal.returns-clause-seen
-returns-clause-seen c = (said (goal.at.returns-clause-seen c).After-carry_out-told).seen
+returns-clause-seen c = (said c).told_of.seen
 
 pub returns-clause-made : goal.returns-clause-made
-returns-clause-made c = (said (goal.at.returns-clause-made c).After-carry_out-told).made
+returns-clause-made c = (said c).told_of.made
 
 pub returns-clause-logged : goal.returns-clause-logged
-returns-clause-logged c = (said (goal.at.returns-clause-logged c).After-carry_out-told).logged
-
-pub returns-clause-config : goal.returns-clause-config
-returns-clause-config c = (said (goal.at.returns-clause-config c).After-carry_out-told).config
-
-pub returns-clause-marked : goal.returns-clause-marked
-returns-clause-marked c = (said (goal.at.returns-clause-marked c).After-carry_out-told).marked
+returns-clause-logged c = (said c).told_of.logged
 
 pub returns-clause-lowest : goal.returns-clause-lowest
-returns-clause-lowest c = (said (goal.at.returns-clause-lowest c).After-carry_out-told).lowest
+returns-clause-lowest c = (said c).told_of.lowest
 
 pub returns-clause-stamp : goal.returns-clause-stamp
-returns-clause-stamp c = (said (goal.at.returns-clause-stamp c).After-carry_out-told).stamp
+returns-clause-stamp c = (said c).told_of.stamp
 
-pub returns-clause-kept : goal.returns-clause-kept
-returns-clause-kept c = subst IsWorld c.self-2.view_is c.self-2.invariant.world
+pub returns-clause-log_full : goal.returns-clause-log_full
+returns-clause-log_full c = (said c).log_full
+
+pub returns-clause-no_object : goal.returns-clause-no_object
+returns-clause-no_object c = (said c).no_object
+
+pub returns-clause-busy : goal.returns-clause-busy
+returns-clause-busy c = (said c).busy
+
+pub returns-clause-refused : goal.returns-clause-refused
+returns-clause-refused c = (said c).refused
+
+pub returns-clause-others : goal.returns-clause-others
+returns-clause-others c = (said c).others
+
+pub returns-clause-idle : goal.returns-clause-idle
+returns-clause-idle c = (said c).idle
+
+pub returns-clause-config : goal.returns-clause-config
+returns-clause-config c = (said c).config
+
+pub returns-clause-marked : goal.returns-clause-marked
+returns-clause-marked c = (said c).marked

@@ -1,0 +1,127 @@
+-- A step of a machine leaves a machine.
+use Rattle.std.proofs.Common.{◌≡◌, inl, inr, ℕ, ◌+◌, ◌%◌, ◌^◌, ◌<◌, ◌≤◌, List, [], ◌∷◌, ◌++◌, Option, None, Some, length, slice_set, slice_index_or, refl, sym, ap, subst, ◌∙◌, arith, length-append}
+use Rattle.std.specs.List.{All}
+use Rattle.std.proofs.lemmas.List.Elements.{All-set, All-get_or}
+use Rattle.std.proofs.lemmas.Bool.{cases_lt}
+use Rattle.std.proofs.lemmas.List.{get_or_past}
+use Rattle.rec_word.specs.Word.{target_of, IsTarget}
+use Rattle.rec_word.specs.declared.op.Op.{Op}
+use Rattle.rec_model.specs.declared.command.Cmd.{Cmd}
+use Rattle.rec_model.specs.declared.command.Cmd.TheVariants as commands
+use Rattle.rec_model.specs.declared.told.Told.{Told}
+use Rattle.rec_log.specs.declared.entry.Entry.{Entry}
+use Rattle.rec_mutator.specs.Private.{Private, register, limit_of, IsAt, IsScan, IsMachine}
+use Rattle.rec_mutator.specs.Step.{Step, Decides, GoesOn, HasRoom}
+use Rattle.rec_mutator.specs.declared.phase.Phase.{Phase}
+use Rattle.rec_mutator.specs.declared.work.Work.TheVariants as works
+
+-- where a field word leads may be a slot
+pub word_target : (word : ℕ) → IsTarget (target_of word)
+word_target word = grind arith
+
+-- what a register names may be a slot
+pub register_target : (p : Private) (r : ℕ) → IsMachine p → IsTarget (register p r)
+register_target p r m = elim (cases_lt r (length p.registers)) [
+  | inl there ↦ All-get_or IsTarget p.registers r None there m.registers
+  | inr past ↦ subst IsTarget (sym (get_or_past p.registers r None past)) tt
+]
+
+-- what holds in the phase of a machine
+pub at_phase : (p : Private) (at : Phase) → IsMachine p → p.phase ≡ at → IsAt p at
+at_phase p at m is = subst (IsAt p) is m.now
+
+-- an answer leaves a machine
+decided_machine : {p : Private} {op : Op} {q : Private} {cmd : Cmd} {at : Phase} {its_op : Op} {registers : List (Option ℕ)} {entries : List Entry} {told : Told}
+    → IsMachine p → All IsTarget registers → length entries ≤ p.log.capacity → p.steps + 1 ≤ limit_of p.slots (works.Command cmd) → Decides p op q cmd at its_op registers entries told → IsMachine q
+decided_machine m targets few steps d =
+    subst IsMachine (sym d.after) (record {
+      number = m.number;
+      epoch = m.epoch;
+      first_slot = m.first_slot;
+      last_slot = m.last_slot;
+      capacity = m.capacity;
+      entries = few;
+      registers = targets;
+      now = steps;
+    })
+
+-- so does a step after which the work goes on, if that holds which its phase wants
+going_on_machine : {p : Private} {op : Op} {q : Private} {at : Phase} {its_op : Op} {next_phase : Phase}
+    → IsMachine p → IsAt (record p { phase = next_phase; steps = p.steps + 1 }) next_phase → GoesOn p op q at its_op next_phase → IsMachine q
+going_on_machine m now g =
+    subst IsMachine (sym g.after) (record {
+      number = m.number;
+      epoch = m.epoch;
+      first_slot = m.first_slot;
+      last_slot = m.last_slot;
+      capacity = m.capacity;
+      entries = m.entries;
+      registers = m.registers;
+      now = now;
+    })
+
+-- a command's first step is within its limit
+first_step : (p : Private) (cmd : Cmd) → p.steps ≡ 0 → p.steps + 1 ≤ limit_of p.slots (works.Command cmd)
+first_step p (commands.New reg label) none = omega arith
+first_step p (commands.Null reg) none = omega arith
+first_step p (commands.Copy dst src) none = omega arith
+first_step p (commands.Get dst src f) none = omega arith
+first_step p (commands.Put src f val) none = omega arith
+first_step p (commands.Value reg) none = omega arith
+first_step p (commands.Same a b) none = omega arith
+
+-- one entry more fits
+one_more : (p : Private) (entry : Entry) → length p.log.entries < p.log.capacity → length (p.log.entries ++ entry ∷ []) ≤ p.log.capacity
+one_more p entry room = let more : length (p.log.entries ++ entry ∷ []) ≡ length p.log.entries + 1 = length-append p.log.entries (entry ∷ []) in omega arith
+
+-- a log with room has room for one
+pub has_room : (p : Private) → IsMachine p → HasRoom p → length p.log.entries < p.log.capacity
+has_room p m room = let most : length p.log.entries ≤ p.log.capacity = m.entries in omega arith
+
+-- a slot of a machine's heap fits a field word
+slot_target : (p : Private) (slot : ℕ) → IsMachine p → slot < p.slots → IsTarget (Some slot)
+slot_target p slot m there = let few : p.slots < 2 ^ 16 = m.last_slot in omega arith
+
+-- every step does
+pub step_machine : {p : Private} {word : ℕ} {op : Op} {q : Private} → IsMachine p → Step p word op q → IsMachine q
+step_machine {p = p} m (Step.null reg d) = decided_machine m (All-set IsTarget p.registers reg None tt m.registers) m.entries (first_step p (commands.Null reg) (at_phase p _ m d.phase).1) d
+step_machine {p = p} m (Step.copy dst src d) = decided_machine m (All-set IsTarget p.registers dst (register p src) (register_target p src m) m.registers) m.entries (first_step p (commands.Copy dst src) (at_phase p _ m d.phase).1) d
+step_machine {p = p} m (Step.compare a b d) = decided_machine m m.registers m.entries (first_step p (commands.Same a b) (at_phase p _ m d.phase).1) d
+step_machine {p = p} m (Step.get_of_null dst src f names d) = decided_machine m m.registers m.entries (first_step p (commands.Get dst src f) (at_phase p _ m d.phase).1) d
+step_machine {p = p} {word = word} m (Step.get dst src f slot names d) = decided_machine m (All-set IsTarget p.registers dst (target_of word) (word_target word) m.registers) m.entries (first_step p (commands.Get dst src f) (at_phase p _ m d.phase).1) d
+step_machine {p = p} m (Step.put_of_null src f val names d) = decided_machine m m.registers m.entries (first_step p (commands.Put src f val) (at_phase p _ m d.phase).1) d
+step_machine {p = p} m (Step.put_refused src f val slot names full d) = decided_machine m m.registers m.entries (first_step p (commands.Put src f val) (at_phase p _ m d.phase).1) d
+step_machine {p = p} m (Step.put src f val slot names room d) = decided_machine m m.registers (one_more p _ (has_room p m room)) (first_step p (commands.Put src f val) (at_phase p _ m d.phase).1) d
+step_machine {p = p} m (Step.value_of_null reg names d) = decided_machine m m.registers m.entries (first_step p (commands.Value reg) (at_phase p _ m d.phase).1) d
+step_machine {p = p} m (Step.value reg slot names d) = decided_machine m m.registers m.entries (first_step p (commands.Value reg) (at_phase p _ m d.phase).1) d
+step_machine {p = p} m (Step.new_refused reg label full d) = decided_machine m m.registers m.entries (first_step p (commands.New reg label) (at_phase p _ m d.phase).1) d
+step_machine {p = p} m (Step.new_begins reg label room g) =
+    let begun = at_phase p _ m g.phase in
+    let none : p.steps ≡ 0 = begun.1 in
+    going_on_machine m (record { register = begun.0; room = has_room p m room }, m.first_slot, omega arith) g
+step_machine {p = p} m (Step.new_wins reg label before slot free d) =
+    let scan = at_phase p _ m d.phase in
+    let there : slot < p.slots = scan.1 in
+    let steps : p.steps ≡ slot + 1 = scan.2 in
+    decided_machine m (All-set IsTarget p.registers reg (Some slot) (slot_target p slot m there) m.registers) (one_more p _ scan.0.room) (omega arith) d
+step_machine {p = p} m (Step.new_goes_on reg label before slot taken more g) =
+    let scan = at_phase p _ m g.phase in
+    let there : slot < p.slots = scan.1 in
+    let steps : p.steps ≡ slot + 1 = scan.2 in
+    going_on_machine m (record { register = scan.0.register; room = scan.0.room }, omega arith, omega arith) g
+step_machine {p = p} m (Step.new_finds_none reg label before slot taken last g) =
+    let scan = at_phase p _ m g.phase in
+    let steps : p.steps ≡ slot + 1 = scan.2 in
+    going_on_machine m (record { register = scan.0.register; room = scan.0.room }, omega arith) g
+step_machine {p = p} m (Step.new_is_full reg label before still d) =
+    let scan = at_phase p _ m d.phase in
+    let steps : p.steps ≡ p.slots + 1 = scan.1 in
+    decided_machine m m.registers m.entries (omega arith) d
+step_machine {p = p} m (Step.new_is_busy reg label before moves d) =
+    let scan = at_phase p _ m d.phase in
+    let steps : p.steps ≡ p.slots + 1 = scan.1 in
+    decided_machine m m.registers m.entries (omega arith) d
+step_machine {p = p} m (Step.poll g) =
+    let begun = at_phase p _ m g.phase in
+    let none : p.steps ≡ 0 = begun.1 in
+    going_on_machine m (omega arith) g

@@ -1,0 +1,33 @@
+-- The parts make up the heap as it is opened.
+use Rattle.std.proofs.Common.{◌≡◌, false, sym, subst}
+use Rattle.rec_world.specs.World.{State, opened, IsWorld}
+use Rattle.rec_world.proofs.Calls.{opened_parts, opened_world}
+use Rattle.rec_world.proofs.world.open_in_range.Goals as goal
+use Rattle.rec_world.proofs.world.open_in_range.Goals.{In_ok-numbering}
+
+-- the state that is made
+made : In_ok-numbering → State
+made c =
+    record {
+      config = c.args.config;
+      headers = c.in_ok-memory.memory.headers;
+      words = c.in_ok-memory.memory.words;
+      epoch = c.in_ok-memory.memory.epoch;
+      freed = c.in_ok-memory.memory.freed;
+      crossing = c.in_ok-memory.memory.crossing;
+      mutators = c.in_ok-machines.machines.items;
+      made = 1;
+      marked = false;
+    }
+
+is_opened : (c : In_ok-numbering) → made c ≡ opened c.args.config
+unfolding made
+is_opened c = opened_parts c.args.config c.in_ok-memory.memory c.in_ok-machines.machines.items c.in_ok-memory.ensures c.in_ok-machines.ensures
+
+pub invariant_of-result : goal.invariant_of-result
+unfolding made
+invariant_of-result c = record { world = subst IsWorld (sym (is_opened c)) (opened_world c.args.config c.requires); numbering = c.in_ok-numbering.ensures.slots }
+
+pub returns-clause-kept : goal.returns-clause-kept
+unfolding made
+returns-clause-kept c = subst IsWorld (sym (is_opened c)) (opened_world c.args.config c.requires)

@@ -1,0 +1,68 @@
+-- A heap as a whole: its words, and the private record of each mutator.
+use Rattle.std.specs.Prelude.{◌≡◌, ℕ, ◌+◌, ◌-◌, ◌*◌, zero, suc, Bool, false, List, [], ◌∷◌, ◌++◌, length, map, replicate, slice_index_or, slice_set}
+use Rattle.rec_model.specs.Sight.{Sight, opening_sight}
+use Rattle.rec_mutator.specs.Private.{Private, opened as opened_machine}
+use Rattle.rec_mutator.specs.declared.phase.Phase.TheVariants.{Idle}
+use Rattle.rec_world.specs.declared.config.Config.{Config}
+use Rattle.rec_world.specs.Memory.{Cells}
+
+-- the numbers; headers, field words by place, the epoch word, the freed word and the crossing words; the private record of
+-- each mutator; births with the opening one, and whether the heap was marked
+pub record State : Type 0 where
+  pub config : Config
+  pub headers : List ℕ
+  pub words : List ℕ
+  pub epoch : ℕ
+  pub freed : ℕ
+  pub crossing : List ℕ
+  pub mutators : List Private
+  pub made : ℕ
+  pub marked : Bool
+
+-- the shared words
+abbrev pub cells_of : State → Cells
+cells_of w = record { headers = w.headers; words = w.words; epoch = w.epoch; freed = w.freed; crossing = w.crossing }
+
+-- what is seen of it
+abbrev pub sight : State → Sight
+sight w = record { fields = w.config.fields; headers = w.headers; words = w.words; registers = map (λ p. p.registers) w.mutators }
+
+-- a mutator that isn't there
+abbrev pub nobody : Private
+nobody = record { number = 0; epoch = 0; slots = 0; fields = 0; registers = []; log = record { entries = []; snapshot = []; capacity = 0 }; phase = Idle; steps = 0 }
+
+-- the private record of a mutator, numbered from 1
+abbrev pub mutator : State → ℕ → Private
+mutator w t = slice_index_or w.mutators (t - 1) nobody
+
+-- with the private record of a mutator replaced
+abbrev pub with_mutator : State → ℕ → Private → State
+with_mutator w t p = record w { mutators = slice_set w.mutators (t - 1) p }
+
+-- how many entries a mutator's log has
+abbrev pub log_length : State → ℕ → ℕ
+log_length w t = length (mutator w t).log.entries
+
+-- a mutator as it is opened
+abbrev pub opened_mutator : Config → ℕ → Private
+opened_mutator config t = opened_machine t config.first_epoch config.slots config.fields config.registers config.log_entries
+
+-- the first so many mutators as they are opened, numbered from 1
+abbrev pub opened_mutators : Config → ℕ → List Private
+opened_mutators config zero = []
+opened_mutators config (suc n) = opened_mutators config n ++ opened_mutator config (suc n) ∷ []
+
+-- a heap as it is opened
+abbrev pub opened : Config → State
+opened config =
+    record {
+      config = config;
+      headers = (opening_sight config.slots config.fields config.registers config.mutators).headers;
+      words = (opening_sight config.slots config.fields config.registers config.mutators).words;
+      epoch = config.first_epoch;
+      freed = 0;
+      crossing = replicate config.mutators (4 * config.first_epoch);
+      mutators = opened_mutators config config.mutators;
+      made = 1;
+      marked = false;
+    }
