@@ -36,6 +36,13 @@ impl Frame {
         self.registers[index]
     }
 
+    /// What each register names, in order.
+    pub fn registers(&self) -> &[Option<u16>]
+        ensures { result.now ≡ self.now }
+    {
+        self.registers.as_slice()
+    }
+
     /// Lets register `r` name a slot.
     pub fn set(&mut self, r: u8, slot: u16)
         requires { r < length self.old }
@@ -77,6 +84,7 @@ mod tests {
         frame.clear(1);
         assert_eq!(rt; frame.read(0), Some(65_534));
         assert_eq!(rt; frame.read(1), None);
+        assert_eq!(rt; frame.registers(), [Some(65_534), None, None].as_slice());
         Ok(())
     }
 }

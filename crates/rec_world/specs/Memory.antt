@@ -2,7 +2,7 @@
 use Rattle.std.specs.Prelude.{◌≡◌, ◌≢◌, ℕ, ◌+◌, ◌*◌, ◌<◌, true, false, List, length, replicate, slice_index_or, slice_range, slice_set}
 use Rattle.rec_word.specs.declared.op.Op.{Op}
 use Rattle.rec_model.specs.Reach.{is_in}
-use Rattle.rec_word.specs.declared.op.Op.TheVariants.{LoadField, SwapField, LoadHeader, ClaimHeader}
+use Rattle.rec_word.specs.declared.op.Op.TheVariants.{LoadField, SwapField, ClearField, LoadHeader, ClaimHeader, FreeHeader}
 
 -- a header for each slot, and a word for each field of each slot
 pub record Cells : Type 0 where
@@ -15,6 +15,8 @@ IsWithin cells (LoadField place) = place < length cells.words
 IsWithin cells (SwapField place word) = place < length cells.words
 IsWithin cells (LoadHeader slot) = slot < length cells.headers
 IsWithin cells (ClaimHeader slot label) = slot < length cells.headers
+IsWithin cells (ClearField place) = place < length cells.words
+IsWithin cells (FreeHeader slot) = slot < length cells.headers
 IsWithin cells _ = ⊥
 
 -- the word that the operation names
@@ -23,6 +25,8 @@ cell cells (LoadField place) = slice_index_or cells.words place 0
 cell cells (SwapField place word) = slice_index_or cells.words place 0
 cell cells (LoadHeader slot) = slice_index_or cells.headers slot 0
 cell cells (ClaimHeader slot label) = slice_index_or cells.headers slot 0
+cell cells (ClearField place) = slice_index_or cells.words place 0
+cell cells (FreeHeader slot) = slice_index_or cells.headers slot 0
 cell cells _ = 0
 
 -- with the word that the operation names replaced
@@ -31,6 +35,8 @@ with_cell cells (LoadField place) x = record cells { words = slice_set cells.wor
 with_cell cells (SwapField place word) x = record cells { words = slice_set cells.words place x }
 with_cell cells (LoadHeader slot) x = record cells { headers = slice_set cells.headers slot x }
 with_cell cells (ClaimHeader slot label) x = record cells { headers = slice_set cells.headers slot x }
+with_cell cells (ClearField place) x = record cells { words = slice_set cells.words place x }
+with_cell cells (FreeHeader slot) x = record cells { headers = slice_set cells.headers slot x }
 with_cell cells _ x = cells
 
 -- the words of a slot's fields, in order, where each slot has so many
