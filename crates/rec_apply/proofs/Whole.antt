@@ -3,14 +3,16 @@ use Rattle.std.proofs.Common.{◌≡◌, ℕ, ◌+◌, ◌<◌, ◌≤◌, ◌^�
 use Rattle.std.specs.List.{flat_map}
 use Rattle.rec_counts.specs.Counts.{State, slot_at}
 use Rattle.rec_counts.specs.Lists.{times}
+use Rattle.rec_counts.specs.Rest.{KeepsRest, AreZeros}
 use Rattle.rec_counts.proofs.Times.{times-nil}
 use Rattle.rec_log.specs.declared.contents.Contents.{Contents}
 use Rattle.rec_apply.specs.Targets.{added, taken}
-use Rattle.rec_apply.specs.Batch.{CanRise, CanFall, KeepsRest, all_up, batch, up_targets, down_targets}
+use Rattle.rec_apply.specs.Batch.{CanRise, CanFall, all_up, batch, up_targets, down_targets}
 use Rattle.rec_apply.proofs.Naming.{added_is, taken_is}
 use Rattle.rec_apply.proofs.Rising.{rise_all, up_zeros_all}
 use Rattle.rec_apply.proofs.Falling.{fall_all}
-use Rattle.rec_apply.proofs.Resting.{rest_on, rest_all_up, rest_all_down}
+use Rattle.rec_apply.proofs.Resting.{rest_all_up, rest_all_down}
+use Rattle.rec_counts.proofs.Decrementing.{rest_on}
 
 -- the increments can be made
 pub batch_rises : (s : State) (newer older : List Contents) → ((x : ℕ) → length s.slots ≤ x → added x newer + taken x older ≡ 0) → ((x : ℕ) → (slot_at s x).count + added x newer < 2 ^ 64) → CanRise s (flat_map up_targets newer)
@@ -19,11 +21,17 @@ batch_rises s newer older r f = record {
   fits = λ x. omega (arith, f x, added_is x newer);
 }
 
+-- where there are no zeros, all of them are zeros
+no_zeros : (s : State) → s.zeros ≡ [] → AreZeros s
+no_zeros s z =
+    let n : (x : ℕ) → times x s.zeros ≡ 0 = λ x. ap (times x) z ∙ times-nil x in
+    record { none = λ x h. absurd (omega (arith, h, n x)); unreleased = λ x h. absurd (omega (arith, h, n x)) }
+
 -- and then the decrements
 pub batch_falls : (s : State) (newer older : List Contents) → s.zeros ≡ [] → CanRise s (flat_map up_targets newer) → ((x : ℕ) → taken x older ≤ (slot_at s x).count + added x newer) → CanFall (all_up s (flat_map up_targets newer)) (flat_map down_targets older)
 batch_falls s newer older z k c = record {
   covered = λ x. omega (arith, c x, added_is x newer, taken_is x older, rise_all s (flat_map up_targets newer) k x);
-  zeros = λ x h. let e : times x (all_up s (flat_map up_targets newer)).zeros ≡ 0 = ap (times x) (up_zeros_all s (flat_map up_targets newer) ∙ z) ∙ times-nil x in absurd (omega (arith, h, e));
+  zeros = no_zeros (all_up s (flat_map up_targets newer)) (up_zeros_all s (flat_map up_targets newer) ∙ z);
 }
 
 -- the formula

@@ -1,7 +1,7 @@
 -- What a batch makes of the counts: all increments in order, and then all decrements in order.
 use Rattle.std.specs.Prelude.{◌≡◌, ℕ, ◌+◌, ◌<◌, ◌≤◌, ◌^◌, Option, None, Some, List, ◌++◌, map, length, flat_map, fold}
 use Rattle.rec_counts.specs.Counts.{State, slot_at, with_slot, decremented}
-use Rattle.rec_counts.specs.Lists.{times}
+use Rattle.rec_counts.specs.Rest.{AreZeros}
 use Rattle.rec_counts.specs.Slot.{raised}
 use Rattle.rec_log.specs.declared.contents.Contents.{Contents}
 use Rattle.rec_apply.specs.Targets.{new_target, old_target, named}
@@ -41,18 +41,7 @@ pub record CanRise (s : State) (targets : List (Option ℕ)) : Type 0 where
   pub in_range : (x : ℕ) → length s.slots ≤ x → named x targets ≡ 0
   pub fits : (x : ℕ) → (slot_at s x).count + named x targets < 2 ^ 64
 
--- these decrements take no count below zero, and a slot in the zeros has none to take
+-- these decrements take no count below zero, and the zeros are zeros
 pub record CanFall (s : State) (targets : List (Option ℕ)) : Type 0 where
   pub covered : (x : ℕ) → named x targets ≤ (slot_at s x).count
-  pub zeros : (x : ℕ) → 0 < times x s.zeros → (slot_at s x).count ≡ 0
-
--- a batch changes no set, no other list than the roots and the zeros, and of a slot no cyclic count, no set, and not whether it is released
-pub record KeepsRest (s t : State) : Type 0 where
-  pub slots : length t.slots ≡ length s.slots
-  pub sets : t.sets ≡ s.sets
-  pub marked : t.marked ≡ s.marked
-  pub work : t.work ≡ s.work
-  pub free : t.free ≡ s.free
-  pub released : (x : ℕ) → (slot_at t x).released ≡ (slot_at s x).released
-  pub cyclic : (x : ℕ) → (slot_at t x).cyclic ≡ (slot_at s x).cyclic
-  pub set : (x : ℕ) → (slot_at t x).set ≡ (slot_at s x).set
+  pub zeros : AreZeros s

@@ -1,8 +1,8 @@
 ghost use Rattle.std.specs.Prelude.{◌≡◌, ℕ, ◌+◌, ◌<◌, ◌≤◌, ◌^◌, [], length};
 ghost use Rattle.rec_counts.specs.Counts.{slot_at};
-ghost use Rattle.rec_counts.specs.Lists.{times};
+ghost use Rattle.rec_counts.specs.Rest.{AreZeros, KeepsRest};
 ghost use Rattle.rec_apply.specs.Targets.{added, taken};
-ghost use Rattle.rec_apply.specs.Batch.{batch, KeepsRest};
+ghost use Rattle.rec_apply.specs.Batch.{batch};
 
 use crate::decrements::decrement_all;
 use crate::increments::increment_all;
@@ -22,7 +22,7 @@ pub fn apply(counts: &mut Counts, newer: &[Buffer], older: &[Buffer])
 
     // Colours, roots and zeros are those of all increments in order, and then all decrements in order.
     ensures order { counts.new ≡ batch counts.old newer.now older.now }
-    ensures zeros { (x : ℕ) → 0 < times x counts.new.zeros → (slot_at counts.new x).count ≡ 0 }
+    ensures zeros { AreZeros counts.new }
     ensures rest { KeepsRest counts.old counts.new }
 {
     increment_all(counts, newer);

@@ -20,7 +20,7 @@ returns-clause-count c =
 pub returns-clause-zeros : goal.returns-clause-zeros
 returns-clause-zeros c =
     let k : CanRise c.args.counts.now (flat_map up_targets c.args.newer.now) = batch_rises c.args.counts.now c.args.newer.now c.args.older.now c.requires.in_range c.requires.fits in
-    rw (c.decrement_all.ensures, c.increment_all.ensures) (fall_zeros_all (all_up c.args.counts.now (flat_map up_targets c.args.newer.now)) (flat_map down_targets c.args.older.now) (batch_falls c.args.counts.now c.args.newer.now c.args.older.now c.requires.zeros k c.requires.covered))
+    rw (c.decrement_all.ensures, c.increment_all.ensures) (fall_zeros_all (all_up c.args.counts.now (flat_map up_targets c.args.newer.now)) (flat_map down_targets c.args.older.now) (batch_falls c.args.counts.now c.args.newer.now c.args.older.now c.requires.zeros k c.requires.covered).zeros)
 
 pub returns-clause-rest : goal.returns-clause-rest
 returns-clause-rest c = rw (c.decrement_all.ensures, c.increment_all.ensures) (batch_rests c.args.counts.now c.args.newer.now c.args.older.now)
