@@ -25,7 +25,7 @@ batch_rises s newer older r f = record {
 no_zeros : (s : State) → s.zeros ≡ [] → AreZeros s
 no_zeros s z =
     let n : (x : ℕ) → times x s.zeros ≡ 0 = λ x. ap (times x) z ∙ times-nil x in
-    record { none = λ x h. absurd (omega (arith, h, n x)); unreleased = λ x h. absurd (omega (arith, h, n x)) }
+    record { once = λ x. omega (arith, n x); none = λ x h. absurd (omega (arith, h, n x)); unreleased = λ x h. absurd (omega (arith, h, n x)) }
 
 -- and then the decrements
 pub batch_falls : (s : State) (newer older : List Contents) → s.zeros ≡ [] → CanRise s (flat_map up_targets newer) → ((x : ℕ) → taken x older ≤ (slot_at s x).count + added x newer) → CanFall (all_up s (flat_map up_targets newer)) (flat_map down_targets older)

@@ -12,7 +12,7 @@ use Rattle.rec_counts.specs.Rest.{KeepsRest, AreZeros}
 use Rattle.rec_counts.specs.Slot.{absent, lessened, lessened_if, due_of}
 use Rattle.rec_counts.proofs.Keeping.{field_kept}
 use Rattle.rec_counts.proofs.Lessening.{to_zeros}
-use Rattle.rec_counts.proofs.Times.{times-nil, times-cons, times-append}
+use Rattle.rec_counts.proofs.Times.{times-nil, times-cons, times-append, one-le}
 
 pub rest_same : (s : State) → KeepsRest s s
 rest_same s = record { slots = refl; sets = refl; marked = refl; work = refl; free = refl; released = λ x. refl; cyclic = λ x. refl; set = λ x. refl }
@@ -113,6 +113,8 @@ decremented_count s x y h =
 pub record ZerosFrom (s : State) (x : ℕ) : Type 0 where
   pub more : List ℕ
   pub zeros : (decremented s x).zeros ≡ s.zeros ++ more
+  pub once : (y : ℕ) → times y more ≤ 1
+  pub last : (y : ℕ) → 0 < times y more → (slot_at s y).count ≡ 1
   pub count : (y : ℕ) → 0 < times y more → (slot_at (decremented s x) y).count ≡ 0
   pub unreleased : (y : ℕ) → 0 < times y more → (slot_at (decremented s x) y).released ≡ false
 
@@ -124,11 +126,13 @@ zeros_from s x = go (due_of (slot_at s x)) refl
     none : (P : Type 0) (y : ℕ) → 0 < times y [] → P
     none P y h = absurd (omega (arith, h, times-nil y))
     go : (d : Due) → due_of (slot_at s x) ≡ d → ZerosFrom s x
-    go Nothing e = record { more = []; zeros = to Nothing e ∙ sym (append-nil s.zeros); count = λ y. none _ y; unreleased = λ y. none _ y }
-    go Root e = record { more = []; zeros = to Root e ∙ sym (append-nil s.zeros); count = λ y. none _ y; unreleased = λ y. none _ y }
+    go Nothing e = record { more = []; zeros = to Nothing e ∙ sym (append-nil s.zeros); once = λ y. omega (arith, times-nil y); last = λ y. none _ y; count = λ y. none _ y; unreleased = λ y. none _ y }
+    go Root e = record { more = []; zeros = to Root e ∙ sym (append-nil s.zeros); once = λ y. omega (arith, times-nil y); last = λ y. none _ y; count = λ y. none _ y; unreleased = λ y. none _ y }
     go Zero e = record {
       more = x ∷ [];
       zeros = to Zero e;
+      once = λ y. omega (arith, times-cons y x [], times-nil y, one-le (eqb y x));
+      last = λ y h. ap (λ z. (slot_at s z).count) (it y h).1 ∙ (to_zeros (slot_at s x) e).last;
       count = λ y h. let q = it y h in let last : (slot_at s x).count ≡ 1 = (to_zeros (slot_at s x) e).last in let o : (slot_at s y).count ≡ (slot_at s x).count = ap (λ z. (slot_at s z).count) q.1 in let n : one (eqb y x) ≡ 1 = ap one q.0 in omega (arith, decremented_less s x y, last, o, n);
       unreleased = λ y h. (rest_decremented s x).released y ∙ ap (λ z. (slot_at s z).released) (it y h).1 ∙ (to_zeros (slot_at s x) e).unreleased;
     }
@@ -142,6 +146,10 @@ zeros_kept s x k =
     let f : ZerosFrom s x = zeros_from s x in
     let n : (y : ℕ) → times y (decremented s x).zeros ≡ times y s.zeros + times y f.more = λ y. ap (times y) f.zeros ∙ times-append y s.zeros f.more in
     record {
+      once = λ y. elim (cases_lt 0 (times y f.more)) [
+        | inl l ↦ elim (cases_lt 0 (times y s.zeros)) [ | inl m ↦ absurd (omega (arith, f.last y l, k.none y m)) | inr m ↦ omega (arith, n y, f.once y, m) ]
+        | inr l ↦ omega (arith, n y, k.once y, l)
+      ];
       none = λ y h. elim (cases_lt 0 (times y s.zeros)) [
         | inl l ↦ omega (arith, decremented_less s x y, k.none y l)
         | inr l ↦ f.count y (omega (arith, h, l, n y))

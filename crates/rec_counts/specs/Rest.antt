@@ -1,5 +1,5 @@
 -- What counting a reference leaves as it was.
-use Rattle.std.specs.Prelude.{◌≡◌, ℕ, ◌<◌, false, length}
+use Rattle.std.specs.Prelude.{◌≡◌, ℕ, ◌<◌, ◌≤◌, false, length}
 use Rattle.rec_counts.specs.Counts.{State, slot_at}
 use Rattle.rec_counts.specs.Lists.{times}
 
@@ -14,7 +14,8 @@ pub record KeepsRest (s t : State) : Type 0 where
   pub cyclic : (x : ℕ) → (slot_at t x).cyclic ≡ (slot_at s x).cyclic
   pub set : (x : ℕ) → (slot_at t x).set ≡ (slot_at s x).set
 
--- the slots of the zeros have no count, and are not released
+-- the slots of the zeros have no count, and are not released; each stands there once
 pub record AreZeros (s : State) : Type 0 where
+  pub once : (x : ℕ) → times x s.zeros ≤ 1
   pub none : (x : ℕ) → 0 < times x s.zeros → (slot_at s x).count ≡ 0
   pub unreleased : (x : ℕ) → 0 < times x s.zeros → (slot_at s x).released ≡ false
