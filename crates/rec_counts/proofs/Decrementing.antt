@@ -1,7 +1,7 @@
 -- One decrement: what it leaves, what it counts, and which slots stand in the zeros afterwards.
 use Rattle.std.proofs.Common.{◌≡◌, ℕ, ◌+◌, ◌-◌, ◌<◌, ◌≤◌, Bool, true, false, eqb, List, [], ◌∷◌, ◌++◌, length, get_or, refl, arith, sym, ◌∙◌, ap, inl, inr}
 use Rattle.std.proofs.lemmas.List.{append-nil, length-set, get_or-set_same, get_or-set_other, get_or_past, set_past}
-use Rattle.std.proofs.lemmas.Bool.{cases_lt}
+use Rattle.std.proofs.lemmas.Bool.{cases_lt, false≢true}
 use Rattle.std.proofs.lemmas.Bool.Decides.{eqb_tells}
 use Rattle.rec_counts.specs.declared.slot.Slot.{Slot}
 use Rattle.rec_counts.specs.declared.slot.Due.{Due}
@@ -169,4 +169,22 @@ buffered_kept s x y r =
           let b : (lessened v).buffered ≡ v.buffered = ap (λ c. (lessened_if c (eqb v.count 1) v).buffered) t in
           ap (λ (w : Slot). w.buffered) (same_slot s x y) ∙ field_kept (λ (w : Slot). w.buffered) s.slots x (lessened v) b y
       | inr q ↦ ap (λ (w : Slot). w.buffered) (same_slot s x y) ∙ ap (λ (w : Slot). w.buffered) (get_or-set_other s.slots x y (lessened v) absent q.1)
+    ]
+
+lessened_buffered : (r l : Bool) (v : Slot) → (lessened_if r l v).buffered ≡ false → v.buffered ≡ false
+lessened_buffered true l v e = e
+lessened_buffered false true v e = e
+lessened_buffered false false v e = absurd (false≢true (sym e))
+
+-- no slot leaves a buffer
+pub unbuffered_before : (s : State) (x y : ℕ) → (slot_at (decremented s x) y).buffered ≡ false → (slot_at s y).buffered ≡ false
+unbuffered_before s x y b =
+    let v : Slot = slot_at s x in
+    let b' : (slot_at (with_slot s x (lessened v)) y).buffered ≡ false = ap (λ (w : Slot). w.buffered) (sym (same_slot s x y)) ∙ b in
+    elim (eqb_tells y x) [
+      | inl q ↦ ap (λ z. (slot_at s z).buffered) q.1 ∙ elim (cases_lt x (length s.slots)) [
+        | inl l ↦ lessened_buffered v.released (eqb v.count 1) v (ap (λ (w : Slot). w.buffered) (sym (get_or-set_same s.slots x (lessened v) absent l)) ∙ ap (λ z. (slot_at (with_slot s x (lessened v)) z).buffered) (sym q.1) ∙ b')
+        | inr l ↦ ap (λ (w : Slot). w.buffered) (get_or_past s.slots x absent l)
+      ]
+      | inr q ↦ ap (λ (w : Slot). w.buffered) (sym (get_or-set_other s.slots x y (lessened v) absent q.1)) ∙ b'
     ]

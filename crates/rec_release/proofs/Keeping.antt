@@ -1,6 +1,5 @@
 -- What a release keeps of the counts, move by move.
-use Rattle.std.proofs.Common.{◌≡◌, ◌≢◌, ℕ, ◌+◌, ◌<◌, ◌≤◌, Bool, true, false, eqb, ltb, Option, None, Some, IfSome, IsNone, List, [], ◌∷◌, ◌++◌, length, get_or, refl, arith, sym, ◌∙◌, ap, subst, inl, inr}
-use Rattle.std.proofs.Math.ListN.{set}
+use Rattle.std.proofs.Common.{◌≡◌, ◌≢◌, ℕ, ◌+◌, ◌<◌, ◌≤◌, Bool, true, false, eqb, ltb, Option, None, Some, IsNone, List, [], ◌∷◌, length, refl, arith, sym, ◌∙◌, ap, subst, inl, inr}
 use Rattle.std.proofs.lemmas.List.{length-set, get_or-set_same, get_or-set_other, get_or_past}
 use Rattle.std.proofs.lemmas.Bool.{cases_lt, false≢true, cond-true, cond-false, lt-ltb, le-ltb}
 use Rattle.std.proofs.lemmas.Bool.Decides.{eqb_tells}
@@ -12,9 +11,9 @@ use Rattle.rec_counts.specs.Rest.{KeepsRest, AreZeros}
 use Rattle.rec_counts.specs.Slot.{absent}
 use Rattle.rec_counts.proofs.Decrementing.{rest_same, rest_decremented, zeros_kept}
 use Rattle.rec_counts.proofs.Keeping.{field_kept}
-use Rattle.rec_counts.proofs.Times.{times-cons, times_push, times-nil, one-same}
+use Rattle.rec_counts.proofs.Times.{times-cons, times_push, one-same}
 use Rattle.rec_release.specs.declared.at.At.{At}
-use Rattle.rec_release.specs.Release.{Machine, Work, taken_off, listed_if, emptied, first_of, without_first, with_next, op_at, next_of, took_of, IsReady, IsHeld, IsAtWork}
+use Rattle.rec_release.specs.Release.{taken_off, listed_if, emptied, first_of, without_first, with_next, op_at, next_of, took_of, IsReady, IsHeld, IsAtWork}
 
 pub rest_off : (s : State) (t : Option ℕ) → KeepsRest s (taken_off s t)
 rest_off s None = rest_same s
@@ -38,7 +37,7 @@ held_off s t a h = record {
   unlisted = ap (times a.slot) (rest_off s t).free ∙ h.unlisted;
 }
 
-listed_ready : (b : Bool) (s : State) (x : ℕ) → (slot_at s x).released ≡ true → IsReady s → IsReady (listed_if b s x)
+pub listed_ready : (b : Bool) (s : State) (x : ℕ) → (slot_at s x).released ≡ true → IsReady s → IsReady (listed_if b s x)
 listed_ready true s x r k = k
 listed_ready false s x r k = record {
   zeros = record { once = k.zeros.once; none = k.zeros.none; unreleased = k.zeros.unreleased };
@@ -90,7 +89,7 @@ released_same s z y ne = ap (λ (w : Slot). w.released) (get_or-set_other s.slot
 pub released_first : (s : State) (z : ℕ) → z < length s.slots → (slot_at (with_slot s z (record (slot_at s z) { released = true })) z).released ≡ true
 released_first s z l = ap (λ (w : Slot). w.released) (get_or-set_same s.slots z _ absent l)
 
-next_work : (fields : ℕ) (s : State) (zs : List ℕ) → s.zeros ≡ zs → 0 < fields → IsReady s → IsAtWork (record { fields = fields; at = first_of zs }) (without_first zs s)
+pub next_work : (fields : ℕ) (s : State) (zs : List ℕ) → s.zeros ≡ zs → 0 < fields → IsReady s → IsAtWork (record { fields = fields; at = first_of zs }) (without_first zs s)
 next_work fields s [] e f k = record { field = tt; held = tt; ready = k }
 next_work fields s (z ∷ zs) e f k =
     let first : FirstZero s z zs = first_zero s z zs e k in

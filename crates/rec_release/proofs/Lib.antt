@@ -1,2 +1,5 @@
 pub mod Keeping
+pub mod Moves
+pub mod Places
+pub mod Runs
 pub mod Sweeping

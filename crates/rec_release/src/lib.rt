@@ -14,9 +14,11 @@
 #![tactic(auto)]
 
 mod at;
+mod laws;
 mod release;
 mod sweep;
 
 pub use at::At;
+pub use laws::release_is_whole;
 pub use release::Release;
 pub use sweep::Sweep;

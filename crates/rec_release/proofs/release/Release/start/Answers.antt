@@ -1,5 +1,5 @@
-use Rattle.std.proofs.Common.{◌≡◌, ap, sym, ◌∙◌, refl}
-use Rattle.rec_release.specs.Release.{Machine, next_of, started_of}
+use Rattle.std.proofs.Common.{refl}
+use Rattle.rec_release.specs.Release.{started_of}
 use Rattle.rec_release.proofs.Keeping.{work_next, none_left}
 use Rattle.rec_release.proofs.release.Release.start.Goals as goal
 

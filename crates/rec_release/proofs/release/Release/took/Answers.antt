@@ -1,8 +1,6 @@
-use Rattle.std.proofs.Common.{◌≡◌, ◌+◌, Option, None, Some, ℕ, IsNone, sym, ap, subst, ◌∙◌}
-use Rattle.rec_word.specs.Word.{target_of}
-use Rattle.rec_counts.specs.Counts.{State}
+use Rattle.std.proofs.Common.{◌≡◌, Option, None, Some, sym, ap, subst, ◌∙◌}
 use Rattle.rec_release.specs.declared.at.At.{At}
-use Rattle.rec_release.specs.Release.{Machine, Work, IsAtWork, taken_off, emptied, with_next, took_of, next_of}
+use Rattle.rec_release.specs.Release.{Machine, IsAtWork, next_of}
 use Rattle.rec_release.proofs.Keeping.{took_on, took_last, took_none, work_on, work_last, none_left}
 use Rattle.rec_release.proofs.release.Release.took.Goals as goal
 
