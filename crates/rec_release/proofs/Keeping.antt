@@ -156,3 +156,15 @@ work_last fields a s t k =
     let h : IsHeld (taken_off s t) a = held_off s t a k.held in
     let l : 0 < fields = omega (arith, k.field) in
     work_next fields (emptied (taken_off s t) a.slot) l (ready_emptied (taken_off s t) a.slot h.released (ready_off s t k.ready))
+
+listed_length : (b : Bool) (s : State) (x : ℕ) → length (listed_if b s x).slots ≡ length s.slots
+listed_length true s x = refl
+listed_length false s x = refl
+
+pub emptied_length : (s : State) (x : ℕ) → length (emptied s x).slots ≡ length s.slots
+emptied_length s x = listed_length (slot_at s x).buffered s x
+
+-- the number of slots stays
+pub next_length : (zs : List ℕ) (s : State) → length (without_first zs s).slots ≡ length s.slots
+next_length [] s = refl
+next_length (z ∷ zs) s = length-set s.slots z (record (slot_at s z) { released = true })

@@ -3,3 +3,4 @@ pub mod Moves
 pub mod Places
 pub mod Runs
 pub mod Sweeping
+pub mod Sweeps

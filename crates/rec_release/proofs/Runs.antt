@@ -8,7 +8,7 @@ use Rattle.rec_counts.specs.Counts.{State}
 use Rattle.rec_counts.proofs.Times.{times-nil}
 use Rattle.rec_release.specs.declared.at.At.{At}
 use Rattle.rec_release.specs.Release.{Work, taken_off, emptied, first_of, without_first, with_next, took_of, started_of, IsReady}
-use Rattle.rec_release.specs.Released.{Released, HasReleased, taken_in, exchanged}
+use Rattle.rec_release.specs.Released.{Released, HasReleased, places_from, taken_in, exchanged}
 use Rattle.rec_release.proofs.Keeping.{took_on, took_last, took_none}
 use Rattle.rec_release.proofs.Moves.{taken_on, emptied_on, next_on}
 use Rattle.rec_release.proofs.Places.{places_step, leading-nil}
@@ -130,3 +130,15 @@ whole_release fields before words f k =
     let w : Work = with_next fields before in
     let c : Came fields before (taken_in w words) (take (length (exchanged w words)) words) (exchanged w words) = came_by words fields before w [] [] (came_first fields before f k) in
     (c.slots, subst (λ (v : Work). Released fields before v.machine.at v.counts (take (length (exchanged w words)) words) (exchanged w words) c.slots) (sym c.is) c.law)
+
+-- a release that began, as its call tells
+pub begun_whole : (fields : ℕ) (before : State) → 0 < fields → IsReady before → (slots : List ℕ) × Released fields before (first_of before.zeros) (without_first before.zeros before) [] [] slots
+begun_whole fields before f k = let c = came_first fields before f k in (c.slots, subst (λ (v : Work). Released fields before v.machine.at v.counts [] [] c.slots) (sym c.is) c.law)
+
+-- one word more, as its call tells
+pub more_whole : (fields : ℕ) (before : State) (a : At) (after : State) (words from slots : List ℕ) (word : ℕ) (v : Work) → a.field < fields → v ≡ took_of (at_work fields (Some a) after) word → Released fields before (Some a) after words from slots →
+    (more : List ℕ) × Released fields before v.machine.at v.counts (words ++ word ∷ []) (from ++ take 1 (places_from fields a.slot a.field)) more
+more_whole fields before a after words from slots word v l e r =
+    let c = came_more fields before a after words from slots word l r in
+    let p : take 1 (places_from fields a.slot a.field) ≡ place_of a.slot a.field fields ∷ [] = ap (take 1) (places_step fields a.slot a.field l) in
+    (c.slots, rw (p, e) (subst (λ (u : Work). Released fields before u.machine.at u.counts (words ++ word ∷ []) (from ++ place_of a.slot a.field fields ∷ []) c.slots) (sym c.is) c.law))

@@ -19,6 +19,6 @@ mod release;
 mod sweep;
 
 pub use at::At;
-pub use laws::release_is_whole;
+pub use laws::{release_is_whole, sweep_is_whole};
 pub use release::Release;
 pub use sweep::Sweep;

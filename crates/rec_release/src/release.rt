@@ -1,9 +1,10 @@
-ghost use Rattle.std.specs.Prelude.{◌≡◌, ◌<◌, ◌↔◌, [], None, length, IfSome, IsNone, IsSome};
+ghost use Rattle.std.specs.Prelude.{◌≡◌, ◌<◌, ◌↔◌, ◌++◌, ◌∷◌, ℕ, List, [], None, length, IfSome, IsNone, IsSome};
 ghost use Rattle.rec_word.specs.Word.{target_of};
-ghost use Rattle.rec_counts.specs.Counts.{slot_at};
+ghost use Rattle.rec_counts.specs.Counts.{State, slot_at};
 ghost use Rattle.rec_counts.specs.Lists.{times};
 ghost use Rattle.rec_counts.specs.Rest.{AreZeros};
 ghost use Rattle.rec_release.specs.Release.{IsAtWork, IsReady, emptied, first_of, next_of, started_of, taken_off, took_of, without_first};
+ghost use Rattle.rec_release.specs.Released.{Released, place_due};
 
 use crate::at::At;
 use rec_counts::Counts;
@@ -45,7 +46,11 @@ impl Release {
 
         ensures started { record { machine = self.new; counts = counts.new } ≡ started_of self.old counts.old }
         ensures kept { IsAtWork self.new counts.new }
+        ensures slots { length counts.new.slots ≡ length counts.old.slots }
         ensures done { IsNone (next_of self.new) → counts.new.zeros ≡ [] }
+
+        // Nothing is exchanged yet.
+        ensures whole { (slots : List ℕ) × Released self.new.fields counts.old self.new.at counts.new [] [] slots }
     {
         self.at = release_next(counts);
     }
@@ -68,7 +73,11 @@ impl Release {
 
         ensures took { record { machine = self.new; counts = counts.new } ≡ took_of (record { machine = self.old; counts = counts.old }) word }
         ensures kept { IsAtWork self.new counts.new }
+        ensures slots { length counts.new.slots ≡ length counts.old.slots }
         ensures done { IsNone (next_of self.new) → counts.new.zeros ≡ [] }
+
+        // One word more came out of one place more, whatever this release took in before.
+        ensures whole { (before : State) (words from slots : List ℕ) → Released self.old.fields before self.old.at counts.old words from slots → (more : List ℕ) × Released self.new.fields before self.new.at counts.new (words ++ word ∷ []) (from ++ place_due self.old) more }
     {
         let Some(at) = self.at else {
             return;
