@@ -5,13 +5,13 @@ use Rattle.std.proofs.lemmas.Bool.{cases_lt, false≢true, cond-true, cond-false
 use Rattle.std.proofs.lemmas.Bool.Decides.{eqb_tells}
 use Rattle.rec_word.specs.Word.{target_of}
 use Rattle.rec_counts.specs.declared.slot.Slot.{Slot}
-use Rattle.rec_counts.specs.Counts.{State, slot_at, with_slot}
+use Rattle.rec_counts.specs.Counts.{State, opened, slot_at, with_slot}
 use Rattle.rec_counts.specs.Lists.{one, times}
 use Rattle.rec_counts.specs.Rest.{KeepsRest, AreZeros}
 use Rattle.rec_counts.specs.Slot.{absent}
 use Rattle.rec_counts.proofs.Decrementing.{rest_same, rest_decremented, zeros_kept}
 use Rattle.rec_counts.proofs.Keeping.{field_kept}
-use Rattle.rec_counts.proofs.Times.{times-cons, times_push, one-same}
+use Rattle.rec_counts.proofs.Times.{times-nil, times-cons, times_push, one-same}
 use Rattle.rec_release.specs.declared.at.At.{At}
 use Rattle.rec_release.specs.Release.{taken_off, listed_if, emptied, first_of, without_first, with_next, op_at, next_of, took_of, IsReady, IsHeld, IsAtWork}
 
@@ -78,7 +78,7 @@ first_zero s z zs e k =
       in_range = in_range_unreleased s z u;
       none = k.zeros.none z (omega (arith, n));
       unreleased = u;
-      unlisted = elim (cases_lt 0 (times z s.free)) [ | inl l ↦ absurd (false≢true (sym u ∙ k.free z l)) | inr l ↦ omega (arith, l) ];
+      unlisted = elim (cases_lt 0 (times z s.free)) [ inl l ↦ absurd (false≢true (sym u ∙ k.free z l)) | inr l ↦ omega (arith, l) ];
       once = omega (arith, n, k.zeros.once z);
     }
 
@@ -168,3 +168,14 @@ emptied_length s x = listed_length (slot_at s x).buffered s x
 pub next_length : (zs : List ℕ) (s : State) → length (without_first zs s).slots ≡ length s.slots
 next_length [] s = refl
 next_length (z ∷ zs) s = length-set s.slots z (record (slot_at s z) { released = true })
+
+-- at opening there are no zeros, and nothing is in the free list
+pub ready_opened : (slots first : ℕ) → IsReady (opened slots first)
+ready_opened slots first = record {
+  zeros = record {
+    once = λ x. omega (arith, times-nil x);
+    none = λ x h. absurd (omega (arith, h, times-nil x));
+    unreleased = λ x h. absurd (omega (arith, h, times-nil x));
+  };
+  free = λ x h. absurd (omega (arith, h, times-nil x));
+}

@@ -37,11 +37,13 @@ off_zeros s (Some y) = let f : ZerosFrom s y = zeros_from s y in (f.more, f.zero
 -- a slot that is not released was not released by this release, and is not the one at work
 not_yet : {fields : ℕ} {before : State} {a : At} {after : State} {words from slots : List ℕ} → Released fields before (Some a) after words from slots → (x : ℕ) → (slot_at after x).released ≡ false → (times x slots ≡ 0) × (one (eqb x a.slot) ≡ 0)
 not_yet {a = a} {after = after} r x u =
-    let n : one (slot_at after x).released ≡ 0 = ap one u in
-    (omega (arith, n, r.released x), elim (eqb_tells x a.slot) [
-      | inl q ↦ absurd (false≢true (sym u ∙ ap (λ z. (slot_at after z).released) q.1 ∙ r.held.released))
-      | inr q ↦ ap one q.0
-    ])
+    let n : one (slot_at after x).released ≡ 0 = ap one u in (
+      omega (arith, n, r.released x),
+      elim (eqb_tells x a.slot) [
+        | inl q ↦ absurd (false≢true (sym u ∙ ap (λ z. (slot_at after z).released) q.1 ∙ r.held.released))
+        | inr q ↦ ap one q.0
+      ],
+    )
 
 -- a field was exchanged, and what came out is taken off
 pub taken_on : (fields : ℕ) (before : State) (a : At) (after : State) (words from slots : List ℕ) (word : ℕ) → a.field < fields → Released fields before (Some a) after words from slots →
@@ -113,29 +115,31 @@ next_if : (zs : List ℕ) (fields : ℕ) (before after : State) (words from slot
 next_if [] fields before after words from slots e f r = (slots, r)
 next_if (z ∷ zs) fields before after words from slots e f r =
     let first : FirstZero after z zs = first_zero after z zs e r.ready in
-    let w = next_work fields after (z ∷ zs) e f r.ready in
-    (slots ++ z ∷ [], record {
-      places = ap (λ ps. ps ++ places_from fields z 0) (sym (append-nil from) ∙ r.places) ∙ flat_map_more (λ slot. places_from fields slot 0) [] slots z;
-      each = r.each;
-      counts = λ x. field_kept (λ (v : Slot). v.count) after.slots z (record (slot_at after z) { released = true }) refl x ∙ r.counts x;
-      zeros = (r.zeros.0, append_assoc slots (z ∷ []) zs ∙ ap (λ ys. slots ++ ys) (sym e) ∙ r.zeros.1);
-      released = λ x. elim (eqb_tells x z) [
-        | inl q ↦ let now : one (slot_at (with_slot after z (record (slot_at after z) { released = true })) x).released ≡ 1 = ap (λ y. one (slot_at (with_slot after z (record (slot_at after z) { released = true })) y).released) q.1 ∙ ap one (released_first after z first.in_range) in
-            let then : one (slot_at after x).released ≡ 0 = ap (λ y. one (slot_at after y).released) q.1 ∙ ap one first.unreleased in
-            let n : one (eqb x z) ≡ 1 = ap one q.0 in
-            omega (arith, now, then, n, r.released x, times_push x slots z)
-        | inr q ↦ let n : one (eqb x z) ≡ 0 = ap one q.0 in
-            omega (arith, ap one (released_same after z x q.1), n, r.released x, times_push x slots z)
-      ];
-      none = λ x h. field_kept (λ (v : Slot). v.count) after.slots z (record (slot_at after z) { released = true }) refl x ∙ elim (eqb_tells x z) [
-        | inl q ↦ ap (λ y. (slot_at after y).count) q.1 ∙ first.none
-        | inr q ↦ let n : one (eqb x z) ≡ 0 = ap one q.0 in r.none x (omega (arith, h, n, times_push x slots z))
-      ];
-      waiting = λ x b. r.waiting x (sym (field_kept (λ (v : Slot). v.buffered) after.slots z (record (slot_at after z) { released = true }) refl x) ∙ b);
-      free = λ x b. omega (arith, r.free x (sym (field_kept (λ (v : Slot). v.buffered) after.slots z (record (slot_at after z) { released = true }) refl x) ∙ b), times_push x slots z);
-      held = w.held;
-      ready = w.ready;
-    })
+    let w = next_work fields after (z ∷ zs) e f r.ready in (
+      slots ++ z ∷ [],
+      record {
+        places = ap (λ ps. ps ++ places_from fields z 0) (sym (append-nil from) ∙ r.places) ∙ flat_map_more (λ slot. places_from fields slot 0) [] slots z;
+        each = r.each;
+        counts = λ x. field_kept (λ (v : Slot). v.count) after.slots z (record (slot_at after z) { released = true }) refl x ∙ r.counts x;
+        zeros = (r.zeros.0, append_assoc slots (z ∷ []) zs ∙ ap (λ ys. slots ++ ys) (sym e) ∙ r.zeros.1);
+        released = λ x. elim (eqb_tells x z) [
+          | inl q ↦ let now : one (slot_at (with_slot after z (record (slot_at after z) { released = true })) x).released ≡ 1 = ap (λ y. one (slot_at (with_slot after z (record (slot_at after z) { released = true })) y).released) q.1 ∙ ap one (released_first after z first.in_range) in
+              let then : one (slot_at after x).released ≡ 0 = ap (λ y. one (slot_at after y).released) q.1 ∙ ap one first.unreleased in
+              let n : one (eqb x z) ≡ 1 = ap one q.0 in
+              omega (arith, now, then, n, r.released x, times_push x slots z)
+          | inr q ↦ let n : one (eqb x z) ≡ 0 = ap one q.0 in
+              omega (arith, ap one (released_same after z x q.1), n, r.released x, times_push x slots z)
+        ];
+        none = λ x h. field_kept (λ (v : Slot). v.count) after.slots z (record (slot_at after z) { released = true }) refl x ∙ elim (eqb_tells x z) [
+          | inl q ↦ ap (λ y. (slot_at after y).count) q.1 ∙ first.none
+          | inr q ↦ let n : one (eqb x z) ≡ 0 = ap one q.0 in r.none x (omega (arith, h, n, times_push x slots z))
+        ];
+        waiting = λ x b. r.waiting x (sym (field_kept (λ (v : Slot). v.buffered) after.slots z (record (slot_at after z) { released = true }) refl x) ∙ b);
+        free = λ x b. omega (arith, r.free x (sym (field_kept (λ (v : Slot). v.buffered) after.slots z (record (slot_at after z) { released = true }) refl x) ∙ b), times_push x slots z);
+        held = w.held;
+        ready = w.ready;
+      },
+    )
 
 -- the next zero is released, if there is one
 pub next_on : (fields : ℕ) (before after : State) (words from slots : List ℕ) → 0 < fields → Released fields before None after words from slots →

@@ -104,7 +104,7 @@ swept_by (word ∷ words) before after gone o k = at (λ a g p q. swept_by words
         let n : take (length (word ∷ words)) after.free ≡ x ∷ take (length words) (swept after x).free = ap (take (length (word ∷ words))) e ∙ ap (λ f. x ∷ take (length words) f) (sym r) in
         record {
           law = subst (λ (w : Work). Swept before w.counts (gone ++ take (length (word ∷ words)) after.free)) (sym t)
-          (subst (λ g. Swept before (taken_in (at_first (swept after x)) words).counts g) (append_assoc gone (x ∷ []) (take (length words) (swept after x).free) ∙ ap (λ g. gone ++ g) (sym n)) i.law);
+              (subst (λ g. Swept before (taken_in (at_first (swept after x)) words).counts g) (append_assoc gone (x ∷ []) (take (length words) (swept after x).free) ∙ ap (λ g. gone ++ g) (sym n)) i.law);
           order = freed_more (at_first after) word words ∙ ap (λ f. take 1 f ++ freed (took_of (at_first after) word) words) e ∙ ap (λ w. x ∷ freed w words) (took_first after word x rest e) ∙ ap (λ g. x ∷ g) i.order ∙ sym n;
         }
 

@@ -49,15 +49,12 @@ pub record Released (fields : ℕ) (before : State) (at : Option At) (after : St
   -- each field of each released slot is exchanged once, in order
   pub places : from ++ places_left fields at ≡ flat_map (λ slot. places_from fields slot 0) slots
   pub each : length words ≡ length from
-
   -- each reference that came out takes one off its target's count, and nothing else changes a count
   pub counts : (x : ℕ) → (slot_at after x).count ≡ (slot_at before x).count - leading x words
-
   -- the released slots are those which stood in the zeros, at first or later; each is released once, and has no count
   pub zeros : (more : List ℕ) × (slots ++ after.zeros ≡ before.zeros ++ more)
   pub released : (x : ℕ) → one (slot_at after x).released ≡ one (slot_at before x).released + times x slots
   pub none : (x : ℕ) → 0 < times x slots → (slot_at after x).count ≡ 0
-
   -- an emptied slot that is buffered is not put into the free list, every other one is, once
   pub waiting : (x : ℕ) → (slot_at after x).buffered ≡ true → times x after.free ≡ times x before.free
   pub free : (x : ℕ) → (slot_at after x).buffered ≡ false → times x after.free + one (is_at x at) ≡ times x before.free + times x slots

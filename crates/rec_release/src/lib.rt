@@ -17,6 +17,8 @@ mod at;
 mod laws;
 mod release;
 mod sweep;
+#[cfg(test)]
+mod tests;
 
 pub use at::At;
 pub use laws::{release_is_whole, sweep_is_whole};

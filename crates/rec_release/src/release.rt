@@ -32,9 +32,11 @@ impl Model for Release {
 
 impl Release {
     /// A release with no work, over slots with so many fields.
+    #[tactic(auto, unfolding(crate::specs::Release::next_of))]
     pub fn idle(fields: u8) -> Release
         requires { 0 < fields }
-        ensures { result ≡ record { fields = fields; at = None } }
+        ensures idle { result ≡ record { fields = fields; at = None } }
+        ensures none { IsNone (next_of result) }
     {
         Release { fields, at: None }
     }
@@ -96,7 +98,7 @@ impl Release {
 }
 
 // The reference that came out is counted no more.
-fn take_off(counts: &mut Counts, target: Option<u16>)
+pub(crate) fn take_off(counts: &mut Counts, target: Option<u16>)
     requires counted { IfSome target (λ slot. 0 < (slot_at counts.old slot).count) }
     requires zeros { AreZeros counts.old }
     ensures { counts.new ≡ taken_off counts.old target }

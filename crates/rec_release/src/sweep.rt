@@ -21,8 +21,10 @@ impl Model for Sweep {
 
 impl Sweep {
     /// A sweep with no work. How many fields a slot has doesn't matter to it: they are null already.
+    #[tactic(auto, unfolding(crate::specs::Sweep::next_of))]
     pub fn idle(_fields: u8) -> Sweep
-        ensures { result ≡ None }
+        ensures idle { result ≡ None }
+        ensures none { IsNone (next_of result) }
     {
         Sweep { due: None }
     }
@@ -35,6 +37,7 @@ impl Sweep {
 
         ensures started { record { due = self.new; counts = counts.new } ≡ started_of counts.old }
         ensures kept { IsAtWork self.new counts.new }
+        ensures slots { length counts.new.slots ≡ length counts.old.slots }
     {
         self.due = counts.free_list().first().copied();
     }
@@ -57,6 +60,7 @@ impl Sweep {
 
         ensures took { record { due = self.new; counts = counts.new } ≡ took_of (record { due = self.old; counts = counts.old }) _word }
         ensures kept { IsAtWork self.new counts.new }
+        ensures slots { length counts.new.slots ≡ length counts.old.slots }
     {
         counts.rules();
         if let Some(slot) = counts.pop_free() {
