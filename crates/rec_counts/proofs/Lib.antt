@@ -1,3 +1,4 @@
+pub mod Decrementing
 pub mod Empty
 pub mod Keeping
 pub mod Leaving

@@ -2,5 +2,6 @@ pub mod Counts
 pub mod Groups
 pub mod Kept
 pub mod Lists
+pub mod Rest
 pub mod Shelf
 pub mod Slot

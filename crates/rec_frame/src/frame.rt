@@ -36,7 +36,7 @@ impl Frame {
         self.registers[index]
     }
 
-    /// What the registers name, in order.
+    /// What each register names, in order.
     pub fn registers(&self) -> &[Option<u16>]
         ensures { result.now ≡ self.now }
     {

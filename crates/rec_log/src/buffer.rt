@@ -1,6 +1,7 @@
 ghost use Rattle.std.specs.Prelude.{◌≡◌, ◌≤◌, ◌↔◌, ◌∷◌, ◌++◌, [], length, replicate, IsTrue, IfOk, OnOk, OnErr, IsErr};
 
 use crate::{Entry, Full};
+use rec_frame::Frame;
 use std::alloc::{AllocError as NoMemory, Global};
 use std::marker::Model;
 
@@ -65,7 +66,23 @@ impl Buffer {
         self.entries.as_slice()
     }
 
-    /// What the registers named when the buffer was retired; all null before.
+    /// Writes the registers as the snapshot. The entries stay.
+    pub fn retire(&mut self, frame: &Frame)
+        requires { length frame.now ≡ length self.old.snapshot }
+        ensures { self.new ≡ record self.old { snapshot = frame.now } }
+    {
+        self.snapshot.copy_from_slice(frame.registers());
+    }
+
+    /// Empties the entries, and makes the snapshot all null. The capacity stays.
+    pub fn clear(&mut self)
+        ensures { self.new ≡ record self.old { entries = []; snapshot = replicate (length self.old.snapshot) None } }
+    {
+        self.entries.clear();
+        self.snapshot.fill(None);
+    }
+
+    /// What the registers named when the buffer was retired; all null before, and once it was cleared.
     pub fn snapshot(&self) -> &[Option<u16>]
         ensures { result.now ≡ self.now.snapshot }
     {
@@ -94,6 +111,24 @@ mod tests {
         assert_eq!(rt; buffer.push(put), Err(Full));
         assert_eq!(rt; buffer.entries(), [put, born].as_slice());
         assert_eq!(rt; buffer.snapshot(), [None].as_slice());
+        Ok(())
+    }
+
+    #[test]
+    fn is_retired_and_cleared(rt: HostRuntime) -> Result<(), Fail> {
+        let born = Entry::Born { slot: 3 };
+        let mut frame = Frame::open(rt.alloc(), 2)?;
+        frame.set(1, 3);
+        let mut buffer = Buffer::open(rt.alloc(), 1, 2)?;
+        assert_eq!(rt; buffer.push(born), Ok(()));
+        buffer.retire(&frame);
+        assert_eq!(rt; buffer.entries(), [born].as_slice());
+        assert_eq!(rt; buffer.snapshot(), [None, Some(3)].as_slice());
+        buffer.clear();
+        assert!(rt; buffer.entries().is_empty());
+        assert_eq!(rt; buffer.snapshot(), [None, None].as_slice());
+        assert_eq!(rt; buffer.push(born), Ok(()));
+        assert!(rt; buffer.is_full());
         Ok(())
     }
 }

@@ -18,6 +18,10 @@ pub enum Op {
     ClaimHeader(u16, u32),
     /// Load the freed word, which is odd exactly during a sweep.
     LoadFreed,
+    /// Exchange a field of a released slot for 0.
+    ClearField(u32),
+    /// Store 0 in the header of a slot, which is free then.
+    FreeHeader(u16),
 }
 
 impl Op {
@@ -41,6 +45,7 @@ impl Op {
                     found
                 }
             }
+            Op::ClearField(_) | Op::FreeHeader(_) => 0,
         }
     }
 }
@@ -57,5 +62,7 @@ mod tests {
         assert_eq!(rt; Op::ClaimHeader(3, 20).written(0), 21);
         assert_eq!(rt; Op::ClaimHeader(3, 20).written(8), 8);
         assert_eq!(rt; Op::LoadFreed.written(8), 8);
+        assert_eq!(rt; Op::ClearField(3).written(8), 0);
+        assert_eq!(rt; Op::FreeHeader(3).written(8), 0);
     }
 }

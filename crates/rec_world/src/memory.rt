@@ -71,13 +71,13 @@ impl Memory {
         ensures left { self.new ≡ with_cell self.old op (written op result) }
     {
         match op {
-            Op::LoadField(place) | Op::SwapField(place, _) => {
+            Op::LoadField(place) | Op::SwapField(place, _) | Op::ClearField(place) => {
                 let word = &mut self.words[place as usize];
                 let found = *word;
                 *word = op.written(found);
                 found
             }
-            Op::LoadHeader(slot) | Op::ClaimHeader(slot, _) => {
+            Op::LoadHeader(slot) | Op::ClaimHeader(slot, _) | Op::FreeHeader(slot) => {
                 let header = &mut self.headers[usize::from(slot)];
                 let found = *header;
                 *header = op.written(found);

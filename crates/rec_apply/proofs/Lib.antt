@@ -1,0 +1,5 @@
+pub mod Falling
+pub mod Naming
+pub mod Resting
+pub mod Rising
+pub mod Whole

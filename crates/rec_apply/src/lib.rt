@@ -1,0 +1,19 @@
+//! A batch: the collector counts what the mutators logged, in one go and long after they did it.
+//!
+//! The collection of an epoch adds what the logs and snapshots of that epoch refer to, and takes off what those of the epoch
+//! before no longer refer to. So a reference that came and went in between costs nothing but its entries, and no count
+//! falls to zero for a moment only.
+//! The rule that this crate keeps: each true count afterwards is the old one, plus the slot's occurrences among new targets
+//! and snapshots, less those among replaced targets, births and snapshots.
+//! The layer above may use that formula, and that colours, roots and zeros are those of all increments in order, followed
+//! by all decrements in order.
+//! That increments of an epoch are applied with the decrements of the epoch before is the idea of the paper "Java without
+//! the Coffee Breaks" (2001); that a batch is applied whole is this project's profile (`docs/PROFILE.md`).
+#![tactic(auto)]
+
+mod batch;
+mod decrements;
+mod increments;
+mod targets;
+
+pub use batch::apply;

@@ -1,0 +1,26 @@
+//! What an entry names.
+ghost use Rattle.std.specs.Prelude.{◌≡◌};
+ghost use Rattle.rec_apply.specs.Targets.{new_target, old_target};
+
+use rec_log::Entry;
+use rec_word::target;
+
+/// What the entry refers to from now on.
+pub(crate) fn new_target(entry: Entry) -> Option<u16>
+    ensures { result ≡ new_target entry }
+{
+    match entry {
+        Entry::Put { new, .. } => target(new),
+        Entry::Born { .. } => None,
+    }
+}
+
+/// What the entry no longer refers to.
+pub(crate) fn old_target(entry: Entry) -> Option<u16>
+    ensures { result ≡ old_target entry }
+{
+    match entry {
+        Entry::Put { old, .. } => target(old),
+        Entry::Born { slot } => Some(slot),
+    }
+}

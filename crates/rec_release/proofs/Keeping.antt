@@ -1,0 +1,181 @@
+-- What a release keeps of the counts, move by move.
+use Rattle.std.proofs.Common.{◌≡◌, ◌≢◌, ℕ, ◌+◌, ◌<◌, ◌≤◌, Bool, true, false, eqb, ltb, Option, None, Some, IsNone, List, [], ◌∷◌, length, refl, arith, sym, ◌∙◌, ap, subst, inl, inr}
+use Rattle.std.proofs.lemmas.List.{length-set, get_or-set_same, get_or-set_other, get_or_past}
+use Rattle.std.proofs.lemmas.Bool.{cases_lt, false≢true, cond-true, cond-false, lt-ltb, le-ltb}
+use Rattle.std.proofs.lemmas.Bool.Decides.{eqb_tells}
+use Rattle.rec_word.specs.Word.{target_of}
+use Rattle.rec_counts.specs.declared.slot.Slot.{Slot}
+use Rattle.rec_counts.specs.Counts.{State, opened, slot_at, with_slot}
+use Rattle.rec_counts.specs.Lists.{one, times}
+use Rattle.rec_counts.specs.Rest.{KeepsRest, AreZeros}
+use Rattle.rec_counts.specs.Slot.{absent}
+use Rattle.rec_counts.proofs.Decrementing.{rest_same, rest_decremented, zeros_kept}
+use Rattle.rec_counts.proofs.Keeping.{field_kept}
+use Rattle.rec_counts.proofs.Times.{times-nil, times-cons, times_push, one-same}
+use Rattle.rec_release.specs.declared.at.At.{At}
+use Rattle.rec_release.specs.Release.{taken_off, listed_if, emptied, first_of, without_first, with_next, op_at, next_of, took_of, IsReady, IsHeld, IsAtWork}
+
+pub rest_off : (s : State) (t : Option ℕ) → KeepsRest s (taken_off s t)
+rest_off s None = rest_same s
+rest_off s (Some x) = rest_decremented s x
+
+zeros_off : (s : State) (t : Option ℕ) → AreZeros s → AreZeros (taken_off s t)
+zeros_off s None k = k
+zeros_off s (Some x) k = zeros_kept s x k
+
+-- a reference is taken off
+pub ready_off : (s : State) (t : Option ℕ) → IsReady s → IsReady (taken_off s t)
+ready_off s t k = record {
+  zeros = zeros_off s t k.zeros;
+  free = λ x h. (rest_off s t).released x ∙ k.free x (subst (λ f. 0 < times x f) (rest_off s t).free h);
+}
+
+pub held_off : (s : State) (t : Option ℕ) (a : At) → IsHeld s a → IsHeld (taken_off s t) a
+held_off s t a h = record {
+  in_range = omega (arith, h.in_range, (rest_off s t).slots);
+  released = (rest_off s t).released a.slot ∙ h.released;
+  unlisted = ap (times a.slot) (rest_off s t).free ∙ h.unlisted;
+}
+
+pub listed_ready : (b : Bool) (s : State) (x : ℕ) → (slot_at s x).released ≡ true → IsReady s → IsReady (listed_if b s x)
+listed_ready true s x r k = k
+listed_ready false s x r k = record {
+  zeros = record { once = k.zeros.once; none = k.zeros.none; unreleased = k.zeros.unreleased };
+  free = λ y h. elim (eqb_tells y x) [
+    | inl q ↦ ap (λ z. (slot_at s z).released) q.1 ∙ r
+    | inr q ↦ let n : one (eqb y x) ≡ 0 = ap one q.0 in k.free y (omega (arith, h, n, times_push y s.free x))
+  ];
+}
+
+-- a slot is emptied
+pub ready_emptied : (s : State) (x : ℕ) → (slot_at s x).released ≡ true → IsReady s → IsReady (emptied s x)
+ready_emptied s x r k = listed_ready (slot_at s x).buffered s x r k
+
+-- a slot that is not released is there
+pub in_range_unreleased : (s : State) (x : ℕ) → (slot_at s x).released ≡ false → x < length s.slots
+in_range_unreleased s x r =
+    elim (cases_lt x (length s.slots)) [
+      | inl l ↦ l
+      | inr l ↦ absurd (false≢true (sym r ∙ ap (λ (w : Slot). w.released) (get_or_past s.slots x absent l)))
+    ]
+
+released_slot : State → ℕ → Slot
+released_slot s z = record (slot_at s z) { released = true }
+
+-- what is known of the first of the zeros, and of the others
+pub record FirstZero (s : State) (z : ℕ) (zs : List ℕ) : Type 0 where
+  pub in_range : z < length s.slots
+  pub none : (slot_at s z).count ≡ 0
+  pub unreleased : (slot_at s z).released ≡ false
+  pub unlisted : times z s.free ≡ 0
+  pub once : times z zs ≡ 0
+
+pub first_zero : (s : State) (z : ℕ) (zs : List ℕ) → s.zeros ≡ z ∷ zs → IsReady s → FirstZero s z zs
+first_zero s z zs e k =
+    let n : times z s.zeros ≡ 1 + times z zs = ap (times z) e ∙ times-cons z z zs ∙ ap (λ m. m + times z zs) (one-same z) in
+    let u : (slot_at s z).released ≡ false = k.zeros.unreleased z (omega (arith, n)) in
+    record {
+      in_range = in_range_unreleased s z u;
+      none = k.zeros.none z (omega (arith, n));
+      unreleased = u;
+      unlisted = elim (cases_lt 0 (times z s.free)) [ inl l ↦ absurd (false≢true (sym u ∙ k.free z l)) | inr l ↦ omega (arith, l) ];
+      once = omega (arith, n, k.zeros.once z);
+    }
+
+-- whether a slot is released, after the first of the zeros was
+pub released_same : (s : State) (z : ℕ) (y : ℕ) → y ≢ z → (slot_at (with_slot s z (record (slot_at s z) { released = true })) y).released ≡ (slot_at s y).released
+released_same s z y ne = ap (λ (w : Slot). w.released) (get_or-set_other s.slots z y _ absent ne)
+
+pub released_first : (s : State) (z : ℕ) → z < length s.slots → (slot_at (with_slot s z (record (slot_at s z) { released = true })) z).released ≡ true
+released_first s z l = ap (λ (w : Slot). w.released) (get_or-set_same s.slots z _ absent l)
+
+pub next_work : (fields : ℕ) (s : State) (zs : List ℕ) → s.zeros ≡ zs → 0 < fields → IsReady s → IsAtWork (record { fields = fields; at = first_of zs }) (without_first zs s)
+next_work fields s [] e f k = record { field = tt; held = tt; ready = k }
+next_work fields s (z ∷ zs) e f k =
+    let first : FirstZero s z zs = first_zero s z zs e k in
+    let n : (y : ℕ) → times y s.zeros ≡ one (eqb y z) + times y zs = λ y. ap (times y) e ∙ times-cons y z zs in
+    record {
+      field = f;
+      held = record {
+        in_range = omega (arith, first.in_range, length-set s.slots z (record (slot_at s z) { released = true }));
+        released = released_first s z first.in_range;
+        unlisted = first.unlisted;
+      };
+      ready = record {
+        zeros = record {
+          once = λ y. omega (arith, n y, k.zeros.once y);
+          none = λ y h. field_kept (λ (w : Slot). w.count) s.slots z (record (slot_at s z) { released = true }) refl y ∙ k.zeros.none y (omega (arith, h, n y));
+          unreleased = λ y h. elim (eqb_tells y z) [
+            | inl q ↦ absurd (omega (arith, h, ap (λ w. times w zs) q.1, first.once))
+            | inr q ↦ released_same s z y q.1 ∙ k.zeros.unreleased y (omega (arith, h, n y))
+          ];
+        };
+        free = λ y h. elim (eqb_tells y z) [
+          | inl q ↦ absurd (omega (arith, h, ap (λ w. times w s.free) q.1, first.unlisted))
+          | inr q ↦ released_same s z y q.1 ∙ k.free y h
+        ];
+      };
+    }
+
+-- the next zero is released
+pub work_next : (fields : ℕ) (s : State) → 0 < fields → IsReady s → IsAtWork (with_next fields s).machine (with_next fields s).counts
+work_next fields s f k = next_work fields s s.zeros refl f k
+
+-- where nothing is due, no zero is left
+none_in : (fields : ℕ) (zs : List ℕ) (s : State) → s.zeros ≡ zs → IsNone (op_at fields (first_of zs)) → (without_first zs s).zeros ≡ []
+none_in fields [] s e n = e
+none_in fields (z ∷ zs) s e n = absurd (false≢true (sym n))
+
+pub none_left : (fields : ℕ) (s : State) → IsNone (next_of (with_next fields s).machine) → (with_next fields s).counts.zeros ≡ []
+unfolding next_of
+none_left fields s n = none_in fields s.zeros s refl n
+
+-- what is learnt, where another field of the slot is left
+pub took_on : (fields : ℕ) (a : At) (s : State) (word : ℕ) → a.field + 1 < fields → took_of (record { machine = record { fields = fields; at = Some a }; counts = s }) word ≡ record { machine = record { fields = fields; at = Some (record { slot = a.slot; field = a.field + 1 }) }; counts = taken_off s (target_of word) }
+unfolding took_of
+took_on fields a s word l = cond-true (ltb (a.field + 1) fields) _ _ (lt-ltb (a.field + 1) fields l)
+
+-- where it was the last
+pub took_last : (fields : ℕ) (a : At) (s : State) (word : ℕ) → fields ≤ a.field + 1 → took_of (record { machine = record { fields = fields; at = Some a }; counts = s }) word ≡ with_next fields (emptied (taken_off s (target_of word)) a.slot)
+unfolding took_of
+took_last fields a s word l = cond-false (ltb (a.field + 1) fields) _ _ (le-ltb (a.field + 1) fields l)
+
+-- where the work is done
+pub took_none : (fields : ℕ) (s : State) (word : ℕ) → took_of (record { machine = record { fields = fields; at = None }; counts = s }) word ≡ record { machine = record { fields = fields; at = None }; counts = s }
+unfolding took_of
+took_none fields s word = refl
+
+-- the counts are as the release left them, after each of these
+pub work_on : (fields : ℕ) (a : At) (s : State) (t : Option ℕ) → IsAtWork (record { fields = fields; at = Some a }) s → a.field + 1 < fields → IsAtWork (record { fields = fields; at = Some (record { slot = a.slot; field = a.field + 1 }) }) (taken_off s t)
+work_on fields a s t k l =
+    let h : IsHeld (taken_off s t) a = held_off s t a k.held in
+    record { field = l; held = record { in_range = h.in_range; released = h.released; unlisted = h.unlisted }; ready = ready_off s t k.ready }
+
+pub work_last : (fields : ℕ) (a : At) (s : State) (t : Option ℕ) → IsAtWork (record { fields = fields; at = Some a }) s → IsAtWork (with_next fields (emptied (taken_off s t) a.slot)).machine (with_next fields (emptied (taken_off s t) a.slot)).counts
+work_last fields a s t k =
+    let h : IsHeld (taken_off s t) a = held_off s t a k.held in
+    let l : 0 < fields = omega (arith, k.field) in
+    work_next fields (emptied (taken_off s t) a.slot) l (ready_emptied (taken_off s t) a.slot h.released (ready_off s t k.ready))
+
+listed_length : (b : Bool) (s : State) (x : ℕ) → length (listed_if b s x).slots ≡ length s.slots
+listed_length true s x = refl
+listed_length false s x = refl
+
+pub emptied_length : (s : State) (x : ℕ) → length (emptied s x).slots ≡ length s.slots
+emptied_length s x = listed_length (slot_at s x).buffered s x
+
+-- the number of slots stays
+pub next_length : (zs : List ℕ) (s : State) → length (without_first zs s).slots ≡ length s.slots
+next_length [] s = refl
+next_length (z ∷ zs) s = length-set s.slots z (record (slot_at s z) { released = true })
+
+-- at opening there are no zeros, and nothing is in the free list
+pub ready_opened : (slots first : ℕ) → IsReady (opened slots first)
+ready_opened slots first = record {
+  zeros = record {
+    once = λ x. omega (arith, times-nil x);
+    none = λ x h. absurd (omega (arith, h, times-nil x));
+    unreleased = λ x h. absurd (omega (arith, h, times-nil x));
+  };
+  free = λ x h. absurd (omega (arith, h, times-nil x));
+}

@@ -1,0 +1,6 @@
+pub mod Keeping
+pub mod Moves
+pub mod Places
+pub mod Runs
+pub mod Sweeping
+pub mod Sweeps

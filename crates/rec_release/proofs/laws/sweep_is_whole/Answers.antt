@@ -1,0 +1,5 @@
+use Rattle.rec_release.proofs.Sweeps.{whole_sweep}
+use Rattle.rec_release.proofs.laws.sweep_is_whole.Goals as goal
+
+pub returns : goal.returns
+returns c = whole_sweep

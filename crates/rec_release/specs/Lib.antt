@@ -1,0 +1,3 @@
+pub mod Release
+pub mod Released
+pub mod Sweep

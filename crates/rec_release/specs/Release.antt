@@ -1,0 +1,87 @@
+-- A release: what comes next, and what is learnt of the word that came out.
+use Rattle.std.specs.Prelude.{◌≡◌, ℕ, ◌+◌, ◌<◌, Bool, true, false, nat_lt, if◌then◌else◌, Option, None, Some, IfSome, List, [], ◌∷◌, ◌++◌, length}
+use Rattle.rec_word.specs.Place.{place_of}
+use Rattle.rec_word.specs.Word.{target_of}
+use Rattle.rec_word.specs.declared.op.Op.{Op}
+use Rattle.rec_word.specs.declared.op.Op.TheVariants.{ClearField}
+use Rattle.rec_counts.specs.Counts.{State, slot_at, with_slot, decremented}
+use Rattle.rec_counts.specs.Lists.{times}
+use Rattle.rec_counts.specs.Rest.{AreZeros}
+use Rattle.rec_release.specs.declared.at.At.{At}
+
+-- how many fields a slot has, and the field that is exchanged next
+pub record Machine : Type 0 where
+  pub fields : ℕ
+  pub at : Option At
+
+-- a release, with the counts that it works on
+pub record Work : Type 0 where
+  pub machine : Machine
+  pub counts : State
+
+-- what comes next: the field's word becomes 0
+abbrev pub op_at : ℕ → Option At → Option Op
+op_at fields None = None
+op_at fields (Some a) = Some (ClearField (place_of a.slot a.field fields))
+
+unfoldable pub next_of : Machine → Option Op
+next_of m = op_at m.fields m.at
+
+-- the reference that came out is counted no more; null counts for nothing
+abbrev pub taken_off : State → Option ℕ → State
+taken_off s None = s
+taken_off s (Some x) = decremented s x
+
+abbrev pub listed_if : Bool → State → ℕ → State
+listed_if true s x = s
+listed_if false s x = record s { free = s.free ++ x ∷ [] }
+
+-- an emptied slot goes to the free list; one that is buffered waits until its buffer drops it
+abbrev pub emptied : State → ℕ → State
+emptied s x = listed_if (slot_at s x).buffered s x
+
+abbrev pub first_of : List ℕ → Option At
+first_of [] = None
+first_of (z ∷ zs) = Some (record { slot = z; field = 0 })
+
+abbrev pub without_first : List ℕ → State → State
+without_first [] s = s
+without_first (z ∷ zs) s = record (with_slot s z (record (slot_at s z) { released = true })) { zeros = zs }
+
+-- the first of the zeros, if there is one, leaves them and is released, and its first field comes next
+abbrev pub with_next : ℕ → State → Work
+with_next fields s = record { machine = record { fields = fields; at = first_of s.zeros }; counts = without_first s.zeros s }
+
+-- the next field of the same slot comes next; after its last one the slot is emptied, and the next zero is released
+abbrev pub gone_on : ℕ → At → State → Work
+gone_on fields a s =
+    if nat_lt (a.field + 1) fields then record { machine = record { fields = fields; at = Some (record { slot = a.slot; field = a.field + 1 }) }; counts = s } else with_next fields (emptied s a.slot)
+
+abbrev pub took_at : Work → (word : ℕ) → Option At → Work
+took_at w word None = w
+took_at w word (Some a) = gone_on w.machine.fields a (taken_off w.counts (target_of word))
+
+-- what is learnt
+unfoldable pub took_of : Work → (word : ℕ) → Work
+took_of w word = took_at w word w.machine.at
+
+-- a release begins
+unfoldable pub started_of : Machine → State → Work
+started_of m s = with_next m.fields s
+
+-- the zeros are zeros, and what the free list has is released
+pub record IsReady (s : State) : Type 0 where
+  pub zeros : AreZeros s
+  pub free : (x : ℕ) → 0 < times x s.free → (slot_at s x).released ≡ true
+
+-- the slot at work is released, and not in the free list yet
+pub record IsHeld (s : State) (a : At) : Type 0 where
+  pub in_range : a.slot < length s.slots
+  pub released : (slot_at s a.slot).released ≡ true
+  pub unlisted : times a.slot s.free ≡ 0
+
+-- the counts are as the release left them
+pub record IsAtWork (m : Machine) (s : State) : Type 0 where
+  pub field : IfSome m.at (λ (a : At). a.field < m.fields)
+  pub held : IfSome m.at (IsHeld s)
+  pub ready : IsReady s

@@ -1,0 +1,69 @@
+-- A whole release: what it exchanged, and what became of the counts and the free list.
+use Rattle.std.specs.Prelude.{◌≡◌, ℕ, ◌+◌, ◌-◌, ◌<◌, ◌==◌, Bool, true, false, Option, None, Some, IfSome, List, [], ◌∷◌, ◌++◌, map, take, length, flat_map, fold, count_by}
+use Rattle.std.specs.List.{range_with_len}
+use Rattle.rec_word.specs.Place.{place_of}
+use Rattle.rec_word.specs.Word.{target_of}
+use Rattle.rec_counts.specs.Counts.{State, slot_at}
+use Rattle.rec_counts.specs.Lists.{one, times}
+use Rattle.rec_release.specs.declared.at.At.{At}
+use Rattle.rec_release.specs.Release.{Machine, Work, IsReady, IsHeld, took_of, started_of}
+
+-- the places of a slot's fields in order, from this field on
+abbrev pub places_from : (fields slot field : ℕ) → List ℕ
+places_from fields slot field = map (λ f. place_of slot f fields) (range_with_len field (fields - field))
+
+-- the places of the slot at work that are still to be exchanged
+abbrev pub places_left : ℕ → Option At → List ℕ
+places_left fields None = []
+places_left fields (Some a) = places_from fields a.slot a.field
+
+-- the slot is the one at work
+abbrev pub is_at : ℕ → Option At → Bool
+is_at x None = false
+is_at x (Some a) = x == a.slot
+
+-- the word leads to this slot
+abbrev pub leads_to : ℕ → Option ℕ → Bool
+leads_to x None = false
+leads_to x (Some y) = x == y
+
+-- how many of the words lead to the slot
+unfoldable pub leading : ℕ → (words : List ℕ) → ℕ
+leading x words = count_by (λ word. leads_to x (target_of word)) words
+
+-- a release after it took in these words, one after another
+unfoldable pub taken_in : Work → (words : List ℕ) → Work
+taken_in w words = fold took_of w words
+
+abbrev pub place_due : Machine → List ℕ
+place_due m = take 1 (places_left m.fields m.at)
+
+-- the places that it exchanged for these words; where the work is done, none is exchanged
+unfoldable pub exchanged : Work → (words : List ℕ) → List ℕ
+exchanged w [] = []
+exchanged w (word ∷ words) = place_due w.machine ++ exchanged (took_of w word) words
+
+-- From the counts `before`, a release came to `after`, with the field `at` due next. `words` came out of the places
+-- `from`, in order, and `slots` were released, in order.
+pub record Released (fields : ℕ) (before : State) (at : Option At) (after : State) (words from slots : List ℕ) : Type 0 where
+  -- each field of each released slot is exchanged once, in order
+  pub places : from ++ places_left fields at ≡ flat_map (λ slot. places_from fields slot 0) slots
+  pub each : length words ≡ length from
+  -- each reference that came out takes one off its target's count, and nothing else changes a count
+  pub counts : (x : ℕ) → (slot_at after x).count ≡ (slot_at before x).count - leading x words
+  -- the released slots are those which stood in the zeros, at first or later; each is released once, and has no count
+  pub zeros : (more : List ℕ) × (slots ++ after.zeros ≡ before.zeros ++ more)
+  pub released : (x : ℕ) → one (slot_at after x).released ≡ one (slot_at before x).released + times x slots
+  pub none : (x : ℕ) → 0 < times x slots → (slot_at after x).count ≡ 0
+  -- an emptied slot that is buffered is not put into the free list, every other one is, once
+  pub waiting : (x : ℕ) → (slot_at after x).buffered ≡ true → times x after.free ≡ times x before.free
+  pub free : (x : ℕ) → (slot_at after x).buffered ≡ false → times x after.free + one (is_at x at) ≡ times x before.free + times x slots
+  pub held : IfSome at (IsHeld after)
+  pub ready : IsReady after
+
+-- what a release of so many fields a slot made of the counts, while it took in these words as long as there was work
+abbrev pub HasReleased : (fields : ℕ) (before : State) (words : List ℕ) → Type 0
+HasReleased fields before words =
+    let begun : Work = started_of (record { fields = fields; at = None }) before in
+    let places : List ℕ = exchanged begun words in
+    (slots : List ℕ) × Released fields before (taken_in begun words).machine.at (taken_in begun words).counts (take (length places) words) places slots

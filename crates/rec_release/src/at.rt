@@ -1,0 +1,8 @@
+/// The field that is exchanged next.
+#[derive(Clone, Copy, Debug, PartialEq, Eq)]
+pub struct At {
+    /// The released slot at work.
+    pub slot: u16,
+    /// Its field, from 0.
+    pub field: u8,
+}

@@ -1,0 +1,21 @@
+//! What follows from the definitions alone, each law as the contract of a function that does nothing.
+
+ghost use Rattle.std.specs.Prelude.{ℕ, ◌<◌, List, length};
+ghost use Rattle.rec_counts.specs.Counts.{State};
+ghost use Rattle.rec_release.specs.Release.{IsReady};
+ghost use Rattle.rec_release.specs.Released.{HasReleased};
+ghost use Rattle.rec_counts.specs.Lists.{EachOnce};
+ghost use Rattle.rec_release.specs.Sweep.{HasSwept};
+
+/// Whatever words it is given, a release exchanges each field of each slot that it releases once and in order, takes one
+/// off the count of each target that came out, releases none but zeros, and lists an emptied slot exactly where it is in
+/// no buffer.
+pub fn release_is_whole()
+    ensures { (fields : ℕ) (before : State) (words : List ℕ) → 0 < fields → IsReady before → HasReleased fields before words }
+{}
+
+/// A sweep frees the headers of the free list from its front, one for each word that it is given. Each swept slot is as at
+/// opening, with one reference, and all else is as it was.
+pub fn sweep_is_whole()
+    ensures { (before : State) (words : List ℕ) → EachOnce (length before.slots) before.free → HasSwept before words }
+{}

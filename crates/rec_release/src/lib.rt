@@ -1,0 +1,26 @@
+//! The collector's release of slots that nothing holds, and the sweep that frees them, as machines: each names one operation
+//! on a shared word at a time, and learns the word that was found.
+//!
+//! A slot whose count came to zero is released: each of its fields is exchanged for null, and what came out has one reference
+//! less, so that slots behind it may come to zero in turn. An emptied slot goes to the free list, and the sweep stores 0 in
+//! its header.
+//! The rule that this crate keeps: each field of each released slot is exchanged once; each reference that came out takes
+//! one off its target's true count, and nothing else changes a true count; a slot that stands in a buffer when it is emptied
+//! stays out of the free list; a swept slot has the count of its next birth, which is one.
+//! The layer above may use that `next`, `start` and `took` are exactly `next_of`, `started_of` and `took_of` of `specs/`,
+//! and the laws, which are the contracts of the functions in `laws`.
+//! Releasing by count with a flag for what is buffered is that of "Java without the Coffee Breaks" (2001); one exchange a
+//! turn and the count of one for a free slot are this project's profile (`docs/PROFILE.md`).
+#![tactic(auto)]
+
+mod at;
+mod laws;
+mod release;
+mod sweep;
+#[cfg(test)]
+mod tests;
+
+pub use at::At;
+pub use laws::{release_is_whole, sweep_is_whole};
+pub use release::Release;
+pub use sweep::Sweep;

@@ -1,0 +1,131 @@
+ghost use Rattle.std.specs.Prelude.{◌≡◌, ◌<◌, ◌↔◌, ◌++◌, ◌∷◌, ℕ, List, [], None, length, IfSome, IsNone, IsSome};
+ghost use Rattle.rec_word.specs.Word.{target_of};
+ghost use Rattle.rec_counts.specs.Counts.{State, slot_at};
+ghost use Rattle.rec_counts.specs.Lists.{times};
+ghost use Rattle.rec_counts.specs.Rest.{AreZeros};
+ghost use Rattle.rec_release.specs.Release.{IsAtWork, IsReady, emptied, first_of, next_of, started_of, taken_off, took_of, without_first};
+ghost use Rattle.rec_release.specs.Released.{Released, place_due};
+
+use crate::at::At;
+use rec_counts::Counts;
+use rec_word::{Op, place, target};
+use std::marker::Model;
+
+/// The release of the zeros. It takes no memory.
+#[derive(Debug, Drop)]
+pub struct Release {
+    fields: u8,
+    at: Option<At>,
+}
+
+impl Model for Release {
+    ghost use Rattle.std.specs.Prelude.{◌<◌, IfSome};
+    ghost use Rattle.rec_release.specs.declared.at.At.{At};
+    ghost use Rattle.rec_release.specs.Release.{Machine};
+
+    ghost Value = { Machine };
+
+    ghost view = { λ release. record { fields = release.fields; at = release.at } };
+
+    ghost invariant = { λ release. (0 < release.fields) × IfSome release.at (λ (a : At). a.field < release.fields) };
+}
+
+impl Release {
+    /// A release with no work, over slots with so many fields.
+    #[tactic(auto, unfolding(crate::specs::Release::next_of))]
+    pub fn idle(fields: u8) -> Release
+        requires { 0 < fields }
+        ensures idle { result ≡ record { fields = fields; at = None } }
+        ensures none { IsNone (next_of result) }
+    {
+        Release { fields, at: None }
+    }
+
+    /// Begins to release the zeros: the first of them is released.
+    pub fn start(&mut self, counts: &mut Counts)
+        requires idle { IsNone (next_of self.old) }
+        requires ready { IsReady counts.old }
+
+        ensures started { record { machine = self.new; counts = counts.new } ≡ started_of self.old counts.old }
+        ensures kept { IsAtWork self.new counts.new }
+        ensures slots { length counts.new.slots ≡ length counts.old.slots }
+        ensures done { IsNone (next_of self.new) → counts.new.zeros ≡ [] }
+
+        // Nothing is exchanged yet.
+        ensures whole { (slots : List ℕ) × Released self.new.fields counts.old self.new.at counts.new [] [] slots }
+    {
+        self.at = release_next(counts);
+    }
+
+    /// What comes next: a field of a released slot is exchanged for 0. None where the work is done.
+    #[tactic(auto, unfolding(crate::specs::Release::next_of))]
+    pub fn next(&self) -> Option<Op>
+        ensures next { result ≡ next_of self.now }
+        ensures none { IsNone result ↔ IsNone self.now.at }
+    {
+        let at = self.at?;
+        Some(Op::ClearField(place(at.slot, at.field, self.fields)))
+    }
+
+    /// Learns the word that came out of the field: its target has one reference less.
+    pub fn took(&mut self, counts: &mut Counts, word: u64)
+        requires busy { IsSome (next_of self.old) }
+        requires kept { IsAtWork self.old counts.old }
+        requires counted { IfSome (target_of word) (λ slot. 0 < (slot_at counts.old slot).count) }
+
+        ensures took { record { machine = self.new; counts = counts.new } ≡ took_of (record { machine = self.old; counts = counts.old }) word }
+        ensures kept { IsAtWork self.new counts.new }
+        ensures slots { length counts.new.slots ≡ length counts.old.slots }
+        ensures done { IsNone (next_of self.new) → counts.new.zeros ≡ [] }
+
+        // One word more came out of one place more, whatever this release took in before.
+        ensures whole { (before : State) (words from slots : List ℕ) → Released self.old.fields before self.old.at counts.old words from slots → (more : List ℕ) × Released self.new.fields before self.new.at counts.new (words ++ word ∷ []) (from ++ place_due self.old) more }
+    {
+        let Some(at) = self.at else {
+            return;
+        };
+        take_off(counts, target(word));
+        if at.field + 1 < self.fields {
+            self.at = Some(At {
+                slot: at.slot,
+                field: at.field + 1,
+            });
+        } else {
+            empty(counts, at.slot);
+            self.at = release_next(counts);
+        }
+    }
+}
+
+// The reference that came out is counted no more.
+pub(crate) fn take_off(counts: &mut Counts, target: Option<u16>)
+    requires counted { IfSome target (λ slot. 0 < (slot_at counts.old slot).count) }
+    requires zeros { AreZeros counts.old }
+    ensures { counts.new ≡ taken_off counts.old target }
+{
+    if let Some(slot) = target {
+        counts.decrement(slot);
+    }
+}
+
+// An emptied slot goes to the free list, if it is in no buffer.
+fn empty(counts: &mut Counts, slot: u16)
+    requires in_range { slot < length counts.old.slots }
+    requires unlisted { times slot counts.old.free ≡ 0 }
+    ensures { counts.new ≡ emptied counts.old slot }
+{
+    if !counts.buffered(slot) {
+        counts.push_free(slot);
+    }
+}
+
+// The first of the zeros is released, and its first field is due; None where there are no zeros.
+fn release_next(counts: &mut Counts) -> Option<At>
+    ensures first { result ≡ first_of counts.old.zeros }
+    ensures released { counts.new ≡ without_first counts.old.zeros counts.old }
+{
+    counts.rules();
+    let slot = counts.pop_zero()?;
+    counts.release(slot);
+    Some(At { slot, field: 0 })
+}

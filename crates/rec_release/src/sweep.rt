@@ -1,0 +1,71 @@
+ghost use Rattle.std.specs.Prelude.{◌≡◌, ◌<◌, ◌↔◌, None, length, IsNone, IsSome};
+ghost use Rattle.rec_release.specs.Sweep.{AreUnbuffered, IsAtWork, next_of, started_of, took_of};
+
+use rec_counts::Counts;
+use rec_word::Op;
+use std::marker::Model;
+
+/// The sweep of the free list. It takes no memory.
+#[derive(Debug, Drop)]
+pub struct Sweep {
+    due: Option<u16>,
+}
+
+impl Model for Sweep {
+    ghost use Rattle.std.specs.Prelude.{ℕ, Option};
+
+    ghost Value = { Option ℕ };
+
+    ghost view = { λ sweep. sweep.due };
+}
+
+impl Sweep {
+    /// A sweep with no work. How many fields a slot has doesn't matter to it: they are null already.
+    #[tactic(auto, unfolding(crate::specs::Sweep::next_of))]
+    pub fn idle(_fields: u8) -> Sweep
+        ensures idle { result ≡ None }
+        ensures none { IsNone (next_of result) }
+    {
+        Sweep { due: None }
+    }
+
+    /// Begins to sweep the free list.
+    #[tactic(auto, unfolding(crate::specs::Sweep::started_of, crate::specs::Sweep::next_of))]
+    pub fn start(&mut self, counts: &mut Counts)
+        requires idle { IsNone (next_of self.old) }
+        requires unbuffered { AreUnbuffered counts.old }
+
+        ensures started { record { due = self.new; counts = counts.new } ≡ started_of counts.old }
+        ensures kept { IsAtWork self.new counts.new }
+        ensures slots { length counts.new.slots ≡ length counts.old.slots }
+    {
+        self.due = counts.free_list().first().copied();
+    }
+
+    /// What comes next: 0 is stored in a header. None where the work is done.
+    #[tactic(auto, unfolding(crate::specs::Sweep::next_of))]
+    pub fn next(&self) -> Option<Op>
+        ensures next { result ≡ next_of self.now }
+        ensures none { IsNone result ↔ IsNone self.now }
+    {
+        let slot = self.due?;
+        Some(Op::FreeHeader(slot))
+    }
+
+    /// Learns that the header is freed: the slot leaves the free list, and is as at opening.
+    #[tactic(auto, unfolding(crate::specs::Sweep::took_of, crate::specs::Sweep::next_of))]
+    pub fn took(&mut self, counts: &mut Counts, _word: u64)
+        requires busy { IsSome (next_of self.old) }
+        requires kept { IsAtWork self.old counts.old }
+
+        ensures took { record { due = self.new; counts = counts.new } ≡ took_of (record { due = self.old; counts = counts.old }) _word }
+        ensures kept { IsAtWork self.new counts.new }
+        ensures slots { length counts.new.slots ≡ length counts.old.slots }
+    {
+        counts.rules();
+        if let Some(slot) = counts.pop_free() {
+            counts.swept(slot);
+        }
+        self.due = counts.free_list().first().copied();
+    }
+}
