@@ -3,7 +3,7 @@ use Rattle.std.proofs.Common.{◌≡◌, ℕ, zero, suc, ◌+◌, ◌-◌, ◌*�
 use Rattle.std.specs.List.{flat_map}
 use Rattle.std.specs.Prelude.{slice_range}
 use Rattle.std.proofs.lemmas.Grind.{flat_map-append}
-use Rattle.std.proofs.lemmas.List.{take_more, take_all, length-map, length-take, length-take-le, length-replicate, length-append}
+use Rattle.std.proofs.lemmas.List.{get_or-map, take_more, take_all, length-map, length-take, length-take-le, length-replicate, length-append}
 use Rattle.std.proofs.lemmas.List.Sums.{count_by-le-length}
 use Rattle.std.proofs.Math.Nat.{mul-le-mul_right}
 use Rattle.std.proofs.lemmas.List.Elements.{All-get_or}
@@ -12,7 +12,9 @@ use Rattle.rec_model.specs.Reach.{named, is_in}
 use Rattle.rec_model.specs.Numbering.{times}
 use Rattle.rec_model.specs.Heap.{roots, registers_of}
 use Rattle.rec_model.specs.Sight.{targets_of, words_of, Reaches}
-use Rattle.rec_world.specs.World.{State, sight, IsWorld}
+use Rattle.rec_mutator.specs.Private.{Private}
+use Rattle.rec_world.specs.State.{nobody}
+use Rattle.rec_world.specs.World.{State, sight, mutator, IsWorld}
 use Rattle.rec_world.specs.Numbering.{Numbered}
 use Rattle.rec_model.proofs.Members.{is_in-left, is_in-right, of_all, distinct_below}
 use Rattle.rec_model.proofs.Numbered.{numbering_distinct}
@@ -38,15 +40,25 @@ pub record AreFew (w : State) : Type 0 where
   pub few : w.config.mutators ≤ 8
   pub short : (i : ℕ) → i < length (rows_of w) → length (get_or (rows_of w) i []) ≤ 64
 
+-- the registers of one mutator
+own_row : (w : State) (i : ℕ) → i < length w.mutators → get_or (rows_of w) i [] ≡ (mutator w (i + 1)).registers
+own_row w i within =
+    let same : i + 1 - 1 ≡ i = omega arith in
+    get_or-map (λ (p : Private). p.registers) w.mutators i nobody [] within ∙ ap (λ k. (get_or w.mutators k nobody).registers) (sym same)
+
 pub few_registers : (w : State) → IsWorld w → AreFew w
-few_registers w world = record {
-  all = world.mutators;
-  few = rw world.config.one_mutator (omega arith);
-  short = λ i within.
-      let size : length (get_or (rows_of w) i []) ≡ w.config.registers = world.registers i [] within in
-      let few : w.config.registers ≤ 64 = world.config.few_registers in
-      omega arith;
-}
+few_registers w world =
+    let all : length (rows_of w) ≡ length w.mutators = length-map w.mutators (λ (p : Private). p.registers) in
+    record {
+      all = all ∙ world.kept.mutators;
+      few = world.kept.config.few_mutators;
+      short = λ i within.
+          let there : i < length w.mutators = rw all at within in
+          let count : length w.mutators ≡ w.config.mutators = world.kept.mutators in
+          let size : length (get_or (rows_of w) i []) ≡ w.config.registers = ap length (own_row w i there) ∙ (world.kept.own (i + 1) (omega arith, omega arith)).registers in
+          let few : w.config.registers ≤ 64 = world.kept.config.few_registers in
+          omega arith;
+    }
 
 -- an object's words are as many as its fields, at most
 length-words_of : (w : State) (slot : ℕ) → length (words_of (sight w) slot) ≤ w.config.fields
@@ -118,9 +130,9 @@ names_registers w registers t counts world within read counted =
     let there : t < length (rows_of w) = rw few.all within in
     record {
       there = λ slot h.
-          let below : slot < length w.headers = (names_sound (sight w) world.sound).registers slot (in_roots (rows_of w) t slot there (rw own at h)) in
+          let below : slot < length w.headers = (names_sound (sight w) world.kept.sound).registers slot (in_roots (rows_of w) t slot there (rw own at h)) in
           let size : length counts ≡ w.config.slots = counted.slots in
-          let all : length w.headers ≡ w.config.slots = world.headers in
+          let all : length w.headers ≡ w.config.slots = world.kept.headers in
           omega arith;
       room = λ slot.
           let count : get_or counts slot 0 ≡ times slot (roots (take t (rows_of w))) = counted.each slot in
@@ -164,8 +176,8 @@ counted_all w t counts world all counted =
 -- a listed slot is one of the slots, and its words stand among all
 pub listed_below : (w : State) (fields : ℕ) (n : Numbered) (i : ℕ) → IsWorld w → IsNumbered w fields n → i < length n.list → get_or n.list i 0 < w.config.slots
 listed_below w fields n i world numbered within =
-    let below : get_or n.list i 0 < length w.headers = reached_below (sight w) (length w.headers) (names_sound (sight w) world.sound) (get_or n.list i 0) (All-get_or (Reaches (sight w)) n.list i 0 within numbered.numbers.reached) in
-    let all : length w.headers ≡ w.config.slots = world.headers in
+    let below : get_or n.list i 0 < length w.headers = reached_below (sight w) (length w.headers) (names_sound (sight w) world.kept.sound) (get_or n.list i 0) (All-get_or (Reaches (sight w)) n.list i 0 within numbered.numbers.reached) in
+    let all : length w.headers ≡ w.config.slots = world.kept.headers in
     omega arith
 
 few_roots : (w : State) → IsWorld w → length (roots (rows_of w)) ≤ 512
@@ -181,17 +193,17 @@ few_roots w world =
 pub few_listed : (w : State) (fields : ℕ) (n : Numbered) → IsWorld w → IsNumbered w fields n → length n.list ≤ w.config.slots
 few_listed w fields n world numbered =
     distinct_below n.list w.config.slots (numbering_distinct (roots (rows_of w)) (targets_of (sight w)) n.list numbered.numbers) (λ slot h.
-    let below : slot < length w.headers = reached_below (sight w) (length w.headers) (names_sound (sight w) world.sound) slot (of_all (Reaches (sight w)) n.list numbered.numbers.reached slot h) in
-    let all : length w.headers ≡ w.config.slots = world.headers in
+    let below : slot < length w.headers = reached_below (sight w) (length w.headers) (names_sound (sight w) world.kept.sound) slot (of_all (Reaches (sight w)) n.list numbered.numbers.reached slot h) in
+    let all : length w.headers ≡ w.config.slots = world.kept.headers in
     omega arith)
 
 -- the fields of the next slot can be counted, and are counted next
 pub names_fields : (w : State) (fields : ℕ) (n : Numbered) (i slot : ℕ) (counts : List ℕ) → IsWorld w → IsNumbered w fields n → AreHolders w (take i n.list) counts → i < length n.list → Names (map target_of (words_of (sight w) slot)) counts
 names_fields w fields n i slot counts world numbered held within = record {
   there = λ s h.
-      let below : s < length w.headers = (names_sound (sight w) world.sound).fields slot s h in
+      let below : s < length w.headers = (names_sound (sight w) world.kept.sound).fields slot s h in
       let size : length counts ≡ w.config.slots = held.slots in
-      let all : length w.headers ≡ w.config.slots = world.headers in
+      let all : length w.headers ≡ w.config.slots = world.kept.headers in
       omega arith;
   room = λ s.
       let list : List ℕ = n.list in
@@ -206,8 +218,8 @@ names_fields w fields n i slot counts world numbered held within = record {
       let same : length (map target_of (words_of (sight w) slot)) ≡ length (words_of (sight w) slot) = length-map (words_of (sight w) slot) target_of in
       let own_few : length (words_of (sight w) slot) ≤ fields_of = length-words_of w slot in
       let all_listed : length list ≤ w.config.slots = few_listed w fields n world numbered in
-      let slots_few : w.config.slots ≤ 65535 = world.config.few_slots in
-      let fields_few : fields_of ≤ 16 = world.config.few_fields in
+      let slots_few : w.config.slots ≤ 65535 = world.kept.config.few_slots in
+      let fields_few : fields_of ≤ 16 = world.kept.config.few_fields in
       let product : (i + 1) * fields_of ≤ 65535 * fields_of = mul-le-mul_right fields_of (omega arith) in
       let total : get_or counts s 0 + length (map target_of (words_of (sight w) slot)) ≤ 512 + (i + 1) * fields_of = omega arith in
       omega arith;
@@ -238,7 +250,7 @@ pub words_end : (w : State) (fields : ℕ) (n : Numbered) (i slot wide again : �
 words_end w fields n i slot wide again words list world numbered same within at e f all =
     let below : slot < w.config.slots = rw (at, same) (listed_below w fields n i world numbered (rw same at within)) in
     let end : slot * w.config.fields + w.config.fields ≤ w.config.slots * w.config.fields = fields_end slot w.config.slots w.config.fields below in
-    let size : length w.words ≡ w.config.slots * w.config.fields = world.sound.places ∙ ap (λ k. k * w.config.fields) world.headers in
+    let size : length w.words ≡ w.config.slots * w.config.fields = world.kept.sound.places ∙ ap (λ k. k * w.config.fields) world.kept.headers in
     rw (e, f, numbered.same_fields, all, size) end
 
 -- the words that were read are the slot's
