@@ -11,13 +11,14 @@ use Rattle.rec_play.specs.declared.actor.Actor.TheVariants.{Mutator, Collector}
 abbrev pub generator_of : (seed : ℕ) → Lcg
 generator_of seed = started 64 multiplier_64 seed (increment_of 64 1)
 
--- the mutator, if it has commands left
-abbrev pub if_unfinished : ℕ × ℕ → Option ℕ
-if_unfinished (t, left) = if left == 0 then None else Some t
+-- the mutator, where it has commands left
+abbrev pub if_unfinished : (t left : ℕ) → Option ℕ
+if_unfinished t zero = None
+if_unfinished t (suc left) = Some t
 
 -- the mutators with commands left, in rising order, where so many are left to each; mutators are numbered from 1
 abbrev pub unfinished : (left : List ℕ) → List ℕ
-unfinished left = filter_map if_unfinished (enumerate_from 1 left)
+unfinished left = filter_map (λ p. if_unfinished p.0 p.1) (enumerate_from 1 left)
 
 -- a mutator where there is one, else the collector
 abbrev pub mutator_or_collector : Option ℕ → Actor

@@ -1,4 +1,4 @@
-ghost use Rattle.std.specs.Prelude.{◌≡◌, ◌+◌, ◌-◌, ◌%◌, ◌∷◌, [], ◌<◌, ◌≤◌, Some, length, take, IsNone, IfSome, slice_get, slice_index};
+ghost use Rattle.std.specs.Prelude.{◌≡◌, ◌+◌, ◌-◌, ◌%◌, ◌∷◌, [], ◌<◌, ◌≤◌, Some, length, take, IsNone, IfSome, slice_get, slice_index, slice_set};
 ghost use Rattle.rand_pcg.specs.Pcg.{pcg32};
 ghost use Rattle.rec_play.specs.Playing.{generator_of, unfinished, to_come};
 
@@ -69,10 +69,7 @@ impl Schedule {
             return Some(Actor::Collector);
         }
         let at = unfinished_at(&self.left[..self.mutators], place);
-        self.left[at] -= 1;
-        if self.left[at] == 0 {
-            self.unfinished -= 1;
-        }
+        self.take(at);
         Some(Actor::Mutator(at as u8 + 1))
     }
 
@@ -89,6 +86,19 @@ impl Schedule {
         }
         self.turns -= 1;
         self.generator.next_word() % (self.unfinished + 1)
+    }
+
+    // Takes one command off those that a mutator, by its index, has left.
+    fn take(&mut self, at: usize)
+        requires few { at < 8 }
+        requires there { at < length self.old.left }
+        requires some { 0 < slice_index self.old.left at }
+        ensures { self.new ≡ record self.old { left = slice_set self.old.left at (slice_index self.old.left at - 1) } }
+    {
+        self.left[at] -= 1;
+        if self.left[at] == 0 {
+            self.unfinished -= 1;
+        }
     }
 }
 
