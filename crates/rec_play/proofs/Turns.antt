@@ -17,25 +17,30 @@ drawn_none zero left generator none = refl
 drawn_none (suc turns) left generator none = rw (eq-eqb (length (unfinished left)) 0 none) refl
 
 -- nor where all turns are drawn
-drawn_nothing : (turns : ℕ) (left : List ℕ) (generator : Lcg) → turns ≡ 0 → drawn_from turns left generator ≡ []
+pub drawn_nothing : (turns : ℕ) (left : List ℕ) (generator : Lcg) → turns ≡ 0 → drawn_from turns left generator ≡ []
 unfolding drawn_from
 drawn_nothing zero left generator none = refl
 drawn_nothing (suc turns) left generator none = absurd (omega (arith, none))
 
 -- a number is zero or more
-zero_or_more : (n : ℕ) → (n ≡ 0) ⊎ (0 < n)
+pub zero_or_more : (n : ℕ) → (n ≡ 0) ⊎ (0 < n)
 zero_or_more zero = inl refl
 zero_or_more (suc n) = inr (omega arith)
 
 -- else a word says whose the next turn is
+pub drawn_one : (turns : ℕ) (left : List ℕ) (generator : Lcg) → 0 < length (unfinished left)
+    → drawn_from (suc turns) left generator
+    ≡ actor_drawn (unfinished left) (pcg32 generator).0 ∷ drawn_from turns (left_after_turn left (actor_drawn (unfinished left) (pcg32 generator).0)) (pcg32 generator).1
+unfolding drawn_from
+drawn_one turns left generator busy = rw (ne_eqb (length (unfinished left)) 0 (λ none. omega arith)) refl
+
 pub drawn_next : (turns : ℕ) (left : List ℕ) (generator : Lcg) (actor : Actor) → 0 < turns → 0 < length (unfinished left) → actor_drawn (unfinished left) (pcg32 generator).0 ≡ actor
     → drawn_from turns left generator ≡ actor ∷ drawn_from (turns - 1) (left_after_turn left actor) (pcg32 generator).1
-unfolding drawn_from
 drawn_next zero left generator actor some busy is = absurd (omega (arith, some))
 drawn_next (suc turns) left generator actor some busy is =
     let less : turns ≡ suc turns - 1 = omega arith in
-    rw (ne_eqb (length (unfinished left)) 0 (λ none. omega arith))
-    (ap (λ a. a ∷ drawn_from turns (left_after_turn left a) (pcg32 generator).1) is ∙ ap (λ n. actor ∷ drawn_from n (left_after_turn left actor) (pcg32 generator).1) less)
+    drawn_one turns left generator busy
+    ∙ ap (λ a. a ∷ drawn_from turns (left_after_turn left a) (pcg32 generator).1) is ∙ ap (λ n. actor ∷ drawn_from n (left_after_turn left actor) (pcg32 generator).1) less
 
 -- nothing comes where no mutator is unfinished
 pub ended : (rest : Rest) → length (unfinished rest.left) ≡ 0 → to_come rest ≡ []
