@@ -1,3 +1,4 @@
-pub mod Playing
-pub mod Played
+pub mod Commanded
 pub mod Inside
+pub mod Played
+pub mod Playing

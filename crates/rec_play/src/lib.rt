@@ -11,6 +11,8 @@
 #![tactic(auto)]
 
 mod actor;
+mod playing;
 mod schedule;
 
 pub use actor::Actor;
+pub use playing::play;
