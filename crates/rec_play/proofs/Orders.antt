@@ -1,11 +1,11 @@
 -- Whom an order names how often.
 use Rattle.std.proofs.Common.{◌≡◌, ◌⊎◌, inl, inr, ℕ, ◌+◌, ◌-◌, ◌*◌, ◌%◌, ◌<◌, ◌≤◌, ◌==◌, zero, suc, List, [], ◌∷◌, ◌++◌, Option, None, Some, true, false, if◌then◌else◌, slice_index_or, slice_set, length, map, replicate, refl, sym, ap, subst, ◌∙◌, arith}
-use Rattle.std.specs.List.{slice_get, filter_map, flat_map, enumerate_from}
+use Rattle.std.specs.List.{slice_get, filter_map, flat_map, enumerate_from, sum}
 use Rattle.std.proofs.lemmas.Bool.{eq-eqb, ne_eqb, cases_eq}
-use Rattle.std.proofs.lemmas.List.{get_or-set_same, get_or-set_other}
+use Rattle.std.proofs.lemmas.List.{get_or-set_same, get_or-set_other, length-replicate, length-append}
 use Rattle.std.proofs.lemmas.List.Elements.{filter_map-append}
 use Rattle.std.proofs.lemmas.List.Folds.{sum_by-replicate}
-use Rattle.std.proofs.lemmas.List.Sums.{sum_by-append, sum_by-cons}
+use Rattle.std.proofs.lemmas.List.Sums.{sum_by-append, sum_by-cons, sum_by-set}
 use Rattle.rand_pcg.specs.Lcg.{Lcg}
 use Rattle.rand_pcg.specs.Pcg.{pcg32}
 use Rattle.rec_model.specs.Numbering.{times}
@@ -145,6 +145,63 @@ order_names lengths seed turns =
           let first : times 0 (mutators_of (drawn lengths seed turns)) ≡ 0 = drawn_nobody turns lengths (generator_of seed) in
           times-append 0 (mutators_of (drawn lengths seed turns)) (by_mutator left) ∙ omega arith;
     }
+
+-- a turn takes one command off all that is left
+turn_sum : (left : List ℕ) (s : ℕ) → IsDue 1 left s → sum (left_after_turn left (Mutator s)) + 1 ≡ sum left
+turn_sum left s due =
+    let index : due.index ≡ s - 1 = omega (arith, due.is) in
+    let there : s - 1 < length left = subst (λ n. n < length left) index due.there in
+    let some : 0 < slice_index_or left (s - 1) 0 = subst (λ n. 0 < slice_index_or left n 0) index due.some in
+    let set : sum (left_after_turn left (Mutator s)) + slice_index_or left (s - 1) 0 ≡ sum left + (slice_index_or left (s - 1) 0 - 1) = sum_by-set (λ n. n) left (s - 1) (slice_index_or left (s - 1) 0 - 1) 0 there in
+    omega arith
+
+length_first : (left : List ℕ) (actor : Actor) (actors : List Actor) → ((s : ℕ) → actor ≡ Mutator s → IsDue 1 left s)
+    → length (mutators_of actors) + sum (left_after (left_after_turn left actor) actors) ≡ sum (left_after_turn left actor)
+    → length (mutators_of (actor ∷ actors)) + sum (left_after left (actor ∷ actors)) ≡ sum left
+length_first left Collector actors due later = later
+length_first left (Mutator s) actors due later = let less : sum (left_after_turn left (Mutator s)) + 1 ≡ sum left = turn_sum left s (due s refl) in omega arith
+
+-- as many turns as commands are drawn or left
+drawn_length : (turns : ℕ) (left : List ℕ) (generator : Lcg) → length (mutators_of (drawn_from turns left generator)) + sum (left_after left (drawn_from turns left generator)) ≡ sum left
+drawn_length zero left generator = rw (drawn_nothing 0 left generator refl) (omega arith)
+drawn_length (suc turns) left generator =
+    let actor : Actor = actor_drawn (unfinished left) (pcg32 generator).0 in
+    elim (zero_or_more (length (unfinished left))) [
+      | inl none ↦ rw (drawn_none (suc turns) left generator none) (omega arith)
+      | inr busy ↦ rw (drawn_one turns left generator busy)
+          (length_first left actor (drawn_from turns (left_after_turn left actor) (pcg32 generator).1) (drawn_is_due left (pcg32 generator).0)
+            (drawn_length turns (left_after_turn left actor) (pcg32 generator).1))
+    ]
+
+rest_length : (k : ℕ) (left : List ℕ) → length (rest_from k left) ≡ sum left
+rest_length k [] = refl
+rest_length k (n ∷ left) =
+    let later : length (rest_from (k + 1) left) ≡ sum left = rest_length (k + 1) left in
+    let own : length (replicate n k) ≡ n = length-replicate n k in
+    let all : length (replicate n k ++ rest_from (k + 1) left) ≡ length (replicate n k) + length (rest_from (k + 1) left) = length-append (replicate n k) (rest_from (k + 1) left) in
+    let sums : sum (n ∷ left) ≡ n + sum left = sum_by-cons (λ m. m) n left in
+    omega arith
+
+-- an order is as long as there are commands
+pub order_length : (lengths : List ℕ) (seed turns : ℕ) → length (order lengths seed turns) ≡ sum lengths
+order_length lengths seed turns =
+    let left : List ℕ = left_after lengths (drawn lengths seed turns) in
+    let first : length (mutators_of (drawn lengths seed turns)) + sum left ≡ sum lengths = drawn_length turns lengths (generator_of seed) in
+    let last : length (by_mutator left) ≡ sum left = rest_length 1 left in
+    length-append (mutators_of (drawn lengths seed turns)) (by_mutator left) ∙ omega arith
+
+-- no more turns are drawn than told
+few_drawn : (turns : ℕ) (left : List ℕ) (generator : Lcg) → length (drawn_from turns left generator) ≤ turns
+few_drawn zero left generator = rw (drawn_nothing 0 left generator refl) (omega arith)
+few_drawn (suc turns) left generator =
+    let actor : Actor = actor_drawn (unfinished left) (pcg32 generator).0 in
+    elim (zero_or_more (length (unfinished left))) [
+      | inl none ↦ rw (drawn_none (suc turns) left generator none) (omega arith)
+      | inr busy ↦ rw (drawn_one turns left generator busy) (let later : length (drawn_from turns (left_after_turn left actor) (pcg32 generator).1) ≤ turns = few_drawn turns (left_after_turn left actor) (pcg32 generator).1 in omega arith)
+    ]
+
+pub drawn_few : (lengths : List ℕ) (seed turns : ℕ) → length (drawn lengths seed turns) ≤ turns
+drawn_few lengths seed turns = few_drawn turns lengths (generator_of seed)
 
 -- the mutators of their own turns
 mutators_of-map : (ts : List ℕ) → mutators_of (map (λ t. Mutator t) ts) ≡ ts
