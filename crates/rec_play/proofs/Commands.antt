@@ -1,6 +1,5 @@
 -- What the clauses of the heap's command and of a script's readers give to the played run.
-use Rattle.std.proofs.Common.{◌≡◌, ℕ, ◌+◌, ◌<◌, ◌≤◌, List, length, refl, sym, ap, subst, ◌∙◌, arith}
-use Rattle.rec_world.specs.Config.{IsConfig}
+use Rattle.std.proofs.Common.{◌≡◌, ℕ, ◌<◌, ◌≤◌, length, sym, ap, ◌∙◌, arith}
 use Rattle.rec_world.specs.World.{State, IsWorld}
 use Rattle.rec_world.specs.declared.config.Config.{Config}
 use Rattle.rec_script.specs.Script.{Contents, IsScript}

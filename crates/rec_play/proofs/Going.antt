@@ -1,20 +1,17 @@
 -- The played run so far, and one turn more.
-use Rattle.std.proofs.Common.{◌≡◌, inl, inr, ℕ, ◌+◌, ◌-◌, ◌<◌, ◌≤◌, ◌==◌, zero, suc, List, [], ◌∷◌, ◌++◌, Option, None, Some, Bool, true, false, if◌then◌else◌, slice_index_or, slice_set, length, map, max, take, replicate, refl, sym, ap, subst, ◌∙◌, arith}
+use Rattle.std.proofs.Common.{◌≡◌, inl, inr, ℕ, ◌+◌, ◌-◌, ◌<◌, ◌≤◌, ◌==◌, zero, suc, List, [], ◌∷◌, ◌++◌, None, Some, Bool, true, false, if◌then◌else◌, slice_index_or, length, map, take, refl, sym, ap, subst, ◌∙◌, arith}
 use Rattle.std.specs.List.{slice_get, filter_map, cons_option}
-use Rattle.std.specs.Option.{IfSome}
 use Rattle.std.proofs.lemmas.Bool.{false≢true, cases_eq, cases_lt}
-use Rattle.std.proofs.lemmas.List.{length_push, length-set, length-map, length-replicate, map_push, take_all, take_more, get_or-set_same, get_or-set_other, get_or-map, get_or_past, ext_get_or}
+use Rattle.std.proofs.lemmas.List.{length_push, length-set, map_push, take_more, get_or-set_same, get_or-set_other, get_or_past}
 use Rattle.std.proofs.lemmas.List.Elements.{filter_map-append}
 use Rattle.std.proofs.lemmas.List.Sums.{sum_by-cons}
 use Rattle.std.proofs.lemmas.Option.{get_or_from_slice_get, slice_get_within}
 use Rattle.rec_word.specs.Word.{stamp_of}
 use Rattle.rec_word.specs.declared.stamps.Stamp.{Stamp}
 use Rattle.rec_model.specs.declared.command.Cmd.{Cmd}
-use Rattle.rec_model.specs.declared.answer.Answer.TheVariants as answers
 use Rattle.rec_model.specs.declared.told.Told.{Told}
-use Rattle.rec_model.specs.Heap.{Heap}
 use Rattle.rec_model.specs.Asking.{asked, IsTold}
-use Rattle.rec_model.specs.LegalOrder.{after_answer, actor, actors, Line, Event, Limits, Moment, is_birth, AnswerFits, IsLegalOrder, word_left, left_by, line_by}
+use Rattle.rec_model.specs.LegalOrder.{after_answer, actor, actors, Line, Event, Moment, is_birth, AnswerFits, IsLegalOrder, word_left, left_by, line_by}
 use Rattle.rec_model.specs.LegalOrder.Event.{Answers, Frees, Marks}
 use Rattle.rec_model.specs.Numbering.{times}
 use Rattle.rec_model.specs.Sight.{StandsFor}
@@ -24,7 +21,7 @@ use Rattle.rec_world.specs.World.{opened, State, sight, is_plain, entries_of}
 use Rattle.rec_world.specs.declared.config.Config.{Config}
 use Rattle.rec_script.specs.Script.{Contents}
 use Rattle.rec_play.specs.Commanded.{Commanded, log_length}
-use Rattle.rec_play.specs.Played.{config_of, longest, log_room, limits_of, opening_moment, last_moment, is_answer, lengths_of, IsPlayed}
+use Rattle.rec_play.specs.Played.{config_of, longest, log_room, limits_of, opening_moment, last_moment, is_answer}
 use Rattle.rec_play.proofs.Entries.{births, grows_at, allocation_fits, entry_of_word, one_entry, stamp_is}
 
 -- a word's entry is in its writer's log
@@ -89,11 +86,11 @@ commands_more script lines t cmd told one_each next so i = elim (cases_eq (t - 1
       let last : slice_index_or cmds (length mine) cmd ≡ cmd = get_or_from_slice_get cmds (length mine) cmd cmd next.is in
       subst P same
       (ap (map (λ (line : Line). line.0)) here
-        ∙ map_push (λ (line : Line). line.0) mine (cmd, told)
-        ∙ ap (λ (xs : List Cmd). xs ++ cmd ∷ []) (so (t - 1))
-        ∙ ap (λ (c : Cmd). take (length mine) cmds ++ c ∷ []) (sym last)
-        ∙ sym (take_more cmds (length mine) cmd more)
-        ∙ ap (λ n. take n cmds) (sym (ap length here ∙ length_push mine (cmd, told))))
+      ∙ map_push (λ (line : Line). line.0) mine (cmd, told)
+      ∙ ap (λ (xs : List Cmd). xs ++ cmd ∷ []) (so (t - 1))
+      ∙ ap (λ (c : Cmd). take (length mine) cmds ++ c ∷ []) (sym last)
+      ∙ sym (take_more cmds (length mine) cmd more)
+      ∙ ap (λ n. take n cmds) (sym (ap length here ∙ length_push mine (cmd, told))))
   | inr other ↦
       let stays : own (with_line lines t (cmd, told)) i ≡ own lines i = lines_stay lines t i (cmd, told) other in
       ap (map (λ (line : Line). line.0)) stays ∙ so i ∙ ap (λ (xs : List Line). take (length xs) (commands_at script i)) (sym stays)

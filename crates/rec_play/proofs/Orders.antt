@@ -1,6 +1,6 @@
 -- Whom an order names how often.
-use Rattle.std.proofs.Common.{◌≡◌, ◌⊎◌, inl, inr, ℕ, ◌+◌, ◌-◌, ◌*◌, ◌%◌, ◌<◌, ◌≤◌, ◌==◌, zero, suc, List, [], ◌∷◌, ◌++◌, Option, None, Some, true, false, if◌then◌else◌, slice_index_or, slice_set, length, map, replicate, refl, sym, ap, subst, ◌∙◌, arith}
-use Rattle.std.specs.List.{slice_get, filter_map, flat_map, enumerate_from, sum}
+use Rattle.std.proofs.Common.{◌≡◌, inl, inr, ℕ, ◌+◌, ◌-◌, ◌*◌, ◌%◌, ◌<◌, ◌≤◌, ◌==◌, zero, suc, List, [], ◌∷◌, ◌++◌, Option, None, Some, if◌then◌else◌, slice_index_or, slice_set, length, map, replicate, refl, sym, ap, subst, ◌∙◌, arith}
+use Rattle.std.specs.List.{slice_get, sum}
 use Rattle.std.proofs.lemmas.Bool.{eq-eqb, ne_eqb, cases_eq}
 use Rattle.std.proofs.lemmas.List.{get_or-set_same, get_or-set_other, length-replicate, length-append}
 use Rattle.std.proofs.lemmas.List.Elements.{filter_map-append}
@@ -109,7 +109,7 @@ drawn_times (suc turns) left generator t positive =
       | inl none ↦ rw (drawn_none (suc turns) left generator none) (omega arith)
       | inr busy ↦ rw (drawn_one turns left generator busy)
           (turn_first left actor (drawn_from turns (left_after_turn left actor) (pcg32 generator).1) t positive (drawn_is_due left (pcg32 generator).0)
-            (drawn_times turns (left_after_turn left actor) (pcg32 generator).1 t positive))
+          (drawn_times turns (left_after_turn left actor) (pcg32 generator).1 t positive))
     ]
 
 -- and nobody else has one
@@ -128,7 +128,7 @@ drawn_nobody (suc turns) left generator =
       | inl none ↦ rw (drawn_none (suc turns) left generator none) refl
       | inr busy ↦ rw (drawn_one turns left generator busy)
           (nobody_first left actor (drawn_from turns (left_after_turn left actor) (pcg32 generator).1) (drawn_is_due left (pcg32 generator).0)
-            (drawn_nobody turns (left_after_turn left actor) (pcg32 generator).1))
+          (drawn_nobody turns (left_after_turn left actor) (pcg32 generator).1))
     ]
 
 -- an order names each mutator just as often as it has commands
@@ -170,7 +170,7 @@ drawn_length (suc turns) left generator =
       | inl none ↦ rw (drawn_none (suc turns) left generator none) (omega arith)
       | inr busy ↦ rw (drawn_one turns left generator busy)
           (length_first left actor (drawn_from turns (left_after_turn left actor) (pcg32 generator).1) (drawn_is_due left (pcg32 generator).0)
-            (drawn_length turns (left_after_turn left actor) (pcg32 generator).1))
+          (drawn_length turns (left_after_turn left actor) (pcg32 generator).1))
     ]
 
 rest_length : (k : ℕ) (left : List ℕ) → length (rest_from k left) ≡ sum left

@@ -1,13 +1,12 @@
 -- The played run between two turns: what was played, what is to come, and what room is left.
-use Rattle.std.proofs.Common.{◌≡◌, inl, inr, ℕ, ◌+◌, ◌-◌, ◌<◌, ◌≤◌, ◌==◌, zero, suc, List, [], ◌∷◌, ◌++◌, None, Some, if◌then◌else◌, slice_index_or, slice_set, length, map, take, refl, sym, ap, subst, ◌∙◌, arith}
-use Rattle.std.specs.List.{slice_get, filter_map, sum, All}
+use Rattle.std.proofs.Common.{◌≡◌, inl, inr, ℕ, ◌+◌, ◌-◌, ◌<◌, ◌≤◌, zero, suc, List, [], ◌∷◌, ◌++◌, Some, if◌then◌else◌, slice_index_or, slice_set, length, map, refl, sym, ap, subst, ◌∙◌, arith}
+use Rattle.std.specs.List.{slice_get, sum}
 use Rattle.std.proofs.lemmas.Bool.{eq-eqb, cases_eq, cases_lt}
-use Rattle.std.proofs.lemmas.List.{append-nil, append_assoc, length_push, length-set, length-map, length-append, map-set, take_all, get_or-set_same, get_or-set_other, get_or-map, get_or_past, ext_get_or}
+use Rattle.std.proofs.lemmas.List.{append-nil, append_assoc, length_push, length-map, length-append, map-set, take_all, get_or-set_same, get_or-set_other, get_or-map, get_or_past, ext_get_or}
 use Rattle.std.proofs.lemmas.List.Elements.{All-get_or}
-use Rattle.std.proofs.lemmas.Option.{slice_get_within}
 use Rattle.rec_model.specs.declared.command.Cmd.{Cmd}
 use Rattle.rec_model.specs.declared.told.Told.{Told}
-use Rattle.rec_model.specs.LegalOrder.{Line, Event, actors}
+use Rattle.rec_model.specs.LegalOrder.{Line, Event}
 use Rattle.rec_model.specs.LegalOrder.Event.{Answers}
 use Rattle.rec_model.specs.Numbering.{times}
 use Rattle.rec_model.proofs.Growing.{with_line}
@@ -20,7 +19,7 @@ use Rattle.rec_play.specs.declared.actor.Actor.TheVariants.{Mutator, Collector}
 use Rattle.rec_play.specs.Commanded.{Commanded}
 use Rattle.rec_play.specs.Played.{AreReady, IsPlayed, config_of, lengths_of, lines_of, no_notes}
 use Rattle.rec_play.specs.Playing.{Rest, IsOrderFor, generator_of, mutators_of, order, to_come}
-use Rattle.rec_play.proofs.Going.{PlayedSo, IsNext, own, commands_at, begun, one_more, made_is_named}
+use Rattle.rec_play.proofs.Going.{PlayedSo, own, commands_at, begun, one_more, made_is_named}
 use Rattle.rec_play.proofs.Orders.{times-append, times-cons, order_names, order_length, order_comes}
 
 -- the notes of a mutator, by its index
@@ -50,7 +49,7 @@ pub start : (script : Contents) (seed turns : ℕ) (world : State) (journals : L
 start script seed turns world journals made rest some is ready none room begins =
     let lines_are : length (lines_of journals) ≡ length script.commands = length-map journals (λ (j : Notes). j.lines) ∙ ready.one_each in
     let empty : (i : ℕ) → i < length (lines_of journals) → own (lines_of journals) i ≡ [] = λ i there.
-        own_notes journals i ∙ All-get_or (λ (j : Notes). j.lines ≡ []) journals i no_notes (subst (λ n. i < n) (length-map journals (λ (j : Notes). j.lines)) there) ready.empty in
+    own_notes journals i ∙ All-get_or (λ (j : Notes). j.lines ≡ []) journals i no_notes (subst (λ n. i < n) (length-map journals (λ (j : Notes). j.lines)) there) ready.empty in
     let P : State → Type 0 = λ w. PlayedSo script w (lines_of journals) made.list [] in
     let Q : List ℕ → Type 0 = λ ts. PlayedSo script (opened (config_of script)) (lines_of journals) ts [] in
     record {
@@ -85,7 +84,7 @@ pub turn_of : (script : Contents) (seed turns : ℕ) (world : State) (journals :
     → to_come rest ≡ Mutator t ∷ later → Between script seed turns world journals made rest → IsTurnOf script journals made t
 turn_of script seed turns world journals made rest t later is so =
     let names : IsOrderFor (lengths_of script) (order (lengths_of script) seed turns) = order_names (lengths_of script) seed turns in
-    let comes : made.list ++ t ∷ mutators_of later ≡ order (lengths_of script) seed turns = ap (λ as. made.list ++ mutators_of as) (sym is) ∙ so.comes in
+    let comes : made.list ++ t ∷ mutators_of later ≡ order (lengths_of script) seed turns = ap (λ later. made.list ++ mutators_of later) (sym is) ∙ so.comes in
     let named : times t (order (lengths_of script) seed turns) ≡ times t made.list + 1 + times t (mutators_of later) = ap (times t) (sym comes) ∙ times-first t made.list (mutators_of later) in
     let some : 0 < t = some_one t (times t made.list + times t (mutators_of later)) (λ n. times n (order (lengths_of script) seed turns)) names.nobody (omega arith) in
     let all : times t (order (lengths_of script) seed turns) ≡ slice_index_or (lengths_of script) (t - 1) 0 = names.each t some in
@@ -134,7 +133,7 @@ turn_made script seed turns before after journals notes made more rest next t cm
     record {
       events = so.events ++ Answers t (cmd, told) ∷ [];
       so = subst P now (subst Q (sym list) step);
-      comes = ap (λ ts. ts ++ mutators_of (to_come next)) list ∙ append_assoc made.list (t ∷ []) (mutators_of (to_come next)) ∙ ap (λ as. made.list ++ mutators_of as) (sym is) ∙ so.comes;
+      comes = ap (λ ts. ts ++ mutators_of (to_come next)) list ∙ append_assoc made.list (t ∷ []) (mutators_of (to_come next)) ∙ ap (λ later. made.list ++ mutators_of later) (sym is) ∙ so.comes;
       journal_room = λ i. elim (cases_eq (t - 1) i) [
         | inl same ↦
             let R : ℕ → Type 0 = λ n. length (commands_at script n) ≤ (notes_at (slice_set journals (t - 1) notes) n).room + length (notes_at (slice_set journals (t - 1) notes) n).lines in
@@ -162,7 +161,7 @@ turn_passed script seed turns world journals made rest next is so =
     record {
       events = so.events;
       so = so.so;
-      comes = ap (λ as. made.list ++ mutators_of as) (sym is) ∙ so.comes;
+      comes = ap (λ later. made.list ++ mutators_of later) (sym is) ∙ so.comes;
       journal_room = so.journal_room;
       order_room = so.order_room;
     }
@@ -170,7 +169,7 @@ turn_passed script seed turns world journals made rest next is so =
 -- After the last turn.
 pub order_made : (script : Contents) (seed turns : ℕ) (world : State) (journals : List Notes) (made : Turns) (rest : Rest) → to_come rest ≡ [] → Between script seed turns world journals made rest
     → made.list ≡ order (lengths_of script) seed turns
-order_made script seed turns world journals made rest none so = sym (append-nil made.list) ∙ ap (λ as. made.list ++ mutators_of as) (sym none) ∙ so.comes
+order_made script seed turns world journals made rest none so = sym (append-nil made.list) ∙ ap (λ later. made.list ++ mutators_of later) (sym none) ∙ so.comes
 
 pub all_played : (script : Contents) (seed turns : ℕ) (world : State) (journals : List Notes) (made : Turns) (rest : Rest) → to_come rest ≡ [] → (so : Between script seed turns world journals made rest)
     → IsPlayed script seed turns (lines_of journals) so.events

@@ -1,5 +1,5 @@
 -- The turns to come, one after the other.
-use Rattle.std.proofs.Common.{◌≡◌, ◌⊎◌, inl, inr, ℕ, ◌+◌, ◌-◌, ◌%◌, ◌<◌, ◌≤◌, ◌==◌, zero, suc, List, [], ◌∷◌, ◌++◌, None, Some, if◌then◌else◌, slice_index_or, slice_set, length, map, refl, sym, ap, subst, ◌∙◌, arith}
+use Rattle.std.proofs.Common.{◌≡◌, ◌⊎◌, inl, inr, ℕ, ◌+◌, ◌-◌, ◌%◌, ◌<◌, zero, suc, List, [], ◌∷◌, Some, slice_index_or, slice_set, length, map, refl, sym, ap, ◌∙◌, arith}
 use Rattle.std.specs.List.{slice_get}
 use Rattle.std.proofs.lemmas.Bool.{eq-eqb, ne_eqb}
 use Rattle.std.proofs.lemmas.Option.{slice_get_past}
@@ -7,7 +7,7 @@ use Rattle.rand_pcg.specs.Lcg.{Lcg}
 use Rattle.rand_pcg.specs.Pcg.{pcg32}
 use Rattle.rec_play.specs.declared.actor.Actor.{Actor}
 use Rattle.rec_play.specs.declared.actor.Actor.TheVariants.{Mutator, Collector}
-use Rattle.rec_play.specs.Playing.{unfinished, mutator_or_collector, actor_drawn, left_after_turn, left_after, drawn_from, by_mutator, Rest, to_come}
+use Rattle.rec_play.specs.Playing.{unfinished, mutator_or_collector, actor_drawn, left_after_turn, drawn_from, by_mutator, Rest, to_come}
 use Rattle.rec_play.proofs.Unfinished.{none_left, rest_first}
 
 -- no turn is drawn where no mutator is unfinished

@@ -1,5 +1,5 @@
 -- What a command does, as far as a played run goes by it.
-use Rattle.std.specs.Prelude.{◌≡◌, ℕ, ◌+◌, ◌<◌, ◌≤◌, if◌then◌else◌, Bool, true, false}
+use Rattle.std.specs.Prelude.{◌≡◌, ℕ, ◌+◌, ◌<◌, ◌≤◌, if◌then◌else◌, true, false}
 use Rattle.std.specs.Option.{IfSome}
 use Rattle.rec_word.specs.Word.{stamp_of}
 use Rattle.rec_model.specs.declared.command.Cmd.{Cmd}

@@ -1,5 +1,5 @@
 -- What the fields of a `Schedule` stand for.
-use Rattle.std.specs.Prelude.{◌≡◌, ℕ, ◌≤◌, length, take}
+use Rattle.std.specs.Prelude.{◌≡◌, ◌≤◌, length, take}
 use Rattle.rec_play.specs.declared.schedule.Schedule.TheInside.{Inside}
 use Rattle.rec_play.specs.Playing.{Rest, unfinished}
 

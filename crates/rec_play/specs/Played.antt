@@ -1,6 +1,6 @@
 -- What the commands of a script gave when they were played.
-use Rattle.std.specs.Prelude.{◌≡◌, ℕ, ◌-◌, ◌<◌, ◌≤◌, max, Bool, true, Some, is_some, List, [], ◌∷◌, map, length, replicate, slice_index_or}
-use Rattle.std.specs.List.{slice_get, sum_by, All}
+use Rattle.std.specs.Prelude.{◌≡◌, ℕ, ◌≤◌, max, Bool, true, Some, is_some, List, [], ◌∷◌, map, length, replicate, slice_index_or}
+use Rattle.std.specs.List.{slice_get, All}
 use Rattle.rec_model.specs.declared.command.Cmd.{Cmd}
 use Rattle.rec_model.specs.Heap.{opening}
 use Rattle.rec_model.specs.LegalOrder.{Line, Event, Limits, Moment, after_all, actor, actors, IsLegalOrder}

@@ -11,8 +11,13 @@
 #![tactic(auto)]
 
 mod actor;
+mod laws;
 mod playing;
 mod schedule;
 
 pub use actor::Actor;
+pub use laws::{orders_name_each_command, turns_are_drawn_as_told};
 pub use playing::play;
+
+#[cfg(test)]
+mod tests;

@@ -1,4 +1,4 @@
-use Rattle.std.proofs.Common.{◌≡◌, ◌-◌, ◌≤◌, ◌<◌, ℕ, List, [], Some, slice_index_or, length, refl, sym, ap, subst, ◌∙◌, arith}
+use Rattle.std.proofs.Common.{◌≡◌, ◌-◌, ◌<◌, List, [], slice_index_or, length, sym, ap, subst, ◌∙◌, arith}
 use Rattle.std.specs.List.{slice_get}
 use Rattle.std.proofs.lemmas.Option.{slice_get-get_or, get_or_from_slice_get}
 use Rattle.rec_model.specs.declared.command.Cmd.{Cmd}
@@ -12,8 +12,7 @@ returns-clause-commanded c =
     let own : slice_index_or c.args.script.now.commands (c.args.t - 1) [] ≡ cmds = get_or_from_slice_get c.args.script.now.commands (c.args.t - 1) cmds [] c.commands.ensures.value in
     let mutators : c.args.world.now.config.mutators ≡ length c.args.script.now.commands = ap (λ (x : Config). x.mutators) c.requires.config in
     let at : length c.args.journal.now.lines ≡ length c.lines.result.now = ap length (sym c.lines.ensures) in
-    let next : length c.lines.result.now < length cmds = subst (λ n. n < length cmds) at (subst (λ (xs : List Cmd). length c.args.journal.now.lines < length xs) own c.requires.next) in
-    (
+    let next : length c.lines.result.now < length cmds = subst (λ n. n < length cmds) at (subst (λ (xs : List Cmd). length c.args.journal.now.lines < length xs) own c.requires.next) in (
       _,
       c.command-told.result,
       ap (λ xs. slice_get xs (length c.args.journal.now.lines)) own ∙ ap (slice_get cmds) at ∙ slice_get-get_or cmds (length c.lines.result.now) _ next,

@@ -1,4 +1,4 @@
-use Rattle.std.proofs.Common.{◌≡◌, ◌+◌, ◌≤◌, ◌<◌, ℕ, List, slice_index_or, length, take, ap, sym, subst, ◌∙◌, arith}
+use Rattle.std.proofs.Common.{◌≡◌, ◌+◌, ◌≤◌, ℕ, List, slice_index_or, length, take, arith}
 use Rattle.std.proofs.lemmas.List.{length-take}
 use Rattle.rec_play.specs.Playing.{unfinished}
 use Rattle.rec_play.proofs.Unfinished.{few, one_if, one_if_some, one_if_none, count_more}

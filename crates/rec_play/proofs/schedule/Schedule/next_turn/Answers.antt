@@ -1,5 +1,5 @@
-use Rattle.std.proofs.Common.{◌≡◌, ℕ, ◌+◌, ◌-◌, ◌<◌, zero, suc, Some, List, ◌∷◌, slice_index_or, slice_set, length, take, refl, sym, ap, subst, ◌∙◌, arith}
-use Rattle.std.specs.List.{slice_get, slice_index}
+use Rattle.std.proofs.Common.{◌≡◌, ℕ, ◌+◌, ◌<◌, zero, suc, Some, ◌∷◌, length, take, refl, sym, ap, subst, ◌∙◌, arith}
+use Rattle.std.specs.List.{slice_get}
 use Rattle.rec_play.specs.declared.schedule.Schedule.TheInside.{Inside}
 use Rattle.rec_play.specs.declared.actor.Actor.TheVariants.{Mutator}
 use Rattle.rec_play.specs.Inside.{rest}
