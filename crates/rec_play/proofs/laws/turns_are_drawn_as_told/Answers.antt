@@ -1,0 +1,5 @@
+use Rattle.rec_play.proofs.Orders.{drawn_few, order_undrawn}
+use Rattle.rec_play.proofs.laws.turns_are_drawn_as_told.Goals as goal
+
+pub returns : goal.returns
+returns c = record { few = drawn_few; none = order_undrawn }

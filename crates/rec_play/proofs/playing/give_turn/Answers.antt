@@ -1,0 +1,33 @@
+use Rattle.std.proofs.Common.{◌≡◌, ◌-◌, ◌<◌, List, [], slice_index_or, length, sym, ap, subst, ◌∙◌, arith}
+use Rattle.std.specs.List.{slice_get}
+use Rattle.std.proofs.lemmas.Option.{slice_get-get_or, get_or_from_slice_get}
+use Rattle.rec_model.specs.declared.command.Cmd.{Cmd}
+use Rattle.rec_world.specs.declared.config.Config.{Config}
+use Rattle.rec_play.proofs.Commands.{others_stay}
+use Rattle.rec_play.proofs.playing.give_turn.Goals as goal
+
+pub returns-clause-commanded : goal.returns-clause-commanded
+returns-clause-commanded c =
+    let cmds : List Cmd = c.commands.result.now in
+    let own : slice_index_or c.args.script.now.commands (c.args.t - 1) [] ≡ cmds = get_or_from_slice_get c.args.script.now.commands (c.args.t - 1) cmds [] c.commands.ensures.value in
+    let mutators : c.args.world.now.config.mutators ≡ length c.args.script.now.commands = ap (λ (x : Config). x.mutators) c.requires.config in
+    let at : length c.args.journal.now.lines ≡ length c.lines.result.now = ap length (sym c.lines.ensures) in
+    let next : length c.lines.result.now < length cmds = subst (λ n. n < length cmds) at (subst (λ (xs : List Cmd). length c.args.journal.now.lines < length xs) own c.requires.next) in (
+      _,
+      c.command-told.result,
+      ap (λ xs. slice_get xs (length c.args.journal.now.lines)) own ∙ ap (slice_get cmds) at ∙ slice_get-get_or cmds (length c.lines.result.now) _ next,
+      record {
+        explained = c.command-told.ensures.explained;
+        log_full = λ full. (c.command-told.ensures.log_full.0 full).0;
+        full = λ full. (c.command-told.ensures.full.0 full).2;
+        never = c.command-told.ensures.never;
+        made = c.command-told.ensures.made;
+        within = c.command-told.ensures.kept.made;
+        logged = c.command-told.ensures.logged;
+        others = others_stay c.args.world.now c.command-told.new.self c.args.t c.command-told.ensures.kept c.command-told.ensures.config c.requires.some (omega (arith, c.requires.most));
+        stamp = c.command-told.ensures.stamp;
+        config = c.command-told.ensures.config;
+        unmarked = c.command-told.ensures.marked;
+      },
+      c.note.ensures.lines,
+    )

@@ -1,0 +1,4 @@
+pub mod Commanded
+pub mod Inside
+pub mod Played
+pub mod Playing

@@ -1,0 +1,80 @@
+-- What the commands of a script gave when they were played.
+use Rattle.std.specs.Prelude.{◌≡◌, ℕ, ◌≤◌, max, Bool, true, Some, is_some, List, [], ◌∷◌, map, length, replicate, slice_index_or}
+use Rattle.std.specs.List.{slice_get, All}
+use Rattle.rec_model.specs.declared.command.Cmd.{Cmd}
+use Rattle.rec_model.specs.Heap.{opening}
+use Rattle.rec_model.specs.LegalOrder.{Line, Event, Limits, Moment, after_all, actor, actors, IsLegalOrder}
+use Rattle.rec_world.specs.declared.config.Config.{Config}
+use Rattle.rec_world.specs.Journal.{Notes}
+use Rattle.rec_script.specs.Script.{Contents}
+use Rattle.rec_play.specs.Playing.{order}
+
+-- the greatest number of commands of a mutator
+abbrev pub longest : List (List Cmd) → ℕ
+longest [] = 0
+longest (cmds ∷ rest) = max (length cmds) (longest rest)
+
+-- the room of each log: that of the longest mutator, and at least one entry
+abbrev pub log_room : Contents → ℕ
+log_room script = max (longest script.commands) 1
+
+-- the numbers of the heap that a script runs on
+abbrev pub config_of : Contents → Config
+config_of script =
+    record {
+      slots = script.slots;
+      fields = script.fields;
+      registers = script.registers;
+      mutators = length script.commands;
+      log_entries = log_room script;
+      first_epoch = 1;
+    }
+
+-- the numbers that its one order speaks of
+abbrev pub limits_of : Contents → Limits
+limits_of script = record { fields = script.fields; slots = script.slots; log_entries = log_room script }
+
+-- the opening heap, its object not freed, no marks made, and logs that are empty
+abbrev pub opening_moment : Contents → Moment
+opening_moment script =
+    record {
+      heap = opening script.fields script.registers (length script.commands);
+      unfreed = 0 ∷ [];
+      marks = 0;
+      frees = true;
+      done = replicate (length script.commands) 0;
+    }
+
+-- the moment after all events of an order
+abbrev pub last_moment : Contents → List Event → Moment
+last_moment script = after_all (limits_of script) (opening_moment script)
+
+-- whether the event is an answer
+abbrev pub is_answer : Event → Bool
+is_answer e = is_some (actor e)
+
+-- how many commands each mutator has
+abbrev pub lengths_of : Contents → List ℕ
+lengths_of script = map length script.commands
+
+-- the lines of each journal
+abbrev pub lines_of : List Notes → List (List Line)
+lines_of journals = map (λ journal. journal.lines) journals
+
+-- a journal with no line and no room
+abbrev pub no_notes : Notes
+no_notes = record { lines = []; room = 0 }
+
+-- there is one journal for each mutator, empty, with room for its commands
+pub record AreReady (commands : List (List Cmd)) (journals : List Notes) : Type 0 where
+  pub one_each : length journals ≡ length commands
+  pub empty : All (λ journal. journal.lines ≡ []) journals
+  pub room : (i : ℕ) → length (slice_index_or commands i []) ≤ (slice_index_or journals i no_notes).room
+
+-- The journals hold the script's commands with what was told. One legal order from the opening heap explains them, in
+-- which nothing is freed, and its answers stand in the order of the playing rule.
+pub record IsPlayed (script : Contents) (seed turns : ℕ) (journals : List (List Line)) (events : List Event) : Type 0 where
+  pub commands : map (map (λ line. line.0)) journals ≡ script.commands
+  pub legal : IsLegalOrder (limits_of script) (opening_moment script) journals events
+  pub answers_only : (i : ℕ) (e : Event) → slice_get events i ≡ Some e → is_answer e ≡ true
+  pub in_order : actors events ≡ order (lengths_of script) seed turns

@@ -1,0 +1,23 @@
+//! The playing rule, and the run of a script by it.
+//!
+//! Where several mutators' commands run one at a time, a rule says who comes next. While a mutator has commands left, and
+//! no more turns were drawn than told, a random word names one of those mutators or the collector; a mutator's turn is its
+//! next command. Afterwards the remaining commands run mutator by mutator.
+//! The rule that this crate keeps: who has which turn follows from the numbers of commands, the seed and the number of
+//! drawn turns alone, and never from the heap; each mutator's own commands keep their order; and what is told is what the
+//! heap that never frees tells in that order.
+//! The layer above may use the contract of `play`, the laws of orders in `laws`, and the definitions of `specs/`.
+//! The rule is this project's profile (`docs/PROFILE.md`); the generator is PCG's, by O'Neill, with 32-bit words.
+#![tactic(auto)]
+
+mod actor;
+mod laws;
+mod playing;
+mod schedule;
+
+pub use actor::Actor;
+pub use laws::{orders_name_each_command, turns_are_drawn_as_told};
+pub use playing::play;
+
+#[cfg(test)]
+mod tests;

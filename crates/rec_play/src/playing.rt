@@ -1,0 +1,96 @@
+//! The commands of a script, carried out in the order of the playing rule.
+
+ghost use Rattle.std.specs.Prelude.{◌≡◌, ℕ, ◌+◌, ◌-◌, ◌<◌, ◌≤◌, List, [], ◌∷◌, ◌++◌, Some, false, length, take, slice_get, slice_index_or};
+ghost use Rattle.std.specs.List.{sum};
+ghost use Rattle.rec_model.specs.LegalOrder.{Event};
+ghost use Rattle.rec_model.specs.Sight.{StandsFor};
+ghost use Rattle.rec_model.specs.declared.command.Cmd.{Cmd};
+ghost use Rattle.rec_model.specs.declared.told.Told.{Told};
+ghost use Rattle.rec_world.specs.World.{sight, opened};
+ghost use Rattle.rec_play.specs.Commanded.{Commanded};
+ghost use Rattle.rec_play.specs.Played.{AreReady, IsPlayed, config_of, last_moment, lengths_of, lines_of};
+ghost use Rattle.rec_play.specs.Playing.{order as order_of};
+
+use crate::Actor;
+use crate::schedule::{MOST_MUTATORS, Schedule};
+use rec_script::Script;
+use rec_world::{Journal, Order, World};
+
+/// Runs the commands of a script on the heap that was opened for it, by the playing rule with this seed and at most so many
+/// drawn turns. Each mutator's journal gets its commands with what was told, and `order` the mutators, turn by turn. It
+/// takes no memory.
+pub fn play(
+    script: &Script,
+    seed: u64,
+    turns: u32,
+    world: &mut World,
+    journals: &mut [Journal],
+    order: &mut Order,
+)
+    // The heap is newly opened with the script's numbers; there is one journal per mutator, empty, with room for its
+    // commands; the order is empty and has room for all commands.
+    requires opened { world.old ≡ opened (config_of script.now) }
+    requires journals { AreReady script.now.commands journals.old }
+    requires order { order.old.list ≡ [] }
+    requires room { sum (lengths_of script.now) ≤ order.old.room }
+
+    // Some legal order explains what was told. Its answers stand in the order of the rule, and its heap stands for the world.
+    ensures played { (events : List Event)
+        × IsPlayed script.now seed turns (lines_of journals.new) events
+        × StandsFor (last_moment script.now events).heap (sight world.new)
+        × (world.new.made ≡ length (last_moment script.now events).heap.objects) }
+    ensures order { order.new.list ≡ order_of (lengths_of script.now) seed turns }
+    ensures config { world.new.config ≡ config_of script.now }
+    ensures unmarked { world.new.marked ≡ false }
+{
+    let lengths = lengths_of(script);
+    let mutators = usize::from(script.mutators());
+    let mut schedule = Schedule::new(lengths, mutators, seed, turns);
+    while let Some(actor) = schedule.next_turn() {
+        match actor {
+            Actor::Mutator(t) => {
+                let journal = &mut journals[usize::from(t) - 1];
+                give_turn(script, t, world, journal, order);
+            }
+            // Until there are epochs, the collector's turn does nothing.
+            Actor::Collector => {}
+        }
+    }
+}
+
+// How many commands each mutator has; none where there is no such mutator.
+fn lengths_of(script: &Script) -> [u32; MOST_MUTATORS]
+    ensures { take (length script.now.commands) result ≡ lengths_of script.now }
+{
+    let mut lengths = [0; MOST_MUTATORS];
+    for index in 0..script.mutators() {
+        lengths[usize::from(index)] = script.commands(index + 1).len() as u32;
+    }
+    lengths
+}
+
+// Mutator `t` makes its next command.
+fn give_turn(script: &Script, t: u8, world: &mut World, journal: &mut Journal, order: &mut Order)
+    requires some { 1 ≤ t }
+    requires most { t ≤ length script.now.commands }
+    requires config { world.old.config ≡ config_of script.now }
+    requires unmarked { world.old.marked ≡ false }
+    requires next { length journal.old.lines < length (slice_index_or script.now.commands (t - 1) []) }
+    requires journal_room { 0 < journal.old.room }
+    requires order_room { 0 < order.old.room }
+
+    // The mutator's next command was carried out and noted.
+    ensures commanded { (cmd : Cmd) × (told : Told)
+        × (slice_get (slice_index_or script.now.commands (t - 1) []) (length journal.old.lines) ≡ Some cmd)
+        × Commanded world.old world.new t cmd told
+        × (journal.new.lines ≡ journal.old.lines ++ (cmd, told) ∷ []) }
+    ensures journal_room { journal.new.room ≡ journal.old.room - 1 }
+    ensures turn { order.new.list ≡ order.old.list ++ t ∷ [] }
+    ensures order_room { order.new.room ≡ order.old.room - 1 }
+{
+    let cmd = script.commands(t)[journal.lines().len()];
+    // A mutator polls before its command; until there are epochs there is nothing to see.
+    let told = world.command(t, cmd);
+    journal.note(cmd, told);
+    order.note(t);
+}

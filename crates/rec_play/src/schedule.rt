@@ -1,0 +1,124 @@
+ghost use Rattle.std.specs.Prelude.{◌≡◌, ◌+◌, ◌-◌, ◌%◌, ◌∷◌, [], ◌<◌, ◌≤◌, Some, length, take, IsNone, IfSome, slice_get, slice_index, slice_set};
+ghost use Rattle.rand_pcg.specs.Pcg.{pcg32};
+ghost use Rattle.rec_play.specs.Playing.{generator_of, unfinished, to_come};
+
+use crate::Actor;
+use rand_core::utils::NextWord;
+use rand_pcg::Pcg32;
+use std::marker::Model;
+
+/// How many mutators there are at most.
+pub const MOST_MUTATORS: usize = 8;
+
+// The stream of the generator whose words name the actors.
+const STREAM: u64 = 1;
+
+/// The playing rule as it goes on. It knows how many commands each mutator has left, and nothing of the heap.
+#[derive(Drop)]
+pub struct Schedule {
+    left: [u32; MOST_MUTATORS],
+    mutators: usize,
+    unfinished: u32,
+    generator: Pcg32,
+    turns: u32,
+}
+
+impl Model for Schedule {
+    ghost use Rattle.rec_play.specs.Playing.{Rest};
+
+    ghost Value = { Rest };
+
+    ghost use Rattle.rec_play.specs.Inside.{rest, IsCounted};
+
+    ghost view = { rest };
+
+    ghost invariant = { IsCounted };
+}
+
+impl Schedule {
+    /// The rule at its start: so many mutators with so many commands each, and so many turns to draw.
+    pub fn new(lengths: [u32; MOST_MUTATORS], mutators: usize, seed: u64, turns: u32) -> Schedule
+        requires { mutators ≤ 8 }
+        ensures { result ≡ record { left = take mutators lengths; generator = generator_of seed; turns = turns } }
+    {
+        let mut unfinished = 0;
+        for left in &lengths[..mutators] {
+            if *left > 0 {
+                unfinished += 1;
+            }
+        }
+        Schedule {
+            left: lengths,
+            mutators,
+            unfinished,
+            generator: Pcg32::new(seed, STREAM),
+            turns,
+        }
+    }
+
+    /// Whose turn comes next; none where no mutator has commands left.
+    pub fn next_turn(&mut self) -> Option<Actor>
+        ensures turn { IfSome result (λ actor. to_come self.old ≡ actor ∷ to_come self.new) }
+        ensures ended { IsNone result → to_come self.old ≡ [] }
+    {
+        if self.unfinished == 0 {
+            return None;
+        }
+        let place = self.draw();
+        if place == self.unfinished {
+            return Some(Actor::Collector);
+        }
+        let at = unfinished_at(&self.left[..self.mutators], place);
+        self.take(at);
+        Some(Actor::Mutator(at as u8 + 1))
+    }
+
+    // Draws a place: of an unfinished mutator among them, or after them the collector's. Once all turns are drawn it is the
+    // first mutator's.
+    fn draw(&mut self) -> u32
+        requires { 0 < length (unfinished self.old.left) }
+        ensures drawn { 0 < self.old.turns → (result ≡ (pcg32 self.old.generator).0 % (length (unfinished self.old.left) + 1))
+            × (self.new ≡ record self.old { generator = (pcg32 self.old.generator).1; turns = self.old.turns - 1 }) }
+        ensures no_more { self.old.turns ≡ 0 → (result ≡ 0) × (self.new ≡ self.old) }
+    {
+        if self.turns == 0 {
+            return 0;
+        }
+        self.turns -= 1;
+        self.generator.next_word() % (self.unfinished + 1)
+    }
+
+    // Takes one command off those that a mutator, by its index, has left.
+    fn take(&mut self, at: usize)
+        requires few { at < 8 }
+        requires there { at < length self.old.left }
+        requires some { 0 < slice_index self.old.left at }
+        ensures { self.new ≡ record self.old { left = slice_set self.old.left at (slice_index self.old.left at - 1) } }
+    {
+        self.left[at] -= 1;
+        if self.left[at] == 0 {
+            self.unfinished -= 1;
+        }
+    }
+}
+
+// The index of the unfinished mutator in this place among them.
+fn unfinished_at(left: &[u32], place: u32) -> usize
+    requires few { length left.now ≤ 8 }
+    requires there { place < length (unfinished left.now) }
+    ensures within { result < length left.now }
+    ensures some { 0 < slice_index left.now result }
+    ensures named { slice_get (unfinished left.now) place ≡ Some (result + 1) }
+{
+    let mut before = place;
+    for (at, left) in left.iter().enumerate() {
+        if *left > 0 {
+            if before == 0 {
+                return at;
+            }
+            before -= 1;
+        }
+    }
+    prove!(false);
+    0
+}
