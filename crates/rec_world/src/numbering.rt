@@ -71,7 +71,7 @@ impl Numbering {
 
     /// Numbers the slots that the registers of these mutators, in order, reach over these words, each slot's `fields` words
     /// in order, and no others.
-    pub fn fill(&mut self, machines: &[Machine], words: &[u64], fields: u8)
+    pub(crate) fn fill(&mut self, machines: &[Machine], words: &[u64], fields: u8)
         requires places { length words.now ≡ self.old.slots * fields }
         requires names { NamesBelow (sight_of (map (λ p. p.registers) machines.now) words.now fields) self.old.slots }
 
