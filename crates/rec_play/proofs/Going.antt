@@ -17,10 +17,12 @@ use Rattle.rec_model.specs.Numbering.{times}
 use Rattle.rec_model.specs.Sight.{StandsFor}
 use Rattle.rec_model.proofs.Growing.{StampsAnew, legal_empty, legal_grows, after_all-grow, get_cases, with_line}
 use Rattle.rec_model.proofs.Opened.{opening_stands}
-use Rattle.rec_world.specs.World.{opened, State, sight, is_plain, entries_of}
+use Rattle.rec_world.specs.World.{opened, State, sight, mutator, log_length, is_plain, entries_of}
+use Rattle.rec_mutator.specs.Private.{Private, is_busy}
+use Rattle.rec_world.proofs.Openings.{sight_opened, mutator_opened}
 use Rattle.rec_world.specs.declared.config.Config.{Config}
 use Rattle.rec_script.specs.Script.{Contents}
-use Rattle.rec_play.specs.Commanded.{Commanded, log_length}
+use Rattle.rec_play.specs.Commanded.{AreIdle, Commanded}
 use Rattle.rec_play.specs.Played.{config_of, longest, log_room, limits_of, opening_moment, last_moment, is_answer}
 use Rattle.rec_play.proofs.Entries.{births, grows_at, allocation_fits, entry_of_word, one_entry, stamp_is}
 
@@ -51,6 +53,7 @@ pub record PlayedSo (script : Contents) (world : State) (lines : List (List Line
   pub stamps : (i v : ℕ) (d : Event) → slice_get events i ≡ Some d → left_by d ≡ Some v → HasEntry script world (stamp_of v)
   pub config : world.config ≡ config_of script
   pub unmarked : world.marked ≡ false
+  pub idle : AreIdle world
   pub in_order : order ≡ actors events
 
 -- a mutator's commands fit its log
@@ -127,7 +130,7 @@ anew_last script before after lines order events t cmd told done so =
     record {
       writer = λ word leaves. ap (λ (s : Stamp). s.writer) (stamp_is cmd told _ word done.stamp leaves);
       anew = λ i v word d there left leaves same.
-          let mine : stamp_of word ≡ record { writer = t; epoch = before.config.first_epoch; index = log_length before t } = stamp_is cmd told _ word done.stamp leaves in
+          let mine : stamp_of word ≡ record { writer = t; epoch = (mutator before t).epoch; index = log_length before t } = stamp_is cmd told _ word done.stamp leaves in
           let index : (stamp_of v).index ≡ log_length before t = ap (λ (s : Stamp). s.index) (same ∙ mine) in
           let writer : (stamp_of v).writer ≡ t = ap (λ (s : Stamp). s.writer) (same ∙ mine) in
           let lower : (stamp_of v).index < log_length before t = subst (λ s. (stamp_of v).index < log_length before s) writer (so.stamps i v d there left).index in
@@ -159,7 +162,7 @@ stamps_more script before after lines order events t cmd told next done so i v d
           record { some = has.some; most = has.most; index = omega arith }
       | inr last ↦
           let leaves : word_left cmd told ≡ Some v = ap left_by last.1 ∙ left in
-          let mine : stamp_of v ≡ record { writer = t; epoch = before.config.first_epoch; index = log_length before t } = stamp_is cmd told _ v done.stamp leaves in
+          let mine : stamp_of v ≡ record { writer = t; epoch = (mutator before t).epoch; index = log_length before t } = stamp_is cmd told _ v done.stamp leaves in
           let entry : entries_of cmd told.answer ≡ 1 = entry_of_word cmd told v leaves in
           let logged : log_length after t ≡ log_length before t + entries_of cmd told.answer = done.logged in
           let P : Stamp → Type 0 = λ s. HasEntry script after s in
@@ -215,6 +218,7 @@ one_more script before after lines order events t cmd told next done so =
       stamps = stamps_more script before after lines order events t cmd told next done so;
       config = done.config ∙ so.config;
       unmarked = done.unmarked;
+      idle = done.idle so.idle;
       in_order = ap (λ (xs : List ℕ). xs ++ t ∷ []) so.in_order ∙ sym (filter_map-append actor events (Answers t (cmd, told) ∷ []));
     }
 
@@ -231,13 +235,14 @@ begun script lines some one_each empty =
       commands = λ i. rw (no_lines lines empty i) refl;
       legal = legal_empty (limits_of script) (opening_moment script) lines (λ t positive. sym (no_lines lines empty (t - 1)));
       answers_only = λ i e there. cc;
-      stands = opening_stands script.slots script.fields script.registers (length script.commands) some;
+      stands = subst (StandsFor (opening_moment script).heap) (sym (sight_opened (config_of script))) (opening_stands script.slots script.fields script.registers (length script.commands) some);
       made = refl;
       unfreed = refl;
-      logged = λ t t_some most. omega arith;
+      logged = λ t t_some most. let none : log_length (opened (config_of script)) t ≡ 0 = ap (λ (p : Private). length p.log.entries) (mutator_opened (config_of script) t (t_some, most)) in omega arith;
       stamps = λ i v d there left. cc;
       config = refl;
       unmarked = refl;
+      idle = λ t there. ap is_busy (mutator_opened (config_of script) t there);
       in_order = refl;
     }
 

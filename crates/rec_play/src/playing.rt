@@ -7,7 +7,7 @@ ghost use Rattle.rec_model.specs.Sight.{StandsFor};
 ghost use Rattle.rec_model.specs.declared.command.Cmd.{Cmd};
 ghost use Rattle.rec_model.specs.declared.told.Told.{Told};
 ghost use Rattle.rec_world.specs.World.{sight, opened};
-ghost use Rattle.rec_play.specs.Commanded.{Commanded};
+ghost use Rattle.rec_play.specs.Commanded.{AreIdle, Commanded};
 ghost use Rattle.rec_play.specs.Played.{AreReady, IsPlayed, config_of, last_moment, lengths_of, lines_of};
 ghost use Rattle.rec_play.specs.Playing.{order as order_of};
 
@@ -69,12 +69,13 @@ fn lengths_of(script: &Script) -> [u32; MOST_MUTATORS]
     lengths
 }
 
-// Mutator `t` makes its next command.
+// Mutator `t` polls, and makes its next command.
 fn give_turn(script: &Script, t: u8, world: &mut World, journal: &mut Journal, order: &mut Order)
     requires some { 1 ≤ t }
     requires most { t ≤ length script.now.commands }
     requires config { world.old.config ≡ config_of script.now }
     requires unmarked { world.old.marked ≡ false }
+    requires idle { AreIdle world.old }
     requires next { length journal.old.lines < length (slice_index_or script.now.commands (t - 1) []) }
     requires journal_room { 0 < journal.old.room }
     requires order_room { 0 < order.old.room }
@@ -89,7 +90,7 @@ fn give_turn(script: &Script, t: u8, world: &mut World, journal: &mut Journal, o
     ensures order_room { order.new.room ≡ order.old.room - 1 }
 {
     let cmd = script.commands(t)[journal.lines().len()];
-    // A mutator polls before its command; until there are epochs there is nothing to see.
+    world.poll(t);
     let told = world.command(t, cmd);
     journal.note(cmd, told);
     order.note(t);
