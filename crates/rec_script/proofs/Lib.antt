@@ -1,6 +1,0 @@
-pub mod CommandLines
-pub mod HeapLines
-pub mod MutatorLines
-pub mod Numerals
-pub mod Operands
-pub mod Spellings
