@@ -15,12 +15,12 @@ mod heap;
 mod laws;
 mod line;
 mod operand;
-mod read;
+mod reading;
 mod script;
 #[cfg(test)]
 mod tests;
 
 pub use error::{Kind, ScriptError};
 pub use laws::{refusals_are_unique, refused_texts_spell_nothing, texts_spell_one_script};
-pub use read::read;
+pub use reading::read;
 pub use script::Script;

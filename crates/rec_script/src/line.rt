@@ -55,9 +55,11 @@ fn word_length(bytes: &[u8]) -> usize
 fn without_cr(bytes: &[u8]) -> &[u8]
     ensures { result.now ≡ without_cr bytes.now }
 {
-    match bytes {
-        [line @ .., b'\r'] => line,
-        _ => bytes,
+    let length = bytes.len();
+    if length > 0 && bytes[length - 1] == b'\r' {
+        &bytes[..length - 1]
+    } else {
+        bytes
     }
 }
 
@@ -68,11 +70,12 @@ pub fn next_line(bytes: &[u8]) -> (&[u8], &[u8])
     ensures less { length result.1.now < length bytes.now }
 {
     let length = line_length(bytes);
-    let line = without_cr(&bytes[..length]);
-    if length == bytes.len() {
-        (line, &bytes[length..])
+    let (line, end) = bytes.split_at(length);
+    let line = without_cr(line);
+    if end.is_empty() {
+        (line, end)
     } else {
-        (line, &bytes[length + 1..])
+        (line, bytes.split_at(length + 1).1)
     }
 }
 
@@ -82,10 +85,9 @@ pub fn next_word(line: &[u8]) -> Option<(&[u8], &[u8])>
     ensures some { IfSome result (λ x. words line.now ≡ x.0.now ∷ words x.1.now) }
     ensures letters { IfSome result (λ x. 0 < length x.0.now) }
 {
-    let rest = &line[blanks(line)..];
+    let (_, rest) = line.split_at(blanks(line));
     if rest.is_empty() {
         return None;
     }
-    let length = word_length(rest);
-    Some((&rest[..length], &rest[length..]))
+    Some(rest.split_at(word_length(rest)))
 }

@@ -3,6 +3,7 @@
 ghost use Rattle.std.specs.Prelude.{◌≡◌, ◌≢◌, ◌↔◌, ℕ, ◌<◌, ◌≤◌, ◌^◌, List, [], ◌∷◌, length, IfSome, IfNone, IfOk, IfErr, IsTrue, MatchOption};
 ghost use Rattle.rec_script.specs.Lines.{words};
 ghost use Rattle.rec_script.specs.Operands.{AreMisread};
+ghost use Rattle.rec_script.specs.declared.error.Kind.TheVariants.{TooManyCommands};
 ghost use Rattle.rec_script.specs.Script.{IsNumeralOf, IsWrong};
 ghost use Rattle.std.specs.Fmt.{decimal};
 
@@ -16,8 +17,11 @@ const MOST_COMMANDS: usize = 200_000;
 pub fn numeral(word: &[u8]) -> Option<u32>
     ensures { MatchOption result ((n : ℕ) → ¬ IsNumeralOf word.now n) (λ n. IsNumeralOf word.now n) }
 {
-    if word.is_empty() || (word[0] == b'0' && word.len() > 1) {
+    if word.is_empty() {
         return None;
+    }
+    if word[0] == b'0' {
+        return if word.len() == 1 { Some(0) } else { None };
     }
     let mut value: u64 = 0;
     for (i, byte) in word.iter().enumerate() {

@@ -35,7 +35,7 @@ impl Script {
     /// The script with this heap and one mutator, which has no commands.
     pub(crate) fn open(alloc: Global, heap: Heap) -> Script
         requires { IsHeap heap.slots heap.fields heap.registers }
-        ensures { result.now ≡ record {
+        ensures { result ≡ record {
           slots = heap.slots;
           fields = heap.fields;
           registers = heap.registers;
