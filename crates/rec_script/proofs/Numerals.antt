@@ -37,6 +37,10 @@ no_digit c other digit = let is : is_ascii_digit c ≡ true = digit_test c digit
 pub value_is : (word : List ℕ) (n : ℕ) → IsNumeralOf word n → digits_value 10 word ≡ n
 value_is word n is = ap (digits_value 10) is.1 ∙ digits_value-decimal own n (omega (arith, is.0))
 
+-- a word is a numeral of one number
+pub same_number : (word : List ℕ) (m n : ℕ) → IsNumeralOf word m → IsNumeralOf word n → m ≡ n
+same_number word m n a b = sym (value_is word m a) ∙ value_is word n b
+
 pub no_empty_numeral : (word : List ℕ) → length word ≡ 0 → (n : ℕ) → IsNumeralOf word n → ⊥
 no_empty_numeral word none n is = omega (arith, ap (length {A = ℕ}) is.1, decimal_nonempty n (omega (arith, is.0)))
 

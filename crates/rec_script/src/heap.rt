@@ -21,11 +21,13 @@ fn size(most: u32, word: &[u8]) -> Option<u32>
     ensures none { IfNone result ((n : ℕ) → 1 ≤ n → n ≤ most → word.now ≢ decimal n) }
 {
     let number = numeral(word)?;
-    if 1 <= number && number <= most {
-        Some(number)
-    } else {
-        None
+    if number == 0 {
+        return None;
     }
+    if number > most {
+        return None;
+    }
+    Some(number)
 }
 
 /// The heap of a line with this first word and what is behind it.
