@@ -2,3 +2,4 @@ pub mod Cuts
 pub mod Numerals
 pub mod Misreadings
 pub mod Commands
+pub mod Mutators

@@ -104,10 +104,12 @@ impl Script {
         ensures reached { Any (λ cmds. length cmds ≡ result) self.now.commands }
         ensures valid { IsScript self.now }
     {
-        let mut longest = self.last.len();
-        for commands in &self.earlier {
-            if commands.len() > longest {
-                longest = commands.len();
+        let mutators = self.mutators();
+        let mut longest = self.commands(1).len();
+        for t in 1..mutators {
+            let length = self.commands(t + 1).len();
+            if length > longest {
+                longest = length;
             }
         }
         longest as u32
