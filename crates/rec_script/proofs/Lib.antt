@@ -3,3 +3,4 @@ pub mod Numerals
 pub mod Misreadings
 pub mod Commands
 pub mod Mutators
+pub mod Faults

@@ -49,6 +49,16 @@ fn is_mutator(word: &[u8], rest: &[u8]) -> bool
     is_name(word, b"mutator") && no_word(rest)
 }
 
+/// The bytes are UTF-8.
+fn is_utf8(bytes: &[u8]) -> bool
+    ensures { IsTrue result ↔ IsUtf8 bytes.now }
+{
+    match from_utf8(bytes) {
+        Ok(_) => true,
+        Err(_) => false,
+    }
+}
+
 /// A line that is wrong.
 fn bad(number: u32, kind: Kind) -> ScriptError
     ensures { result ≡ Bad number kind }
@@ -142,7 +152,7 @@ impl Draft {
         ensures refused { (at : ℕ) (kind : Kind) → result ≡ Err (Bad at kind)
             → (at ≡ number) × IsFault (so_far self.old) line.now kind }
     {
-        if from_utf8(line).is_err() {
+        if !is_utf8(line) {
             return Err(bad(number, Kind::NotUtf8));
         }
         match next_word(line) {

@@ -128,7 +128,8 @@ impl Script {
     pub(crate) fn add(&mut self, cmd: Cmd) -> Result<(), AllocError>
         requires in_range { IsCommand self.old.registers self.old.fields cmd }
         requires room { last_length self.old.commands < 200000 }
-        ensures { IfOk result (λ x. spelled self.new ≡ spelled self.old ++ command_line cmd ∷ []) }
+        ensures more { IfOk result (λ x. spelled self.new ≡ spelled self.old ++ command_line cmd ∷ []) }
+        ensures valid { IsScript self.new }
     {
         self.last.push(cmd)?;
         Ok(())
@@ -137,7 +138,8 @@ impl Script {
     /// A mutator more, without commands.
     pub(crate) fn add_mutator(&mut self, alloc: Global) -> Result<(), AllocError>
         requires { length self.old.commands < 8 }
-        ensures { IfOk result (λ x. spelled self.new ≡ spelled self.old ++ mutator_line ∷ []) }
+        ensures more { IfOk result (λ x. spelled self.new ≡ spelled self.old ++ mutator_line ∷ []) }
+        ensures valid { IsScript self.new }
     {
         let full = std::mem::replace(&mut self.last, Vec::new(alloc));
         self.earlier.push(full)?;

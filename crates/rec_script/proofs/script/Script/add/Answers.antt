@@ -9,3 +9,10 @@ invariant_of-self-2 c =
     (subst (λ (v : Contents). IsCommand v.registers v.fields c.args.cmd) (sym c.self.view_is) c.requires.in_range)
     (subst (λ (v : Contents). last_length v.commands < 200000) (sym c.self.view_is) c.requires.room)
     c.in_ok-push.ensures.items
+
+pub returns-clause-valid : goal.returns-clause-valid
+returns-clause-valid c =
+    one_command_more c.self.inside.slots c.self.inside.fields c.self.inside.registers (map (λ v. v.items) c.self.inside.earlier.items) c.self.inside.last.items c.push.new.self.items c.args.cmd c.self.invariant
+    (subst (λ (v : Contents). IsCommand v.registers v.fields c.args.cmd) (sym c.self.view_is) c.requires.in_range)
+    (subst (λ (v : Contents). last_length v.commands < 200000) (sym c.self.view_is) c.requires.room)
+    c.in_ok-push.ensures.items
