@@ -4,3 +4,7 @@ pub mod Misreadings
 pub mod Commands
 pub mod Mutators
 pub mod Faults
+pub mod Regrouping
+pub mod Stopping
+pub mod Continuing
+pub mod Refusing
