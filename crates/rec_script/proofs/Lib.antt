@@ -8,3 +8,4 @@ pub mod Regrouping
 pub mod Stopping
 pub mod Continuing
 pub mod Refusing
+pub mod Endings
