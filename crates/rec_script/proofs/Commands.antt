@@ -55,9 +55,9 @@ suc_injective m n e = omega arith
 pub bad_operands : (registers fields count : ℕ) (cmd : Cmd) (word : List ℕ) (operands : List (List ℕ)) (kind : Kind) → word ≡ word_of cmd → AreMisread count (limits_of registers fields cmd) operands kind → IsBadCommand registers fields count (word ∷ operands) kind
 bad_operands registers fields count cmd word operands _ e (AreMisread.number other) =
     IsBadCommand.unknown (λ any shape. other (
-        suc_injective (length operands) (length (map decimal (operands_of any))) shape.1
-        ∙ sym (limits_length registers fields any)
-        ∙ ap length (same_limits registers fields any cmd (sym shape.0 ∙ e))
+    suc_injective (length operands) (length (map decimal (operands_of any))) shape.1
+    ∙ sym (limits_length registers fields any)
+    ∙ ap length (same_limits registers fields any cmd (sym shape.0 ∙ e))
     ))
 bad_operands registers fields count cmd word operands _ e (AreMisread.too_many same full) = IsBadCommand.too_many cmd (e, ap suc (same ∙ limits_length registers fields cmd)) full
 bad_operands registers fields count cmd word operands kind e (AreMisread.operand _ same room wrong) = IsBadCommand.operand cmd kind (e, ap suc (same ∙ limits_length registers fields cmd)) room wrong

@@ -29,14 +29,14 @@ continues_before before line on = (line ∷ on.0, on.1, subst (λ (t : List (Lis
 
 whole : (before : List (List ℕ)) (contents : Contents) → IsScript contents → AreUtf8 before → counted before ≡ spelled contents → Continues before
 whole before contents script utf8 e = (
-    [],
-    contents,
-    record {
-      utf8 = subst (λ (t : List (List ℕ)). AreUtf8 t) (sym (append-nil before)) utf8;
-      counted_are = ap counted (append-nil before) ∙ e;
-      limits = script;
-    },
-  )
+  [],
+  contents,
+  record {
+    utf8 = subst (λ (t : List (List ℕ)). AreUtf8 t) (sym (append-nil before)) utf8;
+    counted_are = ap counted (append-nil before) ∙ e;
+    limits = script;
+  },
+)
 
 -- a line more
 more : (before : List (List ℕ)) (line : List ℕ) (spelt : List (List (List ℕ))) → counted before ≡ spelt → counted (before ++ line ∷ []) ≡ spelt ++ counted (line ∷ [])

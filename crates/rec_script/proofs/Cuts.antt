@@ -82,18 +82,18 @@ all_blank cs rest n within before e none = after_blanks cs n within before ∙ a
 -- what stands before the first blank is the first word
 pub word_and_more : (cs : List ℕ) (n : ℕ) → 0 < n → n ≤ length cs → ((k : ℕ) → k < n → is_blank (get_or cs k 0) ≡ false) → (n < length cs → is_blank (get_or cs n 0) ≡ true) → words cs ≡ take n cs ∷ words (drop n cs)
 word_and_more cs n some within before at = elim (cases_lt n (length cs)) [
-    | inl lt ↦
-        ap (filter is_some_word) (cut_front is_blank cs n lt before (at lt))
-        ∙ ap (λ (b : Bool). cond b (take n cs ∷ words (drop (n + 1) cs)) (words (drop (n + 1) cs))) (some_front n cs some (omega arith))
-        ∙ ap (λ (t : List (List ℕ)). take n cs ∷ t)
-        (sym (ap words (drop_more cs n 0 lt)
-        ∙ ap (λ (b : Bool). filter is_some_word (cond b ([] ∷ cut is_blank (drop (n + 1) cs)) (in_front (get_or cs n 0) (cut is_blank (drop (n + 1) cs))))) (at lt)))
-    | inr ge ↦
-        ap (filter is_some_word) (cut_none is_blank cs (omega arith) (λ k h. before k (omega arith)))
-        ∙ ap (λ (b : Bool). cond b (cs ∷ []) []) (some_word cs (omega arith))
-        ∙ ap (λ (t : List ℕ). t ∷ []) (sym (take_all n cs ge))
-        ∙ ap (λ (t : List ℕ). take n cs ∷ words t) (sym (drop_all n cs ge))
-  ]
+  | inl lt ↦
+      ap (filter is_some_word) (cut_front is_blank cs n lt before (at lt))
+      ∙ ap (λ (b : Bool). cond b (take n cs ∷ words (drop (n + 1) cs)) (words (drop (n + 1) cs))) (some_front n cs some (omega arith))
+      ∙ ap (λ (t : List (List ℕ)). take n cs ∷ t)
+      (sym (ap words (drop_more cs n 0 lt)
+      ∙ ap (λ (b : Bool). filter is_some_word (cond b ([] ∷ cut is_blank (drop (n + 1) cs)) (in_front (get_or cs n 0) (cut is_blank (drop (n + 1) cs))))) (at lt)))
+  | inr ge ↦
+      ap (filter is_some_word) (cut_none is_blank cs (omega arith) (λ k h. before k (omega arith)))
+      ∙ ap (λ (b : Bool). cond b (cs ∷ []) []) (some_word cs (omega arith))
+      ∙ ap (λ (t : List ℕ). t ∷ []) (sym (take_all n cs ge))
+      ∙ ap (λ (t : List ℕ). take n cs ∷ words t) (sym (drop_all n cs ge))
+]
 
 -- the first word of a line behind its blanks
 pub first_word : (cs rest word more : List ℕ) (m n : ℕ) → m ≤ length cs → ((k : ℕ) → k < m → is_blank (get_or cs k 0) ≡ true) → (m < length cs → is_blank (get_or cs m 0) ≡ false) → rest ≡ drop m cs → 0 < length rest
@@ -108,8 +108,7 @@ first_word cs rest word more m n m-within blank letter rest-is some within befor
           let zero-is : n ≡ 0 = omega arith in
           let is-blank : is_blank (get_or rest 0 0) ≡ true = subst (λ (k : ℕ). is_blank (get_or rest k 0) ≡ true) zero-is (at (omega arith)) in
           absurd (true_not_false _ (sym is-blank ∙ ap is_blank first ∙ letter lt))
-    ] in
-    (
+    ] in (
       after_blanks cs m m-within blank ∙ ap words (sym rest-is) ∙ word_and_more rest n some-letters within before at ∙ ap (λ (t : List ℕ). t ∷ words (drop n rest)) (sym word-is) ∙ ap (λ (t : List ℕ). word ∷ words t) (sym more-is),
-      omega (arith, ap (length {A = ℕ}) word-is, length-take-le n rest within)
+      omega (arith, ap (length {A = ℕ}) word-is, length-take-le n rest within),
     )

@@ -9,3 +9,4 @@ pub mod Stopping
 pub mod Continuing
 pub mod Refusing
 pub mod Endings
+pub mod Uniqueness

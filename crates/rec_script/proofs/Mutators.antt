@@ -67,11 +67,11 @@ last_at (x ∷ xs) last (suc i) e = last_at xs last i (omega arith)
 
 pub longest_so_far : (css : List (List Cmd)) (t longest next : ℕ) (cmds : List Cmd) → slice_get css t ≡ Some cmds → longest ≤ next → length cmds ≤ next → ((k : ℕ) → k < t → length (get_or css k []) ≤ longest) → (k : ℕ) → k < t + 1 → length (get_or css k []) ≤ next
 longest_so_far css t longest next cmds e more long bound k lt = elim (cases_lt k t) [
-    | inl below ↦ omega (arith, bound k below)
-    | inr ge ↦
-        let same : k ≡ t = omega arith in
-        omega (arith, ap (length {A = Cmd}) (ap (λ (j : ℕ). get_or css j []) same ∙ (at css t cmds e).1 []))
-  ]
+  | inl below ↦ omega (arith, bound k below)
+  | inr ge ↦
+      let same : k ≡ t = omega arith in
+      omega (arith, ap (length {A = Cmd}) (ap (λ (j : ℕ). get_or css j []) same ∙ (at css t cmds e).1 []))
+]
 
 pub reached_at : (css : List (List Cmd)) (t next : ℕ) (cmds : List Cmd) → slice_get css t ≡ Some cmds → length cmds ≡ next → Any (λ cmds. length cmds ≡ next) css
 reached_at css t next cmds e same = let is = at css t cmds e in (t, cmds, is.0, is.1 cmds, same)
@@ -86,4 +86,3 @@ one_mutator_more s f r earlier last script room =
       most_mutators = omega (arith, length-append (earlier ++ last ∷ []) ([] ∷ []));
       commands = All-push (AreCommands r f) (earlier ++ last ∷ []) [] script.commands (record { few = omega arith; in_range = λ k d lt. absurd (omega arith) });
     }
-

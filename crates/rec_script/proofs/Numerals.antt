@@ -24,6 +24,7 @@ digit_range c h = (low c h, high c h)
   where
     low : (c : ℕ) → is_ascii_digit c ≡ true → 48 ≤ c
     low c h = grind (arith, nat_tests)
+
     high : (c : ℕ) → is_ascii_digit c ≡ true → c ≤ 57
     high c h = grind (arith, nat_tests)
 
@@ -69,9 +70,9 @@ too_large word i value is large n numeral = omega (arith, digits_value-take-le 1
 -- digits without a leading zero are the numeral of their number
 pub is_numeral : (word : List ℕ) (value : ℕ) → 0 < length word → (get_or word 0 0 ≡ 48 → ⊥) → AreDigits word → value ≡ digits_value 10 word → value < 2 ^ 32 → IsNumeralOf word value
 is_numeral word value some front digits is small = (
-    small,
-    sym (ap decimal is ∙ decimal-digits_value own word digits some (λ e. absurd (front e)) (omega (arith, is))),
-  )
+  small,
+  sym (ap decimal is ∙ decimal-digits_value own word digits some (λ e. absurd (front e)) (omega (arith, is))),
+)
 
 pub whole : (word : List ℕ) (n : ℕ) → n ≡ length word → digits_value 10 (take n word) ≡ digits_value 10 word
 whole word n is = ap (digits_value 10) (take_all n word (omega arith))

@@ -13,6 +13,6 @@ continued_front text n contents h = (drop n text, contents, subst (λ (t : List 
 pub refused_no_text : (bytes : List ℕ) (line : ℕ) (kind : Kind) → IsRefused bytes line kind → IsText bytes → ⊥
 refused_no_text bytes line kind (inl long) text = omega (arith, long.many, text.1)
 refused_no_text bytes line kind (inr stopped) text = elim stopped.named [
-    | inl at ↦ at.2.not_with (continued_front (lines bytes) (at.0 + 1) text.0 text.2)
-    | inr late ↦ late.1.not_whole text.0 text.2
-  ]
+  | inl at ↦ at.2.not_with (continued_front (lines bytes) (at.0 + 1) text.0 text.2)
+  | inr late ↦ late.1.not_whole text.0 text.2
+]

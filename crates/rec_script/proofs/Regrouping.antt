@@ -137,10 +137,10 @@ pub record SameHeap (s f r s' f' r' : ℕ) : Type 0 where
 
 pub same_heap : (s f r s' f' r' : ℕ) → IsHeap s f r → IsHeap s' f' r' → heap_line s f r ≡ heap_line s' f' r' → SameHeap s f r s' f' r'
 same_heap s f r s' f' r' h h' e = record {
-    slots = sym (value s (omega (arith, h.most_slots))) ∙ ap (λ (t : List (List ℕ)). digits_value 10 (get_or t 1 [])) e ∙ value s' (omega (arith, h'.most_slots));
-    fields = sym (value f (omega (arith, h.most_fields))) ∙ ap (λ (t : List (List ℕ)). digits_value 10 (get_or t 2 [])) e ∙ value f' (omega (arith, h'.most_fields));
-    registers = sym (value r (omega (arith, h.most_registers))) ∙ ap (λ (t : List (List ℕ)). digits_value 10 (get_or t 3 [])) e ∙ value r' (omega (arith, h'.most_registers));
-  }
+  slots = sym (value s (omega (arith, h.most_slots))) ∙ ap (λ (t : List (List ℕ)). digits_value 10 (get_or t 1 [])) e ∙ value s' (omega (arith, h'.most_slots));
+  fields = sym (value f (omega (arith, h.most_fields))) ∙ ap (λ (t : List (List ℕ)). digits_value 10 (get_or t 2 [])) e ∙ value f' (omega (arith, h'.most_fields));
+  registers = sym (value r (omega (arith, h.most_registers))) ∙ ap (λ (t : List (List ℕ)). digits_value 10 (get_or t 3 [])) e ∙ value r' (omega (arith, h'.most_registers));
+}
 
 -- what is behind the first two lines
 abbrev pub behind_heap : List (List (List ℕ)) → List (List (List ℕ))

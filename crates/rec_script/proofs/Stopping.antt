@@ -87,9 +87,9 @@ behind mine line rest other is-mine is-other e =
       heaps = same_heap mine.slots mine.fields mine.registers other.slots other.fields other.registers is-mine.heap is-other.heap (ap (λ (t : List (List (List ℕ))). get_or t 1 []) e);
       body = body;
       groups =
-        sym (regroup_mutators mine.registers mine.fields mine.commands (line ∷ rest) (small mine.slots mine.fields mine.registers is-mine.heap) is-mine.commands)
-        ∙ ap regroup body
-        ∙ regrouped other.registers other.fields other.commands (small other.slots other.fields other.registers is-other.heap) is-other.commands;
+          sym (regroup_mutators mine.registers mine.fields mine.commands (line ∷ rest) (small mine.slots mine.fields mine.registers is-mine.heap) is-mine.commands)
+          ∙ ap regroup body
+          ∙ regrouped other.registers other.fields other.commands (small other.slots other.fields other.registers is-other.heap) is-other.commands;
     }
 
 -- the line behind a script is of its continuation's body
@@ -123,14 +123,14 @@ no_bad_operand mine line cmd kind is-mine shape wrong other is e =
 
 no_bad_command : (mine : Contents) (line : List (List ℕ)) (rest : List (List (List ℕ))) (other : Contents) (kind : Kind) → IsScript mine → IsScript other → Behind mine line rest other → line ≢ mutator_line → IsBadCommand mine.registers mine.fields (last_length mine.commands) line kind → ⊥
 no_bad_command mine line rest other _ is-mine is-other b no-mutator (IsBadCommand.unknown none) = elim (body_line mine line rest other is-other b) [
-    | inl is ↦ no-mutator is
-    | inr is ↦ none is.0 (ap (λ (t : List (List ℕ)). get_or t 0 []) is.2, ap length is.2)
-  ]
+  | inl is ↦ no-mutator is
+  | inr is ↦ none is.0 (ap (λ (t : List (List ℕ)). get_or t 0 []) is.2, ap length is.2)
+]
 no_bad_command mine line rest other _ is-mine is-other b no-mutator (IsBadCommand.too_many cmd shape full) = no_more_commands mine line rest other cmd is-mine is-other b shape full
 no_bad_command mine line rest other kind is-mine is-other b no-mutator (IsBadCommand.operand cmd _ shape room wrong) = elim (body_line mine line rest other is-other b) [
-    | inl is ↦ no-mutator is
-    | inr is ↦ no_bad_operand mine line cmd kind is-mine shape wrong is.0 is.1 is.2
-  ]
+  | inl is ↦ no-mutator is
+  | inr is ↦ no_bad_operand mine line cmd kind is-mine shape wrong is.0 is.1 is.2
+]
 
 first_mutator : (line : List (List ℕ)) (rest : List (List (List ℕ))) (css : List (List Cmd)) → 1 ≤ length css → line ∷ rest ≡ flat_map mutator_lines css → line ≡ mutator_line
 first_mutator line rest [] some e = absurd (omega arith)

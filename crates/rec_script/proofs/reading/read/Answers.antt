@@ -11,7 +11,6 @@ use Rattle.rec_script.proofs.Refusing.{refused_no_text}
 use Rattle.rec_script.proofs.Endings.{Next, next, counted_next, utf8_next, refused_at, Ended, ended, refused_open, no_lines}
 use Rattle.rec_script.proofs.reading.read.Goals as goal
 
-
 pub returns-in_err-take-clause-refused : goal.returns-in_err-take-clause-refused
 returns-in_err-take-clause-refused c = λ line kind e.
     let p = err_from_is_err_and c.from_residual.result c.from_residual.ensures.1 in

@@ -19,10 +19,10 @@ loop-t-preserved c =
             small = omega (arith, c.commands-length.ensures.valid.few);
           }
       | else-length-longest w ↦ record {
-          bound = longest_so_far c.args.self.now.commands c.loop-t.t c.loop-t.longest c.if-length-longest.longest c.commands-length.result.now here (omega arith) (omega arith) c.loop-t.invariant.bound;
-          reached = subst (λ (n : ℕ). Any (λ cmds. length cmds ≡ n) c.args.self.now.commands) (sym w.longest-is) c.loop-t.invariant.reached;
-          small = omega arith;
-        }
+        bound = longest_so_far c.args.self.now.commands c.loop-t.t c.loop-t.longest c.if-length-longest.longest c.commands-length.result.now here (omega arith) (omega arith) c.loop-t.invariant.bound;
+        reached = subst (λ (n : ℕ). Any (λ cmds. length cmds ≡ n) c.args.self.now.commands) (sym w.longest-is) c.loop-t.invariant.reached;
+        small = omega arith;
+      }
     ]
 
 pub returns-clause-bound : goal.returns-clause-bound
