@@ -84,7 +84,7 @@ fits_once before line a _ (Fits.bad_command mine _ is-mine spelt no-mutator bad)
 fits_once before line a _ (Fits.bad_command mine _ is-mine spelt no-mutator bad) (Fits.bad_heap one' wrong') = absurd (omega (arith, lengths before (spelled mine) (header ∷ []) spelt one', three mine is-mine))
 fits_once before line a _ (Fits.bad_command mine _ is-mine spelt no-mutator bad) (Fits.no_mutator s' f' r' heap' two' wrong') = absurd (omega (arith, lengths before (spelled mine) (header ∷ heap_line s' f' r' ∷ []) spelt two', three mine is-mine))
 fits_once before line a _ (Fits.bad_command mine _ is-mine spelt no-mutator bad) (Fits.too_many_mutators mine' is-mine' spelt' is' full') = absurd (no-mutator is')
-fits_once before line a b (Fits.bad_command mine _ is-mine spelt no-mutator bad) (Fits.bad_command mine' _ is-mine' spelt' no-mutator' bad') = 
+fits_once before line a b (Fits.bad_command mine _ is-mine spelt no-mutator bad) (Fits.bad_command mine' _ is-mine' spelt' no-mutator' bad') =
     let same : mine' ≡ mine = same_script mine' mine is-mine' is-mine (sym spelt' ∙ spelt) in
     bad_command_once mine.registers mine.fields (last_length mine.commands) line a b bad (subst (λ (c : Contents). IsBadCommand c.registers c.fields (last_length c.commands) line b) same bad')
 
@@ -123,14 +123,14 @@ not_open text n a b x y = x.not_with (front_continues (take (n + 1) text) (drop 
 
 stops_once : (text : List (List ℕ)) (m n : ℕ) (a b : Kind) → StopsAt text m a → StopsAt text n b → (m ≡ n) × (a ≡ b)
 stops_once text m n a b x y = elim (cases_lt m n) [
-    | inl lt ↦ absurd (not_earlier text m n a b x y lt)
-    | inr ge ↦ elim (cases_lt n m) [
-      | inl gt ↦ absurd (not_earlier text n m b a y x gt)
-      | inr le ↦
-          let same : n ≡ m = omega arith in
-          (sym same, fault_once (counted (take m text)) (get_or text m []) a b x.fault (subst (λ (k : ℕ). IsFault (counted (take k text)) (get_or text k []) b) same y.fault))
-    ]
+  | inl lt ↦ absurd (not_earlier text m n a b x y lt)
+  | inr ge ↦ elim (cases_lt n m) [
+    | inl gt ↦ absurd (not_earlier text n m b a y x gt)
+    | inr le ↦
+        let same : n ≡ m = omega arith in
+        (sym same, fault_once (counted (take m text)) (get_or text m []) a b x.fault (subst (λ (k : ℕ). IsFault (counted (take k text)) (get_or text k []) b) same y.fault))
   ]
+]
 
 pub refused_once : (bytes : List ℕ) (line other : ℕ) (kind wrong : Kind) → IsRefused bytes line kind → IsRefused bytes other wrong → (line ≡ other) × (kind ≡ wrong)
 refused_once bytes line other kind wrong (inl x) (inl y) = (x.whole ∙ sym y.whole, x.named ∙ sym y.named)

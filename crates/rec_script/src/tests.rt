@@ -23,12 +23,7 @@ fn with_line(alloc: Global, line: &[u8]) -> Result<Vec<u8>, AllocError> {
 }
 
 /// A script's first lines, and so many lines alike.
-fn with_lines(
-    alloc: Global,
-    front: &[u8],
-    line: &[u8],
-    count: u32,
-) -> Result<Vec<u8>, AllocError> {
+fn with_lines(alloc: Global, front: &[u8], line: &[u8], count: u32) -> Result<Vec<u8>, AllocError> {
     let mut bytes = Vec::new(alloc);
     bytes.extend_from_slice(front)?;
     for _ in 0..count {
@@ -43,7 +38,10 @@ fn reads_every_command(rt: HostRuntime) -> Result<(), Fail> {
         rt.alloc(),
         b"\t# all of them\n \nrecycler  1\nheap 65535 16 64\r\n mutator\nnew 63 4294967295\nnull\t0\t\r\n#\nmutator\ncopy 1 2\nget 3 4 15\nput 5 0 6\nvalue 7\n\nsame 8 9",
     )?;
-    assert_eq!(rt; (script.slots(), script.fields(), script.registers()), (65_535, 16, 64));
+    assert_eq!(rt;
+        (script.slots(), script.fields(), script.registers()),
+        (65_535, 16, 64)
+    );
     assert_eq!(rt; (script.mutators(), script.longest()), (2, 5));
     let first = [
         Cmd::New {
@@ -84,7 +82,11 @@ fn refuses_whole_texts(rt: HostRuntime) -> Result<(), Fail> {
         (b"recycler 1\nheap 4 1 2\n\xff\n", 3, Kind::NotUtf8),
         (b"recycler 1\nheap 4 1 2\n# \xff\n", 3, Kind::NotUtf8),
         (b"# a\n\nrecycler 1\n\nheap 4 1\n", 5, Kind::BadHeap),
-        (b"recycler 1\nheap 4 1 2\nmutator\nput 1 0", 4, Kind::BadCommand),
+        (
+            b"recycler 1\nheap 4 1 2\nmutator\nput 1 0",
+            4,
+            Kind::BadCommand,
+        ),
     ];
     for (bytes, line, kind) in table {
         assert_eq!(rt; refusal(rt.alloc(), bytes), Some((line, kind)));
@@ -121,12 +123,18 @@ fn refuses_one_too_many(rt: HostRuntime) -> Result<(), Fail> {
     let mutators = with_lines(rt.alloc(), front, b"mutator\n", 8)?;
     assert_eq!(rt; refusal(rt.alloc(), &mutators), None);
     let mutators = with_lines(rt.alloc(), front, b"mutator\n", 9)?;
-    assert_eq!(rt; refusal(rt.alloc(), &mutators), Some((11, Kind::TooManyMutators)));
+    assert_eq!(rt;
+        refusal(rt.alloc(), &mutators),
+        Some((11, Kind::TooManyMutators))
+    );
     let front = b"recycler 1\nheap 4 1 2\nmutator\n";
     let commands = with_lines(rt.alloc(), front, b"null 0\n", 200_000)?;
     assert_eq!(rt; refusal(rt.alloc(), &commands), None);
     let commands = with_lines(rt.alloc(), front, b"null 0\n", 200_001)?;
-    assert_eq!(rt; refusal(rt.alloc(), &commands), Some((200_004, Kind::TooManyCommands)));
+    assert_eq!(rt;
+        refusal(rt.alloc(), &commands),
+        Some((200_004, Kind::TooManyCommands))
+    );
     let spaces = with_lines(rt.alloc(), b" ", b" ", 16_777_216)?;
     assert_eq!(rt; refusal(rt.alloc(), &spaces), Some((0, Kind::TooLong)));
     Ok(())
