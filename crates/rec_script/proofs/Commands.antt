@@ -1,14 +1,11 @@
 -- The first word of a line tells which command it is.
-use Rattle.std.proofs.Common.{◌≡◌, ◌≢◌, ◌⊎◌, inl, inr, ℕ, suc, ◌+◌, ◌*◌, ◌^◌, ◌<◌, ◌≤◌, ◌==◌, Bool, true, false, cond, List, [], ◌∷◌, ◌++◌, length, get_or, drop, map, refl, sym, ap, subst, ◌∙◌, arith}
+use Rattle.std.proofs.Common.{◌≡◌, ◌≢◌, ℕ, suc, ◌+◌, ◌*◌, ◌==◌, Bool, true, false, cond, List, ◌∷◌, length, get_or, map, refl, sym, ap, subst, ◌∙◌, arith}
 use Rattle.std.specs.Prelude.{codes, ◌↔◌, IsTrue}
 use Rattle.std.specs.Fmt.{decimal}
-use Rattle.std.specs.Str.Parse.{digits_value}
-use Rattle.std.proofs.lemmas.List.{length-map}
 use Rattle.rec_model.specs.declared.command.Cmd.{Cmd}
 use Rattle.rec_model.specs.declared.command.Cmd.TheVariants.{New, Null, Copy, Get, Put, Value, Same}
 use Rattle.rec_script.specs.declared.error.Kind.{Kind}
-use Rattle.rec_script.specs.declared.error.Kind.TheVariants.{TooManyCommands}
-use Rattle.rec_script.specs.Script.{word_of, operands_of, command_line, mutator_line, limits_of, IsShaped, AreWrong, IsBadCommand, IsCommand}
+use Rattle.rec_script.specs.Script.{word_of, operands_of, limits_of, IsShaped, IsBadCommand}
 use Rattle.rec_script.specs.Operands.{AreMisread}
 
 -- the first two letters, which tell the words apart

@@ -1,6 +1,6 @@
 -- Lines that spell the beginning of a script are continued by some lines.
-use Rattle.std.proofs.Common.{◌≡◌, ◌≢◌, ℕ, zero, suc, ◌+◌, ◌<◌, ◌≤◌, true, List, [], ◌∷◌, ◌++◌, length, get_or, take, drop, refl, sym, ap, subst, ◌∙◌, arith, append_assoc, append-nil, length-append}
-use Rattle.std.specs.Prelude.{codes, All}
+use Rattle.std.proofs.Common.{◌≡◌, ℕ, zero, suc, ◌<◌, List, [], ◌∷◌, ◌++◌, get_or, sym, ap, subst, ◌∙◌, arith, append_assoc, append-nil}
+use Rattle.std.specs.Prelude.{codes}
 use Rattle.std.specs.List.{AllByRecursion}
 use Rattle.std.specs.Fmt.{decimal}
 use Rattle.std.specs.Str.{IsUtf8}
@@ -11,7 +11,7 @@ use Rattle.std.proofs.lemmas.List.Elements.{All-push}
 use Rattle.rec_script.specs.declared.draft.Draft.{Draft}
 use Rattle.rec_script.specs.declared.draft.Draft.TheVariants.{Nothing, Header, Sized, Whole}
 use Rattle.rec_script.specs.Lines.{words, counted, AreUtf8}
-use Rattle.rec_script.specs.Script.{Contents, IsHeap, AreCommands, IsScript, Spells, Continues, header, heap_line, mutator_line, spelled}
+use Rattle.rec_script.specs.Script.{Contents, IsHeap, AreCommands, IsScript, Spells, Continues, header, heap_line, spelled}
 use Rattle.rec_script.specs.Drafts.{so_far, IsDraft}
 use Rattle.rec_script.proofs.Stopping.{counted-append}
 

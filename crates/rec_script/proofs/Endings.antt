@@ -1,6 +1,5 @@
 -- What the lines so far have spelled tells where a text stops.
-use Rattle.std.proofs.Common.{◌≡◌, ◌≢◌, ◌⊎◌, inl, inr, ℕ, suc, ◌+◌, ◌-◌, ◌<◌, ◌≤◌, List, [], ◌∷◌, ◌++◌, length, get_or, take, drop, refl, sym, ap, subst, ◌∙◌, arith, length-drop}
-use Rattle.std.specs.Prelude.{All}
+use Rattle.std.proofs.Common.{◌≡◌, inl, inr, ℕ, ◌+◌, ◌<◌, ◌≤◌, List, [], ◌∷◌, ◌++◌, length, get_or, take, drop, refl, sym, ap, subst, ◌∙◌, arith, length-drop}
 use Rattle.std.specs.List.{flat_map}
 use Rattle.std.specs.Str.{IsUtf8}
 use Rattle.std.proofs.lemmas.List.{take_more, drop_more, take_all}
@@ -9,7 +8,7 @@ use Rattle.rec_model.specs.declared.command.Cmd.{Cmd}
 use Rattle.rec_script.specs.declared.error.Kind.{Kind}
 use Rattle.rec_script.specs.declared.draft.Draft.{Draft}
 use Rattle.rec_script.specs.Lines.{lines, counted, AreUtf8}
-use Rattle.rec_script.specs.Script.{Contents, IsScript, IsRefused, IsStopped, Spells, Continues, StopsAt, StaysOpen, IsFault, IsNeed, header, heap_line, mutator_lines, spelled}
+use Rattle.rec_script.specs.Script.{Contents, IsScript, IsRefused, Continues, StopsAt, IsFault, IsNeed, mutator_lines, spelled}
 use Rattle.rec_script.specs.Drafts.{so_far, IsDraft}
 use Rattle.rec_script.proofs.Stopping.{counted-append, stops}
 use Rattle.rec_script.proofs.Continuing.{continues}

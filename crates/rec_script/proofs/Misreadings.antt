@@ -1,5 +1,5 @@
 -- What is wrong with operands that were read one after another.
-use Rattle.std.proofs.Common.{◌≡◌, ◌⊎◌, inl, inr, ℕ, ◌<◌, List, [], ◌∷◌, length, sym, ap, subst, ◌∙◌}
+use Rattle.std.proofs.Common.{◌≡◌, inl, inr, ℕ, ◌<◌, List, ◌∷◌, length, sym, ap, subst, ◌∙◌}
 use Rattle.rec_script.specs.declared.error.Kind.{Kind}
 use Rattle.rec_script.specs.declared.error.Kind.TheVariants.{TooManyCommands}
 use Rattle.rec_script.specs.Script.{IsNumeralOf, IsRight, IsWrong, AreWrong}

@@ -1,14 +1,11 @@
 -- The mutators of a script, of which the last one stands apart.
-use Rattle.std.proofs.Common.{◌≡◌, ℕ, zero, suc, ◌+◌, ◌-◌, ◌<◌, ◌≤◌, List, [], ◌∷◌, ◌++◌, length, get_or, map, Some, inl, inr, refl, sym, ap, subst, ◌∙◌, arith, append_assoc, append-nil, length-append}
-use Rattle.std.specs.List.{flat_map, AllByRecursion}
+use Rattle.std.proofs.Common.{◌≡◌, ℕ, zero, suc, ◌+◌, ◌<◌, ◌≤◌, List, [], ◌∷◌, ◌++◌, length, get_or, map, Some, inl, inr, refl, sym, ap, subst, ◌∙◌, arith, length-append}
 use Rattle.std.specs.Prelude.{All, Any, slice_get}
-use Rattle.std.proofs.lemmas.List.{append-nil, flat_map_more, map-append, length-map}
-use Rattle.std.proofs.lemmas.Grind.{flat_map-append}
 use Rattle.std.proofs.lemmas.Bool.{cases_lt}
 use Rattle.std.proofs.lemmas.Option.{none-some, same_Some}
-use Rattle.std.proofs.lemmas.List.Elements.{All-append, All-push, All-cons, All-head, All-tail}
+use Rattle.std.proofs.lemmas.List.Elements.{All-push, All-cons, All-head, All-tail}
 use Rattle.rec_model.specs.declared.command.Cmd.{Cmd}
-use Rattle.rec_script.specs.Script.{Contents, IsCommand, IsHeap, AreCommands, IsScript, mutator_line, mutator_lines, command_line, last_length, spelled}
+use Rattle.rec_script.specs.Script.{Contents, IsCommand, AreCommands, IsScript, last_length}
 
 pub last_of : (earlier : List (List Cmd)) (last : List Cmd) → last_length (earlier ++ last ∷ []) ≡ length last
 last_of [] last = refl

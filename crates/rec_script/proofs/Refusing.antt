@@ -1,10 +1,9 @@
 -- A refused text is no script's.
-use Rattle.std.proofs.Common.{◌≡◌, ◌≢◌, ◌⊎◌, inl, inr, ℕ, ◌+◌, ◌<◌, ◌≤◌, List, [], ◌∷◌, ◌++◌, length, get_or, take, drop, refl, sym, ap, subst, ◌∙◌, arith, append-nil}
-use Rattle.std.specs.List.{flat_map}
-use Rattle.std.proofs.lemmas.List.{append-nil, take-append-drop}
+use Rattle.std.proofs.Common.{inl, inr, ℕ, ◌+◌, List, take, drop, sym, subst, arith}
+use Rattle.std.proofs.lemmas.List.{take-append-drop}
 use Rattle.rec_script.specs.declared.error.Kind.{Kind}
-use Rattle.rec_script.specs.Lines.{lines, counted}
-use Rattle.rec_script.specs.Script.{Contents, IsScript, IsText, IsRefused, Spells, Continues, StopsAt, StaysOpen, spelled}
+use Rattle.rec_script.specs.Lines.{lines}
+use Rattle.rec_script.specs.Script.{Contents, IsText, IsRefused, Spells, Continues}
 
 -- the first lines of a script's text are continued by the others
 pub continued_front : (text : List (List ℕ)) (n : ℕ) (contents : Contents) → Spells text contents → Continues (take n text)

@@ -1,19 +1,19 @@
 -- Behind a line that is wrong no lines make a script's text.
-use Rattle.std.proofs.Common.{◌≡◌, ◌≢◌, ◌⊎◌, inl, inr, ℕ, zero, suc, ◌+◌, ◌^◌, ◌<◌, ◌≤◌, ◌==◌, Bool, true, false, cond, List, [], ◌∷◌, ◌++◌, length, get_or, drop, map, refl, sym, ap, subst, ◌∙◌, arith, append_assoc, length-append}
-use Rattle.std.specs.Prelude.{codes, All, filter}
-use Rattle.std.specs.List.{flat_map, AllByRecursion}
+use Rattle.std.proofs.Common.{◌≡◌, ◌≢◌, ◌⊎◌, inl, inr, ℕ, suc, ◌^◌, ◌<◌, ◌≤◌, Bool, true, cond, List, [], ◌∷◌, ◌++◌, length, get_or, drop, map, refl, sym, ap, subst, ◌∙◌, arith, append_assoc}
+use Rattle.std.specs.Prelude.{All, filter}
+use Rattle.std.specs.List.{flat_map}
 use Rattle.std.specs.Fmt.{decimal}
 use Rattle.std.specs.Str.{IsUtf8}
-use Rattle.std.proofs.lemmas.List.{append-nil, map-append}
+use Rattle.std.proofs.lemmas.List.{map-append}
 use Rattle.std.proofs.lemmas.List.Elements.{All-head, All-tail, All-cons, All-append, All-map, filter-append}
 use Rattle.rec_model.specs.declared.command.Cmd.{Cmd}
 use Rattle.rec_model.specs.declared.command.Cmd.TheVariants.{New, Null, Copy, Get, Put, Value, Same}
 use Rattle.rec_script.specs.declared.error.Kind.{Kind}
 use Rattle.rec_script.specs.Lines.{words, is_counted, counted, AreUtf8}
-use Rattle.rec_script.specs.Script.{Contents, IsCommand, IsHeap, AreCommands, IsScript, Spells, Continues, header, heap_line, mutator_line, mutator_lines, command_line, word_of, operands_of, limits_of, last_length, spelled, IsShaped, IsNumeralOf, IsRight, IsWrong, AreWrong, IsBadCommand, Fits, IsFault}
+use Rattle.rec_script.specs.Script.{Contents, IsCommand, AreCommands, IsScript, Continues, mutator_line, mutator_lines, command_line, word_of, operands_of, limits_of, last_length, spelled, IsShaped, IsWrong, AreWrong, IsBadCommand, Fits, IsFault}
 use Rattle.rec_script.proofs.Numerals.{same_number}
 use Rattle.rec_script.proofs.Commands.{same_limits}
-use Rattle.rec_script.proofs.Regrouping.{Groups, grouped, is_mutator, command_of, no_mutator_shape, regroup, glue, regroup_mutators, regrouped, glue_length, glue_last, small, same_heap, SameHeap, behind_heap}
+use Rattle.rec_script.proofs.Regrouping.{Groups, grouped, command_of, no_mutator_shape, regroup, glue, regroup_mutators, regrouped, glue_length, glue_last, small, same_heap, SameHeap, behind_heap}
 
 -- ---- lines that count
 

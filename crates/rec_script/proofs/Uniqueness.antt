@@ -1,12 +1,12 @@
 -- A text is refused in one way.
-use Rattle.std.proofs.Common.{◌≡◌, ◌≢◌, ◌⊎◌, inl, inr, ℕ, ◌+◌, ◌<◌, ◌≤◌, List, [], ◌∷◌, ◌++◌, length, get_or, take, drop, refl, sym, ap, subst, ◌∙◌, arith, append_assoc}
+use Rattle.std.proofs.Common.{◌≡◌, ◌⊎◌, inl, inr, ℕ, ◌+◌, ◌<◌, ◌≤◌, List, [], ◌∷◌, ◌++◌, length, get_or, take, drop, refl, sym, ap, subst, ◌∙◌, arith, append_assoc}
 use Rattle.std.specs.List.{flat_map}
 use Rattle.std.proofs.lemmas.Bool.{cases_lt}
 use Rattle.std.proofs.lemmas.List.{append-nil, take-append-drop, take-take}
 use Rattle.rec_model.specs.declared.command.Cmd.{Cmd}
 use Rattle.rec_script.specs.declared.error.Kind.{Kind}
 use Rattle.rec_script.specs.Lines.{lines, words, counted}
-use Rattle.rec_script.specs.Script.{Contents, IsScript, IsRefused, Spells, Continues, StopsAt, StaysOpen, IsFault, IsNeed, Fits, IsBadCommand, IsShaped, IsRight, IsWrong, AreWrong, limits_of, last_length, header, heap_line, mutator_line, mutator_lines, spelled}
+use Rattle.rec_script.specs.Script.{Contents, IsScript, IsRefused, Spells, Continues, StopsAt, StaysOpen, IsFault, IsNeed, Fits, IsBadCommand, IsRight, IsWrong, AreWrong, limits_of, last_length, header, heap_line, mutator_lines, spelled}
 use Rattle.rec_script.proofs.Numerals.{same_number}
 use Rattle.rec_script.proofs.Commands.{same_limits}
 use Rattle.rec_script.proofs.Regrouping.{same_script}

@@ -1,5 +1,4 @@
 use Rattle.rec_script.proofs.Refusing.{refused_no_text}
-use Rattle.rec_script.proofs.Continuing.{continues}
 use Rattle.rec_script.proofs.laws.refused_texts_spell_nothing.Goals as goal
 
 pub returns : goal.returns

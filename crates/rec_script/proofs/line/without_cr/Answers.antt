@@ -1,5 +1,4 @@
 use Rattle.std.proofs.Common.{sym, arith}
-use Rattle.std.proofs.lemmas.Grind.{common_steps}
 use Rattle.rec_script.proofs.Cuts.{with_cr, no_cr}
 use Rattle.rec_script.proofs.line.without_cr.Goals as goal
 use Rattle.rec_script.proofs.line.without_cr.Goals.{else-length-gt0-via-then-length-gt0+else-bytes-length-eq13, else-length-gt0-via-else-length-gt0}

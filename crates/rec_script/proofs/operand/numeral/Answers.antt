@@ -1,6 +1,4 @@
-use Rattle.std.proofs.Common.{◌≡◌, ◌<◌, ◌≤◌, ◌+◌, ◌-◌, ◌*◌, ℕ, length, get_or, take, refl, sym, ap, ◌∙◌, below_more, arith}
-use Rattle.std.specs.Int.{IsInRange}
-use Rattle.std.specs.Str.Parse.{digits_value}
+use Rattle.std.proofs.Common.{◌≡◌, ◌<◌, ◌+◌, ◌*◌, ℕ, length, get_or, refl, sym, ap, ◌∙◌, below_more, arith}
 use Rattle.std.proofs.lemmas.Grind.{common_steps}
 use Rattle.rec_script.proofs.Numerals.{no_empty_numeral, nought, no_leading_zero, no_other_byte, digit_range, no_digit, one_more, too_large, is_numeral, whole}
 use Rattle.rec_script.proofs.operand.numeral.Goals as goal

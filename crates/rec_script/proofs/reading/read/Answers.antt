@@ -1,14 +1,12 @@
-use Rattle.std.proofs.Common.{◌≡◌, ◌<◌, ◌≤◌, ◌+◌, ◌∷◌, [], ◌++◌, ℕ, List, length, take, drop, sym, ap, ◌∙◌, arith, Result, Err}
+use Rattle.std.proofs.Common.{◌≡◌, ◌+◌, ◌∷◌, [], ◌++◌, ℕ, List, length, sym, ap, ◌∙◌, arith, Result, Err}
 use Rattle.std.proofs.lemmas.Grind.{common_steps}
 use Rattle.std.proofs.lemmas.Result.{err_from_is_err_and}
-use Rattle.rec_script.specs.declared.error.Kind.{Kind}
 use Rattle.rec_script.specs.declared.error.ScriptError.{ScriptError}
 use Rattle.rec_script.specs.declared.error.ScriptError.TheVariants.{Bad}
 use Rattle.rec_script.specs.Lines.{lines, counted}
-use Rattle.rec_script.specs.Script.{IsRefused}
 use Rattle.rec_script.proofs.Regrouping.{same_script}
 use Rattle.rec_script.proofs.Refusing.{refused_no_text}
-use Rattle.rec_script.proofs.Endings.{Next, next, counted_next, utf8_next, refused_at, Ended, ended, refused_open, no_lines}
+use Rattle.rec_script.proofs.Endings.{next, counted_next, utf8_next, refused_at, ended, refused_open, no_lines}
 use Rattle.rec_script.proofs.reading.read.Goals as goal
 
 pub returns-in_err-take-clause-refused : goal.returns-in_err-take-clause-refused

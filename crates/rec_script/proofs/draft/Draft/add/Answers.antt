@@ -1,4 +1,4 @@
-use Rattle.std.proofs.Common.{◌∷◌, sym, ◌∙◌}
+use Rattle.std.proofs.Common.{◌∷◌}
 use Rattle.rec_script.specs.Lines.{words}
 use Rattle.rec_script.specs.Script.{Fits}
 use Rattle.rec_script.specs.Drafts.{so_far}
