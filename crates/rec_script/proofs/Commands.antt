@@ -1,0 +1,80 @@
+-- The first word of a line tells which command it is.
+use Rattle.std.proofs.Common.{◌≡◌, ◌≢◌, ℕ, suc, ◌+◌, ◌*◌, ◌==◌, Bool, true, false, cond, List, ◌∷◌, length, get_or, map, refl, sym, ap, subst, ◌∙◌, arith}
+use Rattle.std.specs.Prelude.{codes, ◌↔◌, IsTrue}
+use Rattle.std.specs.Fmt.{decimal}
+use Rattle.rec_model.specs.declared.command.Cmd.{Cmd}
+use Rattle.rec_model.specs.declared.command.Cmd.TheVariants.{New, Null, Copy, Get, Put, Value, Same}
+use Rattle.rec_script.specs.declared.error.Kind.{Kind}
+use Rattle.rec_script.specs.Script.{word_of, operands_of, limits_of, IsShaped, IsBadCommand}
+use Rattle.rec_script.specs.Operands.{AreMisread}
+
+-- the first two letters, which tell the words apart
+abbrev pub letters : List ℕ → ℕ
+letters word = 256 * get_or word 0 0 + get_or word 1 0
+
+-- what a word chooses of seven things
+abbrev pub choose : {A : Type 0} → List ℕ → (new null copy get put value same : A) → A
+choose word new null copy get put value same =
+    cond (letters word == 28261) new (cond (letters word == 28277) null (cond (letters word == 25455) copy (cond (letters word == 26469) get (cond (letters word == 28789) put (cond (letters word == 30305) value same)))))
+
+-- the limits of operands, by the word
+abbrev limits_by_word : (registers fields : ℕ) → List ℕ → List (ℕ × Kind)
+limits_by_word registers fields word =
+    choose word (limits_of registers fields (New 0 0)) (limits_of registers fields (Null 0)) (limits_of registers fields (Copy 0 0)) (limits_of registers fields (Get 0 0 0)) (limits_of registers fields (Put 0 0 0)) (limits_of registers fields (Value 0)) (limits_of registers fields (Same 0 0))
+
+by_word : (registers fields : ℕ) (cmd : Cmd) → limits_by_word registers fields (word_of cmd) ≡ limits_of registers fields cmd
+by_word registers fields (New reg label) = refl
+by_word registers fields (Null reg) = refl
+by_word registers fields (Copy dst src) = refl
+by_word registers fields (Get dst src field) = refl
+by_word registers fields (Put src field val) = refl
+by_word registers fields (Value reg) = refl
+by_word registers fields (Same a b) = refl
+
+-- commands of one word have the same limits
+pub same_limits : (registers fields : ℕ) (a b : Cmd) → word_of a ≡ word_of b → limits_of registers fields a ≡ limits_of registers fields b
+same_limits registers fields a b e = sym (by_word registers fields a) ∙ ap (limits_by_word registers fields) e ∙ by_word registers fields b
+
+-- there is a limit for each operand
+pub limits_length : (registers fields : ℕ) (cmd : Cmd) → length (limits_of registers fields cmd) ≡ length (map decimal (operands_of cmd))
+limits_length registers fields (New reg label) = refl
+limits_length registers fields (Null reg) = refl
+limits_length registers fields (Copy dst src) = refl
+limits_length registers fields (Get dst src field) = refl
+limits_length registers fields (Put src field val) = refl
+limits_length registers fields (Value reg) = refl
+limits_length registers fields (Same a b) = refl
+
+suc_injective : (m n : ℕ) → suc m ≡ suc n → m ≡ n
+suc_injective m n e = omega arith
+
+-- what is wrong with the operands behind the word of a command is wrong with the line
+pub bad_operands : (registers fields count : ℕ) (cmd : Cmd) (word : List ℕ) (operands : List (List ℕ)) (kind : Kind) → word ≡ word_of cmd → AreMisread count (limits_of registers fields cmd) operands kind → IsBadCommand registers fields count (word ∷ operands) kind
+bad_operands registers fields count cmd word operands _ e (AreMisread.number other) =
+    IsBadCommand.unknown (λ any shape. other (
+    suc_injective (length operands) (length (map decimal (operands_of any))) shape.1
+    ∙ sym (limits_length registers fields any)
+    ∙ ap length (same_limits registers fields any cmd (sym shape.0 ∙ e))
+    ))
+bad_operands registers fields count cmd word operands _ e (AreMisread.too_many same full) = IsBadCommand.too_many cmd (e, ap suc (same ∙ limits_length registers fields cmd)) full
+bad_operands registers fields count cmd word operands kind e (AreMisread.operand _ same room wrong) = IsBadCommand.operand cmd kind (e, ap suc (same ∙ limits_length registers fields cmd)) room wrong
+
+-- the same where the limits are known by equations
+pub bad_operands_at : (registers fields count r f : ℕ) (cmd : Cmd) (word : List ℕ) (operands : List (List ℕ)) (kind : Kind) → r ≡ registers → f ≡ fields → word ≡ word_of cmd → AreMisread count (limits_of r f cmd) operands kind → IsBadCommand registers fields count (word ∷ operands) kind
+bad_operands_at registers fields count r f cmd word operands kind r-is f-is e h =
+    bad_operands registers fields count cmd word operands kind e (subst (λ (n : ℕ). AreMisread count (limits_of registers n cmd) operands kind) f-is (subst (λ (n : ℕ). AreMisread count (limits_of n f cmd) operands kind) r-is h))
+
+-- a test that gave false
+pub is_not : (b : Bool) (P : Type 0) → (IsTrue b ↔ P) → b ≡ false → P → ⊥
+is_not b P iff e p = let t : b ≡ true = iff.1 p in absurd (cc)
+
+-- no command has another word
+pub other_word : (word : List ℕ) (operands : List (List ℕ)) → word ≢ codes "new" → word ≢ codes "null" → word ≢ codes "copy" → word ≢ codes "get" → word ≢ codes "put" → word ≢ codes "value" → word ≢ codes "same"
+    → (cmd : Cmd) → IsShaped (word ∷ operands) cmd → ⊥
+other_word word operands no-new no-null no-copy no-get no-put no-value no-same (New reg label) shape = no-new shape.0
+other_word word operands no-new no-null no-copy no-get no-put no-value no-same (Null reg) shape = no-null shape.0
+other_word word operands no-new no-null no-copy no-get no-put no-value no-same (Copy dst src) shape = no-copy shape.0
+other_word word operands no-new no-null no-copy no-get no-put no-value no-same (Get dst src field) shape = no-get shape.0
+other_word word operands no-new no-null no-copy no-get no-put no-value no-same (Put src field val) shape = no-put shape.0
+other_word word operands no-new no-null no-copy no-get no-put no-value no-same (Value reg) shape = no-value shape.0
+other_word word operands no-new no-null no-copy no-get no-put no-value no-same (Same a b) shape = no-same shape.0

@@ -1,0 +1,12 @@
+pub mod Cuts
+pub mod Numerals
+pub mod Misreadings
+pub mod Commands
+pub mod Mutators
+pub mod Faults
+pub mod Regrouping
+pub mod Stopping
+pub mod Continuing
+pub mod Refusing
+pub mod Endings
+pub mod Uniqueness

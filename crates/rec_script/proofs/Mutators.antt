@@ -1,0 +1,85 @@
+-- The mutators of a script, of which the last one stands apart.
+use Rattle.std.proofs.Common.{◌≡◌, ℕ, zero, suc, ◌+◌, ◌<◌, ◌≤◌, List, [], ◌∷◌, ◌++◌, length, get_or, map, Some, inl, inr, refl, sym, ap, subst, ◌∙◌, arith, length-append}
+use Rattle.std.specs.Prelude.{All, Any, slice_get}
+use Rattle.std.proofs.lemmas.Bool.{cases_lt}
+use Rattle.std.proofs.lemmas.Option.{none-some, same_Some}
+use Rattle.std.proofs.lemmas.List.Elements.{All-push, All-cons, All-head, All-tail}
+use Rattle.rec_model.specs.declared.command.Cmd.{Cmd}
+use Rattle.rec_script.specs.Script.{Contents, IsCommand, AreCommands, IsScript, last_length}
+
+pub last_of : (earlier : List (List Cmd)) (last : List Cmd) → last_length (earlier ++ last ∷ []) ≡ length last
+last_of [] last = refl
+last_of (c ∷ []) last = refl
+last_of (c ∷ d ∷ cs) last = last_of (d ∷ cs) last
+
+pub all_last : {X : Type 0} (P : X → Type 0) (xs : List X) (x : X) → All P (xs ++ x ∷ []) → P x
+all_last P [] x h = All-head P x [] h
+all_last P (y ∷ ys) x h = all_last P ys x (All-tail P y (ys ++ x ∷ []) h)
+
+pub all_earlier : {X : Type 0} (P : X → Type 0) (xs : List X) (x : X) → All P (xs ++ x ∷ []) → All P xs
+all_earlier P [] x h = λ k d lt. absurd (omega arith)
+all_earlier P (y ∷ ys) x h = All-cons P y ys (All-head P y (ys ++ x ∷ []) h) (all_earlier P ys x (All-tail P y (ys ++ x ∷ []) h))
+
+-- the last mutator's commands are within their limits
+pub last_within : (contents : Contents) (earlier : List (List Cmd)) (last : List Cmd) → IsScript contents → contents.commands ≡ earlier ++ last ∷ [] → AreCommands contents.registers contents.fields last
+last_within contents earlier last script e = all_last (AreCommands contents.registers contents.fields) earlier last (subst (λ (t : List (List Cmd)). All (AreCommands contents.registers contents.fields) t) e script.commands)
+
+-- a script with other commands of its mutators
+pub with_commands : (s f r : ℕ) (cs ds : List (List Cmd)) → IsScript (record { slots = s; fields = f; registers = r; commands = cs }) → 1 ≤ length ds → length ds ≤ 8 → All (AreCommands r f) ds → IsScript (record { slots = s; fields = f; registers = r; commands = ds })
+with_commands s f r cs ds script some most all = record { heap = script.heap; some_mutators = some; most_mutators = most; commands = all }
+
+-- one command more is within the limits
+pub one_command_more : (s f r : ℕ) (earlier : List (List Cmd)) (last more : List Cmd) (cmd : Cmd) → IsScript (record { slots = s; fields = f; registers = r; commands = earlier ++ last ∷ [] }) → IsCommand r f cmd → last_length (earlier ++ last ∷ []) < 200000 → more ≡ last ++ cmd ∷ []
+    → IsScript (record { slots = s; fields = f; registers = r; commands = earlier ++ more ∷ [] })
+one_command_more s f r earlier last more cmd script in-range room e =
+    let within : AreCommands r f last = all_last (AreCommands r f) earlier last script.commands in
+    let few : length more ≤ 200000 = omega (arith, last_of earlier last, ap (length {A = Cmd}) e, length-append last (cmd ∷ [])) in
+    let grown : AreCommands r f more = record { few = few; in_range = subst (λ (t : List Cmd). All (IsCommand r f) t) (sym e) (All-push (IsCommand r f) last cmd within.in_range in-range) } in
+    record {
+      heap = script.heap;
+      some_mutators = omega (arith, length-append earlier (more ∷ []));
+      most_mutators = omega (arith, script.most_mutators, length-append earlier (more ∷ []), length-append earlier (last ∷ []));
+      commands = All-push (AreCommands r f) earlier more (all_earlier (AreCommands r f) earlier last script.commands) grown;
+    }
+
+-- ---- the commands of one mutator
+
+pub at : {X : Type 0} (xs : List X) (i : ℕ) (x : X) → slice_get xs i ≡ Some x → (i < length xs) × ((d : X) → get_or xs i d ≡ x)
+at [] i x e = absurd (none-some x e)
+at (y ∷ ys) zero x e = (omega arith, λ d. same_Some y x e)
+at (y ∷ ys) (suc i) x e = let on = at ys i x e in (omega (arith, on.0), on.1)
+
+pub earlier_at : {X : Type 0} (f : X → List Cmd) (earlier : List X) (last : List Cmd) (i : ℕ) (x : X) → i < length earlier → x ≡ get_or earlier i x → get_or (map f earlier ++ last ∷ []) i [] ≡ f x
+earlier_at f [] last i x lt e = absurd (omega arith)
+earlier_at f (y ∷ ys) last zero x lt e = ap f (sym e)
+earlier_at f (y ∷ ys) last (suc i) x lt e = earlier_at f ys last i x (omega arith) e
+
+pub last_at : (xs : List (List Cmd)) (last : List Cmd) (i : ℕ) → i ≡ length xs → slice_get (xs ++ last ∷ []) i ≡ Some last
+last_at [] last zero e = refl
+last_at [] last (suc i) e = absurd (omega arith)
+last_at (x ∷ xs) last zero e = absurd (omega arith)
+last_at (x ∷ xs) last (suc i) e = last_at xs last i (omega arith)
+
+-- ---- the longest one
+
+pub longest_so_far : (css : List (List Cmd)) (t longest next : ℕ) (cmds : List Cmd) → slice_get css t ≡ Some cmds → longest ≤ next → length cmds ≤ next → ((k : ℕ) → k < t → length (get_or css k []) ≤ longest) → (k : ℕ) → k < t + 1 → length (get_or css k []) ≤ next
+longest_so_far css t longest next cmds e more long bound k lt = elim (cases_lt k t) [
+  | inl below ↦ omega (arith, bound k below)
+  | inr ge ↦
+      let same : k ≡ t = omega arith in
+      omega (arith, ap (length {A = Cmd}) (ap (λ (j : ℕ). get_or css j []) same ∙ (at css t cmds e).1 []))
+]
+
+pub reached_at : (css : List (List Cmd)) (t next : ℕ) (cmds : List Cmd) → slice_get css t ≡ Some cmds → length cmds ≡ next → Any (λ cmds. length cmds ≡ next) css
+reached_at css t next cmds e same = let is = at css t cmds e in (t, cmds, is.0, is.1 cmds, same)
+
+-- one mutator more is within the limits
+pub one_mutator_more : (s f r : ℕ) (earlier : List (List Cmd)) (last : List Cmd) → IsScript (record { slots = s; fields = f; registers = r; commands = earlier ++ last ∷ [] }) → length (earlier ++ last ∷ []) < 8
+    → IsScript (record { slots = s; fields = f; registers = r; commands = (earlier ++ last ∷ []) ++ [] ∷ [] })
+one_mutator_more s f r earlier last script room =
+    record {
+      heap = script.heap;
+      some_mutators = omega (arith, length-append (earlier ++ last ∷ []) ([] ∷ []));
+      most_mutators = omega (arith, length-append (earlier ++ last ∷ []) ([] ∷ []));
+      commands = All-push (AreCommands r f) (earlier ++ last ∷ []) [] script.commands (record { few = omega arith; in_range = λ k d lt. absurd (omega arith) });
+    }

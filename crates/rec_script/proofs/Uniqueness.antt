@@ -1,0 +1,148 @@
+-- A text is refused in one way.
+use Rattle.std.proofs.Common.{◌≡◌, ◌⊎◌, inl, inr, ℕ, ◌+◌, ◌<◌, ◌≤◌, List, [], ◌∷◌, ◌++◌, length, get_or, take, drop, refl, sym, ap, subst, ◌∙◌, arith, append_assoc}
+use Rattle.std.specs.List.{flat_map}
+use Rattle.std.proofs.lemmas.Bool.{cases_lt}
+use Rattle.std.proofs.lemmas.List.{append-nil, take-append-drop, take-take}
+use Rattle.rec_model.specs.declared.command.Cmd.{Cmd}
+use Rattle.rec_script.specs.declared.error.Kind.{Kind}
+use Rattle.rec_script.specs.Lines.{lines, words, counted}
+use Rattle.rec_script.specs.Script.{Contents, IsScript, IsRefused, Spells, Continues, StopsAt, StaysOpen, IsFault, IsNeed, Fits, IsBadCommand, IsRight, IsWrong, AreWrong, limits_of, last_length, header, heap_line, mutator_lines, spelled}
+use Rattle.rec_script.proofs.Numerals.{same_number}
+use Rattle.rec_script.proofs.Commands.{same_limits}
+use Rattle.rec_script.proofs.Regrouping.{same_script}
+use Rattle.rec_script.proofs.Continuing.{continues_before}
+
+-- ---- operands
+
+wrong_once : (limit : ℕ × Kind) (word : List ℕ) (a b : Kind) → IsWrong limit word a → IsWrong limit word b → a ≡ b
+wrong_once limit word a b (inl x) (inl y) = x.0 ∙ sym y.0
+wrong_once limit word a b (inl x) (inr y) = absurd (x.1 y.0 y.1)
+wrong_once limit word a b (inr x) (inl y) = absurd (y.1 x.0 x.1)
+wrong_once limit word a b (inr x) (inr y) = x.3 ∙ sym y.3
+
+not_right : (limit : ℕ × Kind) (word : List ℕ) (kind : Kind) → IsWrong limit word kind → IsRight limit word → ⊥
+not_right limit word kind (inl x) right = x.1 right.0 right.1
+not_right limit word kind (inr x) right = omega (arith, same_number word x.0 right.0 x.1 right.1, x.2, right.2)
+
+are_wrong_once : (limits : List (ℕ × Kind)) (operands : List (List ℕ)) (a b : Kind) → AreWrong limits operands a → AreWrong limits operands b → a ≡ b
+are_wrong_once [] operands a b x y = absurd x
+are_wrong_once (limit ∷ limits) [] a b x y = absurd x
+are_wrong_once (limit ∷ limits) (word ∷ operands) a b (inl x) (inl y) = wrong_once limit word a b x y
+are_wrong_once (limit ∷ limits) (word ∷ operands) a b (inl x) (inr y) = absurd (not_right limit word a x y.0)
+are_wrong_once (limit ∷ limits) (word ∷ operands) a b (inr x) (inl y) = absurd (not_right limit word b y x.0)
+are_wrong_once (limit ∷ limits) (word ∷ operands) a b (inr x) (inr y) = are_wrong_once limits operands a b x.1 y.1
+
+-- ---- commands
+
+bad_command_once : (r f count : ℕ) (line : List (List ℕ)) (a b : Kind) → IsBadCommand r f count line a → IsBadCommand r f count line b → a ≡ b
+bad_command_once r f count line _ _ (IsBadCommand.unknown none) (IsBadCommand.unknown none') = refl
+bad_command_once r f count line _ _ (IsBadCommand.unknown none) (IsBadCommand.too_many cmd shape full) = absurd (none cmd shape)
+bad_command_once r f count line _ b (IsBadCommand.unknown none) (IsBadCommand.operand cmd _ shape room wrong) = absurd (none cmd shape)
+bad_command_once r f count line _ _ (IsBadCommand.too_many cmd shape full) (IsBadCommand.unknown none) = absurd (none cmd shape)
+bad_command_once r f count line _ _ (IsBadCommand.too_many cmd shape full) (IsBadCommand.too_many cmd' shape' full') = refl
+bad_command_once r f count line _ b (IsBadCommand.too_many cmd shape full) (IsBadCommand.operand cmd' _ shape' room wrong) = absurd (omega arith)
+bad_command_once r f count line a _ (IsBadCommand.operand cmd _ shape room wrong) (IsBadCommand.unknown none) = absurd (none cmd shape)
+bad_command_once r f count line a _ (IsBadCommand.operand cmd _ shape room wrong) (IsBadCommand.too_many cmd' shape' full) = absurd (omega arith)
+bad_command_once r f count line a b (IsBadCommand.operand cmd _ shape room wrong) (IsBadCommand.operand cmd' _ shape' room' wrong') =
+    are_wrong_once (limits_of r f cmd) (drop 1 line) a b wrong (subst (λ (ls : List (ℕ × Kind)). AreWrong ls (drop 1 line) b) (same_limits r f cmd' cmd (sym shape'.0 ∙ shape.0)) wrong')
+
+-- ---- lines
+
+-- a script has three lines that count
+three : (contents : Contents) → IsScript contents → 3 ≤ length (spelled contents)
+three contents script = omega (arith, some contents.commands script.some_mutators)
+  where
+    some : (css : List (List Cmd)) → 1 ≤ length css → 1 ≤ length (flat_map mutator_lines css)
+    some [] h = absurd (omega arith)
+    some (cmds ∷ css) h = omega arith
+
+lengths : (before : List (List (List ℕ))) (x y : List (List (List ℕ))) → before ≡ x → before ≡ y → length x ≡ length y
+lengths before x y a b = ap length (sym a ∙ b)
+
+fits_once : (before : List (List (List ℕ))) (line : List (List ℕ)) (a b : Kind) → Fits before line a → Fits before line b → a ≡ b
+fits_once before line _ _ (Fits.no_header none wrong) (Fits.no_header none' wrong') = refl
+fits_once before line _ _ (Fits.no_header none wrong) (Fits.bad_heap one' wrong') = absurd (omega (arith, lengths before ([]) (header ∷ []) none one'))
+fits_once before line _ _ (Fits.no_header none wrong) (Fits.no_mutator s' f' r' heap' two' wrong') = absurd (omega (arith, lengths before ([]) (header ∷ heap_line s' f' r' ∷ []) none two'))
+fits_once before line _ _ (Fits.no_header none wrong) (Fits.too_many_mutators mine' is-mine' spelt' is' full') = absurd (omega (arith, lengths before ([]) (spelled mine') none spelt', three mine' is-mine'))
+fits_once before line _ b (Fits.no_header none wrong) (Fits.bad_command mine' _ is-mine' spelt' no-mutator' bad') = absurd (omega (arith, lengths before ([]) (spelled mine') none spelt', three mine' is-mine'))
+fits_once before line _ _ (Fits.bad_heap one wrong) (Fits.no_header none' wrong') = absurd (omega (arith, lengths before (header ∷ []) ([]) one none'))
+fits_once before line _ _ (Fits.bad_heap one wrong) (Fits.bad_heap one' wrong') = refl
+fits_once before line _ _ (Fits.bad_heap one wrong) (Fits.no_mutator s' f' r' heap' two' wrong') = absurd (omega (arith, lengths before (header ∷ []) (header ∷ heap_line s' f' r' ∷ []) one two'))
+fits_once before line _ _ (Fits.bad_heap one wrong) (Fits.too_many_mutators mine' is-mine' spelt' is' full') = absurd (omega (arith, lengths before (header ∷ []) (spelled mine') one spelt', three mine' is-mine'))
+fits_once before line _ b (Fits.bad_heap one wrong) (Fits.bad_command mine' _ is-mine' spelt' no-mutator' bad') = absurd (omega (arith, lengths before (header ∷ []) (spelled mine') one spelt', three mine' is-mine'))
+fits_once before line _ _ (Fits.no_mutator s f r heap two wrong) (Fits.no_header none' wrong') = absurd (omega (arith, lengths before (header ∷ heap_line s f r ∷ []) ([]) two none'))
+fits_once before line _ _ (Fits.no_mutator s f r heap two wrong) (Fits.bad_heap one' wrong') = absurd (omega (arith, lengths before (header ∷ heap_line s f r ∷ []) (header ∷ []) two one'))
+fits_once before line _ _ (Fits.no_mutator s f r heap two wrong) (Fits.no_mutator s' f' r' heap' two' wrong') = refl
+fits_once before line _ _ (Fits.no_mutator s f r heap two wrong) (Fits.too_many_mutators mine' is-mine' spelt' is' full') = absurd (omega (arith, lengths before (header ∷ heap_line s f r ∷ []) (spelled mine') two spelt', three mine' is-mine'))
+fits_once before line _ b (Fits.no_mutator s f r heap two wrong) (Fits.bad_command mine' _ is-mine' spelt' no-mutator' bad') = absurd (omega (arith, lengths before (header ∷ heap_line s f r ∷ []) (spelled mine') two spelt', three mine' is-mine'))
+fits_once before line _ _ (Fits.too_many_mutators mine is-mine spelt is full) (Fits.no_header none' wrong') = absurd (omega (arith, lengths before (spelled mine) ([]) spelt none', three mine is-mine))
+fits_once before line _ _ (Fits.too_many_mutators mine is-mine spelt is full) (Fits.bad_heap one' wrong') = absurd (omega (arith, lengths before (spelled mine) (header ∷ []) spelt one', three mine is-mine))
+fits_once before line _ _ (Fits.too_many_mutators mine is-mine spelt is full) (Fits.no_mutator s' f' r' heap' two' wrong') = absurd (omega (arith, lengths before (spelled mine) (header ∷ heap_line s' f' r' ∷ []) spelt two', three mine is-mine))
+fits_once before line _ _ (Fits.too_many_mutators mine is-mine spelt is full) (Fits.too_many_mutators mine' is-mine' spelt' is' full') = refl
+fits_once before line _ b (Fits.too_many_mutators mine is-mine spelt is full) (Fits.bad_command mine' _ is-mine' spelt' no-mutator' bad') = absurd (no-mutator' is)
+fits_once before line a _ (Fits.bad_command mine _ is-mine spelt no-mutator bad) (Fits.no_header none' wrong') = absurd (omega (arith, lengths before (spelled mine) ([]) spelt none', three mine is-mine))
+fits_once before line a _ (Fits.bad_command mine _ is-mine spelt no-mutator bad) (Fits.bad_heap one' wrong') = absurd (omega (arith, lengths before (spelled mine) (header ∷ []) spelt one', three mine is-mine))
+fits_once before line a _ (Fits.bad_command mine _ is-mine spelt no-mutator bad) (Fits.no_mutator s' f' r' heap' two' wrong') = absurd (omega (arith, lengths before (spelled mine) (header ∷ heap_line s' f' r' ∷ []) spelt two', three mine is-mine))
+fits_once before line a _ (Fits.bad_command mine _ is-mine spelt no-mutator bad) (Fits.too_many_mutators mine' is-mine' spelt' is' full') = absurd (no-mutator is')
+fits_once before line a b (Fits.bad_command mine _ is-mine spelt no-mutator bad) (Fits.bad_command mine' _ is-mine' spelt' no-mutator' bad') =
+    let same : mine' ≡ mine = same_script mine' mine is-mine' is-mine (sym spelt' ∙ spelt) in
+    bad_command_once mine.registers mine.fields (last_length mine.commands) line a b bad (subst (λ (c : Contents). IsBadCommand c.registers c.fields (last_length c.commands) line b) same bad')
+
+fault_once : (before : List (List (List ℕ))) (line : List ℕ) (a b : Kind) → IsFault before line a → IsFault before line b → a ≡ b
+fault_once before line _ _ (IsFault.not_utf8 none) (IsFault.not_utf8 none') = refl
+fault_once before line _ b (IsFault.not_utf8 none) (IsFault.bad_words _ utf8 counts fits) = absurd (none utf8)
+fault_once before line a _ (IsFault.bad_words _ utf8 counts fits) (IsFault.not_utf8 none) = absurd (none utf8)
+fault_once before line a b (IsFault.bad_words _ utf8 counts fits) (IsFault.bad_words _ utf8' counts' fits') = fits_once before (words line) a b fits fits'
+
+need_once : (before : List (List (List ℕ))) (a b : Kind) → IsNeed before a → IsNeed before b → a ≡ b
+need_once before _ _ (IsNeed.of_header none) (IsNeed.of_header none') = refl
+need_once before _ _ (IsNeed.of_header none) (IsNeed.of_heap one') = absurd (omega (arith, lengths before ([]) (header ∷ []) none one'))
+need_once before _ _ (IsNeed.of_header none) (IsNeed.of_mutator s' f' r' heap' two') = absurd (omega (arith, lengths before ([]) (header ∷ heap_line s' f' r' ∷ []) none two'))
+need_once before _ _ (IsNeed.of_heap one) (IsNeed.of_header none') = absurd (omega (arith, lengths before (header ∷ []) ([]) one none'))
+need_once before _ _ (IsNeed.of_heap one) (IsNeed.of_heap one') = refl
+need_once before _ _ (IsNeed.of_heap one) (IsNeed.of_mutator s' f' r' heap' two') = absurd (omega (arith, lengths before (header ∷ []) (header ∷ heap_line s' f' r' ∷ []) one two'))
+need_once before _ _ (IsNeed.of_mutator s f r heap two) (IsNeed.of_header none') = absurd (omega (arith, lengths before (header ∷ heap_line s f r ∷ []) ([]) two none'))
+need_once before _ _ (IsNeed.of_mutator s f r heap two) (IsNeed.of_heap one') = absurd (omega (arith, lengths before (header ∷ heap_line s f r ∷ []) (header ∷ []) two one'))
+need_once before _ _ (IsNeed.of_mutator s f r heap two) (IsNeed.of_mutator s' f' r' heap' two') = refl
+
+-- ---- texts
+
+-- the first lines of lines that are continued are continued
+front_continues : (before after : List (List ℕ)) → Continues (before ++ after) → Continues before
+front_continues before [] on = (on.0, on.1, subst (λ (t : List (List ℕ)). Spells (t ++ on.0) on.1) (append-nil before) on.2)
+front_continues before (line ∷ after) on = continues_before before line (front_continues (before ++ line ∷ []) after (subst (λ (t : List (List ℕ)). Continues t) (sym (append_assoc before (line ∷ []) after)) on))
+
+take_of_take : (m n : ℕ) (text : List (List ℕ)) → m ≤ n → Continues (take n text) → Continues (take m text)
+take_of_take m n text le on = front_continues (take m text) (drop m (take n text)) (subst (λ (t : List (List ℕ)). Continues t) (sym (take-append-drop m (take n text)) ∙ ap (λ (t : List (List ℕ)). t ++ drop m (take n text)) (take-take m n text le)) on)
+
+not_earlier : (text : List (List ℕ)) (m n : ℕ) (a b : Kind) → StopsAt text m a → StopsAt text n b → m < n → ⊥
+not_earlier text m n a b x y lt = x.not_with (take_of_take (m + 1) n text (omega arith) y.before)
+
+not_open : (text : List (List ℕ)) (n : ℕ) (a b : Kind) → StopsAt text n a → StaysOpen text b → ⊥
+not_open text n a b x y = x.not_with (front_continues (take (n + 1) text) (drop (n + 1) text) (subst (λ (t : List (List ℕ)). Continues t) (sym (take-append-drop (n + 1) text)) y.before))
+
+stops_once : (text : List (List ℕ)) (m n : ℕ) (a b : Kind) → StopsAt text m a → StopsAt text n b → (m ≡ n) × (a ≡ b)
+stops_once text m n a b x y = elim (cases_lt m n) [
+  | inl lt ↦ absurd (not_earlier text m n a b x y lt)
+  | inr ge ↦ elim (cases_lt n m) [
+    | inl gt ↦ absurd (not_earlier text n m b a y x gt)
+    | inr le ↦
+        let same : n ≡ m = omega arith in
+        (sym same, fault_once (counted (take m text)) (get_or text m []) a b x.fault (subst (λ (k : ℕ). IsFault (counted (take k text)) (get_or text k []) b) same y.fault))
+  ]
+]
+
+pub refused_once : (bytes : List ℕ) (line other : ℕ) (kind wrong : Kind) → IsRefused bytes line kind → IsRefused bytes other wrong → (line ≡ other) × (kind ≡ wrong)
+refused_once bytes line other kind wrong (inl x) (inl y) = (x.whole ∙ sym y.whole, x.named ∙ sym y.named)
+refused_once bytes line other kind wrong (inl x) (inr y) = absurd (omega (arith, x.many, y.few))
+refused_once bytes line other kind wrong (inr x) (inl y) = absurd (omega (arith, y.many, x.few))
+refused_once bytes line other kind wrong (inr x) (inr y) = named x.named y.named
+  where
+    named : ((n : ℕ) × (line ≡ n + 1) × StopsAt (lines bytes) n kind) ⊎ ((line ≡ length (lines bytes) + 1) × StaysOpen (lines bytes) kind)
+        → ((n : ℕ) × (other ≡ n + 1) × StopsAt (lines bytes) n wrong) ⊎ ((other ≡ length (lines bytes) + 1) × StaysOpen (lines bytes) wrong) → (line ≡ other) × (kind ≡ wrong)
+    named (inl x) (inl y) =
+        let once = stops_once (lines bytes) x.0 y.0 kind wrong x.2 y.2 in
+        (x.1 ∙ ap (λ (n : ℕ). n + 1) once.0 ∙ sym y.1, once.1)
+    named (inl x) (inr y) = absurd (not_open (lines bytes) x.0 kind wrong x.2 y.1)
+    named (inr x) (inl y) = absurd (not_open (lines bytes) y.0 wrong kind y.2 x.1)
+    named (inr x) (inr y) = (x.0 ∙ sym y.0, need_once (counted (lines bytes)) kind wrong x.1.need y.1.need)

@@ -1,0 +1,5 @@
+use Rattle.rec_script.proofs.Uniqueness.{refused_once}
+use Rattle.rec_script.proofs.laws.refusals_are_unique.Goals as goal
+
+pub returns : goal.returns
+returns c = refused_once

@@ -1,0 +1,8 @@
+-- What the fields of a `Script` stand for.
+use Rattle.std.specs.Prelude.{[], ◌∷◌, ◌++◌, map}
+use Rattle.rec_script.specs.declared.script.Script.TheInside.{Inside}
+use Rattle.rec_script.specs.Script.{Contents}
+
+-- the last mutator's commands stand apart, as they grow
+abbrev pub contents : Inside → Contents
+contents s = record { slots = s.slots; fields = s.fields; registers = s.registers; commands = map (λ v. v.items) s.earlier.items ++ s.last.items ∷ [] }

@@ -1,0 +1,5 @@
+pub mod Drafts
+pub mod Fields
+pub mod Lines
+pub mod Operands
+pub mod Script

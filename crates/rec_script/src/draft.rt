@@ -1,0 +1,177 @@
+//! What the lines so far have spelled, while a text is read.
+
+ghost use Rattle.std.specs.Prelude.{◌≡◌, ◌≢◌, ◌↔◌, ◌<◌, ◌≤◌, ℕ, List, [], ◌∷◌, ◌++◌, Err, Ok, IfErr, IfOk, IsTrue};
+ghost use Rattle.std.specs.Str.{IsUtf8};
+ghost use Rattle.rec_script.specs.Lines.{words, counted};
+ghost use Rattle.rec_script.specs.Script.{Fits, IsFault, IsNeed, IsScript, header, mutator_line, spelled};
+ghost use Rattle.rec_script.specs.Drafts.{so_far, IsDraft};
+ghost use Rattle.rec_script.specs.declared.error.Kind.{Kind};
+ghost use Rattle.rec_script.specs.declared.error.ScriptError.TheVariants.{Bad};
+
+use crate::command::command;
+use crate::error::{Kind, ScriptError};
+use crate::heap::{Heap, read_heap};
+use crate::line::next_word;
+use crate::operand::{is_name, no_word, one_word};
+use crate::script::Script;
+use std::alloc::Global;
+use std::str::from_utf8;
+
+/// How many mutators a script has at most.
+const MOST_MUTATORS: u8 = 8;
+
+/// What the lines so far have spelled.
+#[derive(Debug, Drop)]
+pub enum Draft {
+    Nothing,
+    Header,
+    Sized(Heap),
+    Whole(Script),
+}
+
+/// The line is the header.
+fn is_header(word: &[u8], rest: &[u8]) -> bool
+    ensures { IsTrue result ↔ (word.now ∷ words rest.now ≡ header) }
+{
+    if !is_name(word, b"recycler") {
+        return false;
+    }
+    match one_word(rest) {
+        Some(version) => is_name(version, b"1"),
+        None => false,
+    }
+}
+
+/// The line is the one above a mutator's commands.
+fn is_mutator(word: &[u8], rest: &[u8]) -> bool
+    ensures { IsTrue result ↔ (word.now ∷ words rest.now ≡ mutator_line) }
+{
+    is_name(word, b"mutator") && no_word(rest)
+}
+
+/// The bytes are UTF-8.
+fn is_utf8(bytes: &[u8]) -> bool
+    ensures { IsTrue result ↔ IsUtf8 bytes.now }
+{
+    match from_utf8(bytes) {
+        Ok(_) => true,
+        Err(_) => false,
+    }
+}
+
+/// A line that is wrong.
+fn bad(number: u32, kind: Kind) -> ScriptError
+    ensures { result ≡ Bad number kind }
+{
+    ScriptError::Bad { line: number, kind }
+}
+
+/// A script with one line more that counts, of this first word and what is behind it.
+fn add_to_script(
+    script: &mut Script,
+    alloc: Global,
+    number: u32,
+    word: &[u8],
+    rest: &[u8],
+) -> Result<(), ScriptError>
+    ensures more { IfOk result (λ x. spelled script.new
+        ≡ spelled script.old ++ (word.now ∷ words rest.now) ∷ []) }
+    ensures valid { IsScript script.new }
+    ensures refused { (line : ℕ) (kind : Kind) → result ≡ Err (Bad line kind)
+        → (line ≡ number) × Fits (spelled script.old) (word.now ∷ words rest.now) kind }
+{
+    if is_mutator(word, rest) {
+        if script.mutators() == MOST_MUTATORS {
+            return Err(bad(number, Kind::TooManyMutators));
+        }
+        return script.add_mutator(alloc).map_err(|_| ScriptError::NoMemory);
+    }
+    let cmd = match command(
+        script.registers(),
+        script.fields(),
+        script.last(),
+        word,
+        rest,
+    ) {
+        Ok(cmd) => cmd,
+        Err(kind) => return Err(bad(number, kind)),
+    };
+    script.add(cmd).map_err(|_| ScriptError::NoMemory)
+}
+
+impl Draft {
+    /// Takes a line that counts, of this first word and what is behind it.
+    fn add(
+        &mut self,
+        alloc: Global,
+        number: u32,
+        word: &[u8],
+        rest: &[u8],
+    ) -> Result<(), ScriptError>
+        requires { IsDraft self.old }
+        ensures more { IfOk result (λ x. so_far self.new
+            ≡ so_far self.old ++ (word.now ∷ words rest.now) ∷ []) }
+        ensures valid { IfOk result (λ x. IsDraft self.new) }
+        ensures refused { (line : ℕ) (kind : Kind) → result ≡ Err (Bad line kind)
+            → (line ≡ number) × Fits (so_far self.old) (word.now ∷ words rest.now) kind }
+    {
+        match self {
+            Draft::Nothing => {
+                if !is_header(word, rest) {
+                    return Err(bad(number, Kind::NoHeader));
+                }
+                *self = Draft::Header;
+                Ok(())
+            }
+            Draft::Header => {
+                let Some(heap) = read_heap(word, rest) else {
+                    return Err(bad(number, Kind::BadHeap));
+                };
+                *self = Draft::Sized(heap);
+                Ok(())
+            }
+            Draft::Sized(heap) => {
+                if !is_mutator(word, rest) {
+                    return Err(bad(number, Kind::NoMutator));
+                }
+                let script = Script::open(alloc, *heap);
+                *self = Draft::Whole(script);
+                Ok(())
+            }
+            Draft::Whole(script) => add_to_script(script, alloc, number, word, rest),
+        }
+    }
+
+    /// Takes a line.
+    pub fn take(&mut self, alloc: Global, number: u32, line: &[u8]) -> Result<(), ScriptError>
+        requires { IsDraft self.old }
+        ensures more { IfOk result (λ x. so_far self.new
+            ≡ so_far self.old ++ counted (line.now ∷ [])) }
+        ensures valid { IfOk result (λ x. IsDraft self.new) }
+        ensures utf8 { IfOk result (λ x. IsUtf8 line.now) }
+        ensures refused { (at : ℕ) (kind : Kind) → result ≡ Err (Bad at kind)
+            → (at ≡ number) × IsFault (so_far self.old) line.now kind }
+    {
+        if !is_utf8(line) {
+            return Err(bad(number, Kind::NotUtf8));
+        }
+        match next_word(line) {
+            Some((word, rest)) if word[0] != b'#' => self.add(alloc, number, word, rest),
+            _ => Ok(()),
+        }
+    }
+
+    /// The script, where the lines so far spell one; else the need that stands open.
+    pub fn close(self) -> Result<Script, Kind>
+        requires { IsDraft self }
+        ensures whole { IfOk result (λ script. IsScript script × (so_far self ≡ spelled script)) }
+        ensures open { IfErr result (λ kind. IsNeed (so_far self) kind) }
+    {
+        match self {
+            Draft::Nothing => Err(Kind::NoHeader),
+            Draft::Header => Err(Kind::BadHeap),
+            Draft::Sized(_) => Err(Kind::NoMutator),
+            Draft::Whole(script) => Ok(script),
+        }
+    }
+}

@@ -1,0 +1,66 @@
+//! Why bytes are no script.
+
+use std::fmt;
+use thiserror::Error;
+
+/// What is wrong with a text. Of one line the first kind in this order is told that fits; the last three are told of the
+/// first operand from the left that is wrong.
+#[derive(Clone, Copy, Debug, PartialEq, Eq)]
+pub enum Kind {
+    /// More than 16,777,216 bytes.
+    TooLong,
+    /// A line isn't UTF-8, be it one that is skipped.
+    NotUtf8,
+    /// The first line that counts isn't `recycler 1`.
+    NoHeader,
+    /// The second one is no heap with its numbers within their limits.
+    BadHeap,
+    /// The third one isn't `mutator`.
+    NoMutator,
+    /// A later line has none of the first words, or another number of words.
+    BadCommand,
+    /// The ninth mutator.
+    TooManyMutators,
+    /// The 200,001st command of a mutator.
+    TooManyCommands,
+    /// An operand is no numeral of at most 4,294,967,295, or has leading zeros.
+    BadNumber,
+    /// A register is out of range.
+    Register,
+    /// A field is out of range.
+    Field,
+}
+
+impl fmt::Display for Kind {
+    ghost use Rattle.std.specs.Prelude.{Some};
+    ghost use Rattle.rec_script.specs.Script.{name_of};
+
+    ghost output = { λ kind. Some (name_of kind) };
+
+    fn fmt<W: fmt::Write>(&self, f: &mut fmt::Formatter<W>) -> fmt::Result {
+        match self {
+            Kind::TooLong => write!(f, "TooLong"),
+            Kind::NotUtf8 => write!(f, "NotUtf8"),
+            Kind::NoHeader => write!(f, "NoHeader"),
+            Kind::BadHeap => write!(f, "BadHeap"),
+            Kind::NoMutator => write!(f, "NoMutator"),
+            Kind::BadCommand => write!(f, "BadCommand"),
+            Kind::TooManyMutators => write!(f, "TooManyMutators"),
+            Kind::TooManyCommands => write!(f, "TooManyCommands"),
+            Kind::BadNumber => write!(f, "BadNumber"),
+            Kind::Register => write!(f, "Register"),
+            Kind::Field => write!(f, "Field"),
+        }
+    }
+}
+
+/// Why no script was read.
+#[derive(Debug, Drop, Error)]
+pub enum ScriptError {
+    /// The bytes are no script. Lines are numbered from 1, and 0 is the text as a whole; a need that stands open at the end
+    /// is told of the line behind the last one.
+    #[error("not a script")]
+    Bad { line: u32, kind: Kind },
+    #[error("out of memory")]
+    NoMemory,
+}

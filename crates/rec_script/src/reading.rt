@@ -1,0 +1,55 @@
+//! Reading a text, a line at a time.
+
+ghost use Rattle.std.specs.Prelude.{◌≡◌, ◌≢◌, ◌<◌, ◌≤◌, ℕ, List, [], ◌∷◌, ◌++◌, Err, Ok, IfOk, length, drop};
+ghost use Rattle.rec_script.specs.Lines.{lines};
+ghost use Rattle.rec_script.specs.Script.{Contents, IsRefused, IsScript, IsText, Spells, spelled};
+ghost use Rattle.rec_script.specs.declared.error.Kind.{Kind};
+ghost use Rattle.rec_script.specs.declared.error.ScriptError.TheVariants.{Bad};
+
+use crate::draft::Draft;
+use crate::error::{Kind, ScriptError};
+use crate::line::next_line;
+use crate::script::Script;
+use std::alloc::Global;
+
+/// How many bytes a script has at most.
+const MOST_BYTES: usize = 16_777_216;
+
+/// The script that the bytes spell.
+pub fn read(alloc: Global, bytes: &[u8]) -> Result<Script, ScriptError>
+    // What is read is within its limits, and the lines spell it.
+    ensures found { IfOk result (λ script. IsScript script × (length bytes.now ≤ 16777216)
+        × Spells (lines bytes.now) script) }
+    // It is the only script that they spell.
+    ensures only { IfOk result (λ script. (other : Contents)
+        → Spells (lines bytes.now) other → other ≡ script) }
+    // What is refused is refused with the first line that no script continues, and the kind that fits it.
+    ensures refused { (line : ℕ) (kind : Kind) → result ≡ Err (Bad line kind)
+        → IsRefused bytes.now line kind }
+    // It spells no script: a script is read, unless memory runs out.
+    ensures none { (line : ℕ) (kind : Kind) → result ≡ Err (Bad line kind)
+        → ¬ IsText bytes.now }
+{
+    if bytes.len() > MOST_BYTES {
+        return Err(ScriptError::Bad {
+            line: 0,
+            kind: Kind::TooLong,
+        });
+    }
+    let mut draft = Draft::Nothing;
+    let mut rest = bytes;
+    let mut number: u32 = 0;
+    while !rest.is_empty() {
+        let (line, after) = next_line(rest);
+        number += 1;
+        draft.take(alloc, number, line)?;
+        rest = after;
+    }
+    match draft.close() {
+        Ok(script) => Ok(script),
+        Err(kind) => Err(ScriptError::Bad {
+            line: number + 1,
+            kind,
+        }),
+    }
+}
