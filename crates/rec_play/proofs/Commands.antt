@@ -1,5 +1,5 @@
 -- What the clauses of the heap's calls and of a script's readers give to the played run.
-use Rattle.std.proofs.Common.{◌≡◌, inl, inr, ℕ, ◌+◌, ◌-◌, ◌<◌, ◌≤◌, length, get_or, get_or-set_other, if◌then◌else◌, sym, ap, subst, ◌∙◌, arith}
+use Rattle.std.proofs.Common.{◌≡◌, inl, inr, ℕ, ◌+◌, ◌-◌, ◌<◌, ◌≤◌, length, false, get_or, get_or-set_other, if◌then◌else◌, sym, ap, subst, ◌∙◌, arith}
 use Rattle.std.specs.Option.{IfSome}
 use Rattle.std.proofs.lemmas.Bool.{cases_eq}
 use Rattle.rec_word.specs.Word.{stamp_of}
@@ -16,10 +16,14 @@ use Rattle.rec_world.specs.World.{State, sight, mutator, with_mutator, log_lengt
 use Rattle.rec_script.specs.Script.{Contents, IsScript}
 use Rattle.rec_play.specs.Commanded.{AreIdle, Commanded}
 
+-- a script has few mutators
+pub few_mutators : (script : Contents) → IsScript script → length script.commands ≤ 8
+few_mutators script is = is.most_mutators
+
 -- the other mutators stay
 others_stay : (before mid : State) (t s : ℕ) → OnlyWorks before mid t → 0 < t → 0 < s → (s ≡ t → ⊥) → mutator mid s ≡ mutator before s
 others_stay before mid t s only some s_some other =
-    let apart : t - 1 ≡ s - 1 → ⊥ = λ same. other (omega arith) in
+    let apart : s - 1 ≡ t - 1 → ⊥ = λ same. other (omega arith) in
     ap (λ (w : State). mutator w s) only.others
     ∙ get_or-set_other before.mutators (t - 1) (s - 1) (mutator mid t) nobody apart
 
