@@ -2,7 +2,7 @@
 use Rattle.std.specs.Prelude.{◌≡◌, ◌≢◌, ℕ, ◌+◌, ◌-◌, ◌*◌, ◌<◌, ◌≤◌, ◌==◌, if◌then◌else◌, true, false, List, length, replicate, slice_index_or, slice_range, slice_set}
 use Rattle.rec_word.specs.declared.op.Op.{Op}
 use Rattle.rec_model.specs.Reach.{is_in}
-use Rattle.rec_word.specs.declared.op.Op.TheVariants.{LoadField, SwapField, ClearField, LoadHeader, LoadEpoch, LoadCross, ClaimHeader, FreeHeader, LoadFreed}
+use Rattle.rec_word.specs.declared.op.Op.TheVariants.{LoadField, SwapField, ClearField, LoadHeader, LoadEpoch, LoadCross, ClaimHeader, FreeHeader, LoadFreed, TakeBox, GiveBox, StoreEpoch, LookBox, ReturnBox, AddFreed}
 
 -- a header for each slot, a word for each field of each slot, the epoch word, the freed word, and a crossing word for each mutator
 pub record Cells : Type 0 where
@@ -23,6 +23,12 @@ IsWithin cells (ClaimHeader slot label) = slot < length cells.headers
 IsWithin cells (ClearField place) = place < length cells.words
 IsWithin cells (FreeHeader slot) = slot < length cells.headers
 IsWithin cells LoadFreed = Unit {0}
+IsWithin cells (TakeBox t epoch) = (1 ≤ t) × (t ≤ length cells.crossing)
+IsWithin cells (GiveBox t epoch) = (1 ≤ t) × (t ≤ length cells.crossing)
+IsWithin cells (StoreEpoch epoch) = Unit {0}
+IsWithin cells (LookBox t epoch) = (1 ≤ t) × (t ≤ length cells.crossing)
+IsWithin cells (ReturnBox t epoch) = (1 ≤ t) × (t ≤ length cells.crossing)
+IsWithin cells AddFreed = Unit {0}
 
 -- the word that the operation names
 abbrev pub cell : Cells → Op → ℕ
@@ -35,6 +41,12 @@ cell cells (ClaimHeader slot label) = slice_index_or cells.headers slot 0
 cell cells (ClearField place) = slice_index_or cells.words place 0
 cell cells (FreeHeader slot) = slice_index_or cells.headers slot 0
 cell cells LoadFreed = cells.freed
+cell cells (TakeBox t epoch) = slice_index_or cells.crossing (t - 1) 0
+cell cells (GiveBox t epoch) = slice_index_or cells.crossing (t - 1) 0
+cell cells (StoreEpoch epoch) = cells.epoch
+cell cells (LookBox t epoch) = slice_index_or cells.crossing (t - 1) 0
+cell cells (ReturnBox t epoch) = slice_index_or cells.crossing (t - 1) 0
+cell cells AddFreed = cells.freed
 
 -- with the word that the operation names replaced
 abbrev pub with_cell : Cells → Op → ℕ → Cells
@@ -47,18 +59,17 @@ with_cell cells (ClaimHeader slot label) x = record cells { headers = slice_set 
 with_cell cells (ClearField place) x = record cells { words = slice_set cells.words place x }
 with_cell cells (FreeHeader slot) x = record cells { headers = slice_set cells.headers slot x }
 with_cell cells LoadFreed x = record cells { freed = x }
+with_cell cells (TakeBox t epoch) x = record cells { crossing = slice_set cells.crossing (t - 1) x }
+with_cell cells (GiveBox t epoch) x = record cells { crossing = slice_set cells.crossing (t - 1) x }
+with_cell cells (StoreEpoch epoch) x = record cells { epoch = x }
+with_cell cells (LookBox t epoch) x = record cells { crossing = slice_set cells.crossing (t - 1) x }
+with_cell cells (ReturnBox t epoch) x = record cells { crossing = slice_set cells.crossing (t - 1) x }
+with_cell cells AddFreed x = record cells { freed = x }
 
 -- the births of an operation that found this word: one where it claimed a free slot
 abbrev pub births_of : Op → ℕ → ℕ
-births_of (LoadField place) found = 0
-births_of (SwapField place word) found = 0
-births_of (LoadHeader slot) found = 0
-births_of LoadEpoch found = 0
-births_of (LoadCross t) found = 0
 births_of (ClaimHeader slot label) found = if found == 0 then 1 else 0
-births_of (ClearField place) found = 0
-births_of (FreeHeader slot) found = 0
-births_of LoadFreed found = 0
+births_of _ found = 0
 
 -- the words of a slot's fields, in order, where each slot has so many
 abbrev pub own_words : ℕ → Cells → ℕ → List ℕ

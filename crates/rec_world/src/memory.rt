@@ -83,18 +83,22 @@ impl Memory {
                 *header = op.written(found);
                 found
             }
-            Op::LoadEpoch => {
+            Op::LoadEpoch | Op::StoreEpoch(_) => {
                 let found = self.epoch;
                 self.epoch = op.written(found);
                 found
             }
-            Op::LoadCross(t) => {
+            Op::LoadCross(t)
+            | Op::TakeBox(t, _)
+            | Op::GiveBox(t, _)
+            | Op::LookBox(t, _)
+            | Op::ReturnBox(t, _) => {
                 let crossing = &mut self.crossing[usize::from(t) - 1];
                 let found = *crossing;
                 *crossing = op.written(found);
                 found
             }
-            Op::LoadFreed => {
+            Op::LoadFreed | Op::AddFreed => {
                 let found = self.freed;
                 self.freed = op.written(found);
                 found
