@@ -1,9 +1,9 @@
 -- A whole batch: what it asks for is what its increments and its decrements ask for, and its formula is theirs together.
-use Rattle.std.proofs.Common.{◌≡◌, ℕ, ◌+◌, ◌<◌, ◌≤◌, ◌^◌, List, [], length, ap, arith, ◌∙◌}
+use Rattle.std.proofs.Common.{◌≡◌, ℕ, ◌+◌, ◌<◌, ◌≤◌, ◌^◌, List, [], length, sym, ap, subst, arith, ◌∙◌}
 use Rattle.std.specs.List.{flat_map}
 use Rattle.rec_counts.specs.Counts.{State, slot_at}
 use Rattle.rec_counts.specs.Lists.{times}
-use Rattle.rec_counts.specs.Rest.{KeepsRest, AreZeros}
+use Rattle.rec_counts.specs.Rest.{KeepsRest, AreZeros, AllZeros}
 use Rattle.rec_counts.proofs.Times.{times-nil}
 use Rattle.rec_log.specs.declared.contents.Contents.{Contents}
 use Rattle.rec_apply.specs.Targets.{added, taken}
@@ -11,7 +11,7 @@ use Rattle.rec_apply.specs.Batch.{CanRise, CanFall, all_up, batch, up_targets, d
 use Rattle.rec_apply.proofs.Naming.{added_is, taken_is}
 use Rattle.rec_apply.proofs.Rising.{rise_all, up_zeros_all}
 use Rattle.rec_apply.proofs.Falling.{fall_all}
-use Rattle.rec_apply.proofs.Resting.{rest_all_up, rest_all_down}
+use Rattle.rec_apply.proofs.Resting.{rest_all_up, rest_all_down, all_zeros_down}
 use Rattle.rec_counts.proofs.Decrementing.{rest_on}
 
 -- the increments can be made
@@ -41,3 +41,10 @@ batch_counts s newer older k c x =
 
 pub batch_rests : (s : State) (newer older : List Contents) → KeepsRest s (batch s newer older)
 batch_rests s newer older = rest_on (rest_all_up s (flat_map up_targets newer)) (rest_all_down (all_up s (flat_map up_targets newer)) (flat_map down_targets older))
+
+-- where all zeros stood in the zeros, they still do
+pub batch_all : (s : State) (newer older : List Contents) → CanRise s (flat_map up_targets newer) → AllZeros s → AllZeros (batch s newer older)
+batch_all s newer older k z =
+    let up : State = all_up s (flat_map up_targets newer) in
+    let raised : AllZeros up = λ x r n. subst (λ zs. 0 < times x zs) (sym (up_zeros_all s (flat_map up_targets newer))) (z x (sym ((rest_all_up s (flat_map up_targets newer)).released x) ∙ r) (omega (arith, n, rise_all s (flat_map up_targets newer) k x))) in
+    all_zeros_down up (flat_map down_targets older) raised

@@ -1,6 +1,6 @@
 ghost use Rattle.std.specs.Prelude.{◌≡◌, ℕ, ◌+◌, ◌<◌, ◌≤◌, ◌^◌, [], length};
 ghost use Rattle.rec_counts.specs.Counts.{slot_at};
-ghost use Rattle.rec_counts.specs.Rest.{AreZeros, KeepsRest};
+ghost use Rattle.rec_counts.specs.Rest.{AllZeros, AreZeros, KeepsRest};
 ghost use Rattle.rec_apply.specs.Targets.{added, taken};
 ghost use Rattle.rec_apply.specs.Batch.{batch};
 
@@ -23,6 +23,7 @@ pub fn apply(counts: &mut Counts, newer: &[Buffer], older: &[Buffer])
     // Colours, roots and zeros are those of all increments in order, and then all decrements in order.
     ensures order { counts.new ≡ batch counts.old newer.now older.now }
     ensures zeros { AreZeros counts.new }
+    ensures all_zeros { AllZeros counts.old → AllZeros counts.new }
     ensures rest { KeepsRest counts.old counts.new }
 {
     increment_all(counts, newer);

@@ -15,5 +15,7 @@ mod batch;
 mod decrements;
 mod increments;
 mod targets;
+#[cfg(test)]
+mod tests;
 
 pub use batch::apply;

@@ -1,18 +1,18 @@
 -- One decrement: what it leaves, what it counts, and which slots stand in the zeros afterwards.
-use Rattle.std.proofs.Common.{◌≡◌, ℕ, ◌+◌, ◌-◌, ◌<◌, ◌≤◌, Bool, true, false, eqb, List, [], ◌∷◌, ◌++◌, length, get_or, refl, arith, sym, ◌∙◌, ap, inl, inr}
+use Rattle.std.proofs.Common.{◌≡◌, ℕ, ◌+◌, ◌-◌, ◌<◌, ◌≤◌, Bool, true, false, eqb, List, [], ◌∷◌, ◌++◌, length, get_or, refl, arith, sym, ◌∙◌, ap, subst, inl, inr}
 use Rattle.std.proofs.lemmas.List.{append-nil, length-set, get_or-set_same, get_or-set_other, get_or_past, set_past}
-use Rattle.std.proofs.lemmas.Bool.{cases_lt, false≢true}
+use Rattle.std.proofs.lemmas.Bool.{cases_lt, eq-eqb, false≢true}
 use Rattle.std.proofs.lemmas.Bool.Decides.{eqb_tells}
 use Rattle.rec_counts.specs.declared.slot.Slot.{Slot}
 use Rattle.rec_counts.specs.declared.slot.Due.{Due}
 use Rattle.rec_counts.specs.declared.slot.Due.TheVariants.{Nothing, Zero, Root}
 use Rattle.rec_counts.specs.Counts.{State, slot_at, with_slot, sent, decremented}
 use Rattle.rec_counts.specs.Lists.{one, times}
-use Rattle.rec_counts.specs.Rest.{KeepsRest, AreZeros}
-use Rattle.rec_counts.specs.Slot.{absent, lessened, lessened_if, due_of}
+use Rattle.rec_counts.specs.Rest.{KeepsRest, AreZeros, AllZeros}
+use Rattle.rec_counts.specs.Slot.{absent, lessened, lessened_if, due_of, due_if}
 use Rattle.rec_counts.proofs.Keeping.{field_kept}
 use Rattle.rec_counts.proofs.Lessening.{to_zeros}
-use Rattle.rec_counts.proofs.Times.{times-nil, times-cons, times-append, one-le}
+use Rattle.rec_counts.proofs.Times.{times-nil, times-cons, times-append, times_push, one-le, one-same}
 
 pub rest_same : (s : State) → KeepsRest s s
 rest_same s = record { slots = refl; sets = refl; marked = refl; work = refl; free = refl; released = λ x. refl; cyclic = λ x. refl; set = λ x. refl }
@@ -187,4 +187,27 @@ unbuffered_before s x y b =
         | inr l ↦ ap (λ (w : Slot). w.buffered) (get_or_past s.slots x absent l)
       ]
       | inr q ↦ ap (λ (w : Slot). w.buffered) (sym (get_or-set_other s.slots x y (lessened v) absent q.1)) ∙ b'
+    ]
+
+-- a slot whose last reference goes stands in the zeros
+zero_found : (s : State) (x : ℕ) → (slot_at s x).released ≡ false → (slot_at s x).count ≡ 1 → 0 < times x (decremented s x).zeros
+zero_found s x r o =
+    let due : due_of (slot_at s x) ≡ Zero = ap (λ c. due_if c (eqb (slot_at s x).count 1) (slot_at s x).buffered) r ∙ ap (λ c. due_if false c (slot_at s x).buffered) (eq-eqb (slot_at s x).count 1 o) in
+    let z : (decremented s x).zeros ≡ s.zeros ++ x ∷ [] = ap (λ d. (sent d (with_slot s x (lessened (slot_at s x))) x).zeros) due in
+    omega (arith, ap (times x) z, times_push x s.zeros x, one-same x)
+
+-- where all zeros stood in the zeros, they still do
+pub all_zeros_kept : (s : State) (x : ℕ) → AllZeros s → AllZeros (decremented s x)
+all_zeros_kept s x k = λ y r n.
+    let u : (slot_at s y).released ≡ false = sym ((rest_decremented s x).released y) ∙ r in
+    let f : ZerosFrom s x = zeros_from s x in
+    let more : times y (decremented s x).zeros ≡ times y s.zeros + times y f.more = ap (times y) f.zeros ∙ times-append y s.zeros f.more in
+    elim (cases_lt 0 (slot_at s y).count) [
+      | inl l ↦ elim (eqb_tells y x) [
+        | inl q ↦ let e : one (eqb y x) ≡ 1 = ap one q.0 in
+            let o : (slot_at s y).count ≡ 1 = omega (arith, l, n, decremented_less s x y, e) in
+            subst (λ z. 0 < times z (decremented s x).zeros) (sym q.1) (zero_found s x (ap (λ z. (slot_at s z).released) (sym q.1) ∙ u) (ap (λ z. (slot_at s z).count) (sym q.1) ∙ o))
+        | inr q ↦ let e : one (eqb y x) ≡ 0 = ap one q.0 in absurd (omega (arith, l, n, decremented_less s x y, e))
+      ]
+      | inr l ↦ omega (arith, k y u (omega (arith, l)), more)
     ]

@@ -19,3 +19,7 @@ pub record AreZeros (s : State) : Type 0 where
   pub once : (x : ℕ) → times x s.zeros ≤ 1
   pub none : (x : ℕ) → 0 < times x s.zeros → (slot_at s x).count ≡ 0
   pub unreleased : (x : ℕ) → 0 < times x s.zeros → (slot_at s x).released ≡ false
+
+-- each slot that has no count and is not released stands in the zeros
+abbrev pub AllZeros : State → Type 0
+AllZeros s = (x : ℕ) → (slot_at s x).released ≡ false → (slot_at s x).count ≡ 0 → 0 < times x s.zeros

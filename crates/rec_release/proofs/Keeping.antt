@@ -7,9 +7,9 @@ use Rattle.rec_word.specs.Word.{target_of}
 use Rattle.rec_counts.specs.declared.slot.Slot.{Slot}
 use Rattle.rec_counts.specs.Counts.{State, opened, slot_at, with_slot}
 use Rattle.rec_counts.specs.Lists.{one, times}
-use Rattle.rec_counts.specs.Rest.{KeepsRest, AreZeros}
+use Rattle.rec_counts.specs.Rest.{KeepsRest, AreZeros, AllZeros}
 use Rattle.rec_counts.specs.Slot.{absent}
-use Rattle.rec_counts.proofs.Decrementing.{rest_same, rest_decremented, zeros_kept}
+use Rattle.rec_counts.proofs.Decrementing.{rest_same, rest_decremented, zeros_kept, all_zeros_kept}
 use Rattle.rec_counts.proofs.Keeping.{field_kept}
 use Rattle.rec_counts.proofs.Times.{times-nil, times-cons, times_push, one-same}
 use Rattle.rec_release.specs.declared.at.At.{At}
@@ -179,3 +179,32 @@ ready_opened slots first = record {
   };
   free = λ x h. absurd (omega (arith, h, times-nil x));
 }
+
+all_zeros_off : (s : State) (t : Option ℕ) → AllZeros s → AllZeros (taken_off s t)
+all_zeros_off s None k = k
+all_zeros_off s (Some x) k = all_zeros_kept s x k
+
+all_zeros_listed : (b : Bool) (s : State) (x : ℕ) → AllZeros s → AllZeros (listed_if b s x)
+all_zeros_listed true s x k = k
+all_zeros_listed false s x k = k
+
+-- the next zero is released: the others stay
+pub all_zeros_next : (zs : List ℕ) (s : State) → s.zeros ≡ zs → AreZeros s → AllZeros s → AllZeros (without_first zs s)
+all_zeros_next [] s e z k = k
+all_zeros_next (x ∷ zs) s e z k = λ y r n.
+    let more : times y s.zeros ≡ one (eqb y x) + times y zs = ap (times y) e ∙ times-cons y x zs in
+    let l : x < length s.slots = in_range_unreleased s x (z.unreleased x (omega (arith, ap (times x) e, times-cons x x zs, one-same x))) in
+    elim (eqb_tells y x) [
+      | inl q ↦ absurd (false≢true (sym r ∙ ap (λ w. (slot_at (with_slot s x (record (slot_at s x) { released = true })) w).released) q.1 ∙ released_first s x l))
+      | inr q ↦ let o : one (eqb y x) ≡ 0 = ap one q.0 in
+          omega (arith, k y (sym (released_same s x y q.1) ∙ r) (sym (field_kept (λ (w : Slot). w.count) s.slots x (record (slot_at s x) { released = true }) refl y) ∙ n), more, o)
+    ]
+
+-- what is learnt leaves all zeros in the zeros
+pub all_zeros_on : (s : State) (t : Option ℕ) → AllZeros s → AllZeros (taken_off s t)
+all_zeros_on s t k = all_zeros_off s t k
+
+pub all_zeros_last : (s : State) (t : Option ℕ) (x : ℕ) → (slot_at s x).released ≡ true → IsReady s → AllZeros s → AllZeros (without_first (emptied (taken_off s t) x).zeros (emptied (taken_off s t) x))
+all_zeros_last s t x r ready k =
+    let released : (slot_at (taken_off s t) x).released ≡ true = (rest_off s t).released x ∙ r in
+    all_zeros_next (emptied (taken_off s t) x).zeros (emptied (taken_off s t) x) refl (ready_emptied (taken_off s t) x released (ready_off s t ready)).zeros (all_zeros_listed (slot_at (taken_off s t) x).buffered (taken_off s t) x (all_zeros_off s t k))

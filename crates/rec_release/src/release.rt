@@ -2,7 +2,7 @@ ghost use Rattle.std.specs.Prelude.{◌≡◌, ◌<◌, ◌↔◌, ◌++◌, ◌
 ghost use Rattle.rec_word.specs.Word.{target_of};
 ghost use Rattle.rec_counts.specs.Counts.{State, slot_at};
 ghost use Rattle.rec_counts.specs.Lists.{times};
-ghost use Rattle.rec_counts.specs.Rest.{AreZeros};
+ghost use Rattle.rec_counts.specs.Rest.{AllZeros, AreZeros};
 ghost use Rattle.rec_release.specs.Release.{IsAtWork, IsReady, emptied, first_of, next_of, started_of, taken_off, took_of, without_first};
 ghost use Rattle.rec_release.specs.Released.{Released, place_due};
 
@@ -50,6 +50,7 @@ impl Release {
         ensures kept { IsAtWork self.new counts.new }
         ensures slots { length counts.new.slots ≡ length counts.old.slots }
         ensures done { IsNone (next_of self.new) → counts.new.zeros ≡ [] }
+        ensures all_zeros { AllZeros counts.old → AllZeros counts.new }
 
         // Nothing is exchanged yet.
         ensures whole { (slots : List ℕ) × Released self.new.fields counts.old self.new.at counts.new [] [] slots }
@@ -77,6 +78,7 @@ impl Release {
         ensures kept { IsAtWork self.new counts.new }
         ensures slots { length counts.new.slots ≡ length counts.old.slots }
         ensures done { IsNone (next_of self.new) → counts.new.zeros ≡ [] }
+        ensures all_zeros { AllZeros counts.old → AllZeros counts.new }
 
         // One word more came out of one place more, whatever this release took in before.
         ensures whole { (before : State) (words from slots : List ℕ) → Released self.old.fields before self.old.at counts.old words from slots → (more : List ℕ) × Released self.new.fields before self.new.at counts.new (words ++ word ∷ []) (from ++ place_due self.old) more }

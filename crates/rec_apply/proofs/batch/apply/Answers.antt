@@ -1,7 +1,7 @@
 use Rattle.std.specs.List.{flat_map}
 use Rattle.rec_apply.specs.Batch.{CanRise, all_up, up_targets, down_targets}
 use Rattle.rec_apply.proofs.Falling.{fall_zeros_all}
-use Rattle.rec_apply.proofs.Whole.{batch_rises, batch_falls, batch_counts, batch_rests}
+use Rattle.rec_apply.proofs.Whole.{batch_rises, batch_falls, batch_counts, batch_rests, batch_all}
 use Rattle.rec_apply.proofs.batch.apply.Goals as goal
 
 pub increment_all-requires : goal.increment_all-requires
@@ -24,3 +24,8 @@ returns-clause-zeros c =
 
 pub returns-clause-rest : goal.returns-clause-rest
 returns-clause-rest c = rw (c.decrement_all.ensures, c.increment_all.ensures) (batch_rests c.args.counts.now c.args.newer.now c.args.older.now)
+
+pub returns-clause-all_zeros : goal.returns-clause-all_zeros
+returns-clause-all_zeros c =
+    let k : CanRise c.args.counts.now (flat_map up_targets c.args.newer.now) = batch_rises c.args.counts.now c.args.newer.now c.args.older.now c.requires.in_range c.requires.fits in
+    rw (c.decrement_all.ensures, c.increment_all.ensures) (batch_all c.args.counts.now c.args.newer.now c.args.older.now k)

@@ -1,7 +1,7 @@
 use Rattle.std.proofs.Common.{length, ap, ◌∙◌, refl}
 use Rattle.rec_counts.specs.Counts.{State}
 use Rattle.rec_release.specs.Release.{started_of}
-use Rattle.rec_release.proofs.Keeping.{work_next, none_left, next_length}
+use Rattle.rec_release.proofs.Keeping.{work_next, none_left, next_length, all_zeros_next}
 use Rattle.rec_release.proofs.Runs.{begun_whole}
 use Rattle.rec_release.proofs.release.Release.start.Goals as goal
 
@@ -20,3 +20,6 @@ returns-clause-slots c = ap (λ (s : State). length s.slots) c.release_next-self
 
 pub returns-clause-whole : goal.returns-clause-whole
 returns-clause-whole c = rw (c.release_next-self-inside.ensures.first, c.release_next-self-inside.ensures.released) (begun_whole c.self.inside.fields c.args.counts.now c.self.invariant.0 c.requires.ready)
+
+pub returns-clause-all_zeros : goal.returns-clause-all_zeros
+returns-clause-all_zeros c = rw c.release_next-self-inside.ensures.released (all_zeros_next c.args.counts.now.zeros c.args.counts.now refl c.requires.ready.zeros)

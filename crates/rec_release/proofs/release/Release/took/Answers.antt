@@ -4,7 +4,7 @@ use Rattle.rec_counts.specs.Counts.{State}
 use Rattle.rec_release.proofs.Runs.{more_whole}
 use Rattle.rec_release.specs.declared.at.At.{At}
 use Rattle.rec_release.specs.Release.{Machine, Work, took_of, IsAtWork, next_of}
-use Rattle.rec_release.proofs.Keeping.{rest_off, emptied_length, next_length, took_on, took_last, took_none, work_on, work_last, none_left}
+use Rattle.rec_release.proofs.Keeping.{all_zeros_on, all_zeros_last, rest_off, emptied_length, next_length, took_on, took_last, took_none, work_on, work_last, none_left}
 use Rattle.rec_release.proofs.release.Release.took.Goals as goal
 
 pub returns-in_default-clause-took : goal.returns-in_default-clause-took
@@ -75,3 +75,13 @@ returns-else-at-self-clause-whole c =
     let v : Work = record { machine = record { fields = c.self.inside.fields; at = c.release_next-self-inside.result }; counts = c.release_next-self-inside.new.counts } in
     let e : v ≡ took_of (record { machine = record { fields = c.self.inside.fields; at = Some a }; counts = c.args.counts.now }) c.args.word = returns-else-at-self-clause-took c ∙ ap (λ (p : Machine). took_of (record { machine = p; counts = c.args.counts.now }) c.args.word) m in
     rw m (λ before words from slots r. more_whole c.self.inside.fields before a c.args.counts.now words from slots c.args.word v l e r)
+
+pub returns-then-at-self-clause-all_zeros : goal.returns-then-at-self-clause-all_zeros
+returns-then-at-self-clause-all_zeros c = rw c.take_off.ensures (all_zeros_on c.args.counts.now c.target.result)
+
+pub returns-else-at-self-clause-all_zeros : goal.returns-else-at-self-clause-all_zeros
+returns-else-at-self-clause-all_zeros c =
+    let a : At = c.in-Some.at in
+    let m : c.args.self.now ≡ record { fields = c.self.inside.fields; at = Some a } = sym c.self.view_is ∙ ap (λ (x : Option At). record { fields = c.self.inside.fields; at = x }) c.in-Some.is in
+    let k : IsAtWork (record { fields = c.self.inside.fields; at = Some a }) c.args.counts.now = subst (λ (p : Machine). IsAtWork p c.args.counts.now) m c.requires.kept in
+    rw (c.release_next-self-inside.ensures.released, c.empty.ensures, c.take_off.ensures) (all_zeros_last c.args.counts.now c.target.result a.slot k.held.released k.ready)
