@@ -69,6 +69,14 @@ opened_at config (suc n) i below = elim (cases_lt i n) [
       ∙ ap (λ k. slice_index_or (opened_mutator config (suc n) ∷ []) k nobody) last ∙ ap (opened_mutator config) number
 ]
 
+-- each of them, by its number
+pub mutator_opened : (config : Config) (t : ℕ) → IsMutator config t → mutator (opened config) t ≡ opened_mutator config t
+mutator_opened config t there =
+    let some : 1 ≤ t = there.0 in
+    let last : t ≤ config.mutators = there.1 in
+    let number : t - 1 + 1 ≡ t = omega arith in
+    opened_at config config.mutators (t - 1) (omega arith) ∙ ap (opened_mutator config) number
+
 -- what is known of a mutator as it is opened
 own_kept : (config : Config) (t : ℕ) → IsConfig config → IsMutator config t → IsOwn config 1 t (opened_mutator config t)
 own_kept config t is there =
@@ -99,6 +107,7 @@ own_kept config t is there =
         now = refl;
       };
       working = tt;
+      stamps = λ i entry there. cc;
     }
 
 -- the opened heap
@@ -113,10 +122,7 @@ opened_kept config is =
       freed = refl;
       crossing = refl;
       mutators = length-opened config config.mutators;
-      own = λ t there.
-          let number : t - 1 + 1 ≡ t = let some : 1 ≤ t = there.0 in omega arith in
-          let below : t - 1 < config.mutators = let some : 1 ≤ t = there.0 in let last : t ≤ config.mutators = there.1 in omega arith in
-          subst (IsOwn config 1 t) (sym (opened_at config config.mutators (t - 1) below ∙ ap (opened_mutator config) number)) (own_kept config t is there);
+      own = λ t there. subst (IsOwn config 1 t) (sym (mutator_opened config t there)) (own_kept config t is there);
       labels = All-from_get_or (λ header. header ≤ 2 ^ 32) (1 ∷ replicate (config.slots - 1) 0) 0 (λ i there. small_header config.slots i);
       made = slots;
       sound = subst IsSound (sym (sight_opened config)) (opening_sound config.slots config.fields config.registers config.mutators slots);
