@@ -34,10 +34,10 @@ use Rattle.rec_world.specs.Run.{performed}
 use Rattle.rec_world.specs.State.{cells_of}
 use Rattle.rec_world.specs.World.{State, sight, mutator, with_mutator, log_length, IsOwn, IsKept, IsLowestFree, OnlyWorks, is_plain, entries_of, sight_told, sight_after_get, sight_after_put}
 use Rattle.rec_world.proofs.Kept.{working_at, register_taken, made_is_free, scanned_free, word_leads}
-use Rattle.rec_world.proofs.Machines.{at_phase, has_room, register_target}
+use Rattle.rec_world.proofs.LogStamps.{word_stamp}
+use Rattle.rec_world.proofs.Machines.{at_phase}
 use Rattle.rec_world.proofs.Moves.{Makes, registers_left, word_found, probe_found}
 use Rattle.rec_world.proofs.Shapes.{changed, after_cross, after_field, after_header, after_epoch, after_freed, after_probe, after_swap, after_claim, own_register, registers_stay, registers_set, changed_same}
-use Rattle.rec_world.proofs.Stamps.{stamp_of-packed}
 
 -- What is said of a command that was told this and left this heap, of what was seen before, of the births, and of the
 -- mutator's log and epoch.
@@ -166,10 +166,7 @@ write_stamp : (w : State) (t val : ℕ) → IsKept w → IsMutator w.config t �
 write_stamp w t val kept is room =
     let own : IsOwn w.config w.made t (mutator w t) = kept.own t is in
     let p : Private = mutator w t in
-    let free : length p.log.entries < p.log.capacity = has_room p own.machine room in
-    let most : p.log.capacity ≤ 2 ^ 18 = own.machine.capacity in
-    stamp_of-packed (register_of p val) (next_stamp p) (register_target p val own.machine) (record { writer = own.machine.number; epoch = own.machine.epoch; index = omega arith })
-    ∙ ap (λ n. let s : Stamp = record { writer = n; epoch = p.epoch; index = length p.log.entries } in s) own.number
+    word_stamp p val own.machine room ∙ ap (λ n. let s : Stamp = record { writer = n; epoch = p.epoch; index = length p.log.entries } in s) own.number
 
 -- a step after which the work goes on
 going_on : {w : State} {t word : ℕ} {op : Op} {q : Private} {at : Phase} {its_op : Op} {next_phase : Phase}

@@ -32,6 +32,7 @@ use Rattle.rec_world.specs.Memory.{cell}
 use Rattle.rec_world.specs.Run.{performed, stepped, found_by}
 use Rattle.rec_world.specs.State.{cells_of, nobody}
 use Rattle.rec_world.specs.World.{State, sight, mutator, with_mutator, IsOwn, IsWorking, IsKept}
+use Rattle.rec_world.proofs.LogStamps.{step_stamps}
 use Rattle.rec_world.proofs.Machines.{step_machine, has_room, register_target}
 use Rattle.rec_world.proofs.Shapes.{changed, left_by_field, left_by_header, left_by_cross, left_by_epoch, left_by_freed, left_by_swap, left_by_probe, left_by_claim, own_register, registers_stay, registers_set, changed_same, changed_other}
 use Rattle.rec_world.proofs.Stamps.{target_of-packed}
@@ -76,6 +77,7 @@ own_more config made more t p grows few own =
       capacity = own.capacity;
       machine = own.machine;
       working = working_more made more config.slots p.phase grows few own.working;
+      stamps = own.stamps;
     }
 
 -- every mutator of a heap in which one was changed
@@ -121,6 +123,7 @@ own_after w t q made kept is same word op step working =
       capacity = same.capacity ∙ own.capacity;
       machine = step_machine own.machine step;
       working = working;
+      stamps = step_stamps own.machine own.stamps step;
     }
 
 -- a heap in which one mutator was changed

@@ -5,6 +5,7 @@ pub mod Deciding
 pub mod Filled
 pub mod Keeps
 pub mod Kept
+pub mod LogStamps
 pub mod Machines
 pub mod Marks
 pub mod Moves

@@ -180,5 +180,6 @@ begin_kept w t work kept is valid label =
         now = (valid, refl);
       };
       working = label;
+      stamps = own.stamps;
     })
     (stays_sound w t (begun_of (mutator w t) work) kept refl)

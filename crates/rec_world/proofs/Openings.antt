@@ -69,13 +69,13 @@ opened_at config (suc n) i below = elim (cases_lt i n) [
       ∙ ap (λ k. slice_index_or (opened_mutator config (suc n) ∷ []) k nobody) last ∙ ap (opened_mutator config) number
 ]
 
+-- each of them, by its number
 pub mutator_opened : (config : Config) (t : ℕ) → IsMutator config t → mutator (opened config) t ≡ opened_mutator config t
 mutator_opened config t there =
     let some : 1 ≤ t = there.0 in
     let last : t ≤ config.mutators = there.1 in
-    let below : t - 1 < config.mutators = omega arith in
     let number : t - 1 + 1 ≡ t = omega arith in
-    opened_at config config.mutators (t - 1) below ∙ ap (opened_mutator config) number
+    opened_at config config.mutators (t - 1) (omega arith) ∙ ap (opened_mutator config) number
 
 -- what is known of a mutator as it is opened
 own_kept : (config : Config) (t : ℕ) → IsConfig config → IsMutator config t → IsOwn config 1 t (opened_mutator config t)
@@ -107,6 +107,7 @@ own_kept config t is there =
         now = refl;
       };
       working = tt;
+      stamps = λ i entry there. cc;
     }
 
 -- the opened heap

@@ -1,6 +1,7 @@
 -- What every heap keeps, and what a command leaves of it.
 use Rattle.std.specs.Prelude.{◌≡◌, ◌≢◌, ◌⊎◌, ℕ, ◌+◌, ◌-◌, ◌*◌, ◌^◌, ◌<◌, ◌≤◌, ◌==◌, ◌↔◌, Bool, true, false, if◌then◌else◌, Option, None, Some, List, All, length, replicate, slice_index_or}
-use Rattle.rec_word.specs.Word.{target_of}
+use Rattle.std.specs.List.{slice_get}
+use Rattle.rec_word.specs.Word.{target_of, stamp_of}
 use Rattle.rec_model.specs.declared.command.Cmd.{Cmd}
 use Rattle.rec_model.specs.declared.command.Cmd.TheVariants as commands
 use Rattle.rec_model.specs.declared.answer.Answer.{Answer}
@@ -11,6 +12,8 @@ use Rattle.rec_model.specs.Explained.{IsExplained}
 use Rattle.rec_model.specs.Heap.{register}
 use Rattle.rec_model.specs.LegalOrder.{is_new}
 use Rattle.rec_model.specs.Sight.{Sight, IsSound, IsTaken, Collects, sight_with_register, sight_with_word, sight_with_header}
+use Rattle.rec_log.specs.declared.entry.Entry.{Entry}
+use Rattle.rec_log.specs.declared.entry.Entry.TheVariants as entries
 use Rattle.rec_mutator.specs.Causes.{MakesEntry, HasCause}
 use Rattle.rec_mutator.specs.Private.{Private, IsMachine, is_busy, work_of, answer_of}
 use Rattle.rec_mutator.specs.declared.made.Made.{Made}
@@ -33,6 +36,15 @@ IsWorking made slots (Scanning reg label before slot) = (label < 2 ^ 32) × (bef
 IsWorking made slots (Scanned reg label before) = (before ≡ 0) × (made ≡ slots)
 IsWorking made slots (Finished work made_of) = Unit {0}
 
+-- an entry with this index in the log of this mutator in this epoch: a write left its stamp
+abbrev pub IsStamped : (number epoch index : ℕ) → Entry → Type 0
+IsStamped number epoch index (entries.Put place new old) = stamp_of new ≡ record { writer = number; epoch = epoch; index = index }
+IsStamped number epoch index (entries.Born slot) = Unit {0}
+
+-- each entry of a mutator's log has its own stamp
+abbrev pub BearsStamps : Private → Type 0
+BearsStamps p = (i : ℕ) (entry : Entry) → slice_get p.log.entries i ≡ Some entry → IsStamped p.number p.epoch i entry
+
 -- what is known of a mutator of a heap with these numbers and births
 pub record IsOwn (config : Config) (made t : ℕ) (p : Private) : Type 0 where
   pub number : p.number ≡ t
@@ -43,6 +55,7 @@ pub record IsOwn (config : Config) (made t : ℕ) (p : Private) : Type 0 where
   pub capacity : p.log.capacity ≡ config.log_entries
   pub machine : IsMachine p
   pub working : IsWorking made config.slots p.phase
+  pub stamps : BearsStamps p
 
 -- what every heap keeps of its words and mutators
 pub record IsKept (w : State) : Type 0 where

@@ -6,8 +6,8 @@ ghost use Rattle.rec_world.specs.Config.{IsConfig};
 ghost use Rattle.rec_world.specs.Run.{Move, Fits, after_move, IsRun, EndsRun};
 ghost use Rattle.rec_world.specs.World.{State, IsKept, IsWorld};
 
-/// What every heap keeps holds at the end of every run: a mutator that scans has passed taken slots alone, every epoch is
-/// the first one, the freed word is 0, and registers and fields name taken slots.
+/// What every heap keeps holds at the end of every run: a mutator that scans has passed taken slots alone, each log entry
+/// has its own stamp, every epoch is the first one, the freed word is 0, and registers and fields name taken slots.
 pub fn runs_keep()
     ensures { (config : Numbers) (moves : List Move) (end : State) → IsConfig config → IsRun config moves end → IsKept end }
 {}

@@ -149,26 +149,3 @@ impl Numbering {
         }
     }
 }
-
-#[cfg(test)]
-mod tests {
-    use super::*;
-    use std::test::Fail;
-
-    // Slots 0 to 3 with two fields each, words with no stamp, so that a word is its slot plus one: 0 leads to 3 and 1,
-    // 3 leads to 0, and 2 to itself, which nothing else names.
-    #[test]
-    fn numbers_what_is_reached(rt: HostRuntime) -> Result<(), Fail> {
-        let words = [4, 2, 0, 0, 3, 0, 1, 0];
-        let mut machines = Vec::new(rt.alloc());
-        let mut numbering = Numbering::open(rt.alloc(), 4)?;
-        numbering.fill(&machines, &words, 2);
-        assert!(rt; numbering.list().is_empty());
-        machines.push(Machine::open(rt.alloc(), 1, 1, 4, 2, 2, 1)?)?;
-        numbering.fill(&machines, &words, 2);
-        assert_eq!(rt; numbering.list(), [0, 3, 1].as_slice());
-        assert_eq!(rt; numbering.number(3), Some(2));
-        assert_eq!(rt; numbering.number(2), None);
-        Ok(())
-    }
-}

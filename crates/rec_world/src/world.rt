@@ -54,6 +54,7 @@ impl World {
         ensures config { IfOk result (λ world. IsConfig config) }
 
         ensures opened { IfOk result (λ world. world ≡ opened config) }
+        ensures mutators { IfOk result (λ world. (t : ℕ) → IsMutator config t → mutator world t ≡ opened_mutator config t) }
         ensures stands { IfOk result (λ world. StandsFor (opening config.fields config.registers config.mutators) (sight world)) }
         ensures kept { IfOk result IsWorld }
     {
