@@ -256,7 +256,7 @@ turns_of_one t s line order lines so = sum_by-cons (λ m. if m == t then 1 else 
     one_of false = omega (arith, so)
 
 -- a mutator has as many turns as lines
-turns_are_lines : (t : ℕ) (events : List Event) → times t (actors events) ≡ length (filter_map (line_by t) events)
+pub turns_are_lines : (t : ℕ) (events : List Event) → times t (actors events) ≡ length (filter_map (line_by t) events)
 turns_are_lines t [] = refl
 turns_are_lines t (Answers s line ∷ events) = turns_of_one t s line (actors events) (filter_map (line_by t) events) (turns_are_lines t events)
 turns_are_lines t (Frees n ∷ events) = turns_are_lines t events

@@ -11,14 +11,16 @@ use Rattle.rec_model.specs.Listing.{Row, ListsSlots}
 use Rattle.rec_model.specs.Sight.{StandsFor, IsCollected}
 use Rattle.rec_model.proofs.Listed.{listing_carried}
 use Rattle.rec_world.specs.World.{State, sight}
-use Rattle.rec_world.specs.declared.config.Config.{Config}
 use Rattle.recycler.specs.declared.status.Status.{Status}
 use Rattle.recycler.specs.declared.status.Status.TheVariants as statuses
 use Rattle.rec_script.specs.declared.error.Kind.{Kind}
 use Rattle.rec_script.specs.declared.error.ScriptError.{ScriptError}
 use Rattle.rec_script.specs.declared.error.ScriptError.TheVariants.{Bad}
 use Rattle.recycler.specs.Headline.{Are, IsAnswer, Answers, WroteAnswer, WroteFront, ReadNoScript}
-use Rattle.recycler.specs.Played.{config_of, log_room, IsPlayed, last_moment}
+use Rattle.rec_play.specs.Played.{IsPlayed, last_moment}
+use Rattle.rec_script.proofs.Refusing.{refused_no_text}
+use Rattle.recycler.specs.declared.command_line.Request.{Request}
+use Rattle.recycler.specs.declared.command_line.Request.TheVariants as requests
 use Rattle.rec_script.specs.Script.{Contents, IsText, IsRefused}
 use Rattle.rec_report.specs.Text.{play_text}
 use Rattle.recycler.specs.Whole.{IsAtEnd}
@@ -38,16 +40,14 @@ all_read rest left bytes passes end whole told =
 untold : (P : List ℕ → Type 0) (whole : List ℕ) → ◌≡◌ {A = Option (List ℕ)} None (Some whole) → P whole
 untold P whole told = cc
 
--- bytes past the limit are no script
+-- bytes that were refused past the limit are refused with all that follow
 past_limit : (bytes more rest : List ℕ) (line : ℕ) (kind : Kind) → 16777216 < length bytes → rest ≡ bytes ++ more → IsRefused bytes line kind → IsRefused rest line kind
 past_limit bytes more rest line kind long is refused =
-    record {
-      no_line = refused.no_line;
-      not_built = refused.not_built;
-      no_text = λ (script, limits, short, spelled).
-          let longer : length rest ≡ length bytes + length more = ap length is ∙ length-append bytes more in
-          omega arith;
-    }
+    let longer : length rest ≡ length bytes + length more = ap length is ∙ length-append bytes more in
+    elim refused [
+      | inl whole ↦ inl (record { many = omega arith; whole = whole.whole; named = whole.named })
+      | inr stopped ↦ absurd (let few : length bytes ≤ 16777216 = stopped.few in omega arith)
+    ]
 
 -- bytes that were refused, read to the end or past the limit
 pub no_script : (rest left : Option (List ℕ)) (bytes : List ℕ) (line : ℕ) (kind : Kind) → Passes rest left bytes → (length bytes ≤ 16777216 → IsAtEnd rest left)
@@ -81,27 +81,31 @@ no_script (Some rest) left bytes line kind passes end refused =
           }
     ]
 
+-- what is answered isn't past the limit
+answered_short : (request : Request) (bytes text : List ℕ) → IsAnswer request bytes text → length bytes ≤ 16777216
+answered_short (requests.Play seed turns) bytes text answer = answer.short
+
 -- a text was written whole
-pub wrote_answer : (rest left before after : Option (List ℕ)) (bytes text : List ℕ) → Passes rest left bytes → (length bytes ≤ 16777216 → IsAtEnd rest left)
-    → IsAnswer bytes text → Appends before after text → WroteAnswer rest left before after
-wrote_answer rest left before after bytes text passes end answer appends =
+pub wrote_answer : (request : Request) (rest left before after : Option (List ℕ)) (bytes text : List ℕ) → Passes rest left bytes → (length bytes ≤ 16777216 → IsAtEnd rest left)
+    → IsAnswer request bytes text → Appends before after text → WroteAnswer request rest left before after
+wrote_answer request rest left before after bytes text passes end answer appends =
     record {
       bytes = bytes;
-      read = all_read rest left bytes passes (end answer.short);
-      ended = end answer.short;
+      read = all_read rest left bytes passes (end (answered_short request bytes text answer));
+      ended = end (answered_short request bytes text answer);
       text = text;
       answer = answer;
       written = appends;
     }
 
 -- a front of a text was written
-pub wrote_front : (rest left before after : Option (List ℕ)) (bytes text : List ℕ) → Passes rest left bytes → (length bytes ≤ 16777216 → IsAtEnd rest left)
-    → IsAnswer bytes text → (front back : List ℕ) × (text ≡ front ++ back) × Appends before after front → WroteFront rest left before after
-wrote_front rest left before after bytes text passes end answer (front, back, cut, appends) =
+pub wrote_front : (request : Request) (rest left before after : Option (List ℕ)) (bytes text : List ℕ) → Passes rest left bytes → (length bytes ≤ 16777216 → IsAtEnd rest left)
+    → IsAnswer request bytes text → (front back : List ℕ) × (text ≡ front ++ back) × Appends before after front → WroteFront request rest left before after
+wrote_front request rest left before after bytes text passes end answer (front, back, cut, appends) =
     record {
       bytes = bytes;
-      read = all_read rest left bytes passes (end answer.short);
-      ended = end answer.short;
+      read = all_read rest left bytes passes (end (answered_short request bytes text answer));
+      ended = end (answered_short request bytes text answer);
       text = text;
       answer = answer;
       front = front;
@@ -124,26 +128,21 @@ completes statuses.ReadFault rest left reads reads_after writes writes_after usa
 completes statuses.WriteFault rest left reads reads_after writes writes_after usage bad read write bytes told text no_read no_write = absurd (no_write (write refl))
 completes (statuses.BadScript line kind) rest left reads reads_after writes writes_after usage bad read write bytes told text no_read no_write =
     let refused = bad line kind refl in
-    absurd (refused.refused.no_text (subst IsText (refused.read bytes told) text))
+    absurd (refused_no_text refused.bytes line kind refused.refused (subst IsText (refused.read bytes told) text))
 
 -- a fact of each value that was made
 pub if_ok : {T E : Type 0} (r : Result T E) (P Q : T → Type 0) → ((x : T) → P x → Q x) → IfOk r P → IfOk r Q
 if_ok (Ok x) P Q step held = step x held
 if_ok (Err e) P Q step held = held
 
--- the heap's numbers
-pub config_is : (script : Contents) (slots fields registers mutators room : ℕ) → slots ≡ script.slots → fields ≡ script.fields → registers ≡ script.registers → mutators ≡ length script.commands → room ≡ log_room script
-    → ◌≡◌ {A = Config} (record { slots = slots; fields = fields; registers = registers; mutators = mutators; log_entries = room; first_epoch = 1 }) (config_of script)
-config_is script slots fields registers mutators room s f r m l = cc
-
 -- what was played, settled and listed is the answer
-pub answers_script : (script : Contents) (lines : List Line) (events : List Event) (world : State) (rows : List Row) (text : List ℕ)
-    → IsPlayed script (lines ∷ []) events → StandsFor (last_moment script events).heap (sight world) → IsCollected (sight world)
+pub answers_script : (script : Contents) (seed turns : ℕ) (journals : List (List Line)) (events : List Event) (world : State) (rows : List Row) (text : List ℕ)
+    → IsPlayed script seed turns journals events → StandsFor (last_moment script events).heap (sight world) → IsCollected (sight world)
     → length world.headers ≡ script.slots → ListsSlots (sight world) rows
-    → text ≡ play_text (lines ∷ []) (Some (actors events)) rows (length (last_moment script events).heap.objects) → Answers script text
-answers_script script lines events world rows text played stands collected room listed written =
+    → text ≡ play_text journals (Some (actors events)) rows (length (last_moment script events).heap.objects) → Answers script seed turns text
+answers_script script seed turns journals events world rows text played stands collected room listed written =
     record {
-      journals = lines ∷ [];
+      journals = journals;
       events = events;
       played = played;
       rows = rows;

@@ -1,4 +1,4 @@
 pub mod Endings
 pub mod Fronts
-pub mod Playing
+pub mod Opening
 pub mod Turns

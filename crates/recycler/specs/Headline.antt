@@ -5,9 +5,12 @@ use Rattle.rec_model.specs.Heap.{Heap}
 use Rattle.rec_model.specs.LegalOrder.{Line, Event, actors}
 use Rattle.rec_model.specs.Listing.{Row, IsListing}
 use Rattle.rec_model.specs.Sight.{Sight, StandsFor, IsCollected}
-use Rattle.recycler.specs.Played.{IsPlayed, last_moment}
+use Rattle.rec_play.specs.Played.{IsPlayed, last_moment}
 use Rattle.rec_io.specs.Sink.{Appends}
-use Rattle.rec_script.specs.Script.{Contents, IsScript, IsRefused, spelling}
+use Rattle.rec_script.specs.Lines.{lines}
+use Rattle.rec_script.specs.Script.{Contents, Spells, IsRefused}
+use Rattle.recycler.specs.declared.command_line.Request.{Request}
+use Rattle.recycler.specs.declared.command_line.Request.TheVariants as requests
 use Rattle.rec_script.specs.declared.error.Kind.{Kind}
 use Rattle.rec_report.specs.Text.{play_text}
 use Rattle.recycler.specs.Whole.{IsAtEnd}
@@ -21,23 +24,26 @@ pub record IsSettledAs (heap : Heap) (slots : ℕ) (rows : List Row) : Type 0 wh
   pub listing : IsListing heap rows
 
 -- The text answers the script: each printed answer is the one that the heap that never frees gives to the script's
--- commands in one order that keeps each mutator's own; an allocation is answered full only where no slot was free; and
--- after settling just the objects that registers reach hold slots, listed with true counts.
-pub record Answers (script : Contents) (text : List ℕ) : Type 0 where
+-- commands in one order that keeps each mutator's own, the one that the playing rule draws; an allocation is answered full
+-- only where no slot was free; and after settling just the objects that registers reach hold slots, listed with true counts.
+pub record Answers (script : Contents) (seed turns : ℕ) (text : List ℕ) : Type 0 where
   pub journals : List (List Line)
   pub events : List Event
-  pub played : IsPlayed script journals events
+  pub played : IsPlayed script seed turns journals events
   pub rows : List Row
   pub settled : IsSettledAs (last_moment script events).heap script.slots rows
   pub written : text ≡ play_text journals (Some (actors events)) rows (length (last_moment script events).heap.objects)
 
--- The bytes spell a script within the limits, and the text answers it.
-pub record IsAnswer (bytes text : List ℕ) : Type 0 where
+-- The bytes are the text of a script within the limits, and the answer is the script's, in the order drawn from the seed.
+pub record PlaysTo (bytes : List ℕ) (seed turns : ℕ) (text : List ℕ) : Type 0 where
   pub script : Contents
-  pub in_limits : IsScript script
   pub short : length bytes ≤ 16777216
-  pub spelled : bytes ≡ spelling script
-  pub answered : Answers script text
+  pub spelled : Spells (lines bytes) script
+  pub answered : Answers script seed turns text
+
+-- the answer of the bytes to a request
+abbrev pub IsAnswer : Request → (bytes text : List ℕ) → Type 0
+IsAnswer (requests.Play seed turns) bytes text = PlaysTo bytes seed turns text
 
 -- the bytes are those told, where any are told
 abbrev pub Are : Option (List ℕ) → List ℕ → Type 0
@@ -48,21 +54,21 @@ abbrev pub IsReadOut : Option (List ℕ) → Option (List ℕ) → Type 0
 IsReadOut before after = ForSome before (λ rest. (after ≡ Some []) ⊎ (16777216 < length rest))
 
 -- The bytes of the source were read to their end, and the whole answer to them was written.
-pub record WroteAnswer (rest left before after : Option (List ℕ)) : Type 0 where
+pub record WroteAnswer (request : Request) (rest left before after : Option (List ℕ)) : Type 0 where
   pub bytes : List ℕ
   pub read : Are rest bytes
   pub ended : IsAtEnd rest left
   pub text : List ℕ
-  pub answer : IsAnswer bytes text
+  pub answer : IsAnswer request bytes text
   pub written : Appends before after text
 
 -- The bytes of the source were read to their end, and a front of the answer to them was written.
-pub record WroteFront (rest left before after : Option (List ℕ)) : Type 0 where
+pub record WroteFront (request : Request) (rest left before after : Option (List ℕ)) : Type 0 where
   pub bytes : List ℕ
   pub read : Are rest bytes
   pub ended : IsAtEnd rest left
   pub text : List ℕ
-  pub answer : IsAnswer bytes text
+  pub answer : IsAnswer request bytes text
   pub front : List ℕ
   pub back : List ℕ
   pub cut : text ≡ front ++ back

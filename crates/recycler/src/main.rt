@@ -8,9 +8,9 @@
 //! The form of a script and of its answer is this project's profile (`docs/PROFILE.md`).
 #![tactic(auto)]
 
+mod answer;
 mod command_line;
 mod gate;
-mod play;
 mod reading;
 mod run;
 mod status;

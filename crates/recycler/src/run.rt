@@ -1,23 +1,24 @@
 //! The top call: from the bytes of a script to the bytes of its answer.
-ghost use Rattle.std.specs.Prelude.{◌≡◌, ◌⊎◌, ◌↔◌, ℕ, false, List, Some, map, IfOk};
+ghost use Rattle.std.specs.Prelude.{◌≡◌, ◌⊎◌, ℕ, false, List, Some, map, IfOk};
 ghost use Rattle.std.specs.List.{flat_map};
 ghost use Rattle.rec_io.specs.Faults.{Rose};
-ghost use Rattle.recycler.specs.CommandLine.{IsCommandLine};
-ghost use Rattle.recycler.specs.Headline.{IsAnswer, Answers, WroteAnswer, WroteFront, ReadNoScript};
-ghost use Rattle.rec_script.specs.Script.{IsScript, IsText, IsRefused};
-ghost use Rattle.recycler.specs.Status.{may_write};
+ghost use Rattle.rec_script.specs.Script.{IsText, IsRefused};
 ghost use Rattle.rec_script.specs.declared.error.Kind.{Kind};
+ghost use Rattle.recycler.specs.CommandLine.{Asks, IsCommandLine};
+ghost use Rattle.recycler.specs.Headline.{IsAnswer, WroteAnswer, WroteFront, ReadNoScript};
+ghost use Rattle.recycler.specs.Status.{may_write};
+ghost use Rattle.recycler.specs.declared.command_line.Request.{Request as Asked};
 
+use crate::answer::answer_script;
+use crate::command_line::{Refusal, Request, read_words};
 use crate::gate::Gate;
-use crate::play::play;
 use crate::reading::{ReadStop, read_all};
 use crate::status::Status;
 use crate::writing::write_lines;
 use rec_io::{Sink, Source};
-use rec_report::{Text, text};
-use rec_script::{Script, ScriptError, read};
-use rec_world::{Config, Journal, Order, World};
-use std::alloc::{AllocError as NoMemory, Global};
+use rec_report::Text;
+use rec_script::{ScriptError, read};
+use std::alloc::Global;
 use std::sync::Wait;
 use std::thread::Threads;
 
@@ -30,17 +31,20 @@ pub fn run<R: Threads + Wait + Sync, S: Source, K: Sink, G: Gate>(
     sink: &mut K,
     _gate: &G,
 ) -> Status
-    // The headline: the script was read to its end, and its whole answer was written.
-    ensures done { result ≡ Status.Done → WroteAnswer (S.rest source.old) (S.rest source.new) (K.written sink.old) (K.written sink.new) }
+    // The headline: the script was read to its end, and its whole answer to what the words ask was written.
+    ensures done { result ≡ Status.Done → (request : Asked) × Asks (map (λ word. word.now) words.now) request
+        × WroteAnswer request (S.rest source.old) (S.rest source.new) (K.written sink.old) (K.written sink.new) }
 
-    // When each other status comes.
-    ensures usage { (result ≡ Status.Usage) ↔ ¬ IsCommandLine (map (λ word. word.now) words.now) }
+    // When each other status comes. Words that are no command line give Usage, or memory ran out.
+    ensures usage { result ≡ Status.Usage → ¬ IsCommandLine (map (λ word. word.now) words.now) }
+    ensures words { ¬ IsCommandLine (map (λ word. word.now) words.now) → (result ≡ Status.Usage) ⊎ (result ≡ Status.NoMemory) }
     ensures bad_script { (line : ℕ) (kind : Kind) → result ≡ Status.BadScript line kind → ReadNoScript (S.rest source.old) (S.rest source.new) line kind }
     ensures read_fault { result ≡ Status.ReadFault → Rose (S.faults source.old) (S.faults source.new) }
     ensures write_fault { result ≡ Status.WriteFault → Rose (K.faults sink.old) (K.faults sink.new) }
 
     // What each leaves: a front of the answer, or nothing written, or nothing read either.
-    ensures front { result ≡ Status.WriteFault → WroteFront (S.rest source.old) (S.rest source.new) (K.written sink.old) (K.written sink.new) }
+    ensures front { result ≡ Status.WriteFault → (request : Asked) × Asks (map (λ word. word.now) words.now) request
+        × WroteFront request (S.rest source.old) (S.rest source.new) (K.written sink.old) (K.written sink.new) }
     ensures unwritten { may_write result ≡ false → sink.new ≡ sink.old }
     ensures unread { result ≡ Status.Usage → source.new ≡ source.old }
 
@@ -49,20 +53,26 @@ pub fn run<R: Threads + Wait + Sync, S: Source, K: Sink, G: Gate>(
         → ¬ Rose (S.faults source.old) (S.faults source.new) → ¬ Rose (K.faults sink.old) (K.faults sink.new)
         → (result ≡ Status.Done) ⊎ (result ≡ Status.NoMemory) }
 {
-    match words {
-        [_, "play"] => play_source(alloc, source, sink),
-        _ => Status::Usage,
+    match read_words(alloc, words) {
+        Ok(request) => answer_source(alloc, request, source, sink),
+        Err(Refusal::Usage) => Status::Usage,
+        Err(Refusal::NoMemory) => Status::NoMemory,
     }
 }
 
-// Reads a script to its end, and writes its answer.
-fn play_source<S: Source, K: Sink>(alloc: Global, source: &mut S, sink: &mut K) -> Status
-    ensures done { result ≡ Status.Done → WroteAnswer (S.rest source.old) (S.rest source.new) (K.written sink.old) (K.written sink.new) }
+// Reads a script to its end, and writes its answer to a request.
+fn answer_source<S: Source, K: Sink>(
+    alloc: Global,
+    request: Request,
+    source: &mut S,
+    sink: &mut K,
+) -> Status
+    ensures done { result ≡ Status.Done → WroteAnswer request (S.rest source.old) (S.rest source.new) (K.written sink.old) (K.written sink.new) }
     ensures not_usage { result ≡ Status.Usage → ⊥ }
     ensures bad_script { (line : ℕ) (kind : Kind) → result ≡ Status.BadScript line kind → ReadNoScript (S.rest source.old) (S.rest source.new) line kind }
     ensures read_fault { result ≡ Status.ReadFault → Rose (S.faults source.old) (S.faults source.new) }
     ensures write_fault { result ≡ Status.WriteFault → Rose (K.faults sink.old) (K.faults sink.new) }
-    ensures front { result ≡ Status.WriteFault → WroteFront (S.rest source.old) (S.rest source.new) (K.written sink.old) (K.written sink.new) }
+    ensures front { result ≡ Status.WriteFault → WroteFront request (S.rest source.old) (S.rest source.new) (K.written sink.old) (K.written sink.new) }
     ensures unwritten { may_write result ≡ false → sink.new ≡ sink.old }
 {
     let bytes = match read_all(alloc, source) {
@@ -70,7 +80,7 @@ fn play_source<S: Source, K: Sink>(alloc: Global, source: &mut S, sink: &mut K) 
         Err(ReadStop::Fault) => return Status::ReadFault,
         Err(ReadStop::NoMemory) => return Status::NoMemory,
     };
-    let text = match answer(alloc, &bytes) {
+    let text = match answer(alloc, request, &bytes) {
         Ok(text) => text,
         Err(ScriptError::Bad { line, kind }) => return Status::BadScript { line, kind },
         Err(ScriptError::NoMemory) => return Status::NoMemory,
@@ -81,37 +91,14 @@ fn play_source<S: Source, K: Sink>(alloc: Global, source: &mut S, sink: &mut K) 
     }
 }
 
-// The answer to the script in the bytes.
-fn answer(alloc: Global, bytes: &[u8]) -> Result<Text, ScriptError>
-    ensures answer { IfOk result (λ text. IsAnswer bytes.now (flat_map (λ line. line) text)) }
+// The answer of the script in the bytes to a request.
+fn answer(alloc: Global, request: Request, bytes: &[u8]) -> Result<Text, ScriptError>
+    ensures answer { IfOk result (λ text. IsAnswer request bytes.now (flat_map (λ line. line) text)) }
     ensures refused { (line : ℕ) (kind : Kind) → result ≡ Err (ScriptError.Bad line kind) → IsRefused bytes.now line kind }
 {
+    let Request::Play { seed, turns } = request;
     let script = read(alloc, bytes)?;
-    answer_script(alloc, &script).map_err(|_| ScriptError::NoMemory)
-}
-
-// The answer to a script: its commands are played on a heap of its own, which is then settled and listed.
-fn answer_script(alloc: Global, script: &Script) -> Result<Text, NoMemory>
-    requires { IsScript script.now }
-    ensures { IfOk result (λ text. Answers script.now (flat_map (λ line. line) text)) }
-{
-    let room = script.longest().max(1);
-    let config = Config {
-        slots: script.slots(),
-        fields: script.fields(),
-        registers: script.registers(),
-        mutators: u32::from(script.mutators()),
-        log_entries: room,
-        first_epoch: 1,
-    };
-    let Ok(mut world) = World::open(alloc, config) else {
-        return Err(NoMemory);
-    };
-    let mut journal = Journal::open(alloc, room)?;
-    let mut order = Order::open(alloc, room)?;
-    play(script, &mut world, &mut journal, &mut order);
-    world.mark();
-    text(alloc, script, &[journal], Some(&order), &world)
+    answer_script(alloc, &script, seed, turns).map_err(|_| ScriptError::NoMemory)
 }
 
 #[cfg(test)]

@@ -1,7 +1,7 @@
 use Rattle.recycler.proofs.Endings.{completes}
 use Rattle.recycler.proofs.run.run.Goals as goal
 
-pub returns-in-play-clause-complete : goal.returns-in-play-clause-complete
-returns-in-play-clause-complete g c = λ line.
-    completes c.play_source.result (g.S.Source.rest c.args.source.now) (g.S.Source.rest c.play_source.new.source) _ _ _ _
-    c.play_source.ensures.not_usage c.play_source.ensures.bad_script c.play_source.ensures.read_fault c.play_source.ensures.write_fault
+pub returns-in-Ok-clause-complete : goal.returns-in-Ok-clause-complete
+returns-in-Ok-clause-complete g c = λ line.
+    completes c.answer_source.result (g.S.Source.rest c.args.source.now) (g.S.Source.rest c.answer_source.new.source) _ _ _ _
+    c.answer_source.ensures.not_usage c.answer_source.ensures.bad_script c.answer_source.ensures.read_fault c.answer_source.ensures.write_fault
