@@ -1,4 +1,3 @@
-use Rattle.std.proofs.Common.{◌≡◌, ℕ}
 use Rattle.rec_apply.proofs.Worked.{first_in_range, first_fits, second_in_range, second_fits, second_covered}
 use Rattle.rec_apply.proofs.tests.counts_two_epochs.Goals as goal
 
