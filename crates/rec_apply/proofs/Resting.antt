@@ -1,5 +1,5 @@
 -- What a batch leaves as it was.
-use Rattle.std.proofs.Common.{◌≡◌, ℕ, Option, None, Some, List, [], ◌∷◌, refl}
+use Rattle.std.proofs.Common.{ℕ, Option, None, Some, List, [], ◌∷◌, refl}
 use Rattle.rec_counts.specs.Counts.{State, slot_at}
 use Rattle.rec_counts.specs.Rest.{KeepsRest, AllZeros}
 use Rattle.rec_counts.specs.Slot.{raised}

@@ -43,8 +43,22 @@ fn first_log(alloc: Global) -> Result<Buffer, NoMemory>
 {
     let mut log = Buffer::open(alloc, 3, 2)?;
     note(&mut log, Entry::Born { slot: 2 });
-    note(&mut log, Entry::Put { place: 0, new: 3, old: 0 });
-    note(&mut log, Entry::Put { place: 0, new: 2, old: 3 });
+    note(
+        &mut log,
+        Entry::Put {
+            place: 0,
+            new: 3,
+            old: 0,
+        },
+    );
+    note(
+        &mut log,
+        Entry::Put {
+            place: 0,
+            new: 2,
+            old: 3,
+        },
+    );
     let mut frame = Frame::open(alloc, 2)?;
     frame.set(0, 0);
     frame.set(1, 1);
@@ -56,7 +70,14 @@ fn second_log(alloc: Global) -> Result<Buffer, NoMemory>
     ensures { IfOk result (λ log. log ≡ second_log) }
 {
     let mut log = Buffer::open(alloc, 3, 2)?;
-    note(&mut log, Entry::Put { place: 1, new: 2, old: 0 });
+    note(
+        &mut log,
+        Entry::Put {
+            place: 1,
+            new: 2,
+            old: 0,
+        },
+    );
     let mut frame = Frame::open(alloc, 2)?;
     frame.set(0, 0);
     log.retire(&frame);

@@ -123,8 +123,10 @@ zeros_from s x = go (due_of (slot_at s x)) refl
   where
     to : (d : Due) → due_of (slot_at s x) ≡ d → (decremented s x).zeros ≡ (sent d (with_slot s x (lessened (slot_at s x))) x).zeros
     to d e = ap (λ d. (sent d (with_slot s x (lessened (slot_at s x))) x).zeros) e
+
     none : (P : Type 0) (y : ℕ) → 0 < times y [] → P
     none P y h = absurd (omega (arith, h, times-nil y))
+
     go : (d : Due) → due_of (slot_at s x) ≡ d → ZerosFrom s x
     go Nothing e = record { more = []; zeros = to Nothing e ∙ sym (append-nil s.zeros); once = λ y. omega (arith, times-nil y); last = λ y. none _ y; count = λ y. none _ y; unreleased = λ y. none _ y }
     go Root e = record { more = []; zeros = to Root e ∙ sym (append-nil s.zeros); once = λ y. omega (arith, times-nil y); last = λ y. none _ y; count = λ y. none _ y; unreleased = λ y. none _ y }
@@ -138,7 +140,7 @@ zeros_from s x = go (due_of (slot_at s x)) refl
     }
       where
         it : (y : ℕ) → 0 < times y (x ∷ []) → (eqb y x ≡ true) × (y ≡ x)
-        it y h = elim (eqb_tells y x) [ | inl q ↦ (q.0, q.1) | inr q ↦ let n : one (eqb y x) ≡ 0 = ap one q.0 in absurd (omega (arith, h, n, times-cons y x [], times-nil y)) ]
+        it y h = elim (eqb_tells y x) [ inl q ↦ (q.0, q.1) | inr q ↦ let n : one (eqb y x) ≡ 0 = ap one q.0 in absurd (omega (arith, h, n, times-cons y x [], times-nil y)) ]
 
 -- the zeros stay zeros
 pub zeros_kept : (s : State) (x : ℕ) → AreZeros s → AreZeros (decremented s x)
@@ -147,7 +149,7 @@ zeros_kept s x k =
     let n : (y : ℕ) → times y (decremented s x).zeros ≡ times y s.zeros + times y f.more = λ y. ap (times y) f.zeros ∙ times-append y s.zeros f.more in
     record {
       once = λ y. elim (cases_lt 0 (times y f.more)) [
-        | inl l ↦ elim (cases_lt 0 (times y s.zeros)) [ | inl m ↦ absurd (omega (arith, f.last y l, k.none y m)) | inr m ↦ omega (arith, n y, f.once y, m) ]
+        | inl l ↦ elim (cases_lt 0 (times y s.zeros)) [ inl m ↦ absurd (omega (arith, f.last y l, k.none y m)) | inr m ↦ omega (arith, n y, f.once y, m) ]
         | inr l ↦ omega (arith, n y, k.once y, l)
       ];
       none = λ y h. elim (cases_lt 0 (times y s.zeros)) [

@@ -1,14 +1,13 @@
 -- Whole sweeps, word by word.
-use Rattle.std.proofs.Common.{◌≡◌, ℕ, zero, suc, ◌+◌, ◌<◌, ◌≤◌, Bool, true, false, eqb, ltb, Option, None, Some, List, [], ◌∷◌, ◌++◌, length, take, drop, slice_get, get_or, refl, arith, sym, ◌∙◌, ap, subst, inl, inr, append_assoc}
-use Rattle.std.proofs.Math.ListN.{set}
+use Rattle.std.proofs.Common.{◌≡◌, ℕ, zero, suc, ◌<◌, Bool, true, false, eqb, ltb, List, [], ◌∷◌, ◌++◌, length, take, drop, slice_get, refl, arith, sym, ◌∙◌, ap, subst, inl, inr, append_assoc}
 use Rattle.std.proofs.lemmas.List.{length-set, get_or-set_same, get_or-set_other, append-nil}
-use Rattle.std.proofs.lemmas.Bool.{cases_lt, lt-ltb, le-ltb}
+use Rattle.std.proofs.lemmas.Bool.{lt-ltb}
 use Rattle.std.proofs.lemmas.Bool.Decides.{eqb_tells}
 use Rattle.rec_counts.specs.declared.slot.Slot.{Slot}
-use Rattle.rec_counts.specs.Counts.{State, slot_at, with_slot}
+use Rattle.rec_counts.specs.Counts.{State, slot_at}
 use Rattle.rec_counts.specs.Lists.{one, times, EachOnce}
 use Rattle.rec_counts.specs.Slot.{absent, swept_clean}
-use Rattle.rec_counts.proofs.Times.{times-nil, times-cons, times_push, times-append, one-same, one-le, in_range_once, once_rest}
+use Rattle.rec_counts.proofs.Times.{times-nil, times-cons, times_push, one-same, in_range_once, once_rest}
 use Rattle.rec_release.specs.Sweep.{Work, swept, swept_if, took_at, took_of, started_of, taken_in, freed, Swept, HasSwept}
 
 -- nothing is swept yet

@@ -31,7 +31,7 @@ impl Model for Release {
 }
 
 impl Release {
-    /// A release with no work, over slots with so many fields.
+    /// A release with no work, over slots with so many fields, at least one.
     #[tactic(auto, unfolding(crate::specs::Release::next_of))]
     pub fn idle(fields: u8) -> Release
         requires { 0 < fields }
