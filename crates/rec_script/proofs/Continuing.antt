@@ -14,14 +14,7 @@ use Rattle.rec_script.specs.Lines.{words, counted, AreUtf8}
 use Rattle.rec_script.specs.Script.{Contents, IsHeap, AreCommands, IsScript, Spells, Continues, header, heap_line, spelled}
 use Rattle.rec_script.specs.Drafts.{so_far, IsDraft}
 use Rattle.rec_script.proofs.Stopping.{counted-append}
-
-ascii : (bs : List ℕ) → AllByRecursion (λ b. b < 128) bs → IsUtf8 bs
-ascii bs h = IsUtf8-from_ascii bs (below bs h)
-  where
-    below : (bs : List ℕ) → AllByRecursion (λ b. b < 128) bs → (i : ℕ) → get_or bs i 0 < 128
-    below [] h i = omega arith
-    below (b ∷ bs) h zero = h.0
-    below (b ∷ bs) h (suc i) = below bs h.1 i
+use Rattle.rec_script.proofs.Plainness.{ascii}
 
 -- lines that are continued with one more are continued
 pub continues_before : (before : List (List ℕ)) (line : List ℕ) → Continues (before ++ line ∷ []) → Continues before
