@@ -112,9 +112,3 @@ first_word cs rest word more m n m-within blank letter rest-is some within befor
       after_blanks cs m m-within blank ∙ ap words (sym rest-is) ∙ word_and_more rest n some-letters within before at ∙ ap (λ (t : List ℕ). t ∷ words (drop n rest)) (sym word-is) ∙ ap (λ (t : List ℕ). word ∷ words t) (sym more-is),
       omega (arith, ap (length {A = ℕ}) word-is, length-take-le n rest within),
     )
-
--- the byte behind a front, as the first one of the rest
-pub behind_front : (cs more : List ℕ) (n : ℕ) → more ≡ drop n cs → (0 < length more → is_blank (get_or more 0 0) ≡ true) → n < length cs → is_blank (get_or cs n 0) ≡ true
-behind_front cs more n e at within =
-    let same : more ≡ get_or cs n 0 ∷ drop (n + 1) cs = e ∙ drop_more cs n 0 within in
-    sym (ap (λ (t : List ℕ). is_blank (get_or t 0 0)) same) ∙ at (omega (arith, ap (length {A = ℕ}) same))

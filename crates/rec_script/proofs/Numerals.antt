@@ -9,8 +9,7 @@ use Rattle.std.proofs.lemmas.Str.{digit_value_digit}
 use Rattle.std.proofs.lemmas.Str.Parse.{IsNumeralModel, numerals_by_value, tells_by_index, digits_value-take-le}
 use Rattle.std.proofs.lemmas.Int.Digits.{digits_value_more}
 use Rattle.std.proofs.lemmas.Fmt.{decimal_digit, decimal_nonempty, first_decimal, digits_decimal, digits_value-decimal, decimal-digits_value}
-use Rattle.std.proofs.lemmas.List.{take_all, length-take-le, get_or-take}
-use Rattle.rec_script.specs.Lines.{is_blank}
+use Rattle.std.proofs.lemmas.List.{take_all}
 use Rattle.rec_script.specs.Script.{IsNumeralOf}
 
 -- each byte is a digit
@@ -77,19 +76,3 @@ is_numeral word value some front digits is small = (
 
 pub whole : (word : List ℕ) (n : ℕ) → n ≡ length word → digits_value 10 (take n word) ≡ digits_value 10 word
 whole word n is = ap (digits_value 10) (take_all n word (omega arith))
-
--- a digit is no blank
-digit_no_blank : (c : ℕ) → 48 ≤ c → c ≤ 57 → is_blank c ≡ false
-digit_no_blank c low high = grind (arith, nat_tests)
-
-pub digits_no_blank : (bytes : List ℕ) (n : ℕ) → ((k : ℕ) → k < n → IsInRange 48 57 (get_or bytes k 0)) → (k : ℕ) → k < n → is_blank (get_or bytes k 0) ≡ false
-digits_no_blank bytes n digits k lt = digit_no_blank (get_or bytes k 0) (digits k lt).0 (digits k lt).1
-
--- the digits at the front are a numeral
-pub front_numeral : (bytes : List ℕ) (n value : ℕ) → 0 < n → n ≤ length bytes → ((k : ℕ) → k < n → IsInRange 48 57 (get_or bytes k 0)) → value ≡ digits_value 10 (take n bytes) → (get_or bytes 0 0 ≡ 48 → n ≡ 1) → value < 2 ^ 32 → take n bytes ≡ decimal value
-front_numeral bytes n value some within digits is alone small =
-    let word : List ℕ = take n bytes in
-    let size : length (take n bytes) ≡ n = length-take-le n bytes within in
-    let all : AreDigits (take n bytes) = λ k lt. let below : k < n = omega arith in rw get_or-take (digits k below) in
-    let first : get_or (take n bytes) 0 0 ≡ get_or bytes 0 0 = get_or-take n bytes 0 0 some in
-    sym (ap decimal is ∙ decimal-digits_value own (take n bytes) all (omega arith) (λ e. omega (arith, alone (sym first ∙ e))) (omega (arith, is)))

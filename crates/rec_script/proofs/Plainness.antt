@@ -1,6 +1,6 @@
 -- A line of plain words is UTF-8, and so are the lines of a script that count.
-use Rattle.std.proofs.Common.{◌≡◌, ◌⊎◌, inl, inr, ℕ, zero, suc, ◌^◌, ◌<◌, ◌≤◌, Bool, true, false, cond, List, [], ◌∷◌, ◌++◌, get_or, map, refl, sym, subst, arith}
-use Rattle.std.specs.Prelude.{codes, All, filter}
+use Rattle.std.proofs.Common.{◌≡◌, inl, inr, ℕ, zero, suc, ◌^◌, ◌<◌, Bool, true, false, cond, List, [], ◌∷◌, ◌++◌, get_or, refl, sym, subst, arith}
+use Rattle.std.specs.Prelude.{All, filter}
 use Rattle.std.specs.List.{flat_map, AllByRecursion}
 use Rattle.std.specs.Fmt.{decimal}
 use Rattle.std.specs.Str.{IsUtf8}
@@ -13,7 +13,7 @@ use Rattle.rec_model.specs.declared.command.Cmd.TheVariants.{New, Null, Copy, Ge
 use Rattle.rec_script.specs.declared.draft.Draft.{Draft}
 use Rattle.rec_script.specs.declared.draft.Draft.TheVariants.{Nothing, Header, Sized, Whole}
 use Rattle.rec_script.specs.Lines.{is_blank, in_front, cut, is_some_word, words}
-use Rattle.rec_script.specs.Script.{Contents, IsCommand, IsHeap, AreCommands, IsScript, header, heap_line, mutator_line, mutator_lines, command_line, spelled}
+use Rattle.rec_script.specs.Script.{Contents, IsCommand, IsHeap, IsScript, header, heap_line, mutator_line, mutator_lines, command_line, spelled}
 use Rattle.rec_script.specs.Drafts.{so_far, IsDraft}
 use Rattle.rec_script.proofs.Regrouping.{AreSmall, small}
 use Rattle.rec_script.proofs.Stopping.{IsBodyLine, body_lines, all_at}

@@ -3,8 +3,7 @@
 ghost use Rattle.std.specs.Prelude.{◌≡◌, ◌≢◌, ◌↔◌, ℕ, ◌<◌, ◌≤◌, List, [], ◌∷◌, true, false, length, drop, slice_index, IfSome, IfNone, IsTrue};
 ghost use Rattle.rec_script.specs.Lines.{is_blank, is_end, without_cr, lines, words};
 
-/// A byte that stands between words.
-pub fn is_blank(byte: u8) -> bool
+fn is_blank(byte: u8) -> bool
     ensures { result ≡ is_blank byte }
 {
     byte == b' ' || byte == b'\t'
@@ -25,7 +24,7 @@ fn line_length(bytes: &[u8]) -> usize
 }
 
 /// How many blanks stand at the front.
-pub fn blanks(bytes: &[u8]) -> usize
+fn blanks(bytes: &[u8]) -> usize
     ensures within { result ≤ length bytes.now }
     ensures before { (k : ℕ) → k < result → is_blank (slice_index bytes.now k) ≡ true }
     ensures behind { result < length bytes.now → is_blank (slice_index bytes.now result) ≡ false }

@@ -1,16 +1,14 @@
 //! The operands of a line: numerals, and how many words there are.
 
-ghost use Rattle.std.specs.Prelude.{◌≡◌, ◌≢◌, ◌↔◌, ℕ, ◌<◌, ◌≤◌, ◌^◌, List, [], ◌∷◌, true, false, length, slice_index, take, IfSome, IfNone, IfOk, IfErr, IsTrue, MatchOption};
-ghost use Rattle.std.specs.Int.{IsInRange};
-ghost use Rattle.std.specs.Str.Parse.{digits_value};
-ghost use Rattle.rec_script.specs.Lines.{is_blank, words};
+ghost use Rattle.std.specs.Prelude.{◌≡◌, ◌≢◌, ◌↔◌, ℕ, ◌<◌, ◌≤◌, ◌^◌, List, [], ◌∷◌, length, IfSome, IfNone, IfOk, IfErr, IsTrue, MatchOption};
+ghost use Rattle.rec_script.specs.Lines.{words};
 ghost use Rattle.rec_script.specs.Operands.{AreMisread};
 ghost use Rattle.rec_script.specs.declared.error.Kind.TheVariants.{TooManyCommands};
 ghost use Rattle.rec_script.specs.Script.{IsNumeralOf, IsWrong};
 ghost use Rattle.std.specs.Fmt.{decimal};
 
 use crate::error::Kind;
-use crate::line::{blanks, is_blank, next_word};
+use crate::line::next_word;
 
 /// How many commands a mutator has at most.
 const MOST_COMMANDS: usize = 200_000;
@@ -95,64 +93,6 @@ pub fn three_words(line: &[u8]) -> Option<(&[u8], &[u8], &[u8])>
     Some((first, second, third))
 }
 
-/// The number that the digits at the front write, and how many there are.
-fn digits(bytes: &[u8]) -> Option<(u32, usize)>
-    ensures within { IfSome result (λ x. x.1 ≤ length bytes.now) }
-    ensures digits { IfSome result (λ x. (k : ℕ) → k < x.1
-        → IsInRange 48 57 (slice_index bytes.now k)) }
-    ensures number { IfSome result (λ x. x.0 ≡ digits_value 10 (take x.1 bytes.now)) }
-    ensures small { IfSome result (λ x. x.0 < 2 ^ 32) }
-{
-    let mut value: u64 = 0;
-    for (i, byte) in bytes.iter().enumerate() {
-        if !byte.is_ascii_digit() {
-            return Some((value as u32, i));
-        }
-        value = 10 * value + u64::from(byte - b'0');
-        if value > u64::from(u32::MAX) {
-            return None;
-        }
-    }
-    Some((value as u32, bytes.len()))
-}
-
-/// The first of so many digits is a 0 that stands before others.
-fn has_leading_zero(bytes: &[u8], count: usize) -> bool
-    requires some { 0 < count }
-    requires within { count ≤ length bytes.now }
-    ensures { result ≡ false → slice_index bytes.now 0 ≡ 48 → count ≡ 1 }
-{
-    bytes[0] == b'0' && count > 1
-}
-
-/// The bytes are at a word's end.
-fn is_word_end(bytes: &[u8]) -> bool
-    ensures { IsTrue result → 0 < length bytes.now → is_blank (slice_index bytes.now 0) ≡ true }
-{
-    bytes.is_empty() || is_blank(bytes[0])
-}
-
-/// The first operand of a line where it is right, and the bytes after it, in one pass.
-fn quick_operand(limit: Limit, line: &[u8]) -> Option<(u32, &[u8])>
-    ensures right { IfSome result (λ x. words line.now ≡ decimal x.0 ∷ words x.1.now) }
-    ensures below { IfSome result (λ x. x.0 < limit.below) }
-{
-    let (_, rest) = line.split_at(blanks(line));
-    let (number, length) = digits(rest)?;
-    if length == 0 {
-        return None;
-    }
-    if has_leading_zero(rest, length) || u64::from(number) >= limit.below {
-        return None;
-    }
-    let (_, more) = rest.split_at(length);
-    if is_word_end(more) {
-        Some((number, more))
-    } else {
-        None
-    }
-}
-
 /// There is room for a command behind so many.
 fn room(count: usize) -> Result<(), Kind>
     requires { count ≤ 200000 }
@@ -166,39 +106,6 @@ fn room(count: usize) -> Result<(), Kind>
     }
 }
 
-/// The operand of a line that has one, where it is right.
-fn quick_one(limit: Limit, line: &[u8]) -> Option<u32>
-    ensures right { IfSome result (λ n. words line.now ≡ decimal n ∷ []) }
-    ensures below { IfSome result (λ n. n < limit.below) }
-{
-    let (first, rest) = quick_operand(limit, line)?;
-    if no_word(rest) { Some(first) } else { None }
-}
-
-/// The operands of a line that has two, where they are right.
-fn quick_two(left: Limit, right: Limit, line: &[u8]) -> Option<(u32, u32)>
-    ensures right { IfSome result (λ x. words line.now ≡ decimal x.0 ∷ decimal x.1 ∷ []) }
-    ensures below { IfSome result (λ x. (x.0 < left.below) × (x.1 < right.below)) }
-{
-    let (first, rest) = quick_operand(left, line)?;
-    let second = quick_one(right, rest)?;
-    Some((first, second))
-}
-
-/// The operands of a line that has three, where they are right.
-fn quick_three(left: Limit, middle: Limit, right: Limit, line: &[u8]) -> Option<(u32, u32, u32)>
-    ensures right { IfSome result (λ x.
-        words line.now ≡ decimal x.0 ∷ decimal x.1 ∷ decimal x.2 ∷ []) }
-    ensures below { IfSome result (λ x. (x.0 < left.below) × (x.1 < middle.below)
-        × (x.2 < right.below)) }
-{
-    let (first, rest) = quick_operand(left, line)?;
-    let (second, third) = quick_two(middle, right, rest)?;
-    Some((first, second, third))
-}
-
-// A line with right operands is read in one pass. Only another one is read again, for what is wrong with it.
-
 /// The operand of a line that has one, behind so many commands.
 pub fn one_operand(count: usize, limit: Limit, line: &[u8]) -> Result<u32, Kind>
     requires { count ≤ 200000 }
@@ -207,11 +114,6 @@ pub fn one_operand(count: usize, limit: Limit, line: &[u8]) -> Result<u32, Kind>
     ensures wrong { IfErr result (λ kind. AreMisread count
         ((limit.below, limit.past) ∷ []) (words line.now) kind) }
 {
-    if count < MOST_COMMANDS {
-        if let Some(found) = quick_one(limit, line) {
-            return Ok(found);
-        }
-    }
     let Some(first) = one_word(line) else {
         return Err(Kind::BadCommand);
     };
@@ -233,11 +135,6 @@ pub fn two_operands(
     ensures wrong { IfErr result (λ kind. AreMisread count
         ((left.below, left.past) ∷ (right.below, right.past) ∷ []) (words line.now) kind) }
 {
-    if count < MOST_COMMANDS {
-        if let Some(found) = quick_two(left, right, line) {
-            return Ok(found);
-        }
-    }
     let Some((first, second)) = two_words(line) else {
         return Err(Kind::BadCommand);
     };
@@ -264,11 +161,6 @@ pub fn three_operands(
         ((left.below, left.past) ∷ (middle.below, middle.past) ∷ (right.below, right.past) ∷ [])
         (words line.now) kind) }
 {
-    if count < MOST_COMMANDS {
-        if let Some(found) = quick_three(left, middle, right, line) {
-            return Ok(found);
-        }
-    }
     let Some((first, second, third)) = three_words(line) else {
         return Err(Kind::BadCommand);
     };
