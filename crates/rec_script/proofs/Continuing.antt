@@ -1,11 +1,9 @@
 -- Lines that spell the beginning of a script are continued by some lines.
-use Rattle.std.proofs.Common.{◌≡◌, ℕ, zero, suc, ◌<◌, List, [], ◌∷◌, ◌++◌, get_or, sym, ap, subst, ◌∙◌, arith, append_assoc, append-nil}
+use Rattle.std.proofs.Common.{◌≡◌, ℕ, List, [], ◌∷◌, ◌++◌, sym, ap, subst, ◌∙◌, arith, append_assoc, append-nil}
 use Rattle.std.specs.Prelude.{codes}
-use Rattle.std.specs.List.{AllByRecursion}
 use Rattle.std.specs.Fmt.{decimal}
 use Rattle.std.specs.Str.{IsUtf8}
 use Rattle.std.proofs.lemmas.Fmt.{decimal_digit}
-use Rattle.std.proofs.lemmas.Str.{IsUtf8-from_ascii}
 use Rattle.std.proofs.lemmas.List.{append-nil}
 use Rattle.std.proofs.lemmas.List.Elements.{All-push}
 use Rattle.rec_script.specs.declared.draft.Draft.{Draft}
@@ -14,14 +12,7 @@ use Rattle.rec_script.specs.Lines.{words, counted, AreUtf8}
 use Rattle.rec_script.specs.Script.{Contents, IsHeap, AreCommands, IsScript, Spells, Continues, header, heap_line, spelled}
 use Rattle.rec_script.specs.Drafts.{so_far, IsDraft}
 use Rattle.rec_script.proofs.Stopping.{counted-append}
-
-ascii : (bs : List ℕ) → AllByRecursion (λ b. b < 128) bs → IsUtf8 bs
-ascii bs h = IsUtf8-from_ascii bs (below bs h)
-  where
-    below : (bs : List ℕ) → AllByRecursion (λ b. b < 128) bs → (i : ℕ) → get_or bs i 0 < 128
-    below [] h i = omega arith
-    below (b ∷ bs) h zero = h.0
-    below (b ∷ bs) h (suc i) = below bs h.1 i
+use Rattle.rec_script.proofs.Plainness.{ascii}
 
 -- lines that are continued with one more are continued
 pub continues_before : (before : List (List ℕ)) (line : List ℕ) → Continues (before ++ line ∷ []) → Continues before

@@ -10,3 +10,4 @@ pub mod Continuing
 pub mod Refusing
 pub mod Endings
 pub mod Uniqueness
+pub mod Plainness

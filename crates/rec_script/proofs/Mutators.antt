@@ -24,10 +24,6 @@ all_earlier P (y ∷ ys) x h = All-cons P y ys (All-head P y (ys ++ x ∷ []) h)
 pub last_within : (contents : Contents) (earlier : List (List Cmd)) (last : List Cmd) → IsScript contents → contents.commands ≡ earlier ++ last ∷ [] → AreCommands contents.registers contents.fields last
 last_within contents earlier last script e = all_last (AreCommands contents.registers contents.fields) earlier last (subst (λ (t : List (List Cmd)). All (AreCommands contents.registers contents.fields) t) e script.commands)
 
--- a script with other commands of its mutators
-pub with_commands : (s f r : ℕ) (cs ds : List (List Cmd)) → IsScript (record { slots = s; fields = f; registers = r; commands = cs }) → 1 ≤ length ds → length ds ≤ 8 → All (AreCommands r f) ds → IsScript (record { slots = s; fields = f; registers = r; commands = ds })
-with_commands s f r cs ds script some most all = record { heap = script.heap; some_mutators = some; most_mutators = most; commands = all }
-
 -- one command more is within the limits
 pub one_command_more : (s f r : ℕ) (earlier : List (List Cmd)) (last more : List Cmd) (cmd : Cmd) → IsScript (record { slots = s; fields = f; registers = r; commands = earlier ++ last ∷ [] }) → IsCommand r f cmd → last_length (earlier ++ last ∷ []) < 200000 → more ≡ last ++ cmd ∷ []
     → IsScript (record { slots = s; fields = f; registers = r; commands = earlier ++ more ∷ [] })
@@ -72,14 +68,3 @@ longest_so_far css t longest next cmds e more long bound k lt = elim (cases_lt k
 
 pub reached_at : (css : List (List Cmd)) (t next : ℕ) (cmds : List Cmd) → slice_get css t ≡ Some cmds → length cmds ≡ next → Any (λ cmds. length cmds ≡ next) css
 reached_at css t next cmds e same = let is = at css t cmds e in (t, cmds, is.0, is.1 cmds, same)
-
--- one mutator more is within the limits
-pub one_mutator_more : (s f r : ℕ) (earlier : List (List Cmd)) (last : List Cmd) → IsScript (record { slots = s; fields = f; registers = r; commands = earlier ++ last ∷ [] }) → length (earlier ++ last ∷ []) < 8
-    → IsScript (record { slots = s; fields = f; registers = r; commands = (earlier ++ last ∷ []) ++ [] ∷ [] })
-one_mutator_more s f r earlier last script room =
-    record {
-      heap = script.heap;
-      some_mutators = omega (arith, length-append (earlier ++ last ∷ []) ([] ∷ []));
-      most_mutators = omega (arith, length-append (earlier ++ last ∷ []) ([] ∷ []));
-      commands = All-push (AreCommands r f) (earlier ++ last ∷ []) [] script.commands (record { few = omega arith; in_range = λ k d lt. absurd (omega arith) });
-    }

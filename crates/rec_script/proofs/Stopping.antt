@@ -26,17 +26,17 @@ counted_at before line after counts =
     ∙ counted-append before (line ∷ after)
     ∙ ap (λ (b : Bool). counted before ++ cond b (words line ∷ counted after) (counted after)) counts
 
-all_at : {X : Type 0} (P : X → Type 0) (xs : List X) (x : X) (ys : List X) → All P (xs ++ x ∷ ys) → P x
+pub all_at : {X : Type 0} (P : X → Type 0) (xs : List X) (x : X) (ys : List X) → All P (xs ++ x ∷ ys) → P x
 all_at P [] x ys h = All-head P x ys h
 all_at P (z ∷ xs) x ys h = all_at P xs x ys (All-tail P z (xs ++ x ∷ ys) h)
 
 -- ---- lines of a script behind its heap
 
 -- the line of a mutator, or of a command in range
-abbrev IsBodyLine : (registers fields : ℕ) → List (List ℕ) → Type 0
+abbrev pub IsBodyLine : (registers fields : ℕ) → List (List ℕ) → Type 0
 IsBodyLine registers fields line = (line ≡ mutator_line) ⊎ ((cmd : Cmd) × IsCommand registers fields cmd × (line ≡ command_line cmd))
 
-body_lines : (r f : ℕ) (css : List (List Cmd)) → All (AreCommands r f) css → All (IsBodyLine r f) (flat_map mutator_lines css)
+pub body_lines : (r f : ℕ) (css : List (List Cmd)) → All (AreCommands r f) css → All (IsBodyLine r f) (flat_map mutator_lines css)
 body_lines r f [] are = λ k d lt. absurd (omega arith)
 body_lines r f (cmds ∷ css) are =
     All-append (IsBodyLine r f) (mutator_lines cmds) (flat_map mutator_lines css)

@@ -152,12 +152,25 @@ impl Draft {
         ensures refused { (at : ℕ) (kind : Kind) → result ≡ Err (Bad at kind)
             → (at ≡ number) × IsFault (so_far self.old) line.now kind }
     {
-        if !is_utf8(line) {
+        let Some((word, rest)) = next_word(line) else {
+            return Ok(());
+        };
+        if word[0] == b'#' {
+            if is_utf8(line) {
+                return Ok(());
+            }
             return Err(bad(number, Kind::NotUtf8));
         }
-        match next_word(line) {
-            Some((word, rest)) if word[0] != b'#' => self.add(alloc, number, word, rest),
-            _ => Ok(()),
+        // The words of a line that goes on are of ASCII, so only another one is looked through.
+        match self.add(alloc, number, word, rest) {
+            Ok(()) => Ok(()),
+            Err(error) => {
+                if is_utf8(line) {
+                    Err(error)
+                } else {
+                    Err(bad(number, Kind::NotUtf8))
+                }
+            }
         }
     }
 
