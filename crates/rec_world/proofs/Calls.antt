@@ -1,5 +1,5 @@
 -- What the fields of a world become in a call is what the definitions say of the state that they make up.
-use Rattle.std.proofs.Common.{◌≡◌, inl, inr, ℕ, ◌+◌, ◌-◌, ◌*◌, ◌^◌, ◌<◌, ◌≤◌, List, [], ◌∷◌, Option, None, Some, Bool, true, false, slice_index_or, slice_set, length, replicate, refl, sym, ap, subst, ◌∙◌, arith}
+use Rattle.std.proofs.Common.{◌≡◌, ℕ, ◌+◌, ◌-◌, ◌*◌, ◌^◌, ◌<◌, ◌≤◌, List, ◌∷◌, Some, Bool, true, false, slice_index_or, slice_set, length, replicate, refl, sym, ap, subst, ◌∙◌, arith}
 use Rattle.std.proofs.lemmas.Bool.{false≢true}
 use Rattle.std.proofs.lemmas.List.{get_or_default, length-replicate}
 use Rattle.std.proofs.lemmas.List.Elements.{All-get_or}
@@ -9,14 +9,11 @@ use Rattle.rec_word.specs.declared.op.Op.{Op}
 use Rattle.rec_word.specs.declared.op.Op.TheVariants as ops
 use Rattle.rec_model.specs.declared.command.Cmd.{Cmd}
 use Rattle.rec_model.specs.declared.command.Cmd.TheVariants as commands
-use Rattle.rec_model.specs.declared.told.Told.{Told}
 use Rattle.rec_model.specs.Sight.{IsTaken}
-use Rattle.rec_log.specs.declared.entry.Entry.{Entry}
 use Rattle.rec_mutator.specs.Next.{next_of}
 use Rattle.rec_mutator.specs.Private.{Private, register, is_busy, IsValid, HasOperands as HasOwnOperands}
-use Rattle.rec_mutator.specs.Step.{Step, Decides, GoesOn, IsFitting}
+use Rattle.rec_mutator.specs.Step.{Step, IsFitting}
 use Rattle.rec_mutator.specs.Took.{begun_of, took_of, IsFound}
-use Rattle.rec_mutator.specs.declared.phase.Phase.{Phase}
 use Rattle.rec_mutator.specs.declared.phase.Phase.TheVariants.{Scanning}
 use Rattle.rec_mutator.specs.declared.work.Work.{Work}
 use Rattle.rec_mutator.specs.declared.work.Work.TheVariants as works
@@ -25,9 +22,9 @@ use Rattle.rec_mutator.proofs.Steps.{step_made}
 use Rattle.rec_world.specs.declared.config.Config.{Config}
 use Rattle.rec_world.specs.Config.{IsConfig, IsMutator, HasOperands}
 use Rattle.rec_world.specs.Memory.{Cells, IsWithin, cell, with_cell, births_of}
-use Rattle.rec_world.specs.Run.{Move, Fits, EndsRun, HasLabel, begun, stepped, found_by}
+use Rattle.rec_world.specs.Run.{Move, Fits, EndsRun, begun, stepped, found_by}
 use Rattle.rec_world.specs.State.{cells_of, nobody, opened_mutators}
-use Rattle.rec_world.specs.World.{State, sight, mutator, opened, IsOwn, IsKept, HasRun, IsMarked, IsWorld, IsWork}
+use Rattle.rec_world.specs.World.{State, sight, mutator, opened, IsOwn, IsKept, HasRun, IsWorld, IsWork}
 use Rattle.rec_world.proofs.Deciding.{read_range, write_range}
 use Rattle.rec_world.proofs.Kept.{register_taken, taken_in_range}
 use Rattle.rec_world.proofs.Machines.{at_phase}

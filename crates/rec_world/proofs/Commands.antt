@@ -1,22 +1,17 @@
 -- What a command is told, from what its last step says.
-use Rattle.std.proofs.Common.{◌≡◌, ◌≢◌, ◌↔◌, ℕ, ◌+◌, ◌-◌, ◌<◌, ◌≤◌, ◌==◌, if◌then◌else◌, Option, None, Some, IfSome, Bool, true, false, slice_index_or, slice_set, length, refl, sym, ap, subst, ◌∙◌, arith}
+use Rattle.std.proofs.Common.{◌≡◌, ◌≢◌, ◌↔◌, ℕ, ◌+◌, ◌-◌, ◌<◌, ◌≤◌, Option, None, Some, IfSome, true, false, length, refl, sym, ap, subst, ◌∙◌, arith}
 use Rattle.std.specs.Option.{is_none}
 use Rattle.std.proofs.lemmas.Bool.{false≢true}
 use Rattle.std.proofs.lemmas.List.{set-set, set-get_or}
-use Rattle.rec_word.specs.Word.{stamp_of}
 use Rattle.rec_word.specs.declared.op.Op.{Op}
 use Rattle.rec_model.specs.declared.command.Cmd.{Cmd}
 use Rattle.rec_model.specs.declared.command.Cmd.TheVariants as commands
-use Rattle.rec_model.specs.declared.answer.Answer.{Answer}
 use Rattle.rec_model.specs.declared.answer.Answer.TheVariants as answers
 use Rattle.rec_model.specs.declared.told.Told.{Told}
-use Rattle.rec_model.specs.Explained.{IsExplained}
-use Rattle.rec_model.specs.LegalOrder.{is_birth, word_left}
 use Rattle.rec_model.specs.Sight.{Sight}
-use Rattle.rec_mutator.specs.Causes.{AnswersBy, HasCause, LacksObject, MakesEntry, is_refusal}
-use Rattle.rec_mutator.specs.Next.{next_of}
-use Rattle.rec_mutator.specs.Private.{Private, IsAt, IsMachine, is_busy, is_busy_at, work_of, work_at, answer_of, answer_at, limit_of}
-use Rattle.rec_mutator.specs.Step.{Step, Decides, GoesOn, IsStill, IsLogFull as IsLogFullOf}
+use Rattle.rec_mutator.specs.Causes.{HasCause, LacksObject, MakesEntry, is_refusal}
+use Rattle.rec_mutator.specs.Private.{Private, IsAt, is_busy, is_busy_at, work_of, work_at, answer_of, answer_at, limit_of}
+use Rattle.rec_mutator.specs.Step.{Step, IsStill, IsLogFull as IsLogFullOf}
 use Rattle.rec_mutator.specs.Took.{took_of, begun_of}
 use Rattle.rec_mutator.specs.declared.made.Made.{Made}
 use Rattle.rec_mutator.specs.declared.made.Made.TheVariants as makes_
@@ -29,12 +24,11 @@ use Rattle.rec_mutator.proofs.Sizes.{took_keeps}
 use Rattle.rec_mutator.proofs.Steps.{step_made}
 use Rattle.rec_world.specs.declared.config.Config.{Config}
 use Rattle.rec_world.specs.Config.{IsMutator}
-use Rattle.rec_world.specs.Run.{begun, stepped, found_by, EndsRun, Move}
+use Rattle.rec_world.specs.Run.{begun, stepped, found_by}
 use Rattle.rec_world.specs.State.{nobody}
-use Rattle.rec_world.specs.World.{State, sight, mutator, with_mutator, log_length, IsOwn, IsKept, IsWorld, HasRun, IsLogFull, IsFull, is_plain, IsCaused, IsShown, IsFinished, OnlyWorks}
+use Rattle.rec_world.specs.World.{State, sight, mutator, with_mutator, log_length, IsOwn, IsKept, IsLogFull, is_plain, IsCaused, IsShown, IsFinished, OnlyWorks}
 use Rattle.rec_world.proofs.Deciding.{IsToldOf, IsDecided, Says, performed_says}
-use Rattle.rec_world.proofs.Moves.{makes, step_kept}
-use Rattle.rec_world.proofs.Runs.{run_more}
+use Rattle.rec_world.proofs.Moves.{makes}
 use Rattle.rec_world.proofs.Shapes.{registers_stay, changed_same, changed_other}
 
 -- the mutator after its step

@@ -1,5 +1,5 @@
 -- What is said of a step, rule by rule: it decides a command, or the work goes on.
-use Rattle.std.proofs.Common.{◌≡◌, ◌≢◌, ◌↔◌, ℕ, ◌+◌, ◌-◌, ◌%◌, ◌^◌, ◌<◌, ◌≤◌, if◌then◌else◌, List, [], ◌∷◌, ◌++◌, Option, None, Some, IfSome, Bool, true, false, slice_index_or, slice_set, length, refl, sym, ap, subst, ◌∙◌, arith, add-zero}
+use Rattle.std.proofs.Common.{◌≡◌, ◌↔◌, ℕ, ◌+◌, ◌-◌, ◌%◌, ◌<◌, if◌then◌else◌, List, [], ◌∷◌, ◌++◌, Option, None, Some, IfSome, Bool, true, false, slice_index_or, slice_set, length, refl, sym, ap, subst, ◌∙◌, arith, add-zero}
 use Rattle.std.proofs.lemmas.Bool.{false≢true}
 use Rattle.std.proofs.lemmas.List.{length_push}
 use Rattle.rec_word.specs.Place.{place_of}
@@ -20,8 +20,8 @@ use Rattle.rec_model.proofs.Answered.{null_explained, copy_explained, same_expla
 use Rattle.rec_log.specs.declared.entry.Entry.{Entry}
 use Rattle.rec_log.specs.declared.entry.Entry.TheVariants as entries_
 use Rattle.rec_mutator.specs.Causes.{is_refusal}
-use Rattle.rec_mutator.specs.Private.{Private, register as register_of, word_for, next_stamp, work_of, work_at, answer_of, answer_at}
-use Rattle.rec_mutator.specs.Step.{Step, Decides, GoesOn, IsStill, HasRoom}
+use Rattle.rec_mutator.specs.Private.{Private, register as register_of, word_for, work_of, work_at, answer_of, answer_at}
+use Rattle.rec_mutator.specs.Step.{Step, Decides, GoesOn, HasRoom}
 use Rattle.rec_mutator.specs.Took.{plain, moved}
 use Rattle.rec_mutator.specs.declared.made.Made.TheVariants as makes
 use Rattle.rec_mutator.specs.declared.phase.Phase.{Phase}
@@ -33,7 +33,7 @@ use Rattle.rec_world.specs.Memory.{cell}
 use Rattle.rec_world.specs.Run.{performed}
 use Rattle.rec_world.specs.State.{cells_of}
 use Rattle.rec_world.specs.World.{State, sight, mutator, with_mutator, log_length, IsOwn, IsKept, IsLowestFree, OnlyWorks, is_plain, entries_of, sight_told, sight_after_get, sight_after_put}
-use Rattle.rec_world.proofs.Kept.{working_at, register_taken, made_is_free, scanned_free, word_leads}
+use Rattle.rec_world.proofs.Kept.{working_at, made_is_free, scanned_free, word_leads}
 use Rattle.rec_world.proofs.LogStamps.{word_stamp}
 use Rattle.rec_world.proofs.Machines.{at_phase}
 use Rattle.rec_world.proofs.Moves.{Makes, registers_left, word_found, probe_found}

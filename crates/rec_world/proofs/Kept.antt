@@ -1,40 +1,30 @@
 -- What every heap keeps is kept by each move of a mutator.
-use Rattle.std.proofs.Common.{◌≡◌, ◌≢◌, inl, inr, ℕ, ◌+◌, ◌-◌, ◌*◌, ◌^◌, ◌<◌, ◌≤◌, ◌↔◌, List, [], ◌==◌, Option, None, Some, true, false, slice_index_or, slice_set, length, map, refl, sym, ap, subst, ◌∙◌, arith}
+use Rattle.std.proofs.Common.{◌≡◌, ◌≢◌, inl, inr, ℕ, ◌+◌, ◌-◌, ◌^◌, ◌<◌, ◌≤◌, ◌↔◌, List, Option, Some, false, slice_index_or, slice_set, length, map, refl, sym, ap, subst, ◌∙◌, arith}
 use Rattle.std.specs.List.{All}
 use Rattle.std.proofs.Math.ListN.{get_or-map}
 use Rattle.std.proofs.lemmas.Bool.{cases_lt, cases_eq}
 use Rattle.std.proofs.lemmas.List.{length-set, get_or_past, get_or-set_same, get_or-set_other}
-use Rattle.std.proofs.lemmas.List.Elements.{All-set, All-get_or}
+use Rattle.std.proofs.lemmas.List.Elements.{All-set}
 use Rattle.rec_word.specs.Place.{place_of}
-use Rattle.rec_word.specs.Word.{target_of, IsTarget}
+use Rattle.rec_word.specs.Word.{target_of}
 use Rattle.rec_word.specs.declared.op.Op.{Op}
-use Rattle.rec_word.specs.declared.op.Op.TheVariants as ops
 use Rattle.rec_model.specs.declared.command.Cmd.{Cmd}
-use Rattle.rec_model.specs.declared.command.Cmd.TheVariants as commands
 use Rattle.rec_model.specs.declared.told.Told.{Told}
-use Rattle.rec_model.specs.Heap.{set_register}
 use Rattle.rec_model.specs.Sight.{Sight, IsTaken, IsSound, word_at, words_of, sight_with_header, sight_with_register, sight_with_word}
 use Rattle.rec_model.proofs.Names.{register_root, named_at}
 use Rattle.rec_model.proofs.Standing.{register_sound, birth_sound, write_sound, word_in}
 use Rattle.rec_log.specs.declared.entry.Entry.{Entry}
-use Rattle.rec_mutator.specs.Private.{Private, KeepsSizes, is_busy, register, next_stamp, word_for}
-use Rattle.rec_mutator.specs.Took.{took_of}
-use Rattle.rec_mutator.specs.Next.{next_of}
-use Rattle.rec_mutator.specs.Step.{Step, Decides, GoesOn, HasRoom}
+use Rattle.rec_mutator.specs.Private.{Private, KeepsSizes, register, next_stamp, word_for}
+use Rattle.rec_mutator.specs.Step.{Step, Decides, HasRoom}
 use Rattle.rec_mutator.specs.declared.phase.Phase.{Phase}
 use Rattle.rec_mutator.specs.declared.phase.Phase.TheVariants.{Idle, Begun, Scanning, Scanned, Finished}
-use Rattle.rec_mutator.specs.declared.work.Work.TheVariants as works
-use Rattle.rec_mutator.proofs.Sizes.{took_keeps}
-use Rattle.rec_mutator.proofs.Steps.{step_made}
 use Rattle.rec_world.specs.declared.config.Config.{Config}
-use Rattle.rec_world.specs.Config.{IsConfig, IsMutator}
-use Rattle.rec_world.specs.Memory.{cell}
-use Rattle.rec_world.specs.Run.{performed, stepped, found_by}
-use Rattle.rec_world.specs.State.{cells_of, nobody}
+use Rattle.rec_world.specs.Config.{IsMutator}
+use Rattle.rec_world.specs.State.{nobody}
 use Rattle.rec_world.specs.World.{State, sight, mutator, with_mutator, IsOwn, IsWorking, IsKept}
 use Rattle.rec_world.proofs.LogStamps.{step_stamps}
 use Rattle.rec_world.proofs.Machines.{step_machine, has_room, register_target}
-use Rattle.rec_world.proofs.Shapes.{changed, left_by_field, left_by_header, left_by_cross, left_by_epoch, left_by_freed, left_by_swap, left_by_probe, left_by_claim, own_register, registers_stay, registers_set, changed_same, changed_other}
+use Rattle.rec_world.proofs.Shapes.{changed, own_register, registers_stay, registers_set, changed_same, changed_other}
 use Rattle.rec_world.proofs.Stamps.{target_of-packed}
 
 -- a taken slot is a slot

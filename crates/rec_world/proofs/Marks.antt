@@ -1,5 +1,5 @@
 -- Keeping the slots that a numbering lists is keeping what a register reaches.
-use Rattle.std.proofs.Common.{◌≡◌, ◌⊎◌, inl, inr, ℕ, ◌^◌, ◌<◌, ◌≤◌, List, [], ◌∷◌, ◌++◌, Option, Bool, true, false, length, slice_index_or, refl, sym, ap, subst, ◌∙◌, arith}
+use Rattle.std.proofs.Common.{◌≡◌, ◌⊎◌, inl, inr, ℕ, ◌^◌, ◌<◌, ◌≤◌, List, [], ◌++◌, Bool, true, false, length, slice_index_or, refl, sym, ap, subst, ◌∙◌, arith}
 use Rattle.std.specs.List.{flat_map}
 use Rattle.std.proofs.lemmas.Bool.{false≢true}
 use Rattle.std.proofs.lemmas.List.Elements.{All-from_get_or, All-get_or}
@@ -13,7 +13,7 @@ use Rattle.rec_model.proofs.Within.{all_reached}
 use Rattle.rec_world.specs.Memory.{Cells, KeepsListed}
 use Rattle.rec_world.specs.Numbering.{NamesBelow, sight_of}
 use Rattle.rec_world.specs.State.{cells_of}
-use Rattle.rec_world.specs.World.{State, sight, IsKept, HasRun, IsMarked, IsWorld}
+use Rattle.rec_world.specs.World.{State, sight, IsKept, HasRun, IsWorld}
 use Rattle.rec_world.proofs.Names.{names_sound}
 
 -- what is reached is listed

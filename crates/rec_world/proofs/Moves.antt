@@ -1,5 +1,5 @@
 -- Each move of a mutator keeps what every heap keeps, rule by rule.
-use Rattle.std.proofs.Common.{◌≡◌, ◌≢◌, inl, inr, ℕ, ◌+◌, ◌-◌, ◌*◌, ◌^◌, ◌<◌, ◌≤◌, List, Option, None, Some, true, false, slice_index_or, slice_set, length, refl, sym, ap, subst, ◌∙◌, arith}
+use Rattle.std.proofs.Common.{◌≡◌, ◌≢◌, ℕ, ◌+◌, ◌^◌, ◌<◌, ◌≤◌, List, Option, None, Some, true, false, slice_index_or, slice_set, refl, sym, ap, subst, ◌∙◌, arith}
 use Rattle.rec_word.specs.Place.{place_of}
 use Rattle.rec_word.specs.Word.{target_of}
 use Rattle.rec_word.specs.declared.op.Op.{Op}
@@ -14,7 +14,7 @@ use Rattle.rec_mutator.specs.Private.{Private, KeepsSizes, is_busy, register, wo
 use Rattle.rec_mutator.specs.Step.{Step, Decides, GoesOn}
 use Rattle.rec_mutator.specs.Took.{took_of, begun_of}
 use Rattle.rec_mutator.specs.declared.phase.Phase.{Phase}
-use Rattle.rec_mutator.specs.declared.phase.Phase.TheVariants.{Begun, Scanning, Scanned}
+use Rattle.rec_mutator.specs.declared.phase.Phase.TheVariants.{Begun, Scanning}
 use Rattle.rec_mutator.specs.declared.work.Work.{Work}
 use Rattle.rec_mutator.specs.declared.work.Work.TheVariants as works
 use Rattle.rec_mutator.proofs.Sizes.{took_keeps}

@@ -1,18 +1,17 @@
 -- What every heap keeps holds as it is opened.
-use Rattle.std.proofs.Common.{◌≡◌, inl, inr, ℕ, ◌+◌, ◌-◌, ◌*◌, ◌^◌, ◌<◌, ◌≤◌, ◌↔◌, zero, suc, List, [], ◌∷◌, ◌++◌, Option, None, Some, false, slice_index_or, length, map, replicate, refl, sym, ap, subst, ◌∙◌, arith, lit<, lit≤, add-one}
-use Rattle.std.specs.List.{All}
-use Rattle.std.proofs.lemmas.Bool.{cases_lt, cases_eq}
+use Rattle.std.proofs.Common.{◌≡◌, inl, inr, ℕ, ◌+◌, ◌-◌, ◌^◌, ◌<◌, ◌≤◌, ◌↔◌, zero, suc, List, [], ◌∷◌, ◌++◌, Option, None, Some, slice_index_or, length, map, replicate, refl, sym, ap, subst, ◌∙◌, arith, lit<, lit≤, add-one}
+use Rattle.std.proofs.lemmas.Bool.{cases_lt}
 use Rattle.std.proofs.lemmas.List.{get_or_past, get_or-replicate, get_or_append_left, get_or-append_right, length-replicate, length_push, map_push}
 use Rattle.std.proofs.lemmas.List.Elements.{All-cons, All-from_get_or, All-replicate}
 use Rattle.rec_word.specs.Word.{IsTarget}
 use Rattle.rec_model.specs.Heap.{opening}
 use Rattle.rec_model.specs.Sight.{StandsFor, IsSound, opening_sight}
 use Rattle.rec_model.proofs.Opened.{opening_sound, opening_stands}
-use Rattle.rec_mutator.specs.Private.{Private, IsMachine}
+use Rattle.rec_mutator.specs.Private.{Private}
 use Rattle.rec_world.specs.Config.{IsConfig, IsMutator}
 use Rattle.rec_world.specs.declared.config.Config.{Config}
 use Rattle.rec_world.specs.State.{nobody, opened_mutator, opened_mutators}
-use Rattle.rec_world.specs.World.{State, sight, mutator, opened, IsOwn, IsKept}
+use Rattle.rec_world.specs.World.{sight, mutator, opened, IsOwn, IsKept}
 
 -- a list of one value, within and past its end
 free_at : (n s : ℕ) → slice_index_or {A = ℕ} (replicate n 0) s 0 ≡ 0

@@ -1,6 +1,5 @@
 -- What holds at the end of every run.
-use Rattle.std.proofs.Common.{◌≡◌, ℕ, ◌+◌, List, [], ◌∷◌, ◌++◌, true, false, refl, sym, ap, subst, ◌∙◌}
-use Rattle.rec_mutator.specs.Private.{is_busy}
+use Rattle.std.proofs.Common.{◌≡◌, List, [], ◌∷◌, ◌++◌, false, refl, sym, ap, subst, ◌∙◌}
 use Rattle.rec_world.specs.declared.config.Config.{Config}
 use Rattle.rec_world.specs.Config.{IsConfig}
 use Rattle.rec_world.specs.Run.{Move, after_move, after_moves, Fits, AllFit, IsRun, EndsRun}

@@ -1,5 +1,5 @@
 -- What an operation leaves of a heap, and the registers and logs of its mutators.
-use Rattle.std.proofs.Common.{◌≡◌, ◌≢◌, ℕ, ◌+◌, ◌-◌, ◌<◌, ◌≤◌, ◌==◌, if◌then◌else◌, List, [], Option, None, length, map, slice_index_or, slice_set, refl, sym, ap, subst, ◌∙◌, arith, add-zero}
+use Rattle.std.proofs.Common.{◌≡◌, ◌≢◌, ℕ, ◌+◌, ◌-◌, ◌≤◌, List, Option, None, length, map, slice_index_or, slice_set, refl, sym, ap, subst, ◌∙◌, arith, add-zero}
 use Rattle.std.proofs.Math.ListN.{get_or-map}
 use Rattle.std.proofs.Math.Seq.{map-set_same}
 use Rattle.std.proofs.lemmas.Bool.{eq-eqb, ne_eqb}
@@ -8,7 +8,6 @@ use Rattle.rec_word.specs.declared.op.Op.{Op}
 use Rattle.rec_word.specs.declared.op.Op.TheVariants as ops
 use Rattle.rec_model.specs.Heap.{register, registers_of, set_register}
 use Rattle.rec_mutator.specs.Private.{Private, register as register_of}
-use Rattle.rec_world.specs.Config.{IsMutator}
 use Rattle.rec_world.specs.Memory.{cell}
 use Rattle.rec_world.specs.Run.{performed}
 use Rattle.rec_world.specs.World.{State, sight, mutator, with_mutator}

@@ -1,5 +1,5 @@
 -- What a numbering of slots is, and what it has to be given.
-use Rattle.std.specs.Prelude.{◌≡◌, ℕ, ◌<◌, ◌≤◌, ◌^◌, true, if◌then◌else◌, List, [], ◌∷◌, Option, None, Some, length, slice_index_or, unwrap_or}
+use Rattle.std.specs.Prelude.{◌≡◌, ℕ, ◌<◌, ◌≤◌, ◌^◌, true, if◌then◌else◌, List, [], Option, None, Some, length, slice_index_or, unwrap_or}
 use Rattle.rec_model.specs.Reach.{is_in}
 use Rattle.rec_model.specs.Numbering.{IsDistinct}
 use Rattle.rec_model.specs.Heap.{roots}

@@ -1,5 +1,5 @@
 -- A heap as a whole: its words, and the private record of each mutator.
-use Rattle.std.specs.Prelude.{◌≡◌, ℕ, ◌+◌, ◌-◌, ◌*◌, zero, suc, Bool, false, List, [], ◌∷◌, ◌++◌, length, map, replicate, slice_index_or, slice_set}
+use Rattle.std.specs.Prelude.{ℕ, ◌-◌, ◌*◌, zero, suc, Bool, false, List, [], ◌∷◌, ◌++◌, length, map, replicate, slice_index_or, slice_set}
 use Rattle.rec_model.specs.Sight.{Sight, opening_sight}
 use Rattle.rec_mutator.specs.Private.{Private, opened as opened_machine}
 use Rattle.rec_mutator.specs.declared.phase.Phase.TheVariants.{Idle}

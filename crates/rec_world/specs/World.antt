@@ -1,5 +1,5 @@
 -- What every heap keeps, and what a command leaves of it.
-use Rattle.std.specs.Prelude.{◌≡◌, ◌≢◌, ◌⊎◌, ℕ, ◌+◌, ◌-◌, ◌*◌, ◌^◌, ◌<◌, ◌≤◌, ◌==◌, ◌↔◌, Bool, true, false, if◌then◌else◌, Option, None, Some, List, All, length, replicate, slice_index_or}
+use Rattle.std.specs.Prelude.{◌≡◌, ℕ, ◌+◌, ◌-◌, ◌*◌, ◌^◌, ◌<◌, ◌≤◌, ◌==◌, ◌↔◌, Bool, true, false, if◌then◌else◌, Option, None, Some, All, length, replicate, slice_index_or}
 use Rattle.std.specs.List.{slice_get}
 use Rattle.rec_word.specs.Word.{target_of, stamp_of}
 use Rattle.rec_model.specs.declared.command.Cmd.{Cmd}

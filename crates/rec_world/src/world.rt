@@ -110,7 +110,8 @@ impl World {
         ensures answer { result ≡ answer_of (mutator self.new t) }
         ensures busy { is_busy (mutator self.new t) ≡ is_none result }
 
-        // Where the step answers a command, whatever heap stood for the world explains the answer; else all that is seen stays.
+        // Where the step answers a command, whatever heap stood for the world explains the answer, and each refusal has its
+        // cause; else all that is seen stays.
         ensures shown { IsShown self.old t result self.new }
 
         ensures work { work_of (mutator self.new t) ≡ work_of (mutator self.old t) }

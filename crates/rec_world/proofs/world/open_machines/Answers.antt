@@ -1,6 +1,6 @@
 -- There is room for each mutator.
-use Rattle.std.proofs.Common.{◌≡◌, ◌≤◌, ◌<◌, length, ap, ◌∙◌, arith}
-use Rattle.std.specs.Vec.{vec_capacity, vec_len}
+use Rattle.std.proofs.Common.{◌≡◌, ◌≤◌, length, ap, ◌∙◌, arith}
+use Rattle.std.specs.Vec.{vec_capacity}
 use Rattle.rec_world.proofs.Openings.{length-opened}
 use Rattle.rec_world.proofs.world.open_machines.Goals as goal
 

@@ -1,6 +1,5 @@
 -- Each mutator's registers name what all of them name, and their names join those before them.
-use Rattle.std.proofs.Common.{◌≡◌, ◌<◌, ℕ, List, [], Option, length, map, get_or, refl, sym, ap, subst, ◌∙◌, arith}
-use Rattle.std.proofs.Math.ListN.{get_or-map}
+use Rattle.std.proofs.Common.{◌≡◌, ◌<◌, [], map, get_or, sym, subst, ◌∙◌}
 use Rattle.std.proofs.lemmas.List.{length-map}
 use Rattle.rec_model.proofs.Names.{roots_at}
 use Rattle.rec_mutator.specs.Private.{Private}

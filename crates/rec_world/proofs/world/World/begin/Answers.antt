@@ -1,13 +1,12 @@
 -- The machine of the mutator begins, and the state is that of the definitions.
 use Rattle.std.proofs.Common.{◌≡◌, ◌-◌, false, slice_set, sym, ap, subst, ◌∙◌}
-use Rattle.rec_mutator.specs.Private.{is_busy, IsValid}
+use Rattle.rec_mutator.specs.Private.{is_busy}
 use Rattle.rec_world.specs.Config.{IsMutator}
-use Rattle.rec_world.specs.Inside.{state, IsWhole}
+use Rattle.rec_world.specs.Inside.{state}
 use Rattle.rec_world.specs.Run.{Move, Fits, EndsRun, begun}
-use Rattle.rec_world.specs.World.{State, sight, mutator, IsWork, IsWorld, OnlyWorks}
+use Rattle.rec_world.specs.World.{State, sight, mutator, IsWork, IsWorld}
 use Rattle.rec_world.proofs.Calls.{begun_is, begun_world, own_work, world_run}
 use Rattle.rec_world.proofs.Commands.{begun_works, works_sight}
-use Rattle.rec_world.proofs.Runs.{run_more}
 use Rattle.rec_world.proofs.world.World.begin.Goals as goal
 use Rattle.rec_world.proofs.world.World.begin.Goals.{After-begin}
 

@@ -1,6 +1,6 @@
 -- The last step of the command says all.
-use Rattle.std.proofs.Common.{◌≡◌, subst}
-use Rattle.rec_world.specs.World.{State, IsKept}
+use Rattle.std.proofs.Common.{subst}
+use Rattle.rec_world.specs.World.{IsKept}
 use Rattle.rec_world.proofs.Commands.{IsAnswered, command_said, command_crosses}
 use Rattle.rec_world.proofs.world.World.command.Goals as goal
 use Rattle.rec_world.proofs.world.World.command.Goals.{In-Answered}

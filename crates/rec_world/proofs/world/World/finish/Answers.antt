@@ -1,9 +1,9 @@
 -- A step that answers nothing leaves all as it was but the work, and the next one follows.
-use Rattle.std.proofs.Common.{◌≡◌, None, true, refl, sym, ap, ◌∙◌}
+use Rattle.std.proofs.Common.{◌≡◌, None, refl, sym, ap, ◌∙◌}
 use Rattle.std.specs.Option.{is_none}
-use Rattle.rec_mutator.specs.Private.{is_busy, answer_of}
+use Rattle.rec_mutator.specs.Private.{answer_of}
 use Rattle.rec_world.specs.Config.{IsMutator}
-use Rattle.rec_world.specs.World.{State, mutator, IsWorld, OnlyWorks}
+use Rattle.rec_world.specs.World.{State, mutator}
 use Rattle.rec_world.proofs.Commands.{works_none, works_both, waited, nearer, mutator_there, unmarked_there}
 use Rattle.rec_world.proofs.world.World.finish.Goals as goal
 

@@ -1,4 +1,4 @@
-use Rattle.std.proofs.Common.{◌≡◌, ◌≤◌, ◌*◌, true, length, sym, ap, refl, subst, ◌∙◌, arith}
+use Rattle.std.proofs.Common.{◌≡◌, ◌≤◌, ◌*◌, true, length, sym, ap, subst, ◌∙◌, arith}
 use Rattle.rec_model.specs.Sight.{Sight, StandsFor, NumbersSlots, Collects}
 use Rattle.rec_model.proofs.Collected.{collects_collected, collects_stands}
 use Rattle.rec_world.specs.Inside.{state}

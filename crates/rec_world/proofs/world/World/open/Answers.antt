@@ -1,5 +1,5 @@
 -- Where every number is in its range, want of memory alone refuses; an opened heap is the one that its numbers make.
-use Rattle.std.proofs.Common.{◌≡◌, sym, ap, subst, ◌∙◌}
+use Rattle.std.proofs.Common.{sym, ap, subst, ◌∙◌}
 use Rattle.rec_model.specs.Heap.{opening}
 use Rattle.rec_model.specs.Sight.{StandsFor}
 use Rattle.rec_world.specs.World.{State, sight, mutator}

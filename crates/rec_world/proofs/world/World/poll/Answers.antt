@@ -1,6 +1,6 @@
 -- The last step of the poll says all.
-use Rattle.std.proofs.Common.{◌≡◌, None, true, sym, ap, subst, ◌∙◌}
-use Rattle.rec_world.specs.World.{State, mutator, IsKept}
+use Rattle.std.proofs.Common.{◌≡◌, sym, subst, ◌∙◌}
+use Rattle.rec_world.specs.World.{mutator, IsKept}
 use Rattle.rec_world.proofs.Commands.{IsPolled, poll_said, poll_answers, works_sight}
 use Rattle.rec_world.proofs.world.World.poll.Goals as goal
 use Rattle.rec_world.proofs.world.World.poll.Goals.{In-Crossed}

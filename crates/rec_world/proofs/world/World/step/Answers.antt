@@ -7,9 +7,9 @@ use Rattle.rec_mutator.specs.Took.{IsFound}
 use Rattle.rec_world.specs.Config.{IsMutator}
 use Rattle.rec_world.specs.Inside.{state}
 use Rattle.rec_world.specs.Memory.{IsWithin, cell}
-use Rattle.rec_world.specs.Run.{Move, Fits, EndsRun, stepped}
+use Rattle.rec_world.specs.Run.{EndsRun, stepped}
 use Rattle.rec_world.specs.State.{cells_of, nobody}
-use Rattle.rec_world.specs.World.{State, sight, mutator, IsShown, IsWorld}
+use Rattle.rec_world.specs.World.{State, mutator, IsShown, IsWorld}
 use Rattle.rec_world.proofs.Calls.{mutator_back, busy_back, unmarked_back, mutator_read, next_within, next_found, stepped_is, stepped_world, world_run}
 use Rattle.rec_world.proofs.Commands.{step_says, step_shown, steps_counted}
 use Rattle.rec_world.proofs.world.World.step.Goals as goal
