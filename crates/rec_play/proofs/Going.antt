@@ -57,7 +57,7 @@ pub record PlayedSo (script : Contents) (world : State) (lines : List (List Line
   pub in_order : order ≡ actors events
 
 -- a mutator's commands fit its log
-fits_longest : (all : List (List Cmd)) (i : ℕ) → length (slice_index_or all i []) ≤ longest all
+pub fits_longest : (all : List (List Cmd)) (i : ℕ) → length (slice_index_or all i []) ≤ longest all
 fits_longest [] i = omega arith
 fits_longest (cmds ∷ all) zero = omega arith
 fits_longest (cmds ∷ all) (suc i) = let rest : length (slice_index_or all i []) ≤ longest all = fits_longest all i in omega arith

@@ -5,3 +5,4 @@ pub mod Commands
 pub mod Entries
 pub mod Going
 pub mod Rounds
+pub mod Ready

@@ -12,11 +12,13 @@
 
 mod actor;
 mod laws;
+mod opening;
 mod playing;
 mod schedule;
 
 pub use actor::Actor;
 pub use laws::{orders_name_each_command, turns_are_drawn_as_told};
+pub use opening::{config_for, journals_for, order_for};
 pub use playing::play;
 
 #[cfg(test)]

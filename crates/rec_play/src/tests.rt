@@ -1,8 +1,7 @@
 use super::*;
 use crate::schedule::Schedule;
-use rec_model::{Answer, Cmd};
 use rec_script::read;
-use rec_world::{Config, Journal, Order, World};
+use rec_world::Config;
 use std::test::Fail;
 
 const COLLECTOR: Option<Actor> = Some(Actor::Collector);
@@ -66,39 +65,22 @@ fn runs_the_rest_mutator_by_mutator(rt: HostRuntime) -> Result<(), Fail> {
 }
 
 #[test]
-fn plays_a_script(rt: HostRuntime) -> Result<(), Fail> {
+fn opens_what_a_script_is_played_with(rt: HostRuntime) -> Result<(), Fail> {
     let script = read(
         rt.alloc(),
-        b"recycler 1\nheap 2 1 2\nmutator\nnew 1 7\nput 0 0 1\nvalue 1\n",
+        b"recycler 1\nheap 2 1 3\nmutator\nnew 1 7\nput 0 0 1\nvalue 1\n",
     )?;
-    let config = Config {
+    let wanted = Config {
         slots: 2,
         fields: 1,
-        registers: 2,
+        registers: 3,
         mutators: 1,
         log_entries: 3,
         first_epoch: 1,
     };
-    let mut world = World::open(rt.alloc(), config)?;
-    let mut journals = [Journal::open(rt.alloc(), 3)?];
-    let mut order = Order::open(rt.alloc(), 3)?;
-    play(&script, 7, 100, &mut world, &mut journals, &mut order);
-    let wanted = [
-        (Cmd::New { reg: 1, label: 7 }, Answer::Done),
-        (
-            Cmd::Put {
-                src: 0,
-                field: 0,
-                val: 1,
-            },
-            Answer::Done,
-        ),
-        (Cmd::Value { reg: 1 }, Answer::Value(7)),
-    ];
-    for (i, line) in journals[0].lines().iter().enumerate() {
-        assert_eq!(rt; (line.0, line.1.answer), wanted[i]);
-    }
-    assert_eq!(rt; order.list(), [1, 1, 1].as_slice());
-    assert_eq!(rt; world.made(), 2);
+    assert_eq!(rt; config_for(&script), wanted);
+    let journals = journals_for(rt.alloc(), &script)?;
+    assert_eq!(rt; journals.len(), 1);
+    assert_eq!(rt; order_for(rt.alloc(), &script)?.room(), 3);
     Ok(())
 }
