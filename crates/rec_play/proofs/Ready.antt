@@ -8,8 +8,9 @@ use Rattle.std.proofs.lemmas.List.Sums.{sum_by-append, sum_by-cons}
 use Rattle.std.proofs.lemmas.Option.{get_or_from_slice_get, slice_get-get_or, slice_get_within}
 use Rattle.rec_model.specs.declared.command.Cmd.{Cmd}
 use Rattle.rec_world.specs.declared.config.Config.{Config}
+use Rattle.rec_world.specs.Config.{IsConfig}
 use Rattle.rec_world.specs.Journal.{Notes}
-use Rattle.rec_script.specs.Script.{Contents}
+use Rattle.rec_script.specs.Script.{Contents, IsScript}
 use Rattle.rec_play.specs.Played.{AreReady, config_of, longest, log_room, no_notes}
 use Rattle.rec_play.proofs.Going.{fits_longest}
 
@@ -71,3 +72,22 @@ longest_is all most bound (k, found, there, is, most_is) =
 pub config_is : (script : Contents) (slots fields registers mutators room : ℕ) → slots ≡ script.slots → fields ≡ script.fields → registers ≡ script.registers → mutators ≡ length script.commands → room ≡ log_room script
     → ◌≡◌ {A = Config} (record { slots = slots; fields = fields; registers = registers; mutators = mutators; log_entries = room; first_epoch = 1 }) (config_of script)
 config_is script slots fields registers mutators room s f r m l = cc
+
+-- a script's numbers are those of a heap
+pub script_config : (script : Contents) → IsScript script → IsConfig (config_of script)
+script_config script is =
+    let entries : longest script.commands ≤ 200000 = longest_within script.commands 200000 (λ i within. (is.commands i [] within).few) in
+    record {
+      some_slots = is.heap.some_slots;
+      few_slots = is.heap.most_slots;
+      some_fields = is.heap.some_fields;
+      few_fields = is.heap.most_fields;
+      some_registers = is.heap.some_registers;
+      few_registers = is.heap.most_registers;
+      some_mutators = is.some_mutators;
+      few_mutators = is.most_mutators;
+      some_log_entries = omega arith;
+      few_log_entries = omega arith;
+      some_epoch = omega arith;
+      few_epochs = omega arith;
+    }

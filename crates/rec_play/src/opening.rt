@@ -2,6 +2,7 @@
 
 ghost use Rattle.std.specs.Prelude.{◌≡◌, ◌≤◌, [], IfOk};
 ghost use Rattle.std.specs.List.{sum};
+ghost use Rattle.rec_world.specs.Config.{IsConfig};
 ghost use Rattle.rec_play.specs.Played.{AreReady, config_of, lengths_of};
 
 use rec_script::Script;
@@ -11,7 +12,8 @@ use std::alloc::{AllocError as NoMemory, Global};
 /// The numbers of the heap that a script is played on. Each log has room for the commands of the longest mutator, and for
 /// one entry at least.
 pub fn config_for(script: &Script) -> Config
-    ensures { result ≡ config_of script.now }
+    ensures config { result ≡ config_of script.now }
+    ensures valid { IsConfig result }
 {
     Config {
         slots: script.slots(),

@@ -5,10 +5,10 @@ ghost use Rattle.rec_world.specs.World.{opened};
 ghost use Rattle.rec_play.specs.Played.{AreReady, config_of, lengths_of};
 ghost use Rattle.recycler.specs.Headline.{Answers};
 
-use rec_play::play;
+use rec_play::{config_for, journals_for, order_for, play};
 use rec_report::{Text, text};
 use rec_script::Script;
-use rec_world::{Config, Journal, OpenError, Order, World};
+use rec_world::{Journal, OpenError, Order, World};
 use std::alloc::{AllocError as NoMemory, Global};
 
 /// The answer to a script, in the order that the playing rule draws from this seed with at most so many turns.
@@ -21,8 +21,8 @@ pub fn answer_script(
     ensures { IfOk result (λ text. Answers script.now seed turns (flat_map (λ line. line) text)) }
 {
     let world = open_world(alloc, script)?;
-    let mut journals = open_journals(alloc, script)?;
-    let order = Order::open(alloc, count_commands(script))?;
+    let mut journals = journals_for(alloc, script)?;
+    let order = order_for(alloc, script)?;
     text_of(alloc, script, seed, turns, world, &mut journals, order)
 }
 
@@ -48,45 +48,14 @@ fn text_of(
     text(alloc, script, journals, Some(&order), &world)
 }
 
-// The heap of a script. Each log has room for all commands of the longest mutator.
+// The heap of a script.
 fn open_world(alloc: Global, script: &Script) -> Result<World, NoMemory>
     ensures { IfOk result (λ world. world ≡ opened (config_of script.now)) }
 {
-    let config = Config {
-        slots: script.slots(),
-        fields: script.fields(),
-        registers: script.registers(),
-        mutators: u32::from(script.mutators()),
-        log_entries: script.longest().max(1),
-        first_epoch: 1,
-    };
-    match World::open(alloc, config) {
+    match World::open(alloc, config_for(script)) {
         Ok(world) => Ok(world),
         Err(OpenError::NoMemory) => Err(NoMemory),
         // A script's numbers are those of a heap.
         Err(OpenError::Config { .. }) => unreachable!(),
     }
-}
-
-// A journal for each mutator, with room for its commands.
-fn open_journals(alloc: Global, script: &Script) -> Result<Vec<Journal>, NoMemory>
-    ensures { IfOk result (λ journals. AreReady script.now.commands journals.items) }
-{
-    let mut journals = Vec::with_capacity(alloc, usize::from(script.mutators()))?;
-    for t in 0..script.mutators() {
-        let room = script.commands(t + 1).len() as u32;
-        journals.push(Journal::open(alloc, room)?)?;
-    }
-    Ok(journals)
-}
-
-// How many commands the mutators have together.
-fn count_commands(script: &Script) -> u32
-    ensures { result ≡ sum (lengths_of script.now) }
-{
-    let mut count = 0;
-    for t in 0..script.mutators() {
-        count += script.commands(t + 1).len() as u32;
-    }
-    count
 }

@@ -1,15 +1,7 @@
--- The numbers are the script's.
-use Rattle.std.proofs.Common.{◌≡◌, ◌∙◌, max, length, sym, ap}
-use Rattle.rec_world.specs.World.{opened}
-use Rattle.rec_script.specs.Script.{Contents}
-use Rattle.rec_play.specs.Played.{log_room}
-use Rattle.recycler.proofs.Opening.{config_is, longest_is}
+use Rattle.std.proofs.Common.{◌≡◌, subst}
+use Rattle.rec_world.specs.Config.{IsRefused}
+use Rattle.recycler.proofs.Opening.{none_wrong}
 use Rattle.recycler.proofs.answer.open_world.Goals as goal
 
-pub returns-in-Ok : goal.returns-in-Ok
-returns-in-Ok c =
-    let script : Contents = c.args.script.now in
-    let longest = longest_is script.commands c.longest.result c.longest.ensures.bound c.longest.ensures.reached in
-    let room : c.max.result ≡ log_room script = c.max.ensures ∙ ap (λ n. max n 1) (sym longest) in
-    let mutators : c.from.result ≡ length script.commands = c.from.ensures ∙ c.mutators.ensures.value in
-    c.in-Ok.ensures.opened ∙ ap opened (config_is script _ _ _ _ _ c.slots.ensures.value c.fields.ensures.value c.registers.ensures.value mutators room)
+pub unreachable-requires : goal.unreachable-requires
+unreachable-requires c = none_wrong c.config_for.result c.in-Err-Config.field-0-0 c.config_for.ensures.valid (subst (IsRefused c.config_for.result) c.in-Err-Config.field-0-is c.in-Err-Config.ensures.refused)
