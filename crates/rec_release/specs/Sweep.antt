@@ -60,7 +60,7 @@ swept_if true v = swept_clean v
 swept_if false v = v
 
 -- From the counts `before`, a sweep came to `after`: the slots `gone` left the free list from its front, and their headers
--- were freed in that order. Each is as at opening, in no buffer; all else is as it was.
+-- were freed in that order. Each has one reference, is Black and not released; all else is as it was.
 pub record Swept (before after : State) (gone : List ℕ) : Type 0 where
   pub free : before.free ≡ gone ++ after.free
   pub slots : (x : ℕ) → slot_at after x ≡ swept_if (nat_lt 0 (times x gone)) (slot_at before x)

@@ -14,8 +14,8 @@ pub fn release_is_whole()
     ensures { (fields : ℕ) (before : State) (words : List ℕ) → 0 < fields → IsReady before → HasReleased fields before words }
 {}
 
-/// A sweep frees the headers of the free list from its front, one for each word that it is given. Each swept slot is as at
-/// opening, with one reference, and all else is as it was.
+/// A sweep frees the headers of the free list from its front, one for each word that it is given. Each swept slot has one
+/// reference, is Black and not released, and all else is as it was.
 pub fn sweep_is_whole()
     ensures { (before : State) (words : List ℕ) → EachOnce (length before.slots) before.free → HasSwept before words }
 {}

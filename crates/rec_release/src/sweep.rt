@@ -52,7 +52,7 @@ impl Sweep {
         Some(Op::FreeHeader(slot))
     }
 
-    /// Learns that the header is freed: the slot leaves the free list, and is as at opening.
+    /// Learns that the header is freed: the slot leaves the free list with one reference, Black and not released.
     #[tactic(auto, unfolding(crate::specs::Sweep::took_of, crate::specs::Sweep::next_of))]
     pub fn took(&mut self, counts: &mut Counts, _word: u64)
         requires busy { IsSome (next_of self.old) }
