@@ -1,5 +1,4 @@
 -- A heap whose numbers are in their ranges isn't refused.
-use Rattle.std.proofs.Common.{⊥}
 use Rattle.rec_world.specs.declared.config.Config.{Config}
 use Rattle.rec_world.specs.declared.part.Part.{Part}
 use Rattle.rec_world.specs.declared.part.Part.TheVariants.{Slots, Fields, Registers, Mutators, LogEntries, FirstEpoch}

@@ -13,6 +13,7 @@ const SEED: u64 = 0;
 
 /// How many turns are drawn where no number is given, and at most.
 const TURNS: u64 = 1_000_000;
+
 const MOST_TURNS: u64 = 10_000_000;
 
 /// What a command line asks for.

@@ -21,13 +21,12 @@ pub returns-in_err-turns-clause-none : goal.returns-in_err-turns-clause-none
 returns-in_err-turns-clause-none c = rw c.from_residual-in_err-turns.ensures (λ seed turns asks. c.in_err-turns.ensures.none turns (by_text (found_of c.args.options.now) (codes "turns") _ _ _ _ c.get_str-2.ensures asks.limited))
 
 pub returns-clause-some : goal.returns-clause-some
-returns-clause-some c =
-    (
-      c.in_ok-seed.seed,
-      c.in_ok-turns.turns,
-      refl,
-      record {
-        seeded = by_row (found_of c.args.options.now) (codes "seed") _ _ _ _ c.get_str.ensures c.in_ok-seed.ensures.some;
-        limited = by_row (found_of c.args.options.now) (codes "turns") _ _ _ _ c.get_str-2.ensures c.in_ok-turns.ensures.some;
-      },
-    )
+returns-clause-some c = (
+  c.in_ok-seed.seed,
+  c.in_ok-turns.turns,
+  refl,
+  record {
+    seeded = by_row (found_of c.args.options.now) (codes "seed") _ _ _ _ c.get_str.ensures c.in_ok-seed.ensures.some;
+    limited = by_row (found_of c.args.options.now) (codes "turns") _ _ _ _ c.get_str-2.ensures c.in_ok-turns.ensures.some;
+  },
+)
