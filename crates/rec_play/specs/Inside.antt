@@ -1,5 +1,5 @@
 -- What the fields of a `Schedule` stand for.
-use Rattle.std.specs.Prelude.{◌≡◌, ◌≤◌, length, take}
+use Rattle.std.specs.Prelude.{◌≡◌, ◌≤◌, take}
 use Rattle.rec_play.specs.declared.schedule.Schedule.TheInside.{Inside}
 use Rattle.rec_play.specs.Playing.{Rest, unfinished}
 
@@ -7,7 +7,8 @@ use Rattle.rec_play.specs.Playing.{Rest, unfinished}
 abbrev pub rest : Inside → Rest
 rest s = record { left = take s.mutators s.left; generator = s.generator; turns = s.turns }
 
--- there are eight mutators at most, and the number of the unfinished ones is kept
+-- there are eight mutators at most, and the unfinished ones are kept
 pub record IsCounted (s : Inside) : Type 0 where
   pub few : s.mutators ≤ 8
-  pub counted : s.unfinished ≡ length (unfinished (take s.mutators s.left))
+  pub small : s.count ≤ 8
+  pub named : take s.count s.unfinished ≡ unfinished (take s.mutators s.left)

@@ -18,7 +18,9 @@ const STREAM: u64 = 1;
 pub struct Schedule {
     left: [u32; MOST_MUTATORS],
     mutators: usize,
-    unfinished: u32,
+    // The mutators with commands left come first, `count` of them.
+    unfinished: [u8; MOST_MUTATORS],
+    count: u32,
     generator: Pcg32,
     turns: u32,
 }
@@ -41,16 +43,12 @@ impl Schedule {
         requires { mutators ≤ 8 }
         ensures { result ≡ record { left = take mutators lengths; generator = generator_of seed; turns = turns } }
     {
-        let mut unfinished = 0;
-        for left in &lengths[..mutators] {
-            if *left > 0 {
-                unfinished += 1;
-            }
-        }
+        let (unfinished, count) = unfinished_of(&lengths[..mutators]);
         Schedule {
             left: lengths,
             mutators,
             unfinished,
+            count,
             generator: Pcg32::new(seed, STREAM),
             turns,
         }
@@ -61,16 +59,16 @@ impl Schedule {
         ensures turn { IfSome result (λ actor. to_come self.old ≡ actor ∷ to_come self.new) }
         ensures ended { IsNone result → to_come self.old ≡ [] }
     {
-        if self.unfinished == 0 {
+        if self.count == 0 {
             return None;
         }
         let place = self.draw();
-        if place == self.unfinished {
+        if place == self.count {
             return Some(Actor::Collector);
         }
-        let at = unfinished_at(&self.left[..self.mutators], place);
-        self.take(at);
-        Some(Actor::Mutator(at as u8 + 1))
+        let t = self.unfinished[place as usize];
+        self.take(usize::from(t) - 1);
+        Some(Actor::Mutator(t))
     }
 
     // Draws a place: of an unfinished mutator among them, or after them the collector's. Once all turns are drawn it is the
@@ -85,7 +83,7 @@ impl Schedule {
             return 0;
         }
         self.turns -= 1;
-        self.generator.next_word() % (self.unfinished + 1)
+        self.generator.next_word() % (self.count + 1)
     }
 
     // Takes one command off those that a mutator, by its index, has left.
@@ -97,28 +95,24 @@ impl Schedule {
     {
         self.left[at] -= 1;
         if self.left[at] == 0 {
-            self.unfinished -= 1;
+            (self.unfinished, self.count) = unfinished_of(&self.left[..self.mutators]);
         }
     }
 }
 
-// The index of the unfinished mutator in this place among them.
-fn unfinished_at(left: &[u32], place: u32) -> usize
-    requires few { length left.now ≤ 8 }
-    requires there { place < length (unfinished left.now) }
-    ensures within { result < length left.now }
-    ensures some { 0 < slice_index left.now result }
-    ensures named { slice_get (unfinished left.now) place ≡ Some (result + 1) }
+// The mutators with commands left, and how many these are.
+fn unfinished_of(left: &[u32]) -> ([u8; MOST_MUTATORS], u32)
+    requires { length left.now ≤ 8 }
+    ensures named { take result.1 result.0 ≡ unfinished left.now }
+    ensures few { result.1 ≤ 8 }
 {
-    let mut before = place;
+    let mut unfinished = [0; MOST_MUTATORS];
+    let mut count = 0;
     for (at, left) in left.iter().enumerate() {
         if *left > 0 {
-            if before == 0 {
-                return at;
-            }
-            before -= 1;
+            unfinished[count as usize] = at as u8 + 1;
+            count += 1;
         }
     }
-    prove!(false);
-    0
+    (unfinished, count)
 }

@@ -1,11 +1,11 @@
-use Rattle.std.proofs.Common.{◌≡◌, ℕ, ◌+◌, ◌-◌, ◌<◌, zero, suc, List, slice_index_or, slice_set, length, take, refl, sym, ap, subst, ◌∙◌, arith}
+use Rattle.std.proofs.Common.{◌≡◌, ℕ, ◌-◌, ◌<◌, zero, suc, List, slice_index_or, slice_set, length, take, refl, sym, ap, subst, ◌∙◌, arith}
 use Rattle.std.specs.List.{slice_index}
 use Rattle.std.proofs.Math.Seq.{take-set-lt}
 use Rattle.std.proofs.lemmas.List.{get_or-take, length-take, get_or-set_same}
 use Rattle.rec_play.specs.declared.schedule.Schedule.TheInside.{Inside}
 use Rattle.rec_play.specs.Inside.{rest}
 use Rattle.rec_play.specs.Playing.{Rest, unfinished}
-use Rattle.rec_play.proofs.Unfinished.{one_if, one_if_some, one_if_none, count_taken}
+use Rattle.rec_play.proofs.Unfinished.{still_unfinished}
 use Rattle.rec_play.proofs.schedule.Schedule.take.Goals as goal
 
 -- the mutator is there, and has commands left
@@ -47,33 +47,18 @@ view_is s now at is has =
 left_there : (s : Inside) (at : ℕ) → HasLeft s at → slice_index_or (slice_set s.left at (slice_index_or s.left at 0 - 1)) at 0 ≡ slice_index_or s.left at 0 - 1
 left_there s at has = get_or-set_same s.left at (slice_index_or s.left at 0 - 1) 0 has.inside
 
-pub overflow_sub-self-then-self-at-eq0 : goal.overflow_sub-self-then-self-at-eq0
-overflow_sub-self-then-self-at-eq0 c =
-    let s : Inside = c.self.inside in
-    let has : HasLeft s c.args.at = has_left s c.args.self.now c.args.at c.self.view_is c.requires.there c.requires.some in
-    let none : one_if (slice_index_or s.left c.args.at 0 - 1) ≡ 0 = one_if_none (slice_index_or s.left c.args.at 0 - 1) (omega (arith, left_there s c.args.at has, c.if-self-at-eq0.true)) in
-    let count : length (unfinished (take s.mutators (slice_set s.left c.args.at (slice_index_or s.left c.args.at 0 - 1)))) + 1 ≡ s.unfinished + one_if (slice_index_or s.left c.args.at 0 - 1)
-    = count_taken s.mutators s.left c.args.at s.unfinished has.there has.some c.self.invariant.counted in
-    omega arith
-
-pub invariant_of-self : goal.invariant_of-self
-invariant_of-self c =
-    let s : Inside = c.self.inside in
-    let has : HasLeft s c.args.at = has_left s c.args.self.now c.args.at c.self.view_is c.requires.there c.requires.some in
-    let none : one_if (slice_index_or s.left c.args.at 0 - 1) ≡ 0 = one_if_none (slice_index_or s.left c.args.at 0 - 1) (omega (arith, left_there s c.args.at has, c.if-self-at-eq0.true)) in
-    let count : length (unfinished (take s.mutators (slice_set s.left c.args.at (slice_index_or s.left c.args.at 0 - 1)))) + 1 ≡ s.unfinished + one_if (slice_index_or s.left c.args.at 0 - 1)
-    = count_taken s.mutators s.left c.args.at s.unfinished has.there has.some c.self.invariant.counted in
-    record { few = c.self.invariant.few; counted = omega arith }
-
 pub invariant_of-self-else-self-at-eq0 : goal.invariant_of-self-else-self-at-eq0
 invariant_of-self-else-self-at-eq0 c =
     let s : Inside = c.self.inside in
     let has : HasLeft s c.args.at = has_left s c.args.self.now c.args.at c.self.view_is c.requires.there c.requires.some in
-    let more : 0 < slice_index_or s.left c.args.at 0 - 1 = positive (slice_index_or s.left c.args.at 0 - 1) (λ none. c.if-self-at-eq0.false (left_there s c.args.at has ∙ none)) in
-    let one : one_if (slice_index_or s.left c.args.at 0 - 1) ≡ 1 = one_if_some (slice_index_or s.left c.args.at 0 - 1) more in
-    let count : length (unfinished (take s.mutators (slice_set s.left c.args.at (slice_index_or s.left c.args.at 0 - 1)))) + 1 ≡ s.unfinished + one_if (slice_index_or s.left c.args.at 0 - 1)
-    = count_taken s.mutators s.left c.args.at s.unfinished has.there has.some c.self.invariant.counted in
-    record { few = c.self.invariant.few; counted = omega arith }
+    let v : ℕ = slice_index_or s.left c.args.at 0 - 1 in
+    let more : 0 < v = positive v (λ none. c.if-self-at-eq0.false (left_there s c.args.at has ∙ none)) in
+    let left : 0 < slice_index_or (take s.mutators s.left) c.args.at 0 = subst (λ n. 0 < n) (sym (get_or-take s.mutators s.left c.args.at 0 has.within)) has.some in
+    record {
+      few = c.self.invariant.few;
+      small = c.self.invariant.small;
+      named = c.self.invariant.named ∙ sym (ap unfinished (take-set-lt s.mutators s.left c.args.at v has.within) ∙ still_unfinished 1 (take s.mutators s.left) c.args.at v left more);
+    }
   where
     positive : (n : ℕ) → (n ≡ 0 → ⊥) → 0 < n
     positive zero not = absurd (not refl)
