@@ -1,5 +1,5 @@
 -- What the clauses of the heap's calls and of a script's readers give to the played run.
-use Rattle.std.proofs.Common.{◌≡◌, inl, inr, ℕ, ◌+◌, ◌-◌, ◌<◌, ◌≤◌, length, false, get_or, get_or-set_other, if◌then◌else◌, sym, ap, subst, ◌∙◌, arith}
+use Rattle.std.proofs.Common.{◌≡◌, inl, inr, ℕ, ◌+◌, ◌-◌, ◌<◌, ◌≤◌, length, false, get_or-set_other, if◌then◌else◌, sym, ap, subst, ◌∙◌, arith}
 use Rattle.std.specs.Option.{IfSome}
 use Rattle.std.proofs.lemmas.Bool.{cases_eq}
 use Rattle.rec_word.specs.Word.{stamp_of}
@@ -12,7 +12,7 @@ use Rattle.rec_mutator.specs.Private.{Private, is_busy}
 use Rattle.rec_world.specs.declared.config.Config.{Config}
 use Rattle.rec_world.specs.Config.{IsMutator}
 use Rattle.rec_world.specs.State.{nobody}
-use Rattle.rec_world.specs.World.{State, sight, mutator, with_mutator, log_length, OnlyWorks, entries_of}
+use Rattle.rec_world.specs.World.{State, sight, mutator, log_length, OnlyWorks, entries_of}
 use Rattle.rec_script.specs.Script.{Contents, IsScript}
 use Rattle.rec_play.specs.Commanded.{AreIdle, Commanded}
 

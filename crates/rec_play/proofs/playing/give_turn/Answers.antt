@@ -1,10 +1,8 @@
-use Rattle.std.proofs.Common.{◌≡◌, ◌-◌, ◌<◌, List, [], slice_index_or, length, sym, ap, subst, ◌∙◌, arith}
+use Rattle.std.proofs.Common.{◌≡◌, ◌-◌, ◌<◌, List, [], slice_index_or, length, sym, ap, subst, ◌∙◌}
 use Rattle.std.specs.List.{slice_get}
 use Rattle.std.proofs.lemmas.Option.{slice_get-get_or, get_or_from_slice_get}
 use Rattle.rec_model.specs.declared.command.Cmd.{Cmd}
 use Rattle.rec_world.specs.declared.config.Config.{Config}
-use Rattle.rec_world.specs.World.{State}
-use Rattle.rec_play.specs.Commanded.{Commanded}
 use Rattle.rec_play.proofs.Commands.{polled, idle_stay, others_logged, others_idle}
 use Rattle.rec_play.proofs.playing.give_turn.Goals as goal
 
@@ -19,19 +17,19 @@ returns-clause-commanded c =
       c.command-told.result,
       ap (λ xs. slice_get xs (length c.args.journal.now.lines)) own ∙ ap (slice_get cmds) at ∙ slice_get-get_or cmds (length c.lines.result.now) _ next,
       polled c.args.world.now c.poll.new.self c.command-told.new.self c.args.t _ c.command-told.result c.requires.some c.poll.ensures.others c.poll.ensures.seen
-      (idle_stay c.args.world.now c.poll.new.self c.args.t c.poll.ensures.others c.requires.some c.poll.ensures.idle) (record {
-        explained = c.command-told.ensures.explained;
-        log_full = λ full. (c.command-told.ensures.log_full.0 full).0;
-        full = λ full. (c.command-told.ensures.full.0 full).2;
-        never = c.command-told.ensures.never;
-        made = c.command-told.ensures.made;
-        within = c.command-told.ensures.kept.kept.made;
-        logged = c.command-told.ensures.logged;
-        others = others_logged c.poll.new.self c.command-told.new.self c.args.t c.command-told.ensures.others;
-        stamp = c.command-told.ensures.stamp;
-        config = c.command-told.ensures.config;
-        unmarked = c.command-told.ensures.marked;
-        idle = others_idle c.poll.new.self c.command-told.new.self c.args.t c.command-told.ensures.config c.command-told.ensures.others c.command-told.ensures.idle;
-      }),
+          (idle_stay c.args.world.now c.poll.new.self c.args.t c.poll.ensures.others c.requires.some c.poll.ensures.idle) (record {
+            explained = c.command-told.ensures.explained;
+            log_full = λ full. (c.command-told.ensures.log_full.0 full).0;
+            full = λ full. (c.command-told.ensures.full.0 full).2;
+            never = c.command-told.ensures.never;
+            made = c.command-told.ensures.made;
+            within = c.command-told.ensures.kept.kept.made;
+            logged = c.command-told.ensures.logged;
+            others = others_logged c.poll.new.self c.command-told.new.self c.args.t c.command-told.ensures.others;
+            stamp = c.command-told.ensures.stamp;
+            config = c.command-told.ensures.config;
+            unmarked = c.command-told.ensures.marked;
+            idle = others_idle c.poll.new.self c.command-told.new.self c.args.t c.command-told.ensures.config c.command-told.ensures.others c.command-told.ensures.idle;
+          }),
       c.note.ensures.lines,
     )

@@ -3,7 +3,7 @@ use Rattle.std.proofs.lemmas.Result.{IfOk-weaker}
 use Rattle.clap.specs.Words.{App, app_of, new_app, rule_of, with_rule, with_subcommand}
 use Rattle.clap.specs.Simple.{app_of_fields}
 use Rattle.clap.specs.declared.builder.command.Command.TheViews.{out-Command}
-use Rattle.recycler.specs.CommandLine.{option, recycler}
+use Rattle.recycler.specs.CommandLine.{option}
 use Rattle.recycler.proofs.command_line.command.Goals as goal
 
 -- the settings of the program's command

@@ -1,10 +1,8 @@
-use Rattle.std.proofs.Common.{rules, ◌≡◌, ℕ, List, Option, option_map, subst, sym, ◌∙◌, refl, codes}
-use Rattle.std.specs.Option.{IfNone}
-use denote.Bor.{Bor}
+use Rattle.std.proofs.Common.{◌≡◌, ℕ, Option, subst, sym, ◌∙◌, refl, codes}
 use Rattle.clap.specs.Words.{found_of, rows_of, first_value, first_of, Text}
 use Rattle.clap.specs.declared.parser.matches.Found.{Found}
 use Rattle.clap.proofs.WalkLemmas.{first_value-rows}
-use Rattle.recycler.specs.CommandLine.{Says, AsksPlay}
+use Rattle.recycler.specs.CommandLine.{Says}
 use Rattle.recycler.proofs.command_line.play.Goals as goal
 
 -- what an option's text says is what its row says
