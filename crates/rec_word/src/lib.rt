@@ -11,7 +11,7 @@ mod places;
 mod stamps;
 mod word;
 
-pub use op::Op;
+pub use op::{Op, crossing};
 pub use places::place;
 pub use stamps::Stamp;
 pub use word::{pack, stamp, target};
