@@ -1,0 +1,6 @@
+pub mod Dropping
+pub mod Limits
+pub mod Releasing
+pub mod Rows
+pub mod Steps
+pub mod Sweeping

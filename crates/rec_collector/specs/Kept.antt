@@ -94,6 +94,7 @@ pub record IsMachine (p : Private) : Type 0 where
   pub collections : p.collections + under_way p.phase ≤ p.epoch
   pub freed : p.freed ≤ 2 ^ 16 * p.collections + swept_at p.phase
   pub fields : 0 < p.release.fields
+  pub few_fields : p.release.fields < 2 ^ 8
   pub mutators : 0 < length p.newer
   pub few : length p.newer < 2 ^ 8
   pub both : length p.older ≡ length p.newer

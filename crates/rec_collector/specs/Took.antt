@@ -61,10 +61,10 @@ released p word = release_took (record { machine = p.release; counts = p.counts 
 abbrev pub returned : Private → (t : ℕ) → Private
 returned p t = if t == length p.newer then went_on p (begun p) else moved p (Looking (t + 1))
 
--- the sweep goes on, or ends
-abbrev pub swept_on : Private → (swept : ℕ) → Option ℕ → Private
-swept_on p swept None = moved p (Closing swept)
-swept_on p swept (Some x) = moved p (Sweeping swept)
+-- after so many slots the sweep goes on, or ends
+abbrev pub swept_phase : (swept : ℕ) → Option ℕ → Phase
+swept_phase swept None = Closing swept
+swept_phase swept (Some x) = Sweeping swept
 
 -- the counts of a sweep, and the slot that it frees next
 abbrev pub with_sweep : Private → sweeps.Work → Private
@@ -72,7 +72,7 @@ with_sweep p w = record p { counts = w.counts; due = w.due }
 
 -- one slot more is swept
 abbrev pub swept_one : Private → (swept : ℕ) → sweeps.Work → Private
-swept_one p swept w = swept_on (record (with_sweep p w) { freed = p.freed + 1 }) (swept + 1) w.due
+swept_one p swept w = moved (record (with_sweep p w) { freed = p.freed + 1 }) (swept_phase (swept + 1) w.due)
 
 -- what is learnt, by phase
 unfoldable pub took_at : Private → (word : ℕ) → Phase → Private

@@ -9,7 +9,7 @@ ghost use Rattle.rec_collector.specs.Given.{IsCovered, IsGiven, IsSized, IsSwapp
 ghost use Rattle.rec_collector.specs.Kept.{IsMachine, KeepsSizes, limit_of};
 ghost use Rattle.rec_collector.specs.Next.{next_of};
 ghost use Rattle.rec_collector.specs.Private.{Private, opened, spare};
-ghost use Rattle.rec_collector.specs.Took.{ended, swapped_of, took_at, took_of, turn_at, turn_of};
+ghost use Rattle.rec_collector.specs.Took.{ended, swapped_of, swept_phase, took_at, took_of, turn_at, turn_of};
 
 use crate::buffers::{clear_all, open_row};
 use crate::phase::Phase;
@@ -83,6 +83,8 @@ impl Machine {
         let mut frame = Frame::open(alloc, regs)?;
         let newer = open_row(alloc, mutators, cap, regs, &frame)?;
         frame.set(0, 0);
+        let counts = Counts::open(alloc, slots, u64::from(mutators))?;
+        counts.rules();
         Ok(Machine {
             epoch: first_epoch,
             collections: 0,
@@ -91,7 +93,7 @@ impl Machine {
             phase: Phase::Idle,
             registers: regs,
             capacity: cap,
-            counts: Counts::open(alloc, slots, u64::from(mutators))?,
+            counts,
             newer,
             older: open_row(alloc, mutators, cap, regs, &frame)?,
             release: Release::idle(fields),
@@ -217,6 +219,7 @@ impl Machine {
 
         ensures took { self.new ≡ took_at self.old 0 Phase.Idle }
         ensures turn { result ≡ turn_at self.old 0 Phase.Idle }
+        ensures same { KeepsSizes self.old self.new }
     {
         if self.epoch + 1 == EPOCHS {
             return Turn::EpochsSpent;
@@ -234,6 +237,7 @@ impl Machine {
 
         ensures took { self.new ≡ took_at self.old word (Phase.Looking mutator) }
         ensures turn { result ≡ turn_at self.old word (Phase.Looking mutator) }
+        ensures same { KeepsSizes self.old self.new }
     {
         if word != crossing(self.epoch, 2) {
             return Turn::Waiting { mutator };
@@ -250,6 +254,7 @@ impl Machine {
 
         ensures took { self.new ≡ took_at self.old 0 (Phase.Returning mutator) }
         ensures turn { result ≡ turn_at self.old 0 (Phase.Returning mutator) }
+        ensures same { KeepsSizes self.old self.new }
     {
         if usize::from(mutator) != self.newer.len() {
             self.phase = Phase::Looking {
@@ -261,6 +266,7 @@ impl Machine {
         apply(&mut self.counts, &self.newer, &self.older);
         self.release.start(&mut self.counts);
         self.phase = after_release(&mut self.counts, &self.release);
+        self.counts.rules();
         self.turns += 1;
         self.end_if_nothing_is_free()
     }
@@ -272,19 +278,23 @@ impl Machine {
 
         ensures took { self.new ≡ took_at self.old word Phase.Releasing }
         ensures turn { result ≡ turn_at self.old word Phase.Releasing }
+        ensures same { KeepsSizes self.old self.new }
     {
         self.release.took(&mut self.counts, word);
         self.phase = after_release(&mut self.counts, &self.release);
+        self.counts.rules();
         self.turns += 1;
         self.end_if_nothing_is_free()
     }
 
     // A sweep has begun.
+    #[tactic(auto, unfolding(crate::specs::Took::took_at, crate::specs::Took::turn_at))]
     fn took_opening(&mut self) -> Turn
         requires phase { self.old.phase ≡ Phase.Opening }
 
         ensures took { self.new ≡ took_at self.old 0 Phase.Opening }
         ensures turn { result ≡ turn_at self.old 0 Phase.Opening }
+        ensures same { KeepsSizes self.old self.new }
     {
         self.sweep.start(&mut self.counts);
         self.phase = Phase::Sweeping { swept: 0 };
@@ -293,20 +303,18 @@ impl Machine {
     }
 
     // A slot more is swept.
+    #[tactic(auto, unfolding(crate::specs::Took::took_at, crate::specs::Took::turn_at))]
     fn took_sweep(&mut self, swept: u32, word: u64) -> Turn
         requires phase { self.old.phase ≡ Phase.Sweeping swept }
 
         ensures took { self.new ≡ took_at self.old word (Phase.Sweeping swept) }
         ensures turn { result ≡ turn_at self.old word (Phase.Sweeping swept) }
+        ensures same { KeepsSizes self.old self.new }
     {
         self.sweep.took(&mut self.counts, word);
+        self.counts.rules();
         self.freed += 1;
-        let swept = swept + 1;
-        self.phase = if self.sweep.next().is_some() {
-            Phase::Sweeping { swept }
-        } else {
-            Phase::Closing { swept }
-        };
+        self.phase = after_slot(&self.sweep, swept + 1);
         self.turns += 1;
         Turn::Moved
     }
@@ -315,6 +323,7 @@ impl Machine {
     fn end_if_nothing_is_free(&mut self) -> Turn
         ensures took { self.new ≡ ended_if self.old self.old.phase }
         ensures turn { result ≡ turn_if self.old self.old.phase }
+        ensures same { KeepsSizes self.old self.new }
     {
         match self.phase {
             Phase::Closing { swept } => self.end(swept),
@@ -329,6 +338,7 @@ impl Machine {
 
         ensures took { self.new ≡ took_at self.old 0 (Phase.Closing swept) }
         ensures turn { result ≡ turn_at self.old 0 (Phase.Closing swept) }
+        ensures same { KeepsSizes self.old self.new }
     {
         clear_all(&mut self.older);
         mem::swap(&mut self.older, &mut self.newer);
@@ -352,10 +362,22 @@ fn after_release(counts: &mut Counts, release: &Release) -> Phase
     if release.next().is_some() {
         return Phase::Releasing;
     }
+    counts.rules();
     drop_roots(counts);
     if counts.free_list().is_empty() {
         Phase::Closing { swept: 0 }
     } else {
         Phase::Opening
+    }
+}
+
+// What follows once so many slots were swept: the next one, or the end of the sweep.
+fn after_slot(sweep: &Sweep, swept: u32) -> Phase
+    ensures { result ≡ swept_phase swept sweep.now }
+{
+    if sweep.next().is_some() {
+        Phase::Sweeping { swept }
+    } else {
+        Phase::Closing { swept }
     }
 }
