@@ -1,3 +1,4 @@
+pub mod Causes
 pub mod Dropping
 pub mod Limits
 pub mod Releasing

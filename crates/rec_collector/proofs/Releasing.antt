@@ -9,7 +9,7 @@ use Rattle.rec_counts.specs.Rest.{KeepsRest}
 use Rattle.rec_counts.specs.Slot.{unrooted}
 use Rattle.rec_counts.proofs.Times.{length-once, times-nil}
 use Rattle.rec_release.specs.declared.at.At.{At}
-use Rattle.rec_release.specs.Release.{Machine, Work, IsAtWork, emptied, first_of, gone_on, listed_if, next_of, started_of, taken_off, took_at as took_work_at, took_of, with_next, without_first}
+use Rattle.rec_release.specs.Release.{Machine, Work, IsAtWork, emptied, first_of, gone_on, listed_if, next_of, op_at, started_of, taken_off, took_at as took_work_at, took_of, with_next, without_first}
 use Rattle.rec_release.specs.Released.{Released, place_due}
 use Rattle.rec_release.specs.Sweep.{AreUnbuffered}
 use Rattle.rec_release.proofs.Keeping.{rest_off}
@@ -78,7 +78,8 @@ come_unbuffered p w h = λ x l. elim (cases_Bool (slot_at w.counts x).buffered) 
   | inr b ↦ b
 ]
 
-none_next : (m : Machine) → m.at ≡ None → IsNone (next_of m)
+-- nothing comes next where none is due
+pub none_next : (m : Machine) → m.at ≡ None → IsNone (next_of m)
 unfolding next_of
 none_next m e = rw e refl
 
@@ -161,26 +162,60 @@ sweep_follows p w phase k h e c d made =
 landed_keeps_at : (p : Private) (w : Work) → IsMachine p → HasCome p w → IsKeptCounts w.counts → p.collections + 1 ≤ p.epoch → p.freed ≤ 2 ^ 16 * p.collections → (at : Option At) (free : List ℕ)
     → w.machine.at ≡ at → (counts_after w.counts at).free ≡ free → IsKeptCounts (counts_after w.counts at) → IsMachine (landed_at p w at free)
 landed_keeps_at p w k h c under freed (Some a) free e f d = record {
-  epoch = k.epoch; collections = under; freed = omega (arith, freed);
-  fields = omega (arith, k.fields, h.fields); few_fields = omega (arith, k.few_fields, h.fields); mutators = k.mutators; few = k.few; both = k.both; newer = k.newer; older = k.older;
-  sets = h.sets; counts = d;
+  epoch = k.epoch;
+  collections = under;
+  freed = omega (arith, freed);
+  fields = omega (arith, k.fields, h.fields);
+  few_fields = omega (arith, k.few_fields, h.fields);
+  mutators = k.mutators;
+  few = k.few;
+  both = k.both;
+  newer = k.newer;
+  older = k.older;
+  sets = h.sets;
+  counts = d;
   now = record {
-    before = h.before; words = h.words; places = h.places; slots = h.slots; released = h.released; before_free = h.before_free; many = h.before_many; kept = h.kept;
+    before = h.before;
+    words = h.words;
+    places = h.places;
+    slots = h.slots;
+    released = h.released;
+    before_free = h.before_free;
+    many = h.before_many;
+    kept = h.kept;
     busy = subst (λ (o : Option At). IsSome o) (sym e) refl;
     turns = omega (arith, h.turns);
     due = h.due;
   };
 }
 landed_keeps_at p w k h c under freed None [] e f d = record {
-  epoch = k.epoch; collections = under; freed = omega (arith, freed);
-  fields = omega (arith, k.fields, h.fields); few_fields = omega (arith, k.few_fields, h.fields); mutators = k.mutators; few = k.few; both = k.both; newer = k.newer; older = k.older;
-  sets = h.sets; counts = d;
+  epoch = k.epoch;
+  collections = under;
+  freed = omega (arith, freed);
+  fields = omega (arith, k.fields, h.fields);
+  few_fields = omega (arith, k.few_fields, h.fields);
+  mutators = k.mutators;
+  few = k.few;
+  both = k.both;
+  newer = k.newer;
+  older = k.older;
+  sets = h.sets;
+  counts = d;
   now = (sweep_follows p w (Closing 0) k h e c d 1, f, h.due);
 }
 landed_keeps_at p w k h c under freed None (x ∷ xs) e f d = record {
-  epoch = k.epoch; collections = under; freed = omega (arith, freed);
-  fields = omega (arith, k.fields, h.fields); few_fields = omega (arith, k.few_fields, h.fields); mutators = k.mutators; few = k.few; both = k.both; newer = k.newer; older = k.older;
-  sets = h.sets; counts = d;
+  epoch = k.epoch;
+  collections = under;
+  freed = omega (arith, freed);
+  fields = omega (arith, k.fields, h.fields);
+  few_fields = omega (arith, k.few_fields, h.fields);
+  mutators = k.mutators;
+  few = k.few;
+  both = k.both;
+  newer = k.newer;
+  older = k.older;
+  sets = h.sets;
+  counts = d;
   now = (sweep_follows p w Opening k h e c d 0, omega (arith, ap length f), h.due);
 }
 
@@ -196,6 +231,7 @@ landed_went p w = go w.machine.at
     swept : (free : List ℕ) → (dropped w.counts).free ≡ free → ended_if (landed_at p w None free) (landed_at p w None free).phase ≡ swept_next (with_work p (record w { counts = dropped w.counts })) free
     swept [] f = refl
     swept (x ∷ xs) f = refl
+
     go : (at : Option At) → ended_if (landed_at p w at (counts_after w.counts at).free) (landed_at p w at (counts_after w.counts at).free).phase ≡ went_on_at p w at
     go (Some a) = refl
     go None = swept (dropped w.counts).free refl
@@ -207,6 +243,7 @@ landed_turn p w = go w.machine.at
     swept : (free : List ℕ) → turn_if (landed_at p w None free) (landed_at p w None free).phase ≡ swept_turn p.epoch free
     swept [] = refl
     swept (x ∷ xs) = refl
+
     go : (at : Option At) → turn_if (landed_at p w at (counts_after w.counts at).free) (landed_at p w at (counts_after w.counts at).free).phase ≡ work_turn_at p.epoch w at
     go (Some a) = refl
     go None = swept (dropped w.counts).free
@@ -227,3 +264,12 @@ sizes_on p q r k l = record {
   capacity = l.capacity ∙ k.capacity;
   mutators = l.mutators ∙ k.mutators;
 }
+
+-- a field comes next while one is due
+pub some_next : (m : Machine) → IsSome m.at → IsSome (next_of m)
+unfolding next_of
+some_next m b = go m.at b
+  where
+    go : (at : Option At) → IsSome at → IsSome (op_at m.fields at)
+    go None b = absurd (false≢true b)
+    go (Some a) b = refl

@@ -1,10 +1,10 @@
 -- Rows of buffers.
-use Rattle.std.proofs.Common.{◌≡◌, ℕ, suc, zero, ◌+◌, ◌<◌, ◌≤◌, List, [], ◌∷◌, ◌++◌, length, map, take, drop, get_or, set, replicate, refl, arith, sym, ◌∙◌, ap}
+use Rattle.std.proofs.Common.{◌≡◌, ℕ, suc, zero, ◌+◌, ◌-◌, ◌<◌, ◌≤◌, None, Some, List, [], ◌∷◌, ◌++◌, length, map, take, drop, get_or, set, replicate, refl, arith, sym, ◌∙◌, ap}
 use Rattle.std.proofs.lemmas.List.{get_or-map, get_or-replicate, length-map, length-replicate}
 use Rattle.rec_log.specs.declared.contents.Contents.{Contents}
 use Rattle.rec_collector.specs.Given.{IsSized}
 use Rattle.rec_collector.specs.Kept.{AreSized, AreSpare}
-use Rattle.rec_collector.specs.Private.{Private, blank, retired, spare, buffer_at}
+use Rattle.rec_collector.specs.Private.{Private, blank, first_registers, retired, spare, buffer_at}
 use Rattle.rec_collector.specs.Took.{cleared, ended}
 
 -- one more of the same
@@ -53,3 +53,8 @@ pub row_sized : (p : Private) (n : ℕ) (b : Contents) → IsSized p.registers p
 row_sized p n b k = λ i l.
     let e : buffer_at (replicate n b) i ≡ b = get_or-replicate n i b (blank 0 0) (omega (arith, l, length-replicate n b)) in
     (ap (λ (c : Contents). length c.snapshot) e ∙ k.0, ap (λ (c : Contents). c.capacity) e ∙ k.1)
+
+-- register 0 is set in a row of null registers
+pub first_row : (n : ℕ) → 0 < n → set (replicate n None) 0 (Some 0) ≡ first_registers n
+first_row zero l = absurd (omega (arith, l))
+first_row (suc n) l = let e : n ≡ suc n - 1 = omega arith in ap (λ m. Some 0 ∷ replicate m None) e

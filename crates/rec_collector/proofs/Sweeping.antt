@@ -54,11 +54,24 @@ swept_keeps_on p n x [] k e left len s =
     let many : length (swept p.counts x).slots ≡ length p.counts.slots = length-set p.counts.slots x (swept_clean (slot_at p.counts x)) in
     let d : p.freed ≤ 2 ^ 16 * p.collections + n = freed_at p (Sweeping n) k e in
     record {
-      epoch = k.epoch; collections = under_way_at p (Sweeping n) k e; freed = omega (arith, d); fields = k.fields; few_fields = k.few_fields; mutators = k.mutators; few = k.few; both = k.both;
-      newer = k.newer; older = k.older; sets = k.sets; counts = s;
+      epoch = k.epoch;
+      collections = under_way_at p (Sweeping n) k e;
+      freed = omega (arith, d);
+      fields = k.fields;
+      few_fields = k.few_fields;
+      mutators = k.mutators;
+      few = k.few;
+      both = k.both;
+      newer = k.newer;
+      older = k.older;
+      sets = k.sets;
+      counts = s;
       now = (
         record {
-          zeros = a.0.zeros; roots = a.0.roots; still = a.0.still; unbuffered = unbuffered_swept p.counts x a.0.unbuffered;
+          zeros = a.0.zeros;
+          roots = a.0.roots;
+          still = a.0.still;
+          unbuffered = unbuffered_swept p.counts x a.0.unbuffered;
           left = omega (arith, a.0.left, len, many, ap length left);
           turns = omega (arith, a.0.turns, ap (λ m. m * p.release.fields) many);
         },
@@ -71,11 +84,24 @@ swept_keeps_on p n x (y ∷ ys) k e left len s =
     let many : length (swept p.counts x).slots ≡ length p.counts.slots = length-set p.counts.slots x (swept_clean (slot_at p.counts x)) in
     let d : p.freed ≤ 2 ^ 16 * p.collections + n = freed_at p (Sweeping n) k e in
     record {
-      epoch = k.epoch; collections = under_way_at p (Sweeping n) k e; freed = omega (arith, d); fields = k.fields; few_fields = k.few_fields; mutators = k.mutators; few = k.few; both = k.both;
-      newer = k.newer; older = k.older; sets = k.sets; counts = s;
+      epoch = k.epoch;
+      collections = under_way_at p (Sweeping n) k e;
+      freed = omega (arith, d);
+      fields = k.fields;
+      few_fields = k.few_fields;
+      mutators = k.mutators;
+      few = k.few;
+      both = k.both;
+      newer = k.newer;
+      older = k.older;
+      sets = k.sets;
+      counts = s;
       now = (
         record {
-          zeros = a.0.zeros; roots = a.0.roots; still = a.0.still; unbuffered = unbuffered_swept p.counts x a.0.unbuffered;
+          zeros = a.0.zeros;
+          roots = a.0.roots;
+          still = a.0.still;
+          unbuffered = unbuffered_swept p.counts x a.0.unbuffered;
           left = omega (arith, a.0.left, len, many, ap length left);
           turns = omega (arith, a.0.turns, ap (λ m. m * p.release.fields) many);
         },
@@ -119,10 +145,18 @@ ended_keeps p n k e =
     let d : p.freed ≤ 2 ^ 16 * p.collections + n = freed_at p (Closing n) k e in
     let m : length (map cleared p.older) ≡ length p.newer = length-map p.older cleared ∙ k.both in
     record {
-      epoch = k.epoch; collections = under_way_at p (Closing n) k e;
+      epoch = k.epoch;
+      collections = omega (arith, under_way_at p (Closing n) k e);
       freed = omega (arith, d, a.0.left, k.counts.few_slots);
-      fields = k.fields; few_fields = k.few_fields; mutators = omega (arith, k.mutators, m); few = omega (arith, k.few, m); both = sym m;
-      newer = cleared_sized p p.older k.older; older = k.newer; sets = k.sets; counts = k.counts;
+      fields = k.fields;
+      few_fields = k.few_fields;
+      mutators = omega (arith, k.mutators, m);
+      few = omega (arith, k.few, m);
+      both = sym m;
+      newer = cleared_sized p p.older k.older;
+      older = k.newer;
+      sets = k.sets;
+      counts = k.counts;
       now = (record { zeros = a.0.zeros; roots = a.0.roots; free = a.1; still = a.0.still; due = a.2 }, cleared_spares p 0 k.older, refl);
     }
 

@@ -8,7 +8,13 @@ use rec_log::Buffer;
 use std::alloc::{AllocError as NoMemory, Global};
 
 /// A buffer for each mutator, with room for so many entries, and this frame as its snapshot.
-pub(crate) fn open_row(alloc: Global, mutators: u8, capacity: u32, registers: u8, frame: &Frame) -> Result<Vec<Buffer>, NoMemory>
+pub(crate) fn open_row(
+    alloc: Global,
+    mutators: u8,
+    capacity: u32,
+    registers: u8,
+    frame: &Frame,
+) -> Result<Vec<Buffer>, NoMemory>
     requires { length frame.now ≡ registers }
     ensures { IfOk result (λ row. row.items ≡ replicate mutators (retired frame.now capacity)) }
 {

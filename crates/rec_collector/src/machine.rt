@@ -83,6 +83,7 @@ impl Machine {
         let mut frame = Frame::open(alloc, regs)?;
         let newer = open_row(alloc, mutators, cap, regs, &frame)?;
         frame.set(0, 0);
+        let older = open_row(alloc, mutators, cap, regs, &frame)?;
         let counts = Counts::open(alloc, slots, u64::from(mutators))?;
         counts.rules();
         Ok(Machine {
@@ -95,7 +96,7 @@ impl Machine {
             capacity: cap,
             counts,
             newer,
-            older: open_row(alloc, mutators, cap, regs, &frame)?,
+            older,
             release: Release::idle(fields),
             sweep: Sweep::idle(fields),
         })
@@ -143,16 +144,8 @@ impl Machine {
         ensures limit { self.new.turns ≤ limit_of self.new }
         ensures kept { IsMachine self.new }
     {
-        match self.phase {
-            Phase::Idle => self.took_request(),
-            Phase::Looking { mutator } => self.took_look(mutator, word),
-            Phase::Swapping { .. } => Turn::Moved,
-            Phase::Returning { mutator } => self.took_return(mutator),
-            Phase::Releasing => self.took_release(word),
-            Phase::Opening => self.took_opening(),
-            Phase::Sweeping { swept } => self.took_sweep(swept, word),
-            Phase::Closing { swept } => self.end(swept),
-        }
+        self.rules();
+        self.learn(word)
     }
 
     /// Takes the buffer of a mailbox that is held, and gives the cleared one that takes its place there.
@@ -171,6 +164,13 @@ impl Machine {
         };
         self.phase = Phase::Returning { mutator };
         mem::replace(&mut self.newer[usize::from(mutator) - 1], buffer)
+    }
+
+    /// What always holds of a machine. It does nothing: its contract is the fact.
+    pub fn rules(&self)
+        ensures { IsMachine self.now }
+    {
+        let _phase = &self.phase;
     }
 
     /// The true count of a slot: one for a free slot, else how many references to it were counted.
@@ -212,6 +212,27 @@ impl Machine {
         self.turns
     }
 
+    // Learns a word, by the phase.
+    fn learn(&mut self, word: u64) -> Turn
+        requires given { IsGiven self.old word }
+
+        ensures took { self.new ≡ took_of self.old word }
+        ensures turn { result ≡ turn_of self.old word }
+        ensures same { KeepsSizes self.old self.new }
+        ensures kept { IsMachine self.new }
+    {
+        match self.phase {
+            Phase::Idle => self.took_request(),
+            Phase::Looking { mutator } => self.took_look(mutator, word),
+            Phase::Swapping { .. } => Turn::Moved,
+            Phase::Returning { mutator } => self.took_return(mutator),
+            Phase::Releasing => self.took_release(word),
+            Phase::Opening => self.took_opening(),
+            Phase::Sweeping { swept } => self.took_sweep(swept, word),
+            Phase::Closing { swept } => self.end(swept),
+        }
+    }
+
     // The next epoch is requested, if there is one.
     #[tactic(auto, unfolding(crate::specs::Took::took_at, crate::specs::Took::turn_at))]
     fn took_request(&mut self) -> Turn
@@ -220,6 +241,7 @@ impl Machine {
         ensures took { self.new ≡ took_at self.old 0 Phase.Idle }
         ensures turn { result ≡ turn_at self.old 0 Phase.Idle }
         ensures same { KeepsSizes self.old self.new }
+        ensures kept { IsMachine self.new }
     {
         if self.epoch + 1 == EPOCHS {
             return Turn::EpochsSpent;
@@ -238,6 +260,7 @@ impl Machine {
         ensures took { self.new ≡ took_at self.old word (Phase.Looking mutator) }
         ensures turn { result ≡ turn_at self.old word (Phase.Looking mutator) }
         ensures same { KeepsSizes self.old self.new }
+        ensures kept { IsMachine self.new }
     {
         if word != crossing(self.epoch, 2) {
             return Turn::Waiting { mutator };
@@ -255,6 +278,7 @@ impl Machine {
         ensures took { self.new ≡ took_at self.old 0 (Phase.Returning mutator) }
         ensures turn { result ≡ turn_at self.old 0 (Phase.Returning mutator) }
         ensures same { KeepsSizes self.old self.new }
+        ensures kept { IsMachine self.new }
     {
         if usize::from(mutator) != self.newer.len() {
             self.phase = Phase::Looking {
@@ -265,6 +289,7 @@ impl Machine {
         }
         apply(&mut self.counts, &self.newer, &self.older);
         self.release.start(&mut self.counts);
+        self.counts.rules();
         self.phase = after_release(&mut self.counts, &self.release);
         self.counts.rules();
         self.turns += 1;
@@ -279,8 +304,10 @@ impl Machine {
         ensures took { self.new ≡ took_at self.old word Phase.Releasing }
         ensures turn { result ≡ turn_at self.old word Phase.Releasing }
         ensures same { KeepsSizes self.old self.new }
+        ensures kept { IsMachine self.new }
     {
         self.release.took(&mut self.counts, word);
+        self.counts.rules();
         self.phase = after_release(&mut self.counts, &self.release);
         self.counts.rules();
         self.turns += 1;
@@ -295,6 +322,7 @@ impl Machine {
         ensures took { self.new ≡ took_at self.old 0 Phase.Opening }
         ensures turn { result ≡ turn_at self.old 0 Phase.Opening }
         ensures same { KeepsSizes self.old self.new }
+        ensures kept { IsMachine self.new }
     {
         self.sweep.start(&mut self.counts);
         self.phase = Phase::Sweeping { swept: 0 };
@@ -310,6 +338,7 @@ impl Machine {
         ensures took { self.new ≡ took_at self.old word (Phase.Sweeping swept) }
         ensures turn { result ≡ turn_at self.old word (Phase.Sweeping swept) }
         ensures same { KeepsSizes self.old self.new }
+        ensures kept { IsMachine self.new }
     {
         self.sweep.took(&mut self.counts, word);
         self.counts.rules();
@@ -324,6 +353,7 @@ impl Machine {
         ensures took { self.new ≡ ended_if self.old self.old.phase }
         ensures turn { result ≡ turn_if self.old self.old.phase }
         ensures same { KeepsSizes self.old self.new }
+        ensures kept { IsMachine self.new }
     {
         match self.phase {
             Phase::Closing { swept } => self.end(swept),
@@ -339,6 +369,7 @@ impl Machine {
         ensures took { self.new ≡ took_at self.old 0 (Phase.Closing swept) }
         ensures turn { result ≡ turn_at self.old 0 (Phase.Closing swept) }
         ensures same { KeepsSizes self.old self.new }
+        ensures kept { IsMachine self.new }
     {
         clear_all(&mut self.older);
         mem::swap(&mut self.older, &mut self.newer);

@@ -25,3 +25,9 @@ unfolding took_at
 invariant_of-self c =
     subst (λ (w : sweeps.Work). IsMachine (moved (with_sweep (private c.self.inside) w) (Sweeping 0))) (sym c.start.ensures.started)
     (opening_keeps (private c.self.inside) c.self.invariant (ap (λ (p : Private). p.phase) c.self.view_is ∙ c.requires.phase))
+
+pub returns-clause-kept : goal.returns-clause-kept
+unfolding took_at
+returns-clause-kept c =
+    subst (λ (w : sweeps.Work). IsMachine (moved (with_sweep (private c.self.inside) w) (Sweeping 0))) (sym c.start.ensures.started)
+    (opening_keeps (private c.self.inside) c.self.invariant (ap (λ (p : Private). p.phase) c.self.view_is ∙ c.requires.phase))

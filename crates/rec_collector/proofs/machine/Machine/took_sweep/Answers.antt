@@ -18,12 +18,20 @@ took-requires-clause-busy c =
 pub returns-clause-took : goal.returns-clause-took
 unfolding took_at
 returns-clause-took c =
-    rw c.after_slot-self.ensures (ap (λ (w : sweeps.Work). swept_one (private c.self.inside) c.args.swept w) c.took.ensures.took ∙ ap (λ (p : Private). took_at p c.args.word (Sweeping c.args.swept)) c.self.view_is)
+    rw c.after_slot-self-inside.ensures (ap (λ (w : sweeps.Work). swept_one (private c.self.inside) c.args.swept w) c.took.ensures.took ∙ ap (λ (p : Private). took_at p c.args.word (Sweeping c.args.swept)) c.self.view_is)
 
 pub invariant_of-self : goal.invariant_of-self
 unfolding took_at
 invariant_of-self c =
     let kept : IsKeptCounts (sweeps.took_of (record { due = c.self.inside.sweep; counts = c.self.inside.counts }) c.args.word).counts = subst (λ (w : sweeps.Work). IsKeptCounts w.counts) c.took.ensures.took c.rules.ensures in
-    rw c.after_slot-self.ensures
+    rw c.after_slot-self-inside.ensures
+    (subst (λ (w : sweeps.Work). IsMachine (swept_one (private c.self.inside) c.args.swept w)) (sym c.took.ensures.took)
+    (sweeping_keeps (private c.self.inside) c.args.swept c.args.word c.self.invariant (ap (λ (p : Private). p.phase) c.self.view_is ∙ c.requires.phase) kept))
+
+pub returns-clause-kept : goal.returns-clause-kept
+unfolding took_at
+returns-clause-kept c =
+    let kept : IsKeptCounts (sweeps.took_of (record { due = c.self.inside.sweep; counts = c.self.inside.counts }) c.args.word).counts = subst (λ (w : sweeps.Work). IsKeptCounts w.counts) c.took.ensures.took c.rules.ensures in
+    rw c.after_slot-self-inside.ensures
     (subst (λ (w : sweeps.Work). IsMachine (swept_one (private c.self.inside) c.args.swept w)) (sym c.took.ensures.took)
     (sweeping_keeps (private c.self.inside) c.args.swept c.args.word c.self.invariant (ap (λ (p : Private). p.phase) c.self.view_is ∙ c.requires.phase) kept))
