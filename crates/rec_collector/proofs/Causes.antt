@@ -9,7 +9,7 @@ use Rattle.rec_release.specs.Release.{Work, next_of as release_next}
 use Rattle.rec_release.specs.Sweep.{next_of as sweep_next}
 use Rattle.rec_collector.specs.Causes.{HasCause}
 use Rattle.rec_collector.specs.Given.{IsGiven, IsGivenAt}
-use Rattle.rec_collector.specs.Kept.{IsAt, IsMachine}
+use Rattle.rec_collector.specs.Kept.{IsAt, IsMachine, swept_at}
 use Rattle.rec_collector.specs.Next.{is_spent, next_at, next_of}
 use Rattle.rec_collector.specs.Private.{Private}
 use Rattle.rec_collector.specs.Took.{begun, dropped, ended, moved, released, swept_next, swept_phase, swept_turn, took_at, took_of, turn_at, turn_of, went_on, went_on_at, with_work, work_turn, work_turn_at}
@@ -20,41 +20,45 @@ use Rattle.rec_collector.specs.declared.turn.Turn.TheVariants.{Moved, Waiting, C
 use Rattle.rec_collector.proofs.Releasing.{some_next}
 use Rattle.rec_collector.proofs.Sweeping.{due_slot, now_at, under_way_at}
 
--- a release that came so far
-work_cause_at : (p : Private) (word : ℕ) (w : Work) (at : Option At) → p.collections + 1 ≤ p.epoch → HasCause p word (went_on_at p w at) (work_turn_at p.epoch w at)
-work_cause_at p word w (Some a) u = (refl, refl)
-work_cause_at p word w None u = go (dropped w.counts).free
+-- a release that came so far, in a phase that has swept nothing
+work_cause_at : (p : Private) (word : ℕ) (w : Work) (at : Option At) → p.collections + 1 ≤ p.epoch → swept_at p.phase ≡ 0 → HasCause p word (went_on_at p w at) (work_turn_at p.epoch w at)
+work_cause_at p word w (Some a) u z = (refl, refl, ap (λ n. p.freed + n) z)
+work_cause_at p word w None u z = go (dropped w.counts).free
   where
     go : (free : List ℕ) → HasCause p word (swept_next (with_work p (record w { counts = dropped w.counts })) free) (swept_turn p.epoch free)
-    go [] = (refl, omega (arith, u), refl, refl)
-    go (x ∷ free) = (refl, refl)
+    go [] = (omega (arith, u), sym z, refl, refl, refl, refl)
+    go (x ∷ free) = (refl, refl, ap (λ n. p.freed + n) z)
 
-work_cause : (p : Private) (word : ℕ) (w : Work) → p.collections + 1 ≤ p.epoch → HasCause p word (went_on p w) (work_turn p.epoch w)
+work_cause : (p : Private) (word : ℕ) (w : Work) → p.collections + 1 ≤ p.epoch → swept_at p.phase ≡ 0 → HasCause p word (went_on p w) (work_turn p.epoch w)
 unfolding went_on work_turn
-work_cause p word w u = work_cause_at p word w w.machine.at u
+work_cause p word w u z = work_cause_at p word w w.machine.at u z
 
 idle_cause : (p : Private) (word : ℕ) (b : Bool) → is_spent p ≡ b → p.phase ≡ Idle → HasCause p word (cond b p (moved (record p { epoch = p.epoch + 1 }) (Looking 1))) (cond b EpochsSpent Moved)
 idle_cause p word true e is = (is, eqb-true (p.epoch + 1) (2 ^ 24) e, refl)
-idle_cause p word false e is = (refl, refl)
+idle_cause p word false e is = (refl, refl, ap (λ f. p.freed + swept_at f) is)
 
 look_cause : (p : Private) (word t : ℕ) (b : Bool) → (word == crossing_word p.epoch 2) ≡ b → p.phase ≡ Looking t → HasCause p word (cond b (moved p (Swapping t)) p) (cond b Moved (Waiting t))
-look_cause p word t true e is = (refl, refl)
+look_cause p word t true e is = (refl, refl, ap (λ f. p.freed + swept_at f) is)
 look_cause p word t false e is = (is, (λ q. false≢true (sym e ∙ eq-eqb word (crossing_word p.epoch 2) q)), refl)
 
-return_cause : (p : Private) (word t : ℕ) (b : Bool) → p.collections + 1 ≤ p.epoch → HasCause p word (cond b (went_on p (begun p)) (moved p (Looking (t + 1)))) (cond b (work_turn p.epoch (begun p)) Moved)
-return_cause p word t true u = work_cause p word (begun p) u
-return_cause p word t false u = (refl, refl)
+return_cause : (p : Private) (word t : ℕ) (b : Bool) → p.collections + 1 ≤ p.epoch → p.phase ≡ Returning t → HasCause p word (cond b (went_on p (begun p)) (moved p (Looking (t + 1)))) (cond b (work_turn p.epoch (begun p)) Moved)
+return_cause p word t true u is = work_cause p word (begun p) u (ap swept_at is)
+return_cause p word t false u is = (refl, refl, ap (λ f. p.freed + swept_at f) is)
+
+sweep_cause : (p : Private) (n : ℕ) (due : Option ℕ) → p.phase ≡ Sweeping n → p.freed + 1 + swept_at p.phase ≡ p.freed + swept_at (swept_phase (n + 1) due)
+sweep_cause p n None is = omega (arith, ap swept_at is)
+sweep_cause p n (Some x) is = omega (arith, ap swept_at is)
 
 cause_at : (p : Private) (word : ℕ) (phase : Phase) → p.phase ≡ phase → IsMachine p → HasCause p word (took_at p word phase) (turn_at p word phase)
 unfolding took_at turn_at
 cause_at p word Idle is k = idle_cause p word (is_spent p) refl is
 cause_at p word (Looking t) is k = look_cause p word t (word == crossing_word p.epoch 2) refl is
-cause_at p word (Swapping t) is k = (refl, refl)
-cause_at p word (Returning t) is k = return_cause p word t (t == length p.newer) (under_way_at p (Returning t) k is)
-cause_at p word Releasing is k = work_cause p word (released p word) (under_way_at p Releasing k is)
-cause_at p word Opening is k = (refl, refl)
-cause_at p word (Sweeping n) is k = (refl, refl)
-cause_at p word (Closing n) is k = (refl, omega (arith, under_way_at p (Closing n) k is), refl, refl)
+cause_at p word (Swapping t) is k = (refl, refl, ap (λ f. p.freed + swept_at f) is)
+cause_at p word (Returning t) is k = return_cause p word t (t == length p.newer) (under_way_at p (Returning t) k is) is
+cause_at p word Releasing is k = work_cause p word (released p word) (under_way_at p Releasing k is) (ap swept_at is)
+cause_at p word Opening is k = (refl, refl, ap (λ f. p.freed + swept_at f) is)
+cause_at p word (Sweeping n) is k = (refl, refl, sweep_cause p n _ is)
+cause_at p word (Closing n) is k = (omega (arith, under_way_at p (Closing n) k is), sym (ap swept_at is), refl, refl, refl, refl)
 
 -- why an answer comes
 pub has_cause : (p : Private) (word : ℕ) → IsMachine p → HasCause p word (took_of p word) (turn_of p word)

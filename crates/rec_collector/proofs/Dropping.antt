@@ -5,6 +5,7 @@ use Rattle.std.proofs.Math.ListN.{get_or-map}
 use Rattle.std.proofs.lemmas.List.{get_or_past, append-nil, take_all}
 use Rattle.std.proofs.lemmas.List.Elements.{filter_more}
 use Rattle.std.proofs.lemmas.Bool.{cases_Bool, cases_lt, false≢true, cond-true, cond-false}
+use Rattle.std.proofs.lemmas.Bool.Decides.{eqb_tells}
 use Rattle.rec_counts.specs.declared.slot.Slot.{Slot}
 use Rattle.rec_counts.specs.Counts.{State, slot_at, IsKept}
 use Rattle.rec_counts.specs.Lists.{one, times}
@@ -42,6 +43,17 @@ times_filtered p x [] = omega arith
 times_filtered p x (y ∷ ys) = elim (cases_Bool (p y)) [
   | inl e ↦ let f : filter p (y ∷ ys) ≡ y ∷ filter p ys = cond-true (p y) _ _ e in omega (arith, ap (times x) f, times-cons x y ys, times-cons x y (filter p ys), times_filtered p x ys)
   | inr e ↦ let f : filter p (y ∷ ys) ≡ filter p ys = cond-false (p y) _ _ e in omega (arith, ap (times x) f, times-cons x y ys, times_filtered p x ys)
+]
+
+-- and one that passes as often
+pub times_kept : (p : ℕ → Bool) (x : ℕ) (xs : List ℕ) → p x ≡ true → times x (filter p xs) ≡ times x xs
+times_kept p x [] t = refl
+times_kept p x (y ∷ ys) t = elim (cases_Bool (p y)) [
+  | inl e ↦ let f : filter p (y ∷ ys) ≡ y ∷ filter p ys = cond-true (p y) _ _ e in omega (arith, ap (times x) f, times-cons x y ys, times-cons x y (filter p ys), times_kept p x ys t)
+  | inr e ↦
+      let f : filter p (y ∷ ys) ≡ filter p ys = cond-false (p y) _ _ e in
+      let other : one (eqb x y) ≡ 0 = elim (eqb_tells x y) [ inl q ↦ absurd (false≢true (sym e ∙ ap p (sym q.1) ∙ t)) | inr q ↦ ap one q.0 ] in
+      omega (arith, ap (times x) f, times-cons x y ys, other, times_kept p x ys t)
 ]
 
 -- nor does a front

@@ -1,26 +1,29 @@
 -- A release begins and goes on, and what follows it.
 use Rattle.std.proofs.Common.{◌≡◌, ℕ, ◌+◌, ◌*◌, ◌^◌, ◌<◌, ◌≤◌, Bool, true, false, ltb, Option, None, Some, IsSome, IsNone, List, [], ◌∷◌, ◌++◌, length, map, refl, arith, sym, ◌∙◌, ap, inl, inr, subst}
+use Rattle.std.specs.List.{concat, filter}
+use Rattle.std.proofs.Math.ListN.{get_or-map}
 use Rattle.std.proofs.lemmas.List.{length-map, length_push}
 use Rattle.std.proofs.lemmas.Bool.{cases_Bool, cases_lt, false≢true, cond-true, cond-false, lt-ltb, le-ltb}
 use Rattle.rec_word.specs.Word.{target_of}
 use Rattle.rec_counts.specs.Counts.{State, slot_at, IsKept as IsKeptCounts}
-use Rattle.rec_counts.specs.Lists.{times}
+use Rattle.rec_counts.specs.Lists.{one, times}
 use Rattle.rec_counts.specs.Rest.{KeepsRest}
-use Rattle.rec_counts.specs.Slot.{unrooted}
-use Rattle.rec_counts.proofs.Times.{length-once, times-nil}
+use Rattle.rec_counts.specs.declared.slot.Slot.{Slot}
+use Rattle.rec_counts.specs.Slot.{absent, unrooted, unrooted_if}
+use Rattle.rec_counts.proofs.Times.{length-once, times-append, times-nil}
 use Rattle.rec_release.specs.declared.at.At.{At}
 use Rattle.rec_release.specs.Release.{Machine, Work, IsAtWork, emptied, first_of, gone_on, listed_if, next_of, op_at, started_of, taken_off, took_at as took_work_at, took_of, with_next, without_first}
-use Rattle.rec_release.specs.Released.{Released, place_due}
+use Rattle.rec_release.specs.Released.{Released, is_at, place_due}
 use Rattle.rec_release.specs.Sweep.{AreUnbuffered}
 use Rattle.rec_release.proofs.Keeping.{rest_off}
 use Rattle.rec_collector.specs.After.{counts_after, ended_if, phase_after, turn_if}
-use Rattle.rec_collector.specs.Kept.{all_fields, IsAt, IsMachine, IsReleasing, IsSweeping, KeepsSizes, swept_at, under_way}
+use Rattle.rec_collector.specs.Kept.{all_fields, NoneReleased, IsAt, IsMachine, IsReleasing, IsSweeping, KeepsSizes, swept_at, under_way}
 use Rattle.rec_collector.specs.Private.{Private}
 use Rattle.rec_collector.specs.Took.{dropped, ended, moved, swept_next, swept_turn, went_on, went_on_at, with_work, work_turn, work_turn_at}
 use Rattle.rec_collector.specs.declared.phase.Phase.{Phase}
 use Rattle.rec_collector.specs.declared.phase.Phase.TheVariants.{Returning, Releasing, Opening, Closing}
 use Rattle.rec_collector.specs.declared.turn.Turn.{Turn}
-use Rattle.rec_collector.proofs.Dropping.{dropped_unbuffered}
+use Rattle.rec_collector.proofs.Dropping.{dropped_unbuffered, is_released, times_kept}
 use Rattle.rec_collector.proofs.Limits.{few_words}
 use Rattle.rec_collector.proofs.Sweeping.{now_at, under_way_at, freed_at}
 
@@ -62,6 +65,7 @@ pub record HasCome (p : Private) (w : Work) : Type 0 where
   pub slots : List ℕ
   pub released : Released w.machine.fields before w.machine.at w.counts words places slots
   pub before_free : before.free ≡ []
+  pub before_none : NoneReleased before
   pub before_many : length before.slots ≡ length w.counts.slots
   pub kept : IsAtWork w.machine w.counts
   pub turns : p.turns ≡ 2 * length p.newer + length words
@@ -97,6 +101,7 @@ began_comes p t s m u k e last rest started kept many done whole =
       slots = whole.0;
       released = whole.1;
       before_free = rest.free ∙ a.rest.free;
+      before_none = λ x l. rest.released x ∙ a.rest.none x (omega (arith, l, rest.slots));
       before_many = sym many;
       kept = kept;
       turns = omega (arith, a.turns, last);
@@ -123,6 +128,7 @@ gone_comes p word m u k e took kept many done whole =
       slots = r.0;
       released = r.1;
       before_free = a.before_free;
+      before_none = a.before_none;
       before_many = a.many ∙ sym many;
       kept = kept;
       turns = omega (arith, a.turns, length_push a.words word);
@@ -140,6 +146,31 @@ landed_at p w at free = moved (record p { counts = counts_after w.counts at; rel
 abbrev pub landed : Private → Work → Private
 landed p w = landed_at p w w.machine.at (counts_after w.counts w.machine.at).free
 
+-- then every released slot is in the free list: it was emptied in no buffer, or the root buffer has dropped it
+all_listed : (p : Private) (w : Work) → HasCome p w → w.machine.at ≡ None → IsKeptCounts w.counts → (x : ℕ) → x < length w.counts.slots → (slot_at w.counts x).released ≡ true → 0 < times x (dropped w.counts).free
+all_listed p w h e k x l t =
+    let s : State = w.counts in
+    let free : times x (dropped s).free ≡ times x s.free + times x (filter (is_released s) s.roots) = times-append x s.free (filter (is_released s) s.roots) in
+    let was : one (slot_at h.before x).released ≡ 0 = ap one (h.before_none x (omega (arith, l, h.before_many))) in
+    let is : one (slot_at s x).released ≡ 1 = ap one t in
+    let gone : 0 < times x h.slots = omega (arith, was, is, h.released.released x) in
+    elim (cases_Bool (slot_at s x).buffered) [
+      | inl b ↦
+          let in_sets : times x (concat s.sets) ≡ 0 = ap (λ (sets : List (List ℕ)). times x (concat sets)) h.sets ∙ times-nil x in
+          let buffered : one (slot_at s x).buffered ≡ 1 = ap one b in
+          omega (arith, free, times_kept (is_released s) x s.roots t, k.buffers x, in_sets, buffered)
+      | inr b ↦
+          let none : one (is_at x w.machine.at) ≡ 0 = ap (λ (o : Option At). one (is_at x o)) e in
+          omega (arith, free, gone, none, h.released.free x b, ap (times x) h.before_free, times-nil x)
+    ]
+
+dropped_released : (s : State) (x : ℕ) → (slot_at (dropped s) x).released ≡ (slot_at s x).released
+dropped_released s x = ap (λ (v : Slot). v.released) (get_or-map unrooted s.slots x absent) ∙ go (slot_at s x) (slot_at s x).set
+  where
+    go : (v : Slot) (set : Option ℕ) → (unrooted_if set v).released ≡ v.released
+    go v None = refl
+    go v (Some n) = refl
+
 -- a sweep follows, or has ended
 sweep_follows : (p : Private) (w : Work) (phase : Phase) → IsMachine p → HasCome p w → w.machine.at ≡ None → IsKeptCounts w.counts → IsKeptCounts (dropped w.counts)
     → (made : ℕ) → IsSweeping (moved (record p { counts = dropped w.counts; release = w.machine }) phase) 0 made
@@ -149,6 +180,7 @@ sweep_follows p w phase k h e c d made =
       zeros = h.done e;
       roots = refl;
       still = e;
+      listed = λ x l t. all_listed p w h e c x (omega (arith, l, many)) (sym (dropped_released w.counts x) ∙ t);
       unbuffered = dropped_unbuffered w.counts c h.sets;
       left = omega (arith, length-once (length (dropped w.counts).slots) (dropped w.counts).free d.free_once);
       turns = omega (
@@ -181,6 +213,7 @@ landed_keeps_at p w k h c under freed (Some a) free e f d = record {
     slots = h.slots;
     released = h.released;
     before_free = h.before_free;
+    before_none = h.before_none;
     many = h.before_many;
     kept = h.kept;
     busy = subst (λ (o : Option At). IsSome o) (sym e) refl;

@@ -1,14 +1,18 @@
 -- A sweep goes on, and a collection ends.
-use Rattle.std.proofs.Common.{◌≡◌, ℕ, ◌+◌, ◌*◌, ◌^◌, ◌<◌, ◌≤◌, Option, None, Some, IsSome, IsNone, List, [], ◌∷◌, length, map, drop, slice_get, refl, arith, sym, ◌∙◌, ap, subst}
-use Rattle.std.proofs.lemmas.List.{length-set, length-map}
+use Rattle.std.proofs.Common.{◌≡◌, ℕ, ◌+◌, ◌*◌, ◌^◌, ◌<◌, ◌≤◌, true, false, eqb, inl, inr, Option, None, Some, IsSome, IsNone, List, [], ◌∷◌, length, map, drop, slice_get, refl, arith, sym, ◌∙◌, ap, subst}
+use Rattle.std.proofs.lemmas.List.{length-set, length-map, get_or-set_same, get_or-set_other}
+use Rattle.std.proofs.lemmas.Bool.{cases_Bool, false≢true}
+use Rattle.std.proofs.lemmas.Bool.Decides.{eqb_tells}
+use Rattle.rec_counts.specs.declared.slot.Slot.{Slot}
+use Rattle.rec_counts.specs.Lists.{one, times}
 use Rattle.rec_counts.specs.Counts.{State, slot_at, IsKept as IsKeptCounts}
-use Rattle.rec_counts.specs.Slot.{swept_clean}
-use Rattle.rec_counts.proofs.Times.{length-once}
+use Rattle.rec_counts.specs.Slot.{absent, swept_clean}
+use Rattle.rec_counts.proofs.Times.{times-cons, times-nil}
 use Rattle.rec_release.specs.Sweep as sweeps
 use Rattle.rec_release.specs.Sweep.{AreUnbuffered, swept, took_of, started_of, next_of}
 use Rattle.rec_release.proofs.Sweeping.{unbuffered_swept}
 use Rattle.rec_collector.specs.Private.{Private}
-use Rattle.rec_collector.specs.Kept.{IsAt, IsMachine, IsSweeping, KeepsSizes, swept_at, under_way}
+use Rattle.rec_collector.specs.Kept.{IsAt, IsMachine, NoneReleased, IsSweeping, KeepsSizes, swept_at, under_way}
 use Rattle.rec_collector.specs.Took.{cleared, ended, moved, swept_phase, swept_one, with_sweep, took_at}
 use Rattle.rec_collector.specs.declared.phase.Phase.{Phase}
 use Rattle.rec_collector.specs.declared.phase.Phase.TheVariants.{Idle, Opening, Sweeping, Closing}
@@ -43,13 +47,30 @@ opening_keeps p k e =
       older = k.older;
       sets = k.sets;
       counts = k.counts;
-      now = (record { zeros = a.0.zeros; roots = a.0.roots; still = a.0.still; unbuffered = a.0.unbuffered; left = a.0.left; turns = omega (arith, a.0.turns) }, a.1, refl);
+      now = (record { zeros = a.0.zeros; roots = a.0.roots; still = a.0.still; listed = a.0.listed; unbuffered = a.0.unbuffered; left = a.0.left; turns = omega (arith, a.0.turns) }, a.1, refl);
     }
 
+first_gone : (free : List ℕ) (x y : ℕ) → slice_get free 0 ≡ Some x → times y free ≡ one (eqb y x) + times y (drop 1 free)
+first_gone [] x y e = cc
+first_gone (z ∷ zs) x y e = let q : z ≡ x = cc in times-cons y z zs ∙ ap (λ n. one (eqb y n) + times y zs) q
+
+-- a swept slot is not released, and every other released slot is in the free list still
+swept_listed : (s : State) (x : ℕ) → slice_get s.free 0 ≡ Some x → ((y : ℕ) → y < length s.slots → (slot_at s y).released ≡ true → 0 < times y s.free)
+    → (y : ℕ) → y < length (swept s x).slots → (slot_at (swept s x) y).released ≡ true → 0 < times y (drop 1 s.free)
+swept_listed s x first k y l t = elim (eqb_tells y x) [
+  | inl q ↦
+      let there : x < length s.slots = omega (arith, l, q.1, length-set s.slots x (swept_clean (slot_at s x))) in
+      absurd (false≢true (sym (ap (λ z. (slot_at (swept s x) z).released) q.1 ∙ ap (λ (v : Slot). v.released) (get_or-set_same s.slots x (swept_clean (slot_at s x)) absent there)) ∙ t))
+  | inr q ↦
+      let other : one (eqb y x) ≡ 0 = ap one q.0 in
+      let was : (slot_at s y).released ≡ true = sym (ap (λ (v : Slot). v.released) (get_or-set_other s.slots x y (swept_clean (slot_at s x)) absent q.1)) ∙ t in
+      omega (arith, other, first_gone s.free x y first, k y (omega (arith, l, length-set s.slots x (swept_clean (slot_at s x)))) was)
+]
+
 -- a slot more is swept
-swept_keeps_on : (p : Private) (n x : ℕ) (r : List ℕ) → IsMachine p → p.phase ≡ Sweeping n → drop 1 p.counts.free ≡ r → length p.counts.free ≡ length r + 1
+swept_keeps_on : (p : Private) (n x : ℕ) (r : List ℕ) → IsMachine p → p.phase ≡ Sweeping n → slice_get p.counts.free 0 ≡ Some x → drop 1 p.counts.free ≡ r → length p.counts.free ≡ length r + 1
     → IsKeptCounts (swept p.counts x) → IsMachine (moved (record p { counts = swept p.counts x; due = slice_get r 0; freed = p.freed + 1 }) (swept_phase (n + 1) (slice_get r 0)))
-swept_keeps_on p n x [] k e left len s =
+swept_keeps_on p n x [] k e first left len s =
     let a : IsAt p (Sweeping n) = now_at p (Sweeping n) k e in
     let many : length (swept p.counts x).slots ≡ length p.counts.slots = length-set p.counts.slots x (swept_clean (slot_at p.counts x)) in
     let d : p.freed ≤ 2 ^ 16 * p.collections + n = freed_at p (Sweeping n) k e in
@@ -71,6 +92,7 @@ swept_keeps_on p n x [] k e left len s =
           zeros = a.0.zeros;
           roots = a.0.roots;
           still = a.0.still;
+          listed = swept_listed p.counts x first a.0.listed;
           unbuffered = unbuffered_swept p.counts x a.0.unbuffered;
           left = omega (arith, a.0.left, len, many, ap length left);
           turns = omega (arith, a.0.turns, ap (λ m. m * p.release.fields) many);
@@ -79,7 +101,7 @@ swept_keeps_on p n x [] k e left len s =
         refl,
       );
     }
-swept_keeps_on p n x (y ∷ ys) k e left len s =
+swept_keeps_on p n x (y ∷ ys) k e first left len s =
     let a : IsAt p (Sweeping n) = now_at p (Sweeping n) k e in
     let many : length (swept p.counts x).slots ≡ length p.counts.slots = length-set p.counts.slots x (swept_clean (slot_at p.counts x)) in
     let d : p.freed ≤ 2 ^ 16 * p.collections + n = freed_at p (Sweeping n) k e in
@@ -101,6 +123,7 @@ swept_keeps_on p n x (y ∷ ys) k e left len s =
           zeros = a.0.zeros;
           roots = a.0.roots;
           still = a.0.still;
+          listed = swept_listed p.counts x first a.0.listed;
           unbuffered = unbuffered_swept p.counts x a.0.unbuffered;
           left = omega (arith, a.0.left, len, many, ap length left);
           turns = omega (arith, a.0.turns, ap (λ m. m * p.release.fields) many);
@@ -127,7 +150,7 @@ sweeping_keeps p n word k e s = go p.counts.free refl
         let w : took_of (record { due = p.due; counts = p.counts }) word ≡ record { due = slice_get (drop 1 p.counts.free) 0; counts = swept p.counts x } = ap (λ o. sweeps.took_at (record { due = o; counts = p.counts }) o) d in
         let t : IsKeptCounts (swept p.counts x) = subst (λ (v : sweeps.Work). IsKeptCounts v.counts) w s in
         let r : drop 1 p.counts.free ≡ rest = ap (drop 1) f in
-        subst (λ (v : sweeps.Work). IsMachine (swept_one p n v)) (sym w) (swept_keeps_on p n x (drop 1 p.counts.free) k e refl (omega (arith, ap length f, ap length r)) t)
+        subst (λ (v : sweeps.Work). IsMachine (swept_one p n v)) (sym w) (swept_keeps_on p n x (drop 1 p.counts.free) k e (ap (λ xs. slice_get xs 0) f) refl (omega (arith, ap length f, ap length r)) t)
 
 -- the number of slots stays
 pub sweeping_slots : (p : Private) (n word : ℕ) → KeepsSizes p (took_at p word (Sweeping n))
@@ -137,6 +160,13 @@ sweeping_slots p n word = record { slots = go p.due; fields = refl; registers = 
     go : (due : Option ℕ) → length (sweeps.took_at (record { due = p.due; counts = p.counts }) due).counts.slots ≡ length p.counts.slots
     go None = refl
     go (Some x) = length-set p.counts.slots x (swept_clean (slot_at p.counts x))
+
+-- with an empty free list no slot is released
+none_left : (s : State) → s.free ≡ [] → ((y : ℕ) → y < length s.slots → (slot_at s y).released ≡ true → 0 < times y s.free) → NoneReleased s
+none_left s f k = λ y l. elim (cases_Bool (slot_at s y).released) [
+  | inl t ↦ absurd (omega (arith, k y l t, ap (times y) f, times-nil y))
+  | inr t ↦ t
+]
 
 -- the collection is complete
 pub ended_keeps : (p : Private) (n : ℕ) → IsMachine p → p.phase ≡ Closing n → IsMachine (ended p)
@@ -157,7 +187,7 @@ ended_keeps p n k e =
       older = k.newer;
       sets = k.sets;
       counts = k.counts;
-      now = (record { zeros = a.0.zeros; roots = a.0.roots; free = a.1; still = a.0.still; due = a.2 }, cleared_spares p 0 k.older, refl);
+      now = (record { zeros = a.0.zeros; roots = a.0.roots; none = none_left p.counts a.1 a.0.listed; free = a.1; still = a.0.still; due = a.2 }, cleared_spares p 0 k.older, refl);
     }
 
 pub ended_sizes : (p : Private) → IsMachine p → KeepsSizes p (ended p)

@@ -1,7 +1,8 @@
 -- What every machine keeps, by phase.
-use Rattle.std.specs.Prelude.{◌≡◌, ℕ, ◌+◌, ◌-◌, ◌*◌, ◌^◌, ◌<◌, ◌≤◌, Option, None, Some, IsSome, List, [], length, slice_get}
+use Rattle.std.specs.Prelude.{◌≡◌, ℕ, ◌+◌, ◌-◌, ◌*◌, ◌^◌, ◌<◌, ◌≤◌, true, false, Option, None, Some, IsSome, List, [], length, slice_get}
 use Rattle.rec_log.specs.declared.contents.Contents.{Contents}
-use Rattle.rec_counts.specs.Counts.{State, IsKept as IsKeptCounts}
+use Rattle.rec_counts.specs.Counts.{State, slot_at, IsKept as IsKeptCounts}
+use Rattle.rec_counts.specs.Lists.{times}
 use Rattle.rec_release.specs.Release.{IsAtWork}
 use Rattle.rec_release.specs.Released.{Released}
 use Rattle.rec_release.specs.Sweep.{AreUnbuffered}
@@ -26,8 +27,13 @@ AreSized p buffers = (place : ℕ) → place < length buffers → IsSized p.regi
 abbrev pub AreSpare : Private → (place : ℕ) → Type 0
 AreSpare p from = (place : ℕ) → from ≤ place → place < length p.newer → buffer_at p.newer place ≡ spare p
 
+-- no slot is released
+abbrev pub NoneReleased : State → Type 0
+NoneReleased s = (x : ℕ) → x < length s.slots → (slot_at s x).released ≡ false
+
 -- nothing is to be released, dropped or swept
 pub record IsAtRest (p : Private) : Type 0 where
+  pub none : NoneReleased p.counts
   pub zeros : p.counts.zeros ≡ []
   pub roots : p.counts.roots ≡ []
   pub free : p.counts.free ≡ []
@@ -51,17 +57,20 @@ pub record IsReleasing (p : Private) : Type 0 where
   pub slots : List ℕ
   pub released : Released p.release.fields before p.release.at p.counts words places slots
   pub before_free : before.free ≡ []
+  pub before_none : NoneReleased before
   pub many : length before.slots ≡ length p.counts.slots
   pub kept : IsAtWork p.release p.counts
   pub busy : IsSome p.release.at
   pub turns : p.turns ≡ 1 + 2 * length p.newer + length words
   pub due : p.due ≡ None
 
--- Nothing is left to release or to drop. No slot of the free list is buffered; so many were swept, and the others are left.
+-- Nothing is left to release or to drop. Every released slot is in the free list, and no slot of it is buffered; so many were
+-- swept, and the others are left.
 pub record IsSweeping (p : Private) (swept made : ℕ) : Type 0 where
   pub zeros : p.counts.zeros ≡ []
   pub roots : p.counts.roots ≡ []
   pub still : p.release.at ≡ None
+  pub listed : (x : ℕ) → x < length p.counts.slots → (slot_at p.counts x).released ≡ true → 0 < times x p.counts.free
   pub unbuffered : AreUnbuffered p.counts
   pub left : swept + length p.counts.free ≤ length p.counts.slots
   pub turns : p.turns ≤ 1 + 2 * length p.newer + all_fields p + made

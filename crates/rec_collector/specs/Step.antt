@@ -1,8 +1,8 @@
 -- What a step of the collector may be: the rules of its phases.
-use Rattle.std.specs.Prelude.{◌≡◌, ◌≢◌, ℕ, ◌+◌, ◌-◌, ◌^◌, Option, None, Some, [], length, map, slice_set}
+use Rattle.std.specs.Prelude.{◌≡◌, ◌≢◌, ℕ, ◌+◌, ◌-◌, ◌*◌, ◌^◌, ◌<◌, ◌≤◌, Option, None, Some, [], length, map, slice_set}
 use Rattle.rec_word.specs.Op.{crossing_word}
 use Rattle.rec_word.specs.declared.op.Op.{Op}
-use Rattle.rec_word.specs.declared.op.Op.TheVariants.{StoreEpoch, LookBox, ReturnBox, FreeHeader, AddFreed}
+use Rattle.rec_word.specs.declared.op.Op.TheVariants.{StoreEpoch, LookBox, ReturnBox, ClearField, FreeHeader, AddFreed}
 use Rattle.rec_log.specs.declared.contents.Contents.{Contents}
 use Rattle.rec_counts.specs.Counts.{State}
 use Rattle.rec_apply.specs.Batch.{batch}
@@ -68,3 +68,13 @@ pub data Step (p : Private) (word : ℕ) (box : Contents) (op : Option Op) (q : 
 abbrev pub IsBetween : Phase → Type 0
 IsBetween (Swapping t) = ⊥
 IsBetween _ = Unit {0}
+
+-- the operation names a word of a heap with so many slots, fields and mutators, and no epoch but one that a word can hold
+abbrev pub NamesWord : (slots fields mutators : ℕ) → Op → Type 0
+NamesWord slots fields mutators (StoreEpoch e) = e < 2 ^ 24
+NamesWord slots fields mutators (LookBox t e) = (0 < t) × (t ≤ mutators) × (e < 2 ^ 24)
+NamesWord slots fields mutators (ReturnBox t e) = (0 < t) × (t ≤ mutators) × (e < 2 ^ 24)
+NamesWord slots fields mutators (ClearField place) = place < slots * fields
+NamesWord slots fields mutators (FreeHeader slot) = slot < slots
+NamesWord slots fields mutators AddFreed = Unit {0}
+NamesWord slots fields mutators _ = ⊥

@@ -19,8 +19,10 @@ mod laws;
 mod machine;
 mod phase;
 mod roots;
+#[cfg(test)]
+mod tests;
 mod turn;
 
-pub use laws::machine_makes_steps;
+pub use laws::{machine_makes_steps, machine_names_words};
 pub use machine::Machine;
 pub use turn::Turn;
