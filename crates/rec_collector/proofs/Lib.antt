@@ -1,0 +1,9 @@
+pub mod Causes
+pub mod Dropping
+pub mod Limits
+pub mod Opening
+pub mod Releasing
+pub mod Rows
+pub mod Steps
+pub mod Sweeping
+pub mod Words

@@ -1,0 +1,47 @@
+-- A machine as it is opened.
+use Rattle.std.proofs.Common.{◌≡◌, ℕ, ◌+◌, ◌-◌, ◌*◌, ◌^◌, ◌<◌, ◌≤◌, false, Option, None, Some, List, ◌∷◌, length, replicate, get_or, refl, arith, sym, ap, ◌∙◌, inl, inr}
+use Rattle.std.proofs.lemmas.Bool.{cases_eq}
+use Rattle.std.proofs.lemmas.List.{get_or-replicate, get_or-set_same, get_or-set_other, length-replicate, length-set}
+use Rattle.rec_counts.specs.declared.slot.Slot.{Slot}
+use Rattle.rec_counts.specs.Counts.{opened as opened_counts, slot_at, IsKept as IsKeptCounts}
+use Rattle.rec_counts.specs.Slot.{absent, fresh}
+use Rattle.rec_collector.specs.Kept.{AreSpare, IsMachine, NoneReleased}
+use Rattle.rec_collector.specs.Private.{Private, blank, first_registers, opened, retired}
+use Rattle.rec_collector.proofs.Rows.{row_sized}
+
+-- no slot is released
+opened_none : (slots first : ℕ) → NoneReleased (opened_counts slots first)
+opened_none slots first = λ x l.
+    let n : length (replicate slots fresh) ≡ slots = length-replicate slots fresh in
+    let there : x < slots = omega (arith, l, n, length-set (replicate slots fresh) 0 (record fresh { count = first })) in
+    elim (cases_eq x 0) [
+      | inl q ↦ ap (λ z. (slot_at (opened_counts slots first) z).released) q ∙ ap (λ (v : Slot). v.released) (get_or-set_same (replicate slots fresh) 0 (record fresh { count = first }) absent (omega (arith, there, n)))
+      | inr q ↦ ap (λ (v : Slot). v.released) (get_or-set_other (replicate slots fresh) 0 x (record fresh { count = first }) absent q ∙ get_or-replicate slots x fresh absent there)
+    ]
+
+-- the newer buffers are spares
+opened_spares : (slots fields registers mutators capacity epoch : ℕ) → AreSpare (opened slots fields registers mutators capacity epoch) 0
+opened_spares slots fields registers mutators capacity epoch = λ i f l.
+    get_or-replicate mutators i (blank registers capacity) (blank 0 0) (omega (arith, l, length-replicate mutators (blank registers capacity)))
+
+pub opened_keeps : (slots fields registers mutators capacity epoch : ℕ) → 0 < fields → fields < 2 ^ 8 → 0 < registers → 0 < mutators → mutators < 2 ^ 8 → epoch < 2 ^ 24
+    → IsKeptCounts (opened_counts slots mutators) → IsMachine (opened slots fields registers mutators capacity epoch)
+opened_keeps slots fields registers mutators capacity epoch f few r m small e k =
+    let p : Private = opened slots fields registers mutators capacity epoch in
+    let newer : length (replicate mutators (blank registers capacity)) ≡ mutators = length-replicate mutators (blank registers capacity) in
+    let older : length (replicate mutators (retired (first_registers registers) capacity)) ≡ mutators = length-replicate mutators (retired (first_registers registers) capacity) in
+    record {
+      epoch = e;
+      collections = omega arith;
+      freed = omega arith;
+      fields = f;
+      few_fields = few;
+      mutators = omega (arith, m, newer);
+      few = omega (arith, small, newer);
+      both = older ∙ sym newer;
+      newer = row_sized p mutators (blank registers capacity) (length-replicate registers None, refl);
+      older = row_sized p mutators (retired (first_registers registers) capacity) (omega (arith, r, length-replicate {A = Option ℕ} (registers - 1) None), refl);
+      sets = refl;
+      counts = k;
+      now = (record { none = opened_none slots mutators; zeros = refl; roots = refl; free = refl; still = refl; due = refl }, opened_spares slots fields registers mutators capacity epoch, refl);
+    }

@@ -1,0 +1,60 @@
+-- Rows of buffers.
+use Rattle.std.proofs.Common.{◌≡◌, ℕ, suc, zero, ◌+◌, ◌-◌, ◌<◌, ◌≤◌, None, Some, List, [], ◌∷◌, ◌++◌, length, map, take, drop, get_or, set, replicate, refl, arith, sym, ◌∙◌, ap}
+use Rattle.std.proofs.lemmas.List.{get_or-map, get_or-replicate, length-map, length-replicate}
+use Rattle.rec_log.specs.declared.contents.Contents.{Contents}
+use Rattle.rec_collector.specs.Given.{IsSized}
+use Rattle.rec_collector.specs.Kept.{AreSized, AreSpare}
+use Rattle.rec_collector.specs.Private.{Private, blank, first_registers, retired, spare, buffer_at}
+use Rattle.rec_collector.specs.Took.{cleared, ended}
+
+-- one more of the same
+pub replicate_more : {A : Type 0} (n : ℕ) (a : A) → replicate (n + 1) a ≡ replicate n a ++ a ∷ []
+replicate_more n a = let e : n + 1 ≡ suc n = omega arith in ap (λ m. replicate m a) e ∙ go n
+  where
+    go : (m : ℕ) → replicate (suc m) a ≡ replicate m a ++ a ∷ []
+    go zero = refl
+    go (suc m) = ap (λ xs. a ∷ xs) (go m)
+
+-- the first of these are cleared
+abbrev pub cleared_to : List Contents → ℕ → List Contents
+cleared_to bs i = map cleared (take i bs) ++ drop i bs
+
+cleared_next : (bs : List Contents) (i : ℕ) (d : Contents) → i < length bs → set (cleared_to bs i) i (cleared (get_or (cleared_to bs i) i d)) ≡ cleared_to bs (suc i)
+cleared_next [] i d l = absurd (omega (arith, l))
+cleared_next (b ∷ bs) zero d l = refl
+cleared_next (b ∷ bs) (suc i) d l = ap (λ xs. cleared b ∷ xs) (cleared_next bs i d (omega (arith, l)))
+
+pub cleared_more : (bs : List Contents) (i : ℕ) (d : Contents) → i < length bs → set (cleared_to bs i) i (cleared (get_or (cleared_to bs i) i d)) ≡ cleared_to bs (i + 1)
+cleared_more bs i d l = let e : suc i ≡ i + 1 = omega arith in cleared_next bs i d l ∙ ap (cleared_to bs) e
+
+pub cleared_all : (bs : List Contents) (i : ℕ) → length bs ≤ i → cleared_to bs i ≡ map cleared bs
+cleared_all [] zero l = refl
+cleared_all [] (suc i) l = refl
+cleared_all (b ∷ bs) zero l = absurd (omega (arith, l))
+cleared_all (b ∷ bs) (suc i) l = ap (λ xs. cleared b ∷ xs) (cleared_all bs i (omega (arith, l)))
+
+-- a buffer that is cleared is as large, and is a spare
+cleared_spare : (p : Private) (b : Contents) → IsSized p.registers p.capacity b → cleared b ≡ spare p
+cleared_spare p b h = rw (h.0, h.1) refl
+
+pub cleared_sized : (p : Private) (bs : List Contents) → AreSized p bs → AreSized p (map cleared bs)
+cleared_sized p bs k = λ i l.
+    let m : i < length bs = omega (arith, l, length-map bs cleared) in
+    let e : buffer_at (map cleared bs) i ≡ spare p = get_or-map cleared bs i (blank 0 0) (blank 0 0) m ∙ cleared_spare p (buffer_at bs i) (k i m) in
+    (ap (λ (b : Contents). length b.snapshot) e ∙ length-replicate p.registers _, ap (λ (b : Contents). b.capacity) e)
+
+pub cleared_spares : (p : Private) (from : ℕ) → AreSized p p.older → AreSpare (ended p) from
+cleared_spares p from k = λ i f l.
+    let m : i < length p.older = omega (arith, l, length-map p.older cleared) in
+    get_or-map cleared p.older i (blank 0 0) (blank 0 0) m ∙ cleared_spare p (buffer_at p.older i) (k i m)
+
+-- each of a row that was opened
+pub row_sized : (p : Private) (n : ℕ) (b : Contents) → IsSized p.registers p.capacity b → AreSized p (replicate n b)
+row_sized p n b k = λ i l.
+    let e : buffer_at (replicate n b) i ≡ b = get_or-replicate n i b (blank 0 0) (omega (arith, l, length-replicate n b)) in
+    (ap (λ (c : Contents). length c.snapshot) e ∙ k.0, ap (λ (c : Contents). c.capacity) e ∙ k.1)
+
+-- register 0 is set in a row of null registers
+pub first_row : (n : ℕ) → 0 < n → set (replicate n None) 0 (Some 0) ≡ first_registers n
+first_row zero l = absurd (omega (arith, l))
+first_row (suc n) l = let e : n ≡ suc n - 1 = omega arith in ap (λ m. Some 0 ∷ replicate m None) e

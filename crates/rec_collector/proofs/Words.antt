@@ -1,0 +1,60 @@
+-- What comes next names a word of the heap.
+use Rattle.std.proofs.Common.{◌≡◌, ℕ, ◌+◌, ◌*◌, ◌^◌, ◌<◌, ◌≤◌, Bool, true, false, cond, Option, None, Some, IfSome, List, length, slice_get, arith, refl, sym, ap, ◌∙◌, subst, inl, inr}
+use Rattle.std.proofs.Math.Nat.{mul-le-mul}
+use Rattle.std.proofs.lemmas.Bool.{cases_eq, cond-true, cond-false, eq-eqb, ne_eqb}
+use Rattle.rec_word.specs.Place.{place_of}
+use Rattle.rec_word.specs.declared.op.Op.{Op}
+use Rattle.rec_word.specs.declared.op.Op.TheVariants.{StoreEpoch}
+use Rattle.rec_counts.specs.Counts.{State, IsKept}
+use Rattle.rec_counts.proofs.Times.{in_range_once}
+use Rattle.rec_release.specs.declared.at.At.{At}
+use Rattle.rec_release.specs.Release.{IsAtWork, IsHeld, Machine, next_of as release_next, op_at}
+use Rattle.rec_release.specs.Sweep.{next_of as sweep_next}
+use Rattle.rec_release.proofs.Sweeping.{first_in}
+use Rattle.rec_collector.specs.Kept.{IsAt, IsMachine}
+use Rattle.rec_collector.specs.Next.{is_spent, next_at, next_of}
+use Rattle.rec_collector.specs.Private.{Private}
+use Rattle.rec_collector.specs.Step.{NamesWord}
+use Rattle.rec_collector.specs.declared.phase.Phase.{Phase}
+use Rattle.rec_collector.specs.declared.phase.Phase.TheVariants.{Idle, Looking, Swapping, Returning, Releasing, Opening, Sweeping, Closing}
+use Rattle.rec_collector.proofs.Sweeping.{now_at}
+
+-- a field of a slot that is there
+place_there : (slots fields slot field : ℕ) → slot < slots → field < fields → place_of slot field fields < slots * fields
+place_there slots fields slot field s f =
+    let m : (slot + 1) * fields ≤ slots * fields = mul-le-mul {n₁ = slot + 1} {m₁ = fields} {n₂ = slots} {m₂ = fields} (omega (arith, s)) (omega arith) in
+    omega (arith, m, f)
+
+release_names : (m : Machine) (s : State) (mutators : ℕ) → IsAtWork m s → IfSome (release_next m) (NamesWord (length s.slots) m.fields mutators)
+unfolding release_next
+release_names m s mutators k = go m.at k.field k.held
+  where
+    go : (at : Option At) → IfSome at (λ (a : At). a.field < m.fields) → IfSome at (IsHeld s) → IfSome (op_at m.fields at) (NamesWord (length s.slots) m.fields mutators)
+    go None f h = tt
+    go (Some a) f h = place_there (length s.slots) m.fields a.slot a.field h.in_range f
+
+sweep_names : (s : State) (due : Option ℕ) (fields mutators : ℕ) → IsKept s → due ≡ slice_get s.free 0 → IfSome (sweep_next due) (NamesWord (length s.slots) fields mutators)
+unfolding sweep_next
+sweep_names s None fields mutators k e = tt
+sweep_names s (Some x) fields mutators k e = in_range_once (length s.slots) s.free x k.free_once (first_in s.free x (sym e))
+
+names_at : (p : Private) (phase : Phase) → IsMachine p → p.phase ≡ phase → IfSome (next_at p phase) (NamesWord (length p.counts.slots) p.release.fields (length p.newer))
+unfolding next_at
+names_at p Idle k e = elim (cases_eq (p.epoch + 1) (2 ^ 24)) [
+  | inl q ↦ subst (λ (o : Option Op). IfSome o (NamesWord (length p.counts.slots) p.release.fields (length p.newer))) (sym (cond-true (is_spent p) None (Some (StoreEpoch (p.epoch + 1))) (eq-eqb (p.epoch + 1) (2 ^ 24) q))) tt
+  | inr q ↦
+      subst (λ (o : Option Op). IfSome o (NamesWord (length p.counts.slots) p.release.fields (length p.newer))) (sym (cond-false (is_spent p) None (Some (StoreEpoch (p.epoch + 1))) (ne_eqb (p.epoch + 1) (2 ^ 24) q)))
+      (omega (arith, q, k.epoch))
+]
+names_at p (Looking t) k e = let a : IsAt p (Looking t) = now_at p (Looking t) k e in (a.first, a.there, k.epoch)
+names_at p (Swapping t) k e = let a : IsAt p (Swapping t) = now_at p (Swapping t) k e in (a.first, a.there, k.epoch)
+names_at p (Returning t) k e = let a : IsAt p (Returning t) = now_at p (Returning t) k e in (a.first, a.there, k.epoch)
+names_at p Releasing k e = release_names p.release p.counts (length p.newer) (now_at p Releasing k e).kept
+names_at p Opening k e = tt
+names_at p (Sweeping n) k e = sweep_names p.counts p.due p.release.fields (length p.newer) k.counts (now_at p (Sweeping n) k e).2
+names_at p (Closing n) k e = tt
+
+-- in every state
+pub names_word : (p : Private) → IsMachine p → IfSome (next_of p) (NamesWord (length p.counts.slots) p.release.fields (length p.newer))
+unfolding next_of
+names_word p k = names_at p p.phase k refl

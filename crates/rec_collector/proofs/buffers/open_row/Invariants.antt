@@ -1,0 +1,6 @@
+use Rattle.std.proofs.Common.{◌≡◌, replicate}
+use Rattle.rec_collector.specs.Private.{retired}
+use Rattle.rec_collector.proofs.buffers.open_row.Given as goal
+
+abbrev pub invariant-loop : goal.invariant-loop
+invariant-loop l = l.row.items ≡ replicate l.counter (retired l.frame l.capacity)

@@ -1,0 +1,5 @@
+use Rattle.rec_collector.proofs.Words.{names_word}
+use Rattle.rec_collector.proofs.laws.machine_names_words.Goals as goal
+
+pub returns : goal.returns
+returns c = names_word

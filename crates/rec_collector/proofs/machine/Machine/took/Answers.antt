@@ -1,0 +1,26 @@
+use Rattle.std.proofs.Common.{◌≡◌, ◌≢◌, ℕ, sym, ap, subst, ◌∙◌}
+use Rattle.rec_word.specs.Op.{crossing_word}
+use Rattle.rec_collector.specs.Causes.{HasCause}
+use Rattle.rec_collector.specs.Kept.{IsMachine}
+use Rattle.rec_collector.specs.Private.{Private}
+use Rattle.rec_collector.specs.Took.{took_of, turn_of}
+use Rattle.rec_collector.specs.declared.turn.Turn.{Turn}
+use Rattle.rec_collector.proofs.Causes.{has_cause, waits, spends}
+use Rattle.rec_collector.proofs.Limits.{within_limit}
+use Rattle.rec_collector.proofs.machine.Machine.took.Goals as goal
+
+pub returns-clause-cause : goal.returns-clause-cause
+returns-clause-cause c =
+    let k : IsMachine c.args.self.now = c.rules.ensures in
+    rw (c.learn.ensures.took, c.learn.ensures.turn) (has_cause c.args.self.now c.args.word k)
+
+pub returns-clause-waiting : goal.returns-clause-waiting
+returns-clause-waiting c = λ t is other. c.learn.ensures.turn ∙ waits c.args.self.now c.args.word t is other
+
+pub returns-clause-spent : goal.returns-clause-spent
+returns-clause-spent c =
+    let k : IsMachine c.args.self.now = c.rules.ensures in
+    λ n. c.learn.ensures.turn ∙ spends c.args.self.now c.args.word k n
+
+pub returns-clause-limit : goal.returns-clause-limit
+returns-clause-limit c = within_limit c.learn.new.self c.learn.ensures.kept

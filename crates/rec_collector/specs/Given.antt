@@ -1,0 +1,36 @@
+-- What a machine may be given: the word that a step finds, and the buffer of a mailbox.
+use Rattle.std.specs.Prelude.{◌≡◌, ℕ, ◌+◌, ◌<◌, ◌≤◌, ◌^◌, IfSome, List, length}
+use Rattle.rec_word.specs.Word.{target_of}
+use Rattle.rec_log.specs.declared.contents.Contents.{Contents}
+use Rattle.rec_counts.specs.Counts.{State, slot_at}
+use Rattle.rec_apply.specs.Targets.{added, taken}
+use Rattle.rec_collector.specs.Private.{Private}
+use Rattle.rec_collector.specs.declared.phase.Phase.{Phase}
+use Rattle.rec_collector.specs.declared.phase.Phase.TheVariants.{Idle, Looking, Swapping, Returning, Releasing, Opening, Sweeping, Closing}
+
+-- these buffers name slots that are there, and no count passes the greatest or falls below zero
+pub record IsCovered (s : State) (newer older : List Contents) : Type 0 where
+  pub in_range : (x : ℕ) → length s.slots ≤ x → added x newer + taken x older ≡ 0
+  pub fits : (x : ℕ) → (slot_at s x).count + added x newer < 2 ^ 64
+  pub covered : (x : ℕ) → taken x older ≤ (slot_at s x).count + added x newer
+
+-- what the word found has to be, by phase: with the last mailbox given back the batch is covered; what comes out of a field
+-- is counted; a mailbox that is held was swapped
+unfoldable pub IsGivenAt : Private → (word : ℕ) → Phase → Type 0
+IsGivenAt p word (Swapping t) = ⊥
+IsGivenAt p word (Returning t) = t ≡ length p.newer → IsCovered p.counts p.newer p.older
+IsGivenAt p word Releasing = IfSome (target_of word) (λ slot. 0 < (slot_at p.counts slot).count)
+IsGivenAt p word _ = Unit {0}
+
+-- what the word found has to be
+unfoldable pub IsGiven : Private → (word : ℕ) → Type 0
+IsGiven p word = IsGivenAt p word p.phase
+
+-- a buffer for so many registers, with this room
+abbrev pub IsSized : (registers capacity : ℕ) → Contents → Type 0
+IsSized registers capacity b = (length b.snapshot ≡ registers) × (b.capacity ≡ capacity)
+
+-- a mailbox is held, and its buffer is still to be swapped
+abbrev pub IsSwapping : Phase → Type 0
+IsSwapping (Swapping t) = Unit {0}
+IsSwapping _ = ⊥

@@ -1,0 +1,9 @@
+pub mod After
+pub mod Causes
+pub mod Given
+pub mod Inside
+pub mod Kept
+pub mod Next
+pub mod Private
+pub mod Step
+pub mod Took

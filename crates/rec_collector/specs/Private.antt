@@ -1,0 +1,62 @@
+-- The collector's machine as a whole: plain data.
+use Rattle.std.specs.Prelude.{ℕ, ◌-◌, Option, None, Some, List, [], ◌∷◌, length, replicate, slice_index_or as item_at}
+use Rattle.rec_log.specs.declared.contents.Contents.{Contents}
+use Rattle.rec_counts.specs.Counts.{State, opened as opened_counts}
+use Rattle.rec_release.specs.Release.{Machine}
+use Rattle.rec_collector.specs.declared.phase.Phase.{Phase}
+use Rattle.rec_collector.specs.declared.phase.Phase.TheVariants.{Idle}
+
+-- the requested epoch, the collections completed and the slots swept since opening, and the turns since the last collection;
+-- how far the collection has come; the registers and the room of each buffer; the counts; for each mutator the newer
+-- buffer, which is a spare until its mailbox was gathered, and the older one; the release; and the slot that is swept next
+pub record Private : Type 0 where
+  pub epoch : ℕ
+  pub collections : ℕ
+  pub freed : ℕ
+  pub turns : ℕ
+  pub phase : Phase
+  pub registers : ℕ
+  pub capacity : ℕ
+  pub counts : State
+  pub newer : List Contents
+  pub older : List Contents
+  pub release : Machine
+  pub due : Option ℕ
+
+-- a buffer without entries that has these registers as its snapshot
+abbrev pub retired : (registers : List (Option ℕ)) (capacity : ℕ) → Contents
+retired registers capacity = record { entries = []; snapshot = registers; capacity = capacity }
+
+-- a buffer without entries, with a null snapshot of so many registers
+abbrev pub blank : (registers capacity : ℕ) → Contents
+blank registers capacity = retired (replicate registers None) capacity
+
+-- a spare buffer of this machine: what it leaves in a mailbox
+abbrev pub spare : Private → Contents
+spare p = blank p.registers p.capacity
+
+-- the registers of each mutator as a heap is opened: register 0 names slot 0, the others are null
+abbrev pub first_registers : (registers : ℕ) → List (Option ℕ)
+first_registers registers = Some 0 ∷ replicate (registers - 1) None
+
+-- a machine as it is opened: the collection of the epoch before counts as done
+abbrev pub opened : (slots fields registers mutators capacity first_epoch : ℕ) → Private
+opened slots fields registers mutators capacity first_epoch =
+    record {
+      epoch = first_epoch;
+      collections = 0;
+      freed = 0;
+      turns = 0;
+      phase = Idle;
+      registers = registers;
+      capacity = capacity;
+      counts = opened_counts slots mutators;
+      newer = replicate mutators (blank registers capacity);
+      older = replicate mutators (retired (first_registers registers) capacity);
+      release = record { fields = fields; at = None };
+      due = None;
+    }
+
+-- the buffer of the mutator of this number, which is one more than its place
+abbrev pub buffer_at : List Contents → (place : ℕ) → Contents
+buffer_at buffers place = item_at buffers place (blank 0 0)

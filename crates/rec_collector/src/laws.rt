@@ -1,0 +1,20 @@
+//! What follows from the definitions alone, each law as the contract of a function that does nothing.
+
+ghost use Rattle.std.specs.Prelude.{ℕ, IfSome, length};
+ghost use Rattle.rec_log.specs.declared.contents.Contents.{Contents};
+ghost use Rattle.rec_collector.specs.Kept.{IsMachine};
+ghost use Rattle.rec_collector.specs.Next.{next_of};
+ghost use Rattle.rec_collector.specs.Private.{Private};
+ghost use Rattle.rec_collector.specs.Step.{Step, IsBetween, NamesWord};
+ghost use Rattle.rec_collector.specs.Took.{step_of, turn_of};
+
+/// What comes next, what is learnt and what is answered is one of the steps of the collector, whatever the word found and
+/// whatever is in the mailbox.
+pub fn machine_makes_steps()
+    ensures { (p : Private) (word : ℕ) (box : Contents) → IsBetween p.phase → Step p word box (next_of p) (step_of p word box) (turn_of p word) }
+{}
+
+/// The operation that comes next names a word of the heap, and is one of the collector's six.
+pub fn machine_names_words()
+    ensures { (p : Private) → IsMachine p → IfSome (next_of p) (NamesWord (length p.counts.slots) p.release.fields (length p.newer)) }
+{}

@@ -1,0 +1,414 @@
+ghost use Rattle.std.specs.Prelude.{◌≡◌, ◌≢◌, ◌+◌, ◌*◌, ◌^◌, ◌<◌, ◌≤◌, ◌↔◌, ℕ, None, [], length, IfOk, IfSome, IsNone};
+ghost use Rattle.rec_word.specs.Op.{crossing_word};
+ghost use Rattle.rec_word.specs.Word.{target_of};
+ghost use Rattle.rec_counts.specs.Counts.{slot_at};
+ghost use Rattle.rec_release.specs.Sweep.{AreUnbuffered};
+ghost use Rattle.rec_collector.specs.After.{counts_after, ended_if, phase_after, turn_if};
+ghost use Rattle.rec_collector.specs.Causes.{HasCause};
+ghost use Rattle.rec_collector.specs.Given.{IsCovered, IsGiven, IsSized, IsSwapping};
+ghost use Rattle.rec_collector.specs.Kept.{IsMachine, KeepsSizes, limit_of};
+ghost use Rattle.rec_collector.specs.Next.{next_of};
+ghost use Rattle.rec_collector.specs.Private.{Private, opened, spare};
+ghost use Rattle.rec_collector.specs.Took.{ended, swapped_of, swept_phase, took_at, took_of, turn_at, turn_of};
+
+use crate::buffers::{clear_all, open_row};
+use crate::phase::Phase;
+use crate::roots::drop_roots;
+use crate::turn::Turn;
+use rec_apply::apply;
+use rec_counts::Counts;
+use rec_frame::Frame;
+use rec_log::Buffer;
+use rec_release::{Release, Sweep};
+use rec_word::{Op, crossing};
+use std::alloc::{AllocError as NoMemory, Global};
+use std::marker::Model;
+use std::mem;
+
+// The first epoch that no word can hold.
+const EPOCHS: u32 = 1 << 24;
+
+/// The collector: the counts, two buffers for each mutator, and how far its collection has come. Its memory is taken when
+/// it is opened.
+#[derive(Debug, Drop)]
+pub struct Machine {
+    epoch: u32,
+    collections: u32,
+    freed: u64,
+    turns: u64,
+    phase: Phase,
+    registers: u8,
+    capacity: u32,
+    counts: Counts,
+    newer: Vec<Buffer>,
+    older: Vec<Buffer>,
+    release: Release,
+    sweep: Sweep,
+}
+
+impl Model for Machine {
+    ghost use Rattle.rec_collector.specs.Private.{Private};
+
+    ghost Value = { Private };
+
+    ghost use Rattle.rec_collector.specs.Inside.{private, IsKept};
+
+    ghost view = { private };
+
+    ghost invariant = { IsKept };
+}
+
+impl Machine {
+    /// The collector of a heap with so many slots, and fields per object, and so many mutators, each with `regs` registers and
+    /// buffers for `cap` entries. The requested epoch is `first_epoch`, and the collection of the epoch before counts as
+    /// done: register 0 of each mutator named slot 0 then, and no other did.
+    pub fn open(
+        alloc: Global,
+        slots: u16,
+        fields: u8,
+        regs: u8,
+        mutators: u8,
+        cap: u32,
+        first_epoch: u32,
+    ) -> Result<Machine, NoMemory>
+        requires slots { 0 < slots }
+        requires fields { 0 < fields }
+        requires registers { 0 < regs }
+        requires mutators { 0 < mutators }
+        requires epoch { first_epoch < 2 ^ 24 }
+
+        ensures opened { IfOk result (λ machine. machine ≡ opened slots fields regs mutators cap first_epoch) }
+        ensures kept { IfOk result IsMachine }
+    {
+        let mut frame = Frame::open(alloc, regs)?;
+        let newer = open_row(alloc, mutators, cap, regs, &frame)?;
+        frame.set(0, 0);
+        let older = open_row(alloc, mutators, cap, regs, &frame)?;
+        let counts = Counts::open(alloc, slots, u64::from(mutators))?;
+        counts.rules();
+        Ok(Machine {
+            epoch: first_epoch,
+            collections: 0,
+            freed: 0,
+            turns: 0,
+            phase: Phase::Idle,
+            registers: regs,
+            capacity: cap,
+            counts,
+            newer,
+            older,
+            release: Release::idle(fields),
+            sweep: Sweep::idle(fields),
+        })
+    }
+
+    /// The operation of the next step. None exactly where the next request would be epoch 16,777,216.
+    #[tactic(auto, unfolding(crate::specs::Next::next_of, crate::specs::Next::next_at))]
+    pub fn next(&self) -> Option<Op>
+        ensures next { result ≡ next_of self.now }
+        ensures none { IsNone result ↔ ((self.now.phase ≡ Phase.Idle) × (self.now.epoch + 1 ≡ 2 ^ 24)) }
+    {
+        match self.phase {
+            Phase::Idle => {
+                if self.epoch + 1 == EPOCHS {
+                    None
+                } else {
+                    Some(Op::StoreEpoch(self.epoch + 1))
+                }
+            }
+            Phase::Looking { mutator } => Some(Op::LookBox(mutator, self.epoch)),
+            Phase::Swapping { mutator } | Phase::Returning { mutator } => {
+                Some(Op::ReturnBox(mutator, self.epoch))
+            }
+            Phase::Releasing => self.release.next(),
+            Phase::Opening | Phase::Closing { .. } => Some(Op::AddFreed),
+            Phase::Sweeping { .. } => self.sweep.next(),
+        }
+    }
+
+    /// Learns the word that the operation of `next` found: the turn is made. Where `next` answers None, nothing is done.
+    pub fn took(&mut self, word: u64) -> Turn
+        requires given { IsGiven self.old word }
+
+        ensures took { self.new ≡ took_of self.old word }
+        ensures turn { result ≡ turn_of self.old word }
+        ensures same { KeepsSizes self.old self.new }
+
+        // Why each answer comes. Waiting for a mutator comes exactly where its crossing word was looked at and says that it
+        // hasn't crossed, and the epochs are spent exactly where no step comes next.
+        ensures cause { HasCause self.old word self.new result }
+        ensures waiting { (t : ℕ) → self.old.phase ≡ Phase.Looking t → word ≢ crossing_word self.old.epoch 2 → result ≡ Turn.Waiting t }
+        ensures spent { IsNone (next_of self.old) → result ≡ Turn.EpochsSpent }
+
+        // No collection takes more turns than this, beside those in which it waits.
+        ensures limit { self.new.turns ≤ limit_of self.new }
+        ensures kept { IsMachine self.new }
+    {
+        self.rules();
+        self.learn(word)
+    }
+
+    /// Takes the buffer of a mailbox that is held, and gives the cleared one that takes its place there.
+    #[tactic(auto, unfolding(crate::specs::Took::swapped_of, crate::specs::Took::swapped_at))]
+    pub fn swap_box(&mut self, buffer: Buffer) -> Buffer
+        requires swapping { IsSwapping self.old.phase }
+        requires sized { IsSized self.old.registers self.old.capacity buffer }
+
+        ensures given { result ≡ spare self.old }
+        ensures swapped { self.new ≡ swapped_of self.old buffer }
+        ensures same { KeepsSizes self.old self.new }
+        ensures kept { IsMachine self.new }
+    {
+        let Phase::Swapping { mutator } = self.phase else {
+            return buffer;
+        };
+        self.phase = Phase::Returning { mutator };
+        mem::replace(&mut self.newer[usize::from(mutator) - 1], buffer)
+    }
+
+    /// What always holds of a machine. It does nothing: its contract is the fact.
+    pub fn rules(&self)
+        ensures { IsMachine self.now }
+    {
+        let _phase = &self.phase;
+    }
+
+    /// The true count of a slot: one for a free slot, else how many references to it were counted.
+    pub fn count(&self, slot: u16) -> u64
+        requires { slot < length self.now.counts.slots }
+        ensures { result ≡ (slot_at self.now.counts slot).count }
+    {
+        self.counts.count(slot)
+    }
+
+    /// The requested epoch.
+    pub fn epoch(&self) -> u32
+        ensures { result ≡ self.now.epoch }
+    {
+        self.epoch
+    }
+
+    /// How many collections were completed since the opening.
+    pub fn collections(&self) -> u32
+        ensures { result ≡ self.now.collections }
+    {
+        self.collections
+    }
+
+    /// How many slots were swept since the opening.
+    pub fn freed(&self) -> u64
+        ensures { result ≡ self.now.freed }
+    {
+        self.freed
+    }
+
+    /// How many turns were made since a collection was completed last, or since the opening, beside those in which the machine
+    /// waited or found the epochs spent.
+    pub fn turns(&self) -> u64
+        ensures turns { result ≡ self.now.turns }
+        ensures limit { result ≤ limit_of self.now }
+        ensures kept { IsMachine self.now }
+    {
+        self.turns
+    }
+
+    // Learns a word, by the phase.
+    fn learn(&mut self, word: u64) -> Turn
+        requires given { IsGiven self.old word }
+
+        ensures took { self.new ≡ took_of self.old word }
+        ensures turn { result ≡ turn_of self.old word }
+        ensures same { KeepsSizes self.old self.new }
+        ensures kept { IsMachine self.new }
+    {
+        match self.phase {
+            Phase::Idle => self.took_request(),
+            Phase::Looking { mutator } => self.took_look(mutator, word),
+            Phase::Swapping { .. } => Turn::Moved,
+            Phase::Returning { mutator } => self.took_return(mutator),
+            Phase::Releasing => self.took_release(word),
+            Phase::Opening => self.took_opening(),
+            Phase::Sweeping { swept } => self.took_sweep(swept, word),
+            Phase::Closing { swept } => self.end(swept),
+        }
+    }
+
+    // The next epoch is requested, if there is one.
+    #[tactic(auto, unfolding(crate::specs::Took::took_at, crate::specs::Took::turn_at))]
+    fn took_request(&mut self) -> Turn
+        requires phase { self.old.phase ≡ Phase.Idle }
+
+        ensures took { self.new ≡ took_at self.old 0 Phase.Idle }
+        ensures turn { result ≡ turn_at self.old 0 Phase.Idle }
+        ensures same { KeepsSizes self.old self.new }
+        ensures kept { IsMachine self.new }
+    {
+        if self.epoch + 1 == EPOCHS {
+            return Turn::EpochsSpent;
+        }
+        self.epoch += 1;
+        self.phase = Phase::Looking { mutator: 1 };
+        self.turns += 1;
+        Turn::Moved
+    }
+
+    // The mailbox of a mutator is held where it has crossed.
+    #[tactic(auto, unfolding(crate::specs::Took::took_at, crate::specs::Took::turn_at))]
+    fn took_look(&mut self, mutator: u8, word: u64) -> Turn
+        requires phase { self.old.phase ≡ Phase.Looking mutator }
+
+        ensures took { self.new ≡ took_at self.old word (Phase.Looking mutator) }
+        ensures turn { result ≡ turn_at self.old word (Phase.Looking mutator) }
+        ensures same { KeepsSizes self.old self.new }
+        ensures kept { IsMachine self.new }
+    {
+        if word != crossing(self.epoch, 2) {
+            return Turn::Waiting { mutator };
+        }
+        self.phase = Phase::Swapping { mutator };
+        self.turns += 1;
+        Turn::Moved
+    }
+
+    // A mailbox was given back. With the last one the batch is applied, and its zeros are released.
+    fn took_return(&mut self, mutator: u8) -> Turn
+        requires phase { self.old.phase ≡ Phase.Returning mutator }
+        requires covered { mutator ≡ length self.old.newer → IsCovered self.old.counts self.old.newer self.old.older }
+
+        ensures took { self.new ≡ took_at self.old 0 (Phase.Returning mutator) }
+        ensures turn { result ≡ turn_at self.old 0 (Phase.Returning mutator) }
+        ensures same { KeepsSizes self.old self.new }
+        ensures kept { IsMachine self.new }
+    {
+        if usize::from(mutator) != self.newer.len() {
+            self.phase = Phase::Looking {
+                mutator: mutator + 1,
+            };
+            self.turns += 1;
+            return Turn::Moved;
+        }
+        apply(&mut self.counts, &self.newer, &self.older);
+        self.release.start(&mut self.counts);
+        self.counts.rules();
+        self.phase = after_release(&mut self.counts, &self.release);
+        self.counts.rules();
+        self.turns += 1;
+        self.end_if_nothing_is_free()
+    }
+
+    // A word came out of a field of a released slot.
+    fn took_release(&mut self, word: u64) -> Turn
+        requires phase { self.old.phase ≡ Phase.Releasing }
+        requires counted { IfSome (target_of word) (λ slot. 0 < (slot_at self.old.counts slot).count) }
+
+        ensures took { self.new ≡ took_at self.old word Phase.Releasing }
+        ensures turn { result ≡ turn_at self.old word Phase.Releasing }
+        ensures same { KeepsSizes self.old self.new }
+        ensures kept { IsMachine self.new }
+    {
+        self.release.took(&mut self.counts, word);
+        self.counts.rules();
+        self.phase = after_release(&mut self.counts, &self.release);
+        self.counts.rules();
+        self.turns += 1;
+        self.end_if_nothing_is_free()
+    }
+
+    // A sweep has begun.
+    #[tactic(auto, unfolding(crate::specs::Took::took_at, crate::specs::Took::turn_at))]
+    fn took_opening(&mut self) -> Turn
+        requires phase { self.old.phase ≡ Phase.Opening }
+
+        ensures took { self.new ≡ took_at self.old 0 Phase.Opening }
+        ensures turn { result ≡ turn_at self.old 0 Phase.Opening }
+        ensures same { KeepsSizes self.old self.new }
+        ensures kept { IsMachine self.new }
+    {
+        self.sweep.start(&mut self.counts);
+        self.phase = Phase::Sweeping { swept: 0 };
+        self.turns += 1;
+        Turn::Moved
+    }
+
+    // A slot more is swept.
+    #[tactic(auto, unfolding(crate::specs::Took::took_at, crate::specs::Took::turn_at))]
+    fn took_sweep(&mut self, swept: u32, word: u64) -> Turn
+        requires phase { self.old.phase ≡ Phase.Sweeping swept }
+
+        ensures took { self.new ≡ took_at self.old word (Phase.Sweeping swept) }
+        ensures turn { result ≡ turn_at self.old word (Phase.Sweeping swept) }
+        ensures same { KeepsSizes self.old self.new }
+        ensures kept { IsMachine self.new }
+    {
+        self.sweep.took(&mut self.counts, word);
+        self.counts.rules();
+        self.freed += 1;
+        self.phase = after_slot(&self.sweep, swept + 1);
+        self.turns += 1;
+        Turn::Moved
+    }
+
+    // Where nothing is to be swept, the collection is complete without a sweep.
+    fn end_if_nothing_is_free(&mut self) -> Turn
+        ensures took { self.new ≡ ended_if self.old self.old.phase }
+        ensures turn { result ≡ turn_if self.old self.old.phase }
+        ensures same { KeepsSizes self.old self.new }
+        ensures kept { IsMachine self.new }
+    {
+        match self.phase {
+            Phase::Closing { swept } => self.end(swept),
+            _ => Turn::Moved,
+        }
+    }
+
+    // The collection is complete: the older buffers become spares, and the newer ones the older.
+    #[tactic(auto, unfolding(crate::specs::Took::took_at, crate::specs::Took::turn_at))]
+    fn end(&mut self, swept: u32) -> Turn
+        requires phase { self.old.phase ≡ Phase.Closing swept }
+
+        ensures took { self.new ≡ took_at self.old 0 (Phase.Closing swept) }
+        ensures turn { result ≡ turn_at self.old 0 (Phase.Closing swept) }
+        ensures same { KeepsSizes self.old self.new }
+        ensures kept { IsMachine self.new }
+    {
+        clear_all(&mut self.older);
+        mem::swap(&mut self.older, &mut self.newer);
+        self.collections += 1;
+        self.turns = 0;
+        self.phase = Phase::Idle;
+        Turn::Collected {
+            epoch: self.epoch - 1,
+            freed: swept,
+        }
+    }
+}
+
+// What follows once a word came out: the release goes on while it has work. Then the root buffer is emptied, and a sweep
+// begins, which has ended already where the free list is empty.
+fn after_release(counts: &mut Counts, release: &Release) -> Phase
+    requires { AreUnbuffered counts.old }
+    ensures counts { counts.new ≡ counts_after counts.old release.now.at }
+    ensures phase { result ≡ phase_after counts.new.free release.now.at }
+{
+    if release.next().is_some() {
+        return Phase::Releasing;
+    }
+    counts.rules();
+    drop_roots(counts);
+    if counts.free_list().is_empty() {
+        Phase::Closing { swept: 0 }
+    } else {
+        Phase::Opening
+    }
+}
+
+// What follows once so many slots were swept: the next one, or the end of the sweep.
+fn after_slot(sweep: &Sweep, swept: u32) -> Phase
+    ensures { result ≡ swept_phase swept sweep.now }
+{
+    if sweep.next().is_some() {
+        Phase::Sweeping { swept }
+    } else {
+        Phase::Closing { swept }
+    }
+}
