@@ -19,6 +19,7 @@ use Rattle.rec_script.specs.declared.error.ScriptError.TheVariants.{Bad}
 use Rattle.recycler.specs.Headline.{Are, IsAnswer, Answers, WroteAnswer, WroteFront, ReadNoScript}
 use Rattle.rec_play.specs.Played.{IsPlayed, last_moment}
 use Rattle.rec_script.proofs.Refusing.{refused_no_text}
+use Rattle.rec_script.proofs.Uniqueness.{refused_once}
 use Rattle.recycler.specs.declared.command_line.Request.{Request}
 use Rattle.recycler.specs.declared.command_line.Request.TheVariants as requests
 use Rattle.rec_script.specs.Script.{Contents, IsText, IsRefused}
@@ -129,6 +130,33 @@ completes statuses.WriteFault rest left reads reads_after writes writes_after us
 completes (statuses.BadScript line kind) rest left reads reads_after writes writes_after usage bad read write bytes told text no_read no_write =
     let refused = bad line kind refl in
     absurd (refused_no_text refused.bytes line kind refused.refused (subst IsText (refused.read bytes told) text))
+
+-- what is answered is a script's text
+answered_text : (request : Request) (bytes text : List ℕ) → IsAnswer request bytes text → IsText bytes
+answered_text (requests.Play seed turns) bytes text answer = (answer.script, answer.short, answer.spelled)
+
+-- a text that is told and is no script's is refused with its line and kind, unless a count rises or memory runs out
+pub refuses : (status : Status) (request : Request) (rest left before after : Option (List ℕ)) (reads reads_after : ℕ)
+    → (status ≡ statuses.Usage → ⊥)
+    → ((line : ℕ) (kind : Kind) → status ≡ statuses.BadScript line kind → ReadNoScript rest left line kind)
+    → (status ≡ statuses.ReadFault → Rose reads reads_after)
+    → (status ≡ statuses.Done → WroteAnswer request rest left before after)
+    → (status ≡ statuses.WriteFault → WroteFront request rest left before after)
+    → (bytes : List ℕ) (line : ℕ) (kind : Kind) → rest ≡ Some bytes → IsRefused bytes line kind → (Rose reads reads_after → ⊥)
+    → (status ≡ statuses.BadScript line kind) ⊎ (status ≡ statuses.NoMemory)
+refuses statuses.NoMemory request rest left before after reads reads_after usage bad read done front bytes line kind told refused no_read = inr refl
+refuses statuses.Usage request rest left before after reads reads_after usage bad read done front bytes line kind told refused no_read = absurd (usage refl)
+refuses statuses.ReadFault request rest left before after reads reads_after usage bad read done front bytes line kind told refused no_read = absurd (no_read (read refl))
+refuses statuses.Done request rest left before after reads reads_after usage bad read done front bytes line kind told refused no_read =
+    let wrote = done refl in
+    absurd (refused_no_text bytes line kind refused (subst IsText (sym (wrote.read bytes told)) (answered_text request wrote.bytes wrote.text wrote.answer)))
+refuses statuses.WriteFault request rest left before after reads reads_after usage bad read done front bytes line kind told refused no_read =
+    let wrote = front refl in
+    absurd (refused_no_text bytes line kind refused (subst IsText (sym (wrote.read bytes told)) (answered_text request wrote.bytes wrote.text wrote.answer)))
+refuses (statuses.BadScript l k) request rest left before after reads reads_after usage bad read done front bytes line kind told refused no_read =
+    let found = bad l k refl in
+    let same = refused_once bytes l line k kind (subst (λ all. IsRefused all l k) (sym (found.read bytes told)) found.refused) refused in
+    inl (ap (λ n. statuses.BadScript n k) same.0 ∙ ap (statuses.BadScript line) same.1)
 
 -- a fact of each value that was made
 pub if_ok : {T E : Type 0} (r : Result T E) (P Q : T → Type 0) → ((x : T) → P x → Q x) → IfOk r P → IfOk r Q

@@ -52,6 +52,11 @@ pub fn run<R: Threads + Wait + Sync, S: Source, K: Sink, G: Gate>(
     ensures complete { IsCommandLine (map (λ word. word.now) words.now) → (bytes : List ℕ) → S.rest source.old ≡ Some bytes → IsText bytes
         → ¬ Rose (S.faults source.old) (S.faults source.new) → ¬ Rose (K.faults sink.old) (K.faults sink.new)
         → (result ≡ Status.Done) ⊎ (result ≡ Status.NoMemory) }
+
+    // A text that is told and is no script's is refused with its line and kind, unless a read fails or memory runs out.
+    ensures refuses { IsCommandLine (map (λ word. word.now) words.now) → (bytes : List ℕ) (line : ℕ) (kind : Kind) → S.rest source.old ≡ Some bytes
+        → IsRefused bytes line kind → ¬ Rose (S.faults source.old) (S.faults source.new)
+        → (result ≡ Status.BadScript line kind) ⊎ (result ≡ Status.NoMemory) }
 {
     match read_words(alloc, words) {
         Ok(request) => answer_source(alloc, request, source, sink),
