@@ -1,5 +1,5 @@
 -- The states of a machine that the tests drive by hand, and that each word is one which the machine may be given.
-use Rattle.std.proofs.Common.{◌≡◌, ℕ, suc, zero, ◌+◌, ◌<◌, ◌≤◌, ◌^◌, Option, None, Some, List, [], ◌∷◌, ap, arith}
+use Rattle.std.proofs.Common.{◌≡◌, ℕ, suc, zero, ◌+◌, ◌<◌, ◌≤◌, ◌^◌, Some, [], ◌∷◌, ap, arith}
 use Rattle.std.proofs.lemmas.Bool.{ne_eqb}
 use Rattle.rec_log.specs.declared.contents.Contents.{Contents}
 use Rattle.rec_log.specs.declared.entry.Entry.TheVariants.{Born}
@@ -7,10 +7,10 @@ use Rattle.rec_apply.specs.Batch.{all_up, all_down}
 use Rattle.rec_apply.specs.Targets.{added, taken, is_slot, named}
 use Rattle.rec_counts.specs.Counts.{slot_at}
 use Rattle.rec_counts.specs.Lists.{one}
-use Rattle.rec_release.specs.Release.{next_of, started_of, took_of as release_took}
+use Rattle.rec_release.specs.Release.{started_of, took_of as release_took}
 use Rattle.rec_release.specs.Sweep.{started_of as sweep_started, took_of as sweep_took}
-use Rattle.rec_collector.specs.Given.{IsGiven, IsGivenAt, IsCovered, IsSwapping}
-use Rattle.rec_collector.specs.Private.{Private, opened, retired}
+use Rattle.rec_collector.specs.Given.{IsGiven, IsGivenAt, IsSwapping}
+use Rattle.rec_collector.specs.Private.{Private, opened}
 use Rattle.rec_collector.specs.Took.{begun, released, swapped_at, swapped_of, took_at, took_of, went_on}
 
 -- the buffers that the mutator retired

@@ -1,6 +1,6 @@
-use Rattle.std.proofs.Common.{◌≡◌, ℕ, length, sym, ap, subst, ◌∙◌, refl}
+use Rattle.std.proofs.Common.{◌≡◌, length, sym, ap, subst, ◌∙◌}
 use Rattle.rec_log.specs.declared.contents.Contents.{Contents}
-use Rattle.rec_collector.specs.Given.{IsGiven, IsSized, IsSwapping}
+use Rattle.rec_collector.specs.Given.{IsGiven, IsSwapping}
 use Rattle.rec_collector.specs.Private.{Private}
 use Rattle.rec_collector.specs.Took.{swapped_of, took_of}
 use Rattle.rec_collector.proofs.HandDriven as hand

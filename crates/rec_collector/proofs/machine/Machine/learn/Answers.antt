@@ -1,9 +1,8 @@
-use Rattle.std.proofs.Common.{◌≡◌, subst, sym, ap, ◌∙◌}
+use Rattle.std.proofs.Common.{subst, sym, ap, ◌∙◌}
 use Rattle.rec_collector.specs.Given.{IsGiven, IsGivenAt}
 use Rattle.rec_collector.specs.Private.{Private}
 use Rattle.rec_collector.specs.Took.{took_at, took_of, turn_at, turn_of}
 use Rattle.rec_collector.specs.declared.phase.Phase.{Phase}
-use Rattle.rec_collector.specs.declared.phase.Phase.TheVariants.{Idle, Looking, Swapping, Returning, Releasing, Opening, Sweeping, Closing}
 use Rattle.rec_collector.proofs.machine.Machine.learn.Goals as goal
 
 pub took_return-requires-clause-covered : goal.took_return-requires-clause-covered

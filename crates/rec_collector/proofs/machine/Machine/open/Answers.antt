@@ -1,4 +1,4 @@
-use Rattle.std.proofs.Common.{◌≡◌, ℕ, Option, Some, List, set, subst, sym, refl, ap, ◌∙◌}
+use Rattle.std.proofs.Common.{◌≡◌, ℕ, Option, Some, List, set, subst, refl, ap, ◌∙◌}
 use Rattle.rec_counts.specs.Counts.{State, IsKept as IsKeptCounts, opened as opened_counts}
 use Rattle.rec_collector.specs.Kept.{IsMachine}
 use Rattle.rec_collector.specs.Private.{first_registers, opened}
