@@ -1,5 +1,5 @@
 -- Why each answer of a turn comes, by the phase.
-use Rattle.std.proofs.Common.{◌≡◌, ◌≢◌, ℕ, ◌+◌, ◌-◌, ◌<◌, ◌≤◌, ◌^◌, ◌==◌, Bool, true, false, cond, Option, None, Some, IsSome, IsNone, List, [], ◌∷◌, length, slice_get, refl, arith, sym, ap, subst, ◌∙◌, inl, inr}
+use Rattle.std.proofs.Common.{◌≡◌, ◌≢◌, ℕ, ◌+◌, ◌≤◌, ◌^◌, ◌==◌, Bool, true, false, cond, Option, None, Some, IsSome, IsNone, List, [], ◌∷◌, length, refl, arith, sym, ap, subst, ◌∙◌, inl, inr}
 use Rattle.std.proofs.lemmas.Bool.{false≢true, cond-true, cond-false, eq-eqb, ne_eqb, eqb-true, cases_eq}
 use Rattle.rec_word.specs.Op.{crossing_word}
 use Rattle.rec_word.specs.declared.op.Op.{Op}
@@ -8,15 +8,13 @@ use Rattle.rec_release.specs.declared.at.At.{At}
 use Rattle.rec_release.specs.Release.{Work, next_of as release_next}
 use Rattle.rec_release.specs.Sweep.{next_of as sweep_next}
 use Rattle.rec_collector.specs.Causes.{HasCause}
-use Rattle.rec_collector.specs.Given.{IsGiven, IsGivenAt}
-use Rattle.rec_collector.specs.Kept.{IsAt, IsMachine, swept_at}
+use Rattle.rec_collector.specs.Kept.{IsMachine, swept_at}
 use Rattle.rec_collector.specs.Next.{is_spent, next_at, next_of}
 use Rattle.rec_collector.specs.Private.{Private}
-use Rattle.rec_collector.specs.Took.{begun, dropped, ended, moved, released, swept_next, swept_phase, swept_turn, took_at, took_of, turn_at, turn_of, went_on, went_on_at, with_work, work_turn, work_turn_at}
+use Rattle.rec_collector.specs.Took.{begun, dropped, moved, released, swept_next, swept_phase, swept_turn, took_at, took_of, turn_at, turn_of, went_on, went_on_at, with_work, work_turn, work_turn_at}
 use Rattle.rec_collector.specs.declared.phase.Phase.{Phase}
 use Rattle.rec_collector.specs.declared.phase.Phase.TheVariants.{Idle, Looking, Swapping, Returning, Releasing, Opening, Sweeping, Closing}
-use Rattle.rec_collector.specs.declared.turn.Turn.{Turn}
-use Rattle.rec_collector.specs.declared.turn.Turn.TheVariants.{Moved, Waiting, Collected, EpochsSpent}
+use Rattle.rec_collector.specs.declared.turn.Turn.TheVariants.{Moved, Waiting, EpochsSpent}
 use Rattle.rec_collector.proofs.Releasing.{some_next}
 use Rattle.rec_collector.proofs.Sweeping.{due_slot, now_at, under_way_at}
 

@@ -1,6 +1,6 @@
 -- The root buffer is emptied.
 use Rattle.std.proofs.Common.{◌≡◌, ℕ, suc, zero, ◌+◌, ◌<◌, ◌≤◌, Bool, true, false, eqb, cond, Option, None, Some, List, [], ◌∷◌, ◌++◌, length, map, take, get_or, refl, arith, sym, ◌∙◌, ap, inl, inr, append_assoc}
-use Rattle.std.specs.List.{filter, concat}
+use Rattle.std.specs.List.{filter}
 use Rattle.std.proofs.Math.ListN.{get_or-map}
 use Rattle.std.proofs.lemmas.List.{get_or_past, append-nil, take_all}
 use Rattle.std.proofs.lemmas.List.Elements.{filter_more}

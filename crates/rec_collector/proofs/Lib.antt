@@ -1,5 +1,6 @@
 pub mod Causes
 pub mod Dropping
+pub mod HandDriven
 pub mod Limits
 pub mod Opening
 pub mod Releasing

@@ -1,13 +1,13 @@
 -- No collection takes more turns than its limit.
-use Rattle.std.proofs.Common.{◌≡◌, ℕ, suc, zero, ◌+◌, ◌-◌, ◌*◌, ◌^◌, ◌<◌, ◌≤◌, Bool, true, false, ltb, Option, None, Some, List, [], ◌∷◌, ◌++◌, length, refl, arith, sym, ◌∙◌, ap, inl, inr}
+use Rattle.std.proofs.Common.{◌≡◌, ℕ, ◌+◌, ◌-◌, ◌*◌, ◌^◌, ◌<◌, ◌≤◌, ltb, Option, List, [], ◌∷◌, length, arith, ap, inl, inr}
 use Rattle.std.specs.List.{flat_map}
 use Rattle.std.proofs.Math.Nat.{mul-le-mul}
 use Rattle.std.proofs.lemmas.List.{length-append, get_or_past}
 use Rattle.std.proofs.lemmas.List.FromFn.{length-map-range_with_len}
-use Rattle.std.proofs.lemmas.Bool.{cases_lt, lt-ltb, le-ltb}
+use Rattle.std.proofs.lemmas.Bool.{cases_lt, lt-ltb}
 use Rattle.rec_counts.specs.declared.slot.Slot.{Slot}
 use Rattle.rec_counts.specs.Counts.{State, slot_at}
-use Rattle.rec_counts.specs.Lists.{one, times, EachOnce}
+use Rattle.rec_counts.specs.Lists.{one, EachOnce}
 use Rattle.rec_counts.specs.Slot.{absent}
 use Rattle.rec_counts.proofs.Times.{length-once, one-le}
 use Rattle.rec_word.specs.Place.{place_of}

@@ -12,17 +12,16 @@ use Rattle.rec_counts.specs.declared.slot.Slot.{Slot}
 use Rattle.rec_counts.specs.Slot.{absent, unrooted, unrooted_if}
 use Rattle.rec_counts.proofs.Times.{length-once, times-append, times-nil}
 use Rattle.rec_release.specs.declared.at.At.{At}
-use Rattle.rec_release.specs.Release.{Machine, Work, IsAtWork, emptied, first_of, gone_on, listed_if, next_of, op_at, started_of, taken_off, took_at as took_work_at, took_of, with_next, without_first}
+use Rattle.rec_release.specs.Release.{Machine, Work, IsAtWork, emptied, listed_if, next_of, op_at, started_of, taken_off, took_at as took_work_at, took_of, with_next, without_first}
 use Rattle.rec_release.specs.Released.{Released, is_at, place_due}
 use Rattle.rec_release.specs.Sweep.{AreUnbuffered}
 use Rattle.rec_release.proofs.Keeping.{rest_off}
 use Rattle.rec_collector.specs.After.{counts_after, ended_if, phase_after, turn_if}
-use Rattle.rec_collector.specs.Kept.{all_fields, NoneReleased, IsAt, IsMachine, IsReleasing, IsSweeping, KeepsSizes, swept_at, under_way}
+use Rattle.rec_collector.specs.Kept.{NoneReleased, IsAt, IsMachine, IsReleasing, IsSweeping, KeepsSizes, swept_at, under_way}
 use Rattle.rec_collector.specs.Private.{Private}
-use Rattle.rec_collector.specs.Took.{dropped, ended, moved, swept_next, swept_turn, went_on, went_on_at, with_work, work_turn, work_turn_at}
+use Rattle.rec_collector.specs.Took.{dropped, moved, swept_next, swept_turn, went_on, went_on_at, with_work, work_turn, work_turn_at}
 use Rattle.rec_collector.specs.declared.phase.Phase.{Phase}
 use Rattle.rec_collector.specs.declared.phase.Phase.TheVariants.{Returning, Releasing, Opening, Closing}
-use Rattle.rec_collector.specs.declared.turn.Turn.{Turn}
 use Rattle.rec_collector.proofs.Dropping.{dropped_unbuffered, is_released, times_kept}
 use Rattle.rec_collector.proofs.Limits.{few_words}
 use Rattle.rec_collector.proofs.Sweeping.{now_at, under_way_at, freed_at}

@@ -1,21 +1,18 @@
 -- What comes next and what is learnt are a step, by the phase.
-use Rattle.std.proofs.Common.{◌≡◌, ◌≢◌, inl, inr, ℕ, ◌+◌, ◌-◌, ◌^◌, ◌==◌, Bool, true, false, Option, None, Some, List, [], ◌∷◌, length, refl, sym, ap, ◌∙◌, set}
+use Rattle.std.proofs.Common.{◌≡◌, ◌≢◌, inl, inr, ℕ, ◌+◌, ◌^◌, ◌==◌, true, false, Option, None, Some, List, [], ◌∷◌, length, refl, sym, ap, ◌∙◌}
 use Rattle.std.proofs.lemmas.Bool.{cond-true, cond-false, eq-eqb, ne_eqb, cases_eq}
 use Rattle.rec_word.specs.Op.{crossing_word}
-use Rattle.rec_word.specs.declared.op.Op.{Op}
-use Rattle.rec_word.specs.declared.op.Op.TheVariants.{StoreEpoch, LookBox, ReturnBox, AddFreed}
 use Rattle.rec_log.specs.declared.contents.Contents.{Contents}
 use Rattle.rec_release.specs.declared.at.At.{At}
 use Rattle.rec_release.specs.Release.{Work}
 use Rattle.rec_release.specs.Sweep as sweeps
 use Rattle.rec_collector.specs.Next.{is_spent, next_at, next_of}
 use Rattle.rec_collector.specs.Private.{Private}
-use Rattle.rec_collector.specs.Step.{Step, ReleasesOn, GoesOn, Ends, IsNext, IsBetween}
-use Rattle.rec_collector.specs.Took.{begun, dropped, ended, moved, released, returned, step_of, swapped_of, swapped_at, swept_next, swept_phase, swept_one, swept_turn, took_at, took_of, turn_at, turn_of, went_on, went_on_at, with_work, work_turn, work_turn_at}
+use Rattle.rec_collector.specs.Step.{Step, ReleasesOn, IsNext, IsBetween}
+use Rattle.rec_collector.specs.Took.{begun, dropped, moved, released, returned, step_of, swapped_of, swapped_at, swept_next, swept_phase, swept_turn, took_at, took_of, turn_at, turn_of, went_on, went_on_at, with_work, work_turn, work_turn_at}
 use Rattle.rec_collector.specs.declared.phase.Phase.{Phase}
 use Rattle.rec_collector.specs.declared.phase.Phase.TheVariants.{Idle, Looking, Swapping, Returning, Releasing, Opening, Sweeping, Closing}
-use Rattle.rec_collector.specs.declared.turn.Turn.{Turn}
-use Rattle.rec_collector.specs.declared.turn.Turn.TheVariants.{Moved, Waiting, Collected, EpochsSpent}
+use Rattle.rec_collector.specs.declared.turn.Turn.TheVariants.{Moved}
 
 none_some : {A : Type 0} (x : A) → Some x ≢ None
 none_some x e = cc

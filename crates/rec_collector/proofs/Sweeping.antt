@@ -1,5 +1,5 @@
 -- A sweep goes on, and a collection ends.
-use Rattle.std.proofs.Common.{◌≡◌, ℕ, ◌+◌, ◌*◌, ◌^◌, ◌<◌, ◌≤◌, true, false, eqb, inl, inr, Option, None, Some, IsSome, IsNone, List, [], ◌∷◌, length, map, drop, slice_get, refl, arith, sym, ◌∙◌, ap, subst}
+use Rattle.std.proofs.Common.{◌≡◌, ℕ, ◌+◌, ◌*◌, ◌^◌, ◌<◌, ◌≤◌, true, eqb, inl, inr, Option, None, Some, IsSome, List, [], ◌∷◌, length, map, drop, slice_get, refl, arith, sym, ◌∙◌, ap, subst}
 use Rattle.std.proofs.lemmas.List.{length-set, length-map, get_or-set_same, get_or-set_other}
 use Rattle.std.proofs.lemmas.Bool.{cases_Bool, false≢true}
 use Rattle.std.proofs.lemmas.Bool.Decides.{eqb_tells}
@@ -12,10 +12,10 @@ use Rattle.rec_release.specs.Sweep as sweeps
 use Rattle.rec_release.specs.Sweep.{AreUnbuffered, swept, took_of, started_of, next_of}
 use Rattle.rec_release.proofs.Sweeping.{unbuffered_swept}
 use Rattle.rec_collector.specs.Private.{Private}
-use Rattle.rec_collector.specs.Kept.{IsAt, IsMachine, NoneReleased, IsSweeping, KeepsSizes, swept_at, under_way}
-use Rattle.rec_collector.specs.Took.{cleared, ended, moved, swept_phase, swept_one, with_sweep, took_at}
+use Rattle.rec_collector.specs.Kept.{IsAt, IsMachine, NoneReleased, KeepsSizes, swept_at, under_way}
+use Rattle.rec_collector.specs.Took.{cleared, ended, moved, swept_phase, swept_one, took_at}
 use Rattle.rec_collector.specs.declared.phase.Phase.{Phase}
-use Rattle.rec_collector.specs.declared.phase.Phase.TheVariants.{Idle, Opening, Sweeping, Closing}
+use Rattle.rec_collector.specs.declared.phase.Phase.TheVariants.{Opening, Sweeping, Closing}
 use Rattle.rec_collector.proofs.Rows.{cleared_sized, cleared_spares}
 
 -- what holds in the phase of a machine

@@ -6,7 +6,7 @@ use Rattle.rec_counts.specs.Counts.{State, slot_at}
 use Rattle.rec_apply.specs.Targets.{added, taken}
 use Rattle.rec_collector.specs.Private.{Private}
 use Rattle.rec_collector.specs.declared.phase.Phase.{Phase}
-use Rattle.rec_collector.specs.declared.phase.Phase.TheVariants.{Idle, Looking, Swapping, Returning, Releasing, Opening, Sweeping, Closing}
+use Rattle.rec_collector.specs.declared.phase.Phase.TheVariants.{Swapping, Returning, Releasing}
 
 -- these buffers name slots that are there, and no count passes the greatest or falls below zero
 pub record IsCovered (s : State) (newer older : List Contents) : Type 0 where

@@ -1,5 +1,5 @@
 -- Which operation comes next: a function of the private record alone.
-use Rattle.std.specs.Prelude.{ℕ, ◌+◌, ◌^◌, ◌==◌, Bool, Option, None, Some, if◌then◌else◌}
+use Rattle.std.specs.Prelude.{◌+◌, ◌^◌, ◌==◌, Bool, Option, None, Some, if◌then◌else◌}
 use Rattle.rec_word.specs.declared.op.Op.{Op}
 use Rattle.rec_word.specs.declared.op.Op.TheVariants.{StoreEpoch, LookBox, ReturnBox, AddFreed}
 use Rattle.rec_release.specs.Release.{next_of as next_of_release}

@@ -1,5 +1,5 @@
 -- The collector's machine as a whole: plain data.
-use Rattle.std.specs.Prelude.{ℕ, ◌-◌, Option, None, Some, List, [], ◌∷◌, length, replicate, slice_index_or as item_at}
+use Rattle.std.specs.Prelude.{ℕ, ◌-◌, Option, None, Some, List, [], ◌∷◌, replicate, slice_index_or as item_at}
 use Rattle.rec_log.specs.declared.contents.Contents.{Contents}
 use Rattle.rec_counts.specs.Counts.{State, opened as opened_counts}
 use Rattle.rec_release.specs.Release.{Machine}

@@ -4,7 +4,6 @@ use Rattle.rec_word.specs.Op.{crossing_word}
 use Rattle.rec_word.specs.declared.op.Op.{Op}
 use Rattle.rec_word.specs.declared.op.Op.TheVariants.{StoreEpoch, LookBox, ReturnBox, ClearField, FreeHeader, AddFreed}
 use Rattle.rec_log.specs.declared.contents.Contents.{Contents}
-use Rattle.rec_counts.specs.Counts.{State}
 use Rattle.rec_apply.specs.Batch.{batch}
 use Rattle.rec_release.specs.Release.{Work, next_of as release_next, started_of as release_started, took_of as release_took}
 use Rattle.rec_release.specs.Sweep as sweeps

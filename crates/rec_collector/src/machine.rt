@@ -128,7 +128,7 @@ impl Machine {
 
     /// Learns the word that the operation of `next` found: the turn is made. Where `next` answers None, nothing is done.
     pub fn took(&mut self, word: u64) -> Turn
-        requires given { IsGiven self.old word }
+        requires { IsGiven self.old word }
 
         ensures took { self.new ≡ took_of self.old word }
         ensures turn { result ≡ turn_of self.old word }
@@ -214,7 +214,7 @@ impl Machine {
 
     // Learns a word, by the phase.
     fn learn(&mut self, word: u64) -> Turn
-        requires given { IsGiven self.old word }
+        requires { IsGiven self.old word }
 
         ensures took { self.new ≡ took_of self.old word }
         ensures turn { result ≡ turn_of self.old word }

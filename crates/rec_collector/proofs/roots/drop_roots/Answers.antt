@@ -1,6 +1,5 @@
 use Rattle.std.proofs.Common.{◌<◌, ℕ, List, length, get_or, subst, ap, ◌∙◌}
 use Rattle.rec_counts.specs.Counts.{State}
-use Rattle.rec_counts.specs.Lists.{times}
 use Rattle.rec_collector.specs.After.{listed}
 use Rattle.rec_collector.proofs.Dropping.{listed_more, root_new}
 use Rattle.rec_collector.proofs.roots.drop_roots.Goals as goal

@@ -1,4 +1,3 @@
-use Rattle.std.proofs.Common.{◌≡◌, ◌<◌, ℕ, length, get_or, sym, ap, ◌∙◌, arith}
 use Rattle.rec_collector.proofs.Dropping.{root_there}
 use Rattle.rec_collector.proofs.roots.list_if_released.Goals as goal
 

@@ -1,7 +1,6 @@
-use Rattle.std.proofs.Common.{◌≡◌, List, length, map, ap, sym, ◌∙◌}
+use Rattle.std.proofs.Common.{◌≡◌, map, ap, sym, ◌∙◌}
 use Rattle.std.specs.Vec.{with_items}
 use Rattle.std.proofs.lemmas.List.{length-map, with_items_is}
-use Rattle.rec_log.specs.declared.contents.Contents.{Contents}
 use Rattle.rec_collector.specs.Inside.{private}
 use Rattle.rec_collector.specs.Private.{Private}
 use Rattle.rec_collector.specs.Kept.{IsMachine}

@@ -1,18 +1,17 @@
-use Rattle.std.proofs.Common.{◌≡◌, subst, sym, ap, ◌∙◌}
+use Rattle.std.proofs.Common.{subst, sym, ap, ◌∙◌}
 use Rattle.rec_collector.specs.Given.{IsGiven, IsGivenAt}
 use Rattle.rec_collector.specs.Private.{Private}
 use Rattle.rec_collector.specs.Took.{took_at, took_of, turn_at, turn_of}
 use Rattle.rec_collector.specs.declared.phase.Phase.{Phase}
-use Rattle.rec_collector.specs.declared.phase.Phase.TheVariants.{Idle, Looking, Swapping, Returning, Releasing, Opening, Sweeping, Closing}
 use Rattle.rec_collector.proofs.machine.Machine.learn.Goals as goal
 
 pub took_return-requires-clause-covered : goal.took_return-requires-clause-covered
 unfolding IsGiven IsGivenAt
-took_return-requires-clause-covered c = subst (λ (f : Phase). IsGivenAt c.args.self.now c.args.word f) (ap (λ (p : Private). p.phase) (sym c.self.view_is) ∙ c.in-Returning.is) c.requires.given
+took_return-requires-clause-covered c = subst (λ (f : Phase). IsGivenAt c.args.self.now c.args.word f) (ap (λ (p : Private). p.phase) (sym c.self.view_is) ∙ c.in-Returning.is) c.requires
 
 pub took_release-requires-clause-counted : goal.took_release-requires-clause-counted
 unfolding IsGiven IsGivenAt
-took_release-requires-clause-counted c = subst (λ (f : Phase). IsGivenAt c.args.self.now c.args.word f) (ap (λ (p : Private). p.phase) (sym c.self.view_is) ∙ c.in-Releasing.is) c.requires.given
+took_release-requires-clause-counted c = subst (λ (f : Phase). IsGivenAt c.args.self.now c.args.word f) (ap (λ (p : Private). p.phase) (sym c.self.view_is) ∙ c.in-Releasing.is) c.requires
 
 pub returns-in-Idle-clause-took : goal.returns-in-Idle-clause-took
 unfolding took_of took_at
@@ -72,8 +71,8 @@ returns-in-Closing-clause-turn c = c.end.ensures.turn ∙ sym (ap (turn_at c.arg
 
 pub returns-in-Swapping-clause-took : goal.returns-in-Swapping-clause-took
 unfolding IsGiven IsGivenAt
-returns-in-Swapping-clause-took c = absurd (subst (λ (f : Phase). IsGivenAt c.args.self.now c.args.word f) (ap (λ (p : Private). p.phase) (sym c.self.view_is) ∙ c.in-Swapping.is) c.requires.given)
+returns-in-Swapping-clause-took c = absurd (subst (λ (f : Phase). IsGivenAt c.args.self.now c.args.word f) (ap (λ (p : Private). p.phase) (sym c.self.view_is) ∙ c.in-Swapping.is) c.requires)
 
 pub returns-in-Swapping-clause-turn : goal.returns-in-Swapping-clause-turn
 unfolding IsGiven IsGivenAt
-returns-in-Swapping-clause-turn c = absurd (subst (λ (f : Phase). IsGivenAt c.args.self.now c.args.word f) (ap (λ (p : Private). p.phase) (sym c.self.view_is) ∙ c.in-Swapping.is) c.requires.given)
+returns-in-Swapping-clause-turn c = absurd (subst (λ (f : Phase). IsGivenAt c.args.self.now c.args.word f) (ap (λ (p : Private). p.phase) (sym c.self.view_is) ∙ c.in-Swapping.is) c.requires)

@@ -1,10 +1,5 @@
-use Rattle.std.proofs.Common.{◌≡◌, ◌≢◌, ℕ, sym, ap, subst, ◌∙◌}
-use Rattle.rec_word.specs.Op.{crossing_word}
-use Rattle.rec_collector.specs.Causes.{HasCause}
+use Rattle.std.proofs.Common.{◌∙◌}
 use Rattle.rec_collector.specs.Kept.{IsMachine}
-use Rattle.rec_collector.specs.Private.{Private}
-use Rattle.rec_collector.specs.Took.{took_of, turn_of}
-use Rattle.rec_collector.specs.declared.turn.Turn.{Turn}
 use Rattle.rec_collector.proofs.Causes.{has_cause, waits, spends}
 use Rattle.rec_collector.proofs.Limits.{within_limit}
 use Rattle.rec_collector.proofs.machine.Machine.took.Goals as goal

@@ -1,12 +1,11 @@
-use Rattle.std.proofs.Common.{◌≡◌, ◌+◌, ℕ, arith, subst, sym, refl, ap, ◌∙◌}
+use Rattle.std.proofs.Common.{◌≡◌, arith, subst, refl, ap, ◌∙◌}
 use Rattle.rec_counts.specs.Counts.{State, IsKept as IsKeptCounts}
 use Rattle.rec_release.specs.Release.{Work}
 use Rattle.rec_collector.specs.After.{counts_after, ended_if, turn_if}
 use Rattle.rec_collector.specs.Inside.{private}
 use Rattle.rec_collector.specs.Private.{Private}
-use Rattle.rec_collector.specs.Kept.{IsMachine, IsReleasing, KeepsSizes}
+use Rattle.rec_collector.specs.Kept.{IsReleasing, KeepsSizes}
 use Rattle.rec_collector.specs.Took.{moved, released, took_at, turn_at, went_on, work_turn}
-use Rattle.rec_collector.specs.declared.phase.Phase.{Phase}
 use Rattle.rec_collector.specs.declared.phase.Phase.TheVariants.{Releasing}
 use Rattle.rec_collector.proofs.Limits.{turns_fit}
 use Rattle.rec_collector.proofs.Sweeping.{now_at}

@@ -1,16 +1,14 @@
-use Rattle.std.proofs.Common.{◌≡◌, ◌≢◌, ◌+◌, ◌==◌, ℕ, true, false, length, subst, sym, refl, ap, ◌∙◌, arith}
+use Rattle.std.proofs.Common.{◌≡◌, ◌≢◌, ◌+◌, ◌==◌, true, false, length, subst, sym, refl, ap, ◌∙◌}
 use Rattle.std.proofs.lemmas.Bool.{cond-true, cond-false, eq-eqb, ne_eqb}
 use Rattle.rec_counts.specs.Counts.{State, IsKept as IsKeptCounts}
-use Rattle.rec_apply.specs.Batch.{batch}
 use Rattle.rec_release.specs.Release.{Work, started_of}
 use Rattle.rec_collector.specs.After.{counts_after, ended_if, turn_if}
 use Rattle.rec_collector.specs.Inside.{private}
 use Rattle.rec_collector.specs.Private.{Private}
-use Rattle.rec_collector.specs.Kept.{IsAt, IsMachine, KeepsSizes}
+use Rattle.rec_collector.specs.Kept.{IsAt, KeepsSizes}
 use Rattle.rec_collector.specs.Took.{begun, moved, took_at, turn_at, went_on, work_turn}
 use Rattle.rec_collector.specs.declared.phase.Phase.TheVariants.{Looking, Returning}
 use Rattle.rec_collector.specs.declared.turn.Turn.TheVariants.{Moved}
-use Rattle.rec_collector.proofs.Limits.{turns_fit}
 use Rattle.rec_collector.proofs.Sweeping.{now_at}
 use Rattle.rec_collector.proofs.Releasing.{HasCome, began_comes, landed, landed_keeps, landed_sizes, landed_turn, landed_went, none_next, sizes_on}
 use Rattle.rec_collector.proofs.machine.Machine.took_return.Goals as goal

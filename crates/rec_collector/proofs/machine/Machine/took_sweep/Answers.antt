@@ -1,13 +1,12 @@
-use Rattle.std.proofs.Common.{◌≡◌, ◌+◌, subst, sym, refl, ap, ◌∙◌}
+use Rattle.std.proofs.Common.{subst, sym, ap, ◌∙◌}
 use Rattle.rec_counts.specs.Counts.{IsKept as IsKeptCounts}
 use Rattle.rec_release.specs.Sweep as sweeps
 use Rattle.rec_collector.specs.Inside.{private}
 use Rattle.rec_collector.specs.Private.{Private}
-use Rattle.rec_collector.specs.Kept.{IsMachine, IsAt, KeepsSizes}
-use Rattle.rec_collector.specs.Took.{moved, swept_one, swept_phase, took_at, with_sweep}
-use Rattle.rec_collector.specs.declared.phase.Phase.{Phase}
+use Rattle.rec_collector.specs.Kept.{IsMachine, IsAt}
+use Rattle.rec_collector.specs.Took.{swept_one, took_at}
 use Rattle.rec_collector.specs.declared.phase.Phase.TheVariants.{Sweeping}
-use Rattle.rec_collector.proofs.Sweeping.{now_at, due_slot, sweeping_keeps, sweeping_slots}
+use Rattle.rec_collector.proofs.Sweeping.{now_at, due_slot, sweeping_keeps}
 use Rattle.rec_collector.proofs.machine.Machine.took_sweep.Goals as goal
 
 pub took-requires-clause-busy : goal.took-requires-clause-busy
