@@ -1,10 +1,10 @@
 //! The lines of a report.
 
-ghost use Rattle.std.specs.Prelude.{◌≡◌, ◌++◌, codes, decimal, map, IfOk, OnOk, string_bytes};
+ghost use Rattle.std.specs.Prelude.{◌≡◌, ◌++◌, map, IfOk, OnOk, string_bytes};
 ghost use Rattle.rec_word.specs.Word.{target_of};
-ghost use Rattle.rec_report.specs.Text.{answer_line, answer_word, field_number, field_word, line_feed, live_line, row_head as head_of, row_line, totals_line};
+ghost use Rattle.rec_report.specs.Text.{answer_line, field_number, field_word, live_line, row_head as head_of, row_line, totals_line};
 
-use itoa::Buffer;
+use crate::answer::{LONGEST, write_answer};
 use rec_model::Answer;
 use rec_word::target;
 use rec_world::Numbering;
@@ -13,8 +13,9 @@ use std::alloc::{AllocError as NoMemory, Global};
 use std::fmt::Write;
 use std::marker::Model;
 
-// What a line holds in itself. Each answer within the limits fits but a busy one: the longest is `8.200000 value
-// 4294967295`, of 26 bytes with its line feed. So answers, which are most of a text, take no memory of their own.
+// How many bytes a line holds in itself. The longest answer within the limits that isn't a busy one fits: it is
+// `8.200000 value 4294967295`, of 26 bytes with its line feed. So answers, which are most of a text, take no memory
+// of their own.
 const OWN_BYTES: usize = 32;
 
 /// One line, with its line feed.
@@ -57,13 +58,11 @@ impl Line {
     ) -> Result<Line, NoMemory>
         ensures { IfOk result (λ line. line ≡ answer_line t i answer) }
     {
-        let mut number = Buffer::new();
-        let mut bytes = SmallVec::new(alloc);
-        bytes.extend_from_slice(number.format(t).as_bytes())?;
-        bytes.extend_from_slice(b".")?;
-        bytes.extend_from_slice(number.format(i).as_bytes())?;
-        push_answer(&mut bytes, answer)?;
-        Ok(Line { bytes })
+        let mut buffer = [0; LONGEST];
+        let start = write_answer(t, i, answer, &mut buffer);
+        Ok(Line {
+            bytes: SmallVec::from_slice(alloc, &buffer[start..])?,
+        })
     }
 
     /// How many objects are live.
@@ -128,50 +127,4 @@ fn push_field(text: &mut String, number: Option<u16>) -> Result<(), NoMemory>
         None => text.push_str(" -"),
         Some(number) => write!(text, " #{number}"),
     }
-}
-
-/// Ends the line of an answer: a space, the answer's word, and the line feed. A piece is copied at once where it can be.
-fn push_answer(
-    bytes: &mut SmallVec<u8, OWN_BYTES>,
-    answer: Answer,
-) -> Result<(), NoMemory>
-    ensures { OnOk result (bytes.new.items ≡ bytes.old.items ++ codes " " ++ answer_word answer ++ line_feed) }
-{
-    match answer {
-        Answer::Done => bytes.extend_from_slice(b" done\n"),
-        Answer::Null => bytes.extend_from_slice(b" null\n"),
-        Answer::Object => bytes.extend_from_slice(b" object\n"),
-        Answer::Value(label) => push_value(bytes, label),
-        Answer::Yes => bytes.extend_from_slice(b" yes\n"),
-        Answer::No => bytes.extend_from_slice(b" no\n"),
-        Answer::NoObject => bytes.extend_from_slice(b" none\n"),
-        Answer::Full => bytes.extend_from_slice(b" full\n"),
-        Answer::Busy { before, after } => push_busy(bytes, before, after),
-        Answer::LogFull => bytes.extend_from_slice(b" logfull\n"),
-    }
-}
-
-/// Ends the line of an answer that tells a label.
-fn push_value(bytes: &mut SmallVec<u8, OWN_BYTES>, label: u32) -> Result<(), NoMemory>
-    ensures { OnOk result (bytes.new.items ≡ bytes.old.items ++ codes " value " ++ decimal label ++ line_feed) }
-{
-    bytes.extend_from_slice(b" value ")?;
-    bytes.extend_from_slice(Buffer::new().format(label).as_bytes())?;
-    bytes.extend_from_slice(b"\n")
-}
-
-/// Ends the line of an answer that tells the epochs before and after.
-fn push_busy(
-    bytes: &mut SmallVec<u8, OWN_BYTES>,
-    before: u64,
-    after: u64,
-) -> Result<(), NoMemory>
-    ensures { OnOk result (bytes.new.items ≡ bytes.old.items ++ codes " busy " ++ decimal before ++ codes " " ++ decimal after ++ line_feed) }
-{
-    let mut number = Buffer::new();
-    bytes.extend_from_slice(b" busy ")?;
-    bytes.extend_from_slice(number.format(before).as_bytes())?;
-    bytes.extend_from_slice(b" ")?;
-    bytes.extend_from_slice(number.format(after).as_bytes())?;
-    bytes.extend_from_slice(b"\n")
 }
