@@ -21,7 +21,8 @@ pub(super) fn write_answer(t: usize, i: usize, answer: Answer, buffer: &mut [u8;
     write_digits(t as u64, buffer, point)
 }
 
-// Writes an answer's word between a space and the line feed, and leaves room for the numbers before it.
+// Writes an answer's word between a space and the line feed, and leaves room for what stands before it: two numbers of
+// at most 20 digits, and the point between them.
 fn write_word(answer: Answer, buffer: &mut [u8; LONGEST]) -> usize
     ensures room { (41 ≤ result) × (result ≤ 89) }
     ensures word { drop result buffer.new ≡ codes " " ++ answer_word answer ++ line_feed }
@@ -51,7 +52,7 @@ fn write_value(label: u32, buffer: &mut [u8; LONGEST]) -> usize
     write_piece(b" value ", buffer, digits)
 }
 
-// The end of a line that tells the epochs before and after.
+// The end of a line that tells the freed word before and after.
 #[tactic(auto, using(crate::proofs::Numbers::twenty_digits))]
 fn write_busy(before: u64, after: u64, buffer: &mut [u8; LONGEST]) -> usize
     ensures room { (41 ≤ result) × (result ≤ 89) }
