@@ -1,4 +1,5 @@
 pub mod Counting
 pub mod Held
 pub mod Lines
+pub mod Numbers
 pub mod Rows

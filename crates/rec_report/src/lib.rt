@@ -13,6 +13,7 @@ ghost use Rattle.rec_world.specs.World.{sight};
 ghost use Rattle.rec_report.specs.Report.{AreFor};
 ghost use Rattle.rec_report.specs.Text.{IsOrderOf, is_refused, refusals, play_lines};
 
+mod answer;
 mod holders;
 mod line;
 mod listing;

@@ -2,31 +2,34 @@
 
 ghost use Rattle.std.specs.Prelude.{◌≡◌, ◌++◌, map, IfOk, OnOk, string_bytes};
 ghost use Rattle.rec_word.specs.Word.{target_of};
-ghost use Rattle.rec_report.specs.Text.{answer_line, answer_word, field_number, field_word, live_line, row_head as head_of, row_line, totals_line};
+ghost use Rattle.rec_report.specs.Text.{answer_line, field_number, field_word, live_line, row_head as head_of, row_line, totals_line};
 
-use itoa::Buffer;
+use crate::answer::{LONGEST, write_answer};
 use rec_model::Answer;
 use rec_word::target;
 use rec_world::Numbering;
+use smallvec::SmallVec;
 use std::alloc::{AllocError as NoMemory, Global};
 use std::fmt::Write;
 use std::marker::Model;
 
-// What most answer lines fit, so that they take memory once.
-const ANSWER_BYTES: usize = 24;
+// How many bytes a line holds in itself. The longest answer within the limits that isn't a busy one fits: it is
+// `8.200000 value 4294967295`, of 26 bytes with its line feed. So answers, which are most of a text, take no memory
+// of their own.
+const OWN_BYTES: usize = 32;
 
 /// One line, with its line feed.
 #[derive(Debug, Drop)]
 pub struct Line {
-    text: String,
+    bytes: SmallVec<u8, OWN_BYTES>,
 }
 
 impl Model for Line {
-    ghost use Rattle.std.specs.Prelude.{ℕ, List, string_bytes};
+    ghost use Rattle.std.specs.Prelude.{ℕ, List};
 
     ghost Value = { List ℕ };
 
-    ghost view = { λ line. string_bytes line.text };
+    ghost view = { λ line. line.bytes.items };
 }
 
 impl Line {
@@ -34,7 +37,16 @@ impl Line {
     pub fn bytes(&self) -> &[u8]
         ensures { result.now ≡ self.now }
     {
-        self.text.as_bytes()
+        self.bytes.as_slice()
+    }
+
+    // A text of a line. A long one stays where it lies.
+    fn of(text: String) -> Line
+        ensures { result ≡ string_bytes text }
+    {
+        Line {
+            bytes: SmallVec::from_vec(text.into_bytes()),
+        }
     }
 
     /// The answer to command `i` of mutator `t`.
@@ -46,24 +58,18 @@ impl Line {
     ) -> Result<Line, NoMemory>
         ensures { IfOk result (λ line. line ≡ answer_line t i answer) }
     {
-        let mut number = Buffer::new();
-        let mut text = String::with_capacity(alloc, ANSWER_BYTES)?;
-        text.push_str(number.format(t))?;
-        text.push('.')?;
-        text.push_str(number.format(i))?;
-        text.push(' ')?;
-        push_word(&mut text, answer)?;
-        text.push('\n')?;
-        Ok(Line { text })
+        let mut buffer = [0; LONGEST];
+        let start = write_answer(t, i, answer, &mut buffer);
+        Ok(Line {
+            bytes: SmallVec::from_slice(alloc, &buffer[start..])?,
+        })
     }
 
     /// How many objects are live.
     pub(super) fn live(alloc: Global, live: usize) -> Result<Line, NoMemory>
         ensures { IfOk result (λ line. line ≡ live_line live) }
     {
-        Ok(Line {
-            text: format!(in alloc; "live {live}\n")?,
-        })
+        Ok(Line::of(format!(in alloc; "live {live}\n")?))
     }
 
     /// The live object with this number: `words` are those of its fields.
@@ -82,7 +88,7 @@ impl Line {
             push_field(&mut text, number_of_field(numbering, *word))?;
         }
         text.push('\n')?;
-        Ok(Line { text })
+        Ok(Line::of(text))
     }
 
     /// Births, refusals, and how many objects are live no more.
@@ -95,9 +101,7 @@ impl Line {
         ensures { IfOk result (λ line. line ≡ totals_line made refused live) }
     {
         let freed = made.saturating_sub(live);
-        Ok(Line {
-            text: format!(in alloc; "made {made} refused {refused} freed {freed}\n")?,
-        })
+        Ok(Line::of(format!(in alloc; "made {made} refused {refused} freed {freed}\n")?))
     }
 }
 
@@ -122,23 +126,5 @@ fn push_field(text: &mut String, number: Option<u16>) -> Result<(), NoMemory>
     match number {
         None => text.push_str(" -"),
         Some(number) => write!(text, " #{number}"),
-    }
-}
-
-/// Adds the word of an answer.
-fn push_word(text: &mut String, answer: Answer) -> Result<(), NoMemory>
-    ensures { OnOk result (string_bytes text.new ≡ string_bytes text.old ++ answer_word answer) }
-{
-    match answer {
-        Answer::Done => text.push_str("done"),
-        Answer::Null => text.push_str("null"),
-        Answer::Object => text.push_str("object"),
-        Answer::Value(label) => write!(text, "value {label}"),
-        Answer::Yes => text.push_str("yes"),
-        Answer::No => text.push_str("no"),
-        Answer::NoObject => text.push_str("none"),
-        Answer::Full => text.push_str("full"),
-        Answer::Busy { before, after } => write!(text, "busy {before} {after}"),
-        Answer::LogFull => text.push_str("logfull"),
     }
 }

@@ -19,6 +19,13 @@ fn prints_each_answer(rt: HostRuntime) -> Result<(), Fail> {
             },
             "2.7 busy 10 11\n",
         ),
+        (
+            Answer::Busy {
+                before: u64::MAX,
+                after: u64::MAX,
+            },
+            "2.7 busy 18446744073709551615 18446744073709551615\n",
+        ),
         (Answer::LogFull, "2.7 logfull\n"),
     ];
     for (answer, wanted) in cases {
