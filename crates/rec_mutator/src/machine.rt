@@ -39,6 +39,8 @@ impl Model for Machine {
     ghost invariant = { IsKept };
 }
 
+// Most works end with their first step. The hints on inlining put it in where the work is begun, since there its phase is
+// known, and most of what the step asks is settled beforehand.
 impl Machine {
     /// Mutator `number` of a heap with so many slots and fields per object, in this epoch, with no work. It has `regs`
     /// registers, of which register 0 names slot 0, and a log for `cap` entries.
@@ -96,6 +98,7 @@ impl Machine {
 
     /// The operation of the next step.
     #[tactic(auto, unfolding(crate::specs::Next::next_of, crate::specs::Next::next_at))]
+    #[inline(always)]
     pub fn next(&self) -> Op
         requires busy { is_busy self.now ≡ true }
         ensures { result ≡ next_of self.now }
@@ -110,6 +113,7 @@ impl Machine {
 
     /// Learns the word that the operation of `next` found: the step is made.
     #[tactic(auto, unfolding(crate::specs::Next::next_of, crate::specs::Next::next_at, crate::specs::Took::took_of, crate::specs::Took::took_at))]
+    #[inline(always)]
     pub fn took(&mut self, word: u64)
         requires busy { is_busy self.old ≡ true }
         requires found { IsFound self.old (next_of self.old) word }
@@ -196,6 +200,7 @@ impl Machine {
     }
 
     // The operation of a work's first step.
+    #[inline(always)]
     fn begun(&self, work: Work) -> Op
         requires { IsValid self.now work }
         ensures { result ≡ begun_op self.now work }
@@ -207,6 +212,7 @@ impl Machine {
     }
 
     // The operation of a command's first step.
+    #[inline(always)]
     fn first(&self, cmd: Cmd) -> Op
         requires { HasOperands self.now cmd }
         ensures { result ≡ first_op self.now cmd }
@@ -233,6 +239,7 @@ impl Machine {
     }
 
     // The operation of a write's first step.
+    #[inline(always)]
     fn first_of_put(&self, src: u8, field: u8, val: u8) -> Op
         requires { HasOperands self.now (Cmd.Put src field val) }
         ensures { result ≡ first_op self.now (Cmd.Put src field val) }
@@ -247,6 +254,7 @@ impl Machine {
     }
 
     // Learns what the first step of a work found.
+    #[inline(always)]
     fn took_begun(&mut self, work: Work, word: u64)
         requires valid { IsValid self.old work }
         requires first { self.old.steps ≡ 0 }
@@ -262,6 +270,7 @@ impl Machine {
     }
 
     // Learns what the first step of a command found.
+    #[inline(always)]
     fn took_first(&mut self, cmd: Cmd, word: u64)
         requires valid { HasOperands self.old cmd }
         requires first { self.old.steps ≡ 0 }
@@ -328,6 +337,7 @@ impl Machine {
     }
 
     // A register becomes what the field's word leads to.
+    #[inline(always)]
     fn took_get(&mut self, dst: u8, src: u8, field: u8, word: u64)
         requires valid { HasOperands self.old (Cmd.Get dst src field) }
         requires first { self.old.steps ≡ 0 }
@@ -353,6 +363,7 @@ impl Machine {
     }
 
     // The write is logged with the word that it replaced.
+    #[inline(always)]
     fn took_put(&mut self, src: u8, field: u8, val: u8, word: u64)
         requires valid { HasOperands self.old (Cmd.Put src field val) }
         requires first { self.old.steps ≡ 0 }

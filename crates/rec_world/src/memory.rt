@@ -64,6 +64,7 @@ impl Memory {
     }
 
     /// Carries out one operation, and answers the word that it found.
+    #[inline(always)]
     pub fn perform(&mut self, op: Op) -> u64
         requires { IsWithin self.old op }
 

@@ -101,6 +101,7 @@ impl World {
 
     /// Makes one step of the work of mutator `t`: the operation that its machine names, on the word that this names. The
     /// answer is what came of the work, or `None` where it isn't finished.
+    #[inline(always)]
     pub fn step(&mut self, t: u8) -> Option<Made>
         requires mutator { IsMutator self.old.config t }
         requires unmarked { self.old.marked ≡ false }
@@ -360,8 +361,28 @@ impl World {
         u32::from(field) < self.config.fields
     }
 
-    // Steps of mutator `t` until its work is finished, and what came of it.
+    // Steps of mutator `t` until its work is finished, and what came of it. Most works end with their first step, so it is put
+    // in where the work is begun, and the later ones stand apart.
+    #[inline(always)]
     fn finish(&mut self, t: u8) -> Made
+        requires mutator { IsMutator self.old.config t }
+        requires unmarked { self.old.marked ≡ false }
+        requires busy { is_busy (mutator self.old t) ≡ true }
+        requires world { IsWorld self.old }
+
+        ensures finished { IsFinished self.old t result self.new }
+        ensures run { EndsRun self.new }
+        ensures kept { IsWorld self.new }
+    {
+        match self.step(t) {
+            Some(made) => made,
+            None => self.go_on(t),
+        }
+    }
+
+    // The steps that are left until the work of mutator `t` is finished, and what came of it.
+    #[inline(never)]
+    fn go_on(&mut self, t: u8) -> Made
         requires mutator { IsMutator self.old.config t }
         requires unmarked { self.old.marked ≡ false }
         requires busy { is_busy (mutator self.old t) ≡ true }

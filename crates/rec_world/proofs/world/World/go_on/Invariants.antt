@@ -2,7 +2,7 @@
 use Rattle.std.proofs.Common.{◌≡◌, ◌+◌, ◌-◌, true}
 use Rattle.rec_mutator.specs.Private.{is_busy, work_of}
 use Rattle.rec_world.specs.World.{mutator, IsWorld, OnlyWorks}
-use Rattle.rec_world.proofs.world.World.finish.Given as goal
+use Rattle.rec_world.proofs.world.World.go_on.Given as goal
 
 abbrev pub invariant-loop-made : goal.invariant-loop-made
 invariant-loop-made l = record {
