@@ -1,5 +1,5 @@
 -- No step changes the numbers of a machine, how many registers it has, what its log can hold, or which work was begun.
-use Rattle.std.proofs.Common.{◌≡◌, ℕ, Option, Some, List, true, length, refl, sym, ap, subst, ◌∙◌}
+use Rattle.std.proofs.Common.{◌≡◌, ℕ, ◌+◌, Option, Some, List, true, length, refl, sym, ap, subst, ◌∙◌}
 use Rattle.std.proofs.lemmas.List.{length-set}
 use Rattle.rec_word.specs.declared.op.Op.{Op}
 use Rattle.rec_model.specs.declared.command.Cmd.{Cmd}
@@ -62,3 +62,32 @@ first_keeps p q word work begun is =
     let took : took_of p word ≡ begun_by p word work = ap (took_at p word) begun in
     let busy : is_busy p ≡ true = ap is_busy_at begun in
     subst (λ (x : Private). KeepsSizes p x × (work_of x ≡ work_of p)) (sym (is ∙ sym took)) (took_keeps p word busy)
+
+-- each step counts
+step_counts : {p : Private} {word : ℕ} {op : Op} {q : Private} → Step p word op q → q.steps ≡ p.steps + 1
+step_counts (Step.null reg d) = ap (λ (x : Private). x.steps) d.after
+step_counts (Step.copy dst src d) = ap (λ (x : Private). x.steps) d.after
+step_counts (Step.compare a b d) = ap (λ (x : Private). x.steps) d.after
+step_counts (Step.get_of_null dst src f names d) = ap (λ (x : Private). x.steps) d.after
+step_counts (Step.get dst src f slot names d) = ap (λ (x : Private). x.steps) d.after
+step_counts (Step.put_of_null src f val names d) = ap (λ (x : Private). x.steps) d.after
+step_counts (Step.put_refused src f val slot names full d) = ap (λ (x : Private). x.steps) d.after
+step_counts (Step.put src f val slot names room d) = ap (λ (x : Private). x.steps) d.after
+step_counts (Step.value_of_null reg names d) = ap (λ (x : Private). x.steps) d.after
+step_counts (Step.value reg slot names d) = ap (λ (x : Private). x.steps) d.after
+step_counts (Step.new_refused reg label full d) = ap (λ (x : Private). x.steps) d.after
+step_counts (Step.new_begins reg label room g) = ap (λ (x : Private). x.steps) g.after
+step_counts (Step.new_wins reg label before slot free d) = ap (λ (x : Private). x.steps) d.after
+step_counts (Step.new_goes_on reg label before slot taken more g) = ap (λ (x : Private). x.steps) g.after
+step_counts (Step.new_finds_none reg label before slot taken last g) = ap (λ (x : Private). x.steps) g.after
+step_counts (Step.new_is_full reg label before still d) = ap (λ (x : Private). x.steps) d.after
+step_counts (Step.new_is_busy reg label before moves d) = ap (λ (x : Private). x.steps) d.after
+step_counts (Step.poll g) = ap (λ (x : Private). x.steps) g.after
+
+-- so does the first step of a work
+pub first_counts : (p q : Private) (word : ℕ) (work : Work) → p.phase ≡ Begun work → q ≡ begun_by p word work → q.steps ≡ p.steps + 1
+unfolding took_of took_at
+first_counts p q word work begun is =
+    let took : took_of p word ≡ begun_by p word work = ap (took_at p word) begun in
+    let busy : is_busy p ≡ true = ap is_busy_at begun in
+    ap (λ (x : Private). x.steps) (is ∙ sym took) ∙ step_counts (step_made p word busy)
