@@ -40,7 +40,7 @@ impl Line {
         self.bytes.as_slice()
     }
 
-    // A text of a line. A long one stays where it lies.
+    // The line of a text. A long text stays where it lies in memory, and a short one gives its memory back.
     fn of(text: String) -> Line
         ensures { result ≡ string_bytes text }
     {

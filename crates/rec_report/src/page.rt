@@ -55,6 +55,7 @@ impl Text {
     ) -> Result<(), NoMemory>
         ensures { OnOk result (self.new ≡ self.old ++ own_lines t journal.now) }
     {
+        // Room for all of them at once, so that lines aren't moved as they become more.
         self.lines.reserve(journal.len())?;
         for (i, line) in journal.iter().enumerate() {
             self.add(Line::answer(alloc, t, i + 1, line.1.answer)?)?;
@@ -86,6 +87,7 @@ impl Text {
         requires { IsOrderOf (map (λ journal. journal.lines) journals.now) order.now }
         ensures { OnOk result (self.new ≡ self.old ++ lines_in_order (map (λ journal. journal.lines) journals.now) order.now) }
     {
+        // Room for all answers at once, so that lines aren't moved as they become more.
         self.lines.reserve(order.len())?;
         let mut next: Vec<usize> = vec![in alloc; 0; journals.len()]?;
         for t in order {
