@@ -85,7 +85,7 @@ fn answer_source<S: Source, K: Sink>(
         Err(ReadStop::Fault) => return Status::ReadFault,
         Err(ReadStop::NoMemory) => return Status::NoMemory,
     };
-    let text = match answer(alloc, request, &bytes) {
+    let text = match answer(alloc, request, bytes) {
         Ok(text) => text,
         Err(ScriptError::Bad { line, kind }) => return Status::BadScript { line, kind },
         Err(ScriptError::NoMemory) => return Status::NoMemory,
@@ -97,12 +97,14 @@ fn answer_source<S: Source, K: Sink>(
 }
 
 // The answer of the script in the bytes to a request.
-fn answer(alloc: Global, request: Request, bytes: &[u8]) -> Result<Text, ScriptError>
-    ensures answer { IfOk result (λ text. IsAnswer request bytes.now (flat_map (λ line. line) text)) }
-    ensures refused { (line : ℕ) (kind : Kind) → result ≡ Err (ScriptError.Bad line kind) → IsRefused bytes.now line kind }
+fn answer(alloc: Global, request: Request, bytes: Vec<u8>) -> Result<Text, ScriptError>
+    ensures answer { IfOk result (λ text. IsAnswer request bytes.items (flat_map (λ line. line) text)) }
+    ensures refused { (line : ℕ) (kind : Kind) → result ≡ Err (ScriptError.Bad line kind) → IsRefused bytes.items line kind }
 {
     let Request::Play { seed, turns } = request;
-    let script = read(alloc, bytes)?;
+    let script = read(alloc, &bytes)?;
+    // The bytes are needed no more: their room is given back before the journals take theirs.
+    drop(bytes);
     answer_script(alloc, &script, seed, turns).map_err(|_| ScriptError::NoMemory)
 }
 

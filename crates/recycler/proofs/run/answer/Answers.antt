@@ -1,8 +1,9 @@
-use Rattle.std.proofs.Common.{◌≡◌, sym, ap, ◌∙◌, Result, Err}
+use Rattle.std.proofs.Common.{◌≡◌, sym, ap, subst, ◌∙◌, Result, Err}
 use Rattle.std.proofs.lemmas.Result.{err_from_is_err_and}
 use Rattle.rec_script.specs.declared.script.Script.{Script}
 use Rattle.rec_script.specs.declared.error.ScriptError.{ScriptError}
 use Rattle.rec_script.specs.declared.error.ScriptError.TheVariants.{Bad}
+use Rattle.rec_script.specs.Script.{IsRefused}
 use Rattle.recycler.proofs.run.answer.Goals as goal
 
 pub returns-in_err-script-clause-refused : goal.returns-in_err-script-clause-refused
@@ -10,4 +11,4 @@ returns-in_err-script-clause-refused c = λ line kind is.
     let p = err_from_is_err_and c.from_residual.result c.from_residual.ensures.1 in
     let same : p.0 ≡ Bad line kind = cc in
     let was : ◌≡◌ {A = Result Script ScriptError} (Err c.in_err-script.field-0.0) (Err (Bad line kind)) = ap (λ (x : ScriptError). Err x) (sym p.2 ∙ same) in
-    c.in_err-script.ensures.refused line kind was
+    subst (λ bytes. IsRefused bytes line kind) c.deref.ensures.value (c.in_err-script.ensures.refused line kind was)

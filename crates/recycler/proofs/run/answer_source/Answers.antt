@@ -1,7 +1,6 @@
 use Rattle.std.proofs.Common.{sym, subst}
 use Rattle.rec_io.specs.Sink.{Appends}
 use Rattle.recycler.specs.Headline.{IsAnswer}
-use Rattle.rec_script.specs.Script.{IsRefused}
 use Rattle.recycler.proofs.Endings.{bad_same, no_script, wrote_answer, wrote_front}
 use Rattle.recycler.proofs.Fronts.{joined}
 use Rattle.recycler.proofs.run.answer_source.Goals as goal
@@ -9,13 +8,13 @@ use Rattle.recycler.proofs.run.answer_source.Goals as goal
 pub returns-in-Err-Bad-clause-bad_script : goal.returns-in-Err-Bad-clause-bad_script
 returns-in-Err-Bad-clause-bad_script g c = λ line kind is.
     no_script (g.S.Source.rest c.args.source.now) (g.S.Source.rest c.read_all.new.source) c.in-Ok.bytes.items line kind c.in-Ok.ensures.passed c.in-Ok.ensures.whole
-    (subst (λ bytes. IsRefused bytes line kind) c.deref.ensures.value (c.in-Err-Bad.ensures.refused line kind (bad_same c.in-Err-Bad.field-0 c.in-Err-Bad.line line c.in-Err-Bad.kind kind c.in-Err-Bad.field-0-is is)))
+    (c.in-Err-Bad.ensures.refused line kind (bad_same c.in-Err-Bad.field-0 c.in-Err-Bad.line line c.in-Err-Bad.kind kind c.in-Err-Bad.field-0-is is))
 
 pub returns-in-Ok-write_lines-clause-done : goal.returns-in-Ok-write_lines-clause-done
 returns-in-Ok-write_lines-clause-done g c = λ _.
     wrote_answer c.args.request (g.S.Source.rest c.args.source.now) (g.S.Source.rest c.read_all.new.source) (g.K.Sink.written c.args.sink.now) (g.K.Sink.written c.write_lines.new.sink)
     c.in-Ok.bytes.items (joined c.in-Ok-answer.text) c.in-Ok.ensures.passed c.in-Ok.ensures.whole
-    (subst (λ bytes. IsAnswer c.args.request bytes (joined c.in-Ok-answer.text)) c.deref.ensures.value c.in-Ok-answer.ensures.answer)
+    c.in-Ok-answer.ensures.answer
     (subst (λ lines. Appends (g.K.Sink.written c.args.sink.now) (g.K.Sink.written c.write_lines.new.sink) (joined lines)) c.lines.ensures c.in-Ok-write_lines.ensures.written)
 
 pub returns-clause-front : goal.returns-clause-front
@@ -23,5 +22,5 @@ returns-clause-front g c = λ _.
     wrote_front c.args.request (g.S.Source.rest c.args.source.now) (g.S.Source.rest c.read_all.new.source) (g.K.Sink.written c.args.sink.now) (g.K.Sink.written c.write_lines.new.sink)
     c.in-Ok.bytes.items (joined c.lines.result.now) c.in-Ok.ensures.passed c.in-Ok.ensures.whole
     (subst (λ lines. IsAnswer c.args.request c.in-Ok.bytes.items (joined lines)) (sym c.lines.ensures)
-    (subst (λ bytes. IsAnswer c.args.request bytes (joined c.in-Ok-answer.text)) c.deref.ensures.value c.in-Ok-answer.ensures.answer))
+    c.in-Ok-answer.ensures.answer)
     c.in-Err.ensures.front
