@@ -180,7 +180,8 @@ ready_opened slots first = record {
   free = λ x h. absurd (omega (arith, h, times-nil x));
 }
 
-all_zeros_off : (s : State) (t : Option ℕ) → AllZeros s → AllZeros (taken_off s t)
+-- what is learnt leaves all zeros in the zeros
+pub all_zeros_off : (s : State) (t : Option ℕ) → AllZeros s → AllZeros (taken_off s t)
 all_zeros_off s None k = k
 all_zeros_off s (Some x) k = all_zeros_kept s x k
 
@@ -200,10 +201,7 @@ all_zeros_next (x ∷ zs) s e z k = λ y r n.
           omega (arith, k y (sym (released_same s x y q.1) ∙ r) (sym (field_kept (λ (w : Slot). w.count) s.slots x (record (slot_at s x) { released = true }) refl y) ∙ n), more, o)
     ]
 
--- what is learnt leaves all zeros in the zeros
-pub all_zeros_on : (s : State) (t : Option ℕ) → AllZeros s → AllZeros (taken_off s t)
-all_zeros_on s t k = all_zeros_off s t k
-
+-- so does the last field of a slot: the slot is emptied, and the next zero is taken out
 pub all_zeros_last : (s : State) (t : Option ℕ) (x : ℕ) → (slot_at s x).released ≡ true → IsReady s → AllZeros s → AllZeros (without_first (emptied (taken_off s t) x).zeros (emptied (taken_off s t) x))
 all_zeros_last s t x r ready k =
     let released : (slot_at (taken_off s t) x).released ≡ true = (rest_off s t).released x ∙ r in

@@ -4,7 +4,7 @@ use Rattle.rec_counts.specs.Counts.{State}
 use Rattle.rec_release.proofs.Runs.{more_whole}
 use Rattle.rec_release.specs.declared.at.At.{At}
 use Rattle.rec_release.specs.Release.{Machine, Work, took_of, IsAtWork, next_of}
-use Rattle.rec_release.proofs.Keeping.{all_zeros_on, all_zeros_last, rest_off, emptied_length, next_length, took_on, took_last, took_none, work_on, work_last, none_left}
+use Rattle.rec_release.proofs.Keeping.{all_zeros_off, all_zeros_last, rest_off, emptied_length, next_length, took_on, took_last, took_none, work_on, work_last, none_left}
 use Rattle.rec_release.proofs.release.Release.took.Goals as goal
 
 pub returns-in_default-clause-took : goal.returns-in_default-clause-took
@@ -77,7 +77,7 @@ returns-else-at-self-clause-whole c =
     rw m (λ before words from slots r. more_whole c.self.inside.fields before a c.args.counts.now words from slots c.args.word v l e r)
 
 pub returns-then-at-self-clause-all_zeros : goal.returns-then-at-self-clause-all_zeros
-returns-then-at-self-clause-all_zeros c = rw c.take_off.ensures (all_zeros_on c.args.counts.now c.target.result)
+returns-then-at-self-clause-all_zeros c = rw c.take_off.ensures (all_zeros_off c.args.counts.now c.target.result)
 
 pub returns-else-at-self-clause-all_zeros : goal.returns-else-at-self-clause-all_zeros
 returns-else-at-self-clause-all_zeros c =
