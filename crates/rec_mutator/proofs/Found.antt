@@ -9,7 +9,7 @@ use Rattle.rec_mutator.specs.Next.{next_of, next_at, begun_op, first_op, own_wor
 use Rattle.rec_mutator.specs.Step.{IsFitting}
 use Rattle.rec_mutator.specs.Took.{IsFound}
 use Rattle.rec_mutator.specs.declared.phase.Phase.{Phase}
-use Rattle.rec_mutator.specs.declared.phase.Phase.TheVariants.{Idle, Begun, Scanning, Scanned, Finished}
+use Rattle.rec_mutator.specs.declared.phase.Phase.TheVariants.{Idle, Begun, Scanning, Scanned, Crossing, Swapping, Giving, Finished}
 use Rattle.rec_mutator.specs.declared.work.Work.{Work}
 use Rattle.rec_mutator.specs.declared.work.Work.TheVariants as works
 
@@ -46,15 +46,18 @@ begun_finds p cell (works.Command cmd) fits = first_finds p cell cmd fits
 begun_finds p cell works.Poll fits = fits.epoch
 
 -- a step, by phase
-finds_at : (p : Private) (cell : Op → ℕ) (phase : Phase) → IsFitting p cell → IsFound p (next_at p phase) (cell (next_at p phase))
+finds_at : (p : Private) (cell : Op → ℕ) (phase : Phase) → p.phase ≡ phase → IsFitting p cell → IsFound p (next_at p phase) (cell (next_at p phase))
 unfolding next_at
-finds_at p cell Idle fits = tt
-finds_at p cell (Begun work) fits = begun_finds p cell work fits
-finds_at p cell (Scanning reg label before slot) fits = tt
-finds_at p cell (Scanned reg label before) fits = tt
-finds_at p cell (Finished work made) fits = tt
+finds_at p cell Idle is fits = tt
+finds_at p cell (Begun work) is fits = begun_finds p cell work fits
+finds_at p cell (Scanning reg label before slot) is fits = tt
+finds_at p cell (Scanned reg label before) is fits = tt
+finds_at p cell Crossing is fits = fits.home is
+finds_at p cell Swapping is fits = tt
+finds_at p cell Giving is fits = tt
+finds_at p cell (Finished work made) is fits = tt
 
 -- what a step finds is what it may find
 pub finds_fitting : (p : Private) (cell : Op → ℕ) → IsFitting p cell → IsFound p (next_of p) (cell (next_of p))
 unfolding next_of
-finds_fitting p cell fits = finds_at p cell p.phase fits
+finds_fitting p cell fits = finds_at p cell p.phase refl fits

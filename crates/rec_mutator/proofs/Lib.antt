@@ -1,4 +1,5 @@
 pub mod Found
+pub mod Polls
 pub mod Refusals
 pub mod Sizes
 pub mod Steps

@@ -9,10 +9,11 @@ use Rattle.rec_model.specs.declared.command.Cmd.{Cmd}
 use Rattle.rec_model.specs.declared.command.Cmd.TheVariants as commands
 use Rattle.rec_model.specs.declared.told.Told.{Told}
 use Rattle.rec_model.specs.Asking.{null_or_object, same, yes_or_no}
+use Rattle.rec_log.specs.declared.contents.Contents.{Contents}
 use Rattle.rec_log.specs.declared.entry.Entry.{Entry}
 use Rattle.rec_mutator.specs.Causes.{AnswersBy, is_refusal, LacksObject, MakesEntry, FoundNoneAt, FoundNone, HasCause}
 use Rattle.rec_mutator.specs.Private.{Private, register, work_of, work_at, answer_of, answer_at, IsAt, IsScan, IsMachine}
-use Rattle.rec_mutator.specs.Took.{took_of}
+use Rattle.rec_mutator.specs.Took.{step_of}
 use Rattle.rec_mutator.specs.Step.{Step, Decides, GoesOn, IsLogFull, IsStill}
 use Rattle.rec_mutator.specs.declared.made.Made.{Made}
 use Rattle.rec_mutator.specs.declared.made.Made.TheVariants as makes
@@ -23,11 +24,11 @@ use Rattle.rec_mutator.specs.declared.work.Work.TheVariants as works
 use Rattle.rec_mutator.proofs.Steps.{step_made}
 
 -- one answer in two results
-same_told : (s t : Told) → ◌≡◌ {A = Option Made} (Some (makes.Answered s)) (Some (makes.Answered t)) → s ≡ t
+pub same_told : (s t : Told) → ◌≡◌ {A = Option Made} (Some (makes.Answered s)) (Some (makes.Answered t)) → s ≡ t
 same_told s t is = cc
 
 -- one command in two works
-same_command : (c d : Cmd) → ◌≡◌ {A = Option Work} (Some (works.Command c)) (Some (works.Command d)) → c ≡ d
+pub same_command : (c d : Cmd) → ◌≡◌ {A = Option Work} (Some (works.Command c)) (Some (works.Command d)) → c ≡ d
 same_command c d is = cc
 
 -- what a step decides has its cause, if the answer that it decides has
@@ -39,11 +40,21 @@ decided {p = p} {q = q} {its_cmd = its_cmd} {at = at} {its_told = its_told} word
     let tolds : its_told ≡ told = same_told its_told told (sym (ap answer_of d.after) ∙ answer) in
     subst (λ (c : Cmd). HasCause p q c word told.answer) cmds (subst (λ (t : Told). HasCause p q its_cmd word t.answer) tolds cause)
 
+-- what answers nothing answers no command
+unanswered : (q : Private) (told : Told) → answer_of q ≡ None → answer_of q ≡ Some (makes.Answered told) → ⊥
+unanswered q told none answer =
+    let not_so : ◌≡◌ {A = Option Made} None (Some (makes.Answered told)) = sym none ∙ answer in
+    (cc)
+
 -- a step that goes on answers nothing
 goes_on : {p : Private} {op : Op} {q : Private} {at : Phase} {its_op : Op} {next_phase : Phase} (told : Told)
     → answer_at next_phase ≡ None → answer_of q ≡ Some (makes.Answered told) → GoesOn p op q at its_op next_phase → ⊥
-goes_on told none answer g =
-    let not_so : ◌≡◌ {A = Option Made} None (Some (makes.Answered told)) = sym none ∙ sym (ap answer_of g.after) ∙ answer in
+goes_on {q = q} told none answer g = unanswered q told (ap answer_of g.after ∙ none) answer
+
+-- what a poll answers is no command's answer
+crosses : (q : Private) (epoch : Option ℕ) (told : Told) → answer_of q ≡ Some (makes.Crossed epoch) → answer_of q ≡ Some (makes.Answered told) → ⊥
+crosses q epoch told poll answer =
+    let not_so : ◌≡◌ {A = Option Made} (Some (makes.Crossed epoch)) (Some (makes.Answered told)) = sym poll ∙ answer in
     (cc)
 
 -- the registers and the log stay
@@ -140,34 +151,34 @@ busy_cause p q reg label before word kept room is moves =
     }
 
 -- an answer of a read is no refusal
-read_plain : (x : Option ℕ) → is_refusal (null_or_object x) ≡ false
-read_plain None = refl
-read_plain (Some slot) = refl
+pub read_made : (x : Option ℕ) → is_refusal (null_or_object x) ≡ false
+read_made None = refl
+read_made (Some slot) = refl
 
 -- nor is one of a comparison
-compare_plain : (b : Bool) → is_refusal (yes_or_no b) ≡ false
-compare_plain true = refl
-compare_plain false = refl
+pub compare_made : (b : Bool) → is_refusal (yes_or_no b) ≡ false
+compare_made true = refl
+compare_made false = refl
 
 -- a register isn't null and an object at once
 not_both : (x : Option ℕ) (slot : ℕ) → x ≡ Some slot → x ≡ None → ⊥
 not_both x slot some none = cc
 
 -- every step that answers has its cause
-step_cause : {p : Private} {word : ℕ} {op : Op} {q : Private} (cmd : Cmd) (told : Told) → IsMachine p → work_of p ≡ Some (works.Command cmd) → answer_of q ≡ Some (makes.Answered told)
-    → Step p word op q → HasCause p q cmd word told.answer
+step_cause : {p : Private} {word : ℕ} {box : Contents} {op : Op} {q : Private} (cmd : Cmd) (told : Told) → IsMachine p → work_of p ≡ Some (works.Command cmd) → answer_of q ≡ Some (makes.Answered told)
+    → Step p word box op q → HasCause p q cmd word told.answer
 step_cause {p = p} {word = word} {q = q} cmd told kept work answer (Step.null reg d) =
     decided word cmd told refl work answer d (plain_cause p q (commands.Null reg) word answers.Done refl (λ e. e) (λ e. e.1) (not_scanned p _ d.phase (λ _ e. e)))
 step_cause {p = p} {word = word} {q = q} cmd told kept work answer (Step.copy dst src d) =
     decided word cmd told refl work answer d (plain_cause p q (commands.Copy dst src) word answers.Done refl (λ e. e) (λ e. e.1) (not_scanned p _ d.phase (λ _ e. e)))
 step_cause {p = p} {word = word} {q = q} cmd told kept work answer (Step.compare a b d) =
     decided word cmd told refl work answer d
-    (plain_cause p q (commands.Same a b) word (yes_or_no (same (register p a) (register p b))) (compare_plain (same (register p a) (register p b))) (λ e. e) (λ e. e.1) (not_scanned p _ d.phase (λ _ e. e)))
+    (plain_cause p q (commands.Same a b) word (yes_or_no (same (register p a) (register p b))) (compare_made (same (register p a) (register p b))) (λ e. e) (λ e. e.1) (not_scanned p _ d.phase (λ _ e. e)))
 step_cause {p = p} {word = word} {q = q} cmd told kept work answer (Step.get_of_null dst src f names d) =
     decided word cmd told refl work answer d (lacking_cause p q (commands.Get dst src f) word (stays d) names (λ e. e) (not_scanned p _ d.phase (λ _ e. e)))
 step_cause {p = p} {word = word} {q = q} cmd told kept work answer (Step.get dst src f slot names d) =
     decided word cmd told refl work answer d
-    (plain_cause p q (commands.Get dst src f) word (null_or_object (target_of word)) (read_plain (target_of word)) (not_both (register p src) slot names) (λ e. e.1) (not_scanned p _ d.phase (λ _ e. e)))
+    (plain_cause p q (commands.Get dst src f) word (null_or_object (target_of word)) (read_made (target_of word)) (not_both (register p src) slot names) (λ e. e.1) (not_scanned p _ d.phase (λ _ e. e)))
 step_cause {p = p} {word = word} {q = q} cmd told kept work answer (Step.put_of_null src f val names d) =
     decided word cmd told refl work answer d (lacking_cause p q (commands.Put src f val) word (stays d) names (λ e. not_both (register p src) e.0 e.1 names) (not_scanned p _ d.phase (λ _ e. e)))
 step_cause {p = p} {word = word} {q = q} cmd told kept work answer (Step.put_refused src f val slot names full d) =
@@ -193,10 +204,11 @@ step_cause {p = p} {word = word} {q = q} cmd told kept work answer (Step.new_is_
     decided word cmd told refl work answer d (full_cause p q reg label before word (stays d) (has_room p reg (at_phase p _ kept d.phase).0) d.phase still)
 step_cause {p = p} {word = word} {q = q} cmd told kept work answer (Step.new_is_busy reg label before moves d) =
     decided word cmd told refl work answer d (busy_cause p q reg label before word (stays d) (has_room p reg (at_phase p _ kept d.phase).0) d.phase moves)
-step_cause cmd told kept work answer (Step.poll g) =
-    let not_so : ◌≡◌ {A = Option Made} (Some (makes.Crossed None)) (Some (makes.Answered told)) = sym (ap answer_of g.after) ∙ answer in
-    (cc)
+step_cause {q = q} cmd told kept work answer (Step.poll_stays own g) = absurd (crosses q None told (ap answer_of g.after) answer)
+step_cause cmd told kept work answer (Step.poll_crosses other g) = absurd (goes_on told refl answer g)
+step_cause {q = q} cmd told kept work answer (Step.take_box c) = absurd (unanswered q told (ap answer_of c.after) answer)
+step_cause {q = q} cmd told kept work answer (Step.give_box c) = absurd (crosses q _ told (ap answer_of c.after) answer)
 
 -- every answer has its cause
-pub answer_cause : (p : Private) (word : ℕ) (cmd : Cmd) (told : Told) → IsMachine p → AnswersBy p word cmd told → HasCause p (took_of p word) cmd word told.answer
-answer_cause p word cmd told kept by = step_cause cmd told kept by.work by.answer (step_made p word by.busy)
+pub answer_cause : (p : Private) (word : ℕ) (box : Contents) (cmd : Cmd) (told : Told) → IsMachine p → AnswersBy p word box cmd told → HasCause p (step_of p word box) cmd word told.answer
+answer_cause p word box cmd told kept by = step_cause cmd told kept by.work by.answer (step_made p word box by.busy by.between)

@@ -5,21 +5,22 @@ use Rattle.std.proofs.lemmas.List.{length-set}
 use Rattle.rec_word.specs.declared.op.Op.{Op}
 use Rattle.rec_model.specs.declared.command.Cmd.{Cmd}
 use Rattle.rec_model.specs.declared.told.Told.{Told}
+use Rattle.rec_log.specs.declared.contents.Contents.{Contents}
 use Rattle.rec_log.specs.declared.entry.Entry.{Entry}
 use Rattle.rec_mutator.specs.Private.{Private, KeepsSizes, is_busy, is_busy_at, work_of, work_at}
 use Rattle.rec_mutator.specs.Took.{took_of, took_at, begun_by}
-use Rattle.rec_mutator.specs.Step.{Step, Decides, GoesOn}
+use Rattle.rec_mutator.specs.Step.{Step, Decides, GoesOn, Crosses}
 use Rattle.rec_mutator.specs.declared.phase.Phase.{Phase}
 use Rattle.rec_mutator.specs.declared.phase.Phase.TheVariants.{Begun}
 use Rattle.rec_mutator.specs.declared.work.Work.{Work}
 use Rattle.rec_mutator.specs.declared.work.Work.TheVariants as works
-use Rattle.rec_mutator.proofs.Steps.{step_made}
+use Rattle.rec_mutator.proofs.Steps.{TakesNone, learnt_made}
 
 -- an answer keeps them, if it leaves as many registers, and the work, if it is the command's
 decided_keeps : {p : Private} {op : Op} {q : Private} {cmd : Cmd} {at : Phase} {its_op : Op} {registers : List (Option ℕ)} {entries : List Entry} {told : Told}
     → length registers ≡ length p.registers → work_at at ≡ Some (works.Command cmd) → Decides p op q cmd at its_op registers entries told → KeepsSizes p q × (work_of q ≡ work_of p)
 decided_keeps {p = p} {cmd = cmd} {registers = registers} {entries = entries} {told = told} many work d = (
-  subst (KeepsSizes p) (sym d.after) (record { number = refl; epoch = refl; slots = refl; fields = refl; registers = many; snapshot = refl; capacity = refl }),
+  subst (KeepsSizes p) (sym d.after) (record { number = refl; slots = refl; fields = refl; registers = many; capacity = refl }),
   ap work_of d.after ∙ sym (ap work_at d.phase ∙ work),
 )
 
@@ -27,34 +28,45 @@ decided_keeps {p = p} {cmd = cmd} {registers = registers} {entries = entries} {t
 going_on_keeps : {p : Private} {op : Op} {q : Private} {at : Phase} {its_op : Op} {next_phase : Phase}
     → work_at at ≡ work_at next_phase → GoesOn p op q at its_op next_phase → KeepsSizes p q × (work_of q ≡ work_of p)
 going_on_keeps {p = p} work g = (
-  subst (KeepsSizes p) (sym g.after) (record { number = refl; epoch = refl; slots = refl; fields = refl; registers = refl; snapshot = refl; capacity = refl }),
+  subst (KeepsSizes p) (sym g.after) (record { number = refl; slots = refl; fields = refl; registers = refl; capacity = refl }),
   ap work_of g.after ∙ sym (ap work_at g.phase ∙ work),
 )
 
--- every step keeps sizes and work
-step_keeps : {p : Private} {word : ℕ} {op : Op} {q : Private} → Step p word op q → KeepsSizes p q × (work_of q ≡ work_of p)
-step_keeps {p = p} (Step.null reg d) = decided_keeps (length-set p.registers reg _) refl d
-step_keeps {p = p} (Step.copy dst src d) = decided_keeps (length-set p.registers dst _) refl d
-step_keeps (Step.compare a b d) = decided_keeps refl refl d
-step_keeps (Step.get_of_null dst src f names d) = decided_keeps refl refl d
-step_keeps {p = p} (Step.get dst src f slot names d) = decided_keeps (length-set p.registers dst _) refl d
-step_keeps (Step.put_of_null src f val names d) = decided_keeps refl refl d
-step_keeps (Step.put_refused src f val slot names full d) = decided_keeps refl refl d
-step_keeps (Step.put src f val slot names room d) = decided_keeps refl refl d
-step_keeps (Step.value_of_null reg names d) = decided_keeps refl refl d
-step_keeps (Step.value reg slot names d) = decided_keeps refl refl d
-step_keeps (Step.new_refused reg label full d) = decided_keeps refl refl d
-step_keeps (Step.new_begins reg label room g) = going_on_keeps refl g
-step_keeps {p = p} (Step.new_wins reg label before slot free d) = decided_keeps (length-set p.registers reg _) refl d
-step_keeps (Step.new_goes_on reg label before slot taken more g) = going_on_keeps refl g
-step_keeps (Step.new_finds_none reg label before slot taken last g) = going_on_keeps refl g
-step_keeps (Step.new_is_full reg label before still d) = decided_keeps refl refl d
-step_keeps (Step.new_is_busy reg label before moves d) = decided_keeps refl refl d
-step_keeps (Step.poll g) = going_on_keeps refl g
+-- so does a step of a crossing, with a buffer that can hold as much
+crossing_keeps : {p : Private} {op : Op} {q : Private} {at : Phase} {its_op : Op} {epoch : ℕ} {log : Contents} {next_phase : Phase}
+    → work_at at ≡ Some works.Poll → work_at next_phase ≡ Some works.Poll → log.capacity ≡ p.log.capacity → Crosses p op q at its_op epoch log next_phase → KeepsSizes p q × (work_of q ≡ work_of p)
+crossing_keeps {p = p} at next sized c = (
+  subst (KeepsSizes p) (sym c.after) (record { number = refl; slots = refl; fields = refl; registers = refl; capacity = sized }),
+  ap work_of c.after ∙ next ∙ sym (ap work_at c.phase ∙ at),
+)
 
--- so does what is learnt
-pub took_keeps : (p : Private) (word : ℕ) → is_busy p ≡ true → KeepsSizes p (took_of p word) × (work_of (took_of p word) ≡ work_of p)
-took_keeps p word busy = step_keeps (step_made p word busy)
+-- every step keeps sizes and work
+pub step_keeps : {p : Private} {word : ℕ} {box : Contents} {op : Op} {q : Private} → box.capacity ≡ p.log.capacity → Step p word box op q → KeepsSizes p q × (work_of q ≡ work_of p)
+step_keeps {p = p} sized (Step.null reg d) = decided_keeps (length-set p.registers reg _) refl d
+step_keeps {p = p} sized (Step.copy dst src d) = decided_keeps (length-set p.registers dst _) refl d
+step_keeps sized (Step.compare a b d) = decided_keeps refl refl d
+step_keeps sized (Step.get_of_null dst src f names d) = decided_keeps refl refl d
+step_keeps {p = p} sized (Step.get dst src f slot names d) = decided_keeps (length-set p.registers dst _) refl d
+step_keeps sized (Step.put_of_null src f val names d) = decided_keeps refl refl d
+step_keeps sized (Step.put_refused src f val slot names full d) = decided_keeps refl refl d
+step_keeps sized (Step.put src f val slot names room d) = decided_keeps refl refl d
+step_keeps sized (Step.value_of_null reg names d) = decided_keeps refl refl d
+step_keeps sized (Step.value reg slot names d) = decided_keeps refl refl d
+step_keeps sized (Step.new_refused reg label full d) = decided_keeps refl refl d
+step_keeps sized (Step.new_begins reg label room g) = going_on_keeps refl g
+step_keeps {p = p} sized (Step.new_wins reg label before slot free d) = decided_keeps (length-set p.registers reg _) refl d
+step_keeps sized (Step.new_goes_on reg label before slot taken more g) = going_on_keeps refl g
+step_keeps sized (Step.new_finds_none reg label before slot taken last g) = going_on_keeps refl g
+step_keeps sized (Step.new_is_full reg label before still d) = decided_keeps refl refl d
+step_keeps sized (Step.new_is_busy reg label before moves d) = decided_keeps refl refl d
+step_keeps sized (Step.poll_stays own g) = going_on_keeps refl g
+step_keeps sized (Step.poll_crosses other g) = going_on_keeps refl g
+step_keeps sized (Step.take_box c) = crossing_keeps refl refl sized c
+step_keeps sized (Step.give_box c) = crossing_keeps refl refl refl c
+
+-- so does what is learnt, where no mailbox is taken
+pub took_keeps : (p : Private) (word : ℕ) → is_busy p ≡ true → TakesNone p.phase → KeepsSizes p (took_of p word) × (work_of (took_of p word) ≡ work_of p)
+took_keeps p word busy none = step_keeps {box = p.log} refl (learnt_made p word p.log busy none)
 
 -- so does what the first step of a work learns
 pub first_keeps : (p q : Private) (word : ℕ) (work : Work) → p.phase ≡ Begun work → q ≡ begun_by p word work → KeepsSizes p q × (work_of q ≡ work_of p)
@@ -62,10 +74,10 @@ unfolding took_of took_at
 first_keeps p q word work begun is =
     let took : took_of p word ≡ begun_by p word work = ap (took_at p word) begun in
     let busy : is_busy p ≡ true = ap is_busy_at begun in
-    subst (λ (x : Private). KeepsSizes p x × (work_of x ≡ work_of p)) (sym (is ∙ sym took)) (took_keeps p word busy)
+    subst (λ (x : Private). KeepsSizes p x × (work_of x ≡ work_of p)) (sym (is ∙ sym took)) (took_keeps p word busy (subst TakesNone (sym begun) tt))
 
 -- each step counts
-step_counts : {p : Private} {word : ℕ} {op : Op} {q : Private} → Step p word op q → q.steps ≡ p.steps + 1
+pub step_counts : {p : Private} {word : ℕ} {box : Contents} {op : Op} {q : Private} → Step p word box op q → q.steps ≡ p.steps + 1
 step_counts (Step.null reg d) = ap (λ (x : Private). x.steps) d.after
 step_counts (Step.copy dst src d) = ap (λ (x : Private). x.steps) d.after
 step_counts (Step.compare a b d) = ap (λ (x : Private). x.steps) d.after
@@ -83,11 +95,14 @@ step_counts (Step.new_goes_on reg label before slot taken more g) = ap (λ (x : 
 step_counts (Step.new_finds_none reg label before slot taken last g) = ap (λ (x : Private). x.steps) g.after
 step_counts (Step.new_is_full reg label before still d) = ap (λ (x : Private). x.steps) d.after
 step_counts (Step.new_is_busy reg label before moves d) = ap (λ (x : Private). x.steps) d.after
-step_counts (Step.poll g) = ap (λ (x : Private). x.steps) g.after
+step_counts (Step.poll_stays own g) = ap (λ (x : Private). x.steps) g.after
+step_counts (Step.poll_crosses other g) = ap (λ (x : Private). x.steps) g.after
+step_counts (Step.take_box c) = ap (λ (x : Private). x.steps) c.after
+step_counts (Step.give_box c) = ap (λ (x : Private). x.steps) c.after
 
 pub first_counts : (p q : Private) (word : ℕ) (work : Work) → p.phase ≡ Begun work → q ≡ begun_by p word work → q.steps ≡ p.steps + 1
 unfolding took_of took_at
 first_counts p q word work begun is =
     let took : took_of p word ≡ begun_by p word work = ap (took_at p word) begun in
     let busy : is_busy p ≡ true = ap is_busy_at begun in
-    subst (λ (x : Private). x.steps ≡ p.steps + 1) (sym (is ∙ sym took)) (step_counts (step_made p word busy))
+    subst (λ (x : Private). x.steps ≡ p.steps + 1) (sym (is ∙ sym took)) (step_counts (learnt_made p word p.log busy (subst TakesNone (sym begun) tt)))

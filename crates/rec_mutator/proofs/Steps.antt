@@ -1,23 +1,27 @@
 -- What comes next and what is learnt are a step: by the phase, and then by the registers and the log.
-use Rattle.std.proofs.Common.{◌≡◌, inl, inr, ℕ, ◌+◌, ◌%◌, ◌==◌, ◌&&◌, Bool, true, false, Option, None, Some, length, refl, sym, ap, ◌∙◌}
+use Rattle.std.proofs.Common.{◌≡◌, inl, inr, ℕ, ◌+◌, ◌%◌, ◌==◌, ◌&&◌, Bool, true, false, Option, None, Some, List, length, refl, sym, ap, subst, ◌∙◌}
 use Rattle.std.proofs.lemmas.Bool.{false≢true, eqb-true, cond-true, cond-false, eq-eqb, ne_eqb, cases_eq}
+use Rattle.rec_word.specs.declared.op.Op.{Op}
 use Rattle.rec_model.specs.declared.answer.Answer.{Answer}
 use Rattle.rec_model.specs.declared.answer.Answer.TheVariants as answers
 use Rattle.rec_model.specs.declared.command.Cmd.{Cmd}
 use Rattle.rec_model.specs.declared.command.Cmd.TheVariants as commands
+use Rattle.rec_model.specs.declared.told.Told.{Told}
+use Rattle.rec_log.specs.declared.contents.Contents.{Contents}
+use Rattle.rec_log.specs.declared.entry.Entry.{Entry}
 use Rattle.rec_mutator.specs.Private.{Private, register, is_full, is_busy_at, is_busy}
 use Rattle.rec_mutator.specs.Next.{next_of, next_at, read_op, write_op, label_op}
-use Rattle.rec_mutator.specs.Took.{took_of, took_at, plain, moved, answered, read_by, written_by, label_by}
-use Rattle.rec_mutator.specs.Step.{Step, IsStill}
+use Rattle.rec_mutator.specs.Took.{took_of, took_at, plain, moved, answered, read_by, written_by, label_by, polled, swapped_at, swapped_of, step_of, IsBetween}
+use Rattle.rec_mutator.specs.Step.{Step, Decides, GoesOn, Crosses, IsStill}
 use Rattle.rec_mutator.specs.declared.phase.Phase.{Phase}
-use Rattle.rec_mutator.specs.declared.phase.Phase.TheVariants.{Idle, Begun, Scanning, Scanned, Finished}
+use Rattle.rec_mutator.specs.declared.phase.Phase.TheVariants.{Idle, Begun, Scanning, Scanned, Crossing, Swapping, Giving, Finished}
 use Rattle.rec_mutator.specs.declared.work.Work.{Work}
 use Rattle.rec_mutator.specs.declared.work.Work.TheVariants as works
 
 -- a step of an allocation that was begun
-new_step : (p : Private) (word reg label : ℕ) → p.phase ≡ Begun (works.Command (commands.New reg label)) → Step p word (next_at p (Begun (works.Command (commands.New reg label)))) (took_at p word (Begun (works.Command (commands.New reg label))))
+new_step : (p : Private) (word reg label : ℕ) (box : Contents) → p.phase ≡ Begun (works.Command (commands.New reg label)) → Step p word box (next_at p (Begun (works.Command (commands.New reg label)))) (took_at p word (Begun (works.Command (commands.New reg label))))
 unfolding next_at took_at
-new_step p word reg label is = elim (cases_eq (length p.log.entries) p.log.capacity) [
+new_step p word reg label box is = elim (cases_eq (length p.log.entries) p.log.capacity) [
   | inl full ↦
       let t : is_full p ≡ true = eq-eqb (length p.log.entries) p.log.capacity full in
       Step.new_refused reg label full (record {
@@ -35,29 +39,29 @@ new_step p word reg label is = elim (cases_eq (length p.log.entries) p.log.capac
 ]
 
 -- a step of a read
-get_step : (p : Private) (word dst src f : ℕ) (x : Option ℕ) → register p src ≡ x → p.phase ≡ Begun (works.Command (commands.Get dst src f))
-    → Step p word (read_op p f x) (read_by p (commands.Get dst src f) dst word x)
-get_step p word dst src f None names is = Step.get_of_null dst src f names (record { phase = is; operation = refl; after = refl })
-get_step p word dst src f (Some slot) names is = Step.get dst src f slot names (record { phase = is; operation = refl; after = refl })
+get_step : (p : Private) (word dst src f : ℕ) (box : Contents) (x : Option ℕ) → register p src ≡ x → p.phase ≡ Begun (works.Command (commands.Get dst src f))
+    → Step p word box (read_op p f x) (read_by p (commands.Get dst src f) dst word x)
+get_step p word dst src f box None names is = Step.get_of_null dst src f names (record { phase = is; operation = refl; after = refl })
+get_step p word dst src f box (Some slot) names is = Step.get dst src f slot names (record { phase = is; operation = refl; after = refl })
 
 -- a step of a write
-put_step : (p : Private) (word src f val : ℕ) (x : Option ℕ) (full : Bool) → register p src ≡ x → is_full p ≡ full → p.phase ≡ Begun (works.Command (commands.Put src f val))
-    → Step p word (write_op p f val x full) (written_by p (commands.Put src f val) f val word x full)
-put_step p word src f val None full names room is = Step.put_of_null src f val names (record { phase = is; operation = refl; after = refl })
-put_step p word src f val (Some slot) true names room is = Step.put_refused src f val slot names (eqb-true (length p.log.entries) p.log.capacity room) (record { phase = is; operation = refl; after = refl })
-put_step p word src f val (Some slot) false names room is =
+put_step : (p : Private) (word src f val : ℕ) (box : Contents) (x : Option ℕ) (full : Bool) → register p src ≡ x → is_full p ≡ full → p.phase ≡ Begun (works.Command (commands.Put src f val))
+    → Step p word box (write_op p f val x full) (written_by p (commands.Put src f val) f val word x full)
+put_step p word src f val box None full names room is = Step.put_of_null src f val names (record { phase = is; operation = refl; after = refl })
+put_step p word src f val box (Some slot) true names room is = Step.put_refused src f val slot names (eqb-true (length p.log.entries) p.log.capacity room) (record { phase = is; operation = refl; after = refl })
+put_step p word src f val box (Some slot) false names room is =
     Step.put src f val slot names (λ full. false≢true (sym room ∙ eq-eqb (length p.log.entries) p.log.capacity full)) (record { phase = is; operation = refl; after = refl })
 
 -- a step of a look at a label
-value_step : (p : Private) (word reg : ℕ) (x : Option ℕ) → register p reg ≡ x → p.phase ≡ Begun (works.Command (commands.Value reg))
-    → Step p word (label_op p x) (answered p (commands.Value reg) (plain (label_by word x)))
-value_step p word reg None names is = Step.value_of_null reg names (record { phase = is; operation = refl; after = refl })
-value_step p word reg (Some slot) names is = Step.value reg slot names (record { phase = is; operation = refl; after = refl })
+value_step : (p : Private) (word reg : ℕ) (box : Contents) (x : Option ℕ) → register p reg ≡ x → p.phase ≡ Begun (works.Command (commands.Value reg))
+    → Step p word box (label_op p x) (answered p (commands.Value reg) (plain (label_by word x)))
+value_step p word reg box None names is = Step.value_of_null reg names (record { phase = is; operation = refl; after = refl })
+value_step p word reg box (Some slot) names is = Step.value reg slot names (record { phase = is; operation = refl; after = refl })
 
 -- a probe
-probe_step : (p : Private) (word reg label before slot : ℕ) → p.phase ≡ Scanning reg label before slot → Step p word (next_at p (Scanning reg label before slot)) (took_at p word (Scanning reg label before slot))
+probe_step : (p : Private) (word reg label before slot : ℕ) (box : Contents) → p.phase ≡ Scanning reg label before slot → Step p word box (next_at p (Scanning reg label before slot)) (took_at p word (Scanning reg label before slot))
 unfolding next_at took_at
-probe_step p word reg label before slot is = elim (cases_eq word 0) [
+probe_step p word reg label before slot box is = elim (cases_eq word 0) [
   | inl free ↦ Step.new_wins reg label before slot free (record { phase = is; operation = refl; after = cond-true (word == 0) _ _ (eq-eqb word 0 free) })
   | inr taken ↦ elim (cases_eq (slot + 1) p.slots) [
     | inl last ↦
@@ -76,12 +80,12 @@ probe_step p word reg label before slot is = elim (cases_eq word 0) [
 ]
 
 -- the last step of an allocation that found no free slot
-last_step : (p : Private) (word reg label before : ℕ) → p.phase ≡ Scanned reg label before → Step p word (next_at p (Scanned reg label before)) (took_at p word (Scanned reg label before))
+last_step : (p : Private) (word reg label before : ℕ) (box : Contents) → p.phase ≡ Scanned reg label before → Step p word box (next_at p (Scanned reg label before)) (took_at p word (Scanned reg label before))
 unfolding next_at took_at
-last_step p word reg label before is =
+last_step p word reg label before box is =
     let tells : Answer → Private = λ answer. answered p (commands.New reg label) (plain answer) in
     let still : Bool = (before % 2 == 0) && (before == word) in
-    let busy : (IsStill before word → ⊥) → still ≡ false → Step p word (next_at p (Scanned reg label before)) (took_at p word (Scanned reg label before))
+    let busy : (IsStill before word → ⊥) → still ≡ false → Step p word box (next_at p (Scanned reg label before)) (took_at p word (Scanned reg label before))
     = λ moves no. Step.new_is_busy reg label before moves (record { phase = is; operation = refl; after = ap tells (cond-false still answers.Full (answers.Busy before word) no) }) in
     elim (cases_eq (before % 2) 0) [
       | inl even ↦ elim (cases_eq before word) [
@@ -94,31 +98,144 @@ last_step p word reg label before is =
     ]
 
 -- the first step of a command
-command_step : (p : Private) (word : ℕ) (cmd : Cmd) → p.phase ≡ Begun (works.Command cmd) → Step p word (next_at p (Begun (works.Command cmd))) (took_at p word (Begun (works.Command cmd)))
+command_step : (p : Private) (word : ℕ) (box : Contents) (cmd : Cmd) → p.phase ≡ Begun (works.Command cmd) → Step p word box (next_at p (Begun (works.Command cmd))) (took_at p word (Begun (works.Command cmd)))
 unfolding next_at took_at
-command_step p word (commands.New reg label) is = new_step p word reg label is
-command_step p word (commands.Null reg) is = Step.null reg (record { phase = is; operation = refl; after = refl })
-command_step p word (commands.Copy dst src) is = Step.copy dst src (record { phase = is; operation = refl; after = refl })
-command_step p word (commands.Get dst src f) is = get_step p word dst src f (register p src) refl is
-command_step p word (commands.Put src f val) is = put_step p word src f val (register p src) (is_full p) refl refl is
-command_step p word (commands.Value reg) is = value_step p word reg (register p reg) refl is
-command_step p word (commands.Same a b) is = Step.compare a b (record { phase = is; operation = refl; after = refl })
+command_step p word box (commands.New reg label) is = new_step p word reg label box is
+command_step p word box (commands.Null reg) is = Step.null reg (record { phase = is; operation = refl; after = refl })
+command_step p word box (commands.Copy dst src) is = Step.copy dst src (record { phase = is; operation = refl; after = refl })
+command_step p word box (commands.Get dst src f) is = get_step p word dst src f box (register p src) refl is
+command_step p word box (commands.Put src f val) is = put_step p word src f val box (register p src) (is_full p) refl refl is
+command_step p word box (commands.Value reg) is = value_step p word reg box (register p reg) refl is
+command_step p word box (commands.Same a b) is = Step.compare a b (record { phase = is; operation = refl; after = refl })
+
+-- a poll that looked at the epoch word
+poll_step : (p : Private) (word : ℕ) (box : Contents) → p.phase ≡ Begun works.Poll → Step p word box (next_at p (Begun works.Poll)) (polled p word)
+unfolding next_at
+poll_step p word box is = elim (cases_eq word p.epoch) [
+  | inl own ↦ Step.poll_stays own (record { phase = is; operation = refl; after = ap (moved p) (cond-true (word == p.epoch) _ _ (eq-eqb word p.epoch own)) })
+  | inr other ↦ Step.poll_crosses other (record { phase = is; operation = refl; after = ap (moved p) (cond-false (word == p.epoch) _ _ (ne_eqb word p.epoch other)) })
+]
 
 -- the first step of a work
-begun_step : (p : Private) (word : ℕ) (work : Work) → p.phase ≡ Begun work → Step p word (next_at p (Begun work)) (took_at p word (Begun work))
+begun_step : (p : Private) (word : ℕ) (box : Contents) (work : Work) → p.phase ≡ Begun work → Step p word box (next_at p (Begun work)) (took_at p word (Begun work))
 unfolding next_at took_at
-begun_step p word (works.Command cmd) is = command_step p word cmd is
-begun_step p word works.Poll is = Step.poll (record { phase = is; operation = refl; after = refl })
+begun_step p word box (works.Command cmd) is = command_step p word box cmd is
+begun_step p word box works.Poll is = poll_step p word box is
+
+-- no mailbox is taken next, and none is held that waits to be swapped
+abbrev pub TakesNone : Phase → Type 0
+TakesNone Crossing = ⊥
+TakesNone Swapping = ⊥
+TakesNone _ = Unit {0}
+
+-- a step that takes no mailbox, by phase
+learnt_at : (p : Private) (word : ℕ) (box : Contents) (phase : Phase) → p.phase ≡ phase → is_busy_at phase ≡ true → TakesNone phase → Step p word box (next_at p phase) (took_at p word phase)
+unfolding next_at took_at
+learnt_at p word box Idle is busy none = absurd (false≢true busy)
+learnt_at p word box (Begun work) is busy none = begun_step p word box work is
+learnt_at p word box (Scanning reg label before slot) is busy none = probe_step p word reg label before slot box is
+learnt_at p word box (Scanned reg label before) is busy none = last_step p word reg label before box is
+learnt_at p word box Crossing is busy none = absurd none
+learnt_at p word box Swapping is busy none = absurd none
+learnt_at p word box Giving is busy none = Step.give_box (record { phase = is; operation = refl; after = refl })
+learnt_at p word box (Finished work made) is busy none = absurd (false≢true busy)
+
+-- a step that takes no mailbox: what comes next, and what is learnt
+pub learnt_made : (p : Private) (word : ℕ) (box : Contents) → is_busy p ≡ true → TakesNone p.phase → Step p word box (next_of p) (took_of p word)
+unfolding next_of took_of
+learnt_made p word box busy none = learnt_at p word box p.phase refl busy none
+
+-- an answered command leaves no mailbox that waits to be swapped
+decided_between : {p : Private} {op : Op} {q : Private} {cmd : Cmd} {at : Phase} {its_op : Op} {registers : List (Option ℕ)} {entries : List Entry} {told : Told}
+    → Decides p op q cmd at its_op registers entries told → IsBetween q.phase
+decided_between d = subst (λ (x : Private). IsBetween x.phase) (sym d.after) tt
+
+-- nor does a work that goes on, if its phase is no such one
+going_between : {p : Private} {op : Op} {q : Private} {at : Phase} {its_op : Op} {next_phase : Phase} → IsBetween next_phase → GoesOn p op q at its_op next_phase → IsBetween q.phase
+going_between is g = subst (λ (x : Private). IsBetween x.phase) (sym g.after) is
+
+-- nor does a crossing
+crossing_between : {p : Private} {op : Op} {q : Private} {at : Phase} {its_op : Op} {epoch : ℕ} {log : Contents} {next_phase : Phase}
+    → IsBetween next_phase → Crosses p op q at its_op epoch log next_phase → IsBetween q.phase
+crossing_between is c = subst (λ (x : Private). IsBetween x.phase) (sym c.after) is
+
+-- no step leaves a mailbox that waits to be swapped
+pub step_between : {p : Private} {word : ℕ} {box : Contents} {op : Op} {q : Private} → Step p word box op q → IsBetween q.phase
+step_between (Step.null reg d) = decided_between d
+step_between (Step.copy dst src d) = decided_between d
+step_between (Step.compare a b d) = decided_between d
+step_between (Step.get_of_null dst src f names d) = decided_between d
+step_between (Step.get dst src f slot names d) = decided_between d
+step_between (Step.put_of_null src f val names d) = decided_between d
+step_between (Step.put_refused src f val slot names full d) = decided_between d
+step_between (Step.put src f val slot names room d) = decided_between d
+step_between (Step.value_of_null reg names d) = decided_between d
+step_between (Step.value reg slot names d) = decided_between d
+step_between (Step.new_refused reg label full d) = decided_between d
+step_between (Step.new_begins reg label room g) = going_between tt g
+step_between (Step.new_wins reg label before slot free d) = decided_between d
+step_between (Step.new_goes_on reg label before slot taken more g) = going_between tt g
+step_between (Step.new_finds_none reg label before slot taken last g) = going_between tt g
+step_between (Step.new_is_full reg label before still d) = decided_between d
+step_between (Step.new_is_busy reg label before moves d) = decided_between d
+step_between (Step.poll_stays own g) = going_between tt g
+step_between (Step.poll_crosses other g) = going_between tt g
+step_between (Step.take_box c) = crossing_between tt c
+step_between (Step.give_box c) = crossing_between tt c
+
+-- where no mailbox waits to be swapped, none is
+unswapped_at : (q : Private) (box : Contents) (phase : Phase) → IsBetween phase → swapped_at q box phase ≡ q
+unfolding swapped_at
+unswapped_at q box Idle is = refl
+unswapped_at q box (Begun work) is = refl
+unswapped_at q box (Scanning reg label before slot) is = refl
+unswapped_at q box (Scanned reg label before) is = refl
+unswapped_at q box Crossing is = refl
+unswapped_at q box Swapping is = absurd is
+unswapped_at q box Giving is = refl
+unswapped_at q box (Finished work made) is = refl
+
+pub unswapped : (q : Private) (box : Contents) → IsBetween q.phase → swapped_of q box ≡ q
+unfolding swapped_of
+unswapped q box is = unswapped_at q box q.phase is
+
+-- a step that takes no mailbox learns of the word alone
+pub here_same : (p : Private) (word : ℕ) (box : Contents) → is_busy p ≡ true → TakesNone p.phase → step_of p word box ≡ took_of p word
+unfolding step_of
+here_same p word box busy none = unswapped (took_of p word) box (step_between (learnt_made p word box busy none))
+
+-- it is a whole step
+here_made : (p : Private) (word : ℕ) (box : Contents) → is_busy p ≡ true → TakesNone p.phase → Step p word box (next_of p) (step_of p word box)
+here_made p word box busy none = subst (Step p word box (next_of p)) (sym (here_same p word box busy none)) (learnt_made p word box busy none)
+
+-- no mailbox waits to be swapped where none is taken
+pub none_between : (phase : Phase) → TakesNone phase → IsBetween phase
+none_between Idle none = tt
+none_between (Begun work) none = tt
+none_between (Scanning reg label before slot) none = tt
+none_between (Scanned reg label before) none = tt
+none_between Crossing none = tt
+none_between Swapping none = none
+none_between Giving none = tt
+none_between (Finished work made) none = tt
+
+-- a step that takes the own mailbox
+crossing_made : (p : Private) (word : ℕ) (box : Contents) → p.phase ≡ Crossing → Step p word box (next_of p) (step_of p word box)
+unfolding next_of next_at took_of took_at swapped_of swapped_at step_of
+crossing_made p word box is =
+    Step.take_box (record { phase = is; operation = ap (next_at p) is; after = ap (λ x. swapped_of (took_at p word x) box) is })
 
 -- a step, by phase
-step_at : (p : Private) (word : ℕ) (phase : Phase) → p.phase ≡ phase → is_busy_at phase ≡ true → Step p word (next_at p phase) (took_at p word phase)
-step_at p word Idle is busy = absurd (false≢true busy)
-step_at p word (Begun work) is busy = begun_step p word work is
-step_at p word (Scanning reg label before slot) is busy = probe_step p word reg label before slot is
-step_at p word (Scanned reg label before) is busy = last_step p word reg label before is
-step_at p word (Finished work made) is busy = absurd (false≢true busy)
+step_at : (p : Private) (word : ℕ) (box : Contents) (phase : Phase) → p.phase ≡ phase → is_busy p ≡ true → IsBetween phase → Step p word box (next_of p) (step_of p word box)
+step_at p word box Idle is busy whole = here_made p word box busy (subst TakesNone (sym is) tt)
+step_at p word box (Begun work) is busy whole = here_made p word box busy (subst TakesNone (sym is) tt)
+step_at p word box (Scanning reg label before slot) is busy whole = here_made p word box busy (subst TakesNone (sym is) tt)
+step_at p word box (Scanned reg label before) is busy whole = here_made p word box busy (subst TakesNone (sym is) tt)
+step_at p word box Crossing is busy whole = crossing_made p word box is
+step_at p word box Swapping is busy whole = absurd whole
+step_at p word box Giving is busy whole = here_made p word box busy (subst TakesNone (sym is) tt)
+step_at p word box (Finished work made) is busy whole = here_made p word box busy (subst TakesNone (sym is) tt)
 
--- what comes next, and what is learnt, is a step
-pub step_made : (p : Private) (word : ℕ) → is_busy p ≡ true → Step p word (next_of p) (took_of p word)
-unfolding next_of took_of
-step_made p word busy = step_at p word p.phase refl busy
+-- what comes next, and what is learnt of the word found and of the mailbox that is taken, is a step
+pub step_made : (p : Private) (word : ℕ) (box : Contents) → is_busy p ≡ true → IsBetween p.phase → Step p word box (next_of p) (step_of p word box)
+step_made p word box busy whole = step_at p word box p.phase refl busy whole

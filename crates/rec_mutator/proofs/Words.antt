@@ -9,7 +9,7 @@ use Rattle.rec_mutator.specs.Private.{Private, register, is_full, HasOperands, I
 use Rattle.rec_mutator.specs.Next.{next_of, next_at, begun_op, first_op, own_word, read_op, write_op, label_op}
 use Rattle.rec_mutator.specs.Step.{NamesWord, NamesSlots}
 use Rattle.rec_mutator.specs.declared.phase.Phase.{Phase}
-use Rattle.rec_mutator.specs.declared.phase.Phase.TheVariants.{Idle, Begun, Scanning, Scanned, Finished}
+use Rattle.rec_mutator.specs.declared.phase.Phase.TheVariants.{Idle, Begun, Scanning, Scanned, Crossing, Swapping, Giving, Finished}
 use Rattle.rec_mutator.specs.declared.work.Work.{Work}
 use Rattle.rec_mutator.specs.declared.work.Work.TheVariants as works
 
@@ -62,6 +62,9 @@ names_at p Idle at there = tt
 names_at p (Begun work) at there = begun_names p work at.0 there
 names_at p (Scanning reg label before slot) at there = at.1
 names_at p (Scanned reg label before) at there = tt
+names_at p Crossing at there = at.1
+names_at p Swapping at there = at.1
+names_at p Giving at there = at.1
 names_at p (Finished work made) at there = tt
 
 -- what comes next names a word of the heap

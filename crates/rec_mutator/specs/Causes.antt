@@ -1,23 +1,25 @@
 -- Why a command is refused, and that a refusal changes nothing.
-use Rattle.std.specs.Prelude.{◌≡◌, ◌↔◌, ℕ, Bool, true, false, None, Some}
+use Rattle.std.specs.Prelude.{◌≡◌, ◌↔◌, ℕ, ◌+◌, Bool, true, false, None, Some, if◌then◌else◌}
 use Rattle.rec_model.specs.declared.answer.Answer.{Answer}
 use Rattle.rec_model.specs.declared.answer.Answer.TheVariants as answers
 use Rattle.rec_model.specs.declared.command.Cmd.{Cmd}
 use Rattle.rec_model.specs.declared.command.Cmd.TheVariants as commands
 use Rattle.rec_model.specs.declared.told.Told.{Told}
+use Rattle.rec_log.specs.declared.contents.Contents.{Contents}
 use Rattle.rec_mutator.specs.Private.{Private, register, is_busy, work_of, answer_of}
 use Rattle.rec_mutator.specs.Step.{IsLogFull, IsStill}
-use Rattle.rec_mutator.specs.Took.{took_of}
+use Rattle.rec_mutator.specs.Took.{step_of, IsBetween}
 use Rattle.rec_mutator.specs.declared.made.Made.TheVariants as makes
 use Rattle.rec_mutator.specs.declared.phase.Phase.{Phase}
-use Rattle.rec_mutator.specs.declared.phase.Phase.TheVariants.{Scanned}
+use Rattle.rec_mutator.specs.declared.phase.Phase.TheVariants.{Begun, Scanned, Giving}
 use Rattle.rec_mutator.specs.declared.work.Work.TheVariants as works
 
--- the step that finds this word answers this command with what is told
-pub record AnswersBy (p : Private) (word : ℕ) (cmd : Cmd) (told : Told) : Type 0 where
+-- the step that finds this word, and this buffer in the own mailbox, answers this command with what is told
+pub record AnswersBy (p : Private) (word : ℕ) (box : Contents) (cmd : Cmd) (told : Told) : Type 0 where
   pub busy : is_busy p ≡ true
+  pub between : IsBetween p.phase
   pub work : work_of p ≡ Some (works.Command cmd)
-  pub answer : answer_of (took_of p word) ≡ Some (makes.Answered told)
+  pub answer : answer_of (step_of p word box) ≡ Some (makes.Answered told)
 
 -- an answer that refuses
 abbrev pub is_refusal : Answer → Bool
@@ -40,6 +42,11 @@ MakesEntry p (commands.New reg label) = Unit {0}
 MakesEntry p (commands.Put src f val) = (slot : ℕ) × (register p src ≡ Some slot)
 MakesEntry p _ = ⊥
 
+-- a mailbox is given back next
+abbrev pub is_giving : Phase → Bool
+is_giving Giving = true
+is_giving _ = false
+
 -- every probe of the scan failed, before which this freed word was found, by phase
 abbrev pub FoundNoneAt : Phase → (before : ℕ) → Type 0
 FoundNoneAt (Scanned reg label first) before = first ≡ before
@@ -56,3 +63,9 @@ pub record HasCause (p q : Private) (cmd : Cmd) (word : ℕ) (answer : Answer) :
   pub full : (answer ≡ answers.Full) ↔ ((before : ℕ) × FoundNone p before × IsStill before word)
   pub busy : (before after : ℕ) → (answer ≡ answers.Busy before after) ↔ (FoundNone p before × (after ≡ word) × (IsStill before word → ⊥))
   pub refused : is_refusal answer ≡ true → (q.registers ≡ p.registers) × (q.log ≡ p.log)
+
+-- When a poll ends that a step ends, and in which epoch the mutator is then. `word` is the word that the step found.
+pub record PollHasCause (p q : Private) (word : ℕ) : Type 0 where
+  pub none : (answer_of q ≡ Some (makes.Crossed None)) ↔ ((p.phase ≡ Begun works.Poll) × (word ≡ p.epoch))
+  pub some : (epoch : ℕ) → (answer_of q ≡ Some (makes.Crossed (Some epoch))) ↔ ((p.phase ≡ Giving) × (epoch ≡ p.epoch + 1))
+  pub epoch : q.epoch ≡ (if is_giving p.phase then p.epoch + 1 else p.epoch)

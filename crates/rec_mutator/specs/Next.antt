@@ -1,5 +1,5 @@
 -- Which operation comes next: a function of the private record alone.
-use Rattle.std.specs.Prelude.{ℕ, Bool, true, false, Option, None, Some, if◌then◌else◌}
+use Rattle.std.specs.Prelude.{ℕ, ◌+◌, Bool, true, false, Option, None, Some, if◌then◌else◌}
 use Rattle.rec_word.specs.Place.{place_of}
 use Rattle.rec_word.specs.declared.op.Op.{Op}
 use Rattle.rec_word.specs.declared.op.Op.TheVariants as ops
@@ -7,7 +7,7 @@ use Rattle.rec_model.specs.declared.command.Cmd.{Cmd}
 use Rattle.rec_model.specs.declared.command.Cmd.TheVariants as commands
 use Rattle.rec_mutator.specs.Private.{Private, register, is_full, word_for}
 use Rattle.rec_mutator.specs.declared.phase.Phase.{Phase}
-use Rattle.rec_mutator.specs.declared.phase.Phase.TheVariants.{Idle, Begun, Scanning, Scanned, Finished}
+use Rattle.rec_mutator.specs.declared.phase.Phase.TheVariants.{Idle, Begun, Scanning, Scanned, Crossing, Swapping, Giving, Finished}
 use Rattle.rec_mutator.specs.declared.work.Work.{Work}
 use Rattle.rec_mutator.specs.declared.work.Work.TheVariants as works
 
@@ -52,6 +52,9 @@ next_at p Idle = own_word p
 next_at p (Begun work) = begun_op p work
 next_at p (Scanning reg label before slot) = ops.ClaimHeader slot label
 next_at p (Scanned reg label before) = ops.LoadFreed
+next_at p Crossing = ops.TakeBox p.number (p.epoch + 1)
+next_at p Swapping = ops.GiveBox p.number (p.epoch + 1)
+next_at p Giving = ops.GiveBox p.number (p.epoch + 1)
 next_at p (Finished work made) = own_word p
 
 -- what comes next

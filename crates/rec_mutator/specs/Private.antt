@@ -7,7 +7,7 @@ use Rattle.rec_model.specs.declared.command.Cmd.TheVariants as commands
 use Rattle.rec_log.specs.declared.contents.Contents.{Contents}
 use Rattle.rec_mutator.specs.declared.made.Made.{Made}
 use Rattle.rec_mutator.specs.declared.phase.Phase.{Phase}
-use Rattle.rec_mutator.specs.declared.phase.Phase.TheVariants.{Idle, Begun, Scanning, Scanned, Finished}
+use Rattle.rec_mutator.specs.declared.phase.Phase.TheVariants.{Idle, Begun, Scanning, Scanned, Crossing, Swapping, Giving, Finished}
 use Rattle.rec_mutator.specs.declared.work.Work.{Work}
 use Rattle.rec_mutator.specs.declared.work.Work.TheVariants as works
 
@@ -59,6 +59,9 @@ is_busy_at Idle = false
 is_busy_at (Begun work) = true
 is_busy_at (Scanning reg label before slot) = true
 is_busy_at (Scanned reg label before) = true
+is_busy_at Crossing = true
+is_busy_at Swapping = true
+is_busy_at Giving = true
 is_busy_at (Finished work made) = false
 
 -- whether a work was begun that isn't finished
@@ -71,6 +74,9 @@ work_at Idle = None
 work_at (Begun work) = Some work
 work_at (Scanning reg label before slot) = Some (works.Command (commands.New reg label))
 work_at (Scanned reg label before) = Some (works.Command (commands.New reg label))
+work_at Crossing = Some works.Poll
+work_at Swapping = Some works.Poll
+work_at Giving = Some works.Poll
 work_at (Finished work made) = Some work
 
 -- the work that was begun last
@@ -101,9 +107,11 @@ abbrev pub IsValid : Private → Work → Type 0
 IsValid p (works.Command cmd) = HasOperands p cmd
 IsValid p works.Poll = Unit {0}
 
--- the most steps that a work takes: an allocation loads the freed word, probes each slot, and loads it again
+-- the most steps that a work takes: an allocation loads the freed word, probes each slot, and loads it again; a poll loads the
+-- epoch word, takes the own mailbox and gives it back
 abbrev pub limit_of : (slots : ℕ) → Work → ℕ
 limit_of slots (works.Command (commands.New reg label)) = slots + 2
+limit_of slots works.Poll = 3
 limit_of slots _ = 1
 
 -- an allocation that goes on has a register and room in the log
@@ -111,12 +119,19 @@ pub record IsScan (p : Private) (reg : ℕ) : Type 0 where
   pub register : reg < length p.registers
   pub room : length p.log.entries < p.log.capacity
 
+-- there is an epoch after the own one
+abbrev pub HasNext : Private → Type 0
+HasNext p = p.epoch + 1 < 2 ^ 24
+
 -- what holds in each phase
 abbrev pub IsAt : Private → Phase → Type 0
 IsAt p Idle = p.steps ≡ 0
 IsAt p (Begun work) = IsValid p work × (p.steps ≡ 0)
 IsAt p (Scanning reg label before slot) = IsScan p reg × (slot < p.slots) × (p.steps ≡ slot + 1)
 IsAt p (Scanned reg label before) = IsScan p reg × (p.steps ≡ p.slots + 1)
+IsAt p Crossing = (p.steps ≡ 1) × HasNext p
+IsAt p Swapping = (p.steps ≡ 2) × HasNext p
+IsAt p Giving = (p.steps ≡ 2) × HasNext p
 IsAt p (Finished work made) = p.steps ≤ limit_of p.slots work
 
 -- what every machine keeps
@@ -128,14 +143,13 @@ pub record IsMachine (p : Private) : Type 0 where
   pub capacity : p.log.capacity ≤ 2 ^ 18
   pub entries : length p.log.entries ≤ p.log.capacity
   pub registers : All IsTarget p.registers
+  pub snapshot : length p.log.snapshot ≡ length p.registers
   pub now : IsAt p p.phase
 
--- what no step and no new work changes: the numbers, the number of registers and what the log can hold
+-- what no step and no new work changes: the numbers but for the epoch, the number of registers and what the log can hold
 pub record KeepsSizes (p q : Private) : Type 0 where
   pub number : q.number ≡ p.number
-  pub epoch : q.epoch ≡ p.epoch
   pub slots : q.slots ≡ p.slots
   pub fields : q.fields ≡ p.fields
   pub registers : length q.registers ≡ length p.registers
-  pub snapshot : q.log.snapshot ≡ p.log.snapshot
   pub capacity : q.log.capacity ≡ p.log.capacity

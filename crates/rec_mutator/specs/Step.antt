@@ -1,5 +1,6 @@
 -- The steps of a mutator, one rule for each that it may make: what must hold before, the operation, and what it leaves.
 use Rattle.std.specs.Prelude.{◌≡◌, ◌≢◌, ℕ, ◌+◌, ◌*◌, ◌-◌, ◌%◌, ◌<◌, ◌≤◌, ◌^◌, Option, None, Some, List, [], ◌∷◌, ◌++◌, length, slice_set}
+use Rattle.rec_word.specs.Op.{crossing_word}
 use Rattle.rec_word.specs.Place.{place_of}
 use Rattle.rec_word.specs.Word.{target_of}
 use Rattle.rec_word.specs.declared.op.Op.{Op}
@@ -9,13 +10,14 @@ use Rattle.rec_model.specs.declared.command.Cmd.{Cmd}
 use Rattle.rec_model.specs.declared.command.Cmd.TheVariants as commands
 use Rattle.rec_model.specs.declared.told.Told.{Told}
 use Rattle.rec_model.specs.Asking.{null_or_object, same, yes_or_no}
+use Rattle.rec_log.specs.declared.contents.Contents.{Contents}
 use Rattle.rec_log.specs.declared.entry.Entry.{Entry}
 use Rattle.rec_log.specs.declared.entry.Entry.TheVariants as entries
 use Rattle.rec_mutator.specs.Private.{Private, register, word_for}
-use Rattle.rec_mutator.specs.Took.{plain, moved, answered}
+use Rattle.rec_mutator.specs.Took.{plain, moved, answered, IsRequested}
 use Rattle.rec_mutator.specs.declared.made.Made.TheVariants as makes
 use Rattle.rec_mutator.specs.declared.phase.Phase.{Phase}
-use Rattle.rec_mutator.specs.declared.phase.Phase.TheVariants.{Begun, Scanning, Scanned, Finished}
+use Rattle.rec_mutator.specs.declared.phase.Phase.TheVariants.{Begun, Scanning, Scanned, Crossing, Giving, Finished}
 use Rattle.rec_mutator.specs.declared.work.Work.TheVariants as works
 
 -- The command is decided. In this phase the operation is this one, and the step leaves these registers and log entries and
@@ -35,6 +37,12 @@ pub record GoesOn (p : Private) (op : Op) (q : Private) (at : Phase) (its_op : O
   pub operation : op ≡ its_op
   pub after : q ≡ moved p next_phase
 
+-- A crossing goes on: the mutator is in this epoch, with this buffer as its log; all else stays.
+pub record Crosses (p : Private) (op : Op) (q : Private) (at : Phase) (its_op : Op) (epoch : ℕ) (log : Contents) (next_phase : Phase) : Type 0 where
+  pub phase : p.phase ≡ at
+  pub operation : op ≡ its_op
+  pub after : q ≡ moved (record p { epoch = epoch; log = log }) next_phase
+
 -- the log has no room for another entry
 abbrev pub IsLogFull : Private → Type 0
 IsLogFull p = length p.log.entries ≡ p.log.capacity
@@ -47,54 +55,62 @@ HasRoom p = length p.log.entries ≢ p.log.capacity
 abbrev pub IsStill : (before after : ℕ) → Type 0
 IsStill before after = (before % 2 ≡ 0) × (before ≡ after)
 
--- What a step may be. `word` is the word that the operation `op` finds, `q` what the step leaves of `p`.
-pub data Step (p : Private) (word : ℕ) (op : Op) (q : Private) : Type 0 where
-  null : (reg : ℕ) → DecidesAtOnce p op q (commands.Null reg) (ops.LoadCross p.number) (slice_set p.registers reg None) p.log.entries (plain answers.Done) → Step p word op q
-  copy : (dst src : ℕ) → DecidesAtOnce p op q (commands.Copy dst src) (ops.LoadCross p.number) (slice_set p.registers dst (register p src)) p.log.entries (plain answers.Done) → Step p word op q
-  compare : (a b : ℕ) → DecidesAtOnce p op q (commands.Same a b) (ops.LoadCross p.number) p.registers p.log.entries (plain (yes_or_no (same (register p a) (register p b)))) → Step p word op q
+-- What a step may be. `word` is the word that the operation `op` finds, `box` what is in the own mailbox, `q` what the step
+-- leaves of `p`.
+pub data Step (p : Private) (word : ℕ) (box : Contents) (op : Op) (q : Private) : Type 0 where
+  null : (reg : ℕ) → DecidesAtOnce p op q (commands.Null reg) (ops.LoadCross p.number) (slice_set p.registers reg None) p.log.entries (plain answers.Done) → Step p word box op q
+  copy : (dst src : ℕ) → DecidesAtOnce p op q (commands.Copy dst src) (ops.LoadCross p.number) (slice_set p.registers dst (register p src)) p.log.entries (plain answers.Done) → Step p word box op q
+  compare : (a b : ℕ) → DecidesAtOnce p op q (commands.Same a b) (ops.LoadCross p.number) p.registers p.log.entries (plain (yes_or_no (same (register p a) (register p b)))) → Step p word box op q
   get_of_null : (dst src f : ℕ) → register p src ≡ None
-      → DecidesAtOnce p op q (commands.Get dst src f) (ops.LoadCross p.number) p.registers p.log.entries (plain answers.NoObject) → Step p word op q
+      → DecidesAtOnce p op q (commands.Get dst src f) (ops.LoadCross p.number) p.registers p.log.entries (plain answers.NoObject) → Step p word box op q
   get : (dst src f slot : ℕ) → register p src ≡ Some slot
       → DecidesAtOnce p op q (commands.Get dst src f) (ops.LoadField (place_of slot f p.fields)) (slice_set p.registers dst (target_of word)) p.log.entries (record { answer = null_or_object (target_of word); saw = word; left = 0 })
-      → Step p word op q
+      → Step p word box op q
   put_of_null : (src f val : ℕ) → register p src ≡ None
-      → DecidesAtOnce p op q (commands.Put src f val) (ops.LoadCross p.number) p.registers p.log.entries (plain answers.NoObject) → Step p word op q
+      → DecidesAtOnce p op q (commands.Put src f val) (ops.LoadCross p.number) p.registers p.log.entries (plain answers.NoObject) → Step p word box op q
   put_refused : (src f val slot : ℕ) → register p src ≡ Some slot → IsLogFull p
-      → DecidesAtOnce p op q (commands.Put src f val) (ops.LoadCross p.number) p.registers p.log.entries (plain answers.LogFull) → Step p word op q
+      → DecidesAtOnce p op q (commands.Put src f val) (ops.LoadCross p.number) p.registers p.log.entries (plain answers.LogFull) → Step p word box op q
   put : (src f val slot : ℕ) → register p src ≡ Some slot → HasRoom p
       → DecidesAtOnce p op q (commands.Put src f val) (ops.SwapField (place_of slot f p.fields) (word_for p val)) p.registers (p.log.entries ++ entries.Put (place_of slot f p.fields) (word_for p val) word ∷ []) (record { answer = answers.Done; saw = word; left = word_for p val })
-      → Step p word op q
+      → Step p word box op q
   value_of_null : (reg : ℕ) → register p reg ≡ None
-      → DecidesAtOnce p op q (commands.Value reg) (ops.LoadCross p.number) p.registers p.log.entries (plain answers.NoObject) → Step p word op q
+      → DecidesAtOnce p op q (commands.Value reg) (ops.LoadCross p.number) p.registers p.log.entries (plain answers.NoObject) → Step p word box op q
   value : (reg slot : ℕ) → register p reg ≡ Some slot
-      → DecidesAtOnce p op q (commands.Value reg) (ops.LoadHeader slot) p.registers p.log.entries (plain (answers.Value (word - 1))) → Step p word op q
+      → DecidesAtOnce p op q (commands.Value reg) (ops.LoadHeader slot) p.registers p.log.entries (plain (answers.Value (word - 1))) → Step p word box op q
   new_refused : (reg label : ℕ) → IsLogFull p
-      → DecidesAtOnce p op q (commands.New reg label) (ops.LoadCross p.number) p.registers p.log.entries (plain answers.LogFull) → Step p word op q
-  new_begins : (reg label : ℕ) → HasRoom p → GoesOn p op q (Begun (works.Command (commands.New reg label))) ops.LoadFreed (Scanning reg label word 0) → Step p word op q
+      → DecidesAtOnce p op q (commands.New reg label) (ops.LoadCross p.number) p.registers p.log.entries (plain answers.LogFull) → Step p word box op q
+  new_begins : (reg label : ℕ) → HasRoom p → GoesOn p op q (Begun (works.Command (commands.New reg label))) ops.LoadFreed (Scanning reg label word 0) → Step p word box op q
   new_wins : (reg label before slot : ℕ) → word ≡ 0
       → Decides p op q (commands.New reg label) (Scanning reg label before slot) (ops.ClaimHeader slot label) (slice_set p.registers reg (Some slot)) (p.log.entries ++ entries.Born slot ∷ []) (plain answers.Done)
-      → Step p word op q
-  new_goes_on : (reg label before slot : ℕ) → word ≢ 0 → slot + 1 ≢ p.slots → GoesOn p op q (Scanning reg label before slot) (ops.ClaimHeader slot label) (Scanning reg label before (slot + 1)) → Step p word op q
-  new_finds_none : (reg label before slot : ℕ) → word ≢ 0 → slot + 1 ≡ p.slots → GoesOn p op q (Scanning reg label before slot) (ops.ClaimHeader slot label) (Scanned reg label before) → Step p word op q
+      → Step p word box op q
+  new_goes_on : (reg label before slot : ℕ) → word ≢ 0 → slot + 1 ≢ p.slots → GoesOn p op q (Scanning reg label before slot) (ops.ClaimHeader slot label) (Scanning reg label before (slot + 1)) → Step p word box op q
+  new_finds_none : (reg label before slot : ℕ) → word ≢ 0 → slot + 1 ≡ p.slots → GoesOn p op q (Scanning reg label before slot) (ops.ClaimHeader slot label) (Scanned reg label before) → Step p word box op q
   new_is_full : (reg label before : ℕ) → IsStill before word
-      → Decides p op q (commands.New reg label) (Scanned reg label before) ops.LoadFreed p.registers p.log.entries (plain answers.Full) → Step p word op q
+      → Decides p op q (commands.New reg label) (Scanned reg label before) ops.LoadFreed p.registers p.log.entries (plain answers.Full) → Step p word box op q
   new_is_busy : (reg label before : ℕ) → (IsStill before word → ⊥)
-      → Decides p op q (commands.New reg label) (Scanned reg label before) ops.LoadFreed p.registers p.log.entries (plain (answers.Busy before word)) → Step p word op q
-  poll : GoesOn p op q (Begun works.Poll) ops.LoadEpoch (Finished works.Poll (makes.Crossed None)) → Step p word op q
+      → Decides p op q (commands.New reg label) (Scanned reg label before) ops.LoadFreed p.registers p.log.entries (plain (answers.Busy before word)) → Step p word box op q
+  poll_stays : word ≡ p.epoch → GoesOn p op q (Begun works.Poll) ops.LoadEpoch (Finished works.Poll (makes.Crossed None)) → Step p word box op q
+  poll_crosses : word ≢ p.epoch → GoesOn p op q (Begun works.Poll) ops.LoadEpoch Crossing → Step p word box op q
+  take_box : Crosses p op q Crossing (ops.TakeBox p.number (p.epoch + 1)) p.epoch box Giving → Step p word box op q
+  give_box : Crosses p op q Giving (ops.GiveBox p.number (p.epoch + 1)) (p.epoch + 1) p.log (Finished works.Poll (makes.Crossed (Some (p.epoch + 1)))) → Step p word box op q
 
--- the operation names a word of a heap with so many slots and fields
+-- the operation names a word of a heap with so many slots and fields, and no epoch but one that a word can hold
 abbrev pub NamesWord : (slots fields : ℕ) → Op → Type 0
 NamesWord slots fields (ops.LoadField place) = place < slots * fields
 NamesWord slots fields (ops.SwapField place word) = place < slots * fields
 NamesWord slots fields (ops.LoadHeader slot) = slot < slots
 NamesWord slots fields (ops.ClaimHeader slot label) = slot < slots
+NamesWord slots fields (ops.TakeBox t e) = e < 2 ^ 24
+NamesWord slots fields (ops.GiveBox t e) = e < 2 ^ 24
 NamesWord slots fields _ = Unit {0}
 
 -- every register is null or names a slot of the heap
 abbrev pub NamesSlots : Private → Type 0
 NamesSlots p = (r slot : ℕ) → register p r ≡ Some slot → slot < p.slots
 
--- The word that each operation finds, if the heap is one whose epoch word is the own epoch and whose registers name taken slots.
+-- The word that each operation finds, if the heap is one whose registers name taken slots, whose epoch word is the own epoch or
+-- the next one, and in which a mailbox that the mutator takes is home with a spare.
 pub record IsFitting (p : Private) (cell : Op → ℕ) : Type 0 where
   pub headers : (r slot : ℕ) → register p r ≡ Some slot → (0 < cell (ops.LoadHeader slot)) × (cell (ops.LoadHeader slot) ≤ 2 ^ 32)
-  pub epoch : cell ops.LoadEpoch ≡ p.epoch
+  pub epoch : IsRequested p (cell ops.LoadEpoch)
+  pub home : p.phase ≡ Crossing → cell (ops.TakeBox p.number (p.epoch + 1)) ≡ crossing_word p.epoch 0

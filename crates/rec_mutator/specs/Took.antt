@@ -1,6 +1,7 @@
--- What begins, and what is learnt: a function of the private record and of the word found.
-use Rattle.std.specs.Prelude.{◌≡◌, ℕ, ◌+◌, ◌-◌, ◌%◌, ◌^◌, ◌<◌, ◌≤◌, ◌==◌, ◌&&◌, Bool, true, false, Option, None, Some, [], ◌∷◌, ◌++◌, if◌then◌else◌, slice_set}
+-- What begins, and what is learnt: functions of the private record, of the word found, and of the buffer in the own mailbox.
+use Rattle.std.specs.Prelude.{◌≡◌, ◌⊎◌, ℕ, ◌+◌, ◌-◌, ◌%◌, ◌^◌, ◌<◌, ◌≤◌, ◌==◌, ◌&&◌, Bool, true, false, Option, None, Some, [], ◌∷◌, ◌++◌, if◌then◌else◌, length, replicate, slice_set}
 use Rattle.rec_word.specs.Place.{place_of}
+use Rattle.rec_word.specs.Op.{crossing_word}
 use Rattle.rec_word.specs.Word.{target_of}
 use Rattle.rec_word.specs.declared.op.Op.{Op}
 use Rattle.rec_word.specs.declared.op.Op.TheVariants as ops
@@ -10,12 +11,13 @@ use Rattle.rec_model.specs.declared.command.Cmd.{Cmd}
 use Rattle.rec_model.specs.declared.command.Cmd.TheVariants as commands
 use Rattle.rec_model.specs.declared.told.Told.{Told}
 use Rattle.rec_model.specs.Asking.{null_or_object, same, yes_or_no}
+use Rattle.rec_log.specs.declared.contents.Contents.{Contents}
 use Rattle.rec_log.specs.declared.entry.Entry.{Entry}
 use Rattle.rec_log.specs.declared.entry.Entry.TheVariants as entries
 use Rattle.rec_mutator.specs.Private.{Private, register, is_full, word_for}
 use Rattle.rec_mutator.specs.declared.made.Made.TheVariants as makes
 use Rattle.rec_mutator.specs.declared.phase.Phase.{Phase}
-use Rattle.rec_mutator.specs.declared.phase.Phase.TheVariants.{Idle, Begun, Scanning, Scanned, Finished}
+use Rattle.rec_mutator.specs.declared.phase.Phase.TheVariants.{Idle, Begun, Scanning, Scanned, Crossing, Swapping, Giving, Finished}
 use Rattle.rec_mutator.specs.declared.work.Work.{Work}
 use Rattle.rec_mutator.specs.declared.work.Work.TheVariants as works
 
@@ -70,10 +72,14 @@ first_by p word (commands.Put src f val) = written_by p (commands.Put src f val)
 first_by p word (commands.Value reg) = answered p (commands.Value reg) (plain (label_by word (register p reg)))
 first_by p word (commands.Same a b) = answered p (commands.Same a b) (plain (yes_or_no (same (register p a) (register p b))))
 
--- the first step of a work; a poll that finds its own epoch crosses nowhere
+-- a poll that finds its own epoch is done; else the mutator crosses
+abbrev pub polled : Private → (word : ℕ) → Private
+polled p word = moved p (if word == p.epoch then Finished works.Poll (makes.Crossed None) else Crossing)
+
+-- the first step of a work
 abbrev pub begun_by : Private → (word : ℕ) → Work → Private
 begun_by p word (works.Command cmd) = first_by p word cmd
-begun_by p word works.Poll = moved p (Finished works.Poll (makes.Crossed None))
+begun_by p word works.Poll = polled p word
 
 -- an object is born in a slot
 abbrev pub born_in : Private → (reg label slot : ℕ) → Private
@@ -88,20 +94,77 @@ probed p reg label before slot word =
 abbrev pub none_free : (before after : ℕ) → Answer
 none_free before after = if (before % 2 == 0) && (before == after) then answers.Full else answers.Busy before after
 
+-- the log as it is retired: the registers are its snapshot
+abbrev pub retired : Private → Contents
+retired p = record p.log { snapshot = p.registers }
+
+-- a buffer for this mutator without entries, with a null snapshot
+abbrev pub spare : Private → Contents
+spare p = record { entries = []; snapshot = replicate (length p.registers) None; capacity = p.log.capacity }
+
+-- the own mailbox was taken, and the log is retired
+abbrev pub retiring : Private → Private
+retiring p = moved (record p { log = retired p }) Swapping
+
+-- the own mailbox was given back, and the mutator is in the next epoch
+abbrev pub crossed : Private → Private
+crossed p = moved (record p { epoch = p.epoch + 1 }) (Finished works.Poll (makes.Crossed (Some (p.epoch + 1))))
+
 -- what is learnt, by phase
 unfoldable pub took_at : Private → (word : ℕ) → Phase → Private
 took_at p word Idle = moved p Idle
 took_at p word (Begun work) = begun_by p word work
 took_at p word (Scanning reg label before slot) = probed p reg label before slot word
 took_at p word (Scanned reg label before) = answered p (commands.New reg label) (plain (none_free before word))
+took_at p word Crossing = retiring p
+took_at p word Swapping = moved p Swapping
+took_at p word Giving = crossed p
 took_at p word (Finished work made) = moved p (Finished work made)
 
 -- what is learnt
 unfoldable pub took_of : Private → (word : ℕ) → Private
 took_of p word = took_at p word p.phase
 
--- what the word found has to be: the header of a taken slot, the own epoch
+-- the buffer of the own mailbox becomes the log, and the log is left there
+unfoldable pub swapped_at : Private → Contents → Phase → Private
+swapped_at p buffer Swapping = record p { phase = Giving; log = buffer }
+swapped_at p buffer _ = p
+
+-- the buffer of the own mailbox is swapped
+unfoldable pub swapped_of : Private → Contents → Private
+swapped_of p buffer = swapped_at p buffer p.phase
+
+-- what the own mailbox holds then, by phase: what was the log, where the buffer is swapped
+unfoldable pub left_at : Private → Contents → Phase → Contents
+left_at p buffer Swapping = p.log
+left_at p buffer _ = buffer
+
+-- what the own mailbox holds then
+unfoldable pub left_of : Private → Contents → Contents
+left_of p buffer = left_at p buffer p.phase
+
+-- a whole step: what is learnt of the word, and, where the step takes the own mailbox, of the buffer in it
+unfoldable pub step_of : Private → (word : ℕ) → (box : Contents) → Private
+step_of p word box = swapped_of (took_of p word) box
+
+-- a mailbox is held, and its buffer is still to be swapped
+abbrev pub IsSwapping : Phase → Type 0
+IsSwapping Swapping = Unit {0}
+IsSwapping _ = ⊥
+
+-- a phase between two steps: no mailbox waits to be swapped
+abbrev pub IsBetween : Phase → Type 0
+IsBetween Swapping = ⊥
+IsBetween _ = Unit {0}
+
+-- the epoch word of a heap in which this mutator stands: its own epoch, or the next one
+abbrev pub IsRequested : Private → (word : ℕ) → Type 0
+IsRequested p word = (word ≡ p.epoch) ⊎ ((word ≡ p.epoch + 1) × (word < 2 ^ 24))
+
+-- what the word found has to be: the header of a taken slot; the own epoch or the next one; and the crossing word that is taken
+-- says that its mailbox is home with a spare
 abbrev pub IsFound : Private → Op → ℕ → Type 0
 IsFound p (ops.LoadHeader slot) word = (0 < word) × (word ≤ 2 ^ 32)
-IsFound p ops.LoadEpoch word = word ≡ p.epoch
+IsFound p ops.LoadEpoch word = IsRequested p word
+IsFound p (ops.TakeBox t e) word = word ≡ crossing_word p.epoch 0
 IsFound p _ word = Unit {0}

@@ -4,15 +4,17 @@ ghost use Rattle.std.specs.Prelude.{◌≡◌, ℕ, true};
 ghost use Rattle.rec_word.specs.declared.op.Op.{Op};
 ghost use Rattle.rec_model.specs.declared.command.Cmd.{Cmd as Command};
 ghost use Rattle.rec_model.specs.declared.told.Told.{Told};
+ghost use Rattle.rec_log.specs.declared.contents.Contents.{Contents};
 ghost use Rattle.rec_mutator.specs.Private.{Private, is_busy, IsMachine};
 ghost use Rattle.rec_mutator.specs.Next.{next_of};
-ghost use Rattle.rec_mutator.specs.Took.{took_of, IsFound};
+ghost use Rattle.rec_mutator.specs.Took.{step_of, IsBetween, IsFound};
 ghost use Rattle.rec_mutator.specs.Step.{Step, NamesSlots, NamesWord, IsFitting};
-ghost use Rattle.rec_mutator.specs.Causes.{AnswersBy, HasCause};
+ghost use Rattle.rec_mutator.specs.Causes.{AnswersBy, HasCause, PollHasCause};
 
-/// What comes next, and what is learnt from the word found, is one of the steps of a mutator.
+/// What comes next, and what is learnt from the word found and from the mailbox that is taken, is one of the steps of a
+/// mutator.
 pub fn machine_makes_steps()
-    ensures { (p : Private) (word : ℕ) → is_busy p ≡ true → Step p word (next_of p) (took_of p word) }
+    ensures { (p : Private) (word : ℕ) (box : Contents) → is_busy p ≡ true → IsBetween p.phase → Step p word box (next_of p) (step_of p word box) }
 {}
 
 /// The operation that comes next names a word of the heap, where the registers name its slots.
@@ -27,5 +29,11 @@ pub fn machine_finds_fitting_words()
 
 /// Each refusal comes exactly where its cause is, and changes no register and no log.
 pub fn refusals_have_causes()
-    ensures { (p : Private) (word : ℕ) (cmd : Command) (told : Told) → IsMachine p → AnswersBy p word cmd told → HasCause p (took_of p word) cmd word told.answer }
+    ensures { (p : Private) (word : ℕ) (box : Contents) (cmd : Command) (told : Told) → IsMachine p → AnswersBy p word box cmd told → HasCause p (step_of p word box) cmd word told.answer }
+{}
+
+/// A poll tells that it crossed nowhere exactly where the epoch word was the own epoch; else it tells the epoch after the own
+/// one, in which the mutator is then.
+pub fn polls_have_causes()
+    ensures { (p : Private) (word : ℕ) (box : Contents) → is_busy p ≡ true → IsBetween p.phase → PollHasCause p (step_of p word box) word }
 {}

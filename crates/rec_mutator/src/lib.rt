@@ -3,9 +3,10 @@
 //! A work, which is a command or a poll, is begun; then `next` names one operation on one shared word, whoever has the
 //! words carries it out, and `took` learns what was found, until `answer` has the answer. The machine never sees the words.
 //! The rule that it keeps: what comes next and what is learnt are functions of the machine's private record and of the
-//! word found alone, and each work ends: an allocation after at most two steps more than there are slots, every other work
-//! after one.
-//! The layer above may use that `next`, `took` and `begin` are exactly `next_of`, `took_of` and `begun_of` of `specs/`, and
+//! word found alone, and of the buffer in the own mailbox where a step takes it; and each work ends: an allocation after at
+//! most two steps more than there are slots, every other command after one, a poll after at most three.
+//! The layer above may use that `next`, `took`, `swap_box` and `begin` are exactly `next_of`, `took_of`, `swapped_of` and `begun_of` of
+//! `specs/`, and
 //! the laws, which are the contracts of the functions in `laws`.
 //! That a mutator logs what it writes and is never stopped is the idea of the paper "Java without the Coffee Breaks"
 //! (2001); the steps of each command are this project's profile (`docs/PROFILE.md`).
@@ -18,7 +19,8 @@ mod phase;
 mod work;
 
 pub use laws::{
-    machine_finds_fitting_words, machine_makes_steps, machine_names_words, refusals_have_causes,
+    machine_finds_fitting_words, machine_makes_steps, machine_names_words, polls_have_causes,
+    refusals_have_causes,
 };
 pub use machine::Machine;
 pub use made::Made;

@@ -1,9 +1,9 @@
-ghost use Rattle.std.specs.Prelude.{◌≡◌, ◌⊎◌, ◌+◌, ◌^◌, ◌<◌, ◌≤◌, ◌↔◌, ◌∷◌, ◌++◌, [], true, false, length, slice_set, IfOk, IfSome, IsNone};
+ghost use Rattle.std.specs.Prelude.{◌≡◌, ◌⊎◌, ◌+◌, ◌^◌, ◌<◌, ◌≤◌, ◌↔◌, ◌∷◌, ◌++◌, [], true, false, length, slice_set, IfOk, IfSome, IsNone, IsTrue};
 ghost use Rattle.rec_word.specs.Place.{place_of};
 ghost use Rattle.rec_mutator.specs.Private.{Private, opened, register, is_full, word_for, is_busy, work_of, answer_of, HasOperands, IsValid, limit_of, IsScan, IsMachine, KeepsSizes};
 ghost use Rattle.rec_mutator.specs.Next.{next_of, begun_op, first_op, own_word};
 ghost use Rattle.rec_model.specs.Asking.{null_or_object, same, yes_or_no};
-ghost use Rattle.rec_mutator.specs.Took.{begun_of, begun_by, took_of, plain, moved, answered, with_register, first_by, probed, none_free, IsFound};
+ghost use Rattle.rec_mutator.specs.Took.{begun_of, begun_by, took_of, took_at, plain, moved, answered, with_register, first_by, polled, probed, none_free, spare, swapped_of, IsFound, IsRequested, IsSwapping, IsBetween};
 
 use crate::phase::Phase;
 use crate::{Made, Work};
@@ -13,6 +13,7 @@ use rec_model::{Answer, Cmd, Told};
 use rec_word::{Op, Stamp, pack, place, target};
 use std::alloc::{AllocError as NoMemory, Global};
 use std::marker::Model;
+use std::mem;
 
 /// A mutator: its registers, its log, and how far its work has come. Its memory is taken when it is opened.
 #[derive(Debug, Drop)]
@@ -107,6 +108,8 @@ impl Machine {
             Phase::Begun { work } => self.begun(work),
             Phase::Scanning { label, slot, .. } => Op::ClaimHeader(slot, label),
             Phase::Scanned { .. } => Op::LoadFreed,
+            Phase::Crossing => Op::TakeBox(self.number, self.epoch + 1),
+            Phase::Swapping | Phase::Giving => Op::GiveBox(self.number, self.epoch + 1),
             Phase::Idle | Phase::Finished { .. } => self.own_word(),
         }
     }
@@ -116,6 +119,7 @@ impl Machine {
     #[inline(always)]
     pub fn took(&mut self, word: u64)
         requires busy { is_busy self.old ≡ true }
+        requires between { IsBetween self.old.phase }
         requires found { IsFound self.old (next_of self.old) word }
 
         ensures took { self.new ≡ took_of self.old word }
@@ -136,8 +140,26 @@ impl Machine {
                 slot,
             } => self.took_probe(reg, label, before, slot, word),
             Phase::Scanned { reg, label, before } => self.took_last(reg, label, before, word),
-            Phase::Idle | Phase::Finished { .. } => {}
+            Phase::Crossing => self.took_box(),
+            Phase::Giving => self.gave_box(),
+            Phase::Idle | Phase::Swapping | Phase::Finished { .. } => {}
         }
+    }
+
+    /// Takes the buffer of the own mailbox, which is held, as the log, and gives the retired log that takes its place there.
+    #[tactic(auto, unfolding(crate::specs::Took::swapped_of, crate::specs::Took::swapped_at))]
+    pub fn swap_box(&mut self, buffer: Buffer) -> Buffer
+        requires swapping { IsSwapping self.old.phase }
+        requires spare { buffer ≡ spare self.old }
+
+        ensures given { result ≡ self.old.log }
+        ensures swapped { self.new ≡ swapped_of self.old buffer }
+        ensures same { KeepsSizes self.old self.new }
+        ensures work { work_of self.new ≡ work_of self.old }
+        ensures kept { IsMachine self.new }
+    {
+        self.phase = Phase::Giving;
+        mem::replace(&mut self.log, buffer)
     }
 
     /// What came of the last work, or `None` where none was begun yet or it isn't finished.
@@ -157,8 +179,15 @@ impl Machine {
     {
         match self.phase {
             Phase::Idle | Phase::Finished { .. } => false,
-            Phase::Begun { .. } | Phase::Scanning { .. } | Phase::Scanned { .. } => true,
+            _ => true,
         }
+    }
+
+    /// Whether the own mailbox is held and its buffer waits to be swapped: then `swap_box` comes next.
+    pub fn is_swapping(&self) -> bool
+        ensures { IsTrue result ↔ IsSwapping self.now.phase }
+    {
+        matches!(self.phase, Phase::Swapping)
     }
 
     /// What register `r` names.
@@ -265,7 +294,7 @@ impl Machine {
     {
         match work {
             Work::Command(cmd) => self.took_first(cmd, word),
-            Work::Poll => self.took_poll(),
+            Work::Poll => self.took_poll(word),
         }
     }
 
@@ -467,17 +496,45 @@ impl Machine {
         self.steps += 1;
     }
 
-    // The epoch word was the own epoch, so there is nothing to cross into.
-    fn took_poll(&mut self)
+    // Where the epoch word is the own epoch there is nothing to cross into; else the mutator crosses.
+    fn took_poll(&mut self, word: u64)
         requires first { self.old.steps ≡ 0 }
+        requires requested { IsRequested self.old word }
 
-        ensures took { self.new ≡ moved self.old (Phase.Finished Work.Poll (Made.Crossed None)) }
+        ensures took { self.new ≡ polled self.old word }
         ensures kept { IsMachine self.new }
     {
-        self.phase = Phase::Finished {
-            work: Work::Poll,
-            made: Made::Crossed(None),
+        self.phase = if word == u64::from(self.epoch) {
+            crossed(None)
+        } else {
+            Phase::Crossing
         };
+        self.steps += 1;
+    }
+
+    // The own mailbox is held: the log is retired, and goes there next.
+    #[tactic(auto, unfolding(crate::specs::Took::took_at))]
+    fn took_box(&mut self)
+        requires phase { self.old.phase ≡ Phase.Crossing }
+
+        ensures took { self.new ≡ took_at self.old 0 Phase.Crossing }
+        ensures kept { IsMachine self.new }
+    {
+        self.log.retire(&self.frame);
+        self.phase = Phase::Swapping;
+        self.steps += 1;
+    }
+
+    // The own mailbox is home: the mutator is in the next epoch.
+    #[tactic(auto, unfolding(crate::specs::Took::took_at))]
+    fn gave_box(&mut self)
+        requires phase { self.old.phase ≡ Phase.Giving }
+
+        ensures took { self.new ≡ took_at self.old 0 Phase.Giving }
+        ensures kept { IsMachine self.new }
+    {
+        self.epoch += 1;
+        self.phase = crossed(Some(self.epoch));
         self.steps += 1;
     }
 
@@ -524,6 +581,16 @@ fn answered(cmd: Cmd, told: Told) -> Phase
     Phase::Finished {
         work: Work::Command(cmd),
         made: Made::Answered(told),
+    }
+}
+
+// The phase after a poll's last step.
+fn crossed(epoch: Option<u32>) -> Phase
+    ensures { result ≡ Phase.Finished Work.Poll (Made.Crossed epoch) }
+{
+    Phase::Finished {
+        work: Work::Poll,
+        made: Made::Crossed(epoch),
     }
 }
 

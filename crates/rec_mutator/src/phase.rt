@@ -22,6 +22,12 @@ pub enum Phase {
         label: u32,
         before: u64,
     },
+    /// A poll found an epoch requested that isn't the own one. The own mailbox is taken next.
+    Crossing,
+    /// The own mailbox is held, and its buffer is still to be swapped for the log. It is a phase within a step.
+    Swapping,
+    /// The own mailbox is held, with the retired log in it, and is given back next.
+    Giving,
     /// The work is done, and this came of it.
     Finished {
         work: Work,

@@ -1,24 +1,21 @@
 -- What the fields of a world become in a call is what the definitions say of the state that they make up.
-use Rattle.std.proofs.Common.{◌≡◌, ℕ, ◌+◌, ◌-◌, ◌*◌, ◌^◌, ◌<◌, ◌≤◌, List, ◌∷◌, Some, Bool, true, false, slice_index_or, slice_set, length, replicate, refl, sym, ap, subst, ◌∙◌, arith}
+use Rattle.std.proofs.Common.{◌≡◌, ℕ, ◌+◌, ◌-◌, ◌*◌, ◌<◌, List, ◌∷◌, Some, Bool, true, false, slice_index_or, slice_set, length, replicate, refl, sym, ap, subst, ◌∙◌, arith}
 use Rattle.std.proofs.lemmas.Bool.{false≢true}
 use Rattle.std.proofs.lemmas.List.{get_or_default, length-replicate}
-use Rattle.std.proofs.lemmas.List.Elements.{All-get_or}
 use Rattle.rec_word.specs.Op.{written}
 use Rattle.rec_word.specs.Place.{place_of}
 use Rattle.rec_word.specs.declared.op.Op.{Op}
 use Rattle.rec_word.specs.declared.op.Op.TheVariants as ops
 use Rattle.rec_model.specs.declared.command.Cmd.{Cmd}
 use Rattle.rec_model.specs.declared.command.Cmd.TheVariants as commands
-use Rattle.rec_model.specs.Sight.{IsTaken}
 use Rattle.rec_mutator.specs.Next.{next_of}
 use Rattle.rec_mutator.specs.Private.{Private, register, is_busy, IsValid, HasOperands as HasOwnOperands}
-use Rattle.rec_mutator.specs.Step.{Step, IsFitting}
-use Rattle.rec_mutator.specs.Took.{begun_of, took_of, IsFound}
+use Rattle.rec_mutator.specs.Step.{Step}
+use Rattle.rec_mutator.specs.Took.{begun_of, took_of}
 use Rattle.rec_mutator.specs.declared.phase.Phase.TheVariants.{Scanning}
 use Rattle.rec_mutator.specs.declared.work.Work.{Work}
 use Rattle.rec_mutator.specs.declared.work.Work.TheVariants as works
-use Rattle.rec_mutator.proofs.Found.{finds_fitting}
-use Rattle.rec_mutator.proofs.Steps.{step_made}
+use Rattle.rec_mutator.proofs.Steps.{learnt_made}
 use Rattle.rec_world.specs.declared.config.Config.{Config}
 use Rattle.rec_world.specs.Config.{IsConfig, IsMutator, HasOperands}
 use Rattle.rec_world.specs.Memory.{Cells, IsWithin, cell, with_cell, births_of}
@@ -26,7 +23,7 @@ use Rattle.rec_world.specs.Run.{Move, Fits, EndsRun, begun, stepped, found_by}
 use Rattle.rec_world.specs.State.{cells_of, nobody, opened_mutators}
 use Rattle.rec_world.specs.World.{State, sight, mutator, opened, IsOwn, IsKept, HasRun, IsWorld, IsWork}
 use Rattle.rec_world.proofs.Deciding.{read_range, write_range}
-use Rattle.rec_world.proofs.Kept.{register_taken, taken_in_range}
+use Rattle.rec_world.proofs.Kept.{register_taken, taken_in_range, own_here}
 use Rattle.rec_world.proofs.Machines.{at_phase}
 use Rattle.rec_world.proofs.Moves.{step_kept, begin_kept}
 use Rattle.rec_world.proofs.Openings.{opened_kept}
@@ -126,7 +123,7 @@ scan_within w t reg label before slot kept is phase =
     omega arith
 
 -- every word that a step names
-step_within : {w : State} {t word : ℕ} {op : Op} {q : Private} → IsKept w → IsMutator w.config t → Step (mutator w t) word op q → IsWithin (cells_of w) op
+step_within : {w : State} {t word : ℕ} {op : Op} {q : Private} → IsKept w → IsMutator w.config t → Step (mutator w t) word (mutator w t).log op q → IsWithin (cells_of w) op
 step_within {w = w} {t = t} kept is (Step.null reg d) = subst (IsWithin (cells_of w)) (sym d.operation) (cross_within w t kept is)
 step_within {w = w} {t = t} kept is (Step.copy dst src d) = subst (IsWithin (cells_of w)) (sym d.operation) (cross_within w t kept is)
 step_within {w = w} {t = t} kept is (Step.compare a b d) = subst (IsWithin (cells_of w)) (sym d.operation) (cross_within w t kept is)
@@ -144,24 +141,14 @@ step_within {w = w} {t = t} kept is (Step.new_goes_on reg label before slot take
 step_within {w = w} {t = t} kept is (Step.new_finds_none reg label before slot taken last g) = subst (IsWithin (cells_of w)) (sym g.operation) (scan_within w t reg label before slot kept is g.phase)
 step_within {w = w} {t = t} kept is (Step.new_is_full reg label before still d) = subst (IsWithin (cells_of w)) (sym d.operation) tt
 step_within {w = w} {t = t} kept is (Step.new_is_busy reg label before moves d) = subst (IsWithin (cells_of w)) (sym d.operation) tt
-step_within {w = w} {t = t} kept is (Step.poll g) = subst (IsWithin (cells_of w)) (sym g.operation) tt
+step_within {w = w} {t = t} kept is (Step.poll_stays own g) = subst (IsWithin (cells_of w)) (sym g.operation) tt
+step_within {w = w} {t = t} kept is (Step.poll_crosses other g) = subst (IsWithin (cells_of w)) (sym g.operation) tt
+step_within {w = w} {t = t} kept is (Step.take_box c) = subst (IsWithin (cells_of w)) (sym c.operation) (cross_within w t kept is)
+step_within {w = w} {t = t} kept is (Step.give_box c) = subst (IsWithin (cells_of w)) (sym c.operation) (cross_within w t kept is)
 
 -- the word that the next step names
 pub next_within : (w : State) (t : ℕ) → IsKept w → IsMutator w.config t → is_busy (mutator w t) ≡ true → IsWithin (cells_of w) (next_of (mutator w t))
-next_within w t kept is busy = step_within kept is (step_made (mutator w t) (found_by w t) busy)
-
--- the words of a heap fit its mutators
-pub fitting : (w : State) (t : ℕ) → IsKept w → IsMutator w.config t → IsFitting (mutator w t) (cell (cells_of w))
-fitting w t kept is = record {
-  headers = λ r slot names.
-      let taken : IsTaken (sight w) slot = register_taken w kept t r slot names in
-      (taken, All-get_or (λ header. header ≤ 2 ^ 32) w.headers slot 0 (taken_in_range (sight w) slot taken) kept.labels);
-  epoch = kept.epoch ∙ sym (kept.own t is).epoch;
-}
-
--- what the next step finds is what it may find
-pub next_found : (w : State) (t : ℕ) → IsKept w → IsMutator w.config t → IsFound (mutator w t) (next_of (mutator w t)) (found_by w t)
-next_found w t kept is = finds_fitting (mutator w t) (cell (cells_of w)) (fitting w t kept is)
+next_within w t kept is busy = step_within kept is (learnt_made (mutator w t) (found_by w t) (mutator w t).log busy (own_here w t kept is).0)
 
 -- the opened heap
 pub opened_world : (config : Config) → IsConfig config → IsWorld (opened config)

@@ -3,7 +3,6 @@ use Rattle.std.proofs.Common.{◌≡◌, ◌≢◌, ◌↔◌, ℕ, ◌+◌, ◌
 use Rattle.std.specs.Option.{is_none}
 use Rattle.std.proofs.lemmas.Bool.{false≢true}
 use Rattle.std.proofs.lemmas.List.{set-set, set-get_or}
-use Rattle.rec_word.specs.declared.op.Op.{Op}
 use Rattle.rec_model.specs.declared.command.Cmd.{Cmd}
 use Rattle.rec_model.specs.declared.command.Cmd.TheVariants as commands
 use Rattle.rec_model.specs.declared.answer.Answer.TheVariants as answers
@@ -11,23 +10,24 @@ use Rattle.rec_model.specs.declared.told.Told.{Told}
 use Rattle.rec_model.specs.Sight.{Sight}
 use Rattle.rec_mutator.specs.Causes.{HasCause, LacksObject, MakesEntry, is_refusal}
 use Rattle.rec_mutator.specs.Private.{Private, IsAt, is_busy, is_busy_at, work_of, work_at, answer_of, answer_at, limit_of}
-use Rattle.rec_mutator.specs.Step.{Step, IsStill, IsLogFull as IsLogFullOf}
+use Rattle.rec_mutator.specs.Step.{IsStill, IsLogFull as IsLogFullOf}
 use Rattle.rec_mutator.specs.Took.{took_of, begun_of}
 use Rattle.rec_mutator.specs.declared.made.Made.{Made}
 use Rattle.rec_mutator.specs.declared.made.Made.TheVariants as makes_
 use Rattle.rec_mutator.specs.declared.phase.Phase.{Phase}
-use Rattle.rec_mutator.specs.declared.phase.Phase.TheVariants.{Idle, Begun, Scanning, Scanned, Finished}
+use Rattle.rec_mutator.specs.declared.phase.Phase.TheVariants.{Idle, Begun, Scanning, Scanned, Crossing, Swapping, Giving, Finished}
 use Rattle.rec_mutator.specs.declared.work.Work.{Work}
 use Rattle.rec_mutator.specs.declared.work.Work.TheVariants as works
-use Rattle.rec_mutator.proofs.Refusals.{answer_cause}
-use Rattle.rec_mutator.proofs.Sizes.{took_keeps}
-use Rattle.rec_mutator.proofs.Steps.{step_made}
+use Rattle.rec_mutator.proofs.Refusals.{answer_cause, same_command, same_told}
+use Rattle.rec_mutator.proofs.Sizes.{took_keeps, step_counts}
+use Rattle.rec_mutator.proofs.Steps.{learnt_made, here_same, none_between}
 use Rattle.rec_world.specs.declared.config.Config.{Config}
 use Rattle.rec_world.specs.Config.{IsMutator}
 use Rattle.rec_world.specs.Run.{begun, stepped, found_by}
 use Rattle.rec_world.specs.State.{nobody}
 use Rattle.rec_world.specs.World.{State, sight, mutator, with_mutator, log_length, IsOwn, IsKept, IsLogFull, is_plain, IsCaused, IsShown, IsFinished, OnlyWorks}
 use Rattle.rec_world.proofs.Deciding.{IsToldOf, IsDecided, Says, performed_says}
+use Rattle.rec_world.proofs.Kept.{own_here}
 use Rattle.rec_world.proofs.Moves.{makes}
 use Rattle.rec_world.proofs.Shapes.{registers_stay, changed_same, changed_other}
 
@@ -73,6 +73,9 @@ busy_told Idle work is = let not_so : ◌≡◌ {A = Option Work} None (Some wor
 busy_told (Begun its) work is = refl
 busy_told (Scanning reg label before slot) work is = refl
 busy_told (Scanned reg label before) work is = refl
+busy_told Crossing work is = refl
+busy_told Swapping work is = refl
+busy_told Giving work is = refl
 busy_told (Finished its made) work is = refl
 
 -- a machine that is busy has a work
@@ -81,11 +84,14 @@ busy_work Idle busy = absurd (false≢true busy)
 busy_work (Begun work) busy = (work, refl)
 busy_work (Scanning reg label before slot) busy = (works.Command (commands.New reg label), refl)
 busy_work (Scanned reg label before) busy = (works.Command (commands.New reg label), refl)
+busy_work Crossing busy = (works.Poll, refl)
+busy_work Swapping busy = (works.Poll, refl)
+busy_work Giving busy = (works.Poll, refl)
 busy_work (Finished work made) busy = absurd (false≢true busy)
 
 -- the work of a mutator stays the same in its step
 pub work_stays : (w : State) (t : ℕ) → IsKept w → IsMutator w.config t → is_busy (mutator w t) ≡ true → work_of (mutator (stepped w t) t) ≡ work_of (mutator w t)
-work_stays w t kept is busy = ap work_of (stepped_mutator w t kept is) ∙ (took_keeps (mutator w t) (found_by w t) busy).1
+work_stays w t kept is busy = ap work_of (stepped_mutator w t kept is) ∙ (took_keeps (mutator w t) (found_by w t) busy (own_here w t kept is).0).1
 
 -- after a step a mutator is busy just where nothing was answered
 pub step_busy : (w : State) (t : ℕ) → IsKept w → IsMutator w.config t → is_busy (mutator w t) ≡ true → is_busy (mutator (stepped w t) t) ≡ is_none (answer_of (mutator (stepped w t) t))
@@ -99,6 +105,9 @@ answered_idle Idle made is = refl
 answered_idle (Begun its) made is = let not_so : ◌≡◌ {A = Option Made} None (Some made) = is in (cc)
 answered_idle (Scanning reg label before slot) made is = let not_so : ◌≡◌ {A = Option Made} None (Some made) = is in (cc)
 answered_idle (Scanned reg label before) made is = let not_so : ◌≡◌ {A = Option Made} None (Some made) = is in (cc)
+answered_idle Crossing made is = let not_so : ◌≡◌ {A = Option Made} None (Some made) = is in (cc)
+answered_idle Swapping made is = let not_so : ◌≡◌ {A = Option Made} None (Some made) = is in (cc)
+answered_idle Giving made is = let not_so : ◌≡◌ {A = Option Made} None (Some made) = is in (cc)
 answered_idle (Finished its other) made is = refl
 
 -- the steps of a work are within its limit
@@ -107,6 +116,9 @@ limit_at p Idle is = tt
 limit_at p (Begun work) is = let none : p.steps ≡ 0 = is.1 in omega arith
 limit_at p (Scanning reg label before slot) is = let there : slot < p.slots = is.1 in let steps : p.steps ≡ slot + 1 = is.2 in omega arith
 limit_at p (Scanned reg label before) is = let steps : p.steps ≡ p.slots + 1 = is.1 in omega arith
+limit_at p Crossing is = let one : p.steps ≡ 1 = is.0 in omega arith
+limit_at p Swapping is = let two : p.steps ≡ 2 = is.0 in omega arith
+limit_at p Giving is = let two : p.steps ≡ 2 = is.0 in omega arith
 limit_at p (Finished work made) is = is
 
 -- those of a mutator
@@ -116,21 +128,21 @@ steps_limited w t kept is =
     subst (λ n. IfSome (work_of (mutator w t)) (λ work. (mutator w t).steps ≤ limit_of n work)) own.slots (limit_at (mutator w t) (mutator w t).phase own.machine.now)
 
 -- no work takes more steps than an allocation may
-most_at : (slots steps : ℕ) (x : Option Work) (work : Work) → x ≡ Some work → IfSome x (λ one. steps ≤ limit_of slots one) → steps ≤ slots + 2
-most_at slots steps None work is few = let not_so : ◌≡◌ {A = Option Work} None (Some work) = is in (cc)
-most_at slots steps (Some (works.Command (commands.New reg label))) work is few = few
-most_at slots steps (Some (works.Command (commands.Null reg))) work is few = let one : steps ≤ 1 = few in omega arith
-most_at slots steps (Some (works.Command (commands.Copy dst src))) work is few = let one : steps ≤ 1 = few in omega arith
-most_at slots steps (Some (works.Command (commands.Get dst src f))) work is few = let one : steps ≤ 1 = few in omega arith
-most_at slots steps (Some (works.Command (commands.Put src f val))) work is few = let one : steps ≤ 1 = few in omega arith
-most_at slots steps (Some (works.Command (commands.Value reg))) work is few = let one : steps ≤ 1 = few in omega arith
-most_at slots steps (Some (works.Command (commands.Same a b))) work is few = let one : steps ≤ 1 = few in omega arith
-most_at slots steps (Some works.Poll) work is few = let one : steps ≤ 1 = few in omega arith
+most_at : (slots steps : ℕ) (x : Option Work) (work : Work) → 0 < slots → x ≡ Some work → IfSome x (λ one. steps ≤ limit_of slots one) → steps ≤ slots + 2
+most_at slots steps None work some is few = let not_so : ◌≡◌ {A = Option Work} None (Some work) = is in (cc)
+most_at slots steps (Some (works.Command (commands.New reg label))) work some is few = few
+most_at slots steps (Some (works.Command (commands.Null reg))) work some is few = let one : steps ≤ 1 = few in omega arith
+most_at slots steps (Some (works.Command (commands.Copy dst src))) work some is few = let one : steps ≤ 1 = few in omega arith
+most_at slots steps (Some (works.Command (commands.Get dst src f))) work some is few = let one : steps ≤ 1 = few in omega arith
+most_at slots steps (Some (works.Command (commands.Put src f val))) work some is few = let one : steps ≤ 1 = few in omega arith
+most_at slots steps (Some (works.Command (commands.Value reg))) work some is few = let one : steps ≤ 1 = few in omega arith
+most_at slots steps (Some (works.Command (commands.Same a b))) work some is few = let one : steps ≤ 1 = few in omega arith
+most_at slots steps (Some works.Poll) work some is few = let three : steps ≤ 3 = few in omega arith
 
 pub most_steps : (w : State) (t : ℕ) → IsKept w → IsMutator w.config t → is_busy (mutator w t) ≡ true → (mutator w t).steps ≤ w.config.slots + 2
 most_steps w t kept is busy =
     let (work, its) = busy_work (mutator w t).phase busy in
-    most_at w.config.slots (mutator w t).steps (work_of (mutator w t)) work its (steps_limited w t kept is)
+    most_at w.config.slots (mutator w t).steps (work_of (mutator w t)) work kept.config.some_slots its (steps_limited w t kept is)
 
 -- what only the registers and the log tell
 lacks_same : (p : Private) (phase : Phase) (steps : ℕ) (cmd : Cmd) → LacksObject (record p { phase = phase; steps = steps }) cmd ↔ LacksObject p cmd
@@ -163,13 +175,6 @@ pub record IsAnswered (w : State) (t : ℕ) (cmd : Cmd) (told : Told) (v : State
   pub config : v.config ≡ w.config
   pub marked : v.marked ≡ false
 
--- one command in two works, and one answer in two results
-same_command : (c d : Cmd) → ◌≡◌ {A = Option Work} (Some (works.Command c)) (Some (works.Command d)) → c ≡ d
-same_command c d is = cc
-
-same_told : (s t : Told) → ◌≡◌ {A = Option Made} (Some (makes_.Answered s)) (Some (makes_.Answered t)) → s ≡ t
-same_told s t is = cc
-
 -- what was said of the command that was answered
 decided_of : (w v : State) (t : ℕ) (q : Private) (cmd : Cmd) (told : Told) → work_of (mutator w t) ≡ Some (works.Command cmd) → answer_of q ≡ Some (makes_.Answered told) → Says w t q v
     → IsDecided w t cmd told v × (is_refusal told.answer ≡ true → OnlyWorks w v t)
@@ -195,14 +200,19 @@ pub record IsEnd (w last : State) (t : ℕ) (work : Work) (made : Made) (v : Sta
   pub answer : answer_of (mutator v t) ≡ Some made
 
 -- the cause of an answer
+answer_caused : (w : State) (t : ℕ) (cmd : Cmd) (told : Told) → IsKept w → IsMutator w.config t → is_busy (mutator w t) ≡ true → work_of (mutator w t) ≡ Some (works.Command cmd)
+    → answer_of (took_of (mutator w t) (found_by w t)) ≡ Some (makes_.Answered told) → HasCause (mutator w t) (took_of (mutator w t) (found_by w t)) cmd (found_by w t) told.answer
+answer_caused w t cmd told kept is busy work answer =
+    let p : Private = mutator w t in
+    let none = (own_here w t kept is).0 in
+    let same = here_same p (found_by w t) p.log busy none in
+    subst (λ (q : Private). HasCause p q cmd (found_by w t) told.answer) same
+    (answer_cause p (found_by w t) p.log cmd told (kept.own t is).machine (record { busy = busy; between = none_between p.phase none; work = work; answer = ap answer_of same ∙ answer }))
+
 caused : (w last v : State) (t : ℕ) (cmd : Cmd) (told : Told) → IsMutator last.config t → (e : IsEnd w last t (works.Command cmd) (makes_.Answered told) v)
     → HasCause (mutator last t) (took_of (mutator last t) (found_by last t)) cmd (found_by last t) told.answer
 caused w last v t cmd told is e =
-    answer_cause (mutator last t) (found_by last t) cmd told (e.kept.own t is).machine (record {
-      busy = e.busy;
-      work = e.its_work;
-      answer = ap answer_of (sym (ap (λ (x : State). mutator x t) e.steps ∙ stepped_mutator last t e.kept is)) ∙ e.answer;
-    })
+    answer_caused last t cmd told e.kept is e.busy e.its_work (ap answer_of (sym (ap (λ (x : State). mutator x t) e.steps ∙ stepped_mutator last t e.kept is)) ∙ e.answer)
 
 -- what is told of the command
 pub answers_all : (w last v : State) (t : ℕ) (cmd : Cmd) (told : Told) → IsKept w → w.marked ≡ false → IsMutator w.config t → IsEnd w last t (works.Command cmd) (makes_.Answered told) v → IsAnswered w t cmd told v
@@ -311,28 +321,8 @@ begun_works w t work kept is =
     record { others = ap (with_mutator w t) (sym here); own = subst P (sym here) refl }
 
 -- a step counts
-step_counts : {p : Private} {word : ℕ} {op : Op} {q : Private} → Step p word op q → q.steps ≡ p.steps + 1
-step_counts (Step.null reg d) = ap (λ (x : Private). x.steps) d.after
-step_counts (Step.copy dst src d) = ap (λ (x : Private). x.steps) d.after
-step_counts (Step.compare a b d) = ap (λ (x : Private). x.steps) d.after
-step_counts (Step.get_of_null dst src f names d) = ap (λ (x : Private). x.steps) d.after
-step_counts (Step.get dst src f slot names d) = ap (λ (x : Private). x.steps) d.after
-step_counts (Step.put_of_null src f val names d) = ap (λ (x : Private). x.steps) d.after
-step_counts (Step.put_refused src f val slot names full d) = ap (λ (x : Private). x.steps) d.after
-step_counts (Step.put src f val slot names room d) = ap (λ (x : Private). x.steps) d.after
-step_counts (Step.value_of_null reg names d) = ap (λ (x : Private). x.steps) d.after
-step_counts (Step.value reg slot names d) = ap (λ (x : Private). x.steps) d.after
-step_counts (Step.new_refused reg label full d) = ap (λ (x : Private). x.steps) d.after
-step_counts (Step.new_begins reg label room g) = ap (λ (x : Private). x.steps) g.after
-step_counts (Step.new_wins reg label before slot free d) = ap (λ (x : Private). x.steps) d.after
-step_counts (Step.new_goes_on reg label before slot taken more g) = ap (λ (x : Private). x.steps) g.after
-step_counts (Step.new_finds_none reg label before slot taken last g) = ap (λ (x : Private). x.steps) g.after
-step_counts (Step.new_is_full reg label before still d) = ap (λ (x : Private). x.steps) d.after
-step_counts (Step.new_is_busy reg label before moves d) = ap (λ (x : Private). x.steps) d.after
-step_counts (Step.poll g) = ap (λ (x : Private). x.steps) g.after
-
 pub steps_counted : (w : State) (t : ℕ) → IsKept w → IsMutator w.config t → is_busy (mutator w t) ≡ true → (mutator (stepped w t) t).steps ≡ (mutator w t).steps + 1
-steps_counted w t kept is busy = ap (λ (p : Private). p.steps) (stepped_mutator w t kept is) ∙ step_counts (step_made (mutator w t) (found_by w t) busy)
+steps_counted w t kept is busy = ap (λ (p : Private). p.steps) (stepped_mutator w t kept is) ∙ step_counts (learnt_made (mutator w t) (found_by w t) (mutator w t).log busy (own_here w t kept is).0)
 
 -- a loop of steps comes nearer to its end
 pub nearer : (before w v : State) (t : ℕ) → IsKept w → IsMutator w.config t → is_busy (mutator w t) ≡ true → OnlyWorks before w t → v ≡ stepped w t
@@ -413,7 +403,7 @@ step_caused : (w : State) (t : ℕ) (cmd : Cmd) (told : Told) → IsKept w → I
 step_caused w t cmd told kept is busy work answer said =
     record {
       cause = subst (λ (q : Private). HasCause (mutator w t) q cmd (found_by w t) told.answer) (sym (stepped_mutator w t kept is))
-          (answer_cause (mutator w t) (found_by w t) cmd told (kept.own t is).machine (record { busy = busy; work = work; answer = ap answer_of (sym (stepped_mutator w t kept is)) ∙ answer }));
+          (answer_caused w t cmd told kept is busy work (ap answer_of (sym (stepped_mutator w t kept is)) ∙ answer));
       taken = λ full. (said.full.0 full).2;
     }
 

@@ -25,8 +25,9 @@ use Rattle.rec_mutator.specs.Step.{Step, Decides, GoesOn, HasRoom}
 use Rattle.rec_mutator.specs.Took.{plain, moved}
 use Rattle.rec_mutator.specs.declared.made.Made.TheVariants as makes
 use Rattle.rec_mutator.specs.declared.phase.Phase.{Phase}
-use Rattle.rec_mutator.specs.declared.phase.Phase.TheVariants.{Begun, Scanning, Scanned}
+use Rattle.rec_mutator.specs.declared.phase.Phase.TheVariants.{Begun, Scanning, Scanned, Crossing, Giving}
 use Rattle.rec_mutator.specs.declared.work.Work.TheVariants as works
+use Rattle.rec_mutator.proofs.Refusals.{read_made, compare_made}
 use Rattle.rec_world.specs.declared.config.Config.{Config}
 use Rattle.rec_world.specs.Config.{IsMutator}
 use Rattle.rec_world.specs.Memory.{cell}
@@ -36,7 +37,7 @@ use Rattle.rec_world.specs.World.{State, sight, mutator, with_mutator, log_lengt
 use Rattle.rec_world.proofs.Kept.{working_at, made_is_free, scanned_free, word_leads}
 use Rattle.rec_world.proofs.LogStamps.{word_stamp}
 use Rattle.rec_world.proofs.Machines.{at_phase}
-use Rattle.rec_world.proofs.Moves.{Makes, registers_left, word_found, probe_found}
+use Rattle.rec_world.proofs.Moves.{Makes, registers_left, word_found, probe_found, own_epoch}
 use Rattle.rec_world.proofs.Shapes.{changed, after_cross, after_field, after_header, after_epoch, after_freed, after_probe, after_swap, after_claim, own_register, registers_stay, registers_set, changed_same}
 
 -- What is said of a command that was told this and left this heap, of what was seen before, of the births, and of the
@@ -133,18 +134,10 @@ compare_plain : (equal : Bool) → is_plain (yes_or_no equal) ≡ true
 compare_plain true = refl
 compare_plain false = refl
 
-compare_made : (equal : Bool) → is_refusal (yes_or_no equal) ≡ false
-compare_made true = refl
-compare_made false = refl
-
 -- nor is a read that finds an object
 read_plain : (target : Option ℕ) → is_plain (null_or_object target) ≡ true
 read_plain None = refl
 read_plain (Some slot) = refl
-
-read_made : (target : Option ℕ) → is_refusal (null_or_object target) ≡ false
-read_made None = refl
-read_made (Some slot) = refl
 
 -- the field that a read or a write names is there
 pub read_range : (w : State) (t dst src f : ℕ) → IsKept w → IsMutator w.config t → (mutator w t).phase ≡ Begun (works.Command (commands.Get dst src f)) → f < w.config.fields
@@ -220,7 +213,7 @@ new_says {w = w} {t = t} {q = q} reg label before slot m lowest there d =
     }
 
 -- every step
-pub performed_says : {w : State} {t word : ℕ} {op : Op} {q : Private} → Makes w t word op q → Step (mutator w t) word op q → Says w t q (performed w t op word q)
+pub performed_says : {w : State} {t word : ℕ} {op : Op} {q : Private} → Makes w t word op q → Step (mutator w t) word (mutator w t).log op q → Says w t q (performed w t op word q)
 performed_says {w = w} {t = t} {word = word} {op = op} {q = q} m (Step.null reg d) =
     after_cross (Says w t q) w t _ word q op d.operation m.found
     (decides refl d refl (tells (sight_with_register (sight w) t reg None) m d (saw_set w t reg None q (registers_left d)) (null_explained (sight w) t reg) refl (λ is. cc, λ is. absurd (false≢true is.0)) refl refl refl refl))
@@ -316,5 +309,8 @@ performed_says {w = w} {t = t} {word = word} {op = op} {q = q} m (Step.new_is_bu
     let freed : word ≡ 0 = m.found ∙ ap (cell (cells_of w)) d.operation ∙ m.kept.freed in
     let even : before % 2 ≡ 0 = ap (λ n. n % 2) first in
     absurd (moves (even, first ∙ sym freed))
-performed_says {w = w} {t = t} {word = word} {op = op} {q = q} m (Step.poll g) =
+performed_says {w = w} {t = t} {word = word} {op = op} {q = q} m (Step.poll_stays own g) =
     after_epoch (Says w t q) w t word q op g.operation m.found (Says.polled (ap answer_of g.after) (ap work_at g.phase) (only_works w t q _ m.kept m.is g.after))
+performed_says m (Step.poll_crosses other g) = absurd (other (own_epoch m g.operation))
+performed_says {w = w} {t = t} m (Step.take_box c) = absurd (working_at w t Crossing m.kept m.is c.phase)
+performed_says {w = w} {t = t} m (Step.give_box c) = absurd (working_at w t Giving m.kept m.is c.phase)

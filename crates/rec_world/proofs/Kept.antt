@@ -1,5 +1,5 @@
 -- What every heap keeps is kept by each move of a mutator.
-use Rattle.std.proofs.Common.{◌≡◌, ◌≢◌, inl, inr, ℕ, ◌+◌, ◌-◌, ◌^◌, ◌<◌, ◌≤◌, ◌↔◌, List, Option, Some, false, slice_index_or, slice_set, length, map, refl, sym, ap, subst, ◌∙◌, arith}
+use Rattle.std.proofs.Common.{◌≡◌, ◌≢◌, inl, inr, ℕ, ◌+◌, ◌-◌, ◌^◌, ◌<◌, ◌≤◌, ◌↔◌, if◌then◌else◌, List, Option, Some, Bool, false, slice_index_or, slice_set, length, map, refl, sym, ap, subst, ◌∙◌, arith}
 use Rattle.std.specs.List.{All}
 use Rattle.std.proofs.Math.ListN.{get_or-map}
 use Rattle.std.proofs.lemmas.Bool.{cases_lt, cases_eq}
@@ -14,16 +14,20 @@ use Rattle.rec_model.specs.Sight.{Sight, IsTaken, IsSound, word_at, words_of, si
 use Rattle.rec_model.proofs.Names.{register_root, named_at}
 use Rattle.rec_model.proofs.Standing.{register_sound, birth_sound, write_sound, word_in}
 use Rattle.rec_log.specs.declared.entry.Entry.{Entry}
+use Rattle.rec_mutator.specs.Causes.{is_giving}
 use Rattle.rec_mutator.specs.Private.{Private, KeepsSizes, register, next_stamp, word_for}
 use Rattle.rec_mutator.specs.Step.{Step, Decides, HasRoom}
+use Rattle.rec_mutator.specs.Took.{IsFound}
 use Rattle.rec_mutator.specs.declared.phase.Phase.{Phase}
-use Rattle.rec_mutator.specs.declared.phase.Phase.TheVariants.{Idle, Begun, Scanning, Scanned, Finished}
+use Rattle.rec_mutator.specs.declared.phase.Phase.TheVariants.{Idle, Begun, Scanning, Scanned, Crossing, Swapping, Giving, Finished}
+use Rattle.rec_mutator.proofs.Polls.{poll_cause}
+use Rattle.rec_mutator.proofs.Steps.{TakesNone}
 use Rattle.rec_world.specs.declared.config.Config.{Config}
 use Rattle.rec_world.specs.Config.{IsMutator}
 use Rattle.rec_world.specs.State.{nobody}
 use Rattle.rec_world.specs.World.{State, sight, mutator, with_mutator, IsOwn, IsWorking, IsKept}
 use Rattle.rec_world.proofs.LogStamps.{step_stamps}
-use Rattle.rec_world.proofs.Machines.{step_machine, has_room, register_target}
+use Rattle.rec_world.proofs.Machines.{own_box, step_machine, has_room, register_target}
 use Rattle.rec_world.proofs.Shapes.{changed, own_register, registers_stay, registers_set, changed_same, changed_other}
 use Rattle.rec_world.proofs.Stamps.{target_of-packed}
 
@@ -53,6 +57,9 @@ working_more made more slots Idle grows few is = tt
 working_more made more slots (Begun work) grows few is = is
 working_more made more slots (Scanning reg label before slot) grows few is = let passed : slot ≤ made = is.2 in (is.0, is.1, omega arith)
 working_more made more slots (Scanned reg label before) grows few is = let all : made ≡ slots = is.1 in (is.0, omega arith)
+working_more made more slots Crossing grows few is = is
+working_more made more slots Swapping grows few is = is
+working_more made more slots Giving grows few is = is
 working_more made more slots (Finished work made_of) grows few is = tt
 
 -- so what is known of a mutator
@@ -100,20 +107,37 @@ changed_kept w t headers words q made kept is same grows few own labels sound bi
       births = births;
     }
 
+-- nobody crosses
+working_here : (made slots : ℕ) (at : Phase) → IsWorking made slots at → TakesNone at × (is_giving at ≡ false)
+working_here made slots Idle is = (tt, refl)
+working_here made slots (Begun work) is = (tt, refl)
+working_here made slots (Scanning reg label before slot) is = (tt, refl)
+working_here made slots (Scanned reg label before) is = (tt, refl)
+working_here made slots Crossing is = absurd is
+working_here made slots Swapping is = absurd is
+working_here made slots Giving is = absurd is
+working_here made slots (Finished work made_of) is = (tt, refl)
+
+-- a mutator makes its next step here: it takes no mailbox and gives none back
+pub own_here : (w : State) (t : ℕ) → IsKept w → IsMutator w.config t → TakesNone (mutator w t).phase × (is_giving (mutator w t).phase ≡ false)
+own_here w t kept is = working_here w.made w.config.slots (mutator w t).phase (kept.own t is).working
+
 -- what is known of a mutator after a step
-pub own_after : (w : State) (t : ℕ) (q : Private) (made : ℕ) → IsKept w → IsMutator w.config t → KeepsSizes (mutator w t) q → (word : ℕ) (op : Op) → Step (mutator w t) word op q → IsWorking made w.config.slots q.phase → IsOwn w.config made t q
-own_after w t q made kept is same word op step working =
-    let own : IsOwn w.config w.made t (mutator w t) = kept.own t is in
+pub own_after : (w : State) (t : ℕ) (q : Private) (made : ℕ) → IsKept w → IsMutator w.config t → KeepsSizes (mutator w t) q → (word : ℕ) (op : Op) → IsFound (mutator w t) op word → Step (mutator w t) word (mutator w t).log op q → IsWorking made w.config.slots q.phase → IsOwn w.config made t q
+own_after w t q made kept is same word op found step working =
+    let p : Private = mutator w t in
+    let own : IsOwn w.config w.made t p = kept.own t is in
+    let here : TakesNone p.phase × (is_giving p.phase ≡ false) = own_here w t kept is in
     record {
       number = same.number ∙ own.number;
-      epoch = same.epoch ∙ own.epoch;
+      epoch = (poll_cause step).epoch ∙ ap (λ (gives : Bool). if gives then p.epoch + 1 else p.epoch) here.1 ∙ own.epoch;
       slots = same.slots ∙ own.slots;
       fields = same.fields ∙ own.fields;
       registers = same.registers ∙ own.registers;
       capacity = same.capacity ∙ own.capacity;
-      machine = step_machine own.machine step;
+      machine = step_machine own.machine (own_box p own.machine) found step;
       working = working;
-      stamps = step_stamps own.machine own.stamps step;
+      stamps = step_stamps own.machine here.0 here.1 own.stamps step;
     }
 
 -- a heap in which one mutator was changed

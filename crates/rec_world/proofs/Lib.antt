@@ -3,6 +3,7 @@ pub mod Clears
 pub mod Commands
 pub mod Deciding
 pub mod Filled
+pub mod Finding
 pub mod Keeps
 pub mod Kept
 pub mod LogStamps

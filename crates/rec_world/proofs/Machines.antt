@@ -1,17 +1,20 @@
 -- A step of a machine leaves a machine.
-use Rattle.std.proofs.Common.{◌≡◌, inl, inr, ℕ, ◌+◌, ◌^◌, ◌<◌, ◌≤◌, List, [], ◌∷◌, ◌++◌, Option, None, Some, length, sym, subst, arith, length-append}
+use Rattle.std.proofs.Common.{◌≡◌, ◌≢◌, inl, inr, ℕ, ◌+◌, ◌^◌, ◌<◌, ◌≤◌, List, [], ◌∷◌, ◌++◌, Option, None, Some, length, refl, sym, subst, ◌∙◌, arith, length-append}
 use Rattle.std.specs.List.{All}
 use Rattle.std.proofs.lemmas.List.Elements.{All-set, All-get_or}
 use Rattle.std.proofs.lemmas.Bool.{cases_lt}
-use Rattle.std.proofs.lemmas.List.{get_or_past}
+use Rattle.std.proofs.lemmas.List.{get_or_past, length-set}
 use Rattle.rec_word.specs.Word.{target_of, IsTarget}
 use Rattle.rec_word.specs.declared.op.Op.{Op}
+use Rattle.rec_word.specs.declared.op.Op.TheVariants as ops
 use Rattle.rec_model.specs.declared.command.Cmd.{Cmd}
 use Rattle.rec_model.specs.declared.command.Cmd.TheVariants as commands
 use Rattle.rec_model.specs.declared.told.Told.{Told}
+use Rattle.rec_log.specs.declared.contents.Contents.{Contents}
 use Rattle.rec_log.specs.declared.entry.Entry.{Entry}
-use Rattle.rec_mutator.specs.Private.{Private, register, limit_of, IsAt, IsMachine}
-use Rattle.rec_mutator.specs.Step.{Step, Decides, GoesOn, HasRoom}
+use Rattle.rec_mutator.specs.Private.{Private, register, limit_of, HasNext, IsAt, IsMachine}
+use Rattle.rec_mutator.specs.Step.{Step, Decides, GoesOn, Crosses, HasRoom}
+use Rattle.rec_mutator.specs.Took.{IsFound}
 use Rattle.rec_mutator.specs.declared.phase.Phase.{Phase}
 use Rattle.rec_mutator.specs.declared.work.Work.TheVariants as works
 
@@ -32,8 +35,8 @@ at_phase p at m is = subst (IsAt p) is m.now
 
 -- an answer leaves a machine
 decided_machine : {p : Private} {op : Op} {q : Private} {cmd : Cmd} {at : Phase} {its_op : Op} {registers : List (Option ℕ)} {entries : List Entry} {told : Told}
-    → IsMachine p → All IsTarget registers → length entries ≤ p.log.capacity → p.steps + 1 ≤ limit_of p.slots (works.Command cmd) → Decides p op q cmd at its_op registers entries told → IsMachine q
-decided_machine m targets few steps d =
+    → IsMachine p → All IsTarget registers → length entries ≤ p.log.capacity → length registers ≡ length p.registers → p.steps + 1 ≤ limit_of p.slots (works.Command cmd) → Decides p op q cmd at its_op registers entries told → IsMachine q
+decided_machine {p = p} m targets few many steps d =
     subst IsMachine (sym d.after) (record {
       number = m.number;
       epoch = m.epoch;
@@ -42,6 +45,7 @@ decided_machine m targets few steps d =
       capacity = m.capacity;
       entries = few;
       registers = targets;
+      snapshot = m.snapshot ∙ sym many;
       now = steps;
     })
 
@@ -57,6 +61,7 @@ going_on_machine m now g =
       capacity = m.capacity;
       entries = m.entries;
       registers = m.registers;
+      snapshot = m.snapshot;
       now = now;
     })
 
@@ -82,46 +87,93 @@ has_room p m room = let most : length p.log.entries ≤ p.log.capacity = m.entri
 slot_target : (p : Private) (slot : ℕ) → IsMachine p → slot < p.slots → IsTarget (Some slot)
 slot_target p slot m there = let few : p.slots < 2 ^ 16 = m.last_slot in omega arith
 
+-- the buffer in a mailbox is as large as the log, and holds no more than it can
+pub record IsBox (p : Private) (box : Contents) : Type 0 where
+  pub snapshot : length box.snapshot ≡ length p.registers
+  pub capacity : box.capacity ≡ p.log.capacity
+  pub entries : length box.entries ≤ box.capacity
+
+-- the log is such a buffer
+pub own_box : (p : Private) → IsMachine p → IsBox p p.log
+own_box p m = record { snapshot = m.snapshot; capacity = refl; entries = m.entries }
+
+-- so does a step of a crossing
+crossing_machine : {p : Private} {op : Op} {q : Private} {at : Phase} {its_op : Op} {epoch : ℕ} {log : Contents} {next_phase : Phase}
+    → IsMachine p → IsBox p log → epoch < 2 ^ 24 → IsAt (record p { epoch = epoch; log = log; phase = next_phase; steps = p.steps + 1 }) next_phase → Crosses p op q at its_op epoch log next_phase → IsMachine q
+crossing_machine {p = p} {log = log} m box small now c =
+    let most : p.log.capacity ≤ 2 ^ 18 = m.capacity in
+    let same : log.capacity ≡ p.log.capacity = box.capacity in
+    subst IsMachine (sym c.after) (record {
+      number = m.number;
+      epoch = small;
+      first_slot = m.first_slot;
+      last_slot = m.last_slot;
+      capacity = omega arith;
+      entries = box.entries;
+      registers = m.registers;
+      snapshot = box.snapshot;
+      now = now;
+    })
+
+-- where the epoch word isn't the own epoch, it is the next one
+has_next : (p : Private) (word : ℕ) (op : Op) → word ≢ p.epoch → op ≡ ops.LoadEpoch → IsFound p op word → HasNext p
+has_next p word op other at found = elim (subst (λ o. IsFound p o word) at found) [
+  | inl own ↦ absurd (other own)
+  | inr next ↦ let is : word ≡ p.epoch + 1 = next.0 in let few : word < 2 ^ 24 = next.1 in omega arith
+]
+
 -- every step does
-pub step_machine : {p : Private} {word : ℕ} {op : Op} {q : Private} → IsMachine p → Step p word op q → IsMachine q
-step_machine {p = p} m (Step.null reg d) = decided_machine m (All-set IsTarget p.registers reg None tt m.registers) m.entries (first_step p (commands.Null reg) (at_phase p _ m d.phase).1) d
-step_machine {p = p} m (Step.copy dst src d) = decided_machine m (All-set IsTarget p.registers dst (register p src) (register_target p src m) m.registers) m.entries (first_step p (commands.Copy dst src) (at_phase p _ m d.phase).1) d
-step_machine {p = p} m (Step.compare a b d) = decided_machine m m.registers m.entries (first_step p (commands.Same a b) (at_phase p _ m d.phase).1) d
-step_machine {p = p} m (Step.get_of_null dst src f names d) = decided_machine m m.registers m.entries (first_step p (commands.Get dst src f) (at_phase p _ m d.phase).1) d
-step_machine {p = p} {word = word} m (Step.get dst src f slot names d) = decided_machine m (All-set IsTarget p.registers dst (target_of word) (word_target word) m.registers) m.entries (first_step p (commands.Get dst src f) (at_phase p _ m d.phase).1) d
-step_machine {p = p} m (Step.put_of_null src f val names d) = decided_machine m m.registers m.entries (first_step p (commands.Put src f val) (at_phase p _ m d.phase).1) d
-step_machine {p = p} m (Step.put_refused src f val slot names full d) = decided_machine m m.registers m.entries (first_step p (commands.Put src f val) (at_phase p _ m d.phase).1) d
-step_machine {p = p} m (Step.put src f val slot names room d) = decided_machine m m.registers (one_more p _ (has_room p m room)) (first_step p (commands.Put src f val) (at_phase p _ m d.phase).1) d
-step_machine {p = p} m (Step.value_of_null reg names d) = decided_machine m m.registers m.entries (first_step p (commands.Value reg) (at_phase p _ m d.phase).1) d
-step_machine {p = p} m (Step.value reg slot names d) = decided_machine m m.registers m.entries (first_step p (commands.Value reg) (at_phase p _ m d.phase).1) d
-step_machine {p = p} m (Step.new_refused reg label full d) = decided_machine m m.registers m.entries (first_step p (commands.New reg label) (at_phase p _ m d.phase).1) d
-step_machine {p = p} m (Step.new_begins reg label room g) =
+pub step_machine : {p : Private} {word : ℕ} {box : Contents} {op : Op} {q : Private} → IsMachine p → IsBox p box → IsFound p op word → Step p word box op q → IsMachine q
+step_machine {p = p} m sized found (Step.null reg d) = decided_machine m (All-set IsTarget p.registers reg None tt m.registers) m.entries (length-set p.registers reg None) (first_step p (commands.Null reg) (at_phase p _ m d.phase).1) d
+step_machine {p = p} m sized found (Step.copy dst src d) = decided_machine m (All-set IsTarget p.registers dst (register p src) (register_target p src m) m.registers) m.entries (length-set p.registers dst _) (first_step p (commands.Copy dst src) (at_phase p _ m d.phase).1) d
+step_machine {p = p} m sized found (Step.compare a b d) = decided_machine m m.registers m.entries refl (first_step p (commands.Same a b) (at_phase p _ m d.phase).1) d
+step_machine {p = p} m sized found (Step.get_of_null dst src f names d) = decided_machine m m.registers m.entries refl (first_step p (commands.Get dst src f) (at_phase p _ m d.phase).1) d
+step_machine {p = p} {word = word} m sized found (Step.get dst src f slot names d) = decided_machine m (All-set IsTarget p.registers dst (target_of word) (word_target word) m.registers) m.entries (length-set p.registers dst _) (first_step p (commands.Get dst src f) (at_phase p _ m d.phase).1) d
+step_machine {p = p} m sized found (Step.put_of_null src f val names d) = decided_machine m m.registers m.entries refl (first_step p (commands.Put src f val) (at_phase p _ m d.phase).1) d
+step_machine {p = p} m sized found (Step.put_refused src f val slot names full d) = decided_machine m m.registers m.entries refl (first_step p (commands.Put src f val) (at_phase p _ m d.phase).1) d
+step_machine {p = p} m sized found (Step.put src f val slot names room d) = decided_machine m m.registers (one_more p _ (has_room p m room)) refl (first_step p (commands.Put src f val) (at_phase p _ m d.phase).1) d
+step_machine {p = p} m sized found (Step.value_of_null reg names d) = decided_machine m m.registers m.entries refl (first_step p (commands.Value reg) (at_phase p _ m d.phase).1) d
+step_machine {p = p} m sized found (Step.value reg slot names d) = decided_machine m m.registers m.entries refl (first_step p (commands.Value reg) (at_phase p _ m d.phase).1) d
+step_machine {p = p} m sized found (Step.new_refused reg label full d) = decided_machine m m.registers m.entries refl (first_step p (commands.New reg label) (at_phase p _ m d.phase).1) d
+step_machine {p = p} m sized found (Step.new_begins reg label room g) =
     let begun = at_phase p _ m g.phase in
     let none : p.steps ≡ 0 = begun.1 in
     going_on_machine m (record { register = begun.0; room = has_room p m room }, m.first_slot, omega arith) g
-step_machine {p = p} m (Step.new_wins reg label before slot free d) =
+step_machine {p = p} m sized found (Step.new_wins reg label before slot free d) =
     let scan = at_phase p _ m d.phase in
     let there : slot < p.slots = scan.1 in
     let steps : p.steps ≡ slot + 1 = scan.2 in
-    decided_machine m (All-set IsTarget p.registers reg (Some slot) (slot_target p slot m there) m.registers) (one_more p _ scan.0.room) (omega arith) d
-step_machine {p = p} m (Step.new_goes_on reg label before slot taken more g) =
+    decided_machine m (All-set IsTarget p.registers reg (Some slot) (slot_target p slot m there) m.registers) (one_more p _ scan.0.room) (length-set p.registers reg _) (omega arith) d
+step_machine {p = p} m sized found (Step.new_goes_on reg label before slot taken more g) =
     let scan = at_phase p _ m g.phase in
     let there : slot < p.slots = scan.1 in
     let steps : p.steps ≡ slot + 1 = scan.2 in
     going_on_machine m (record { register = scan.0.register; room = scan.0.room }, omega arith, omega arith) g
-step_machine {p = p} m (Step.new_finds_none reg label before slot taken last g) =
+step_machine {p = p} m sized found (Step.new_finds_none reg label before slot taken last g) =
     let scan = at_phase p _ m g.phase in
     let steps : p.steps ≡ slot + 1 = scan.2 in
     going_on_machine m (record { register = scan.0.register; room = scan.0.room }, omega arith) g
-step_machine {p = p} m (Step.new_is_full reg label before still d) =
+step_machine {p = p} m sized found (Step.new_is_full reg label before still d) =
     let scan = at_phase p _ m d.phase in
     let steps : p.steps ≡ p.slots + 1 = scan.1 in
-    decided_machine m m.registers m.entries (omega arith) d
-step_machine {p = p} m (Step.new_is_busy reg label before moves d) =
+    decided_machine m m.registers m.entries refl (omega arith) d
+step_machine {p = p} m sized found (Step.new_is_busy reg label before moves d) =
     let scan = at_phase p _ m d.phase in
     let steps : p.steps ≡ p.slots + 1 = scan.1 in
-    decided_machine m m.registers m.entries (omega arith) d
-step_machine {p = p} m (Step.poll g) =
+    decided_machine m m.registers m.entries refl (omega arith) d
+step_machine {p = p} m sized found (Step.poll_stays own g) =
     let begun = at_phase p _ m g.phase in
     let none : p.steps ≡ 0 = begun.1 in
     going_on_machine m (omega arith) g
+step_machine {p = p} {word = word} {op = op} m sized found (Step.poll_crosses other g) =
+    let begun = at_phase p _ m g.phase in
+    let none : p.steps ≡ 0 = begun.1 in
+    going_on_machine m (omega arith, has_next p word op other g.operation found) g
+step_machine {p = p} m sized found (Step.take_box c) =
+    let crosses = at_phase p _ m c.phase in
+    let one : p.steps ≡ 1 = crosses.0 in
+    crossing_machine m sized m.epoch (omega arith, crosses.1) c
+step_machine {p = p} m sized found (Step.give_box c) =
+    let crosses = at_phase p _ m c.phase in
+    let two : p.steps ≡ 2 = crosses.0 in
+    crossing_machine m (own_box p m) crosses.1 (omega arith) c

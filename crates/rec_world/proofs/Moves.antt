@@ -12,19 +12,20 @@ use Rattle.rec_log.specs.declared.entry.Entry.{Entry}
 use Rattle.rec_mutator.specs.Next.{next_of}
 use Rattle.rec_mutator.specs.Private.{Private, KeepsSizes, is_busy, register, word_for, IsValid}
 use Rattle.rec_mutator.specs.Step.{Step, Decides, GoesOn}
-use Rattle.rec_mutator.specs.Took.{took_of, begun_of}
+use Rattle.rec_mutator.specs.Took.{took_of, begun_of, IsFound}
 use Rattle.rec_mutator.specs.declared.phase.Phase.{Phase}
-use Rattle.rec_mutator.specs.declared.phase.Phase.TheVariants.{Begun, Scanning}
+use Rattle.rec_mutator.specs.declared.phase.Phase.TheVariants.{Begun, Scanning, Crossing, Giving}
 use Rattle.rec_mutator.specs.declared.work.Work.{Work}
 use Rattle.rec_mutator.specs.declared.work.Work.TheVariants as works
 use Rattle.rec_mutator.proofs.Sizes.{took_keeps}
-use Rattle.rec_mutator.proofs.Steps.{step_made}
+use Rattle.rec_mutator.proofs.Steps.{learnt_made}
 use Rattle.rec_world.specs.Config.{IsMutator}
 use Rattle.rec_world.specs.Memory.{cell}
 use Rattle.rec_world.specs.Run.{performed, stepped, begun, found_by, HasLabel}
 use Rattle.rec_world.specs.State.{cells_of}
 use Rattle.rec_world.specs.World.{State, sight, mutator, with_mutator, IsOwn, IsWorking, IsKept}
-use Rattle.rec_world.proofs.Kept.{mutator_kept, stays_sound, sets_sound, own_after, answered_working, working_at, register_taken, target_taken, scanned_free, birth_kept, write_kept, word_leads}
+use Rattle.rec_world.proofs.Kept.{mutator_kept, stays_sound, sets_sound, own_after, answered_working, working_at, own_here, register_taken, target_taken, scanned_free, birth_kept, write_kept, word_leads}
+use Rattle.rec_world.proofs.Finding.{next_found}
 use Rattle.rec_world.proofs.Machines.{at_phase}
 use Rattle.rec_world.proofs.Shapes.{changed, after_cross, after_field, after_header, after_epoch, after_freed, after_probe, after_swap, after_claim}
 
@@ -34,8 +35,9 @@ pub record Makes (w : State) (t : ℕ) (word : ℕ) (op : Op) (q : Private) : Ty
   pub unmarked : w.marked ≡ false
   pub is : IsMutator w.config t
   pub found : word ≡ cell (cells_of w) op
+  pub may : IsFound (mutator w t) op word
   pub sizes : KeepsSizes (mutator w t) q
-  pub step : Step (mutator w t) word op q
+  pub step : Step (mutator w t) word (mutator w t).log op q
 
 -- the registers that an answer leaves
 abbrev pub registers_left : {p : Private} {op : Op} {q : Private} {cmd : Cmd} {at : Phase} {its_op : Op} {registers : List (Option ℕ)} {entries : List Entry} {told : Told}
@@ -45,7 +47,7 @@ registers_left d = ap (λ (x : Private). x.registers) d.after
 -- what is known of the mutator that answers
 answering : {w : State} {t word : ℕ} {op : Op} {q : Private} {cmd : Cmd} {at : Phase} {its_op : Op} {registers : List (Option ℕ)} {entries : List Entry} {told : Told} (made : ℕ)
     → Makes w t word op q → Decides (mutator w t) op q cmd at its_op registers entries told → IsOwn w.config made t q
-answering {w = w} {t = t} {word = word} {op = op} {q = q} made m d = own_after w t q made m.kept m.is m.sizes word op m.step (answered_working made w.config.slots d)
+answering {w = w} {t = t} {word = word} {op = op} {q = q} made m d = own_after w t q made m.kept m.is m.sizes word op m.may m.step (answered_working made w.config.slots d)
 
 -- an answer that changes no register
 unchanged : {w : State} {t word : ℕ} {op : Op} {q : Private} {cmd : Cmd} {at : Phase} {its_op : Op} {entries : List Entry} {told : Told}
@@ -62,7 +64,7 @@ goes_on : {w : State} {t word : ℕ} {op : Op} {q : Private} {at : Phase} {its_o
     → Makes w t word op q → IsWorking w.made w.config.slots next_phase → GoesOn (mutator w t) op q at its_op next_phase → IsKept (with_mutator w t q)
 goes_on {w = w} {t = t} {word = word} {op = op} {q = q} m working g =
     mutator_kept w t q m.kept m.is
-    (own_after w t q w.made m.kept m.is m.sizes word op m.step (subst (λ (x : Private). IsWorking w.made w.config.slots x.phase) (sym g.after) working))
+    (own_after w t q w.made m.kept m.is m.sizes word op m.may m.step (subst (λ (x : Private). IsWorking w.made w.config.slots x.phase) (sym g.after) working))
     (stays_sound w t q m.kept (ap (λ (x : Private). x.registers) g.after))
 
 -- a field's word, where its place was reckoned by the mutator
@@ -80,8 +82,12 @@ passes w t word slot label op kept unmarked found at taken =
     let header : word ≡ slice_index_or w.headers slot 0 = probe_found w word slot label op found at in
     (kept.births unmarked slot).0 (omega arith)
 
+-- the epoch word is the own epoch
+pub own_epoch : {w : State} {t word : ℕ} {op : Op} {q : Private} → Makes w t word op q → op ≡ ops.LoadEpoch → word ≡ (mutator w t).epoch
+own_epoch {w = w} {t = t} m at = m.found ∙ ap (cell (cells_of w)) at ∙ m.kept.epoch ∙ sym (m.kept.own t m.is).epoch
+
 -- every step
-pub performed_kept : {w : State} {t word : ℕ} {op : Op} {q : Private} → Makes w t word op q → Step (mutator w t) word op q → IsKept (performed w t op word q)
+pub performed_kept : {w : State} {t word : ℕ} {op : Op} {q : Private} → Makes w t word op q → Step (mutator w t) word (mutator w t).log op q → IsKept (performed w t op word q)
 performed_kept {w = w} {t = t} {word = word} {op = op} {q = q} m (Step.null reg d) = after_cross IsKept w t _ word q op d.operation m.found (sets reg None m (λ slot e. cc) d)
 performed_kept {w = w} {t = t} {word = word} {op = op} {q = q} m (Step.copy dst src d) =
     after_cross IsKept w t _ word q op d.operation m.found (sets dst (register (mutator w t) src) m (λ slot e. register_taken w m.kept t src slot e) d)
@@ -138,7 +144,10 @@ performed_kept {w = w} {t = t} {word = word} {op = op} {q = q} m (Step.new_finds
     after_probe IsKept w t slot label word q op g.operation m.found taken (goes_on m (working.1, omega arith) g)
 performed_kept {w = w} {t = t} {word = word} {op = op} {q = q} m (Step.new_is_full reg label before still d) = after_freed IsKept w t word q op d.operation m.found (unchanged m d)
 performed_kept {w = w} {t = t} {word = word} {op = op} {q = q} m (Step.new_is_busy reg label before moves d) = after_freed IsKept w t word q op d.operation m.found (unchanged m d)
-performed_kept {w = w} {t = t} {word = word} {op = op} {q = q} m (Step.poll g) = after_epoch IsKept w t word q op g.operation m.found (goes_on m tt g)
+performed_kept {w = w} {t = t} {word = word} {op = op} {q = q} m (Step.poll_stays own g) = after_epoch IsKept w t word q op g.operation m.found (goes_on m tt g)
+performed_kept {w = w} {t = t} m (Step.poll_crosses other g) = absurd (other (own_epoch m g.operation))
+performed_kept {w = w} {t = t} m (Step.take_box c) = absurd (working_at w t Crossing m.kept m.is c.phase)
+performed_kept {w = w} {t = t} m (Step.give_box c) = absurd (working_at w t Giving m.kept m.is c.phase)
 
 -- the next step of a mutator
 pub makes : (w : State) (t : ℕ) → IsKept w → w.marked ≡ false → IsMutator w.config t → is_busy (mutator w t) ≡ true
@@ -148,8 +157,9 @@ makes w t kept unmarked is busy = record {
   unmarked = unmarked;
   is = is;
   found = refl;
-  sizes = (took_keeps (mutator w t) (found_by w t) busy).0;
-  step = step_made (mutator w t) (found_by w t) busy;
+  may = next_found w t kept is;
+  sizes = (took_keeps (mutator w t) (found_by w t) busy (own_here w t kept is).0).0;
+  step = learnt_made (mutator w t) (found_by w t) (mutator w t).log busy (own_here w t kept is).0;
 }
 
 -- a step keeps what every heap keeps
@@ -177,6 +187,7 @@ begin_kept w t work kept is valid label =
         capacity = own.machine.capacity;
         entries = own.machine.entries;
         registers = own.machine.registers;
+        snapshot = own.machine.snapshot;
         now = (valid, refl);
       };
       working = label;

@@ -103,6 +103,7 @@ own_kept config t is there =
         capacity = omega arith;
         entries = omega arith;
         registers = All-cons IsTarget (Some 0) (replicate (config.registers - 1) None) first (All-replicate IsTarget (config.registers - 1) None tt);
+        snapshot = length-replicate config.registers None ∙ omega arith;
         now = refl;
       };
       working = tt;

@@ -19,7 +19,7 @@ use Rattle.rec_mutator.specs.Private.{Private, IsMachine, is_busy, work_of, answ
 use Rattle.rec_mutator.specs.declared.made.Made.{Made}
 use Rattle.rec_mutator.specs.declared.made.Made.TheVariants as makes
 use Rattle.rec_mutator.specs.declared.phase.Phase.{Phase}
-use Rattle.rec_mutator.specs.declared.phase.Phase.TheVariants.{Idle, Begun, Scanning, Scanned, Finished}
+use Rattle.rec_mutator.specs.declared.phase.Phase.TheVariants.{Idle, Begun, Scanning, Scanned, Crossing, Swapping, Giving, Finished}
 use Rattle.rec_mutator.specs.declared.work.Work.{Work}
 use Rattle.rec_mutator.specs.declared.work.Work.TheVariants as works
 use Rattle.rec_world.specs.declared.config.Config.{Config}
@@ -28,12 +28,15 @@ use Rattle.rec_world.specs.Run.{stepped, found_by, EndsRun, HasLabel}
 pub use Rattle.rec_world.specs.State.{State, sight, mutator, with_mutator, log_length, opened}
 
 -- What is known of a mutator's work, of a heap with so many births and slots. Nothing is freed, so each slot that a scan has
--- passed is below the births, and the freed word that it found is 0.
+-- passed is below the births, and the freed word that it found is 0. No epoch is requested, so nobody crosses.
 abbrev pub IsWorking : (made slots : ℕ) → Phase → Type 0
 IsWorking made slots Idle = Unit {0}
 IsWorking made slots (Begun work) = HasLabel work
 IsWorking made slots (Scanning reg label before slot) = (label < 2 ^ 32) × (before ≡ 0) × (slot ≤ made)
 IsWorking made slots (Scanned reg label before) = (before ≡ 0) × (made ≡ slots)
+IsWorking made slots Crossing = ⊥
+IsWorking made slots Swapping = ⊥
+IsWorking made slots Giving = ⊥
 IsWorking made slots (Finished work made_of) = Unit {0}
 
 -- an entry with this index in the log of this mutator in this epoch: a write left its stamp

@@ -1,6 +1,6 @@
 ghost use Rattle.std.specs.Prelude.{◌≡◌, ◌<◌, length, IsTrue, IfOk};
 ghost use Rattle.rec_mutator.specs.Private.{HasOperands, IsValid};
-ghost use Rattle.rec_mutator.specs.Took.{IsFound};
+ghost use Rattle.rec_mutator.specs.Took.{IsFound, IsRequested};
 
 use super::*;
 use std::process::Abort;
@@ -13,6 +13,7 @@ const FIRST_WORD: u64 = 1_099_511_693_313;
 fn open(alloc: Global) -> Result<Machine, NoMemory>
     ensures registers { IfOk result (λ machine. length machine.registers ≡ 2) }
     ensures fields { IfOk result (λ machine. machine.fields ≡ 2) }
+    ensures capacity { IfOk result (λ machine. machine.log.capacity ≡ 3) }
 {
     Machine::open(alloc, 1, 1, 4, 2, 2, 3)
 }
@@ -23,17 +24,27 @@ fn may_find(machine: &Machine, op: Op, word: u64) -> bool
 {
     match op {
         Op::LoadHeader(_) => 0 < word && word <= 1 << 32,
-        Op::LoadEpoch => word == u64::from(machine.epoch()),
+        Op::LoadEpoch => is_requested(machine, word),
+        Op::TakeBox(..) => word == u64::from(machine.epoch()) * 4,
         _ => true,
     }
+}
+
+// Whether the epoch word of the heap may be this.
+fn is_requested(machine: &Machine, word: u64) -> bool
+    ensures { IsTrue result → IsRequested machine.now word }
+{
+    let own = u64::from(machine.epoch());
+    word == own || (word == own + 1 && word < 1 << 24)
 }
 
 // One step: the operation, after the word that it found was learnt.
 fn step(rt: &impl Abort, machine: &mut Machine, word: u64) -> Op
     ensures registers { length machine.new.registers ≡ length machine.old.registers }
     ensures fields { machine.new.fields ≡ machine.old.fields }
+    ensures capacity { machine.new.log.capacity ≡ machine.old.log.capacity }
 {
-    assert!(rt; machine.is_busy());
+    assert!(rt; machine.is_busy() && !machine.is_swapping());
     let op = machine.next();
     assert!(rt; may_find(machine, op, word));
     machine.took(word);
@@ -46,6 +57,7 @@ fn begin(rt: &impl Abort, machine: &mut Machine, work: Work)
 
     ensures registers { length machine.new.registers ≡ length machine.old.registers }
     ensures fields { machine.new.fields ≡ machine.old.fields }
+    ensures capacity { machine.new.log.capacity ≡ machine.old.log.capacity }
 {
     assert!(rt; !machine.is_busy());
     machine.begin(work);
@@ -176,6 +188,7 @@ fn row(rt: &impl Abort, machine: &mut Machine, cmd: Cmd, op: Op, word: u64, answ
 
     ensures registers { length machine.new.registers ≡ length machine.old.registers }
     ensures fields { machine.new.fields ≡ machine.old.fields }
+    ensures capacity { machine.new.log.capacity ≡ machine.old.log.capacity }
 {
     begin(rt, machine, Work::Command(cmd));
     assert_eq!(rt; step(rt, machine, word), op);
@@ -234,11 +247,38 @@ fn reads_and_compares(rt: HostRuntime) -> Result<(), Fail> {
 }
 
 #[test]
-fn polls(rt: HostRuntime) -> Result<(), Fail> {
+fn stays_in_its_epoch(rt: HostRuntime) -> Result<(), Fail> {
     let mut machine = open(rt.alloc())?;
     begin(&rt, &mut machine, Work::Poll);
     assert_eq!(rt; step(&rt, &mut machine, 1), Op::LoadEpoch);
     assert_eq!(rt; machine.answer(), Some(Made::Crossed(None)));
     assert_eq!(rt; machine.steps(), 1);
+    Ok(())
+}
+
+#[test]
+fn crosses(rt: HostRuntime) -> Result<(), Fail> {
+    let mut machine = open(rt.alloc())?;
+    let put = Cmd::Put {
+        src: 0,
+        field: 0,
+        val: 0,
+    };
+    begin(&rt, &mut machine, Work::Command(put));
+    assert_eq!(rt; step(&rt, &mut machine, 0), Op::SwapField(0, FIRST_WORD));
+    begin(&rt, &mut machine, Work::Poll);
+    assert_eq!(rt; step(&rt, &mut machine, 2), Op::LoadEpoch);
+    assert_eq!(rt; machine.answer(), None);
+    assert_eq!(rt; step(&rt, &mut machine, 4), Op::TakeBox(1, 2));
+    assert!(rt; machine.is_swapping());
+    let retired = machine.swap_box(Buffer::open(rt.alloc(), 3, 2)?);
+    assert_eq!(rt; retired.entries().len(), 1);
+    assert_eq!(rt; retired.snapshot(), [Some(0), None].as_slice());
+    assert_eq!(rt; machine.epoch(), 1);
+    assert_eq!(rt; step(&rt, &mut machine, 5), Op::GiveBox(1, 2));
+    assert_eq!(rt; machine.answer(), Some(Made::Crossed(Some(2))));
+    assert_eq!(rt; machine.epoch(), 2);
+    assert_eq!(rt; machine.steps(), 3);
+    assert!(rt; machine.entries().is_empty());
     Ok(())
 }

@@ -3,15 +3,18 @@ use Rattle.std.proofs.Common.{◌≡◌, ◌-◌, ◌+◌, List, true, false, le
 use Rattle.std.proofs.lemmas.List.{get_or_default, length-set}
 use Rattle.rec_mutator.specs.Next.{next_of}
 use Rattle.rec_mutator.specs.Private.{Private, is_busy, answer_of}
-use Rattle.rec_mutator.specs.Took.{IsFound}
+use Rattle.rec_mutator.specs.Took.{IsFound, IsBetween}
+use Rattle.rec_mutator.proofs.Steps.{none_between}
 use Rattle.rec_world.specs.Config.{IsMutator}
 use Rattle.rec_world.specs.Inside.{state}
 use Rattle.rec_world.specs.Memory.{IsWithin, cell}
 use Rattle.rec_world.specs.Run.{EndsRun, stepped}
 use Rattle.rec_world.specs.State.{cells_of, nobody}
 use Rattle.rec_world.specs.World.{State, mutator, IsShown, IsWorld}
-use Rattle.rec_world.proofs.Calls.{mutator_back, busy_back, unmarked_back, mutator_read, next_within, next_found, stepped_is, stepped_world, world_run}
+use Rattle.rec_world.proofs.Calls.{mutator_back, busy_back, unmarked_back, mutator_read, next_within, stepped_is, stepped_world, world_run}
 use Rattle.rec_world.proofs.Commands.{step_says, step_shown, steps_counted}
+use Rattle.rec_world.proofs.Finding.{next_found}
+use Rattle.rec_world.proofs.Kept.{own_here}
 use Rattle.rec_world.proofs.world.World.step.Goals as goal
 use Rattle.rec_world.proofs.world.World.step.Goals.{After-next-op, After-index_mut, After-answer}
 
@@ -47,6 +50,13 @@ took-requires-clause-found c =
     let found : c.perform-found.result ≡ cell (cells_of (before here)) (next_of (mutator (before here) c.args.t)) = c.perform-found.ensures.found ∙ ap (cell (cells_of (before here))) (named here) in
     subst (λ (p : Private). IsFound p (next_of p) c.perform-found.result) (sym again)
     (subst (IsFound (mutator (before here) c.args.t) (next_of (mutator (before here) c.args.t))) (sym found) (next_found (before here) c.args.t c.self.invariant.world.kept (mutator_is here)))
+
+pub took-requires-clause-between : goal.took-requires-clause-between
+took-requires-clause-between c =
+    let here : After-next-op = (goal.at.took-requires-clause-between c).After-next-op in
+    let again : c.index_mut.result.now ≡ mutator (before here) c.args.t
+    = mutator_read (before here) c.args.t c.from-index.result c.index_mut.result.now c.self.invariant.world.kept (mutator_is here) c.from-index.ensures c.index_mut.ensures.value in
+    subst (λ (p : Private). IsBetween p.phase) (sym again) (none_between (mutator (before here) c.args.t).phase (own_here (before here) c.args.t c.self.invariant.world.kept (mutator_is here)).0)
 
 -- the state before the step
 abbrev first : After-answer → State
