@@ -1,10 +1,16 @@
+pub mod Accounted
 pub mod Asking
 pub mod Explained
 pub mod Heap
 pub mod LegalOrder
 pub mod Listing
+pub mod Moves
 pub mod Numbering
+pub mod Opened
+pub mod Pending
 pub mod Reach
+pub mod References
 pub mod Sight
+pub mod Sums
 pub use Rattle.rec_word.specs.Place
 pub use Rattle.rec_word.specs.Word
