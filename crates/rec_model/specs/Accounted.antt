@@ -112,6 +112,16 @@ named w node =
     + sum_by (is_from w.applied node) w.births
     + sum_by (is_node node) w.registers
 
+-- How often the node is named, also by fields of nodes that are given up.
+abbrev pub named_anywhere : Pending → (node : ℕ) → ℕ
+named_anywhere w node =
+    sum_at (names node) w.words
+    + sum_by (puts_after w.applied node) w.writes
+    + sum_by (replaces_from w.applied node) w.writes
+    + sum_by (is_from w.applied node) w.snapshots
+    + sum_by (is_from w.applied node) w.births
+    + sum_by (is_node node) w.registers
+
 -- nothing names a free slot or a node that was given up
 abbrev pub IsUnnamed : Pending → Type 0
 IsUnnamed w = (node : ℕ) → 0 < node → is_dead w node ≡ true → named w node ≡ 0
@@ -125,6 +135,8 @@ pub record IsAccounted (w : Pending) : Type 0 where
   pub unnamed : IsUnnamed w
   -- a slot is free, or its node was given up, and not both
   pub apart : (node : ℕ) → 0 < node → w.free node ≡ true → w.released node ≡ false
+  -- a free slot has count one
+  pub single : (node : ℕ) → 0 < node → w.free node ≡ true → w.count node ≡ 1
   -- a node is born once
   pub born : (node : ℕ) → 0 < node → sum_by (is_from w.applied node) w.births ≤ 1
 
