@@ -3,6 +3,7 @@ pub mod Answered
 pub mod Beginning
 pub mod Carried
 pub mod Collected
+pub mod Consequences
 pub mod Counted
 pub mod Epochs
 pub mod Firsts

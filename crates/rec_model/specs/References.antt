@@ -1,5 +1,5 @@
 -- References, and what counts at an epoch: its references, roots, count and reach.
-use Rattle.std.specs.Prelude.{ℕ, ◌+◌, ◌==◌, ◌&&◌, nat_lt, nat_le, if◌then◌else◌, Bool, true, Option, None, Some, List, ◌++◌, map, filter}
+use Rattle.std.specs.Prelude.{ℕ, ◌+◌, ◌<◌, ◌==◌, ◌&&◌, nat_lt, nat_le, if◌then◌else◌, Bool, true, Option, None, Some, List, ◌++◌, map, filter}
 use Rattle.std.specs.List.{enumerate_from}
 use Rattle.rec_model.specs.Reach.{is_in, IsReached}
 use Rattle.rec_model.specs.Numbering.{times}
@@ -68,3 +68,9 @@ one_if_born w epoch node = if is_in node (nodes_from epoch w.births) then 1 else
 abbrev pub count_formula : Pending → (epoch node : ℕ) → ℕ
 count_formula w epoch node =
     if w.free node then 1 else times node (map (λ r. r.target) (references_of w epoch)) + times node (nodes_of epoch w.snapshots) + one_if_born w epoch node
+
+-- The source, the new target and the replaced target of a write are in the reach of an epoch.
+pub record IsWriteInReach (w : Pending) (epoch : ℕ) (write : Write) : Type 0 where
+  pub source : IsInReach w epoch (home w.fields write.place)
+  pub new : 0 < node_of write.new → IsInReach w epoch (node_of write.new)
+  pub old : 0 < node_of write.old → IsInReach w epoch (node_of write.old)

@@ -16,6 +16,9 @@ mod told;
 pub use answer::Answer;
 pub use command::Cmd;
 pub use laws::{
-    listing_is_unique, listing_stands, numbering_is_unique, numbering_lists_the_reached,
+    batches_are_covered, clearings_are_covered, counts_are_the_formula, later_epochs_stay_in_reach,
+    listing_is_unique, listing_stands, moves_keep_accounts, numbering_is_unique,
+    numbering_lists_the_reached, the_given_up_are_uncounted, the_given_up_are_unnamed,
+    the_uncounted_are_gone,
 };
 pub use told::Told;

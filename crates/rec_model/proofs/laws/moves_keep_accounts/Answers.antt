@@ -1,0 +1,10 @@
+-- Each part of the accounts is kept by each kind of move.
+use Rattle.rec_model.proofs.Beginning.{opening_accounted}
+use Rattle.rec_model.proofs.Moving.{move_accounted}
+use Rattle.rec_model.proofs.laws.moves_keep_accounts.Goals as goal
+
+pub returns-clause-opened : goal.returns-clause-opened
+returns-clause-opened c = opening_accounted
+
+pub returns-clause-moved : goal.returns-clause-moved
+returns-clause-moved c = λ before after m i. move_accounted m i
