@@ -62,7 +62,7 @@ after_blanks (c ∷ cs) (suc n) within before =
     ap (λ (b : Bool). filter is_some_word (cond b ([] ∷ cut is_blank cs) (in_front c (cut is_blank cs)))) (before 0 (omega arith))
     ∙ after_blanks cs n (omega arith) (λ k h. before (suc k) (omega arith))
 
-some_word : (w : List ℕ) → 0 < length w → is_some_word w ≡ true
+pub some_word : (w : List ℕ) → 0 < length w → is_some_word w ≡ true
 some_word [] some = absurd (omega arith)
 some_word (c ∷ cs) some = refl
 

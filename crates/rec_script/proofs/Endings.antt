@@ -9,7 +9,7 @@ use Rattle.rec_script.specs.declared.error.Kind.{Kind}
 use Rattle.rec_script.specs.declared.draft.Draft.{Draft}
 use Rattle.rec_script.specs.Lines.{lines, counted, AreUtf8}
 use Rattle.rec_script.specs.Script.{Contents, IsScript, IsRefused, Continues, StopsAt, IsFault, IsNeed, mutator_lines, spelled}
-use Rattle.rec_script.specs.Drafts.{so_far, IsDraft}
+use Rattle.rec_script.specs.Drafts.{so_far, IsDraft, IsWrongFirst}
 use Rattle.rec_script.proofs.Stopping.{counted-append, stops}
 use Rattle.rec_script.proofs.Continuing.{continues}
 
@@ -47,9 +47,14 @@ stops_at d text n line more kind is spelt utf8 h fault =
       fault = here;
     }
 
-pub refused_at : (d : Draft) (bytes : List ℕ) (n number : ℕ) (line : List ℕ) (more : List (List ℕ)) (kind : Kind) → length bytes ≤ 16777216 → IsDraft d → so_far d ≡ counted (take n (lines bytes)) → AreUtf8 (take n (lines bytes)) → Next (lines bytes) n line more
+refused_at : (d : Draft) (bytes : List ℕ) (n number : ℕ) (line : List ℕ) (more : List (List ℕ)) (kind : Kind) → length bytes ≤ 16777216 → IsDraft d → so_far d ≡ counted (take n (lines bytes)) → AreUtf8 (take n (lines bytes)) → Next (lines bytes) n line more
     → (number ≡ n + 1) × IsFault (so_far d) line kind → IsRefused bytes number kind
 refused_at d bytes n number line more kind few is spelt utf8 h fault = inr (record { few = few; named = inl (n, fault.0, stops_at d (lines bytes) n line more kind is spelt utf8 h fault.1) })
+
+pub refused_first : (d : Draft) (bytes : List ℕ) (n number : ℕ) (text : List (List ℕ)) (kind : Kind) → length bytes ≤ 16777216 → IsDraft d → so_far d ≡ counted (take n (lines bytes)) → AreUtf8 (take n (lines bytes)) → text ≡ drop n (lines bytes)
+    → (number ≡ n + 1) × IsWrongFirst text (so_far d) kind → IsRefused bytes number kind
+refused_first d bytes n number text kind few is spelt utf8 others h =
+    refused_at d bytes n number h.1.line h.1.others kind few is spelt utf8 (next (lines bytes) n h.1.line h.1.others (sym h.1.first ∙ others)) (h.0, h.1.fault)
 
 -- ---- the end of a text
 

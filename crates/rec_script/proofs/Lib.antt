@@ -11,3 +11,4 @@ pub mod Refusing
 pub mod Endings
 pub mod Uniqueness
 pub mod Plainness
+pub mod Spacing

@@ -19,6 +19,10 @@ AreDigits ds = (i : ℕ) → i < length ds → IsInRange 48 57 (get_or ds i 0)
 own : IsNumeralModel AreDigits (digits_value 10)
 own = numerals_by_value AreDigits tells_by_index
 
+-- the bytes of a numeral
+pub digits_of : (n : ℕ) → n < 2 ^ 64 → AreDigits (decimal n)
+digits_of n fits = digits_decimal own n fits
+
 pub digit_range : (c : ℕ) → is_ascii_digit c ≡ true → IsInRange 48 57 c
 digit_range c h = (low c h, high c h)
   where

@@ -76,7 +76,7 @@ plain_heap s f r h = ((omega arith, (omega arith, (omega arith, (omega arith, tt
 plain_mutator : ArePlain mutator_line
 plain_mutator = ((omega arith, (omega arith, (omega arith, (omega arith, (omega arith, (omega arith, (omega arith, tt))))))), tt)
 
-plain_command : (registers fields : ℕ) (cmd : Cmd) → AreSmall registers fields → IsCommand registers fields cmd → ArePlain (command_line cmd)
+pub plain_command : (registers fields : ℕ) (cmd : Cmd) → AreSmall registers fields → IsCommand registers fields cmd → ArePlain (command_line cmd)
 plain_command registers fields (New reg label) h is = ((omega arith, (omega arith, (omega arith, tt))), (plain_decimal reg (omega (arith, h.registers_fit, is.0)), (plain_decimal label (omega (arith, is.1)), tt)))
 plain_command registers fields (Null reg) h is = ((omega arith, (omega arith, (omega arith, (omega arith, tt)))), (plain_decimal reg (omega (arith, h.registers_fit, is)), tt))
 plain_command registers fields (Copy dst src) h is = ((omega arith, (omega arith, (omega arith, (omega arith, tt)))), (plain_decimal dst (omega (arith, h.registers_fit, is.0)), (plain_decimal src (omega (arith, h.registers_fit, is.1)), tt)))

@@ -1,5 +1,5 @@
 -- The lines of a text, and the words of a line.
-use Rattle.std.specs.Prelude.{ℕ, Bool, true, false, not, List, [], ◌∷◌, map, filter, ◌==◌, ◌||◌, if◌then◌else◌, get_or, All}
+use Rattle.std.specs.Prelude.{ℕ, Bool, true, false, not, List, [], ◌∷◌, ◌++◌, map, filter, ◌==◌, ◌||◌, if◌then◌else◌, get_or, All}
 use Rattle.std.specs.Str.{IsUtf8}
 
 -- the byte LF
@@ -47,6 +47,12 @@ is_counted (word ∷ more) = not (get_or word 0 0 == 35)
 -- the words of each line that counts
 abbrev pub counted : List (List ℕ) → List (List (List ℕ))
 counted text = filter is_counted (map words text)
+
+-- words on a line of their own with one space between each two, and what is behind the line
+abbrev pub spaced : List (List ℕ) → List ℕ → List ℕ
+spaced [] rest = 10 ∷ rest
+spaced (word ∷ []) rest = word ++ 10 ∷ rest
+spaced (word ∷ next ∷ more) rest = word ++ 32 ∷ spaced (next ∷ more) rest
 
 -- each line is UTF-8, also where it is skipped
 abbrev pub AreUtf8 : List (List ℕ) → Type 0

@@ -1,20 +1,21 @@
 //! What the lines so far have spelled, while a text is read.
 
-ghost use Rattle.std.specs.Prelude.{◌≡◌, ◌≢◌, ◌↔◌, ◌<◌, ◌≤◌, ℕ, List, [], ◌∷◌, ◌++◌, Err, Ok, IfErr, IfOk, IsTrue};
+ghost use Rattle.std.specs.Prelude.{◌≡◌, ◌≢◌, ◌↔◌, ◌<◌, ◌≤◌, ℕ, List, [], ◌∷◌, ◌++◌, Err, Ok, IfErr, IfNone, IfOk, IfSome, IsTrue, length};
 ghost use Rattle.std.specs.Str.{IsUtf8};
-ghost use Rattle.rec_script.specs.Lines.{words, counted};
+ghost use Rattle.rec_script.specs.Lines.{lines, words, counted};
 ghost use Rattle.rec_script.specs.Script.{Fits, IsFault, IsNeed, IsScript, header, mutator_line, spelled};
-ghost use Rattle.rec_script.specs.Drafts.{so_far, IsDraft};
+ghost use Rattle.rec_script.specs.Drafts.{so_far, IsDraft, IsTaken, IsWrongFirst};
 ghost use Rattle.rec_script.specs.declared.error.Kind.{Kind};
 ghost use Rattle.rec_script.specs.declared.error.ScriptError.TheVariants.{Bad};
 
 use crate::command::command;
 use crate::error::{Kind, ScriptError};
 use crate::heap::{Heap, read_heap};
-use crate::line::next_word;
-use crate::operand::{is_name, no_word, one_word};
+use crate::line::{next_line, next_word};
+use crate::operand::{MOST_COMMANDS, is_name, no_word, one_word};
 use crate::script::Script;
-use std::alloc::Global;
+use crate::spaced::spaced_command;
+use std::alloc::{AllocError, Global};
 use std::str::from_utf8;
 
 /// How many mutators a script has at most.
@@ -64,6 +65,24 @@ fn bad(number: u32, kind: Kind) -> ScriptError
     ensures { result ≡ Bad number kind }
 {
     ScriptError::Bad { line: number, kind }
+}
+
+/// Adds the command at the front of the bytes, where it is spaced and there is room for it; gives what is behind its line.
+#[inline(always)]
+fn add_spaced<'b>(script: &mut Script, bytes: &'b [u8]) -> Result<Option<&'b [u8]>, AllocError>
+    ensures taken { IfOk result (λ found. IfSome found (λ rest.
+        IsTaken bytes.now rest.now (spelled script.old) (spelled script.new))) }
+    ensures left { IfOk result (λ found. IfNone found (script.new ≡ script.old)) }
+    ensures valid { IsScript script.new }
+{
+    let Some((cmd, rest)) = spaced_command(script.registers(), script.fields(), bytes) else {
+        return Ok(None);
+    };
+    if script.last() == MOST_COMMANDS {
+        return Ok(None);
+    }
+    script.add(cmd)?;
+    Ok(Some(rest))
 }
 
 /// A script with one line more that counts, of this first word and what is behind it.
@@ -143,7 +162,7 @@ impl Draft {
     }
 
     /// Takes a line.
-    pub fn take(&mut self, alloc: Global, number: u32, line: &[u8]) -> Result<(), ScriptError>
+    fn take(&mut self, alloc: Global, number: u32, line: &[u8]) -> Result<(), ScriptError>
         requires { IsDraft self.old }
         ensures more { IfOk result (λ x. so_far self.new
             ≡ so_far self.old ++ counted (line.now ∷ [])) }
@@ -171,6 +190,65 @@ impl Draft {
                     Err(bad(number, Kind::NotUtf8))
                 }
             }
+        }
+    }
+
+    /// Takes the first line of the bytes by its words, and gives what is behind it.
+    #[inline(never)]
+    fn take_words<'b>(
+        &mut self,
+        alloc: Global,
+        number: u32,
+        bytes: &'b [u8],
+    ) -> Result<&'b [u8], ScriptError>
+        requires draft { IsDraft self.old }
+        requires some { 0 < length bytes.now }
+        ensures taken { IfOk result (λ rest. IsTaken bytes.now rest.now (so_far self.old) (so_far self.new)) }
+        ensures valid { IfOk result (λ rest. IsDraft self.new) }
+        ensures refused { (at : ℕ) (kind : Kind) → result ≡ Err (Bad at kind)
+            → (at ≡ number) × IsWrongFirst (lines bytes.now) (so_far self.old) kind }
+    {
+        let (line, rest) = next_line(bytes);
+        match self.take(alloc, number, line) {
+            Ok(()) => Ok(rest),
+            Err(error) => Err(error),
+        }
+    }
+
+    /// Takes the first line of the bytes where it is a spaced command, and gives what is behind it.
+    #[inline(always)]
+    fn take_spaced<'b>(&mut self, bytes: &'b [u8]) -> Result<Option<&'b [u8]>, AllocError>
+        requires { IsDraft self.old }
+        ensures taken { IfOk result (λ found. IfSome found (λ rest.
+            IsTaken bytes.now rest.now (so_far self.old) (so_far self.new))) }
+        ensures left { IfOk result (λ found. IfNone found (self.new ≡ self.old)) }
+        ensures valid { IsDraft self.new }
+    {
+        match self {
+            Draft::Whole(script) => add_spaced(script, bytes),
+            _ => Ok(None),
+        }
+    }
+
+    /// Takes the first line of the bytes, and gives what is behind it.
+    #[inline(always)]
+    pub fn take_first<'b>(
+        &mut self,
+        alloc: Global,
+        number: u32,
+        bytes: &'b [u8],
+    ) -> Result<&'b [u8], ScriptError>
+        requires draft { IsDraft self.old }
+        requires some { 0 < length bytes.now }
+        ensures taken { IfOk result (λ rest. IsTaken bytes.now rest.now (so_far self.old) (so_far self.new)) }
+        ensures valid { IfOk result (λ rest. IsDraft self.new) }
+        ensures refused { (at : ℕ) (kind : Kind) → result ≡ Err (Bad at kind)
+            → (at ≡ number) × IsWrongFirst (lines bytes.now) (so_far self.old) kind }
+    {
+        match self.take_spaced(bytes) {
+            Ok(Some(rest)) => Ok(rest),
+            Ok(None) => self.take_words(alloc, number, bytes),
+            Err(_) => Err(ScriptError::NoMemory),
         }
     }
 

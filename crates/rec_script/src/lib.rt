@@ -17,6 +17,7 @@ mod line;
 mod operand;
 mod reading;
 mod script;
+mod spaced;
 #[cfg(test)]
 mod tests;
 

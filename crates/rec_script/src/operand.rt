@@ -11,7 +11,7 @@ use crate::error::Kind;
 use crate::line::next_word;
 
 /// How many commands a mutator has at most.
-const MOST_COMMANDS: usize = 200_000;
+pub const MOST_COMMANDS: usize = 200_000;
 
 /// The number that a numeral spells; a numeral has no leading zeros and is at most 4,294,967,295.
 pub fn numeral(word: &[u8]) -> Option<u32>

@@ -8,7 +8,6 @@ ghost use Rattle.rec_script.specs.declared.error.ScriptError.TheVariants.{Bad};
 
 use crate::draft::Draft;
 use crate::error::{Kind, ScriptError};
-use crate::line::next_line;
 use crate::script::Script;
 use std::alloc::Global;
 
@@ -40,10 +39,8 @@ pub fn read(alloc: Global, bytes: &[u8]) -> Result<Script, ScriptError>
     let mut rest = bytes;
     let mut number: u32 = 0;
     while !rest.is_empty() {
-        let (line, after) = next_line(rest);
         number += 1;
-        draft.take(alloc, number, line)?;
-        rest = after;
+        rest = draft.take_first(alloc, number, rest)?;
     }
     match draft.close() {
         Ok(script) => Ok(script),

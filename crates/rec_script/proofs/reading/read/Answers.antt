@@ -1,4 +1,4 @@
-use Rattle.std.proofs.Common.{◌≡◌, ◌+◌, ◌∷◌, [], ◌++◌, ℕ, List, length, sym, ap, ◌∙◌, arith, Result, Err}
+use Rattle.std.proofs.Common.{◌≡◌, ◌+◌, ◌∷◌, [], ◌++◌, ℕ, List, length, sym, ap, ◌∙◌, arith, Err}
 use Rattle.std.proofs.lemmas.Grind.{common_steps}
 use Rattle.std.proofs.lemmas.Result.{err_from_is_err_and}
 use Rattle.rec_script.specs.declared.error.ScriptError.{ScriptError}
@@ -6,31 +6,32 @@ use Rattle.rec_script.specs.declared.error.ScriptError.TheVariants.{Bad}
 use Rattle.rec_script.specs.Lines.{lines, counted}
 use Rattle.rec_script.proofs.Regrouping.{same_script}
 use Rattle.rec_script.proofs.Refusing.{refused_no_text}
-use Rattle.rec_script.proofs.Endings.{next, counted_next, utf8_next, refused_at, ended, refused_open, no_lines}
+use Rattle.rec_script.proofs.Endings.{next, counted_next, utf8_next, refused_first, ended, refused_open, no_lines}
 use Rattle.rec_script.proofs.reading.read.Goals as goal
 
-pub returns-in_err-take-clause-refused : goal.returns-in_err-take-clause-refused
-returns-in_err-take-clause-refused c = λ line kind e.
+pub returns-in_err-rest-clause-refused : goal.returns-in_err-rest-clause-refused
+returns-in_err-rest-clause-refused c = λ line kind e.
     let p = err_from_is_err_and c.from_residual.result c.from_residual.ensures.1 in
     let is : p.0 ≡ Bad line kind = cc in
-    let was : ◌≡◌ {A = Result (Unit {0}) ScriptError} (Err c.in_err-take.field-0.0) (Err (Bad line kind)) = ap (λ (x : ScriptError). Err x) (sym p.2 ∙ is) in
-    refused_at c.loop-rest.draft c.args.bytes.now c.loop-rest.number line c.next_line.result.0.now (lines c.next_line.result.1.now) kind c.if-bytes-gt-MOST_BYTES.false
-    c.loop-rest.invariant.draft c.loop-rest.invariant.spelt c.loop-rest.invariant.utf8 (next (lines c.args.bytes.now) c.loop-rest.number c.next_line.result.0.now (lines c.next_line.result.1.now) (sym c.next_line.ensures.lines ∙ c.loop-rest.invariant.others))
-    (c.in_err-take.ensures.refused line kind was)
+    let was : c.in_err-rest.field-0.0 ≡ Bad line kind = sym p.2 ∙ is in
+    refused_first c.loop-rest.draft c.args.bytes.now c.loop-rest.number line (lines c.loop-rest.rest.now) kind c.if-bytes-gt-MOST_BYTES.false
+    c.loop-rest.invariant.draft c.loop-rest.invariant.spelt c.loop-rest.invariant.utf8 c.loop-rest.invariant.others
+    (c.in_err-rest.ensures.refused line kind (ap (λ (x : ScriptError). Err x) was))
 
-pub returns-in_err-take-clause-none : goal.returns-in_err-take-clause-none
-returns-in_err-take-clause-none c = λ line kind e. refused_no_text c.args.bytes.now line kind (returns-in_err-take-clause-refused c line kind e)
+pub returns-in_err-rest-clause-none : goal.returns-in_err-rest-clause-none
+returns-in_err-rest-clause-none c = λ line kind e. refused_no_text c.args.bytes.now line kind (returns-in_err-rest-clause-refused c line kind e)
 
 pub loop-rest-preserved : goal.loop-rest-preserved
 loop-rest-preserved c =
-    let n = next (lines c.args.bytes.now) c.loop-rest.number c.next_line.result.0.now (lines c.next_line.result.1.now) (sym c.next_line.ensures.lines ∙ c.loop-rest.invariant.others) in
+    let first = c.in_ok-rest.ensures.taken in
+    let n = next (lines c.args.bytes.now) c.loop-rest.number first.line (lines c.in_ok-rest.rest.now) (sym first.first ∙ c.loop-rest.invariant.others) in
     record {
-      draft = c.in_ok-take.ensures.valid;
-      spelt = c.in_ok-take.ensures.more ∙ ap (λ (b : List (List (List ℕ))). b ++ counted (c.next_line.result.0.now ∷ [])) c.loop-rest.invariant.spelt ∙ sym (counted_next (lines c.args.bytes.now) c.loop-rest.number c.next_line.result.0.now (lines c.next_line.result.1.now) n);
-      utf8 = utf8_next (lines c.args.bytes.now) c.loop-rest.number c.next_line.result.0.now (lines c.next_line.result.1.now) n c.loop-rest.invariant.utf8 c.in_ok-take.ensures.utf8;
+      draft = c.in_ok-rest.ensures.valid;
+      spelt = first.more ∙ ap (λ (b : List (List (List ℕ))). b ++ counted (first.line ∷ [])) c.loop-rest.invariant.spelt ∙ sym (counted_next (lines c.args.bytes.now) c.loop-rest.number first.line (lines c.in_ok-rest.rest.now) n);
+      utf8 = utf8_next (lines c.args.bytes.now) c.loop-rest.number first.line (lines c.in_ok-rest.rest.now) n c.loop-rest.invariant.utf8 first.utf8;
       others = n.others;
       within = omega (arith, n.there);
-      few = omega (arith, c.next_line.ensures.less, c.loop-rest.invariant.few);
+      few = omega (arith, first.less, c.loop-rest.invariant.few);
     }
 
 pub returns-in-Ok-clause-found : goal.returns-in-Ok-clause-found

@@ -1,0 +1,113 @@
+//! Commands as most scripts spell them: one space between each two words, and an LF behind the last one. Such a line is
+//! read in one pass. Any other line has no answer here, right or wrong, and is read by its words.
+
+ghost use Rattle.std.specs.Prelude.{◌≡◌, ◌≢◌, ◌<◌, ◌≤◌, ◌++◌, ◌∷◌, slice_index, IfSome};
+ghost use Rattle.std.specs.Fmt.{decimal};
+ghost use Rattle.rec_script.specs.Lines.{spaced};
+ghost use Rattle.rec_script.specs.Script.{IsCommand, command_line};
+
+use rec_model::Cmd;
+
+/// A numeral of any length at the front, with this byte behind it, and what is behind that.
+fn long_numeral(bytes: &[u8], end: u8) -> Option<(u32, &[u8])>
+    requires { slice_index bytes.now 0 ≢ 48 }
+    ensures { IfSome result (λ x. bytes.now ≡ decimal x.0 ++ end ∷ x.1.now) }
+{
+    let mut value: u64 = 0;
+    for (i, byte) in bytes.iter().enumerate() {
+        if i > 0 && *byte == end {
+            return Some((value as u32, &bytes[i + 1..]));
+        }
+        if !byte.is_ascii_digit() {
+            return None;
+        }
+        value = 10 * value + u64::from(*byte - b'0');
+        if value > u64::from(u32::MAX) {
+            return None;
+        }
+    }
+    None
+}
+
+/// A numeral at the front, with this byte behind it, and what is behind that.
+#[inline(always)]
+fn numeral(bytes: &[u8], end: u8) -> Option<(u32, &[u8])>
+    ensures { IfSome result (λ x. bytes.now ≡ decimal x.0 ++ end ∷ x.1.now) }
+{
+    let [first, second, rest @ ..] = bytes else {
+        return None;
+    };
+    if !first.is_ascii_digit() {
+        return None;
+    }
+    if *second == end {
+        return Some((u32::from(*first - b'0'), rest));
+    }
+    if *first == b'0' {
+        return None;
+    }
+    long_numeral(bytes, end)
+}
+
+/// The same of a numeral below a limit.
+#[inline(always)]
+fn operand(below: u32, bytes: &[u8], end: u8) -> Option<(u8, &[u8])>
+    requires { below ≤ 64 }
+    ensures found { IfSome result (λ x. bytes.now ≡ decimal x.0 ++ end ∷ x.1.now) }
+    ensures below { IfSome result (λ x. x.0 < below) }
+{
+    let (number, rest) = numeral(bytes, end)?;
+    if number < below {
+        Some((number as u8, rest))
+    } else {
+        None
+    }
+}
+
+/// A command at the front, spaced, and what is behind its line.
+#[inline(always)]
+pub fn spaced_command(registers: u32, fields: u32, bytes: &[u8]) -> Option<(Cmd, &[u8])>
+    requires registers { registers ≤ 64 }
+    requires fields { fields ≤ 16 }
+    ensures found { IfSome result (λ x. bytes.now ≡ spaced (command_line x.0) x.1.now) }
+    ensures in_range { IfSome result (λ x. IsCommand registers fields x.0) }
+{
+    match bytes {
+        [b'g', b'e', b't', b' ', rest @ ..] => {
+            let (dst, rest) = operand(registers, rest, b' ')?;
+            let (src, rest) = operand(registers, rest, b' ')?;
+            let (field, rest) = operand(fields, rest, b'\n')?;
+            Some((Cmd::Get { dst, src, field }, rest))
+        }
+        [b'p', b'u', b't', b' ', rest @ ..] => {
+            let (src, rest) = operand(registers, rest, b' ')?;
+            let (field, rest) = operand(fields, rest, b' ')?;
+            let (val, rest) = operand(registers, rest, b'\n')?;
+            Some((Cmd::Put { src, field, val }, rest))
+        }
+        [b'n', b'e', b'w', b' ', rest @ ..] => {
+            let (reg, rest) = operand(registers, rest, b' ')?;
+            let (label, rest) = numeral(rest, b'\n')?;
+            Some((Cmd::New { reg, label }, rest))
+        }
+        [b'n', b'u', b'l', b'l', b' ', rest @ ..] => {
+            let (reg, rest) = operand(registers, rest, b'\n')?;
+            Some((Cmd::Null { reg }, rest))
+        }
+        [b'c', b'o', b'p', b'y', b' ', rest @ ..] => {
+            let (dst, rest) = operand(registers, rest, b' ')?;
+            let (src, rest) = operand(registers, rest, b'\n')?;
+            Some((Cmd::Copy { dst, src }, rest))
+        }
+        [b'v', b'a', b'l', b'u', b'e', b' ', rest @ ..] => {
+            let (reg, rest) = operand(registers, rest, b'\n')?;
+            Some((Cmd::Value { reg }, rest))
+        }
+        [b's', b'a', b'm', b'e', b' ', rest @ ..] => {
+            let (a, rest) = operand(registers, rest, b' ')?;
+            let (b, rest) = operand(registers, rest, b'\n')?;
+            Some((Cmd::Same { a, b }, rest))
+        }
+        _ => None,
+    }
+}
