@@ -2,7 +2,7 @@
 //!
 //! The rule that this crate keeps: a script is read exactly from the texts that spell it. `specs/Script.antt` says which
 //! these are, apart from the reader, and of any other text which line is the first that no script continues, and what is
-//! wrong with it; `read` answers just that.
+//! wrong with it; `read` answers just that. Most lines are read in one pass (`spaced`), and every other one by its words.
 //! The layer above may use that a `Script` is within its limits, and the laws, which are the contracts of the functions
 //! in `laws`.
 //! The grammar is this project's profile (`docs/PROFILE.md`); the papers run on programs of Java.
