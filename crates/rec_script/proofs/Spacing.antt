@@ -1,5 +1,5 @@
 -- Commands that are spelled with one space between each two words.
-use Rattle.std.proofs.Common.{◌≡◌, ℕ, zero, suc, ◌+◌, ◌-◌, ◌^◌, ◌<◌, ◌≤◌, true, false, Bool, cond, List, [], ◌∷◌, ◌++◌, length, get_or, take, drop, map, refl, sym, ap, subst, ◌∙◌, arith, append_assoc, length-append, length-drop}
+use Rattle.std.proofs.Common.{◌≡◌, ℕ, zero, suc, ◌+◌, ◌-◌, ◌*◌, ◌^◌, ◌<◌, ◌≤◌, true, false, Bool, cond, List, [], ◌∷◌, ◌++◌, length, get_or, take, drop, map, refl, sym, ap, subst, ◌∙◌, arith, append_assoc, length-append, length-drop}
 use Rattle.std.specs.Prelude.{filter}
 use Rattle.std.specs.Fmt.{decimal}
 use Rattle.std.specs.Int.{IsInRange}
@@ -15,7 +15,7 @@ use Rattle.rec_script.specs.Lines.{is_end, is_blank, in_front, cut, without_cr, 
 use Rattle.rec_script.specs.Script.{IsCommand, IsNumeralOf, command_line}
 use Rattle.rec_script.specs.Drafts.{IsTaken}
 use Rattle.rec_script.proofs.Cuts.{cut_none, no_cr, some_word}
-use Rattle.rec_script.proofs.Numerals.{digits_of, is_numeral}
+use Rattle.rec_script.proofs.Numerals.{digits_of, is_numeral, one_more}
 use Rattle.rec_script.proofs.Plainness.{plain_command, utf8_of_words}
 use Rattle.rec_script.proofs.Regrouping.{AreSmall}
 
@@ -48,6 +48,19 @@ short_front (c ∷ d ∷ cs) value end two digit is at =
     ∙ ap (λ (b : ℕ). b ∷ end ∷ cs) same
     ∙ ap (λ (t : List ℕ). t ++ end ∷ cs) (sym one)
     ∙ ap (λ (t : List ℕ). decimal value ++ end ∷ t) (sym (behind (c ∷ d ∷ cs) 2))
+
+-- and so are two
+pub two_front : (bytes : List ℕ) (value end : ℕ) → 3 ≤ length bytes → IsInRange 48 57 (get_or bytes 0 0) → IsInRange 48 57 (get_or bytes 1 0) → (get_or bytes 0 0 ≡ 48 → ⊥) → value ≡ 10 * (get_or bytes 0 0 - 48) + (get_or bytes 1 0 - 48) → get_or bytes 2 0 ≡ end
+    → bytes ≡ decimal value ++ end ∷ take (length bytes - 3) (drop 3 bytes)
+two_front bytes value end three tens ones front is at =
+    let one : 10 * 0 + (get_or bytes 0 0 - 48) ≡ digits_value 10 (take 1 bytes) = one_more bytes 0 0 (get_or bytes 0 0) (omega arith) refl refl tens in
+    let two : 10 * (get_or bytes 0 0 - 48) + (get_or bytes 1 0 - 48) ≡ digits_value 10 (take 2 bytes) = one_more bytes 1 (get_or bytes 0 0 - 48) (get_or bytes 1 0) (omega arith) (omega (arith, one)) refl ones in
+    long_front bytes 2 value end (omega arith) (omega arith) front (both bytes tens ones) (is ∙ two) (omega (arith, is, tens.1, ones.1)) at
+  where
+    both : (bytes : List ℕ) → IsInRange 48 57 (get_or bytes 0 0) → IsInRange 48 57 (get_or bytes 1 0) → (k : ℕ) → k < 2 → IsInRange 48 57 (get_or bytes k 0)
+    both bytes tens ones zero lt = tens
+    both bytes tens ones (suc zero) lt = ones
+    both bytes tens ones (suc (suc k)) lt = absurd (omega arith)
 
 -- ---- words
 
