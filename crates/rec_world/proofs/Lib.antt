@@ -1,6 +1,14 @@
 pub mod Calls
 pub mod Clears
 pub mod Commands
+pub mod CoreActors
+pub mod CoreCrossings
+pub mod CoreMoves
+pub mod CoreOpening
+pub mod CoreRules
+pub mod CoreShapes
+pub mod CoreSteps
+pub mod CoreSums
 pub mod Deciding
 pub mod Filled
 pub mod Finding

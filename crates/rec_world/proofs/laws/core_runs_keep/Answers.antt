@@ -1,0 +1,9 @@
+use Rattle.rec_world.proofs.CoreMoves.{has_register, same_buffers}
+use Rattle.rec_world.proofs.CoreActors.{mutator_changes}
+use Rattle.rec_world.proofs.CoreSteps.{its_box}
+use Rattle.rec_world.proofs.CoreRules.{performed_kept}
+use Rattle.rec_world.proofs.CoreCrossings.{begun_kept}
+use Rattle.rec_world.proofs.laws.core_runs_keep.Goals as goal
+
+pub returns : goal.returns
+returns c = _
