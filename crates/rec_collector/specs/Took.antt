@@ -9,7 +9,7 @@ use Rattle.rec_release.specs.declared.at.At.{At}
 use Rattle.rec_release.specs.Release.{Work, started_of as release_started, took_of as release_took}
 use Rattle.rec_release.specs.Sweep as sweeps
 use Rattle.rec_collector.specs.Next.{is_spent}
-use Rattle.rec_collector.specs.Private.{Private, spare}
+use Rattle.rec_collector.specs.Private.{Private}
 use Rattle.rec_collector.specs.declared.phase.Phase.{Phase}
 use Rattle.rec_collector.specs.declared.phase.Phase.TheVariants.{Idle, Looking, Swapping, Returning, Releasing, Opening, Sweeping, Closing}
 use Rattle.rec_collector.specs.declared.turn.Turn.{Turn}
@@ -97,15 +97,6 @@ swapped_at p buffer _ = p
 -- the buffer of a mailbox is swapped
 unfoldable pub swapped_of : Private → Contents → Private
 swapped_of p buffer = swapped_at p buffer p.phase
-
--- what the mailbox holds then, by phase: a spare, where its buffer was taken
-unfoldable pub left_at : Private → Contents → Phase → Contents
-left_at p buffer (Swapping t) = spare p
-left_at p buffer _ = buffer
-
--- what the mailbox holds then
-unfoldable pub left_of : Private → Contents → Contents
-left_of p buffer = left_at p buffer p.phase
 
 -- a whole step: what is learnt of the word, and, where the step takes a mailbox, of the buffer in it
 unfoldable pub step_of : Private → (word : ℕ) → (box : Contents) → Private

@@ -178,7 +178,7 @@ birth_move w t r slot label q there within inside free registers epoch log =
 spare_writes : (config : Config) (g : Write → ℕ) → sum_by g (writes_in (spare_of config).entries) ≡ 0
 spare_writes config g = refl
 
-spare_names : (config : Config) (epoch : ℕ) → dated_names epoch (spare_of config).snapshot ≡ []
+pub spare_names : (config : Config) (epoch : ℕ) → dated_names epoch (spare_of config).snapshot ≡ []
 spare_names config epoch = ap (map (λ (slot : ℕ). dated epoch (slot + 1))) (none_named config.registers)
 
 -- Mutator t leaves its epoch for the requested one: its registers are written as a snapshot into its log, which goes into its

@@ -1,6 +1,6 @@
 -- The moves of mutators and of the collector, and the runs that they make up.
-use Rattle.std.specs.Prelude.{◌≡◌, ℕ, ◌+◌, ◌-◌, true, false, Option, None, Some, List, [], ◌∷◌, slice_set}
-use Rattle.rec_word.specs.Op.{written}
+use Rattle.std.specs.Prelude.{◌≡◌, ℕ, ◌+◌, ◌-◌, ◌==◌, if◌then◌else◌, true, false, Option, None, Some, List, [], ◌∷◌, slice_set}
+use Rattle.rec_word.specs.Op.{written, crossing_word}
 use Rattle.rec_word.specs.declared.op.Op.{Op}
 use Rattle.rec_log.specs.declared.contents.Contents.{Contents}
 use Rattle.rec_mutator.specs.Next.{next_of}
@@ -11,7 +11,7 @@ use Rattle.rec_collector.specs.Private as collectors
 use Rattle.rec_collector.specs.Next as collector_next
 use Rattle.rec_collector.specs.Took as collector_took
 use Rattle.rec_collector.specs.declared.phase.Phase.{Phase}
-use Rattle.rec_collector.specs.declared.phase.Phase.TheVariants.{Looking, Swapping}
+use Rattle.rec_collector.specs.declared.phase.Phase.TheVariants.{Looking}
 use Rattle.rec_world.specs.declared.config.Config.{Config}
 use Rattle.rec_world.specs.Config.{IsMutator}
 use Rattle.rec_world.specs.Core.{Core, cells_of, with_cells, mutator, box, opened}
@@ -41,11 +41,15 @@ stepped w t =
 abbrev pub begun : Core → (t : ℕ) → Work → Core
 begun w t work = record w { mutators = slice_set w.mutators (t - 1) (begun_of (mutator w t) work) }
 
--- the mutator whose mailbox the collector looks at, or that it holds, by phase; the first where it looks at none
+-- the mutator whose mailbox the collector looks at next, by phase; the first where it looks at none
 abbrev pub looked_at : Phase → ℕ
 looked_at (Looking t) = t
-looked_at (Swapping t) = t
 looked_at _ = 1
+
+-- what that mailbox holds after the turn, by phase: a spare, where its buffer was taken
+abbrev pub left_by : collectors.Private → (found : ℕ) → Contents → Phase → Contents
+left_by c found box (Looking t) = if found == crossing_word c.epoch 2 then collectors.spare c else box
+left_by c found box _ = box
 
 -- An operation of the collector was carried out: its word was found, what it leaves stands there, the collector is this now, and
 -- this is in the mailbox that it looked at.
@@ -59,8 +63,7 @@ collected w op found c left =
 -- the collector makes a turn with this operation
 abbrev pub turned_by : Core → Op → (found : ℕ) → Core
 turned_by w op found =
-    collected w op found (collector_took.step_of w.collector found (box w (looked_at w.collector.phase)))
-    (collector_took.left_of (collector_took.took_of w.collector found) (box w (looked_at w.collector.phase)))
+    collected w op found (collector_took.step_of w.collector found (box w (looked_at w.collector.phase))) (left_by w.collector found (box w (looked_at w.collector.phase)) w.collector.phase)
 
 -- the collector makes its next turn; without an operation it does nothing
 abbrev pub turned_at : Core → Option Op → Core
