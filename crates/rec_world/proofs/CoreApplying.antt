@@ -1,10 +1,11 @@
 -- The batch: with the last mailbox given back, what the buffers name is counted, and the accounts are those of the next epoch.
 use Rattle.std.proofs.Common.{◌≡◌, ◌≢◌, ◌⊎◌, inl, inr, ℕ, ◌+◌, ◌-◌, ◌*◌, ◌^◌, ◌<◌, ◌≤◌, ◌==◌, nat_lt, if◌then◌else◌, Bool, true, false, List, [], ◌∷◌, ◌++◌, suc, Option, None, Some, length, map, slice_index_or, slice_set, refl, sym, ap, subst, ◌∙◌, arith, length-append}
 use Rattle.std.specs.List.{All, sum_by, flat_map}
-use Rattle.std.proofs.lemmas.Bool.{false≢true, cases_eq, cases_lt, eq-eqb, ne_eqb, lt-ltb, le-ltb, cond-true, cond-false}
+use Rattle.std.proofs.Math.Nat.{suc-mul, mul-le-mul}
+use Rattle.std.proofs.lemmas.Bool.{false≢true, cases_eq, cases_lt, eq-eqb, ne_eqb, lt-ltb, le-ltb, lt-leb, cond-true, cond-false}
 use Rattle.std.proofs.lemmas.List.{length-set, length-map, get_or_past, get_or_default}
 use Rattle.std.proofs.lemmas.List.Concat.{length-flat_map}
-use Rattle.std.proofs.lemmas.List.Sums.{sum_by-cons}
+use Rattle.std.proofs.lemmas.List.Sums.{sum_by-cons, sum_by-append}
 use Rattle.rec_word.specs.Op.{crossing_word}
 use Rattle.rec_word.specs.Place.{place_of}
 use Rattle.rec_model.specs.Accounted.{IsAccounted, HasUncountedReleased, is_dead, named}
@@ -13,7 +14,10 @@ use Rattle.rec_model.specs.Pending.{Write, Dated, dated, Pending, is_at}
 use Rattle.rec_model.proofs.Consequences.{counts_bounded, move_uncounted}
 use Rattle.rec_model.proofs.Moving.{move_accounted, unnamed_uncounted}
 use Rattle.rec_model.proofs.Ledgers.{batch_covered}
+use Rattle.rec_model.specs.Sums.{only_if}
 use Rattle.rec_log.specs.declared.contents.Contents.{Contents}
+use Rattle.rec_log.specs.declared.entry.Entry.{Entry}
+use Rattle.rec_log.specs.declared.entry.Entry.TheVariants as entries
 use Rattle.rec_counts.specs.Counts.{State, slot_at}
 use Rattle.rec_counts.specs.Rest.{KeepsRest, AreZeros}
 use Rattle.rec_counts.specs.Slot.{fresh, absent}
@@ -48,6 +52,62 @@ gain_spare config epoch node of = omega (arith, ap (sum_by (is_at epoch node)) (
 
 loss_spare : (config : Config) (epoch node of : ℕ) → loss epoch node of (spare_of config) ≡ 0
 loss_spare config epoch node of = omega (arith, ap (sum_by (is_at epoch node)) (spare_names config of))
+
+-- there are no more writes in a log than entries, and no more names in a snapshot than registers
+fewer_writes : (es : List Entry) → length (writes_in es) ≤ length es
+fewer_writes [] = omega arith
+fewer_writes (entries.Put place new old ∷ es) = omega (arith, fewer_writes es)
+fewer_writes (entries.Born slot ∷ es) = omega (arith, fewer_writes es)
+
+fewer_names : (epoch : ℕ) (xs : List (Option ℕ)) → length (dated_names epoch xs) ≤ length xs
+fewer_names epoch [] = omega arith
+fewer_names epoch (None ∷ xs) = omega (arith, fewer_names epoch xs)
+fewer_names epoch (Some x ∷ xs) = omega (arith, fewer_names epoch xs)
+
+-- a sum of so many terms that are within a bound
+all_within : {X : Type 0} (f : X → ℕ) (most : ℕ) (xs : List X) (d : X) → ((i : ℕ) → i < length xs → f (slice_index_or xs i d) ≤ most) → sum_by f xs ≤ length xs * most
+all_within f most [] d within = omega arith
+all_within f most (x ∷ xs) d within =
+    let first : f x ≤ most = within 0 (omega arith) in
+    let rest : sum_by f xs ≤ length xs * most = all_within f most xs d (λ i below. within (suc i) (omega arith)) in
+    let product : suc (length xs) * most ≡ length xs * most + most = suc-mul (length xs) most in
+    omega (arith, sum_by-cons f x xs, product)
+
+-- a sum over all buffers, row by row
+rows_sum : (size : Filed → ℕ) (w : Core) → sum_by size (buffers w)
+    ≡ sum_by (λ (p : Private). size (filed (epoch_at p) p.log)) w.mutators + (sum_by (λ (b : Contents). size (filed (w.epoch - 1) b)) w.boxes + (sum_by (λ (b : Contents). size (filed (w.epoch - 1) b)) w.collector.newer + sum_by (λ (b : Contents). size (filed (older_at w.epoch w.collector.phase) b)) w.collector.older))
+rows_sum size w =
+    let logs : List Filed = map (λ (p : Private). filed (epoch_at p) p.log) w.mutators in
+    let boxes : List Filed = map (filed (w.epoch - 1)) w.boxes in
+    let newer : List Filed = map (filed (w.epoch - 1)) w.collector.newer in
+    let older : List Filed = map (filed (older_at w.epoch w.collector.phase)) w.collector.older in
+    omega (
+      arith,
+      sum_by-append size logs (boxes ++ (newer ++ older)),
+      sum_by-append size boxes (newer ++ older),
+      sum_by-append size newer older,
+      sum_by-map size (λ (p : Private). filed (epoch_at p) p.log) w.mutators,
+      sum_by-map size (filed (w.epoch - 1)) w.boxes,
+      sum_by-map size (filed (w.epoch - 1)) w.collector.newer,
+      sum_by-map size (filed (older_at w.epoch w.collector.phase)) w.collector.older,
+    )
+
+-- the limits of a heap, multiplied
+products : (n cap : ℕ) → n ≤ 8 → cap ≤ 262143 → n * cap ≤ 8 * 262143
+products n cap few most = mul-le-mul few most
+
+registers_products : (n cap : ℕ) → n ≤ 8 → cap ≤ 64 → n * cap ≤ 8 * 64
+registers_products n cap few most = mul-le-mul few most
+
+words_products : (slots fields : ℕ) → slots ≤ 65535 → fields ≤ 16 → slots * fields ≤ 65535 * 16
+words_products slots fields few most = mul-le-mul few most
+
+-- registers of a later epoch are of none up to this
+none_late : (epoch late : ℕ) (xs : List (Option ℕ)) → epoch < late → sum_by (is_up_to epoch) (dated_all late xs) ≡ 0
+none_late epoch late [] after = refl
+none_late epoch late (x ∷ xs) after =
+    let first : is_up_to epoch (dated late (code x)) ≡ 0 = ap (λ b. only_if b 1) (lt-leb late epoch after) in
+    omega (arith, sum_by-cons (is_up_to epoch) (dated late (code x)) (dated_all late xs), first, none_late epoch late xs after)
 
 -- an item of a list, by the number of its mutator
 by_number : (n i : ℕ) → i < n → (1 ≤ i + 1) × (i + 1 ≤ n)
@@ -203,3 +263,163 @@ module _ (w : Core) (t : ℕ) (kept : IsKept w) (phase : w.collector.phase ≡ R
       let at : x + 1 - 1 ≡ x = omega arith in
       ap (λ (n : ℕ). (slice_index_or c.counts.slots n fresh).count) at ∙ ap (λ (v : Slot). v.count) (get_or_default c.counts.slots x fresh absent (omega (arith, slots_are)))
 
+  -- how much there is at most to count
+  few_writes : length (writes_of w) ≤ 32 * 262143
+  few_writes =
+      let mutators : length w.mutators ≡ w.config.mutators = kept.mutators.many in
+      let boxes : length w.boxes ≡ w.config.mutators = kept.mutators.mailboxes in
+      let both : length c.older ≡ length c.newer = kept.collector.machine.both in
+      let eight : w.config.mutators ≤ 8 = kept.config.few_mutators in
+      let size : Filed → ℕ = λ b. length (writes_in b.buffer.entries) in
+      let cap : ℕ = w.config.log_entries in
+      omega (
+        arith,
+        length-flat_map (λ (b : Filed). writes_in b.buffer.entries) (buffers w),
+        rows_sum size w,
+        all_within (λ (p : Private). size (filed (epoch_at p) p.log)) cap w.mutators nobody (λ i below. log_within (log_of i below).0),
+        all_within (λ (b : Contents). size (filed (w.epoch - 1) b)) cap w.boxes (collectors.blank 0 0) (λ i below. let is : size (filed (w.epoch - 1) (slice_index_or w.boxes i (collectors.blank 0 0))) ≡ 0 = ap (λ (b : Contents). length (writes_in b.entries)) (box_of i below) in omega (arith, is)),
+        all_within (λ (b : Contents). size (filed (w.epoch - 1) b)) cap c.newer (collectors.blank 0 0) (λ i below. log_within (newer_of i below)),
+        all_within (λ (b : Contents). size (filed (older_at w.epoch c.phase) b)) cap c.older (collectors.blank 0 0) (λ i below. log_within (older_of i below)),
+        products w.config.mutators cap eight kept.config.few_log_entries,
+        ap (λ n. n * cap) (sym mutators),
+        ap (λ n. n * cap) (sym boxes),
+        ap (λ n. n * cap) (sym many),
+        ap (λ n. n * cap) (sym (both ∙ many)),
+      )
+    where
+      log_within : {e : ℕ} {b : Contents} → IsBufferOf w.config e b → length (writes_in b.entries) ≤ w.config.log_entries
+      log_within {e} {b} is = let capacity : b.capacity ≡ w.config.log_entries = is.capacity in omega (arith, fewer_writes b.entries, is.few)
+
+  few_names : length (snapshots_of w) ≤ 32 * 64
+  few_names =
+      let mutators : length w.mutators ≡ w.config.mutators = kept.mutators.many in
+      let boxes : length w.boxes ≡ w.config.mutators = kept.mutators.mailboxes in
+      let both : length c.older ≡ length c.newer = kept.collector.machine.both in
+      let eight : w.config.mutators ≤ 8 = kept.config.few_mutators in
+      let size : Filed → ℕ = λ b. length (dated_names b.epoch b.buffer.snapshot) in
+      let cap : ℕ = w.config.registers in
+      omega (
+        arith,
+        length-flat_map (λ (b : Filed). dated_names b.epoch b.buffer.snapshot) (buffers w),
+        rows_sum size w,
+        all_within (λ (p : Private). size (filed (epoch_at p) p.log)) cap w.mutators nobody (λ i below. names_within (epoch_at (slice_index_or w.mutators i nobody)) (log_of i below).0),
+        all_within (λ (b : Contents). size (filed (w.epoch - 1) b)) cap w.boxes (collectors.blank 0 0)
+            (λ i below. let is : size (filed (w.epoch - 1) (slice_index_or w.boxes i (collectors.blank 0 0))) ≡ 0 = ap (λ (b : Contents). length (dated_names (w.epoch - 1) b.snapshot)) (box_of i below) ∙ ap length (spare_names w.config (w.epoch - 1)) in omega (arith, is)),
+        all_within (λ (b : Contents). size (filed (w.epoch - 1) b)) cap c.newer (collectors.blank 0 0) (λ i below. names_within (w.epoch - 1) (newer_of i below)),
+        all_within (λ (b : Contents). size (filed (older_at w.epoch c.phase) b)) cap c.older (collectors.blank 0 0) (λ i below. names_within (older_at w.epoch c.phase) (older_of i below)),
+        registers_products w.config.mutators cap eight kept.config.few_registers,
+        ap (λ n. n * cap) (sym mutators),
+        ap (λ n. n * cap) (sym boxes),
+        ap (λ n. n * cap) (sym many),
+        ap (λ n. n * cap) (sym (both ∙ many)),
+      )
+    where
+      names_within : {e : ℕ} {b : Contents} (o : ℕ) → IsBufferOf w.config e b → length (dated_names o b.snapshot) ≤ w.config.registers
+      names_within {e} {b} o is = omega (arith, fewer_names o b.snapshot, is.snapshot)
+
+  few_words : length w.words ≤ 65535 * 16
+  few_words =
+      let places : length w.words ≡ length w.headers * w.config.fields = kept.sound.places in
+      let headers : length w.headers ≡ w.config.slots = kept.headers in
+      omega (arith, ap (λ n. n * w.config.fields) headers, words_products w.config.slots w.config.fields kept.config.few_slots kept.config.few_fields)
+
+  -- the batch may be made: it names slots that are there, passes no greatest count, and takes none below zero
+  pub covered : IsCovered c.counts c.newer c.older
+  covered = record {
+    in_range = λ x past. let none = none_past x (omega (arith, past, slots_are)) in omega (arith, none.0, none.1);
+    fits = λ x. elim (cases_lt x w.config.slots) [
+      | inl below ↦ omega (arith, counts_bounded (pending w) kept.accounted (x + 1) (omega arith), count_of x below, added_is x, few_writes, few_names, few_words)
+      | inr past ↦
+          let none = none_past x past in
+          let absent_is : slot_at c.counts x ≡ absent = get_or_past c.counts.slots x absent (omega (arith, past, slots_are)) in
+          omega (arith, none.0, ap (λ (v : Slot). v.count) absent_is)
+    ];
+    covered = λ x. elim (cases_lt x w.config.slots) [
+      | inl below ↦ omega (arith, batch_covered (pending w) (x + 1) kept.accounted.epochs kept.accounted.ledger kept.accounted.late (omega arith), count_of x below, added_is x, taken_is x)
+      | inr past ↦ let none = none_past x past in omega (arith, none.1)
+    ];
+  }
+
+  -- what the batch makes of the counts
+  abbrev pub counted : State
+  counted = batch c.counts c.newer c.older
+
+  rises : CanRise c.counts (flat_map up_targets c.newer)
+  rises = batch_rises c.counts c.newer c.older covered.in_range covered.fits
+
+  zeros_before : c.counts.zeros ≡ []
+  zeros_before = (now_at w (Returning t) kept phase).rest.zeros
+
+  falls : CanFall (all_up c.counts (flat_map up_targets c.newer)) (flat_map down_targets c.older)
+  falls = batch_falls c.counts c.newer c.older zeros_before rises covered.covered
+
+  pub counted_rest : KeepsRest c.counts counted
+  counted_rest = batch_rests c.counts c.newer c.older
+
+  pub counted_zeros : AreZeros counted
+  counted_zeros = fall_zeros_all (all_up c.counts (flat_map up_targets c.newer)) (flat_map down_targets c.older) falls.zeros
+
+  -- no register is of an epoch that is applied
+  all_crossed : sum_by (is_up_to (applied_at w.epoch c.phase + 1)) (registers_of w) ≡ 0
+  all_crossed =
+      let all : length w.mutators ≡ w.config.mutators = kept.mutators.many in
+      let next : applied_at w.epoch c.phase + 1 ≡ w.epoch - 1 = omega (arith, applied_is, some_epochs) in
+      ap (λ n. sum_by (is_up_to n) (registers_of w)) next
+      ∙ sum_by-flat_map (is_up_to (w.epoch - 1)) (λ (p : Private). dated_all (epoch_at p) p.registers) w.mutators
+      ∙ none_of (λ (p : Private). sum_by (is_up_to (w.epoch - 1)) (dated_all (epoch_at p) p.registers)) w.mutators nobody (λ i below.
+          let l = log_of i below in
+          ap (λ e. sum_by (is_up_to (w.epoch - 1)) (dated_all e (slice_index_or w.mutators i nobody).registers)) l.1
+          ∙ none_late (w.epoch - 1) w.epoch (slice_index_or w.mutators i nobody).registers (omega (arith, some_epochs)))
+
+  -- the batch is one of the accounts
+  pub batch_move : Move (pending w) (record (accounts_with (pending w) w.words counted) { applied = w.epoch - 1 })
+  batch_move = Move.batch (record {
+    asked = omega (arith, applied_is, some_epochs);
+    crossed = all_crossed;
+    counts = counts_move;
+    fields = refl;
+    applied = omega (arith, applied_is, some_epochs);
+    requested = refl;
+    words = λ weight. refl;
+    logs = record { writes = λ weight. refl; births = λ weight. refl; snapshots = λ weight. refl };
+    registers = λ weight. refl;
+    free = λ x _. refl;
+    released = λ x _. elim (cases_lt (x - 1) w.config.slots) [
+      | inl below ↦
+          let old : slot_in c.counts x ≡ slot_at c.counts (x - 1) = get_or_default c.counts.slots (x - 1) fresh absent (omega (arith, slots_are)) in
+          let new : slot_in counted x ≡ slot_at counted (x - 1) = get_or_default counted.slots (x - 1) fresh absent (omega (arith, slots_are, counted_rest.slots)) in
+          ap (λ (v : Slot). v.released) new ∙ counted_rest.released (x - 1) ∙ ap (λ (v : Slot). v.released) (sym old)
+      | inr past ↦
+          let old : slot_in c.counts x ≡ fresh = get_or_past c.counts.slots (x - 1) fresh (omega (arith, past, slots_are)) in
+          let new : slot_in counted x ≡ fresh = get_or_past counted.slots (x - 1) fresh (omega (arith, past, slots_are, counted_rest.slots)) in
+          ap (λ (v : Slot). v.released) (new ∙ sym old)
+    ];
+  })
+    where
+      counts_move : (node : ℕ) → 0 < node → (slot_in counted node).count + taken (pending w) node ≡ (slot_in c.counts node).count + added (pending w) node
+      counts_move node pos =
+          let x : ℕ = node - 1 in
+          let is : node ≡ x + 1 = omega arith in
+          elim (cases_lt x w.config.slots) [
+            | inl below ↦ omega (
+                arith,
+                batch_counts c.counts c.newer c.older rises falls x,
+                ap (taken (pending w)) is,
+                ap (added (pending w)) is,
+                taken_is x,
+                added_is x,
+                ap (λ (v : Slot). v.count) (get_or_default c.counts.slots x fresh absent (omega (arith, slots_are))),
+                ap (λ (v : Slot). v.count) (get_or_default counted.slots x fresh absent (omega (arith, slots_are, counted_rest.slots))),
+              )
+            | inr past ↦ omega (
+                arith,
+                (none_past x past).0,
+                (none_past x past).1,
+                ap (taken (pending w)) is,
+                ap (added (pending w)) is,
+                taken_is x,
+                added_is x,
+                ap (λ (v : Slot). v.count) (get_or_past c.counts.slots x fresh (omega (arith, past, slots_are))),
+                ap (λ (v : Slot). v.count) (get_or_past counted.slots x fresh (omega (arith, past, slots_are, counted_rest.slots))),
+              )
+          ]

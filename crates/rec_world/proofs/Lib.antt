@@ -9,10 +9,12 @@ pub mod CoreCrossings
 pub mod CoreLandings
 pub mod CoreMoves
 pub mod CoreOpening
+pub mod CoreReleasing
 pub mod CoreRules
 pub mod CoreShapes
 pub mod CoreSteps
 pub mod CoreSums
+pub mod CoreSweeping
 pub mod CoreTurns
 pub mod Deciding
 pub mod Filled
