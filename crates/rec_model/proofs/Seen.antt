@@ -34,7 +34,7 @@ target_node word n e = go (word % 2 ^ 16) e
     go k e = grind (arith, nat_tests, e)
 
 -- a target of a slot is that of a word in one of its fields
-field_target : (w : Sight) (s n : ℕ) → is_in n (targets_of w s) ≡ true → (f : ℕ) × (f < w.fields) × (s * w.fields + f < length w.words) × (node_of (get_or w.words (s * w.fields + f) 0) ≡ n + 1)
+pub field_target : (w : Sight) (s n : ℕ) → is_in n (targets_of w s) ≡ true → (f : ℕ) × (f < w.fields) × (s * w.fields + f < length w.words) × (node_of (get_or w.words (s * w.fields + f) 0) ≡ n + 1)
 field_target w s n there =
     let r = named_index n (map target_of (words_of w s)) there in
     let from : ℕ = s * w.fields in

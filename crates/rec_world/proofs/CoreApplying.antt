@@ -12,7 +12,8 @@ use Rattle.rec_model.specs.Accounted.{IsAccounted, HasUncountedReleased, is_dead
 use Rattle.rec_model.specs.Moves.{Move, Applies, is_up_to, puts_in, replaces_in, added, taken}
 use Rattle.rec_model.specs.Pending.{Write, Dated, dated, Pending, is_at}
 use Rattle.rec_model.proofs.Consequences.{counts_bounded, move_uncounted}
-use Rattle.rec_model.proofs.Moving.{move_accounted, unnamed_uncounted}
+use Rattle.rec_model.proofs.CollectorMoves.{unnamed_uncounted}
+use Rattle.rec_model.proofs.Moving.{move_accounted}
 use Rattle.rec_model.proofs.Ledgers.{batch_covered}
 use Rattle.rec_model.specs.Sums.{only_if}
 use Rattle.rec_log.specs.declared.contents.Contents.{Contents}

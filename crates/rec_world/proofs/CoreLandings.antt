@@ -175,7 +175,7 @@ alike_move p words s t same = Move.dropping (record {
 })
 
 -- a row of cleared buffers is one of spares of this size
-cleared_buffer : (config : Config) (epoch e : ℕ) (b : Contents) → IsBufferOf config e b → IsBufferOf config epoch (cleared b)
+pub cleared_buffer : (config : Config) (epoch e : ℕ) (b : Contents) → IsBufferOf config e b → IsBufferOf config epoch (cleared b)
 cleared_buffer config epoch e b is = record { snapshot = length-replicate (length b.snapshot) None ∙ is.snapshot; capacity = is.capacity; few = omega arith; made = All-nil (IsMadeIn epoch) }
 
 -- What is known where a release has come to: with these field words and crossing words, `u` is the release and its counts.

@@ -12,7 +12,8 @@ use Rattle.rec_model.specs.Pending.{node_of, home, Pending, word_in}
 use Rattle.rec_model.specs.Sight.{IsTaken, IsSound}
 use Rattle.rec_model.specs.Sums.{one_if_same, sum_at}
 use Rattle.rec_model.proofs.Consequences.{clearing_covered, move_uncounted}
-use Rattle.rec_model.proofs.Moving.{move_accounted, free_unnamed}
+use Rattle.rec_model.proofs.CollectorMoves.{free_unnamed}
+use Rattle.rec_model.proofs.Moving.{move_accounted}
 use Rattle.rec_model.proofs.Standing.{write_sound}
 use Rattle.rec_model.proofs.Sums.{get_or-le-sum_at}
 use Rattle.rec_model.proofs.Weights.{one_if_self}

@@ -15,6 +15,7 @@ pub mod CoreShapes
 pub mod CoreSteps
 pub mod CoreSums
 pub mod CoreSweeping
+pub mod CoreTurning
 pub mod CoreTurns
 pub mod Deciding
 pub mod Filled

@@ -10,6 +10,7 @@ use Rattle.rec_world.proofs.CoreLandings.{alike_move}
 use Rattle.rec_world.proofs.CoreApplying.{taken_is}
 use Rattle.rec_world.proofs.CoreReleasing.{released_lands}
 use Rattle.rec_world.proofs.CoreSweeping.{ended_kept}
+use Rattle.rec_world.proofs.CoreTurning.{rule_kept}
 use Rattle.rec_world.proofs.laws.core_runs_keep.Goals as goal
 
 pub returns : goal.returns
