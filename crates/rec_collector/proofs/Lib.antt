@@ -1,6 +1,8 @@
 pub mod Causes
+pub mod Counting
 pub mod Dropping
 pub mod HandDriven
+pub mod Keeping
 pub mod Limits
 pub mod Opening
 pub mod Releasing
