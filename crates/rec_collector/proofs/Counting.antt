@@ -1,21 +1,21 @@
 -- What always holds of the counts still does after a batch, a move of a release, the emptying of the root buffer, and a sweep.
-use Rattle.std.proofs.Common.{◌≡◌, ℕ, ◌+◌, ◌<◌, ◌≤◌, Bool, true, false, eqb, ltb, Option, None, Some, IfSome, List, [], ◌∷◌, ◌++◌, length, map, drop, refl, arith, sym, ◌∙◌, ap, inl, inr}
+use Rattle.std.proofs.Common.{◌≡◌, ℕ, ◌+◌, ◌<◌, Bool, true, false, eqb, Option, None, Some, IfSome, List, [], ◌∷◌, length, refl, arith, sym, ◌∙◌, ap, inl, inr}
 use Rattle.std.specs.List.{filter, flat_map}
-use Rattle.std.proofs.lemmas.List.{length-set, length-map}
+use Rattle.std.proofs.lemmas.List.{length-map}
 use Rattle.std.proofs.lemmas.Bool.{cases_lt, false≢true}
 use Rattle.rec_log.specs.declared.contents.Contents.{Contents}
 use Rattle.rec_counts.specs.declared.slot.Slot.{Slot}
 use Rattle.rec_counts.specs.declared.slot.Due.{Due}
 use Rattle.rec_counts.specs.declared.slot.Due.TheVariants.{Nothing, Zero, Root}
 use Rattle.rec_counts.specs.Counts.{State, slot_at, with_slot, sent, decremented, IsKept}
-use Rattle.rec_counts.specs.Lists.{one, times, EachOnce}
+use Rattle.rec_counts.specs.Lists.{times, EachOnce}
 use Rattle.rec_counts.specs.Rest.{AreZeros}
 use Rattle.rec_counts.specs.Slot.{raised, lessened, due_of, due_if, unrooted, swept_clean}
 use Rattle.rec_counts.proofs.Decrementing.{in_range_counted}
 use Rattle.rec_counts.proofs.Keeping.{keep_slot, keep_clear_roots, relisted, roots_once}
 use Rattle.rec_counts.proofs.Lessening.{to_zeros, to_roots, keep_zero, keep_root}
 use Rattle.rec_counts.proofs.Times.{once_push, once_rest, times-append, times-cons}
-use Rattle.rec_apply.specs.Batch.{CanFall, CanRise, all_down, all_up, batch, counted_down, counted_up, down_targets, up_targets}
+use Rattle.rec_apply.specs.Batch.{CanFall, all_down, all_up, batch, counted_down, counted_up, down_targets, up_targets}
 use Rattle.rec_apply.proofs.Falling.{fall_first, fall_right}
 use Rattle.rec_release.specs.Release.{emptied, listed_if, taken_off, without_first}
 use Rattle.rec_release.specs.Sweep as sweeps

@@ -1,14 +1,13 @@
 -- What every machine keeps holds after every step, by the phase.
-use Rattle.std.proofs.Common.{◌≡◌, ◌≢◌, ℕ, ◌+◌, ◌-◌, ◌*◌, ◌^◌, ◌<◌, ◌≤◌, ◌==◌, true, false, Bool, cond, inl, inr, Option, None, Some, IfSome, IsSome, IsNone, List, [], ◌∷◌, ◌++◌, length, get_or, set, refl, arith, sym, ◌∙◌, ap, subst}
+use Rattle.std.proofs.Common.{◌≡◌, ℕ, ◌+◌, ◌<◌, ◌==◌, true, false, Bool, cond, inl, inr, Option, None, Some, IfSome, IsSome, IsNone, List, [], ◌∷◌, ◌++◌, length, refl, arith, sym, ◌∙◌, ap, subst}
 use Rattle.std.specs.List.{flat_map}
-use Rattle.std.proofs.lemmas.List.{length-set, get_or-set_same, get_or-set_other}
-use Rattle.std.proofs.lemmas.Bool.{cases_eq, cases_lt, eq-eqb, eqb-true, false≢true}
+use Rattle.std.proofs.lemmas.Bool.{cases_lt, eq-eqb, eqb-true, false≢true}
 use Rattle.rec_word.specs.Op.{crossing_word}
 use Rattle.rec_word.specs.Word.{target_of}
 use Rattle.rec_log.specs.declared.contents.Contents.{Contents}
 use Rattle.rec_counts.specs.Counts.{State, slot_at, IsKept as IsKeptCounts}
 use Rattle.rec_counts.specs.Lists.{times}
-use Rattle.rec_counts.specs.Rest.{AreZeros, KeepsRest}
+use Rattle.rec_counts.specs.Rest.{KeepsRest}
 use Rattle.rec_counts.proofs.Times.{times-nil}
 use Rattle.rec_apply.specs.Batch.{CanFall, CanRise, all_up, batch, down_targets, up_targets}
 use Rattle.rec_apply.proofs.Falling.{fall_zeros_all}
@@ -22,90 +21,17 @@ use Rattle.rec_release.proofs.Keeping.{emptied_length, held_off, next_length, no
 use Rattle.rec_release.proofs.Runs.{at_work, begun_whole, more_whole}
 use Rattle.rec_collector.specs.After.{counts_after, ended_if}
 use Rattle.rec_collector.specs.Given.{IsCovered, IsGiven, IsGivenAt, IsSized}
-use Rattle.rec_collector.specs.Kept.{AreSized, AreSpare, IsAt, IsAtRest, IsMachine, IsReleasing, NoneReleased, swept_at, under_way}
+use Rattle.rec_collector.specs.Kept.{IsAt, IsMachine, IsReleasing, swept_at, under_way}
 use Rattle.rec_collector.specs.Next.{is_spent}
-use Rattle.rec_collector.specs.Private.{Private, blank, buffer_at, spare}
+use Rattle.rec_collector.specs.Private.{Private}
 use Rattle.rec_collector.specs.Step.{IsBetween}
 use Rattle.rec_collector.specs.Took.{begun, dropped, moved, released, step_of, swapped_at, swapped_of, swept_next, took_at, took_of, went_on, went_on_at, with_work}
 use Rattle.rec_collector.specs.declared.phase.Phase.{Phase}
 use Rattle.rec_collector.specs.declared.phase.Phase.TheVariants.{Idle, Looking, Swapping, Returning, Releasing, Opening, Sweeping, Closing}
 use Rattle.rec_collector.proofs.Counting.{batch_kept, dropped_kept, emptied_kept, first_kept, off_kept, sweep_kept}
+use Rattle.rec_collector.proofs.Gathering.{idle_keeps, look_keeps, next_keeps, swap_keeps}
 use Rattle.rec_collector.proofs.Releasing.{HasCome, began_comes, come_unbuffered, gone_comes, landed, landed_keeps, landed_went}
-use Rattle.rec_collector.proofs.Sweeping.{ended_keeps, freed_at, now_at, opening_keeps, sweeping_keeps, under_way_at}
-
--- what is at rest stays so with the same counts, release and sweep
-still_rests : (p q : Private) → q.counts ≡ p.counts → q.release ≡ p.release → q.due ≡ p.due → IsAtRest p → IsAtRest q
-still_rests p q counts release due a = record {
-  none = subst NoneReleased (sym counts) a.none;
-  zeros = ap (λ (s : State). s.zeros) counts ∙ a.zeros;
-  roots = ap (λ (s : State). s.roots) counts ∙ a.roots;
-  free = ap (λ (s : State). s.free) counts ∙ a.free;
-  still = ap (λ (m : Machine). m.at) release ∙ a.still;
-  due = due ∙ a.due;
-}
-
--- a turn that changes the epoch and the phase alone
-moved_keeps : (p : Private) (epoch : ℕ) (phase : Phase) → IsMachine p → epoch < 2 ^ 24 → p.collections + under_way phase ≤ epoch → p.freed ≤ 2 ^ 16 * p.collections + swept_at phase
-    → IsAt (moved (record p { epoch = epoch }) phase) phase → IsMachine (moved (record p { epoch = epoch }) phase)
-moved_keeps p epoch phase k fits under freed now = record {
-  epoch = fits;
-  collections = under;
-  freed = freed;
-  fields = k.fields;
-  few_fields = k.few_fields;
-  mutators = k.mutators;
-  few = k.few;
-  both = k.both;
-  newer = k.newer;
-  older = k.older;
-  sets = k.sets;
-  counts = k.counts;
-  now = now;
-}
-
--- the next epoch is requested, if there is one
-idle_keeps : (p : Private) (word : ℕ) → IsMachine p → p.phase ≡ Idle → IsMachine (took_at p word Idle)
-unfolding took_at
-idle_keeps p word k e = go (is_spent p) refl
-  where
-    requested : Private
-    requested = moved (record p { epoch = p.epoch + 1 }) (Looking 1)
-
-    go : (b : Bool) → is_spent p ≡ b → IsMachine (cond b p requested)
-    go true s = k
-    go false s =
-        let a : IsAt p Idle = now_at p Idle k e in
-        let next : p.epoch + 1 ≢ 2 ^ 24 = λ q. false≢true (sym s ∙ eq-eqb (p.epoch + 1) (2 ^ 24) q) in
-        let fits : p.epoch + 1 < 2 ^ 24 = elim (cases_lt (p.epoch + 1) (2 ^ 24)) [ inl l ↦ l | inr l ↦ absurd (next (omega (arith, l, k.epoch))) ] in
-        moved_keeps p (p.epoch + 1) (Looking 1) k fits (omega (arith, under_way_at p Idle k e)) (freed_at p Idle k e)
-        (record { rest = still_rests p requested refl refl refl a.0; first = omega arith; there = omega (arith, k.mutators); spares = a.1; turns = omega (arith, a.2) })
-
--- the mailbox of a mutator is held where it has crossed
-look_keeps : (p : Private) (word t : ℕ) → IsMachine p → p.phase ≡ Looking t → IsMachine (took_at p word (Looking t))
-unfolding took_at
-look_keeps p word t k e = go (word == crossing_word p.epoch 2)
-  where
-    go : (b : Bool) → IsMachine (cond b (moved p (Swapping t)) p)
-    go false = k
-    go true =
-        let a : IsAt p (Looking t) = now_at p (Looking t) k e in
-        moved_keeps p p.epoch (Swapping t) k k.epoch (under_way_at p (Looking t) k e) (freed_at p (Looking t) k e)
-        (record { rest = still_rests p (moved p (Swapping t)) refl refl refl a.rest; first = a.first; there = a.there; spares = a.spares; turns = omega (arith, a.turns, a.first) })
-
--- the next mutator's mailbox follows
-next_keeps : (p : Private) (t : ℕ) → IsMachine p → p.phase ≡ Returning t → t ≢ length p.newer → IsMachine (moved p (Looking (t + 1)))
-next_keeps p t k e other =
-    let a : IsAt p (Returning t) = now_at p (Returning t) k e in
-    let more : t < length p.newer = elim (cases_lt t (length p.newer)) [ inl l ↦ l | inr l ↦ absurd (other (omega (arith, l, a.there))) ] in
-    let same : t + 1 - 1 ≡ t = omega arith in
-    moved_keeps p p.epoch (Looking (t + 1)) k k.epoch (under_way_at p (Returning t) k e) (freed_at p (Returning t) k e)
-    (record {
-      rest = still_rests p (moved p (Looking (t + 1))) refl refl refl a.rest;
-      first = omega arith;
-      there = omega (arith, more);
-      spares = subst (λ from. AreSpare p from) (sym same) a.spares;
-      turns = omega (arith, a.turns);
-    })
+use Rattle.rec_collector.proofs.Sweeping.{ended_keeps, now_at, opening_keeps, sweeping_keeps}
 
 -- a collection that has come so far in its release, with its counts
 abbrev Comes : Private → Work → Type 0
@@ -124,8 +50,7 @@ begun_come p t k e last c =
     let ready : IsReady s = record {
       zeros = fall_zeros_all (all_up p.counts (flat_map up_targets p.newer)) (flat_map down_targets p.older) falls.zeros;
       free = λ x h. absurd (omega (arith, h, ap (times x) (rests.free ∙ a.rest.free), times-nil x));
-    } in
-    (
+    } in (
       began_comes p t s (with_next f s).machine (with_next f s).counts k e last rests refl (work_next f s k.fields ready) (next_length s.zeros s) (none_left f s) (begun_whole f s k.fields ready),
       first_kept s.zeros s refl (batch_kept p.counts p.newer p.older falls k.counts),
     )
@@ -158,7 +83,7 @@ gone_on_come p word b k e m at c =
     elim (cases_lt (b.field + 1) f) [
       | inl l ↦ gone_to p word b (Some (record { slot = b.slot; field = b.field + 1 })) (taken_off s t) k e m w.field (sym (took_on f b s word l)) (work_on f b s t w l) (rest_off s t).slots (λ n. absurd (false≢true (sym n))) off
       | inr l ↦ gone_to p word b (with_next f v).machine.at (with_next f v).counts k e m w.field (sym (took_last f b s word l)) (work_last f b s t w)
-        (next_length v.zeros v ∙ emptied_length (taken_off s t) b.slot ∙ (rest_off s t).slots) (none_left f v) (first_kept v.zeros v refl (emptied_kept (taken_off s t) b.slot held.in_range held.unlisted off))
+          (next_length v.zeros v ∙ emptied_length (taken_off s t) b.slot ∙ (rest_off s t).slots) (none_left f v) (first_kept v.zeros v refl (emptied_kept (taken_off s t) b.slot held.in_range held.unlisted off))
     ]
 
 gone_come : (p : Private) (word : ℕ) → IsMachine p → p.phase ≡ Releasing → IfSome (target_of word) (λ x. 0 < (slot_at p.counts x).count) → Comes p (released p word)
@@ -244,42 +169,7 @@ took_sized : (p : Private) (word : ℕ) (box : Contents) → IsSized p.registers
 unfolding took_of
 took_sized p word box z = took_sized_at p word box p.phase z
 
--- a buffer joins the newer ones
-swap_sized : (p : Private) (i : ℕ) (box : Contents) → IsSized p.registers p.capacity box → AreSized p p.newer → AreSized p (set p.newer i box)
-swap_sized p i box z k = λ j l.
-    let m : j < length p.newer = omega (arith, l, length-set p.newer i box) in
-    elim (cases_eq j i) [
-      | inl q ↦ subst (λ (b : Contents). IsSized p.registers p.capacity b) (sym (ap (buffer_at (set p.newer i box)) q ∙ get_or-set_same p.newer i box (blank 0 0) (omega (arith, m, q)))) z
-      | inr q ↦ subst (λ (b : Contents). IsSized p.registers p.capacity b) (sym (get_or-set_other p.newer i j box (blank 0 0) q)) (k j m)
-    ]
-
-swap_keeps : (p : Private) (t : ℕ) (box : Contents) → IsSized p.registers p.capacity box → IsMachine p → p.phase ≡ Swapping t → IsMachine (swapped_at p box (Swapping t))
-unfolding swapped_at
-swap_keeps p t box z k e =
-    let a : IsAt p (Swapping t) = now_at p (Swapping t) k e in
-    let many : length (set p.newer (t - 1) box) ≡ length p.newer = length-set p.newer (t - 1) box in
-    record {
-      epoch = k.epoch;
-      collections = under_way_at p (Swapping t) k e;
-      freed = freed_at p (Swapping t) k e;
-      fields = k.fields;
-      few_fields = k.few_fields;
-      mutators = omega (arith, k.mutators, many);
-      few = omega (arith, k.few, many);
-      both = k.both ∙ sym many;
-      newer = swap_sized p (t - 1) box z k.newer;
-      older = k.older;
-      sets = k.sets;
-      counts = k.counts;
-      now = record {
-        rest = still_rests p (record p { phase = Returning t; newer = set p.newer (t - 1) box }) refl refl refl a.rest;
-        first = a.first;
-        there = omega (arith, a.there, many);
-        spares = λ j f l. get_or-set_other p.newer (t - 1) j box (blank 0 0) (λ q. absurd (omega (arith, a.first, f, q))) ∙ a.spares j (omega (arith, f)) (omega (arith, l, many));
-        turns = a.turns;
-      };
-    }
-
+-- the buffer of a mailbox that is held is swapped
 swapped_keeps : (p : Private) (box : Contents) (phase : Phase) → IsSized p.registers p.capacity box → IsMachine p → p.phase ≡ phase → IsMachine (swapped_at p box phase)
 unfolding swapped_at
 swapped_keeps p box Idle z k e = k
