@@ -55,7 +55,7 @@ begun_come p t k e last c =
       first_kept s.zeros s refl (batch_kept p.counts p.newer p.older falls k.counts),
     )
 
--- what the call of a release tells
+-- a release that learnt the word, once it is known with which field and counts
 gone_to : (p : Private) (word : ℕ) (b : At) (at : Option At) (u : State) → IsMachine p → p.phase ≡ Releasing → p.release ≡ record { fields = p.release.fields; at = Some b } → b.field < p.release.fields
     → at_work p.release.fields at u ≡ release_took (at_work p.release.fields (Some b) p.counts) word → IsAtWork (record { fields = p.release.fields; at = at }) u → length u.slots ≡ length p.counts.slots
     → (IsNone (next_of (record { fields = p.release.fields; at = at })) → u.zeros ≡ []) → IsKeptCounts u → Comes p (released p word)
@@ -141,7 +141,7 @@ took_keeps : (p : Private) (word : ℕ) → IsMachine p → IsGiven p word → I
 unfolding took_of IsGiven
 took_keeps p word k g = took_keeps_at p word p.phase k refl g
 
--- registers and room stay
+-- the registers and the room of the buffers stay
 went_sized : (p : Private) (w : Work) (box : Contents) (at : Option At) → IsSized p.registers p.capacity box → IsSized (went_on_at p w at).registers (went_on_at p w at).capacity box
 went_sized p w box (Some a) z = z
 went_sized p w box None z = go (dropped w.counts).free
