@@ -1,19 +1,17 @@
 -- What is known of a mutator and its mailbox after its step.
-use Rattle.std.proofs.Common.{◌≡◌, ◌≢◌, ◌⊎◌, inl, inr, ℕ, ◌+◌, ◌-◌, ◌*◌, ◌^◌, ◌<◌, ◌≤◌, ◌==◌, nat_lt, if◌then◌else◌, Bool, true, false, List, [], ◌∷◌, ◌++◌, Option, None, Some, length, replicate, slice_index_or, slice_set, refl, sym, ap, subst, ◌∙◌, arith, length-append}
-use Rattle.std.specs.List.{All}
+use Rattle.std.proofs.Common.{◌≡◌, ◌≢◌, ◌⊎◌, inl, inr, ℕ, ◌+◌, ◌-◌, ◌<◌, if◌then◌else◌, Bool, false, List, [], ◌∷◌, ◌++◌, None, length, slice_index_or, slice_set, refl, sym, ap, subst, ◌∙◌, arith, length-append}
 use Rattle.std.proofs.lemmas.Bool.{false≢true, cases_eq}
 use Rattle.std.proofs.lemmas.List.{length-set, set-get_or, get_or-set_same, get_or-set_other, length-replicate}
 use Rattle.std.proofs.lemmas.List.Elements.{All-append, All-cons, All-nil}
 use Rattle.rec_word.specs.Op.{crossing_word}
 use Rattle.rec_word.specs.declared.op.Op.{Op}
-use Rattle.rec_model.specs.Pending.{epoch_of}
 use Rattle.rec_model.specs.Reach.{named}
 use Rattle.rec_log.specs.declared.contents.Contents.{Contents}
 use Rattle.rec_log.specs.declared.entry.Entry.{Entry}
 use Rattle.rec_mutator.specs.Causes.{is_giving}
-use Rattle.rec_mutator.specs.Private.{Private, KeepsSizes, IsMachine}
+use Rattle.rec_mutator.specs.Private.{Private, KeepsSizes}
 use Rattle.rec_mutator.specs.Step.{Step}
-use Rattle.rec_mutator.specs.Took.{IsFound, IsBetween}
+use Rattle.rec_mutator.specs.Took.{IsFound}
 use Rattle.rec_mutator.specs.declared.phase.Phase as phases
 use Rattle.rec_mutator.specs.declared.phase.Phase.TheVariants as at
 use Rattle.rec_mutator.proofs.Sizes.{step_keeps}
@@ -23,7 +21,7 @@ use Rattle.rec_collector.specs.declared.phase.Phase.{Phase}
 use Rattle.rec_world.specs.declared.config.Config.{Config}
 use Rattle.rec_world.specs.Config.{IsMutator}
 use Rattle.rec_world.specs.Core.{spare_of}
-use Rattle.rec_world.specs.CoreKept.{IsSettledIn, HasLabelAt, IsOwn, IsMadeIn, IsBufferOf, Stand, stand_at, HasCrossed, IsBehind, IsCrossing, IsHandshake, IsActor, HasMutators}
+use Rattle.rec_world.specs.CoreKept.{IsSettledIn, HasLabelAt, IsOwn, IsMadeIn, IsBufferOf, Stand, stand_at, IsBehind, IsCrossing, IsHandshake, IsActor, HasMutators}
 use Rattle.rec_world.specs.CorePending.{epoch_at}
 use Rattle.rec_world.specs.State.{nobody}
 use Rattle.rec_world.proofs.Machines.{IsBox, step_machine}

@@ -1,19 +1,16 @@
 -- The batch: with the last mailbox given back, what the buffers name is counted, and the accounts are those of the next epoch.
-use Rattle.std.proofs.Common.{◌≡◌, ◌≢◌, ◌⊎◌, inl, inr, ℕ, ◌+◌, ◌-◌, ◌*◌, ◌^◌, ◌<◌, ◌≤◌, ◌==◌, nat_lt, if◌then◌else◌, Bool, true, false, List, [], ◌∷◌, ◌++◌, suc, Option, None, Some, length, map, slice_index_or, slice_set, refl, sym, ap, subst, ◌∙◌, arith, length-append}
-use Rattle.std.specs.List.{All, sum_by, flat_map}
+use Rattle.std.proofs.Common.{◌≡◌, ◌⊎◌, inl, inr, ℕ, ◌+◌, ◌-◌, ◌*◌, ◌<◌, ◌≤◌, ◌==◌, nat_lt, if◌then◌else◌, Bool, true, List, [], ◌∷◌, ◌++◌, suc, Option, None, Some, length, map, slice_index_or, refl, sym, ap, subst, ◌∙◌, arith}
+use Rattle.std.specs.List.{sum_by, flat_map}
 use Rattle.std.proofs.Math.Nat.{suc-mul, mul-le-mul}
-use Rattle.std.proofs.lemmas.Bool.{false≢true, cases_eq, cases_lt, eq-eqb, ne_eqb, lt-ltb, le-ltb, lt-leb, cond-true, cond-false}
-use Rattle.std.proofs.lemmas.List.{length-set, length-map, get_or_past, get_or_default}
+use Rattle.std.proofs.lemmas.Bool.{cases_eq, cases_lt, eq-eqb, lt-ltb, lt-leb, cond-true}
+use Rattle.std.proofs.lemmas.List.{get_or_past, get_or_default}
 use Rattle.std.proofs.lemmas.List.Concat.{length-flat_map}
 use Rattle.std.proofs.lemmas.List.Sums.{sum_by-cons, sum_by-append}
-use Rattle.rec_word.specs.Op.{crossing_word}
-use Rattle.rec_word.specs.Place.{place_of}
-use Rattle.rec_model.specs.Accounted.{IsAccounted, HasUncountedReleased, is_dead, named}
-use Rattle.rec_model.specs.Moves.{Move, Applies, is_up_to, puts_in, replaces_in, added, taken}
-use Rattle.rec_model.specs.Pending.{Write, Dated, dated, Pending, is_at}
-use Rattle.rec_model.proofs.Consequences.{counts_bounded, move_uncounted}
+use Rattle.rec_model.specs.Accounted.{is_dead}
+use Rattle.rec_model.specs.Moves.{Move, is_up_to, puts_in, replaces_in, added, taken}
+use Rattle.rec_model.specs.Pending.{Write, Dated, dated, is_at}
+use Rattle.rec_model.proofs.Consequences.{counts_bounded}
 use Rattle.rec_model.proofs.CollectorMoves.{unnamed_uncounted}
-use Rattle.rec_model.proofs.Moving.{move_accounted}
 use Rattle.rec_model.proofs.Ledgers.{batch_covered}
 use Rattle.rec_model.specs.Sums.{only_if}
 use Rattle.rec_log.specs.declared.contents.Contents.{Contents}
@@ -26,23 +23,21 @@ use Rattle.rec_counts.specs.declared.slot.Slot.{Slot}
 use Rattle.rec_apply.specs.Batch.{batch, up_targets, down_targets, all_up, CanRise, CanFall}
 use Rattle.rec_apply.specs.Targets as targets
 use Rattle.rec_apply.proofs.Falling.{fall_zeros_all}
-use Rattle.rec_apply.proofs.Rising.{up_zeros_all}
 use Rattle.rec_apply.proofs.Whole.{batch_rises, batch_falls, batch_counts, batch_rests}
 use Rattle.rec_mutator.specs.Private.{Private}
 use Rattle.rec_collector.specs.Given.{IsCovered}
 use Rattle.rec_collector.specs.Private as collectors
 use Rattle.rec_collector.specs.Kept as collector_kept
-use Rattle.rec_collector.specs.declared.phase.Phase.{Phase}
-use Rattle.rec_collector.specs.declared.phase.Phase.TheVariants.{Returning, Releasing}
+use Rattle.rec_collector.specs.declared.phase.Phase.TheVariants.{Returning}
 use Rattle.rec_world.specs.declared.config.Config.{Config}
-use Rattle.rec_world.specs.Config.{IsConfig, IsMutator}
+use Rattle.rec_world.specs.Config.{IsMutator}
 use Rattle.rec_world.specs.Core.{Core, mutator, box, crossing_of, spare_of}
-use Rattle.rec_world.specs.CoreKept.{IsBufferOf, Stand, stand_at, HasCrossed, IsHandshake, IsActor, HasMutators, IsKept}
+use Rattle.rec_world.specs.CoreKept.{IsBufferOf, Stand, stand_at, HasCrossed, IsHandshake, IsKept}
 use Rattle.rec_world.specs.CorePending.{Filed, filed, code, writes_in, births_in, dated_names, dated_all, older_at, applied_at, epoch_at, buffers, writes_of, births_of, snapshots_of, registers_of, pending}
 use Rattle.rec_world.specs.State.{nobody}
 use Rattle.rec_world.proofs.CoreActors.{epoch_here, settled_here}
 use Rattle.rec_world.proofs.CoreBatches.{gain, loss, gain_named, gain_none, loss_named, loss_none, same_at, none_of, sum_parts}
-use Rattle.rec_world.proofs.CoreCounts.{slot_in, accounts_with, alike_slots}
+use Rattle.rec_world.proofs.CoreCounts.{slot_in, accounts_with}
 use Rattle.rec_world.proofs.CoreMoves.{spare_names}
 use Rattle.rec_world.proofs.CoreSums.{share, log_share, buffers_sum, sum_by-flat_map, sum_by-map}
 use Rattle.rec_world.proofs.CoreTurns.{now_at, returned_home}

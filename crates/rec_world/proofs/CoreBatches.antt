@@ -1,26 +1,24 @@
 -- What a batch adds and takes, read off the collector's buffers, is what the accounts say that it adds and takes.
-use Rattle.std.proofs.Common.{◌≡◌, ◌≢◌, inl, inr, ℕ, ◌+◌, ◌-◌, ◌*◌, ◌<◌, ◌≤◌, ◌==◌, if◌then◌else◌, Bool, true, false, List, [], ◌∷◌, ◌++◌, suc, Option, None, Some, length, map, slice_index_or, refl, sym, ap, subst, ◌∙◌, arith}
-use Rattle.std.specs.List.{All, sum_by, flat_map}
+use Rattle.std.proofs.Common.{◌≡◌, ◌≢◌, inl, inr, ℕ, ◌+◌, ◌<◌, ◌==◌, List, [], ◌∷◌, suc, Option, None, Some, length, map, slice_index_or, refl, sym, ap, ◌∙◌, arith}
+use Rattle.std.specs.List.{All, sum_by}
 use Rattle.std.proofs.lemmas.Bool.{cases_eq, eq-eqb, ne_eqb}
 use Rattle.std.proofs.lemmas.List.Elements.{All-head, All-tail}
 use Rattle.std.proofs.lemmas.List.Sums.{sum_by-cons}
 use Rattle.rec_word.specs.Word.{target_of}
 use Rattle.rec_model.specs.Moves.{puts_in, replaces_in}
-use Rattle.rec_model.specs.Pending.{node_of, epoch_of, Write, Dated, dated, is_at}
-use Rattle.rec_model.specs.Reach.{named as names}
+use Rattle.rec_model.specs.Pending.{node_of, epoch_of, dated, is_at}
 use Rattle.rec_model.specs.Sums.{only_if, one_if_same}
 use Rattle.rec_model.proofs.Weights.{one_if_self, none_if_differs, only_if_self, none_if_other}
 use Rattle.rec_log.specs.declared.contents.Contents.{Contents}
 use Rattle.rec_log.specs.declared.entry.Entry.{Entry}
 use Rattle.rec_log.specs.declared.entry.Entry.TheVariants as entries
 use Rattle.rec_counts.specs.Lists.{one}
-use Rattle.rec_apply.specs.Targets.{new_target, old_target, is_slot, named, added, taken}
+use Rattle.rec_apply.specs.Targets.{new_target, old_target, is_slot, named}
 use Rattle.rec_apply.proofs.Naming.{named-nil, named-cons}
 use Rattle.rec_world.specs.CoreKept.{IsMadeIn, IsBufferOf}
-use Rattle.rec_world.specs.CorePending.{Filed, filed, code, writes_in, births_in, dated_names}
+use Rattle.rec_world.specs.CorePending.{code, writes_in, births_in, dated_names}
 use Rattle.rec_world.specs.declared.config.Config.{Config}
 use Rattle.rec_world.proofs.CoreMoves.{code_target}
-use Rattle.rec_world.proofs.CoreSums.{share, sum_by-map}
 
 -- one name of a slot is one of its node
 same_name : (x : ℕ) (target : Option ℕ) → one_if_same (x + 1) (code target) ≡ one (is_slot x target)

@@ -1,16 +1,14 @@
 -- The steps of a crossing keep what every heap with its collector keeps, and so does the begin of a work.
-use Rattle.std.proofs.Common.{◌≡◌, ◌≢◌, ◌⊎◌, inl, inr, ℕ, ◌+◌, ◌-◌, ◌*◌, ◌^◌, ◌<◌, ◌≤◌, ◌==◌, nat_lt, if◌then◌else◌, Bool, true, false, List, [], ◌∷◌, Option, None, Some, length, map, slice_index_or, slice_set, refl, sym, ap, subst, ◌∙◌, arith, add-zero}
+use Rattle.std.proofs.Common.{◌≡◌, inl, inr, ℕ, ◌+◌, ◌-◌, ◌*◌, ◌^◌, ◌<◌, ◌≤◌, if◌then◌else◌, Bool, true, false, List, Option, Some, length, slice_index_or, slice_set, refl, sym, ap, subst, ◌∙◌, arith, add-zero}
 use Rattle.std.specs.List.{sum_by}
 use Rattle.std.proofs.Math.Nat.{add-mul}
 use Rattle.std.proofs.lemmas.Bool.{false≢true, cases_Bool}
 use Rattle.std.proofs.lemmas.List.{set-get_or}
 use Rattle.std.proofs.lemmas.List.Elements.{All-get_or}
 use Rattle.rec_word.specs.Op.{crossing_word}
-use Rattle.rec_word.specs.declared.op.Op.{Op}
 use Rattle.rec_word.specs.declared.op.Op.TheVariants as ops
 use Rattle.rec_model.specs.Accounted.{IsAccounted, HasUncountedReleased}
 use Rattle.rec_model.specs.Moves.{Move}
-use Rattle.rec_model.specs.Pending.{Pending}
 use Rattle.rec_model.specs.Reach.{named}
 use Rattle.rec_model.specs.Sight.{IsSound, IsTaken}
 use Rattle.rec_model.proofs.Consequences.{move_uncounted}
@@ -19,8 +17,8 @@ use Rattle.rec_log.specs.declared.contents.Contents.{Contents}
 use Rattle.rec_mutator.specs.Causes.{is_giving}
 use Rattle.rec_mutator.specs.Next.{next_of, next_at}
 use Rattle.rec_mutator.specs.Private.{Private, is_busy, IsMachine, IsValid}
-use Rattle.rec_mutator.specs.Step.{Step, Crosses, IsFitting}
-use Rattle.rec_mutator.specs.Took.{begun_of, took_of, took_at, swapped_of, swapped_at, left_of, left_at, step_of, retired, moved, IsFound, IsRequested, IsBetween}
+use Rattle.rec_mutator.specs.Step.{Crosses, IsFitting}
+use Rattle.rec_mutator.specs.Took.{begun_of, took_of, took_at, swapped_of, swapped_at, left_of, left_at, step_of, retired, IsFound, IsRequested, IsBetween}
 use Rattle.rec_mutator.specs.declared.made.Made.TheVariants as makes
 use Rattle.rec_mutator.specs.declared.phase.Phase as phases
 use Rattle.rec_mutator.specs.declared.phase.Phase.TheVariants as at
@@ -39,8 +37,7 @@ use Rattle.rec_world.specs.CoreMoves.{performed, found_by, stepped, begun}
 use Rattle.rec_world.specs.CorePending.{epoch_at, applied_at, pending}
 use Rattle.rec_world.specs.Memory.{cell}
 use Rattle.rec_world.specs.Run.{HasLabel}
-use Rattle.rec_world.specs.State.{nobody}
-use Rattle.rec_world.proofs.CoreActors.{own_stepped, epoch_here, settled_here, handshake_stays, unsettled_due, spare_buffer, others_stay, mutator_changes}
+use Rattle.rec_world.proofs.CoreActors.{own_stepped, epoch_here, handshake_stays, unsettled_due, spare_buffer, others_stay}
 use Rattle.rec_world.proofs.CoreMoves.{same_pending, crossing_amid, crossing_drops}
 use Rattle.rec_world.proofs.CoreShapes.{with_mutator, after_take, after_give}
 use Rattle.rec_world.proofs.CoreSums.{none_named}

@@ -1,16 +1,15 @@
 -- Where a release has come to, the collection goes on: to the next field, to a sweep, or to its end. Each keeps what every heap keeps.
-use Rattle.std.proofs.Common.{◌≡◌, ◌≢◌, ◌⊎◌, inl, inr, ℕ, ◌+◌, ◌-◌, ◌*◌, ◌%◌, ◌^◌, ◌<◌, ◌≤◌, ◌==◌, if◌then◌else◌, Bool, true, false, List, [], ◌∷◌, ◌++◌, Option, None, Some, length, map, replicate, slice_index_or, slice_set, refl, sym, ap, subst, ◌∙◌, arith}
+use Rattle.std.proofs.Common.{◌≡◌, ◌⊎◌, inl, inr, ℕ, ◌+◌, ◌-◌, ◌<◌, ◌≤◌, if◌then◌else◌, Bool, true, List, [], ◌∷◌, Option, None, Some, length, map, slice_index_or, refl, sym, ap, subst, ◌∙◌, arith}
 use Rattle.std.specs.List.{All, sum_by, flat_map, filter}
 use Rattle.std.proofs.Math.ListN.{get_or-map}
-use Rattle.std.proofs.lemmas.Bool.{false≢true, cases_Bool, cases_eq, eq-eqb, ne_eqb, cond-true, cond-false}
+use Rattle.std.proofs.lemmas.Bool.{cases_Bool, cases_eq, ne_eqb}
 use Rattle.std.proofs.lemmas.List.{length-map, length-replicate}
 use Rattle.std.proofs.lemmas.List.Elements.{All-head, All-tail, All-nil}
 use Rattle.std.proofs.lemmas.List.Sums.{sum_by-cons}
 use Rattle.rec_word.specs.Place.{place_of}
 use Rattle.rec_model.specs.Accounted.{IsAccounted, HasUncountedReleased}
-use Rattle.rec_model.specs.Moves.{Move, Drops}
+use Rattle.rec_model.specs.Moves.{Move}
 use Rattle.rec_model.specs.Pending.{epoch_of, Write, Dated, dated, Pending}
-use Rattle.rec_model.specs.Reach.{named}
 use Rattle.rec_model.specs.Sight.{IsSound}
 use Rattle.rec_model.proofs.Consequences.{move_uncounted}
 use Rattle.rec_model.proofs.Moving.{move_accounted}
@@ -22,12 +21,10 @@ use Rattle.rec_counts.specs.Lists.{one, times}
 use Rattle.rec_counts.specs.Slot.{absent, unrooted}
 use Rattle.rec_counts.specs.declared.slot.Slot.{Slot}
 use Rattle.rec_counts.proofs.Times.{times-nil, times-cons, times-append}
-use Rattle.rec_release.specs.declared.at.At.{At}
 use Rattle.rec_release.specs.Release.{Work, IsAtWork}
-use Rattle.rec_mutator.specs.Private.{Private}
 use Rattle.rec_collector.specs.Private as collectors
 use Rattle.rec_collector.specs.Kept as collector_kept
-use Rattle.rec_collector.specs.Step.{ReleasesOn, GoesOn, Ends}
+use Rattle.rec_collector.specs.Step.{ReleasesOn}
 use Rattle.rec_collector.specs.Took.{cleared, dropped}
 use Rattle.rec_collector.specs.declared.phase.Phase.{Phase}
 use Rattle.rec_collector.specs.declared.phase.Phase.TheVariants.{Idle, Releasing, Opening}
@@ -35,11 +32,11 @@ use Rattle.rec_collector.specs.declared.turn.Turn.{Turn}
 use Rattle.rec_world.specs.declared.config.Config.{Config}
 use Rattle.rec_world.specs.Config.{IsMutator}
 use Rattle.rec_world.specs.Core.{Core, sight}
-use Rattle.rec_world.specs.CoreKept.{IsMadeIn, IsBufferOf, Stand, stand_at, HasMutators, HasCollector, IsLeft, one_if_sweeping, IsKept}
-use Rattle.rec_world.specs.CorePending.{Filed, filed, writes_in, births_in, dated_names, older_at, applied_at, buffers, pending}
-use Rattle.rec_world.proofs.CoreBatches.{none_of, same_at}
+use Rattle.rec_world.specs.CoreKept.{IsMadeIn, IsBufferOf, HasMutators, IsLeft, one_if_sweeping, IsKept}
+use Rattle.rec_world.specs.CorePending.{Filed, writes_in, births_in, dated_names, older_at, buffers, pending}
+use Rattle.rec_world.proofs.CoreBatches.{none_of}
 use Rattle.rec_world.proofs.CoreCounts.{slot_in, accounts_with, dropped_alike}
-use Rattle.rec_world.proofs.CoreSums.{share, log_share, buffers_sum, none_named}
+use Rattle.rec_world.proofs.CoreSums.{share, buffers_sum, none_named}
 use Rattle.rec_world.proofs.CoreTurns.{phase_moves}
 
 -- what a kept list has passed the test

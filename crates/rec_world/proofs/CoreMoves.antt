@@ -1,5 +1,5 @@
 -- What the steps of a mutator are to the accounts of its heap: moves of registers, writes, births and crossings.
-use Rattle.std.proofs.Common.{◌≡◌, ◌⊎◌, inl, inr, ℕ, ◌+◌, ◌-◌, ◌*◌, ◌/◌, ◌%◌, ◌^◌, ◌<◌, ◌≤◌, ◌==◌, ◌≢◌, Bool, true, false, zero, suc, List, [], ◌∷◌, ◌++◌, Option, None, Some, length, map, replicate, slice_index_or, slice_set, refl, sym, ap, subst, ◌∙◌, arith}
+use Rattle.std.proofs.Common.{◌≡◌, ◌⊎◌, inl, inr, ℕ, ◌+◌, ◌-◌, ◌<◌, ◌==◌, ◌≢◌, Bool, false, zero, suc, List, [], ◌∷◌, ◌++◌, Option, None, Some, length, map, slice_index_or, slice_set, refl, sym, ap, subst, ◌∙◌, arith}
 use Rattle.std.specs.List.{sum_by, flat_map}
 use Rattle.std.proofs.Math.Seq.{map-set_same}
 use Rattle.std.proofs.lemmas.Bool.{eq-eqb, ne_eqb, cases_eq, cond-true, cond-false}
@@ -7,25 +7,22 @@ use Rattle.std.proofs.lemmas.List.{get_or-set_same, get_or-set_other}
 use Rattle.std.proofs.lemmas.List.Sums.{get_or-le-sum_by, sum_by-append, sum_by-set}
 use Rattle.std.proofs.lemmas.Nat.{div-mul-add}
 use Rattle.rec_word.specs.Place.{place_of}
-use Rattle.rec_word.specs.Word.{target_of, stamp_of, IsTarget}
-use Rattle.rec_word.specs.declared.stamps.Stamp.{Stamp}
-use Rattle.rec_model.specs.Moves.{KeepsEpochs, KeepsSlots, Registers, Puts, Bears, Crosses, Drops, Loads, Move, with_answer}
+use Rattle.rec_word.specs.Word.{target_of}
+use Rattle.rec_model.specs.Moves.{KeepsEpochs, KeepsSlots, Crosses, Drops, Loads, Move, with_answer}
 use Rattle.rec_model.specs.Pending.{node_of, epoch_of, home, Write, Dated, dated, Pending, is_at, Holds}
 use Rattle.rec_model.specs.Reach.{named}
 use Rattle.rec_model.specs.Sums.{sum_at}
 use Rattle.rec_model.proofs.Sums.{sum_at-set}
 use Rattle.rec_model.proofs.Weights.{only_if_self, one_if_self}
 use Rattle.rec_log.specs.declared.contents.Contents.{Contents}
-use Rattle.rec_log.specs.declared.entry.Entry.{Entry}
 use Rattle.rec_log.specs.declared.entry.Entry.TheVariants as entries
-use Rattle.rec_mutator.specs.Private.{Private, register, word_for, next_stamp}
-use Rattle.rec_collector.specs.Private.{blank}
+use Rattle.rec_mutator.specs.Private.{Private, register}
 use Rattle.rec_world.specs.declared.config.Config.{Config}
 use Rattle.rec_world.specs.Core.{Core, mutator, box, spare_of}
-use Rattle.rec_world.specs.CorePending.{Filed, filed, code, writes_in, births_in, dated_names, dated_all, epoch_at, buffers, writes_of, births_of, snapshots_of, registers_of, older_at, pending}
+use Rattle.rec_world.specs.CorePending.{Filed, filed, code, writes_in, births_in, dated_names, dated_all, epoch_at, buffers, snapshots_of, registers_of, older_at, pending}
 use Rattle.rec_world.specs.State.{nobody}
 use Rattle.rec_world.proofs.CoreShapes.{with_mutator}
-use Rattle.rec_world.proofs.CoreSums.{share, buffers_sum, with_own, own_sum, registers_sum, register_sum, writes_more, writes_same, births_more, births_same, names_most, names_all, none_named, sum_by-map, sum_by-flat_map}
+use Rattle.rec_world.proofs.CoreSums.{share, buffers_sum, own_sum, registers_sum, register_sum, writes_more, writes_same, births_more, births_same, names_most, names_all, none_named, sum_by-map, sum_by-flat_map}
 
 -- the node of a word is that of its target
 pub code_target : (word : ℕ) → code (target_of word) ≡ node_of word

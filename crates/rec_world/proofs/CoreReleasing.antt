@@ -1,35 +1,31 @@
 -- A release begins with the batch, and goes on field by field. Where it has come to is as the landing of a turn wants it.
-use Rattle.std.proofs.Common.{◌≡◌, ◌≢◌, ◌⊎◌, inl, inr, ℕ, ◌+◌, ◌-◌, ◌*◌, ◌<◌, ◌≤◌, ◌==◌, nat_lt, if◌then◌else◌, Bool, true, false, List, [], ◌∷◌, Option, None, Some, IfSome, length, slice_index_or, slice_set, refl, sym, ap, subst, ◌∙◌, arith}
-use Rattle.std.proofs.lemmas.Bool.{false≢true, cases_Bool, cases_eq, cases_lt, eq-eqb, lt-ltb, cond-true}
-use Rattle.std.proofs.lemmas.List.{length-set, get_or-set_same, get_or-set_other, get_or_past, get_or_default}
-use Rattle.std.proofs.lemmas.Nat.{same_from_place}
+use Rattle.std.proofs.Common.{◌≡◌, ◌⊎◌, inl, inr, ℕ, ◌+◌, ◌-◌, ◌<◌, ◌≤◌, ◌==◌, nat_lt, if◌then◌else◌, true, List, [], ◌∷◌, Option, None, Some, length, slice_index_or, slice_set, refl, sym, ap, subst, ◌∙◌, arith}
+use Rattle.std.proofs.lemmas.Bool.{false≢true, cases_eq, cases_lt, eq-eqb, lt-ltb, cond-true}
+use Rattle.std.proofs.lemmas.List.{get_or-set_same, get_or-set_other, get_or_past, get_or_default}
 use Rattle.rec_word.specs.Op.{crossing_word}
 use Rattle.rec_word.specs.Place.{place_of}
 use Rattle.rec_word.specs.Word.{target_of}
 use Rattle.rec_model.specs.Accounted.{IsAccounted, HasUncountedReleased, names}
 use Rattle.rec_model.specs.Moves.{Move}
-use Rattle.rec_model.specs.Pending.{node_of, home, Pending, word_in}
+use Rattle.rec_model.specs.Pending.{node_of, home, Pending}
 use Rattle.rec_model.specs.Sight.{IsTaken, IsSound}
-use Rattle.rec_model.specs.Sums.{one_if_same, sum_at}
+use Rattle.rec_model.specs.Sums.{one_if_same}
 use Rattle.rec_model.proofs.Consequences.{clearing_covered, move_uncounted}
 use Rattle.rec_model.proofs.CollectorMoves.{free_unnamed}
 use Rattle.rec_model.proofs.Moving.{move_accounted}
 use Rattle.rec_model.proofs.Standing.{write_sound}
 use Rattle.rec_model.proofs.Sums.{get_or-le-sum_at}
 use Rattle.rec_model.proofs.Weights.{one_if_self}
-use Rattle.rec_counts.specs.Counts.{State, slot_at, with_slot}
+use Rattle.rec_counts.specs.Counts.{State, slot_at}
 use Rattle.rec_counts.specs.Lists.{times}
 use Rattle.rec_counts.specs.Slot.{fresh, absent}
 use Rattle.rec_counts.specs.declared.slot.Slot.{Slot}
-use Rattle.rec_counts.proofs.Decrementing.{rest_decremented}
 use Rattle.rec_counts.proofs.Times.{times-nil, times-cons, one-same}
 use Rattle.rec_release.specs.declared.at.At.{At}
-use Rattle.rec_release.specs.Release.{Machine, Work, IsReady, IsAtWork, emptied, first_of, started_of, taken_off, took_of, with_next, without_first}
+use Rattle.rec_release.specs.Release.{Machine, IsReady, IsAtWork, emptied, first_of, started_of, taken_off, took_of, without_first}
 use Rattle.rec_release.proofs.Keeping.{rest_off, ready_off, ready_emptied, in_range_unreleased, released_same, work_next, took_on, took_last, work_on, work_last, emptied_length, next_length}
 use Rattle.rec_collector.specs.Private as collectors
 use Rattle.rec_collector.specs.Kept as collector_kept
-use Rattle.rec_collector.specs.Took.{begun}
-use Rattle.rec_collector.specs.declared.phase.Phase.{Phase}
 use Rattle.rec_collector.specs.declared.phase.Phase.TheVariants.{Returning, Releasing}
 use Rattle.rec_world.specs.Config.{IsMutator}
 use Rattle.rec_world.specs.Core.{Core, sight}

@@ -1,59 +1,53 @@
 -- A step of a mutator keeps what every heap with its collector keeps, rule by rule.
-use Rattle.std.proofs.Common.{◌≡◌, ◌≢◌, ◌⊎◌, inl, inr, ℕ, ◌+◌, ◌-◌, ◌*◌, ◌%◌, ◌^◌, ◌<◌, ◌≤◌, if◌then◌else◌, Bool, true, false, List, [], ◌∷◌, ◌++◌, Option, None, Some, length, map, slice_index_or, slice_set, refl, sym, ap, subst, ◌∙◌, arith, length-append, add-zero}
+use Rattle.std.proofs.Common.{◌≡◌, ◌≢◌, ◌⊎◌, inl, inr, ℕ, ◌+◌, ◌-◌, ◌*◌, ◌^◌, ◌<◌, ◌≤◌, if◌then◌else◌, Bool, true, false, List, [], Option, None, Some, length, map, slice_index_or, slice_set, refl, sym, ap, subst, ◌∙◌, arith, add-zero}
 use Rattle.std.specs.List.{All, sum_by}
 use Rattle.std.proofs.Math.ListN.{get_or-map}
 use Rattle.std.proofs.Math.Seq.{map-set_same}
 use Rattle.std.proofs.lemmas.Bool.{false≢true, cases_eq, cases_lt}
-use Rattle.std.proofs.lemmas.List.{map-set, length-set, get_or-set_same, get_or-set_other, get_or_past, get_or_default}
-use Rattle.std.proofs.lemmas.List.Elements.{All-set, All-get_or}
+use Rattle.std.proofs.lemmas.List.{map-set, get_or-set_same, get_or-set_other, get_or_past, get_or_default}
 use Rattle.std.proofs.lemmas.List.Sums.{sum_by-set}
 use Rattle.std.proofs.lemmas.Nat.{same_from_place}
 use Rattle.rec_word.specs.Op.{crossing_word}
 use Rattle.rec_word.specs.Place.{place_of}
-use Rattle.rec_word.specs.Word.{target_of, stamp_of}
+use Rattle.rec_word.specs.Word.{target_of}
 use Rattle.rec_word.specs.declared.op.Op.{Op}
 use Rattle.rec_word.specs.declared.op.Op.TheVariants as ops
 use Rattle.rec_model.specs.Accounted.{IsAccounted, HasUncountedReleased, is_dead}
 use Rattle.rec_model.specs.Heap.{registers_of, register as register_in, set_register}
 use Rattle.rec_model.specs.Moves.{Move, Loads}
-use Rattle.rec_model.specs.Pending.{node_of, epoch_of, home, Pending, Holds}
+use Rattle.rec_model.specs.Pending.{Pending, Holds}
 use Rattle.rec_model.specs.Reach.{named}
-use Rattle.rec_model.specs.Sight.{Sight, IsTaken, IsSound, word_at, words_of, sight_with_header, sight_with_register, sight_with_word}
+use Rattle.rec_model.specs.Sight.{IsTaken, IsSound, word_at, words_of}
 use Rattle.rec_model.specs.declared.command.Cmd.{Cmd}
-use Rattle.rec_model.specs.declared.command.Cmd.TheVariants as commands
 use Rattle.rec_model.specs.declared.told.Told.{Told}
 use Rattle.rec_model.proofs.Consequences.{registers_name_the_taken, move_uncounted}
 use Rattle.rec_model.proofs.Moving.{move_accounted}
 use Rattle.rec_model.proofs.Names.{register_root, named_at}
-use Rattle.rec_model.proofs.Standing.{register_sound, birth_sound, write_sound, word_in}
+use Rattle.rec_model.proofs.Standing.{register_sound, word_in}
 use Rattle.rec_log.specs.declared.contents.Contents.{Contents}
 use Rattle.rec_log.specs.declared.entry.Entry.{Entry}
 use Rattle.rec_counts.specs.Counts.{slot_at}
 use Rattle.rec_counts.specs.Slot.{absent, fresh}
 use Rattle.rec_counts.specs.declared.slot.Slot.{Slot}
 use Rattle.rec_mutator.specs.Causes.{is_giving}
-use Rattle.rec_mutator.specs.Private.{Private, register, word_for}
-use Rattle.rec_mutator.specs.Step.{Step, Decides, GoesOn, HasRoom}
-use Rattle.rec_mutator.specs.Took.{IsFound, moved, answered}
+use Rattle.rec_mutator.specs.Private.{Private, register}
+use Rattle.rec_mutator.specs.Step.{Step, Decides, GoesOn}
+use Rattle.rec_mutator.specs.Took.{IsFound}
 use Rattle.rec_mutator.specs.declared.phase.Phase as phases
 use Rattle.rec_mutator.specs.declared.phase.Phase.TheVariants as at
 use Rattle.rec_mutator.specs.declared.work.Work.TheVariants as works
 use Rattle.rec_mutator.proofs.Steps.{TakesNone}
-use Rattle.rec_collector.specs.Private.{blank}
 use Rattle.rec_world.specs.declared.config.Config.{Config}
 use Rattle.rec_world.specs.Config.{IsMutator}
 use Rattle.rec_world.specs.Core.{Core, cells_of, sight, mutator, box, crossing_of}
-use Rattle.rec_world.specs.CoreKept.{IsSettledIn, HasLabelAt, IsHandshake, stand_at, IsOwn, IsBufferOf, IsMadeIn, IsActor, HasMutators, HasCollector, IsLeft, HasPassed, IsScanning, HasScans, entries_made, IsKept}
-use Rattle.rec_world.specs.CoreMoves.{performed}
+use Rattle.rec_world.specs.CoreKept.{IsSettledIn, HasLabelAt, IsHandshake, stand_at, IsOwn, IsBufferOf, IsActor, HasCollector, IsScanning, HasScans, entries_made, IsKept}
 use Rattle.rec_world.specs.CorePending.{code, epoch_at, slot_of, pending}
 use Rattle.rec_world.specs.Memory.{cell}
 use Rattle.rec_world.specs.State.{nobody}
-use Rattle.rec_world.proofs.CoreActors.{own_stepped, settled_here, epoch_here, handshake_stays, behind_due, actor_stays, one_entry, mutator_changes}
-use Rattle.rec_world.proofs.CoreMoves.{code_target, home_of, has_register, same_pending, register_move, put_move, birth_move}
-use Rattle.rec_world.proofs.CoreShapes.{with_mutator, after_cross, after_field, after_header, after_epoch, after_freed, after_probe, after_swap, after_claim, after_give}
-use Rattle.rec_world.proofs.LogStamps.{word_stamp}
-use Rattle.rec_world.proofs.Machines.{IsBox, at_phase, has_room, register_target}
-use Rattle.rec_world.proofs.Stamps.{target_of-packed}
+use Rattle.rec_world.proofs.CoreActors.{own_stepped, settled_here, epoch_here, behind_due, actor_stays, mutator_changes}
+use Rattle.rec_world.proofs.CoreMoves.{same_pending, register_move}
+use Rattle.rec_world.proofs.CoreShapes.{with_mutator}
+use Rattle.rec_world.proofs.Machines.{IsBox}
 
 -- A step of mutator `t` that takes no mailbox, of a heap with its collector.
 pub record Makes (w : Core) (t : ℕ) (word : ℕ) (op : Op) (q : Private) : Type 0 where

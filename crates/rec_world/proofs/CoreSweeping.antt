@@ -1,18 +1,16 @@
 -- The turns of a sweep keep what every heap with its collector keeps.
-use Rattle.std.proofs.Common.{◌≡◌, ◌≢◌, ◌⊎◌, inl, inr, ℕ, ◌+◌, ◌-◌, ◌*◌, ◌%◌, ◌^◌, ◌<◌, ◌≤◌, ◌==◌, nat_lt, if◌then◌else◌, Bool, true, false, List, [], ◌∷◌, Option, None, Some, length, map, replicate, drop, slice_index_or, slice_set, refl, sym, ap, subst, ◌∙◌, arith}
-use Rattle.std.specs.List.{All, sum_by, flat_map, slice_get}
+use Rattle.std.proofs.Common.{◌≡◌, ◌≢◌, inl, inr, ℕ, ◌+◌, ◌-◌, ◌*◌, ◌%◌, ◌^◌, ◌<◌, ◌≤◌, ◌==◌, nat_lt, if◌then◌else◌, Bool, true, false, List, [], ◌∷◌, Option, None, Some, length, map, replicate, drop, slice_index_or, slice_set, refl, sym, ap, subst, ◌∙◌, arith}
+use Rattle.std.specs.List.{sum_by, flat_map, slice_get}
 use Rattle.std.proofs.Math.ListN.{get_or-map}
 use Rattle.std.proofs.Math.Nat.{mul-le-mul, add-mul}
-use Rattle.std.proofs.lemmas.Bool.{false≢true, cases_eq, cases_lt, eq-eqb, ne_eqb}
-use Rattle.std.proofs.lemmas.List.{length-set, length-map, get_or-set_same, get_or-set_other, get_or_past, get_or_default, get_or-replicate, length-replicate, length-take, length-drop, ext_get_or}
+use Rattle.std.proofs.lemmas.Bool.{false≢true, cases_eq}
+use Rattle.std.proofs.lemmas.List.{length-set, length-map, get_or-set_same, get_or-set_other, get_or_default, get_or-replicate, length-replicate, length-take, length-drop, ext_get_or}
 use Rattle.std.proofs.lemmas.List.Sums.{sum_by-append, sum_by-cons}
 use Rattle.std.proofs.lemmas.List.Elements.{All-set}
 use Rattle.rec_word.specs.Place.{place_of}
-use Rattle.rec_word.specs.Word.{target_of}
 use Rattle.rec_model.specs.Accounted.{IsAccounted, HasUncountedReleased, is_dead, names, is_node}
 use Rattle.rec_model.specs.Heap.{roots}
-use Rattle.rec_model.specs.Moves.{Move}
-use Rattle.rec_model.specs.Pending.{node_of, home, Dated, dated, Pending}
+use Rattle.rec_model.specs.Pending.{Dated, dated, Pending}
 use Rattle.rec_model.specs.Reach.{is_in, named}
 use Rattle.rec_model.specs.Sums.{one_if_same}
 use Rattle.rec_model.specs.Sight.{Sight, IsTaken, IsSound, words_of, targets_of, sight_with_header}
@@ -24,9 +22,8 @@ use Rattle.rec_model.proofs.Seen.{field_target}
 use Rattle.rec_model.proofs.Standing.{word_in}
 use Rattle.rec_model.proofs.Sums.{get_or-le-sum_at}
 use Rattle.rec_model.proofs.Weights.{one_if_self}
-use Rattle.rec_log.specs.declared.contents.Contents.{Contents}
-use Rattle.rec_counts.specs.Counts.{State, slot_at}
-use Rattle.rec_counts.specs.Lists.{one, times, EachOnce}
+use Rattle.rec_counts.specs.Counts.{slot_at}
+use Rattle.rec_counts.specs.Lists.{one, times}
 use Rattle.rec_counts.specs.Slot.{absent, fresh, swept_clean}
 use Rattle.rec_counts.specs.declared.slot.Slot.{Slot}
 use Rattle.rec_counts.proofs.Times.{times-nil, times-cons, times_rest, one-same, one-le, in_range_once}
@@ -43,7 +40,7 @@ use Rattle.rec_collector.specs.declared.phase.Phase.{Phase}
 use Rattle.rec_collector.specs.declared.phase.Phase.TheVariants.{Idle, Opening, Sweeping, Closing}
 use Rattle.rec_world.specs.declared.config.Config.{Config}
 use Rattle.rec_world.specs.Config.{IsMutator}
-use Rattle.rec_world.specs.Core.{Core, sight, mutator}
+use Rattle.rec_world.specs.Core.{Core, sight}
 use Rattle.rec_world.specs.CoreKept.{IsBufferOf, IsLeft, Stand, stand_at, HasCollector, HasSweeps, HasPassed, IsScanning, HasScans, one_if_sweeping, IsKept}
 use Rattle.rec_world.specs.CorePending.{dated_all, epoch_at, older_at, applied_at, pending}
 use Rattle.rec_world.specs.State.{nobody}

@@ -1,45 +1,39 @@
 -- Every turn of the collector keeps what every heap keeps, rule by rule; and so does every run.
-use Rattle.std.proofs.Common.{◌≡◌, ◌≢◌, inl, inr, ℕ, ◌+◌, ◌-◌, ◌*◌, ◌%◌, ◌^◌, ◌<◌, ◌≤◌, ◌==◌, if◌then◌else◌, Bool, true, false, List, [], ◌∷◌, Option, None, Some, IfSome, length, drop, slice_index_or, slice_set, refl, sym, ap, subst, ◌∙◌, arith}
+use Rattle.std.proofs.Common.{◌≡◌, ℕ, ◌+◌, ◌-◌, ◌*◌, ◌%◌, ◌^◌, ◌<◌, ◌≤◌, ◌==◌, Bool, true, List, Option, None, Some, length, drop, slice_index_or, slice_set, refl, sym, ap, subst, ◌∙◌, arith}
 use Rattle.std.specs.List.{slice_get}
-use Rattle.std.proofs.lemmas.Bool.{false≢true, eq-eqb, ne_eqb, cond-true, cond-false}
-use Rattle.std.proofs.lemmas.List.{set-get_or, get_or_default}
+use Rattle.std.proofs.lemmas.Bool.{eq-eqb, ne_eqb, cond-true, cond-false}
+use Rattle.std.proofs.lemmas.List.{set-get_or}
 use Rattle.rec_word.specs.Op.{written, crossing_word}
 use Rattle.rec_word.specs.Place.{place_of}
-use Rattle.rec_word.specs.Word.{target_of}
 use Rattle.rec_word.specs.declared.op.Op.{Op}
 use Rattle.rec_word.specs.declared.op.Op.TheVariants as ops
 use Rattle.rec_log.specs.declared.contents.Contents.{Contents}
-use Rattle.rec_counts.specs.Counts.{slot_at}
 use Rattle.rec_release.specs.declared.at.At.{At}
-use Rattle.rec_release.specs.Release.{next_of as release_next, op_at as release_op_at, started_of, took_of as release_took, Work}
+use Rattle.rec_release.specs.Release.{next_of as release_next, op_at as release_op_at, took_of as release_took}
 use Rattle.rec_release.specs.Sweep as sweeps
-use Rattle.rec_collector.specs.Given.{IsGiven, IsGivenAt, IsSized, IsCovered}
 use Rattle.rec_collector.specs.Kept as collector_kept
-use Rattle.rec_collector.specs.Next.{next_of}
 use Rattle.rec_collector.specs.Private as collectors
-use Rattle.rec_collector.specs.Step.{Step, GoesOn, Ends, ReleasesOn, IsNext, IsBetween}
-use Rattle.rec_collector.specs.Took.{step_of, turn_of, begun}
+use Rattle.rec_collector.specs.Step.{Step, ReleasesOn, IsNext}
+use Rattle.rec_collector.specs.Took.{begun}
 use Rattle.rec_collector.specs.declared.phase.Phase.{Phase}
 use Rattle.rec_collector.specs.declared.phase.Phase.TheVariants.{Idle, Looking, Swapping, Returning, Releasing, Opening, Sweeping, Closing}
 use Rattle.rec_collector.specs.declared.turn.Turn.{Turn}
-use Rattle.rec_collector.proofs.Steps.{step_made}
 use Rattle.rec_world.specs.Config.{IsMutator}
-use Rattle.rec_world.specs.Core.{Core, cells_of, box, crossing_of, spare_of}
-use Rattle.rec_world.specs.CoreKept.{IsBufferOf, Stand, stand_at, one_if_sweeping, HasSweeps, IsKept}
-use Rattle.rec_world.specs.CoreMoves.{looked_at, left_by, collected, turned_by, turned_at, turned}
+use Rattle.rec_world.specs.Core.{Core, cells_of, box, crossing_of}
+use Rattle.rec_world.specs.CoreKept.{one_if_sweeping, IsKept}
+use Rattle.rec_world.specs.CoreMoves.{looked_at, left_by, collected}
 use Rattle.rec_world.specs.Memory.{cell}
-use Rattle.rec_world.proofs.CoreApplying.{covered}
 use Rattle.rec_world.proofs.CoreLandings.{landed_kept}
-use Rattle.rec_world.proofs.CoreReleasing.{applied_lands, released_lands, counted_target}
+use Rattle.rec_world.proofs.CoreReleasing.{applied_lands, released_lands}
 use Rattle.rec_world.proofs.CoreSweeping.{began_kept, ended_kept, swept_kept, IsStillSweeping}
 use Rattle.rec_world.proofs.CoreTurns.{now_at, same_boxes, requested_kept, gathered_kept, returned_kept}
 
 -- one operation in two options
-some_op : (x y : Op) → ◌≡◌ {A = Option Op} (Some x) (Some y) → x ≡ y
+pub some_op : (x y : Op) → ◌≡◌ {A = Option Op} (Some x) (Some y) → x ≡ y
 some_op x y is = cc
 
 -- a mutator whose mailbox is looked at, or given back, is there
-mutator_at : (w : Core) (t : ℕ) (phase : Phase) → IsKept w → w.collector.phase ≡ phase → (0 < t) × (t ≤ length w.collector.newer) → IsMutator w.config t
+pub mutator_at : (w : Core) (t : ℕ) (phase : Phase) → IsKept w → w.collector.phase ≡ phase → (0 < t) × (t ≤ length w.collector.newer) → IsMutator w.config t
 mutator_at w t phase kept is there = let many : length w.collector.newer ≡ w.config.mutators = kept.collector.mutators in (omega (arith, there.0), omega (arith, there.1, many))
 
 -- the freed word rises by one: it is far from its greatest value
@@ -64,7 +58,7 @@ freed_more w kept =
     small n below = grind (arith, below)
 
 -- A turn of a kept heap, with its operation and the word that it finds.
-record Turns (w : Core) (op : Op) (word : ℕ) (q : collectors.Private) : Type 0 where
+pub record Turns (w : Core) (op : Op) (word : ℕ) (q : collectors.Private) : Type 0 where
   pub kept : IsKept w
   pub found : word ≡ cell (cells_of w) op
   pub machine : collector_kept.IsMachine q

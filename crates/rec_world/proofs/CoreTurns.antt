@@ -1,33 +1,27 @@
 -- The turns of the collector that neither count nor release keep what every heap keeps: requests, waits, gathering, and the ends
 -- of a sweep.
-use Rattle.std.proofs.Common.{◌≡◌, ◌≢◌, ◌⊎◌, inl, inr, ℕ, ◌+◌, ◌-◌, ◌*◌, ◌%◌, ◌^◌, ◌<◌, ◌≤◌, ◌==◌, nat_lt, if◌then◌else◌, Bool, true, false, List, [], ◌∷◌, Option, None, Some, length, map, slice_index_or, slice_set, refl, sym, ap, subst, ◌∙◌, arith}
-use Rattle.std.specs.List.{All, sum_by, flat_map}
-use Rattle.std.proofs.lemmas.Bool.{false≢true, cases_eq, cases_lt, eq-eqb, ne_eqb, lt-ltb, le-ltb, cond-true, cond-false}
+use Rattle.std.proofs.Common.{◌≡◌, ◌≢◌, inl, inr, ℕ, ◌+◌, ◌-◌, ◌^◌, ◌<◌, ◌≤◌, ◌==◌, nat_lt, if◌then◌else◌, Bool, List, length, slice_index_or, slice_set, refl, sym, ap, subst, ◌∙◌, arith}
+use Rattle.std.specs.List.{sum_by, flat_map}
+use Rattle.std.proofs.lemmas.Bool.{cases_eq, cases_lt, eq-eqb, ne_eqb, lt-ltb, le-ltb, cond-true, cond-false}
 use Rattle.std.proofs.lemmas.List.{set-get_or, length-set, get_or-set_same, get_or-set_other}
 use Rattle.std.proofs.lemmas.List.Sums.{sum_by-set}
-use Rattle.rec_word.specs.Op.{written, crossing_word}
-use Rattle.rec_word.specs.declared.op.Op.{Op}
-use Rattle.rec_word.specs.declared.op.Op.TheVariants as ops
+use Rattle.rec_word.specs.Op.{crossing_word}
 use Rattle.rec_model.specs.Accounted.{IsAccounted, HasUncountedReleased}
-use Rattle.rec_model.specs.Moves.{Move, KeepsLogs, Drops}
-use Rattle.rec_model.specs.Pending.{Write, Dated, dated, Pending}
+use Rattle.rec_model.specs.Moves.{Move}
+use Rattle.rec_model.specs.Pending.{Write, Dated, Pending}
 use Rattle.rec_model.proofs.Consequences.{move_uncounted}
 use Rattle.rec_model.proofs.Moving.{move_accounted}
 use Rattle.rec_log.specs.declared.contents.Contents.{Contents}
 use Rattle.rec_mutator.specs.Private.{Private}
 use Rattle.rec_collector.specs.Private as collectors
 use Rattle.rec_collector.specs.Kept as collector_kept
-use Rattle.rec_collector.specs.Step as collector_step
 use Rattle.rec_collector.specs.declared.phase.Phase.{Phase}
-use Rattle.rec_collector.specs.declared.phase.Phase.TheVariants.{Idle, Looking, Swapping, Returning, Releasing, Opening, Sweeping, Closing}
-use Rattle.rec_collector.specs.declared.turn.Turn.{Turn}
+use Rattle.rec_collector.specs.declared.phase.Phase.TheVariants.{Idle, Looking, Returning}
 use Rattle.rec_world.specs.declared.config.Config.{Config}
 use Rattle.rec_world.specs.Config.{IsMutator}
-use Rattle.rec_world.specs.Core.{Core, cells_of, with_cells, mutator, box, crossing_of, spare_of}
+use Rattle.rec_world.specs.Core.{Core, mutator, box, crossing_of, spare_of}
 use Rattle.rec_world.specs.CoreKept.{IsOwn, IsBufferOf, Stand, stand_at, HasCrossed, IsBehind, IsCrossing, IsHandshake, IsActor, HasMutators, HasCollector, HasSweeps, IsKept}
-use Rattle.rec_world.specs.CoreMoves.{looked_at, left_by, collected, turned_by, turned_at, turned}
 use Rattle.rec_world.specs.CorePending.{Filed, filed, writes_in, births_in, dated_names, older_at, epoch_at, buffers, writes_of, births_of, snapshots_of, pending}
-use Rattle.rec_world.specs.Memory.{cell}
 use Rattle.rec_world.specs.State.{nobody}
 use Rattle.rec_world.proofs.CoreActors.{spare_buffer, settled_here}
 use Rattle.rec_world.proofs.CoreBatches.{none_of}

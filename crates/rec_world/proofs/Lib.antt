@@ -10,6 +10,7 @@ pub mod CoreLandings
 pub mod CoreMoves
 pub mod CoreOpening
 pub mod CoreReleasing
+pub mod CoreRuns
 pub mod CoreRules
 pub mod CoreShapes
 pub mod CoreSteps

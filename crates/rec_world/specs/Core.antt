@@ -1,5 +1,5 @@
 -- The core of a heap with its collector: the shared words, the mailboxes, and the private record of each actor.
-use Rattle.std.specs.Prelude.{ℕ, ◌+◌, ◌-◌, ◌*◌, List, replicate, map, length, slice_index_or, slice_set}
+use Rattle.std.specs.Prelude.{ℕ, ◌-◌, ◌*◌, List, replicate, map, slice_index_or}
 use Rattle.rec_model.specs.Sight.{Sight, opening_sight}
 use Rattle.rec_log.specs.declared.contents.Contents.{Contents}
 use Rattle.rec_mutator.specs.Private.{Private}

@@ -1,5 +1,5 @@
 -- What a heap with its collector has to account for: its words and registers, and what all its buffers hold.
-use Rattle.std.specs.Prelude.{ℕ, ◌+◌, ◌-◌, ◌==◌, Bool, true, false, if◌then◌else◌, Option, None, Some, List, [], ◌∷◌, ◌++◌, map, flat_map, slice_index_or}
+use Rattle.std.specs.Prelude.{ℕ, ◌+◌, ◌-◌, ◌==◌, if◌then◌else◌, Option, List, [], ◌∷◌, ◌++◌, map, flat_map, slice_index_or}
 use Rattle.rec_word.specs.Word.{low_bits}
 use Rattle.rec_model.specs.Reach.{named}
 use Rattle.rec_model.specs.Pending.{Write, Dated, dated, Pending}
