@@ -38,7 +38,7 @@ pub root_there : (s : State) (i : ℕ) → IsKept s → i < length s.roots → g
 root_there s i k l = buffered_there s (get_or s.roots i 0) (root_buffered s (get_or s.roots i 0) k (times_at s.roots i l))
 
 -- a filter keeps none more often
-times_filtered : (p : ℕ → Bool) (x : ℕ) (xs : List ℕ) → times x (filter p xs) ≤ times x xs
+pub times_filtered : (p : ℕ → Bool) (x : ℕ) (xs : List ℕ) → times x (filter p xs) ≤ times x xs
 times_filtered p x [] = omega arith
 times_filtered p x (y ∷ ys) = elim (cases_Bool (p y)) [
   | inl e ↦ let f : filter p (y ∷ ys) ≡ y ∷ filter p ys = cond-true (p y) _ _ e in omega (arith, ap (times x) f, times-cons x y ys, times-cons x y (filter p ys), times_filtered p x ys)

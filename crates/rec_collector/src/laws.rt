@@ -2,6 +2,7 @@
 
 ghost use Rattle.std.specs.Prelude.{ℕ, IfSome, length};
 ghost use Rattle.rec_log.specs.declared.contents.Contents.{Contents};
+ghost use Rattle.rec_collector.specs.Given.{IsGiven, IsSized};
 ghost use Rattle.rec_collector.specs.Kept.{IsMachine};
 ghost use Rattle.rec_collector.specs.Next.{next_of};
 ghost use Rattle.rec_collector.specs.Private.{Private};
@@ -17,4 +18,10 @@ pub fn machine_makes_steps()
 /// The operation that comes next names a word of the heap, and is one of the collector's six.
 pub fn machine_names_words()
     ensures { (p : Private) → IsMachine p → IfSome (next_of p) (NamesWord (length p.counts.slots) p.release.fields (length p.newer)) }
+{}
+
+/// What every machine keeps holds after every step, whatever the word that the step finds and the buffer in the mailbox, as
+/// long as these are what a machine may be given.
+pub fn machines_stay_machines()
+    ensures { (p : Private) (word : ℕ) (box : Contents) → IsMachine p → IsBetween p.phase → IsGiven p word → IsSized p.registers p.capacity box → IsMachine (step_of p word box) }
 {}

@@ -23,6 +23,6 @@ mod roots;
 mod tests;
 mod turn;
 
-pub use laws::{machine_makes_steps, machine_names_words};
+pub use laws::{machine_makes_steps, machine_names_words, machines_stay_machines};
 pub use machine::Machine;
 pub use turn::Turn;

@@ -1,4 +1,4 @@
-ghost use Rattle.std.specs.Prelude.{◌≡◌, ◌≢◌, ◌+◌, ◌*◌, ◌^◌, ◌<◌, ◌≤◌, ◌↔◌, ℕ, None, [], length, IfOk, IfSome, IsNone};
+ghost use Rattle.std.specs.Prelude.{◌≡◌, ◌≢◌, ◌+◌, ◌*◌, ◌^◌, ◌<◌, ◌≤◌, ◌↔◌, ℕ, None, [], length, IfOk, IfSome, IsNone, IsTrue};
 ghost use Rattle.rec_word.specs.Op.{crossing_word};
 ghost use Rattle.rec_word.specs.Word.{target_of};
 ghost use Rattle.rec_counts.specs.Counts.{slot_at};
@@ -164,6 +164,13 @@ impl Machine {
         };
         self.phase = Phase::Returning { mutator };
         mem::replace(&mut self.newer[usize::from(mutator) - 1], buffer)
+    }
+
+    /// Whether a mailbox is held and its buffer waits to be swapped: then `swap_box` comes next.
+    pub fn is_swapping(&self) -> bool
+        ensures { IsTrue result ↔ IsSwapping self.now.phase }
+    {
+        matches!(self.phase, Phase::Swapping { .. })
     }
 
     /// What always holds of a machine. It does nothing: its contract is the fact.

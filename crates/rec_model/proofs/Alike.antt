@@ -1,9 +1,9 @@
 -- What every heap that counts late keeps sees the lists through their sums alone.
-use Rattle.std.proofs.Common.{◌≡◌, ℕ, ◌<◌, true, cond, not, sym, ap, subst, ◌∙◌, arith}
+use Rattle.std.proofs.Common.{◌≡◌, ℕ, List, ◌<◌, true, cond, not, sym, ap, subst, ◌∙◌, arith}
 use Rattle.std.proofs.lemmas.Bool.Decides.{nat_tests}
 use Rattle.rec_model.specs.Sums.{only_if, one_if_same, sum_at, HasSameSums, HasSameSumsAt}
-use Rattle.rec_model.specs.Pending.{node_of, home, Pending, is_at}
-use Rattle.rec_model.specs.Moves.{KeepsEpochs, KeepsSlots, KeepsLogs, Drops}
+use Rattle.rec_model.specs.Pending.{node_of, epoch_of, home, Write, Dated, dated, Pending, is_at}
+use Rattle.rec_model.specs.Moves.{KeepsEpochs, KeepsSlots, KeepsLogs, KeepsFrom, KeepsNodesFrom, Drops}
 use Rattle.rec_model.specs.Accounted.{is_late_word, is_wrong_write, is_wrong_register, is_late_snapshot, names, puts_after, replaces_from, is_from, is_after, is_node, late, put_late, replaced_late, touches, is_dead, names_unreleased, IsAccounted}
 use Rattle.rec_model.proofs.Sums.{sum_at_same}
 use Rattle.rec_model.proofs.Counted.{opened_from, closed_out_of}
@@ -17,7 +17,7 @@ pub record IsAlike (w v : Pending) : Type 0 where
   pub logs : KeepsLogs w v
   pub registers : HasSameSums w.registers v.registers
 
--- v with the numbers of w
+-- v with the epochs of w
 abbrev pub with_epochs_of : (w v : Pending) → Pending
 with_epochs_of w v = record v { fields = w.fields; applied = w.applied; requested = w.requested }
 
@@ -64,7 +64,24 @@ module _ (w v : Pending) (s : IsAlike w v) where
       let with_applied : IsAccounted (record v { requested = w.requested }) = subst (λ a. IsAccounted (record v { applied = a; requested = w.requested })) (sym s.epochs.applied) with_fields in
       subst (λ r. IsAccounted (record v { requested = r })) (sym s.epochs.requested) with_applied
 
--- what is of an epoch before the applied one may go
+-- null names no node
+null_at : (epoch node e : ℕ) → 0 < node → is_at epoch node (dated e 0) ≡ 0
+null_at epoch node e pos = grind (arith, nat_tests)
+
+null_from : (epoch node e : ℕ) → 0 < node → is_from epoch node (dated e 0) ≡ 0
+null_from epoch node e pos = grind (arith, nat_tests)
+
+-- nor does what is of an earlier epoch count
+early_from : (epoch node : ℕ) (d : Dated) → d.epoch < epoch → is_from epoch node d ≡ 0
+early_from epoch node d early = grind (arith, nat_tests)
+
+early_puts : (epoch node : ℕ) (e : Write) → epoch_of e.new < epoch → puts_after epoch node e ≡ 0
+early_puts epoch node e early = grind (arith, nat_tests)
+
+early_replaces : (epoch node : ℕ) (e : Write) → epoch_of e.new < epoch → replaces_from epoch node e ≡ 0
+early_replaces epoch node e early = grind (arith, nat_tests)
+
+-- what is of an epoch before the applied one may go, and what is null
 pub dropping_accounted : (w v : Pending) → Drops w v → IsAccounted w → IsAccounted (record w { writes = v.writes; births = v.births; snapshots = v.snapshots })
 dropping_accounted w v s i =
     let a : ℕ = w.applied in
@@ -80,29 +97,36 @@ dropping_accounted w v s i =
       ledger = λ x pos. omega (
         arith,
         i.ledger x pos,
-        s.writes.1 (puts_after a x) (λ e l. grind (arith, nat_tests)),
-        s.writes.1 (replaces_from a x) (λ e l. grind (arith, nat_tests)),
-        s.snapshots.1 (is_at a x) (λ d l. grind (arith, nat_tests)),
-        s.births.1 (is_from a x) (λ d l. grind (arith, nat_tests)),
+        s.writes.1 (puts_after a x) (early_puts a x),
+        s.writes.1 (replaces_from a x) (early_replaces a x),
+        s.snapshots.1 (is_at a x) (λ d l. grind (arith, nat_tests)) (λ e. null_at a x e pos),
+        s.births.1 (is_from a x) (early_from a x) (λ e. null_from a x e pos),
       );
       late = λ q. omega (arith, i.late q, s.writes.1 (put_late a q) (λ e l. grind (arith, nat_tests)), s.writes.1 (replaced_late a q) (λ e l. grind (arith, nat_tests)));
       held = λ j from below x pos h. reach_stays
           w
           (record w { writes = v.writes; births = v.births; snapshots = v.snapshots })
           j
-          (λ z _ k. omega (arith, k, s.snapshots.1 (is_at j z) (λ d l. grind (arith, nat_tests)), s.births.1 (is_from j z) (λ d l. grind (arith, nat_tests))))
+          (λ z some k. omega (arith, k, s.snapshots.1 (is_at j z) (λ d l. grind (arith, nat_tests)) (λ e. null_at j z e some), s.births.1 (is_from j z) (λ d l. grind (arith, nat_tests)) (λ e. null_from j z e some)))
           (λ y z _ _ _ k. omega (arith, k, s.writes.1 (closed_out_of w.fields j y z) (λ e l. grind (arith, nat_tests))))
           x
           (i.held j from below x pos (omega (arith, h, s.writes.1 (touches w.fields j x) (λ e l. grind (arith, nat_tests)))));
       unnamed = λ x pos d. omega (
         arith,
         i.unnamed x pos d,
-        s.writes.1 (puts_after a x) (λ e l. grind (arith, nat_tests)),
-        s.writes.1 (replaces_from a x) (λ e l. grind (arith, nat_tests)),
-        s.snapshots.1 (is_from a x) (λ d l. grind (arith, nat_tests)),
-        s.births.1 (is_from a x) (λ d l. grind (arith, nat_tests)),
+        s.writes.1 (puts_after a x) (early_puts a x),
+        s.writes.1 (replaces_from a x) (early_replaces a x),
+        s.snapshots.1 (is_from a x) (early_from a x) (λ e. null_from a x e pos),
+        s.births.1 (is_from a x) (early_from a x) (λ e. null_from a x e pos),
       );
       apart = i.apart;
       single = i.single;
-      born = λ x pos. omega (arith, i.born x pos, s.births.1 (is_from a x) (λ d l. grind (arith, nat_tests)));
+      born = λ x pos. omega (arith, i.born x pos, s.births.1 (is_from a x) (early_from a x) (λ e. null_from a x e pos));
     }
+
+-- a list with the same elements, in whatever order, keeps all and gains none
+pub same_keeps : {X : Type 0} (epoch_of : X → ℕ) (epoch : ℕ) (before after : List X) → HasSameSums before after → KeepsFrom epoch_of epoch before after
+same_keeps epoch_of epoch before after same = (λ weight. omega (arith, same weight), λ weight _. same weight)
+
+pub same_nodes : (epoch : ℕ) (before after : List Dated) → HasSameSums before after → KeepsNodesFrom epoch before after
+same_nodes epoch before after same = (λ weight. omega (arith, same weight), λ weight _ _. same weight)

@@ -1,11 +1,14 @@
 -- A heap as it is opened keeps what every heap that counts late keeps.
-use Rattle.std.proofs.Common.{◌≡◌, ◌≢◌, inl, inr, ℕ, ◌*◌, ◌<◌, eqb, ltb, leb, not, Bool, true, false, cond, sum_by, sym, ap, subst, ◌∙◌, arith}
-use Rattle.std.proofs.lemmas.Bool.{cases_eq, true≢false}
+use Rattle.std.proofs.Common.{◌+◌, ◌≡◌, ◌≢◌, inl, inr, ℕ, ◌*◌, ◌<◌, eqb, ltb, leb, not, Bool, true, false, cond, sum_by, sym, ap, subst, ◌∙◌, arith, ◌-◌, ◌++◌, replicate, refl}
 use Rattle.std.proofs.lemmas.Bool.Decides.{nat_tests}
+use Rattle.std.proofs.lemmas.List.Folds.{sum_by-replicate}
+use Rattle.std.proofs.lemmas.List.Sums.{sum_by-append}
+use Rattle.std.proofs.lemmas.Bool.{cases_eq, true≢false}
 use Rattle.rec_model.specs.Sums.{only_if, one_if_same, sum_at}
-use Rattle.rec_model.specs.Pending.{node_of, epoch_of, home, dated, Pending, is_at}
-use Rattle.rec_model.specs.Accounted.{is_late_word, is_wrong_write, HasEpochs, names, puts_after, replaces_from, is_from, is_after, is_node, HasLedger, late, put_late, replaced_late, touches, IsHeld, is_dead, names_unreleased, IsUnnamed, IsAccounted}
-use Rattle.rec_model.specs.Opened.{IsOpening}
+use Rattle.rec_model.specs.Pending.{node_of, epoch_of, home, dated, Pending, is_at, Dated}
+use Rattle.rec_model.specs.Accounted.{is_late_word, is_wrong_write, is_wrong_register, is_late_snapshot, HasEpochs, names, puts_after, replaces_from, is_from, is_after, is_node, HasLedger, late, put_late, replaced_late, touches, IsHeld, is_dead, names_unreleased, IsUnnamed, IsAccounted}
+use Rattle.rec_model.specs.Opened.{IsOpening, opening}
+use Rattle.rec_model.proofs.Sums.{sum_at-replicate_none}
 use Rattle.rec_model.proofs.Weights.{only_if-le, none_if_not_lt, none_if_differs}
 use Rattle.rec_model.proofs.Reaching.{root_in_reach}
 use Rattle.rec_model.proofs.Ledgers.{node_of_null, epoch_of_null}
@@ -98,3 +101,49 @@ module _ (w : Pending) (epoch mutators : ℕ) (s : IsOpening w epoch mutators) w
     single = λ x pos e. s.counts x (omega (arith, pos, dead_other x pos (grind (arith, e))));
     born = λ x pos. omega (arith, s.births (is_from w.applied x));
   }
+
+-- there is such a heap
+named_sum : (weight : Dated → ℕ) (mutators nulls epoch : ℕ) → sum_by weight (replicate mutators (dated epoch 1) ++ replicate (mutators * nulls) (dated epoch 0)) ≡ mutators * weight (dated epoch 1) + mutators * nulls * weight (dated epoch 0)
+named_sum weight mutators nulls epoch =
+    omega (
+      arith,
+      sum_by-append weight (replicate mutators (dated epoch 1)) (replicate (mutators * nulls) (dated epoch 0)),
+      sum_by-replicate weight mutators (dated epoch 1),
+      sum_by-replicate weight (mutators * nulls) (dated epoch 0),
+    )
+
+without_nulls : (weight : Dated → ℕ) (mutators nulls epoch : ℕ) → weight (dated epoch 0) ≡ 0 → sum_by weight (replicate mutators (dated epoch 1) ++ replicate (mutators * nulls) (dated epoch 0)) ≡ mutators * weight (dated epoch 1)
+without_nulls weight mutators nulls epoch none = omega (arith, named_sum weight mutators nulls epoch, ap (λ k. mutators * nulls * k) none)
+
+none_of_them : (weight : Dated → ℕ) (mutators nulls epoch : ℕ) → weight (dated epoch 0) ≡ 0 → weight (dated epoch 1) ≡ 0 → sum_by weight (replicate mutators (dated epoch 1) ++ replicate (mutators * nulls) (dated epoch 0)) ≡ 0
+none_of_them weight mutators nulls epoch null one = omega (arith, without_nulls weight mutators nulls epoch null, ap (λ k. mutators * k) one)
+
+pub opening_is : (fields places epoch mutators nulls : ℕ) → 0 < epoch → IsOpening (opening fields places epoch mutators nulls) epoch mutators
+opening_is fields places epoch mutators nulls some = record {
+  applied = omega (arith, some);
+  requested = refl;
+  words = λ weight null. sum_at-replicate_none weight places 0 null;
+  writes = λ weight. refl;
+  births = λ weight. refl;
+  snapshots = λ weight null. without_nulls weight mutators nulls (epoch - 1) (null (epoch - 1));
+  left = none_of_them (is_late_snapshot epoch) mutators nulls (epoch - 1) (early 0) (early 1);
+  registers = λ weight null. without_nulls weight mutators nulls epoch (null epoch);
+  entered = none_of_them (is_wrong_register (epoch - 1) epoch) mutators nulls epoch (within 0) (within 1);
+  count = refl;
+  taken = refl;
+  free = λ node more. other node more;
+  counts = λ node more. single node more;
+  released = λ node pos. refl;
+}
+  where
+    early : (node : ℕ) → is_late_snapshot epoch (dated (epoch - 1) node) ≡ 0
+    early node = let less : epoch - 1 < epoch = omega (arith, some) in grind (arith, nat_tests)
+
+    within : (node : ℕ) → is_wrong_register (epoch - 1) epoch (dated epoch node) ≡ 0
+    within node = let less : epoch - 1 < epoch = omega (arith, some) in grind (arith, nat_tests)
+
+    other : (node : ℕ) → 1 < node → not (eqb node 1) ≡ true
+    other node more = grind (arith, nat_tests)
+
+    single : (node : ℕ) → 1 < node → cond (eqb node 1) mutators 1 ≡ 1
+    single node more = grind (arith, nat_tests)

@@ -1,24 +1,25 @@
 -- What follows from the accounts of a heap that counts late.
 use Rattle.std.proofs.Common.{◌≡◌, ◌≢◌, inl, inr, ℕ, suc, ◌+◌, ◌<◌, ◌≤◌, Bool, true, false, cond, eqb, leb, not, List, [], ◌∷◌, length, map, All, get_or, sum_by, refl, sym, ap, ◌∙◌, arith}
-use Rattle.std.proofs.lemmas.Bool.{cases_lt, cases_eq, true≢false}
 use Rattle.std.proofs.lemmas.Bool.Decides.{nat_tests}
+use Rattle.std.proofs.lemmas.Bool.{cases_lt, cases_eq, true≢false}
 use Rattle.std.proofs.lemmas.List.Sums.{sum_by-le-sum_by, sum_by-le, get_or-le-sum_by}
 use Rattle.rec_model.specs.Reach.{is_in}
 use Rattle.rec_model.specs.Numbering.{times}
 use Rattle.rec_model.specs.Sums.{only_if, one_if_same, sum_at}
 use Rattle.rec_model.specs.Pending.{node_of, epoch_of, home, Dated, Pending, word_in, is_at, Holds}
-use Rattle.rec_model.specs.References.{references_of, nodes_of, nodes_from, one_if_born, count_formula, IsInReach, IsWriteInReach}
-use Rattle.rec_model.specs.Moves.{puts_in, added, with_answer, Move}
+use Rattle.rec_model.specs.References.{references_of, nodes_of, nodes_from, one_if_born, count_formula, IsInReach, IsWriteInReach, opened_to}
 use Rattle.rec_model.specs.Moves.Move.{put, register, birth, crossing, request, batch, release, clearing, freeing, dropping}
+use Rattle.rec_model.specs.Moves.{puts_in, added, with_answer, Move}
 use Rattle.rec_model.specs.Accounted.{names, puts_after, replaces_from, is_from, is_node, touches, is_dead, names_unreleased, named, named_anywhere, IsAccounted, HasUncountedReleased}
 use Rattle.rec_model.specs.Opened.{IsOpening}
 use Rattle.rec_model.proofs.Sums.{get_or-le-sum_at, sum_by_split}
 use Rattle.rec_model.proofs.Weights.{only_if-le, only_if_lt, only_if_le, one_if_self, none_if_differs}
-use Rattle.rec_model.proofs.Counted.{is_in-times, is_in-from_times, opened_to, nodes_of_times, nodes_from_times, references_times}
+use Rattle.rec_model.proofs.Places.{sum_at-le-from_get_or}
+use Rattle.rec_model.proofs.Counted.{is_in-times, is_in-from_times, nodes_of_times, nodes_from_times, references_times}
 use Rattle.rec_model.proofs.Ledgers.{epoch_within}
 use Rattle.rec_model.proofs.Holding.{held_in_reach, late_home_in_reach}
 use Rattle.rec_model.proofs.Naming.{count_is, uncounted_out_of_reach, uncounted_unnamed, dead_out_of_reach}
-use Rattle.rec_model.proofs.Moving.{unnamed_uncounted}
+use Rattle.rec_model.proofs.CollectorMoves.{unnamed_uncounted, free_unnamed}
 
 -- one birth counts as the count formula says
 births_once : (w : Pending) (x : ℕ) → 0 < x → sum_by (is_from w.applied x) w.births ≤ 1 → one_if_born w w.applied x ≡ sum_by (is_from w.applied x) w.births
@@ -95,6 +96,14 @@ fields_name_the_taken w i place inside unreleased pos =
     let here : names_unreleased w.fields w.released x place (word_in w place) ≡ one_if_same x x = ap (λ b. only_if (not b) (one_if_same x x)) unreleased in
     taken_if_named w i x pos (omega (arith, here, one_if_self x, get_or-le-sum_at (names_unreleased w.fields w.released x) w.words place 0 inside))
 
+-- no field leads to a free slot, not even one of a node that was given up
+pub no_field_leads_to_the_free : (w : Pending) → IsAccounted w → (place : ℕ) → place < length w.words → 0 < node_of (word_in w place) → w.free (node_of (word_in w place)) ≡ false
+no_field_leads_to_the_free w i place inside pos = go (w.free (node_of (word_in w place))) refl
+  where
+    go : (b : Bool) → w.free (node_of (word_in w place)) ≡ b → w.free (node_of (word_in w place)) ≡ false
+    go false e = e
+    go true e = absurd (omega (arith, free_unnamed w (node_of (word_in w place)) i pos e, one_if_self (node_of (word_in w place)), get_or-le-sum_at (names (node_of (word_in w place))) w.words place 0 inside))
+
 -- the word in a field of a node that was given up is counted: it is of the applied epoch or before
 pub released_word_applied : (w : Pending) → IsAccounted w → (place : ℕ) → place < length w.words → w.released (home w.fields place) ≡ true → epoch_of (word_in w place) ≤ w.applied
 released_word_applied w i place inside released =
@@ -102,7 +111,7 @@ released_word_applied w i place inside released =
       | inr l ↦ l
       | inl l ↦
           let dead : is_dead w (home w.fields place) ≡ true = (grind (arith, released)) in
-          absurd (dead_out_of_reach w i.unnamed (home w.fields place) (late_home_in_reach w place inside i.late (i.held w.applied (omega arith) i.epochs.behind) l) dead)
+          absurd (dead_out_of_reach w w.applied (omega arith) i.unnamed (home w.fields place) (late_home_in_reach w place inside i.late (i.held w.applied (omega arith) i.epochs.behind) l) dead)
     ]
 
 -- the target of a word of the applied epoch or before has a count
@@ -129,7 +138,23 @@ released_count w i x pos released =
     taken false e = ap (λ b. only_if b 1) e
     taken true e = absurd (true≢false (sym released ∙ i.apart x pos e))
 
--- a node without a count is in no reach and named by nothing, once all mutators are past the applied epoch
+-- where all nodes that were given up are emptied, none of them has a count
+pub emptied_uncounted : (w : Pending) → IsAccounted w → ((place : ℕ) → place < length w.words → w.released (home w.fields place) ≡ true → node_of (word_in w place) ≡ 0) → HasUncountedReleased w
+emptied_uncounted w i empty x pos released =
+    let dead : is_dead w x ≡ true = (grind (arith, released)) in
+    omega (arith, released_count w i x pos released, i.unnamed x pos dead, sum_at-le-from_get_or (names x) (names_unreleased w.fields w.released x) w.words 0 each)
+  where
+    each : (place : ℕ) → place < length w.words → names x place (word_in w place) ≤ names_unreleased w.fields w.released x place (word_in w place)
+    each place inside = go (w.released (home w.fields place)) refl
+      where
+        go : (b : Bool) → w.released (home w.fields place) ≡ b → one_if_same x (node_of (word_in w place)) ≤ only_if (not (w.released (home w.fields place))) (one_if_same x (node_of (word_in w place)))
+        go true e = omega (arith, none_if_differs x (node_of (word_in w place)) (differs (empty place inside e)))
+          where
+            differs : node_of (word_in w place) ≡ 0 → x ≢ node_of (word_in w place)
+            differs z = omega (arith, z, pos)
+        go false e = rw e (omega arith)
+
+-- a node without a count is in no reach and named by nothing, from a batch to the next request
 pub uncounted_gone : (w : Pending) → IsAccounted w → (x : ℕ) → 0 < x → w.applied + 1 ≡ w.requested → w.count x ≡ 0 → (IsInReach w w.applied x → ⊥) × (named_anywhere w x ≡ 0)
 uncounted_gone w i x pos done z =
     let held = i.held w.applied (omega arith) i.epochs.behind in

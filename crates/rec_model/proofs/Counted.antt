@@ -1,17 +1,17 @@
 -- What lists of references and of dated nodes name, as sums of weights.
 use Rattle.std.proofs.Common.{◌≡◌, inl, inr, ℕ, suc, ◌+◌, ◌<◌, ◌&&◌, ◌==◌, nat_lt, nat_le, Bool, true, false, cond, List, [], ◌∷◌, map, filter, sum_by, refl, ap, subst, ◌∙◌, arith}
 use Rattle.std.specs.List.{enumerate_from}
-use Rattle.std.proofs.lemmas.Bool.{false≢true, eqb-true}
 use Rattle.std.proofs.lemmas.Bool.Decides.{nat_tests}
+use Rattle.std.proofs.lemmas.Bool.{false≢true, eqb-true}
 use Rattle.std.proofs.lemmas.List.Sums.{sum_by-cons, sum_by-append}
 use Rattle.rec_model.specs.Reach.{is_in}
 use Rattle.rec_model.specs.Numbering.{times}
 use Rattle.rec_model.specs.Sums.{only_if, one_if_same, sum_at}
-use Rattle.rec_model.specs.Pending.{node_of, epoch_of, home, Write, Dated, Pending, is_at}
-use Rattle.rec_model.specs.References.{Reference, open_reference, closed_reference, references, is_of, references_of, nodes_of, nodes_from, roots_at, targets_at}
+use Rattle.rec_model.specs.Pending.{home, Write, Dated, Pending, is_at}
+use Rattle.rec_model.specs.References.{Reference, open_reference, closed_reference, references, is_of, references_of, nodes_of, nodes_from, roots_at, targets_at, opened_to, closed_from}
 use Rattle.rec_model.specs.Accounted.{is_from}
+use Rattle.rec_model.proofs.Sums.{sum_by_same, sum_at_same, sum_by_none, sum_by-filter, sum_by-map}
 use Rattle.rec_model.proofs.Members.{is_in-cons, is_in-head, is_in-tail}
-use Rattle.rec_model.proofs.Sums.{sum_by_same, sum_at_same, sum_by_none}
 
 -- how often a number stands in a list, from its head on
 times-cons : (x y : ℕ) (ns : List ℕ) → times x (y ∷ ns) ≡ one_if_same x y + times x ns
@@ -43,19 +43,6 @@ times-map : {X : Type 0} (f : X → ℕ) (x : ℕ) (ys : List X) → times x (ma
 times-map f x [] = refl
 times-map f x (y ∷ ys) = omega (arith, times-cons x (f y) (map f ys), sum_by-cons (λ z. one_if_same x (f z)) y ys, times-map f x ys)
 
--- a weight over the elements that pass a test
-sum_by-filter : {X : Type 0} (p : X → Bool) (f : X → ℕ) (ys : List X) → sum_by f (filter p ys) ≡ sum_by (λ y. only_if (p y) (f y)) ys
-sum_by-filter p f [] = refl
-sum_by-filter p f (y ∷ ys) = omega (arith, first (p y), sum_by-filter p f ys, sum_by-cons (λ z. only_if (p z) (f z)) y ys)
-  where
-    first : (b : Bool) → sum_by f (cond b (y ∷ filter p ys) (filter p ys)) ≡ only_if b (f y) + sum_by f (filter p ys)
-    first true = sum_by-cons f y (filter p ys)
-    first false = omega arith
-
-sum_by-map : {X Y : Type 0} (f : Y → ℕ) (g : X → Y) (xs : List X) → sum_by f (map g xs) ≡ sum_by (λ x. f (g x)) xs
-sum_by-map f g [] = refl
-sum_by-map f g (x ∷ xs) = omega (arith, sum_by-cons f (g x) (map g xs), sum_by-cons (λ y. f (g y)) x xs, sum_by-map f g xs)
-
 -- a weight over elements with their places
 sum_by-enumerate_from : {X : Type 0} (f : ℕ × X → ℕ) (n : ℕ) (xs : List X) → sum_by f (enumerate_from n xs) ≡ sum_at (λ i x. f (n + i, x)) xs
 sum_by-enumerate_from f n [] = refl
@@ -74,14 +61,6 @@ references_sum w f =
       sum_by-enumerate_from (λ at. f (open_reference w.fields at)) 0 w.words,
       sum_at_same (λ i word. f (open_reference w.fields (0 + i, word))) (λ i word. f (open_reference w.fields (i, word))) w.words (λ i word. ap (λ k. f (open_reference w.fields (k, word))) (omega arith)),
     )
-
--- a word that was put up to an epoch and names a node
-abbrev pub opened_to : (epoch node place word : ℕ) → ℕ
-opened_to epoch node place word = only_if (nat_le (epoch_of word) epoch) (one_if_same node (node_of word))
-
--- such a word that a write of the epoch or a later one replaced
-abbrev pub closed_from : (epoch node : ℕ) → Write → ℕ
-closed_from epoch node write = only_if (nat_le epoch (epoch_of write.new)) (opened_to epoch node write.place write.old)
 
 -- the references of an epoch to a node
 abbrev pub reference_sum : Pending → (epoch node : ℕ) → ℕ

@@ -1,16 +1,16 @@
 -- What is free or given up is named by nothing, through each kind of move.
-use Rattle.std.proofs.Common.{◌≡◌, ◌≢◌, ◌⊎◌, inl, inr, ℕ, ◌+◌, ◌<◌, Bool, true, false, cond, not, eqb, ltb, leb, List, length, sum_by, refl, sym, subst, arith}
+use Rattle.std.proofs.Common.{◌≡◌, ◌≢◌, ◌⊎◌, inl, inr, ℕ, ◌+◌, ◌<◌, ◌≤◌, Bool, true, false, cond, not, eqb, ltb, leb, List, length, sum_by, refl, sym, subst, arith}
 use Rattle.std.proofs.lemmas.Bool.Decides.{nat_tests}
 use Rattle.std.proofs.lemmas.Bool.{cases_lt, cases_eq}
 use Rattle.std.proofs.lemmas.List.Sums.{sum_by-le-sum_by}
 use Rattle.rec_model.specs.Sums.{only_if, one_if_same}
 use Rattle.rec_model.specs.Pending.{node_of, epoch_of, home, dated, Pending, word_in, is_at, Holds}
-use Rattle.rec_model.specs.References.{IsInReach}
+use Rattle.rec_model.specs.References.{IsInReach, opened_to, closed_from}
 use Rattle.rec_model.specs.Moves.{Puts, Loads, Registers, Bears, Crosses, Clears, Frees, leads_out_of, with_answer}
 use Rattle.rec_model.specs.Accounted.{is_late_snapshot, is_wrong_register, HasEpochs, names, puts_after, replaces_from, is_from, is_after, is_node, HasLedger, late, replaced_late, StandsOnce, touches, IsHeldAt, IsHeld, is_dead, names_unreleased, named, named_anywhere, IsUnnamed}
 use Rattle.rec_model.proofs.Sums.{get_or-le-sum_at, sum_at-le-sum_at, sum_by_none, sum_by_le_unless, sum_by_split, sum_at_split}
 use Rattle.rec_model.proofs.Weights.{only_if-le, only_if_self, none_if_other, none_if_differs}
-use Rattle.rec_model.proofs.Counted.{opened_to, opened_from, closed_from, closed_out_of, reference_sum, edge_sum, root_sum}
+use Rattle.rec_model.proofs.Counted.{opened_from, closed_out_of, reference_sum, edge_sum, root_sum}
 use Rattle.rec_model.proofs.Reaching.{all_in_reach}
 use Rattle.rec_model.proofs.Ledgers.{node_of_null}
 use Rattle.rec_model.proofs.Holding.{held_sum}
@@ -197,9 +197,9 @@ freeing_unnamed w v x s q y pos d =
       sum_at_split (λ i word. names_unreleased w.fields w.released y i word + leads_out_of w.fields x i word) (names_unreleased w.fields w.released y) (leads_out_of w.fields x) w.words (λ i word. refl),
     )
 
--- what is free or given up is out of reach
-dead_source : (w : Pending) (s x : ℕ) → IsUnnamed w → 0 < x → is_dead w x ≡ true → 0 < edge_sum w w.applied s x → is_dead w s ≡ true
-dead_source w s x q pos d r = go (w.released s) refl
+-- what is free or given up is in no reach
+dead_source : (w : Pending) (j s x : ℕ) → w.applied ≤ j → IsUnnamed w → 0 < x → is_dead w x ≡ true → 0 < edge_sum w j s x → is_dead w s ≡ true
+dead_source w j s x from q pos d r = go (w.released s) refl
   where
     go : (b : Bool) → w.released s ≡ b → is_dead w s ≡ true
     go true e = grind (arith, e)
@@ -207,12 +207,18 @@ dead_source w s x q pos d r = go (w.released s) refl
       arith,
       r,
       q x pos d,
-      sum_at-le-sum_at (opened_from w.fields w.applied s x) (names_unreleased w.fields w.released x) w.words (λ i word. grind (arith, nat_tests, e)),
-      sum_by-le-sum_by (closed_out_of w.fields w.applied s x) (replaces_from w.applied x) w.writes (λ f. grind (arith, nat_tests)),
+      sum_at-le-sum_at (opened_from w.fields j s x) (names_unreleased w.fields w.released x) w.words (λ i word. grind (arith, nat_tests, e)),
+      sum_by-le-sum_by (closed_out_of w.fields j s x) (replaces_from w.applied x) w.writes (λ f. grind (arith, nat_tests, from)),
     ))
 
-pub dead_out_of_reach : (w : Pending) → IsUnnamed w → (x : ℕ) → IsInReach w w.applied x → is_dead w x ≡ true → ⊥
-dead_out_of_reach w q = all_in_reach w w.applied (λ x. is_dead w x ≡ true → ⊥) at_root (λ s x _ pos _ away r d. away (dead_source w s x q pos d r))
+pub dead_out_of_reach : (w : Pending) (j : ℕ) → w.applied ≤ j → IsUnnamed w → (x : ℕ) → IsInReach w j x → is_dead w x ≡ true → ⊥
+dead_out_of_reach w j from q = all_in_reach w j (λ x. is_dead w x ≡ true → ⊥) at_root (λ s x _ pos _ away r d. away (dead_source w j s x from q pos d r))
   where
-    at_root : (x : ℕ) → 0 < x → 0 < root_sum w w.applied x → is_dead w x ≡ true → ⊥
-    at_root x pos r d = absurd (omega (arith, r, q x pos d, sum_by-le-sum_by (is_at w.applied x) (is_from w.applied x) w.snapshots (λ e. grind (arith, nat_tests))))
+    at_root : (x : ℕ) → 0 < x → 0 < root_sum w j x → is_dead w x ≡ true → ⊥
+    at_root x pos r d = absurd (omega (
+      arith,
+      r,
+      q x pos d,
+      sum_by-le-sum_by (is_at j x) (is_from w.applied x) w.snapshots (λ e. grind (arith, nat_tests, from)),
+      sum_by-le-sum_by (is_from j x) (is_from w.applied x) w.births (λ e. grind (arith, nat_tests, from)),
+    ))

@@ -1,7 +1,7 @@
 -- Sums of weights: a change of one element, and comparisons of weights.
-use Rattle.std.proofs.Common.{◌≡◌, ℕ, zero, suc, ◌+◌, ◌<◌, ◌≤◌, List, [], ◌∷◌, length, get_or, set, replicate, sum_by, refl, arith}
-use Rattle.std.proofs.lemmas.List.Sums.{sum_by-cons}
-use Rattle.rec_model.specs.Sums.{sum_at}
+use Rattle.std.proofs.Common.{◌≡◌, ℕ, zero, suc, ◌+◌, ◌<◌, ◌≤◌, List, [], ◌∷◌, length, get_or, set, replicate, flat_map, sum_by, refl, arith, Bool, true, false, cond, map, filter}
+use Rattle.std.proofs.lemmas.List.Sums.{sum_by-cons, sum_by-append, sum_by-set, get_or-le-sum_by}
+use Rattle.rec_model.specs.Sums.{only_if, sum_at}
 
 pub sum_at-set : {X : Type 0} (f : ℕ → X → ℕ) (xs : List X) (i : ℕ) (y d : X) → i < length xs → sum_at f (set xs i y) + f i (get_or xs i d) ≡ sum_at f xs + f i y
 sum_at-set f [] i y d h = omega arith
@@ -63,3 +63,29 @@ sum_by_le_unless wrong f g [] z h = omega arith
 sum_by_le_unless wrong f g (x ∷ xs) z h =
     let first : wrong x ≡ 0 = omega (arith, z, sum_by-cons wrong x xs) in
     omega (arith, h x first, sum_by-cons f x xs, sum_by-cons g x xs, sum_by_le_unless wrong f g xs (omega (arith, z, sum_by-cons wrong x xs)) h)
+
+-- a weight over the elements that pass a test
+pub sum_by-filter : {X : Type 0} (p : X → Bool) (f : X → ℕ) (ys : List X) → sum_by f (filter p ys) ≡ sum_by (λ y. only_if (p y) (f y)) ys
+sum_by-filter p f [] = refl
+sum_by-filter p f (y ∷ ys) = omega (arith, first (p y), sum_by-filter p f ys, sum_by-cons (λ z. only_if (p z) (f z)) y ys)
+  where
+    first : (b : Bool) → sum_by f (cond b (y ∷ filter p ys) (filter p ys)) ≡ only_if b (f y) + sum_by f (filter p ys)
+    first true = sum_by-cons f y (filter p ys)
+    first false = omega arith
+
+-- a weight over what elements are made into
+pub sum_by-map : {X Y : Type 0} (f : Y → ℕ) (g : X → Y) (xs : List X) → sum_by f (map g xs) ≡ sum_by (λ x. f (g x)) xs
+sum_by-map f g [] = refl
+sum_by-map f g (x ∷ xs) = omega (arith, sum_by-cons f (g x) (map g xs), sum_by-cons (λ y. f (g y)) x xs, sum_by-map f g xs)
+
+-- a weight over lists joined, and after one of them is replaced
+pub sum_by-flat_map : {X Y : Type 0} (f : Y → ℕ) (g : X → List Y) (xs : List X) → sum_by f (flat_map g xs) ≡ sum_by (λ x. sum_by f (g x)) xs
+sum_by-flat_map f g [] = refl
+sum_by-flat_map f g (x ∷ xs) = omega (arith, sum_by-append f (g x) (flat_map g xs), sum_by-cons (λ y. sum_by f (g y)) x xs, sum_by-flat_map f g xs)
+
+pub sum_by-flat_map-set : {X Y : Type 0} (f : Y → ℕ) (g : X → List Y) (xs : List X) (i : ℕ) (y d : X) → i < length xs → sum_by f (flat_map g (set xs i y)) + sum_by f (g (get_or xs i d)) ≡ sum_by f (flat_map g xs) + sum_by f (g y)
+sum_by-flat_map-set f g xs i y d inside = omega (arith, sum_by-flat_map f g xs, sum_by-flat_map f g (set xs i y), sum_by-set (λ x. sum_by f (g x)) xs i y d inside)
+
+-- one of the lists weighs at most what all do
+pub sum_by-flat_map-part : {X Y : Type 0} (f : Y → ℕ) (g : X → List Y) (xs : List X) (i : ℕ) (d : X) → i < length xs → sum_by f (g (get_or xs i d)) ≤ sum_by f (flat_map g xs)
+sum_by-flat_map-part f g xs i d inside = omega (arith, sum_by-flat_map f g xs, get_or-le-sum_by (λ x. sum_by f (g x)) xs i d inside)

@@ -9,7 +9,7 @@ use Rattle.rec_model.specs.References.{IsInReach}
 abbrev pub is_late_word : (epoch place word : ℕ) → ℕ
 is_late_word epoch place word = only_if (nat_lt epoch (epoch_of word)) 1
 
--- counted where the write was made after this epoch, and once more where it replaced a word of an epoch more than one behind it
+-- counted where the write was made after this epoch, and once more where it replaced a word more than one epoch younger than itself
 abbrev pub is_wrong_write : (epoch : ℕ) → Write → ℕ
 is_wrong_write epoch write = only_if (nat_lt epoch (epoch_of write.new)) 1 + only_if (nat_lt (epoch_of write.new + 1) (epoch_of write.old)) 1
 
@@ -21,8 +21,8 @@ is_wrong_register applied requested d = only_if (nat_le d.epoch applied) 1 + onl
 abbrev pub is_late_snapshot : (epoch : ℕ) → Dated → ℕ
 is_late_snapshot epoch d = only_if (nat_le epoch d.epoch) 1
 
--- No word, write or mutator is past the requested epoch, each mutator is past the applied one, a write replaced a word of at
--- most one epoch later than its own, and the applied epoch is one or two behind the requested one.
+-- No word, write or mutator is past the requested epoch, and each mutator is past the applied one; a write replaced a word at
+-- most one epoch younger than itself; and the applied epoch is one or two behind the requested one.
 pub record HasEpochs (w : Pending) : Type 0 where
   pub behind : w.applied < w.requested
   pub near : w.requested ≤ w.applied + 2

@@ -10,6 +10,8 @@ pub mod Opened
 pub mod Pending
 pub mod Reach
 pub mod References
+pub mod Seen
+pub mod Sets
 pub mod Sight
 pub mod Sums
 pub use Rattle.rec_word.specs.Place

@@ -193,11 +193,17 @@ KeepsFrom {X} epoch_of epoch before after =
     ((weight : X → ℕ) → sum_by weight after ≤ sum_by weight before)
     × ((weight : X → ℕ) → ((x : X) → epoch_of x < epoch → weight x ≡ 0) → sum_by weight after ≡ sum_by weight before)
 
--- Logs of epochs before the applied one are cleared, or nothing but the order of the lists changes.
+-- The same of a list of nodes, which may lose what is null too.
+abbrev pub KeepsNodesFrom : (epoch : ℕ) → (before after : List Dated) → Type 0
+KeepsNodesFrom epoch before after =
+    ((weight : Dated → ℕ) → sum_by weight after ≤ sum_by weight before)
+    × ((weight : Dated → ℕ) → ((d : Dated) → d.epoch < epoch → weight d ≡ 0) → ((e : ℕ) → weight (dated e 0) ≡ 0) → sum_by weight after ≡ sum_by weight before)
+
+-- Logs of epochs before the applied one are cleared, or nothing but the order of the lists and what is null in them changes.
 pub record Drops (before after : Pending) : Type 0 where
   pub writes : KeepsFrom (λ (e : Write). epoch_of e.new) before.applied before.writes after.writes
-  pub births : KeepsFrom (λ (d : Dated). d.epoch) before.applied before.births after.births
-  pub snapshots : KeepsFrom (λ (d : Dated). d.epoch) before.applied before.snapshots after.snapshots
+  pub births : KeepsNodesFrom before.applied before.births after.births
+  pub snapshots : KeepsNodesFrom before.applied before.snapshots after.snapshots
   pub words : HasSameSumsAt before.words after.words
   pub registers : HasSameSums before.registers after.registers
   pub epochs : KeepsEpochs before after

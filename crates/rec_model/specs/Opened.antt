@@ -1,5 +1,5 @@
 -- A heap that counts late as it is opened.
-use Rattle.std.specs.Prelude.{◌≡◌, ℕ, ◌+◌, ◌*◌, ◌<◌, true, false}
+use Rattle.std.specs.Prelude.{◌≡◌, ℕ, ◌+◌, ◌-◌, ◌*◌, ◌<◌, ◌==◌, not, if◌then◌else◌, true, false, [], ◌++◌, replicate}
 use Rattle.std.specs.List.{sum_by}
 use Rattle.rec_model.specs.Sums.{sum_at}
 use Rattle.rec_model.specs.Pending.{Write, Dated, dated, Pending}
@@ -23,3 +23,20 @@ pub record IsOpening (w : Pending) (epoch mutators : ℕ) : Type 0 where
   pub free : (node : ℕ) → 1 < node → w.free node ≡ true
   pub counts : (node : ℕ) → 1 < node → w.count node ≡ 1
   pub released : (node : ℕ) → 0 < node → w.released node ≡ false
+
+-- such a heap: so many fields, and so many registers of each mutator that are null
+abbrev pub opening : (fields places epoch mutators nulls : ℕ) → Pending
+opening fields places epoch mutators nulls =
+    record {
+      fields = fields;
+      words = replicate places 0;
+      writes = [];
+      births = [];
+      snapshots = replicate mutators (dated (epoch - 1) 1) ++ replicate (mutators * nulls) (dated (epoch - 1) 0);
+      registers = replicate mutators (dated epoch 1) ++ replicate (mutators * nulls) (dated epoch 0);
+      applied = epoch - 1;
+      requested = epoch;
+      count = λ node. if node == 1 then mutators else 1;
+      free = λ node. not (node == 1);
+      released = λ node. false;
+    }

@@ -1,9 +1,10 @@
 -- References, and what counts at an epoch: its references, roots, count and reach.
 use Rattle.std.specs.Prelude.{ℕ, ◌+◌, ◌<◌, ◌==◌, ◌&&◌, nat_lt, nat_le, if◌then◌else◌, Bool, true, Option, None, Some, List, ◌++◌, map, filter}
-use Rattle.std.specs.List.{enumerate_from}
+use Rattle.std.specs.List.{enumerate_from, sum_by}
 use Rattle.rec_model.specs.Reach.{is_in, IsReached}
 use Rattle.rec_model.specs.Numbering.{times}
-use Rattle.rec_model.specs.Pending.{node_of, epoch_of, home, Write, Dated, Pending}
+use Rattle.rec_model.specs.Sums.{only_if, one_if_same}
+use Rattle.rec_model.specs.Pending.{node_of, epoch_of, home, Write, Dated, Pending, word_in}
 
 -- A word with a target that was put into a field is a reference from the field's node to the target, opened at the word's
 -- epoch. It is open while it stands there. It is closed at the epoch of the write that replaced it. One that the collector
@@ -18,7 +19,8 @@ pub record Reference : Type 0 where
 abbrev pub open_reference : (fields : ℕ) → ℕ × ℕ → Reference
 open_reference fields at = record { source = home fields at.0; target = node_of at.1; opened = epoch_of at.1; closed = None }
 
--- what the word that a write replaced is. Its source is the node that now has the field.
+-- what the word that a write replaced is. Its source is the node that now has the field; while that slot is free, the source is
+-- in no reach.
 abbrev pub closed_reference : (fields : ℕ) → Write → Reference
 closed_reference fields write = record { source = home fields write.place; target = node_of write.old; opened = epoch_of write.old; closed = Some (epoch_of write.new) }
 
@@ -74,3 +76,23 @@ pub record IsWriteInReach (w : Pending) (epoch : ℕ) (write : Write) : Type 0 w
   pub source : IsInReach w epoch (home w.fields write.place)
   pub new : 0 < node_of write.new → IsInReach w epoch (node_of write.new)
   pub old : 0 < node_of write.old → IsInReach w epoch (node_of write.old)
+
+-- The same as weights: counted where the word was put up to an epoch and names the node,
+abbrev pub opened_to : (epoch node place word : ℕ) → ℕ
+opened_to epoch node place word = only_if (nat_le (epoch_of word) epoch) (one_if_same node (node_of word))
+
+-- and where a write of the epoch or a later one replaced such a word.
+abbrev pub closed_from : (epoch node : ℕ) → Write → ℕ
+closed_from epoch node write = only_if (nat_le epoch (epoch_of write.new)) (opened_to epoch node write.place write.old)
+
+-- Counted where a write at this place did so.
+abbrev pub closed_in : (epoch place node : ℕ) → Write → ℕ
+closed_in epoch place node write = only_if (place == write.place) (closed_from epoch node write)
+
+-- how many references of an epoch from one field to a node were closed
+abbrev pub closed_at : Pending → (epoch place node : ℕ) → ℕ
+closed_at w epoch place node = sum_by (closed_in epoch place node) w.writes
+
+-- how many references of an epoch there are from one field to a node
+abbrev pub references_at : Pending → (epoch place node : ℕ) → ℕ
+references_at w epoch place node = opened_to epoch node place (word_in w place) + closed_at w epoch place node

@@ -4,14 +4,15 @@ ghost use Rattle.std.specs.Prelude.{◌≡◌, ◌↔◌, ◌+◌, ◌<◌, ◌�
 ghost use Rattle.rec_model.specs.Reach.{is_in, IsReached};
 ghost use Rattle.rec_model.specs.Numbering.{IsNumbering, IsDistinct};
 ghost use Rattle.rec_model.specs.Heap.{Heap};
-ghost use Rattle.rec_model.specs.Sight.{Sight, StandsFor, IsCollected};
+ghost use Rattle.rec_model.specs.Sight.{Sight, StandsFor, IsCollected, Reaches};
 ghost use Rattle.rec_model.specs.Listing.{Row, IsListing, ListsSlots};
 ghost use Rattle.rec_model.specs.Sums.{one_if_same, sum_at};
 ghost use Rattle.rec_model.specs.Pending.{Pending, node_of, epoch_of, home, word_in, Holds};
 ghost use Rattle.rec_model.specs.References.{count_formula, IsInReach, IsWriteInReach};
 ghost use Rattle.rec_model.specs.Moves.{Move, added, taken};
 ghost use Rattle.rec_model.specs.Accounted.{IsAccounted, HasUncountedReleased, is_dead, names, named, named_anywhere};
-ghost use Rattle.rec_model.specs.Opened.{IsOpening};
+ghost use Rattle.rec_model.specs.Opened.{IsOpening, opening};
+ghost use Rattle.rec_model.specs.Seen.{IsSightOf};
 
 /// A numbering has just the numbers that are reached, each once.
 pub fn numbering_lists_the_reached()
@@ -36,6 +37,7 @@ pub fn listing_is_unique()
 
 /// A heap that counts late keeps its accounts: as it is opened, and over every move of a mutator or of the collector.
 pub fn moves_keep_accounts()
+    ensures there { (fields places epoch mutators nulls : ℕ) → 0 < epoch → IsOpening (opening fields places epoch mutators nulls) epoch mutators }
     ensures opened { (w : Pending) (epoch mutators : ℕ) → IsOpening w epoch mutators → IsAccounted w }
     ensures moved { (before after : Pending) → Move before after → IsAccounted before → IsAccounted after }
 {}
@@ -54,11 +56,15 @@ pub fn later_epochs_stay_in_reach()
 {}
 
 /// No register, no field of a node that isn't given up, and no part that is pending names a free slot or a node that was given
-/// up.
+/// up, and it is in no reach from the applied epoch on. So what registers reach is neither free nor given up; and no field at
+/// all leads to a free slot.
 pub fn the_given_up_are_unnamed()
     ensures pending { (w : Pending) → IsAccounted w → (node : ℕ) → 0 < node → is_dead w node ≡ true → named w node ≡ 0 }
+    ensures reach { (w : Pending) → IsAccounted w → (epoch node : ℕ) → w.applied ≤ epoch → is_dead w node ≡ true → IsInReach w epoch node → ⊥ }
     ensures registers { (w : Pending) → IsAccounted w → (epoch node : ℕ) → 0 < node → Holds w epoch node → is_dead w node ≡ false }
     ensures fields { (w : Pending) → IsAccounted w → (place : ℕ) → place < length w.words → w.released (home w.fields place) ≡ false → 0 < node_of (word_in w place) → is_dead w (node_of (word_in w place)) ≡ false }
+    ensures slots { (w : Pending) → IsAccounted w → (place : ℕ) → place < length w.words → 0 < node_of (word_in w place) → w.free (node_of (word_in w place)) ≡ false }
+    ensures reached { (w : Sight) (p : Pending) → IsAccounted p → IsSightOf w p → (slot : ℕ) → Reaches w slot → is_dead p (slot + 1) ≡ false }
 {}
 
 /// A batch takes no count below zero, changes no count of a node that nothing names, and makes no count greater than the
@@ -77,15 +83,16 @@ pub fn clearings_are_covered()
     ensures counted { (w : Pending) → IsAccounted w → (place node : ℕ) → place < length w.words → epoch_of (word_in w place) ≤ w.applied → 0 < node → one_if_same node (node_of (word_in w place)) ≤ w.count node }
 {}
 
-/// A node without a count is out of reach, and nothing names it, once every mutator is past the applied epoch.
+/// A node without a count is out of reach, and nothing names it, from a batch to the next request.
 pub fn the_uncounted_are_gone()
     ensures { (w : Pending) → IsAccounted w → (node : ℕ) → 0 < node → w.applied + 1 ≡ w.requested → w.count node ≡ 0 → (IsInReach w w.applied node → ⊥) × (named_anywhere w node ≡ 0) }
 {}
 
-/// The count of a node that was given up is the number of fields that name it. As long as none is given up but for its count,
-/// it has none.
+/// The count of a node that was given up is the number of fields that name it. Where all that were given up are emptied, none
+/// of them has a count; nor has any as long as none is given up but for its count.
 pub fn the_given_up_are_uncounted()
     ensures counted { (w : Pending) → IsAccounted w → (node : ℕ) → 0 < node → w.released node ≡ true → w.count node ≡ sum_at (names node) w.words }
+    ensures emptied { (w : Pending) → IsAccounted w → ((place : ℕ) → place < length w.words → w.released (home w.fields place) ≡ true → node_of (word_in w place) ≡ 0) → HasUncountedReleased w }
     ensures opened { (w : Pending) (epoch mutators : ℕ) → IsOpening w epoch mutators → HasUncountedReleased w }
     ensures moved { (before after : Pending) → Move before after → IsAccounted before → HasUncountedReleased before → HasUncountedReleased after }
 {}

@@ -14,18 +14,18 @@ use Rattle.rec_world.specs.State.{nobody, opened_mutator, opened_mutators}
 use Rattle.rec_world.specs.World.{sight, mutator, opened, IsOwn, IsKept}
 
 -- a list of one value, within and past its end
-free_at : (n s : ℕ) → slice_index_or {A = ℕ} (replicate n 0) s 0 ≡ 0
+pub free_at : (n s : ℕ) → slice_index_or {A = ℕ} (replicate n 0) s 0 ≡ 0
 free_at n s = elim (cases_lt s n) [
   | inl there ↦ get_or-replicate n s 0 0 there
   | inr past ↦ get_or_past (replicate n 0) s 0 (subst (λ m. m ≤ s) (sym (length-replicate n 0)) past)
 ]
 
 -- the headers at opening
-first_header : (slots s : ℕ) → (0 < slice_index_or {A = ℕ} (1 ∷ replicate (slots - 1) 0) s 0) ↔ (s < 1)
+pub first_header : (slots s : ℕ) → (0 < slice_index_or {A = ℕ} (1 ∷ replicate (slots - 1) 0) s 0) ↔ (s < 1)
 first_header slots zero = (λ _. lit< tt, λ _. lit< tt)
 first_header slots (suc s) = (λ taken. let free : slice_index_or {A = ℕ} (replicate (slots - 1) 0) s 0 ≡ 0 = free_at (slots - 1) s in absurd (omega arith), λ below. absurd (omega arith))
 
-small_header : (slots s : ℕ) → slice_index_or {A = ℕ} (1 ∷ replicate (slots - 1) 0) s 0 ≤ 2 ^ 32
+pub small_header : (slots s : ℕ) → slice_index_or {A = ℕ} (1 ∷ replicate (slots - 1) 0) s 0 ≤ 2 ^ 32
 small_header slots zero = lit≤ tt
 small_header slots (suc s) = let free : slice_index_or {A = ℕ} (replicate (slots - 1) 0) s 0 ≡ 0 = free_at (slots - 1) s in omega arith
 
@@ -39,7 +39,7 @@ replicate_push zero x = refl
 replicate_push (suc n) x = ap (λ xs. x ∷ xs) (replicate_push n x)
 
 -- all mutators have the same registers
-registers_opened : (config : Config) (n : ℕ) → map (λ (p : Private). p.registers) (opened_mutators config n) ≡ replicate n (own_opened config)
+pub registers_opened : (config : Config) (n : ℕ) → map (λ (p : Private). p.registers) (opened_mutators config n) ≡ replicate n (own_opened config)
 registers_opened config zero = refl
 registers_opened config (suc n) =
     map_push (λ (p : Private). p.registers) (opened_mutators config n) (opened_mutator config (suc n))
@@ -55,7 +55,7 @@ pub sight_opened : (config : Config) → sight (opened config) ≡ opening_sight
 sight_opened config = rw (registers_opened config config.mutators) refl
 
 -- one of the mutators
-opened_at : (config : Config) (n i : ℕ) → i < n → slice_index_or (opened_mutators config n) i nobody ≡ opened_mutator config (i + 1)
+pub opened_at : (config : Config) (n i : ℕ) → i < n → slice_index_or (opened_mutators config n) i nobody ≡ opened_mutator config (i + 1)
 opened_at config zero i below = absurd (omega arith)
 opened_at config (suc n) i below = elim (cases_lt i n) [
   | inl before ↦

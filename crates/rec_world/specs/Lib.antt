@@ -1,4 +1,8 @@
 pub mod Config
+pub mod Core
+pub mod CoreKept
+pub mod CoreMoves
+pub mod CorePending
 pub mod Inside
 pub mod Journal
 pub mod Memory

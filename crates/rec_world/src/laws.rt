@@ -4,6 +4,9 @@ ghost use Rattle.std.specs.Prelude.{◌≡◌, List, false};
 ghost use Rattle.rec_world.specs.declared.config.Config.{Config as Numbers};
 ghost use Rattle.rec_world.specs.Config.{IsConfig};
 ghost use Rattle.rec_world.specs.Run.{Move, Fits, after_move, IsRun, EndsRun};
+ghost use Rattle.rec_world.specs.Core.{Core};
+ghost use Rattle.rec_world.specs.CoreMoves.{Move as CoreMove, IsRun as IsCoreRun};
+ghost use Rattle.rec_world.specs.CoreKept.{IsKept as IsCoreKept};
 ghost use Rattle.rec_world.specs.World.{State, IsKept, IsWorld};
 
 /// What every heap keeps holds at the end of every run: a mutator that scans has passed taken slots alone, each log entry
@@ -20,4 +23,9 @@ pub fn runs_go_on()
 /// A heap that isn't marked is the end of some run from its opening.
 pub fn heaps_end_runs()
     ensures { (w : State) → IsWorld w → w.marked ≡ false → EndsRun w }
+{}
+
+/// What every heap with its collector keeps holds at the end of every run.
+pub fn core_runs_keep()
+    ensures { (config : Numbers) (moves : List CoreMove) (end : Core) → IsConfig config → IsCoreRun config moves end → IsCoreKept end }
 {}

@@ -1,6 +1,6 @@
 -- The ledger covers a batch.
 use Rattle.rec_model.proofs.Ledgers.{batch_covered}
-use Rattle.rec_model.proofs.Moving.{unnamed_uncounted}
+use Rattle.rec_model.proofs.CollectorMoves.{unnamed_uncounted}
 use Rattle.rec_model.proofs.Consequences.{counts_bounded}
 use Rattle.rec_model.proofs.laws.batches_are_covered.Goals as goal
 

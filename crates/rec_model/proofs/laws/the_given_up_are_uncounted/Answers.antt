@@ -1,9 +1,12 @@
 -- Nothing but fields of nodes that were given up names them.
-use Rattle.rec_model.proofs.Consequences.{released_count, opening_uncounted, move_uncounted}
+use Rattle.rec_model.proofs.Consequences.{released_count, emptied_uncounted, opening_uncounted, move_uncounted}
 use Rattle.rec_model.proofs.laws.the_given_up_are_uncounted.Goals as goal
 
 pub returns-clause-counted : goal.returns-clause-counted
 returns-clause-counted c = released_count
+
+pub returns-clause-emptied : goal.returns-clause-emptied
+returns-clause-emptied c = emptied_uncounted
 
 pub returns-clause-opened : goal.returns-clause-opened
 returns-clause-opened c = opening_uncounted

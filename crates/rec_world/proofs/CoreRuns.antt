@@ -1,0 +1,105 @@
+-- Every move of a heap with its collector keeps what every such heap keeps, and so does every run.
+use Rattle.std.proofs.Common.{◌≡◌, ℕ, ◌<◌, Option, None, Some, IfSome, List, [], ◌∷◌, slice_index_or, refl, sym, ap, subst, ◌∙◌, arith}
+use Rattle.rec_word.specs.Place.{place_of}
+use Rattle.rec_word.specs.Word.{target_of}
+use Rattle.rec_word.specs.declared.op.Op.{Op}
+use Rattle.rec_word.specs.declared.op.Op.TheVariants as ops
+use Rattle.rec_log.specs.declared.contents.Contents.{Contents}
+use Rattle.rec_counts.specs.Counts.{slot_at}
+use Rattle.rec_release.specs.Release.{op_at as release_op_at, next_of as release_next}
+use Rattle.rec_release.specs.declared.at.At.{At}
+use Rattle.rec_collector.specs.Given.{IsGivenAt, IsGiven, IsSized}
+use Rattle.rec_collector.specs.Kept as collector_kept
+use Rattle.rec_collector.specs.Next.{next_of, next_at}
+use Rattle.rec_collector.specs.Step.{Step, IsBetween}
+use Rattle.rec_collector.specs.Took.{step_of, turn_of}
+use Rattle.rec_collector.specs.declared.phase.Phase.{Phase}
+use Rattle.rec_collector.specs.declared.phase.Phase.TheVariants.{Idle, Looking, Swapping, Returning, Releasing, Opening, Sweeping, Closing}
+use Rattle.rec_collector.proofs.Keeping.{machine_kept}
+use Rattle.rec_collector.proofs.Steps.{step_made}
+use Rattle.rec_world.specs.declared.config.Config.{Config}
+use Rattle.rec_world.specs.Config.{IsConfig, IsMutator}
+use Rattle.rec_world.specs.Core.{Core, cells_of, box, opened}
+use Rattle.rec_world.specs.CoreKept.{IsKept}
+use Rattle.rec_world.specs.CoreMoves.{looked_at, turned, turned_at, Move, after_move, after_moves, Fits, AllFit, IsRun}
+use Rattle.rec_world.specs.Memory.{cell}
+use Rattle.rec_world.proofs.CoreApplying.{covered}
+use Rattle.rec_world.proofs.CoreCrossings.{step_kept, begun_kept}
+use Rattle.rec_world.proofs.CoreOpening.{opened_kept}
+use Rattle.rec_world.proofs.CoreReleasing.{counted_target}
+use Rattle.rec_world.proofs.CoreTurning.{mutator_at, some_op, rule_kept}
+use Rattle.rec_world.proofs.CoreTurns.{now_at}
+
+-- the mailbox that the collector looks at next is that of a mutator
+looked_is : (w : Core) (phase : Phase) → IsKept w → w.collector.phase ≡ phase → IsMutator w.config (looked_at phase)
+looked_is w (Looking t) kept is = let now = now_at w (Looking t) kept is in mutator_at w t (Looking t) kept is (now.first, now.there)
+looked_is w Idle kept is = (omega arith, kept.config.some_mutators)
+looked_is w (Swapping t) kept is = (omega arith, kept.config.some_mutators)
+looked_is w (Returning t) kept is = (omega arith, kept.config.some_mutators)
+looked_is w Releasing kept is = (omega arith, kept.config.some_mutators)
+looked_is w Opening kept is = (omega arith, kept.config.some_mutators)
+looked_is w (Sweeping n) kept is = (omega arith, kept.config.some_mutators)
+looked_is w (Closing n) kept is = (omega arith, kept.config.some_mutators)
+
+-- and it is of this heap's size
+sized_is : (w : Core) → IsKept w → IsSized w.collector.registers w.collector.capacity (box w (looked_at w.collector.phase))
+sized_is w kept =
+    let actor = kept.mutators.each (looked_at w.collector.phase) (looked_is w w.collector.phase kept refl) in
+    (actor.mailbox.snapshot ∙ sym kept.collector.registers, actor.mailbox.capacity ∙ sym kept.collector.capacity)
+
+-- the word that the collector finds is one that it may be given, by phase
+given_at : (w : Core) (op : Op) (phase : Phase) → IsKept w → w.collector.phase ≡ phase → ◌≡◌ {A = Option Op} (next_at w.collector phase) (Some op) → IsGivenAt w.collector (cell (cells_of w) op) phase
+unfolding IsGivenAt next_at release_next
+given_at w op Idle kept is named = tt
+given_at w op (Looking t) kept is named = tt
+given_at w op (Swapping t) kept is named = subst IsBetween is kept.collector.between
+given_at w op (Returning t) kept is named = λ last. covered w t kept is last
+given_at w op Releasing kept is named = go w.collector.release.at refl
+  where
+    counted : (place : ℕ) (a : At) (at : w.collector.release.at ≡ Some a) → place ≡ place_of a.slot a.field w.config.fields → (x : Option ℕ) → target_of (slice_index_or w.words place 0) ≡ x → IfSome x (λ slot. 0 < (slot_at w.collector.counts slot).count)
+    counted place a at here None target = tt
+    counted place a at here (Some slot) target = counted_target w a kept is at slot (ap (λ n. target_of (slice_index_or w.words n 0)) (sym here) ∙ target)
+
+    go : (x : Option At) → w.collector.release.at ≡ x → IfSome (target_of (cell (cells_of w) op)) (λ slot. 0 < (slot_at w.collector.counts slot).count)
+    go None at = let not_so : ◌≡◌ {A = Option Op} (Some op) None = sym named ∙ ap (release_op_at w.collector.release.fields) at in absurd (cc)
+    go (Some a) at =
+        let place : ℕ = place_of a.slot a.field w.config.fields in
+        let its : op ≡ ops.ClearField place = some_op op (ops.ClearField place) (sym named ∙ ap (release_op_at w.collector.release.fields) at ∙ ap (λ n. Some (ops.ClearField (place_of a.slot a.field n))) kept.collector.fields) in
+        let found : cell (cells_of w) op ≡ slice_index_or w.words place 0 = ap (cell (cells_of w)) its in
+        subst (λ n. IfSome (target_of n) (λ slot. 0 < (slot_at w.collector.counts slot).count)) (sym found) (counted place a at refl (target_of (slice_index_or w.words place 0)) refl)
+given_at w op Opening kept is named = tt
+given_at w op (Sweeping n) kept is named = tt
+given_at w op (Closing n) kept is named = tt
+
+given_is : (w : Core) (op : Op) → IsKept w → ◌≡◌ {A = Option Op} (next_of w.collector) (Some op) → IsGiven w.collector (cell (cells_of w) op)
+unfolding IsGiven next_of
+given_is w op kept named = given_at w op w.collector.phase kept refl named
+
+-- the collector's turn
+turned_kept : (w : Core) → IsKept w → IsKept (turned w)
+turned_kept w kept = go (next_of w.collector) refl
+  where
+    go : (x : Option Op) → next_of w.collector ≡ x → IsKept (turned_at w x)
+    go None none = kept
+    go (Some op) named =
+        let word : ℕ = cell (cells_of w) op in
+        let b : Contents = box w (looked_at w.collector.phase) in
+        let machine : collector_kept.IsMachine (step_of w.collector word b) = machine_kept w.collector word b kept.collector.machine kept.collector.between (given_is w op kept named) (sized_is w kept) in
+        let step : Step w.collector word b (Some op) (step_of w.collector word b) (turn_of w.collector word)
+        = subst (λ (x : Option Op). Step w.collector word b x (step_of w.collector word b) (turn_of w.collector word)) named (step_made w.collector word b kept.collector.between) in
+        rule_kept w op word (step_of w.collector word b) (turn_of w.collector word) (record { kept = kept; found = refl; machine = machine }) step
+
+-- a move
+move_kept : (w : Core) (m : Move) → IsKept w → Fits w m → IsKept (after_move w m)
+move_kept w (Move.Begins t work) kept fits = begun_kept w t work kept fits.0 fits.1 fits.2 fits.3
+move_kept w (Move.Steps t) kept fits = step_kept w t kept fits.0 fits.1
+move_kept w Move.Turns kept fits = turned_kept w kept
+
+-- some moves
+moves_kept : (w : Core) (ms : List Move) → IsKept w → AllFit w ms → IsKept (after_moves w ms)
+moves_kept w [] kept fit = kept
+moves_kept w (m ∷ ms) kept fit = moves_kept (after_move w m) ms (move_kept w m kept fit.0) fit.1
+
+-- the end of a run keeps it
+pub run_kept : (config : Config) (moves : List Move) (end : Core) → IsConfig config → IsRun config moves end → IsKept end
+run_kept config moves end is run = subst IsKept run.ends (moves_kept (opened config) moves (opened_kept config is) run.fit)
