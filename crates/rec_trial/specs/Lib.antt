@@ -1,0 +1,4 @@
+pub mod Loaded
+pub mod Moves
+pub mod Rules
+pub mod Trial
