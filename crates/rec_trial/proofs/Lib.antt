@@ -17,3 +17,5 @@ pub mod Rest
 pub mod Course
 pub mod Settling
 pub mod Runs
+pub mod Conditions
+pub mod Midway
