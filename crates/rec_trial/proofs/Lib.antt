@@ -19,3 +19,4 @@ pub mod Settling
 pub mod Runs
 pub mod Conditions
 pub mod Midway
+pub mod AtWork

@@ -34,17 +34,22 @@ pub record Midway (w : Work) : Type 0 where
   pub finds : List Seen
   pub course : Course fields before w marks blacks finds
 
--- what the call that moves on is given
-pub at_work_told : (m : Machine) (s : State) → 0 < m.fields → (a : IsAtWork m s) → Told m.fields a.before (run_of m.fields a.before a.words)
-at_work_told m s f a = told_run m.fields a.before a.words f a.ready a.named
+-- a trial at work
+pub at_work_told : (m : Machine) (s : State) (a : IsAtWork m s) → Told m.fields a.before (run_of m.fields a.before a.words)
+at_work_told m s a = told_run m.fields a.before a.words a.wide a.ready a.named
+
+pub at_work_course : (m : Machine) (s : State) (a : IsAtWork m s) → Course m.fields a.before (record { machine = m; counts = s }) (map seen_of (run_of m.fields a.before a.words).marking) (map seen_of (run_of m.fields a.before a.words).blackening) (map seen_of (run_of m.fields a.before a.words).collecting)
+at_work_course m s a =
+    let r : Run = run_of m.fields a.before a.words in
+    subst (λ v. Course m.fields a.before v (map seen_of r.marking) (map seen_of r.blackening) (map seen_of r.collecting)) (sym a.is) (at_work_told m s a).course
+
+pub at_work_due : (m : Machine) (s : State) → IsAtWork m s → is_due (record { machine = m; counts = s }) ≡ true
+at_work_due m s a = ap is_due a.is ∙ (at_work_told m s a).due
 
 pub going_midway : {m : Machine} {s : State} → GoesOn m s → Midway (record { machine = m; counts = s })
 going_midway (begins {fields} {s} f kept ready) = record { fields = fields; before = s; kept = kept; ready = ready; marks = []; blacks = []; finds = []; course = opened_course fields s f ready }
-going_midway (learns {m} {s} f a busy word lead) =
-    let t : Told m.fields a.before (run_of m.fields a.before a.words) = at_work_told m s f a in
+going_midway (learns {m} {s} a busy word lead) =
     let w : Work = record { machine = m; counts = s } in
-    let e : w ≡ (run_of m.fields a.before a.words).work = a.is in
-    let c = subst (λ v. Course m.fields a.before v (map seen_of (run_of m.fields a.before a.words).marking) (map seen_of (run_of m.fields a.before a.words).blackening) (map seen_of (run_of m.fields a.before a.words).collecting)) (sym e) t.course in
     record {
       fields = m.fields;
       before = a.before;
@@ -53,7 +58,7 @@ going_midway (learns {m} {s} f a busy word lead) =
       marks = _;
       blacks = _;
       finds = _;
-      course = learnt_course w c m.phase refl (ap is_due e ∙ t.due) busy word lead;
+      course = learnt_course w (at_work_course m s a) m.phase refl (at_work_due m s a) busy word lead;
     }
 
 -- the released ones of some slots
@@ -113,6 +118,10 @@ module _ (w : Work) (m : Midway w) where
 
   pub moved_midway : is_due w ≡ false → Midway (moved_at w.machine.phase w)
   moved_midway d = record { fields = m.fields; before = m.before; kept = m.kept; ready = m.ready; marks = m.marks; blacks = m.blacks; finds = m.finds; course = moved_course w m.course d }
+
+-- what learning a word requires
+pub at_work_midway : (m : Machine) (s : State) → IsAtWork m s → Midway (record { machine = m; counts = s })
+at_work_midway m s a = record { fields = m.fields; before = a.before; kept = a.kept; ready = a.ready; marks = _; blacks = _; finds = _; course = at_work_course m s a }
 
 -- moves on the way to the next load
 pub record OnTheWay (first now : Work) : Type 0 where

@@ -199,7 +199,7 @@ begun_told fields before f k = record {
 }
 
 -- what leads to no released slot at first does so later
-still_unreleased : (s before : State) (t : Option ℕ) → ((x : ℕ) → (slot_at s x).released ≡ (slot_at before x).released) → IfSome t (λ x. (slot_at before x).released ≡ false) → IfSome t (λ x. (slot_at s x).released ≡ false)
+pub still_unreleased : (s before : State) (t : Option ℕ) → ((x : ℕ) → (slot_at s x).released ≡ (slot_at before x).released) → IfSome t (λ x. (slot_at before x).released ≡ false) → IfSome t (λ x. (slot_at s x).released ≡ false)
 still_unreleased s before None h a = tt
 still_unreleased s before (Some x) h a = h x ∙ a
 

@@ -14,7 +14,7 @@ use Rattle.rec_counts.specs.Slot.{absent}
 use Rattle.rec_trial.specs.declared.phase.Phase.{Phase}
 use Rattle.rec_trial.specs.declared.phase.Phase.TheVariants.{Idle, Marking, Scanning, Collecting}
 use Rattle.rec_trial.specs.Moves.{is_gray, is_white, touched_if, touched, one_off, marked_by, dropped_if, dropped, blackened_if, scanned_by, has_rest, all_whitened, joined_if, collected_by, with_new_set, cleared}
-use Rattle.rec_trial.specs.Trial.{Machine, Work, roots_moved, scan_moved, set_begun_if, collect_moved, moved_at, learnt_at, advanced_if, advanced}
+use Rattle.rec_trial.specs.Trial.{Machine, Work, begun_at, roots_moved, scan_moved, set_begun_if, collect_moved, moved_at, learnt_at, advanced_if, advanced}
 use Rattle.rec_trial.proofs.Deletion.{Deletion, next_at, next_field}
 use Rattle.rec_trial.proofs.Deletion as plain
 use Rattle.rec_trial.proofs.Views.{at_of, earlier, view_of, view, view_touched, view_one_off, view_blackened, view_joined, view_whitened, view_rootless, concat_last, concat_new, earlier_new}
@@ -116,7 +116,7 @@ view_roots w e (x ∷ xs) r = view_dropped w e x xs
 pub view_scan : (w : Work) → w.machine.phase ≡ Scanning → w.counts.sets ≡ [] → (more : Bool) → (more ≡ true → get_or w.counts.marked w.machine.tried 0 < length w.counts.slots) → view (scan_moved more w) ≡ plain.try_scan more (view w)
 view_scan w e none false l =
     let a : at_of Collecting 0 (earlier (all_whitened w.counts)) ≡ 0 = rw none refl in
-    view_whitened w.counts (record w.machine { phase = Collecting; tried = 0; done = 0; field = 0 })
+    view_whitened w.counts (begun_at Collecting w.machine.fields)
     ∙ (λ i. record (plain.begin_collect (view w)) { at = a i })
 view_scan w e none true l =
     let x : ℕ = get_or w.counts.marked w.machine.tried 0 in

@@ -2,3 +2,5 @@ pub mod Loaded
 pub mod Moves
 pub mod Rules
 pub mod Trial
+pub mod Still
+pub mod Tried

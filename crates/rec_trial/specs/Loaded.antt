@@ -44,6 +44,7 @@ run_of fields before words = fold noted (begun fields before) words
 
 -- a trial came to this: it began on counts that were ready for it, and took in words that led to no released slot
 pub record IsAtWork (m : Machine) (s : State) : Type 0 where
+  pub wide : 0 < m.fields
   pub before : State
   pub words : List ℕ
   pub kept : IsKept before
@@ -54,4 +55,4 @@ pub record IsAtWork (m : Machine) (s : State) : Type 0 where
 -- a trial goes on without a load: it is about to begin, or has just learnt a word
 pub data GoesOn : Machine → State → Type 0 where
   begins : {fields : ℕ} {s : State} → 0 < fields → IsKept s → IsReady s → GoesOn (opened_of fields) s
-  learns : {m : Machine} {s : State} → 0 < m.fields → IsAtWork m s → IsSome (next_of m) → (word : ℕ) → LeadsToUnreleased s word → GoesOn (advanced m) (learnt_at m.phase s (target_of word))
+  learns : {m : Machine} {s : State} → IsAtWork m s → IsSome (next_of m) → (word : ℕ) → LeadsToUnreleased s word → GoesOn (advanced m) (learnt_at m.phase s (target_of word))

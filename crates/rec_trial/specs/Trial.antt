@@ -26,9 +26,13 @@ pub record Work : Type 0 where
   pub machine : Machine
   pub counts : State
 
+-- this phase begins, with nothing done in it
+abbrev pub begun_at : Phase → (fields : ℕ) → Machine
+begun_at phase fields = record { fields = fields; phase = phase; tried = 0; done = 0; slot = 0; field = 0 }
+
 -- no trial is at work
 abbrev pub idle_of : (fields : ℕ) → Machine
-idle_of fields = record { fields = fields; phase = Idle; tried = 0; done = 0; slot = 0; field = 0 }
+idle_of fields = begun_at Idle fields
 
 -- what comes next: the field is loaded
 abbrev pub op_at : Phase → Machine → Option Op
@@ -63,7 +67,7 @@ is_due w = is_due_at w.machine.phase w.machine.done w.counts
 
 -- the first root leaves the root buffer; where there is none, scanning begins
 abbrev pub roots_moved : (roots : List ℕ) → Work → Work
-roots_moved [] w = record { machine = record w.machine { phase = Scanning; tried = 0; done = 0; field = 0 }; counts = w.counts }
+roots_moved [] w = record { machine = begun_at Scanning w.machine.fields; counts = w.counts }
 roots_moved (x ∷ xs) w = record { machine = record w.machine { phase = Marking }; counts = dropped (without_root (x ∷ xs) w.counts) x }
 
 -- the next marked slot becomes Black where it has a rest; after the last one every Gray slot becomes White, and collecting begins
@@ -71,7 +75,7 @@ abbrev pub scan_moved : (more : Bool) → Work → Work
 scan_moved true w =
     let x : ℕ = item_at w.counts.marked w.machine.tried 0 in
     record { machine = record w.machine { phase = Scanning; tried = w.machine.tried + 1 }; counts = blackened_if (has_rest (slot_at w.counts x)) w.counts x }
-scan_moved false w = record { machine = record w.machine { phase = Collecting; tried = 0; done = 0; field = 0 }; counts = all_whitened w.counts }
+scan_moved false w = record { machine = begun_at Collecting w.machine.fields; counts = all_whitened w.counts }
 
 -- a White slot is the first of a new set
 abbrev pub set_begun_if : (white : Bool) → Work → ℕ → Work
@@ -140,7 +144,7 @@ took_of w word = took_at w.machine.phase w word
 
 -- marking is about to begin
 abbrev pub opened_of : (fields : ℕ) → Machine
-opened_of fields = record { fields = fields; phase = Marking; tried = 0; done = 0; slot = 0; field = 0 }
+opened_of fields = begun_at Marking fields
 
 -- a trial begins
 unfoldable pub started_of : (fields : ℕ) → State → Work

@@ -3,7 +3,7 @@ ghost use Rattle.rec_word.specs.Word.{target_of};
 ghost use Rattle.rec_trial.specs.Loaded.{GoesOn, IsAtWork};
 ghost use Rattle.rec_trial.specs.declared.phase.Phase.TheVariants.{Collecting, Scanning};
 ghost use Rattle.rec_trial.specs.Rules.{CanCollect, CanMark, CanScan, IsReady, LeadsToUnreleased, RulesAt};
-ghost use Rattle.rec_trial.specs.Trial.{NamesPlace, advanced, collect_moved, idle_of, is_due, is_due_at, learnt_at, list_of, moved_at, next_of, pointed, roots_moved, scan_moved, settled, started_of, took_of};
+ghost use Rattle.rec_trial.specs.Trial.{NamesPlace, advanced, begun_at, collect_moved, idle_of, is_due, is_due_at, learnt_at, list_of, moved_at, next_of, pointed, roots_moved, scan_moved, settled, started_of, took_of};
 
 use crate::collecting::{begin, collect, last_members};
 use crate::marking::{drop_root, mark};
@@ -68,7 +68,6 @@ impl Trial {
     {
         counts.rules();
         self.begin_phase(Phase::Marking);
-        self.slot = 0;
         self.settle(counts);
         self.point(counts);
     }
@@ -243,11 +242,13 @@ impl Trial {
 
     // This phase begins, with nothing done in it.
     fn begin_phase(&mut self, phase: Phase)
-        ensures { self.new ≡ record self.old { phase = phase; tried = 0; done = 0; field = 0 } }
+        ensures begun { self.new ≡ begun_at phase self.old.fields }
+        ensures wide { 0 < self.new.fields }
     {
         self.phase = phase;
         self.tried = 0;
         self.done = 0;
+        self.slot = 0;
         self.field = 0;
     }
 }
