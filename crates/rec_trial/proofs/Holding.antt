@@ -144,6 +144,8 @@ pub record Over (o s : Deletion) (marks blacks finds : List Seen) : Type 0 where
   pub marked : List ℕ
   pub work : List ℕ
   pub end : Finished o (record s { marked = marked; work = work }) marks blacks finds
+  pub no_marked : s.marked ≡ []
+  pub no_work : s.work ≡ []
 
 abbrev pub inv_at : Phase → Deletion → Deletion → List Seen → List Seen → List Seen → Type 0
 inv_at Idle o s marks blacks finds = Over o s marks blacks finds

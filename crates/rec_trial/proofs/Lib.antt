@@ -20,3 +20,5 @@ pub mod Runs
 pub mod Conditions
 pub mod Midway
 pub mod AtWork
+pub mod Readings
+pub mod Whole

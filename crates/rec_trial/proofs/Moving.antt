@@ -117,6 +117,8 @@ module _ (o s : Deletion) (marks blacks finds : List Seen) where
       all_found = omega (arith, m.place.inside, ltb_no s.at (length s.members) d);
       all_tried = omega (arith, m.core.tries, ltb_no s.tried (length s.marked) e);
     };
+    no_marked = refl;
+    no_work = refl;
   }
   collect_kept m d true e = try_kept m (get_or s.marked s.tried 0) refl (ltb_yes s.tried (length s.marked) e) (is_white (s.colour (get_or s.marked s.tried 0))) refl
     where

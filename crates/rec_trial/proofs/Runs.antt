@@ -124,7 +124,7 @@ took_busy w word Marking e b = rw e refl
 took_busy w word Scanning e b = rw e refl
 took_busy w word Collecting e b = rw e refl
 
-busy_at : (m : Machine) (p : Phase) → m.phase ≡ p → (p ≡ Idle → ⊥) → IsSome (next_of m)
+pub busy_at : (m : Machine) (p : Phase) → m.phase ≡ p → (p ≡ Idle → ⊥) → IsSome (next_of m)
 unfolding next_of
 busy_at m Idle e n = absurd (n refl)
 busy_at m Marking e n = rw e refl

@@ -1,5 +1,5 @@
 -- What a trial promises where two loads of a field always give one word.
-use Rattle.std.specs.Prelude.{◌≡◌, ℕ, ◌-◌, ◌<◌, Some, List, [], ◌∷◌, count_by, IsNone}
+use Rattle.std.specs.Prelude.{◌≡◌, ℕ, ◌-◌, ◌<◌, false, Some, List, [], ◌∷◌, count_by, IsNone}
 use Rattle.std.specs.List.{range_with_len, sum_by}
 use Rattle.rec_word.specs.Word.{target_of}
 use Rattle.rec_counts.specs.declared.colour.Colour.TheVariants.{Purple}
