@@ -1,5 +1,5 @@
 -- A trial at work, from word to word: what it names, and that it stays one.
-use Rattle.std.proofs.Common.{◌≡◌, ℕ, zero, suc, ◌+◌, ◌-◌, ◌*◌, ◌^◌, ◌<◌, ◌≤◌, Bool, true, false, Option, None, Some, IfSome, IsSome, List, [], ◌∷◌, ◌++◌, length, fold, get_or, refl, sym, ap, subst, ◌∙◌, arith}
+use Rattle.std.proofs.Common.{◌≡◌, ℕ, ◌+◌, ◌*◌, ◌^◌, ◌<◌, ◌≤◌, Bool, true, false, None, Some, IsSome, List, [], ◌∷◌, ◌++◌, length, get_or, refl, sym, ap, subst, ◌∙◌, arith}
 use Rattle.std.specs.List.{concat}
 use Rattle.std.proofs.Math.Nat.{mul-le-mul}
 use Rattle.std.proofs.lemmas.List.{length-append}
@@ -7,7 +7,6 @@ use Rattle.std.proofs.lemmas.List.Sums.{fold-append}
 use Rattle.std.proofs.lemmas.Bool.{false≢true}
 use Rattle.rec_word.specs.Place.{place_of}
 use Rattle.rec_word.specs.Word.{target_of}
-use Rattle.rec_word.specs.declared.op.Op.{Op}
 use Rattle.rec_word.specs.declared.op.Op.TheVariants.{LoadChild}
 use Rattle.rec_counts.specs.Counts.{State, IsKept, slot_at}
 use Rattle.rec_counts.specs.Groups.{last_set, earlier_sets}
@@ -17,9 +16,9 @@ use Rattle.rec_trial.specs.declared.phase.Phase.{Phase}
 use Rattle.rec_trial.specs.declared.phase.Phase.TheVariants.{Idle, Marking, Scanning, Collecting}
 use Rattle.rec_trial.specs.Loaded.{Run, IsAtWork, noted_at, noted, begun, run_of}
 use Rattle.rec_trial.specs.Rules.{IsReady, LeadsToUnreleased, AllLeadToUnreleased}
-use Rattle.rec_trial.specs.Trial.{Machine, Work, NamesPlace, next_of, list_of, is_due_at, is_due, took_at, took_of, started_of}
+use Rattle.rec_trial.specs.Trial.{Machine, Work, NamesPlace, next_of, list_of, is_due_at, took_of, started_of}
 use Rattle.rec_trial.proofs.Course.{Course, first_view, due_seen, released_same}
-use Rattle.rec_trial.proofs.Deletion.{Seen, queue_at, due_at}
+use Rattle.rec_trial.proofs.Deletion.{Seen}
 use Rattle.rec_trial.proofs.Holding.{inv_at}
 use Rattle.rec_trial.proofs.Midway.{at_work_told, at_work_course, at_work_due}
 use Rattle.rec_trial.proofs.Places.{ltb_yes}

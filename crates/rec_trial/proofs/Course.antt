@@ -1,21 +1,18 @@
 -- The course of a trial over the counts: what holds of it by functions, and of the lists beside.
-use Rattle.std.proofs.Common.{◌≡◌, ℕ, zero, suc, ◌+◌, ◌-◌, ◌*◌, ◌%◌, ◌^◌, ◌<◌, ◌≤◌, Bool, true, false, eqb, ltb, cond, Option, None, Some, IfSome, List, [], ◌∷◌, ◌++◌, length, get_or, refl, sym, ap, subst, ◌∙◌, arith}
+use Rattle.std.proofs.Common.{◌≡◌, ℕ, zero, suc, ◌+◌, ◌<◌, ◌≤◌, Bool, true, false, ltb, cond, List, [], ◌∷◌, length, get_or, refl, sym, ap, subst, ◌∙◌, arith}
 use Rattle.std.specs.List.{concat}
 use Rattle.std.proofs.lemmas.List.{length-append}
 use Rattle.std.proofs.lemmas.Bool.{false≢true}
 use Rattle.std.proofs.lemmas.Bool.Decides.{nat_tests}
-use Rattle.rec_counts.specs.declared.colour.Colour.{Colour}
-use Rattle.rec_counts.specs.declared.colour.Colour.TheVariants.{Black, Purple, Gray, White, Orange}
-use Rattle.rec_counts.specs.Counts.{State, slot_at, without_root}
+use Rattle.rec_counts.specs.Counts.{State, slot_at}
 use Rattle.rec_counts.specs.Groups.{last_set, earlier_sets}
 use Rattle.rec_trial.specs.declared.phase.Phase.{Phase}
 use Rattle.rec_trial.specs.declared.phase.Phase.TheVariants.{Idle, Marking, Scanning, Collecting}
-use Rattle.rec_trial.specs.Moves.{is_gray, is_white, dropped_if, has_rest}
-use Rattle.rec_trial.specs.Trial.{Machine, Work, is_due_at, is_due, roots_moved, scan_moved, collect_moved, set_begun_if, moved_at, moves_left, settled_in, settled, opened_of}
-use Rattle.rec_trial.proofs.Totals.{total, times}
+use Rattle.rec_trial.specs.Trial.{Work, is_due_at, is_due, moved_at, moves_left, settled_in, settled, opened_of}
+use Rattle.rec_trial.proofs.Totals.{times}
 use Rattle.rec_trial.proofs.Deletion.{Deletion, Seen, due_at}
 use Rattle.rec_trial.proofs.Deletion as plain
-use Rattle.rec_trial.proofs.Holding.{inv_at, Inv, Same, BaseOf, Placed}
+use Rattle.rec_trial.proofs.Holding.{inv_at, Inv, Same}
 use Rattle.rec_trial.proofs.Moving.{one_kept, one_same, same_trans}
 use Rattle.rec_trial.proofs.Totals.{times-get}
 use Rattle.rec_trial.proofs.Places.{ltb_yes, ltb_no}

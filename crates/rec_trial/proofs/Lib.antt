@@ -22,3 +22,4 @@ pub mod Midway
 pub mod AtWork
 pub mod Readings
 pub mod Whole
+pub mod Exactly

@@ -1,8 +1,7 @@
 -- A trial that goes on without a load: what holds of it, and what its next move requires.
-use Rattle.std.proofs.Common.{◌≡◌, ℕ, zero, suc, ◌+◌, ◌-◌, ◌<◌, ◌≤◌, Bool, true, false, eqb, ltb, cond, Option, None, Some, IfSome, IsSome, List, [], ◌∷◌, ◌++◌, length, map, refl, sym, ap, subst, ◌∙◌, arith}
-use Rattle.std.specs.List.{concat, filter}
+use Rattle.std.proofs.Common.{◌≡◌, ℕ, ◌<◌, Bool, true, false, eqb, ltb, cond, List, [], ◌∷◌, ◌++◌, length, map, refl, sym, ap, subst, ◌∙◌, arith}
+use Rattle.std.specs.List.{concat}
 use Rattle.std.proofs.lemmas.Bool.Decides.{nat_tests}
-use Rattle.rec_word.specs.Word.{target_of}
 use Rattle.rec_counts.specs.Counts.{State, IsKept, slot_at}
 use Rattle.rec_counts.specs.Lists.{one}
 use Rattle.rec_counts.specs.Lists as in_counts
@@ -11,16 +10,16 @@ use Rattle.rec_counts.proofs.Times.{times-nil, times-cons, times-append, one-le}
 use Rattle.rec_trial.specs.declared.phase.Phase.{Phase}
 use Rattle.rec_trial.specs.declared.phase.Phase.TheVariants.{Idle, Marking, Scanning, Collecting}
 use Rattle.rec_trial.specs.Loaded.{Run, IsAtWork, GoesOn, begins, learns, run_of}
-use Rattle.rec_trial.specs.Moves.{is_black, is_gray, is_orange}
-use Rattle.rec_trial.specs.Rules.{IsReady, LeadsToUnreleased, CanMark, CanScan, CanCollect, RulesAt, released_among}
-use Rattle.rec_trial.specs.Trial.{Machine, Work, next_of, is_due, moved_at, settled, opened_of, advanced, learnt_at}
+use Rattle.rec_trial.specs.Moves.{is_gray}
+use Rattle.rec_trial.specs.Rules.{IsReady, RulesAt, released_among}
+use Rattle.rec_trial.specs.Trial.{Machine, Work, is_due, moved_at, settled}
 use Rattle.rec_trial.proofs.Course.{Course, first_view, moved_course, released_same}
 use Rattle.rec_trial.proofs.Deletion.{Seen}
 use Rattle.rec_trial.proofs.Holding.{inv_at}
 use Rattle.rec_trial.proofs.Rest.{Rest}
 use Rattle.rec_trial.proofs.Runs.{Told, seen_of, learnt_course, opened_course, told_run}
 use Rattle.rec_trial.proofs.Settling.{settled_at_once, settled_after}
-use Rattle.rec_trial.proofs.Totals.{times, occurs}
+use Rattle.rec_trial.proofs.Totals.{occurs}
 use Rattle.rec_trial.proofs.Views.{view}
 
 -- a trial began on counts that were ready for it, and came this far

@@ -1,6 +1,6 @@
 -- What a trial leaves of the counts beside the slots: roots, sets, zeros and the free list.
-use Rattle.std.proofs.Common.{◌≡◌, ℕ, zero, suc, ◌+◌, ◌-◌, ◌<◌, ◌≤◌, Bool, true, false, cond, Option, None, Some, List, [], ◌∷◌, ◌++◌, length, get_or, refl, sym, ap, ◌∙◌, arith, append_assoc}
-use Rattle.std.specs.List.{concat, filter}
+use Rattle.std.proofs.Common.{◌≡◌, ℕ, ◌-◌, ◌<◌, ◌≤◌, Bool, true, false, cond, Option, None, Some, List, [], ◌∷◌, ◌++◌, length, get_or, refl, sym, ap, ◌∙◌, arith, append_assoc}
+use Rattle.std.specs.List.{concat}
 use Rattle.std.proofs.lemmas.List.{length-set, length-map, length-append}
 use Rattle.rec_counts.specs.declared.colour.Colour.{Colour}
 use Rattle.rec_counts.specs.declared.colour.Colour.TheVariants.{Black, Purple, Gray, White, Orange}
@@ -8,9 +8,9 @@ use Rattle.rec_counts.specs.declared.slot.Slot.{Slot}
 use Rattle.rec_counts.specs.Counts.{State, slot_at, with_slot, without_root}
 use Rattle.rec_trial.specs.declared.phase.Phase.{Phase}
 use Rattle.rec_trial.specs.declared.phase.Phase.TheVariants.{Idle, Marking, Scanning, Collecting}
-use Rattle.rec_trial.specs.Moves.{is_gray, is_white, with_colour, touched_if, touched, one_off, marked_by, dropped_if, dropped, blackened_if, scanned_by, has_rest, whitened, all_whitened, joined_if, collected_by, with_new_set, cleared}
+use Rattle.rec_trial.specs.Moves.{is_gray, is_white, touched_if, touched, one_off, marked_by, dropped_if, dropped, blackened_if, scanned_by, has_rest, whitened, joined_if, collected_by, with_new_set}
 use Rattle.rec_trial.specs.Rules.{released_among}
-use Rattle.rec_trial.specs.Trial.{Machine, Work, roots_moved, scan_moved, set_begun_if, collect_moved, learnt_at}
+use Rattle.rec_trial.specs.Trial.{Work, roots_moved, scan_moved, set_begun_if, collect_moved}
 use Rattle.rec_trial.proofs.Views.{concat_member, length_member, concat_new}
 
 -- after marking there are no roots

@@ -1,5 +1,5 @@
 -- Whole trials, word by word.
-use Rattle.std.proofs.Common.{◌≡◌, ℕ, zero, suc, ◌+◌, ◌-◌, ◌*◌, ◌%◌, ◌^◌, ◌<◌, ◌≤◌, Bool, true, false, eqb, ltb, cond, Option, None, Some, IfSome, IsSome, List, [], ◌∷◌, ◌++◌, length, map, fold, get_or, refl, sym, ap, subst, ◌∙◌, arith, zero-add}
+use Rattle.std.proofs.Common.{◌≡◌, ℕ, zero, suc, ◌+◌, ◌%◌, ◌^◌, ◌<◌, Bool, true, false, ltb, Option, None, Some, IfSome, IsSome, List, [], ◌∷◌, ◌++◌, length, map, fold, get_or, refl, sym, ap, subst, ◌∙◌, arith, zero-add}
 use Rattle.std.specs.List.{concat}
 use Rattle.std.proofs.lemmas.Bool.{false≢true}
 use Rattle.rec_word.specs.Word.{slot_of_bits, target_of}
@@ -9,8 +9,8 @@ use Rattle.rec_trial.specs.declared.phase.Phase.{Phase}
 use Rattle.rec_trial.specs.declared.phase.Phase.TheVariants.{Idle, Marking, Scanning, Collecting}
 use Rattle.rec_trial.specs.Loaded.{Load, Run, load_of, noted_at, noted, begun, run_of}
 use Rattle.rec_trial.specs.Rules.{IsReady, LeadsToUnreleased, AllLeadToUnreleased}
-use Rattle.rec_trial.specs.Trial.{Machine, Work, next_of, list_of, is_due_at, is_due, settled, pointed, learnt_at, advanced, advanced_if, took_at, took_of, opened_of, started_of}
-use Rattle.rec_trial.proofs.Course.{Course, first_view, due_seen, settled_course, released_same, members_are}
+use Rattle.rec_trial.specs.Trial.{Machine, Work, next_of, list_of, is_due_at, is_due, settled, pointed, learnt_at, advanced, advanced_if, took_of, opened_of, started_of}
+use Rattle.rec_trial.proofs.Course.{Course, first_view, due_seen, settled_course, released_same}
 use Rattle.rec_trial.proofs.Deletion.{Deletion, Seen, Story, seen, queue_at, due_at, told_at}
 use Rattle.rec_trial.proofs.Deletion as plain
 use Rattle.rec_trial.proofs.Holding.{inv_at, Inv, Same, Alive}
@@ -20,7 +20,7 @@ use Rattle.rec_trial.proofs.Rest.{Rest, rest_same, same_marked, same_scanned, re
 use Rattle.rec_trial.proofs.Settling.{settled_is_due}
 use Rattle.rec_trial.proofs.Steps.{in_range, bits_suc, view_advanced, view_marked_by, view_scanned_by, view_collected_by}
 use Rattle.rec_trial.proofs.Turns.{told_kept, told_same, opening_kept}
-use Rattle.rec_trial.proofs.Views.{at_of, earlier, view_of, view, concat_last}
+use Rattle.rec_trial.proofs.Views.{at_of, earlier, view, concat_last}
 
 -- the code of a target in a word
 abbrev pub code_of : (word : ℕ) → ℕ

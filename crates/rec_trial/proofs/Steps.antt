@@ -1,23 +1,22 @@
 -- What a trial learns and what it does between two loads, seen as a trial by functions.
-use Rattle.std.proofs.Common.{◌≡◌, ℕ, zero, suc, ◌+◌, ◌-◌, ◌%◌, ◌^◌, ◌<◌, ◌≤◌, Bool, true, false, eqb, ltb, cond, Option, None, Some, IfSome, List, [], ◌∷◌, ◌++◌, length, get_or, refl, sym, ap, ◌∙◌, arith, inl, inr, add-one}
+use Rattle.std.proofs.Common.{◌≡◌, ℕ, zero, suc, ◌+◌, ◌-◌, ◌<◌, Bool, true, false, eqb, ltb, Some, IfSome, List, [], ◌∷◌, length, get_or, refl, sym, ap, ◌∙◌, arith, inl, inr, add-one}
 use Rattle.std.specs.List.{concat}
 use Rattle.std.proofs.lemmas.List.{get_or_past, length-set, length-append}
 use Rattle.std.proofs.lemmas.Bool.{cases_lt, false≢true}
 use Rattle.std.proofs.lemmas.Bool.Decides.{nat_tests}
-use Rattle.rec_word.specs.Word.{slot_of_bits, target_of}
+use Rattle.rec_word.specs.Word.{slot_of_bits}
 use Rattle.rec_counts.specs.declared.colour.Colour.{Colour}
 use Rattle.rec_counts.specs.declared.colour.Colour.TheVariants.{Black, Purple, Gray, White, Orange}
 use Rattle.rec_counts.specs.declared.slot.Slot.{Slot}
-use Rattle.rec_counts.specs.Counts.{State, slot_at, with_slot, without_root}
-use Rattle.rec_counts.specs.Groups.{last_set, earlier_sets}
+use Rattle.rec_counts.specs.Counts.{State, slot_at, without_root}
 use Rattle.rec_counts.specs.Slot.{absent}
 use Rattle.rec_trial.specs.declared.phase.Phase.{Phase}
 use Rattle.rec_trial.specs.declared.phase.Phase.TheVariants.{Idle, Marking, Scanning, Collecting}
-use Rattle.rec_trial.specs.Moves.{is_gray, is_white, touched_if, touched, one_off, marked_by, dropped_if, dropped, blackened_if, scanned_by, has_rest, all_whitened, joined_if, collected_by, with_new_set, cleared}
-use Rattle.rec_trial.specs.Trial.{Machine, Work, begun_at, roots_moved, scan_moved, set_begun_if, collect_moved, moved_at, learnt_at, advanced_if, advanced}
+use Rattle.rec_trial.specs.Moves.{is_gray, is_white, touched_if, touched, one_off, marked_by, dropped_if, dropped, scanned_by, has_rest, all_whitened, collected_by, with_new_set}
+use Rattle.rec_trial.specs.Trial.{Machine, Work, begun_at, roots_moved, scan_moved, set_begun_if, collect_moved, advanced_if, advanced}
 use Rattle.rec_trial.proofs.Deletion.{Deletion, next_at, next_field}
 use Rattle.rec_trial.proofs.Deletion as plain
-use Rattle.rec_trial.proofs.Views.{at_of, earlier, view_of, view, view_touched, view_one_off, view_blackened, view_joined, view_whitened, view_rootless, concat_last, concat_new, earlier_new}
+use Rattle.rec_trial.proofs.Views.{at_of, earlier, view_of, view, view_touched, view_one_off, view_blackened, view_joined, view_whitened, view_rootless, concat_new, earlier_new}
 
 -- a slot that is not released is in range
 pub in_range : (s : State) (x : ℕ) → (slot_at s x).released ≡ false → x < length s.slots

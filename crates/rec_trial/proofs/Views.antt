@@ -1,19 +1,19 @@
 -- The machine and the counts, seen as a trial by functions: what is done to the counts is done to what is seen.
-use Rattle.std.proofs.Common.{◌≡◌, ◌≢◌, ℕ, zero, suc, ◌+◌, ◌-◌, ◌<◌, ◌≤◌, Bool, true, false, eqb, cond, Option, None, Some, List, [], ◌∷◌, ◌++◌, length, map, take, get_or, refl, sym, ap, ◌∙◌, arith, inl, inr, append_assoc}
+use Rattle.std.proofs.Common.{◌≡◌, ℕ, zero, suc, ◌+◌, ◌-◌, ◌<◌, Bool, true, false, eqb, cond, Option, None, Some, List, [], ◌∷◌, ◌++◌, length, map, get_or, refl, sym, ap, ◌∙◌, arith, inl, inr, append_assoc}
 use Rattle.std.proofs.Math.ListN.{set}
 use Rattle.std.specs.List.{concat}
 use Rattle.std.proofs.lemmas.List.{append-nil, get_or-set_same, get_or-set_other, length-set, length-append}
 use Rattle.std.proofs.lemmas.Bool.Decides.{eqb_tells}
 use Rattle.rec_counts.specs.declared.colour.Colour.{Colour}
-use Rattle.rec_counts.specs.declared.colour.Colour.TheVariants.{Black, Purple, Gray, White, Orange}
+use Rattle.rec_counts.specs.declared.colour.Colour.TheVariants.{Black, Gray, White, Orange}
 use Rattle.rec_counts.specs.declared.slot.Slot.{Slot}
-use Rattle.rec_counts.specs.Counts.{State, slot_at, with_slot, with_joined, without_root}
+use Rattle.rec_counts.specs.Counts.{State, slot_at, with_slot, without_root}
 use Rattle.rec_counts.specs.Groups.{last_set, earlier_sets, with_member}
 use Rattle.rec_counts.specs.Slot.{absent}
 use Rattle.rec_counts.proofs.Keeping.{field_kept}
 use Rattle.rec_trial.specs.declared.phase.Phase.{Phase}
 use Rattle.rec_trial.specs.declared.phase.Phase.TheVariants.{Idle, Marking, Scanning, Collecting}
-use Rattle.rec_trial.specs.Moves.{is_gray, is_white, with_colour, touched_if, touched, one_off, dropped_if, blackened_if, whitened, all_whitened, joined_if, with_new_set}
+use Rattle.rec_trial.specs.Moves.{is_gray, touched_if, one_off, blackened_if, whitened, all_whitened, joined_if}
 use Rattle.rec_trial.specs.Trial.{Machine, Work}
 use Rattle.rec_trial.proofs.Totals.{changed}
 use Rattle.rec_trial.proofs.Deletion.{Deletion}

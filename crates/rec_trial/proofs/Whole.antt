@@ -1,9 +1,8 @@
 -- What a trial promises, from what holds of it.
-use Rattle.std.proofs.Common.{◌≡◌, ℕ, zero, suc, ◌+◌, ◌-◌, ◌*◌, ◌<◌, ◌≤◌, Bool, true, false, Option, None, Some, IsNone, IsSome, List, [], ◌∷◌, ◌++◌, length, map, fold, get_or, refl, sym, ap, subst, ◌∙◌, arith, inl, inr, ◌⊎◌}
+use Rattle.std.proofs.Common.{◌≡◌, ℕ, zero, suc, ◌+◌, ◌*◌, ◌<◌, ◌≤◌, Bool, true, false, Option, Some, IsNone, IsSome, List, [], ◌∷◌, length, map, fold, refl, sym, ap, subst, ◌∙◌, arith, inl, inr, ◌⊎◌}
 use Rattle.std.specs.List.{concat}
 use Rattle.std.proofs.lemmas.Bool.{false≢true}
 use Rattle.std.proofs.lemmas.List.{get_or_past, length-map}
-use Rattle.rec_word.specs.Word.{slot_of_bits, target_of}
 use Rattle.rec_counts.specs.declared.colour.Colour.{Colour}
 use Rattle.rec_counts.specs.declared.slot.Slot.{Slot}
 use Rattle.rec_counts.specs.Counts.{State, slot_at}
@@ -12,26 +11,23 @@ use Rattle.rec_counts.specs.Lists as in_counts
 use Rattle.rec_counts.specs.Slot.{absent}
 use Rattle.rec_trial.specs.declared.phase.Phase.{Phase}
 use Rattle.rec_trial.specs.declared.phase.Phase.TheVariants.{Idle, Marking, Scanning, Collecting}
-use Rattle.rec_trial.specs.Loaded.{Load, Run, noted_at, noted, begun, run_of}
+use Rattle.rec_trial.specs.Loaded.{Run, noted_at, noted, begun, run_of}
 use Rattle.rec_trial.specs.Moves.{is_black, is_gray, is_white, is_orange}
 use Rattle.rec_trial.specs.Rules.{IsReady, AllLeadToUnreleased}
-use Rattle.rec_trial.specs.Still.{IsSeed, IsReached, IsHeld, IsExact, TrialIsExact, references, rest}
-use Rattle.rec_trial.specs.Still as still
 use Rattle.rec_trial.specs.Tried.{IsCareful, IsOver, TrialIsCareful, TrialIsWhole, TrialEnds, members}
 use Rattle.rec_trial.specs.Tried as tried
 use Rattle.rec_trial.specs.Trial.{Machine, Work, next_of}
 use Rattle.rec_trial.proofs.AtWork.{told_place}
-use Rattle.rec_trial.proofs.Bounds.{Few, bounded_at}
-use Rattle.rec_trial.proofs.Course.{Course, first_view}
-use Rattle.rec_trial.proofs.Deletion.{Deletion, Seen, Story}
+use Rattle.rec_trial.proofs.Bounds.{bounded_at}
+use Rattle.rec_trial.proofs.Course.{first_view}
+use Rattle.rec_trial.proofs.Deletion.{Story}
 use Rattle.rec_trial.proofs.Done.{careful, right, all_of, no_white_left}
 use Rattle.rec_trial.proofs.Holding.{inv_at, Inv, Over, Finished, Same, Seed, Careful, Right, FromRoot, Live, Exact, fields_naming}
 use Rattle.rec_trial.proofs.Holding as law
-use Rattle.rec_trial.proofs.Readings.{loaded_read, naming_read, edges_read, code_some, codes, still_tells, references_read}
+use Rattle.rec_trial.proofs.Readings.{loaded_read, naming_read, edges_read}
 use Rattle.rec_trial.proofs.Rest.{no_roots_at}
-use Rattle.rec_trial.proofs.Runs.{Told, busy_at, told_run, seen_of, code_of}
-use Rattle.rec_trial.proofs.Steps.{bits_suc}
-use Rattle.rec_trial.proofs.Stills.{exact, within_of}
+use Rattle.rec_trial.proofs.Runs.{Told, busy_at, told_run, seen_of}
+use Rattle.rec_trial.proofs.Stills.{within_of}
 use Rattle.rec_trial.proofs.Totals.{times, occurs}
 use Rattle.rec_trial.proofs.Views.{view, set_code}
 
@@ -47,7 +43,7 @@ idle_none : (m : Machine) → m.phase ≡ Idle → IsNone (next_of m)
 unfolding next_of
 idle_none m e = rw e refl
 
-none_idle : (m : Machine) → IsNone (next_of m) → m.phase ≡ Idle
+pub none_idle : (m : Machine) → IsNone (next_of m) → m.phase ≡ Idle
 unfolding next_of
 none_idle m h = go m.phase refl
   where
@@ -91,9 +87,6 @@ past_released s n e x h = ap (λ (v : Slot). v.released) (get_or_past s.slots x 
 
 -- at every moment
 module _ (fields : ℕ) (before : State) (words : List ℕ) (f : 0 < fields) (k : IsReady before) (a : AllLeadToUnreleased before words) where
-  r : Run
-  r = run_of fields before words
-
   told : Told fields before (run_of fields before words)
   told = told_run fields before words f k a
 
@@ -150,7 +143,7 @@ whole_ends fields before words f k a long = go (run_of fields before words).work
     go Collecting e = absurd (busy (some Collecting e (λ q. cc)))
 
 -- when it is over
-over_of : (fields : ℕ) (before : State) (r : Run) → Told fields before r → IsNone (next_of r.work.machine) → Over (first_view fields before) (view r.work) (map seen_of r.marking) (map seen_of r.blackening) (map seen_of r.collecting)
+pub over_of : (fields : ℕ) (before : State) (r : Run) → Told fields before r → IsNone (next_of r.work.machine) → Over (first_view fields before) (view r.work) (map seen_of r.marking) (map seen_of r.blackening) (map seen_of r.collecting)
 over_of fields before r t h = subst (λ p. inv_at p (first_view fields before) (view r.work) (map seen_of r.marking) (map seen_of r.blackening) (map seen_of r.collecting)) (none_idle r.work.machine h) t.course.inv
 
 set_numbers : (a b : Option ℕ) (i j : ℕ) → a ≡ Some i → b ≡ Some j → set_code b ≤ set_code a → j ≤ i
@@ -160,11 +153,10 @@ not_gray : (c : Colour) (m : ℕ) → m + one (is_black c) ≡ 1 → m ≤ one (
 not_gray c m a b = grind arith
 
 module _ (fields : ℕ) (before : State) (r : Run) (t : Told fields before r) (ready : IsReady before) (o : Over (first_view fields before) (view r.work) (map seen_of r.marking) (map seen_of r.blackening) (map seen_of r.collecting)) where
-  ended : Story
+  abbrev pub ended : Story
   ended = record { state = record (view r.work) { marked = o.marked; work = o.work }; marks = map seen_of r.marking; blacks = map seen_of r.blackening; finds = map seen_of r.collecting }
 
-  is_over : r.work.machine.phase ≡ Idle → IsOver fields before r o.marked
-  unfolding ended
+  pub is_over : r.work.machine.phase ≡ Idle → IsOver fields before r o.marked
   is_over idle =
       let e : Same (first_view fields before) ended.state = record { fields = t.course.same.fields; count = t.course.same.count; released = t.course.same.released } in
       let f : Finished (first_view fields before) ended.state ended.marks ended.blacks ended.finds = o.end in

@@ -1,5 +1,5 @@
 -- What a trial promises, whatever words it is given: facts of the counts and of what it loaded.
-use Rattle.std.specs.Prelude.{◌≡◌, ℕ, ◌+◌, ◌*◌, ◌<◌, ◌≤◌, ◌==◌, Bool, true, false, if◌then◌else◌, Option, None, Some, List, [], ◌++◌, length, count_by, IsNone, IsSome}
+use Rattle.std.specs.Prelude.{◌≡◌, ℕ, ◌+◌, ◌*◌, ◌<◌, ◌≤◌, ◌==◌, Bool, false, if◌then◌else◌, Option, None, Some, List, [], ◌++◌, length, count_by, IsNone, IsSome}
 use Rattle.std.specs.List.{concat}
 use Rattle.rec_word.specs.Word.{target_of}
 use Rattle.rec_counts.specs.Counts.{State, slot_at}

@@ -1,6 +1,6 @@
 use Rattle.std.proofs.Common.{◌≡◌, ◌<◌, ap, ◌∙◌}
 use Rattle.rec_trial.specs.Loaded.{begins}
-use Rattle.rec_trial.specs.Trial.{Machine, Work, opened_of, pointed, settled, started_of}
+use Rattle.rec_trial.specs.Trial.{Work, opened_of, pointed, settled, started_of}
 use Rattle.rec_trial.proofs.AtWork.{at_work_place, started_at_work, started_slots}
 use Rattle.rec_trial.proofs.trial.Trial.start.Goals as goal
 

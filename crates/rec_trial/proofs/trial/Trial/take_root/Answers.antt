@@ -1,4 +1,4 @@
-use Rattle.std.proofs.Common.{◌≡◌, ◌∙◌, sym, refl, rules}
+use Rattle.std.proofs.Common.{◌∙◌, sym, refl}
 use Rattle.rec_trial.proofs.Conditions.{root_range, root_unlisted}
 use Rattle.rec_trial.proofs.trial.Trial.take_root.Goals as goal
 

@@ -1,8 +1,7 @@
-use Rattle.std.proofs.Common.{◌≡◌, ◌<◌, arith, ap, ◌∙◌, refl, sym}
+use Rattle.std.proofs.Common.{◌≡◌, ap, ◌∙◌, refl, sym}
 use Rattle.rec_word.specs.Word.{target_of}
-use Rattle.rec_counts.specs.Counts.{State}
 use Rattle.rec_trial.specs.Loaded.{learns}
-use Rattle.rec_trial.specs.Trial.{Machine, Work, advanced, learnt_at, pointed, settled, took_of}
+use Rattle.rec_trial.specs.Trial.{Work, advanced, learnt_at, pointed, settled}
 use Rattle.rec_trial.proofs.AtWork.{at_work_place, small_done, took_at_work, took_slots}
 use Rattle.rec_trial.proofs.Midway.{at_work_due, at_work_midway, rules_midway}
 use Rattle.rec_trial.proofs.Runs.{took_busy}
