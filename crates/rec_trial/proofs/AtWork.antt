@@ -17,14 +17,14 @@ use Rattle.rec_trial.specs.declared.phase.Phase.TheVariants.{Idle, Marking, Scan
 use Rattle.rec_trial.specs.Loaded.{Run, IsAtWork, noted_at, noted, begun, run_of}
 use Rattle.rec_trial.specs.Rules.{IsReady, LeadsToUnreleased, AllLeadToUnreleased}
 use Rattle.rec_trial.specs.Trial.{Machine, Work, NamesPlace, next_of, list_of, is_due_at, took_of, started_of}
-use Rattle.rec_trial.proofs.Course.{Course, first_view, due_seen, released_same}
+use Rattle.rec_trial.proofs.Course.{Course, alive_range, first_view, due_seen, released_same}
 use Rattle.rec_trial.proofs.Deletion.{Seen}
 use Rattle.rec_trial.proofs.Holding.{inv_at}
 use Rattle.rec_trial.proofs.Midway.{at_work_told, at_work_course, at_work_due}
 use Rattle.rec_trial.proofs.Places.{ltb_yes}
 use Rattle.rec_trial.proofs.Runs.{Told, node_seen, begun_told, still_unreleased, told_next}
 use Rattle.rec_trial.proofs.Steps.{in_range}
-use Rattle.rec_trial.proofs.Totals.{times, times-get}
+use Rattle.rec_trial.proofs.Totals.{times, times_here}
 use Rattle.rec_trial.proofs.Views.{view, concat_last}
 
 -- a field of a slot that is there
@@ -32,13 +32,6 @@ place_there : (slots fields slot field : ℕ) → slot < slots → field < field
 place_there slots fields slot field s f =
     let m : (slot + 1) * fields ≤ slots * fields = mul-le-mul {n₁ = slot + 1} {m₁ = fields} {n₂ = slots} {m₂ = fields} (omega (arith, s)) (omega arith) in
     omega (arith, m, f)
-
-unreleased : (s : State) (x : ℕ) → ((slot_at s x).released ≡ true → times x s.marked ≡ 0) → 0 < times x s.marked → x < length s.slots
-unreleased s x h l = go (slot_at s x).released refl
-  where
-    go : (b : Bool) → (slot_at s x).released ≡ b → x < length s.slots
-    go true e = absurd (omega (arith, h e, l))
-    go false e = in_range s x e
 
 -- the field that is due is one of a marked slot
 record Due (w : Work) : Type 0 where
@@ -50,17 +43,17 @@ due_at_work w c Idle e n d node i = absurd (n refl)
 due_at_work w c Marking e n d node i =
     let l : (view w).at < length w.counts.marked = ltb_yes (view w).at (length w.counts.marked) (sym (due_seen w Marking e) ∙ d) in
     let q : w.machine.slot ≡ get_or w.counts.marked (view w).at 0 = node ∙ node_seen w Marking e in
-    record { slot = rw q (unreleased w.counts (get_or w.counts.marked (view w).at 0) (i.core.base.alive (get_or w.counts.marked (view w).at 0)) (times-get w.counts.marked (view w).at l)); field = i.place.below }
+    record { slot = rw q (alive_range w.counts (get_or w.counts.marked (view w).at 0) (i.core.base.alive (get_or w.counts.marked (view w).at 0)) (times_here w.counts.marked (view w).at l)); field = i.place.below }
 due_at_work w c Scanning e n d node i =
     let l : (view w).at < length w.counts.work = ltb_yes (view w).at (length w.counts.work) (sym (due_seen w Scanning e) ∙ d) in
     let x : ℕ = get_or w.counts.work (view w).at 0 in
     let q : w.machine.slot ≡ x = node ∙ node_seen w Scanning e in
-    record { slot = rw q (unreleased w.counts x (i.core.base.alive x) (omega (arith, i.core.parts x, times-get w.counts.work (view w).at l))); field = i.place.below }
+    record { slot = rw q (alive_range w.counts x (i.core.base.alive x) (omega (arith, i.core.parts x, times_here w.counts.work (view w).at l))); field = i.place.below }
 due_at_work w c Collecting e n d node i =
     let l : (view w).at < length (concat w.counts.sets) = ltb_yes (view w).at (length (concat w.counts.sets)) (sym (due_seen w Collecting e) ∙ d) in
     let x : ℕ = get_or (concat w.counts.sets) (view w).at 0 in
     let q : w.machine.slot ≡ x = node ∙ node_seen w Collecting e in
-    record { slot = rw q (unreleased w.counts x (i.core.base.alive x) (omega (arith, i.core.parts x, times-get (concat w.counts.sets) (view w).at l))); field = i.place.below }
+    record { slot = rw q (alive_range w.counts x (i.core.base.alive x) (omega (arith, i.core.parts x, times_here (concat w.counts.sets) (view w).at l))); field = i.place.below }
 
 named_place : (m : Machine) (p : Phase) (place : ℕ) → m.phase ≡ p → next_of m ≡ Some (LoadChild place) → (p ≡ Idle → ⊥) × (place ≡ place_of m.slot m.field m.fields)
 unfolding next_of

@@ -14,14 +14,14 @@ count_all : (ls : List Seen) → total (λ (l : Seen). 1) ls ≡ length ls
 count_all [] = refl
 count_all (l ∷ ls) = omega (arith, count_all ls)
 
-upto_one : (k : ℕ) → total_below (λ g. 1) k ≡ k
-upto_one zero = refl
-upto_one (suc k) = omega (arith, upto_one k)
+below_one : (k : ℕ) → total_below (λ g. 1) k ≡ k
+below_one zero = refl
+below_one (suc k) = omega (arith, below_one k)
 
-first_const : (w at : ℕ) (xs : List ℕ) → at ≤ length xs → total_of_first (λ n. w) at xs ≡ w * at
-first_const w zero xs h = omega arith
-first_const w (suc at) [] h = absurd (omega arith)
-first_const w (suc at) (x ∷ xs) h = omega (arith, first_const w at xs (omega arith))
+first_all_same : (w at : ℕ) (xs : List ℕ) → at ≤ length xs → total_of_first (λ n. w) at xs ≡ w * at
+first_all_same w zero xs h = omega arith
+first_all_same w (suc at) [] h = absurd (omega arith)
+first_all_same w (suc at) (x ∷ xs) h = omega (arith, first_all_same w at xs (omega arith))
 
 first_same : (f g : ℕ → ℕ) (at : ℕ) (xs : List ℕ) → ((n : ℕ) → f n ≡ g n) → total_of_first f at xs ≡ total_of_first g at xs
 first_same f g zero xs h = refl
@@ -30,7 +30,7 @@ first_same f g (suc at) (x ∷ xs) h = omega (arith, h x, first_same f g at xs h
 
 -- the loads so far
 pub loads_are : (fields : ℕ) (xs : List ℕ) (at field : ℕ) (ls : List Seen) → Placed fields xs at field ls → length ls ≡ fields * at + field
-loads_are fields xs at field ls p = omega (arith, p.swept (λ n g. 1), count_all ls, first_same (λ n. total_below (λ g. 1) fields) (λ n. fields) at xs (λ n. upto_one fields), first_const fields at xs p.inside, upto_one field)
+loads_are fields xs at field ls p = omega (arith, p.swept (λ n g. 1), count_all ls, first_same (λ n. total_below (λ g. 1) fields) (λ n. fields) at xs (λ n. below_one fields), first_all_same fields at xs p.inside, below_one field)
 
 pub loads_within : (fields : ℕ) (xs : List ℕ) (at field : ℕ) (ls : List Seen) → Placed fields xs at field ls → length ls ≤ fields * length xs
 loads_within fields xs at field ls p = go (length xs - at) refl

@@ -14,7 +14,7 @@ use Rattle.rec_trial.proofs.Deletion.{Deletion, Seen, due_at}
 use Rattle.rec_trial.proofs.Deletion as plain
 use Rattle.rec_trial.proofs.Holding.{inv_at, Inv, Same}
 use Rattle.rec_trial.proofs.Moving.{one_kept, one_same, same_trans}
-use Rattle.rec_trial.proofs.Totals.{times-get}
+use Rattle.rec_trial.proofs.Totals.{times_here}
 use Rattle.rec_trial.proofs.Places.{ltb_yes, ltb_no}
 use Rattle.rec_trial.proofs.Rest.{Rest, rest_roots, rest_scan, rest_collect}
 use Rattle.rec_trial.proofs.Steps.{in_range, view_roots, view_scan, view_collect}
@@ -47,7 +47,7 @@ due_seen w Collecting e =
     ∙ (λ i. ltb (at_of (sym e i) w.machine.done (earlier w.counts)) (length (concat w.counts.sets)))
 
 -- what is marked is in range
-alive_range : (s : State) (x : ℕ) → ((slot_at s x).released ≡ true → times x s.marked ≡ 0) → 0 < times x s.marked → x < length s.slots
+pub alive_range : (s : State) (x : ℕ) → ((slot_at s x).released ≡ true → times x s.marked ≡ 0) → 0 < times x s.marked → x < length s.slots
 alive_range s x h l = go (slot_at s x).released refl
   where
     go : (b : Bool) → (slot_at s x).released ≡ b → x < length s.slots
@@ -55,7 +55,7 @@ alive_range s x h l = go (slot_at s x).released refl
     go false e = in_range s x e
 
 tried_range : (s : State) (k : ℕ) → ((x : ℕ) → (slot_at s x).released ≡ true → times x s.marked ≡ 0) → ltb k (length s.marked) ≡ true → get_or s.marked k 0 < length s.slots
-tried_range s k h e = alive_range s (get_or s.marked k 0) (h (get_or s.marked k 0)) (times-get s.marked k (ltb_yes k (length s.marked) e))
+tried_range s k h e = alive_range s (get_or s.marked k 0) (h (get_or s.marked k 0)) (times_here s.marked k (ltb_yes k (length s.marked) e))
 
 no_sets : (sets : List (List ℕ)) → length sets ≤ length (concat sets) → concat sets ≡ [] → sets ≡ []
 no_sets [] h e = refl

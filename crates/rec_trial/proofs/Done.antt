@@ -1,4 +1,4 @@
--- What a trial promises.
+-- What a trial promises, as functions, from what holds of it.
 use Rattle.std.proofs.Common.{◌≡◌, ℕ, zero, suc, ◌+◌, ◌<◌, ◌≤◌, Bool, true, false, eqb, ltb, List, [], ◌∷◌, length, get_or, refl, arith}
 use Rattle.std.proofs.lemmas.Bool.Decides.{nat_tests}
 use native.Mathlib.Decide.{dec_lt}
@@ -9,35 +9,35 @@ use Rattle.rec_trial.proofs.Deletion.{Seen, Deletion, Story}
 use Rattle.rec_trial.specs.declared.phase.Phase.{Phase}
 use Rattle.rec_trial.specs.declared.phase.Phase.TheVariants.{Idle, Marking, Scanning, Collecting}
 use Rattle.rec_trial.proofs.Holding.{Collected, Placed, named, loaded, Finished, inv_at, Inv, Same, Over, Careful, Right}
-use Rattle.rec_trial.proofs.Totals.{total_of_first-suc, total_of_first-all, total_of_first-le}
+use Rattle.rec_trial.proofs.Totals.{first_more, first_whole, first_le}
 
-upto_gate : (b : Bool) (g k : ℕ) → total_below (λ j. guarded b (same g j)) k ≡ guarded b (one (ltb g k))
-upto_gate b g zero = grind (arith, nat_tests)
-upto_gate b g (suc k) = let r : total_below (λ j. guarded b (same g j)) k ≡ guarded b (one (ltb g k)) = upto_gate b g k in last b g k (total_below (λ j. guarded b (same g j)) k) r
+below_guarded : (b : Bool) (g k : ℕ) → total_below (λ j. guarded b (same g j)) k ≡ guarded b (one (ltb g k))
+below_guarded b g zero = grind (arith, nat_tests)
+below_guarded b g (suc k) = let r : total_below (λ j. guarded b (same g j)) k ≡ guarded b (one (ltb g k)) = below_guarded b g k in last b g k (total_below (λ j. guarded b (same g j)) k) r
   where
     last : (b : Bool) (g k u : ℕ) → u ≡ guarded b (one (ltb g k)) → u + guarded b (same g k) ≡ guarded b (one (ltb g (suc k)))
     last b g k u r = grind (arith, nat_tests)
 
-first_gate : (n g fields at : ℕ) (xs : List ℕ) → total_of_first (λ m. total_below (λ j. guarded (eqb n m) (same g j)) fields) at xs ≡ guarded (ltb g fields) (total_of_first (same n) at xs)
-first_gate n g fields zero xs = grind arith
-first_gate n g fields (suc at) [] = grind arith
-first_gate n g fields (suc at) (x ∷ xs) = add (first_gate n g fields at xs) (upto_gate (eqb n x) g fields)
+first_guarded : (n g fields at : ℕ) (xs : List ℕ) → total_of_first (λ m. total_below (λ j. guarded (eqb n m) (same g j)) fields) at xs ≡ guarded (ltb g fields) (total_of_first (same n) at xs)
+first_guarded n g fields zero xs = grind arith
+first_guarded n g fields (suc at) [] = grind arith
+first_guarded n g fields (suc at) (x ∷ xs) = add (first_guarded n g fields at xs) (below_guarded (eqb n x) g fields)
   where
     add : total_of_first (λ m. total_below (λ j. guarded (eqb n m) (same g j)) fields) at xs ≡ guarded (ltb g fields) (total_of_first (same n) at xs) → total_below (λ j. guarded (eqb n x) (same g j)) fields ≡ guarded (eqb n x) (one (ltb g fields)) → total_below (λ j. guarded (eqb n x) (same g j)) fields + total_of_first (λ m. total_below (λ j. guarded (eqb n m) (same g j)) fields) at xs ≡ guarded (ltb g fields) (same n x + total_of_first (same n) at xs)
     add a b = grind (arith, nat_tests)
 
 module _ (fields : ℕ) (xs : List ℕ) (at field : ℕ) (ls : List Seen) (p : Placed fields xs at field ls) where
   pub loads_of : (n g : ℕ) → loaded n g ls ≡ guarded (ltb g fields) (total_of_first (same n) at xs) + guarded (eqb n (get_or xs at 0)) (one (ltb g field))
-  loads_of n g = omega (arith, p.swept (λ a b. guarded (eqb n a) (same g b)), first_gate n g fields at xs, upto_gate (eqb n (get_or xs at 0)) g field)
+  loads_of n g = omega (arith, p.swept (λ a b. guarded (eqb n a) (same g b)), first_guarded n g fields at xs, below_guarded (eqb n (get_or xs at 0)) g field)
 
   pub once_of : (n g : ℕ) → times n xs ≤ 1 → loaded n g ls ≤ 1
   once_of n g h = elim (dec_lt at (length xs)) [
-    | yes l ↦ small (gate_le (ltb g fields) (total_of_first (same n) at xs)) (cut (eqb n (get_or xs at 0)) (ltb g field)) (total_of_first-suc (same n) at xs l) (total_of_first-le (same n) (suc at) xs) h
-    | no l ↦ let z : field ≡ 0 = p.rests (omega (arith, p.inside)) in past z (gate_le (ltb g fields) (total_of_first (same n) at xs)) (total_of_first-le (same n) at xs) h (none (eqb n (get_or xs at 0)) g)
+    | yes l ↦ small (guarded_le (ltb g fields) (total_of_first (same n) at xs)) (cut (eqb n (get_or xs at 0)) (ltb g field)) (first_more (same n) at xs l) (first_le (same n) (suc at) xs) h
+    | no l ↦ let z : field ≡ 0 = p.rests (omega (arith, p.inside)) in past z (guarded_le (ltb g fields) (total_of_first (same n) at xs)) (first_le (same n) at xs) h (none (eqb n (get_or xs at 0)) g)
   ]
     where
-      gate_le : (b : Bool) (n : ℕ) → guarded b n ≤ n
-      gate_le b n = grind arith
+      guarded_le : (b : Bool) (n : ℕ) → guarded b n ≤ n
+      guarded_le b n = grind arith
 
       cut : (a b : Bool) → guarded a (one b) ≤ one a
       cut a b = grind arith
@@ -52,16 +52,16 @@ module _ (fields : ℕ) (xs : List ℕ) (at field : ℕ) (ls : List Seen) (p : P
       past z a b c d = let e : loaded n g ls ≡ guarded (ltb g fields) (total_of_first (same n) at xs) + guarded (eqb n (get_or xs at 0)) (one (ltb g 0)) = rw z at (loads_of n g) in omega arith
 
 pub all_of : (fields : ℕ) (xs : List ℕ) (ls : List Seen) → Placed fields xs (length xs) 0 ls → (n g : ℕ) → g < fields → loaded n g ls ≡ times n xs
-all_of fields xs ls p n g h = fit (loads_of fields xs (length xs) 0 ls p n g) (total_of_first-all (same n) xs)
+all_of fields xs ls p n g h = fit (loads_of fields xs (length xs) 0 ls p n g) (first_whole (same n) xs)
   where
     none : (a : Bool) (g : ℕ) → guarded a (one (ltb g 0)) ≡ 0
     none a g = grind (arith, nat_tests)
 
-    open_gate : (m : ℕ) → guarded (ltb g fields) m ≡ m
-    open_gate m = grind (arith, nat_tests)
+    guarded_true : (m : ℕ) → guarded (ltb g fields) m ≡ m
+    guarded_true m = grind (arith, nat_tests)
 
     fit : loaded n g ls ≡ guarded (ltb g fields) (total_of_first (same n) (length xs) xs) + guarded (eqb n (get_or xs (length xs) 0)) (one (ltb g 0)) → total_of_first (same n) (length xs) xs ≡ times n xs → loaded n g ls ≡ times n xs
-    fit a b = omega (arith, none (eqb n (get_or xs (length xs) 0)) g, open_gate (total_of_first (same n) (length xs) xs))
+    fit a b = omega (arith, none (eqb n (get_or xs (length xs) 0)) g, guarded_true (total_of_first (same n) (length xs) xs))
 
 none_in : (ls : List Seen) (n g : ℕ) → ls ≡ [] → loaded n g ls ≤ 1
 none_in ls n g e = rw e (omega arith)
@@ -127,26 +127,16 @@ careful s v e i =
 
 -- no white node is left
 pub no_white_left : (o s : Deletion) (marks blacks finds : List Seen) → Finished o s marks blacks finds → (x : ℕ) → 0 < times x s.marked → is_white (s.colour x) ≡ false
-no_white_left o s marks blacks finds f x h = let all : 0 < total_of_first (same x) s.tried s.marked = rw f.all_tried (omega (arith, total_of_first-all (same x) s.marked)) in f.core.tested x all
+no_white_left o s marks blacks finds f x h = let all : 0 < total_of_first (same x) s.tried s.marked = rw f.all_tried (omega (arith, first_whole (same x) s.marked)) in f.core.tested x all
 
 pub right : (s : Deletion) (v : Story) → Same s v.state → Finished s v.state v.marks v.blacks v.finds → Right s v
 right s v e f = record {
   enough = λ x h. let r : v.state.count x ≤ named x v.marks = f.core.enough x (omega arith) in rw e.count at r;
   member_or_black = λ x h. member_or_black x h (no_white_left s v.state v.marks v.blacks v.finds f x h);
-  black_loaded = λ x g h b l.
-      let l2 : g < v.state.fields = rw e.fields l in
-      omega (arith, all_of v.state.fields v.state.work v.blacks f.core.blacks_all x g l2, black_worked x h b (no_white_left s v.state v.marks v.blacks v.finds f x h));
-  marked_loaded = λ x g h l.
-      let l2 : g < v.state.fields = rw e.fields l in
-      omega (arith, all_of v.state.fields v.state.marked v.marks f.core.marks_all x g l2, f.core.base.once x);
   unnamed = λ x h. omega (arith, f.core.unnamed x h);
   members_marked = λ x. omega (arith, f.core.parts x);
   none_later = f.order.backward;
-  none_white = f.core.found;
 }
   where
     member_or_black : (x : ℕ) → 0 < times x v.state.marked → is_white (v.state.colour x) ≡ false → times x v.state.members + one (is_black (v.state.colour x)) ≡ 1
     member_or_black x h w = grind (arith, f.core.parts x, f.core.worked x, f.core.oranges x, f.core.base.once x)
-
-    black_worked : (x : ℕ) → 0 < times x v.state.marked → is_black (v.state.colour x) ≡ true → is_white (v.state.colour x) ≡ false → times x v.state.work ≡ 1
-    black_worked x h b w = grind (arith, f.core.parts x, f.core.worked x, f.core.oranges x, f.core.base.once x)

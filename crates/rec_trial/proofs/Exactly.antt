@@ -50,8 +50,7 @@ whole_exact fields word before words f k a h tm tb =
     let r : Run = run_of fields before words in
     let t : Told fields before r = told_run fields before words f k a in
     let o : Over (first_view fields before) (view r.work) (map seen_of r.marking) (map seen_of r.blackening) (map seen_of r.collecting) = over_of fields before r t h in
-    let e : Exact (first_view fields before) (codes word) (ended fields before r t k o) = exact (first_view fields before) (codes word) (ended fields before r t k o) (record { fields = t.course.same.fields; count = t.course.same.count; released = t.course.same.released }) o.end (still_tells word r.marking tm) (still_tells word r.blackening tb) in
-    (
+    let e : Exact (first_view fields before) (codes word) (ended fields before r t k o) = exact (first_view fields before) (codes word) (ended fields before r t k o) (record { fields = t.course.same.fields; count = t.course.same.count; released = t.course.same.released }) o.end (still_tells word r.marking tm) (still_tells word r.blackening tb) in (
       o.marked,
       is_over fields before r t k o (none_idle r.work.machine h),
       record {

@@ -1,12 +1,12 @@
--- WhileCollecting.
+-- Collecting, as functions: what holds after a word, and after a node joined.
 use Rattle.std.proofs.Common.{◌≡◌, ℕ, suc, ◌<◌, true, false, List, ◌∷◌, length, get_or, arith}
 use Rattle.std.proofs.lemmas.Bool.Decides.{nat_tests}
 use Rattle.rec_trial.proofs.Totals.{same}
 use Rattle.rec_trial.specs.Moves.{is_white}
 use Rattle.rec_trial.proofs.Deletion.{Seen, Deletion, join_if}
 use Rattle.rec_trial.proofs.Holding.{Collected}
-use Rattle.rec_trial.proofs.Totals.{total_of_first-suc}
-use Rattle.rec_trial.proofs.Marks.{times-snoc}
+use Rattle.rec_trial.proofs.Totals.{first_more}
+use Rattle.rec_trial.proofs.Marks.{times_push}
 
 module _ (o s : Deletion) (marks blacks finds : List Seen) (c : Collected o s marks blacks finds) where
   -- a word that names nothing white
@@ -54,11 +54,11 @@ module _ (o s : Deletion) (marks blacks finds : List Seen) (c : Collected o s ma
     seeds = c.seeds;
     hot = c.hot;
     blacks_all = c.blacks_all;
-    parts = λ y. grind (arith, nat_tests, times-snoc y x s.members, c.parts y, c.parts x);
+    parts = λ y. grind (arith, nat_tests, times_push y x s.members, c.parts y, c.parts x);
     worked = λ y. grind (arith, nat_tests, c.worked y, c.worked x);
-    oranges = λ y. grind (arith, nat_tests, times-snoc y x s.members, c.oranges y, c.parts x, c.base.once x);
-    unnamed = λ y a. grind (arith, nat_tests, times-snoc y x s.members, c.unnamed y a);
-    enough = λ y a. grind (arith, nat_tests, times-snoc y x s.members, c.enough y, c.enough x);
+    oranges = λ y. grind (arith, nat_tests, times_push y x s.members, c.oranges y, c.parts x, c.base.once x);
+    unnamed = λ y a. grind (arith, nat_tests, times_push y x s.members, c.unnamed y a);
+    enough = λ y a. grind (arith, nat_tests, times_push y x s.members, c.enough y, c.enough x);
     tested = λ y a. grind (arith, nat_tests, c.tested y a);
     tries = c.tries;
     found = λ y a. grind (arith, nat_tests, c.found y a);
@@ -78,7 +78,7 @@ module _ (o s : Deletion) (marks blacks finds : List Seen) (c : Collected o s ma
     oranges = c.oranges;
     unnamed = c.unnamed;
     enough = c.enough;
-    tested = λ y a. grind (arith, nat_tests, c.tested y, total_of_first-suc (same y) s.tried s.marked h);
+    tested = λ y a. grind (arith, nat_tests, c.tested y, first_more (same y) s.tried s.marked h);
     tries = h;
     found = c.found;
     colours_old = c.colours_old;

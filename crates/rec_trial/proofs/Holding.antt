@@ -52,9 +52,6 @@ pub record BaseOf (o : Deletion) (released : ℕ → Bool) (cyclic : ℕ → ℕ
   pub fresh : (x : ℕ) → times x marked ≡ 0 → named x marks ≡ 0
   pub reached : (x : ℕ) → 0 < times x marked → Reached o marks x
 
-abbrev pub Base : Deletion → Deletion → List Seen → Type 0
-Base o s marks = BaseOf o s.released s.cyclic s.count s.marked marks
-
 pub record MarkedOf (o : Deletion) (released : ℕ → Bool) (cyclic : ℕ → ℕ) (count : ℕ → ℕ) (marked : List ℕ) (colour : ℕ → Colour) (roots : List ℕ) (work : List ℕ) (members : List ℕ) (marks : List Seen) : Type 0 where
   pub base : BaseOf o released cyclic count marked marks
   pub grays : (x : ℕ) → times x marked ≡ one (is_gray (colour x))
@@ -186,12 +183,9 @@ pub record Careful (s : Deletion) (v : Story) : Type 0 where
 pub record Right (s : Deletion) (v : Story) : Type 0 where
   pub enough : (x : ℕ) → 0 < times x v.state.members → s.count x ≤ named x v.marks
   pub member_or_black : (x : ℕ) → 0 < times x v.state.marked → times x v.state.members + one (is_black (v.state.colour x)) ≡ 1
-  pub black_loaded : (x g : ℕ) → 0 < times x v.state.marked → is_black (v.state.colour x) ≡ true → g < s.fields → loaded x g v.blacks ≡ 1
-  pub marked_loaded : (x g : ℕ) → 0 < times x v.state.marked → g < s.fields → loaded x g v.marks ≡ 1
   pub unnamed : (x : ℕ) → 0 < named x v.blacks → times x v.state.members ≡ 0
   pub members_marked : (x : ℕ) → times x v.state.members ≤ times x v.state.marked
   pub none_later : (n x : ℕ) → 0 < edges n x v.finds → 0 < times x v.state.members → v.state.set_of x ≤ v.state.set_of n
-  pub none_white : (x : ℕ) → 0 < named x v.finds → is_white (v.state.colour x) ≡ false
 
 -- each loaded word is the one of its place
 abbrev pub Tells : (ℕ → ℕ → ℕ) → List Seen → Type 0

@@ -23,3 +23,4 @@ pub mod AtWork
 pub mod Readings
 pub mod Whole
 pub mod Exactly
+pub mod Worked

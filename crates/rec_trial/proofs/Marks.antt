@@ -1,4 +1,4 @@
--- WhileMarking.
+-- Marking, as functions: what holds after a word, and after a root left.
 use Rattle.std.proofs.Common.{◌≡◌, ℕ, zero, suc, ◌+◌, ◌<◌, true, false, List, [], ◌∷◌, ◌++◌, refl, arith, ◌⊎◌, inl, inr, ◌∙◌, sym}
 use Rattle.std.proofs.lemmas.Bool.Decides.{nat_tests}
 use Rattle.rec_counts.specs.Lists.{one}
@@ -8,11 +8,11 @@ use Rattle.rec_trial.proofs.Deletion.{Seen, Deletion, touch_if, take_one, drop_r
 use Rattle.rec_counts.specs.declared.colour.Colour.{Colour}
 use Rattle.rec_counts.specs.declared.colour.Colour.TheVariants.{Purple}
 use Rattle.rec_trial.proofs.Holding.{Marked, named, edges, Seed, Reached, seed, along}
-use Rattle.rec_trial.proofs.Totals.{total-append}
+use Rattle.rec_trial.proofs.Totals.{total_append}
 
 -- one more at the end
-pub times-snoc : (y x : ℕ) (xs : List ℕ) → times y (xs ++ x ∷ []) ≡ times y xs + same y x
-times-snoc y x xs = omega (arith, total-append (same y) xs (x ∷ []))
+pub times_push : (y x : ℕ) (xs : List ℕ) → times y (xs ++ x ∷ []) ≡ times y xs + same y x
+times_push y x xs = omega (arith, total_append (same y) xs (x ∷ []))
 
 gray_one : (c : Colour) (n : ℕ) → n ≡ one (is_gray c) → is_gray c ≡ false → n ≡ 0
 gray_one c n h e = grind arith
@@ -69,17 +69,17 @@ module _ (o s : Deletion) (marks : List Seen) (m : Marked o s marks) (x n g : �
   pub marked_new : is_gray (s.colour x) ≡ false → s.released x ≡ false → 0 < times n s.marked → Marked o (take_one (touch_if false s x) x) (record { node = n; field = g; word = suc x } ∷ marks)
   marked_new e live here = record {
     base = record {
-      once = λ y. grind (arith, nat_tests, times-snoc y x s.marked, m.base.once y, m.grays x);
-      alive = λ y r. grind (arith, nat_tests, times-snoc y x s.marked, m.base.alive y);
-      rest = λ y h. grind (arith, nat_tests, times-snoc y x s.marked, m.base.rest y, not_named);
-      fresh = λ y h. grind (arith, nat_tests, times-snoc y x s.marked, m.base.fresh y);
-      reached = λ y h. reached_new y (pick y x (times y s.marked) (omega (arith, times-snoc y x s.marked)));
+      once = λ y. grind (arith, nat_tests, times_push y x s.marked, m.base.once y, m.grays x);
+      alive = λ y r. grind (arith, nat_tests, times_push y x s.marked, m.base.alive y);
+      rest = λ y h. grind (arith, nat_tests, times_push y x s.marked, m.base.rest y, not_named);
+      fresh = λ y h. grind (arith, nat_tests, times_push y x s.marked, m.base.fresh y);
+      reached = λ y h. reached_new y (pick y x (times y s.marked) (omega (arith, times_push y x s.marked)));
     };
-    grays = λ y. grind (arith, nat_tests, times-snoc y x s.marked, m.grays y, m.grays x);
+    grays = λ y. grind (arith, nat_tests, times_push y x s.marked, m.grays y, m.grays x);
     no_white = λ y. grind (arith, nat_tests, m.no_white y);
     roots_old = m.roots_old;
-    colours_old = λ y h. grind (arith, nat_tests, times-snoc y x s.marked, m.colours_old y);
-    seeds = λ y k. omega (arith, times-snoc y x s.marked, m.seeds y k);
+    colours_old = λ y h. grind (arith, nat_tests, times_push y x s.marked, m.colours_old y);
+    seeds = λ y k. omega (arith, times_push y x s.marked, m.seeds y k);
     alive_old = m.alive_old;
     no_work = m.no_work;
     no_members = m.no_members;
@@ -120,17 +120,17 @@ module _ (o s : Deletion) (marks : List Seen) (m : Marked o s marks) (x : ℕ) (
   pub marked_root : s.colour x ≡ Purple → s.released x ≡ false → Marked o (touch_if false (drop_root s x xs) x) marks
   marked_root e live = record {
     base = record {
-      once = λ y. grind (arith, nat_tests, times-snoc y x s.marked, m.base.once y, unmarked);
-      alive = λ y r. grind (arith, nat_tests, times-snoc y x s.marked, m.base.alive y);
-      rest = λ y h. grind (arith, nat_tests, times-snoc y x s.marked, m.base.rest y, not_named);
-      fresh = λ y h. grind (arith, nat_tests, times-snoc y x s.marked, m.base.fresh y);
-      reached = λ y h. reached_root y (pick y x (times y s.marked) (omega (arith, times-snoc y x s.marked)));
+      once = λ y. grind (arith, nat_tests, times_push y x s.marked, m.base.once y, unmarked);
+      alive = λ y r. grind (arith, nat_tests, times_push y x s.marked, m.base.alive y);
+      rest = λ y h. grind (arith, nat_tests, times_push y x s.marked, m.base.rest y, not_named);
+      fresh = λ y h. grind (arith, nat_tests, times_push y x s.marked, m.base.fresh y);
+      reached = λ y h. reached_root y (pick y x (times y s.marked) (omega (arith, times_push y x s.marked)));
     };
-    grays = λ y. grind (arith, nat_tests, times-snoc y x s.marked, m.grays y, unmarked);
+    grays = λ y. grind (arith, nat_tests, times_push y x s.marked, m.grays y, unmarked);
     no_white = λ y. grind (arith, nat_tests, m.no_white y);
     roots_old = λ y h. m.roots_old y (omega (arith, roots_are y));
-    colours_old = λ y h. grind (arith, nat_tests, times-snoc y x s.marked, m.colours_old y);
-    seeds = λ y k. omega (arith, times-snoc y x s.marked, m.seeds y k, roots_are y);
+    colours_old = λ y h. grind (arith, nat_tests, times_push y x s.marked, m.colours_old y);
+    seeds = λ y k. omega (arith, times_push y x s.marked, m.seeds y k, roots_are y);
     alive_old = m.alive_old;
     no_work = m.no_work;
     no_members = m.no_members;

@@ -1,4 +1,4 @@
--- What is done between two loads.
+-- Moves between two loads, as functions: what holds stays.
 use Rattle.std.proofs.Common.{◌≡◌, ℕ, zero, suc, ◌+◌, ◌<◌, ◌≤◌, Bool, true, false, ltb, List, [], ◌∷◌, length, get_or, refl, ◌∙◌, arith}
 use Rattle.std.proofs.lemmas.Bool.Decides.{nat_tests}
 use Rattle.rec_counts.specs.Lists.{one}
@@ -91,9 +91,6 @@ module _ (o s : Deletion) (marks blacks finds : List Seen) where
       no_rest : (x : ℕ) → has_rest s x ≡ false → is_gray (s.colour x) ≡ true → s.cyclic x ≡ 0
       no_rest x h g = grind (arith, nat_tests)
 
-      now_black : (x : ℕ) → is_gray (changed s.colour x Black x) ≡ true → changed s.cyclic x 0 x ≡ 0 → s.cyclic x ≡ 0
-      now_black x g h = grind (arith, nat_tests)
-
       try_kept : WhileScanning o s marks blacks finds → (x : ℕ) → get_or s.marked s.tried 0 ≡ x → s.tried < length s.marked → (b : Bool) → has_rest s x ≡ b → WhileScanning o (record (blacken_if b s x) { phase = Scanning; tried = suc s.tried }) marks blacks finds
       try_kept m x at h false q = record {
         core = scanned_tried o s marks blacks m.core h (rw at (no_rest x q));
@@ -127,12 +124,12 @@ module _ (o s : Deletion) (marks blacks finds : List Seen) where
         core = collected_tried o s marks blacks finds m.core h (rw at q);
         place = m.place;
         order = m.order;
-          }
+      }
       try_kept m x at h true q = record {
         core = collected_tried o (begin_set_if true s x) marks blacks finds (collected_join o (record s { sets = suc s.sets }) marks blacks finds m.core x q) h (rw at (grind (arith, nat_tests)));
         place = placed_grow m.place (x ∷ []);
         order = ordered_join s.members s.set_of (suc s.sets) s.at finds (ordered_begin s.members s.set_of s.sets s.at finds m.order (omega (arith, m.place.inside, ltb_no s.at (length s.members) d))) x (omega arith) (unfound o s marks blacks finds m.core x q) (unjoined o s marks blacks finds m.core x q);
-          }
+      }
 
   -- a silent move keeps what holds
   pub one_kept : (p : Phase) → inv_at p o s marks blacks finds → due_at p s ≡ false → Inv o (one_at p s) marks blacks finds

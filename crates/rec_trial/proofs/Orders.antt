@@ -4,8 +4,8 @@ use Rattle.std.proofs.lemmas.Bool.Decides.{nat_tests}
 use Rattle.rec_trial.proofs.Totals.{guarded, same, times, changed}
 use Rattle.rec_trial.proofs.Deletion.{Seen, next_at}
 use Rattle.rec_trial.proofs.Holding.{OrderedOf, named, edges}
-use Rattle.rec_trial.proofs.Totals.{get-append, times-get}
-use Rattle.rec_trial.proofs.Marks.{times-snoc, pick}
+use Rattle.rec_trial.proofs.Totals.{get_grown, times_here}
+use Rattle.rec_trial.proofs.Marks.{times_push, pick}
 
 pub ordered_none : (set_of : ℕ → ℕ) (sets : ℕ) → OrderedOf [] set_of sets 0 []
 ordered_none set_of sets = record {
@@ -25,11 +25,11 @@ edge_named n x (l ∷ ls) = omega (arith, edge_named n x ls, cut (eqb n l.node) 
     cut b m = grind arith
 
 -- the last of a longer list
-get-snoc : (xs : List ℕ) (x k : ℕ) → k < length (xs ++ x ∷ []) → (k < length xs) ⊎ (get_or (xs ++ x ∷ []) k 0 ≡ x)
-get-snoc [] x zero h = inr refl
-get-snoc [] x (suc k) h = absurd (omega arith)
-get-snoc (y ∷ xs) x zero h = inl (omega arith)
-get-snoc (y ∷ xs) x (suc k) h = elim (get-snoc xs x k (omega arith)) [ inl a ↦ inl (omega arith) | inr e ↦ inr e ]
+get_push : (xs : List ℕ) (x k : ℕ) → k < length (xs ++ x ∷ []) → (k < length xs) ⊎ (get_or (xs ++ x ∷ []) k 0 ≡ x)
+get_push [] x zero h = inr refl
+get_push [] x (suc k) h = absurd (omega arith)
+get_push (y ∷ xs) x zero h = inl (omega arith)
+get_push (y ∷ xs) x (suc k) h = elim (get_push xs x k (omega arith)) [ inl a ↦ inl (omega arith) | inr e ↦ inr e ]
 
 module _ (members : List ℕ) (set_of : ℕ → ℕ) (sets at : ℕ) (finds : List Seen) (d : OrderedOf members set_of sets at finds) where
   -- a word of the node at work, that names no other or one of a set found
@@ -50,7 +50,7 @@ module _ (members : List ℕ) (set_of : ℕ → ℕ) (sets at : ℕ) (finds : Li
       split n y m x r e = grind (arith, nat_tests)
 
       source : (n y : ℕ) → ((n ≡ get_or members at 0) × (suc y ≡ x)) ⊎ (0 < edges n y finds) → 0 < times n members
-      source n y (inl q) = rw q.0 (times-get members at h)
+      source n y (inl q) = rw q.0 (times_here members at h)
       source n y (inr e) = d.sources n y e
 
       back : (n y : ℕ) → 0 < times y members → ((n ≡ get_or members at 0) × (suc y ≡ x)) ⊎ (0 < edges n y finds) → set_of y ≤ set_of n
@@ -60,11 +60,11 @@ module _ (members : List ℕ) (set_of : ℕ → ℕ) (sets at : ℕ) (finds : Li
   -- a node that no loaded word names joins the last set
   pub ordered_join : (x : ℕ) → 0 < sets → named x finds ≡ 0 → times x members ≡ 0 → OrderedOf (members ++ x ∷ []) (changed set_of x sets) sets at finds
   ordered_join x some none new = record {
-    bounded = λ y h. bounded_at y (pick y x (times y members) (omega (arith, times-snoc y x members)));
-    positive = λ y h. positive_at y (pick y x (times y members) (omega (arith, times-snoc y x members)));
-    current = λ k a c. current_at k a (get-snoc members x k c);
-    sources = λ n y e. omega (arith, times-snoc n x members, d.sources n y e);
-    backward = λ n y e k. backward_at n y e (pick y x (times y members) (omega (arith, times-snoc y x members)));
+    bounded = λ y h. bounded_at y (pick y x (times y members) (omega (arith, times_push y x members)));
+    positive = λ y h. positive_at y (pick y x (times y members) (omega (arith, times_push y x members)));
+    current = λ k a c. current_at k a (get_push members x k c);
+    sources = λ n y e. omega (arith, times_push n x members, d.sources n y e);
+    backward = λ n y e k. backward_at n y e (pick y x (times y members) (omega (arith, times_push y x members)));
   }
     where
       put_here : (y : ℕ) → y ≡ x → changed set_of x sets y ≡ sets
@@ -82,7 +82,7 @@ module _ (members : List ℕ) (set_of : ℕ → ℕ) (sets at : ℕ) (finds : Li
       positive_at y (inr h) = omega (arith, put_other y h, d.positive y h)
 
       current_at : (k : ℕ) → at ≤ k → (k < length members) ⊎ (get_or (members ++ x ∷ []) k 0 ≡ x) → changed set_of x sets (get_or (members ++ x ∷ []) k 0) ≡ sets
-      current_at k a (inl h) = rw (get-append members (x ∷ []) k h) (omega (arith, put_other (get_or members k 0) (times-get members k h), d.current k a h))
+      current_at k a (inl h) = rw (get_grown members (x ∷ []) k h) (omega (arith, put_other (get_or members k 0) (times_here members k h), d.current k a h))
       current_at k a (inr e) = put_here (get_or (members ++ x ∷ []) k 0) e
 
       backward_at : (n y : ℕ) → 0 < edges n y finds → (y ≡ x) ⊎ (0 < times y members) → changed set_of x sets y ≤ changed set_of x sets n

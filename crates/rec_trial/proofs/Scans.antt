@@ -1,4 +1,4 @@
--- WhileScanning.
+-- Scanning, as functions: what holds after a word, and after a marked node was looked at.
 use Rattle.std.proofs.Common.{◌≡◌, ℕ, suc, ◌+◌, ◌<◌, ◌≤◌, true, false, List, [], ◌∷◌, length, get_or, refl, arith, ◌⊎◌, inl, inr}
 use Rattle.std.proofs.lemmas.Bool.Decides.{nat_tests}
 use Rattle.rec_counts.specs.Lists.{one}
@@ -6,8 +6,8 @@ use Rattle.rec_trial.proofs.Totals.{total_of_first, same, times}
 use Rattle.rec_trial.specs.Moves.{is_gray, is_white}
 use Rattle.rec_trial.proofs.Deletion.{Seen, Deletion, blacken_if, whiten, begin_collect}
 use Rattle.rec_trial.proofs.Holding.{Scanned, Marked, Collected, Placed, named, Hot, warm, along}
-use Rattle.rec_trial.proofs.Totals.{total_of_first-suc, total_of_first-all}
-use Rattle.rec_trial.proofs.Marks.{times-snoc, pick, edge_here}
+use Rattle.rec_trial.proofs.Totals.{first_more, first_whole}
+use Rattle.rec_trial.proofs.Marks.{times_push, pick, edge_here}
 
 -- marking is over
 pub scanned_begin : (o s : Deletion) (marks : List Seen) → Marked o s marks → Placed s.fields s.marked (length s.marked) 0 marks → s.roots ≡ [] → Scanned o (record s { tried = 0 }) marks []
@@ -73,9 +73,9 @@ module _ (o s : Deletion) (marks blacks : List Seen) (c : Scanned o s marks blac
     base = c.base;
     marks_all = c.marks_all;
     seeds = c.seeds;
-    hot = λ y h. go y (pick y x (times y s.work) (omega (arith, times-snoc y x s.work)));
-    parts = λ y. grind (arith, nat_tests, times-snoc y x s.work, c.parts y, c.parts x);
-    worked = λ y. grind (arith, nat_tests, times-snoc y x s.work, c.worked y, c.parts x, c.base.once x);
+    hot = λ y h. go y (pick y x (times y s.work) (omega (arith, times_push y x s.work)));
+    parts = λ y. grind (arith, nat_tests, times_push y x s.work, c.parts y, c.parts x);
+    worked = λ y. grind (arith, nat_tests, times_push y x s.work, c.worked y, c.parts x, c.base.once x);
     no_white = λ y. grind (arith, nat_tests, c.no_white y);
     unnamed = λ y a. grind (arith, nat_tests, c.unnamed y a);
     tested = λ y a b. grind (arith, nat_tests, c.tested y a);
@@ -97,9 +97,9 @@ module _ (o s : Deletion) (marks blacks : List Seen) (c : Scanned o s marks blac
     base = c.base;
     marks_all = c.marks_all;
     seeds = c.seeds;
-    hot = λ y h. go y (pick y x (times y s.work) (omega (arith, times-snoc y x s.work)));
-    parts = λ y. grind (arith, nat_tests, times-snoc y x s.work, c.parts y, c.parts x);
-    worked = λ y. grind (arith, nat_tests, times-snoc y x s.work, c.worked y, c.parts x, c.base.once x);
+    hot = λ y h. go y (pick y x (times y s.work) (omega (arith, times_push y x s.work)));
+    parts = λ y. grind (arith, nat_tests, times_push y x s.work, c.parts y, c.parts x);
+    worked = λ y. grind (arith, nat_tests, times_push y x s.work, c.worked y, c.parts x, c.base.once x);
     no_white = λ y. grind (arith, nat_tests, c.no_white y);
     unnamed = λ y a. grind (arith, nat_tests, c.unnamed y);
     tested = λ y a b. grind (arith, nat_tests, c.tested y a);
@@ -123,7 +123,7 @@ module _ (o s : Deletion) (marks blacks : List Seen) (c : Scanned o s marks blac
     worked = c.worked;
     no_white = c.no_white;
     unnamed = c.unnamed;
-    tested = λ y a b. grind (arith, nat_tests, c.tested y, total_of_first-suc (same y) s.tried s.marked h);
+    tested = λ y a b. grind (arith, nat_tests, c.tested y, first_more (same y) s.tried s.marked h);
     tries = h;
     no_members = c.no_members;
     colours_old = c.colours_old;
@@ -154,5 +154,5 @@ module _ (o s : Deletion) (marks blacks : List Seen) (c : Scanned o s marks blac
       enough_at : (y : ℕ) → is_gray (s.colour y) ≡ true → s.count y ≤ named y marks
       enough_at y g =
           let in_marked : 0 < times y s.marked = grind (arith, c.parts y, g) in
-          let was_tried : 0 < total_of_first (same y) s.tried s.marked = rw h (omega (arith, in_marked, total_of_first-all (same y) s.marked)) in
+          let was_tried : 0 < total_of_first (same y) s.tried s.marked = rw h (omega (arith, in_marked, first_whole (same y) s.marked)) in
           omega (arith, c.tested y was_tried g, c.base.rest y in_marked)

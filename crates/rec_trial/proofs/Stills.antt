@@ -1,4 +1,4 @@
--- A trial on words that don't change.
+-- A trial on words that do not change, as functions.
 use Rattle.std.proofs.Common.{◌≡◌, ℕ, zero, suc, ◌+◌, ◌-◌, ◌<◌, ◌≤◌, false, eqb, ltb, List, [], ◌∷◌, length, get_or, refl, sym, ap, ◌∙◌, arith, ◌⊎◌, inl, inr}
 use Rattle.std.proofs.lemmas.Bool.Decides.{nat_tests}
 use Rattle.rec_counts.specs.Lists.{one}
@@ -7,7 +7,7 @@ use Rattle.rec_trial.specs.Moves.{is_white}
 use Rattle.rec_trial.proofs.Deletion.{Seen, Deletion, Story}
 use Rattle.rec_trial.proofs.Holding.{Placed, named, loaded, edges, Finished, Same, Seed, Reached, Hot, Tells, FromRoot, Live, fields_naming, Exact}
 use Rattle.rec_trial.proofs.Holding as law
-use Rattle.rec_trial.proofs.Totals.{total_of_first-all}
+use Rattle.rec_trial.proofs.Totals.{first_whole}
 use Rattle.rec_trial.proofs.Done.{loads_of, all_of, no_white_left}
 
 -- a loaded place was within
@@ -71,7 +71,7 @@ module _ (o : Deletion) (word : ℕ → ℕ → ℕ) (v : Story) (e : Same o v.s
 
   rest_is : (x : ℕ) → 0 < times x v.state.marked → v.state.cyclic x ≡ o.count x - fields_naming word o.fields v.state.marked x
   rest_is x h =
-      let a : v.state.cyclic x ≡ v.state.count x - fields_naming word v.state.fields v.state.marked x = omega (arith, f.core.base.rest x h, named_sum word x v.marks tm, f.core.marks_all.swept (λ n g. same (suc x) (word n g)), total_of_first-all (λ n. total_below (λ g. same (suc x) (word n g)) v.state.fields) v.state.marked) in
+      let a : v.state.cyclic x ≡ v.state.count x - fields_naming word v.state.fields v.state.marked x = omega (arith, f.core.base.rest x h, named_sum word x v.marks tm, f.core.marks_all.swept (λ n g. same (suc x) (word n g)), first_whole (λ n. total_below (λ g. same (suc x) (word n g)) v.state.fields) v.state.marked) in
       rw (e.count, e.fields) at a
 
   -- a marked node is black or a member

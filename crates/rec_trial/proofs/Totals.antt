@@ -37,49 +37,39 @@ times x xs = total (same x) xs
 abbrev pub changed : {A : Type 0} → (ℕ → A) → ℕ → A → ℕ → A
 changed f x v y = cond (eqb y x) v (f y)
 
-pub total-append : {A : Type 0} (f : A → ℕ) (xs ys : List A) → total f (xs ++ ys) ≡ total f xs + total f ys
-total-append f [] ys = omega arith
-total-append f (x ∷ xs) ys = omega (arith, total-append f xs ys)
+pub total_append : {A : Type 0} (f : A → ℕ) (xs ys : List A) → total f (xs ++ ys) ≡ total f xs + total f ys
+total_append f [] ys = omega arith
+total_append f (x ∷ xs) ys = omega (arith, total_append f xs ys)
 
-pub total-le : {A : Type 0} (f g : A → ℕ) (xs : List A) → ((x : A) → f x ≤ g x) → total f xs ≤ total g xs
-total-le f g [] h = omega arith
-total-le f g (x ∷ xs) h = omega (arith, h x, total-le f g xs h)
+pub first_grown : (f : ℕ → ℕ) (k : ℕ) (xs ys : List ℕ) → k ≤ length xs → total_of_first f k (xs ++ ys) ≡ total_of_first f k xs
+first_grown f zero xs ys h = refl
+first_grown f (suc k) [] ys h = absurd (omega arith)
+first_grown f (suc k) (x ∷ xs) ys h = omega (arith, first_grown f k xs ys (omega arith))
 
-pub total_of_first-append : (f : ℕ → ℕ) (k : ℕ) (xs ys : List ℕ) → k ≤ length xs → total_of_first f k (xs ++ ys) ≡ total_of_first f k xs
-total_of_first-append f zero xs ys h = refl
-total_of_first-append f (suc k) [] ys h = absurd (omega arith)
-total_of_first-append f (suc k) (x ∷ xs) ys h = omega (arith, total_of_first-append f k xs ys (omega arith))
+pub first_more : (f : ℕ → ℕ) (k : ℕ) (xs : List ℕ) → k < length xs → total_of_first f (suc k) xs ≡ total_of_first f k xs + f (get_or xs k 0)
+first_more f zero [] h = absurd (omega arith)
+first_more f zero (x ∷ xs) h = omega arith
+first_more f (suc k) [] h = absurd (omega arith)
+first_more f (suc k) (x ∷ xs) h = let r : total_of_first f (suc k) xs ≡ total_of_first f k xs + f (get_or xs k 0) = first_more f k xs (omega arith) in omega arith
 
-pub total_of_first-suc : (f : ℕ → ℕ) (k : ℕ) (xs : List ℕ) → k < length xs → total_of_first f (suc k) xs ≡ total_of_first f k xs + f (get_or xs k 0)
-total_of_first-suc f zero [] h = absurd (omega arith)
-total_of_first-suc f zero (x ∷ xs) h = omega arith
-total_of_first-suc f (suc k) [] h = absurd (omega arith)
-total_of_first-suc f (suc k) (x ∷ xs) h = let r : total_of_first f (suc k) xs ≡ total_of_first f k xs + f (get_or xs k 0) = total_of_first-suc f k xs (omega arith) in omega arith
+pub first_whole : (f : ℕ → ℕ) (xs : List ℕ) → total_of_first f (length xs) xs ≡ total f xs
+first_whole f [] = refl
+first_whole f (x ∷ xs) = omega (arith, first_whole f xs)
 
-pub total_of_first-all : (f : ℕ → ℕ) (xs : List ℕ) → total_of_first f (length xs) xs ≡ total f xs
-total_of_first-all f [] = refl
-total_of_first-all f (x ∷ xs) = omega (arith, total_of_first-all f xs)
+pub get_grown : (xs ys : List ℕ) (k : ℕ) → k < length xs → get_or (xs ++ ys) k 0 ≡ get_or xs k 0
+get_grown [] ys k h = absurd (omega arith)
+get_grown (x ∷ xs) ys zero h = refl
+get_grown (x ∷ xs) ys (suc k) h = get_grown xs ys k (omega arith)
 
-pub get-append : (xs ys : List ℕ) (k : ℕ) → k < length xs → get_or (xs ++ ys) k 0 ≡ get_or xs k 0
-get-append [] ys k h = absurd (omega arith)
-get-append (x ∷ xs) ys zero h = refl
-get-append (x ∷ xs) ys (suc k) h = get-append xs ys k (omega arith)
+pub times_here : (xs : List ℕ) (k : ℕ) → k < length xs → 0 < times (get_or xs k 0) xs
+times_here [] k h = absurd (omega arith)
+times_here (x ∷ xs) zero h = grind (arith, nat_tests)
+times_here (x ∷ xs) (suc k) h = let r : 0 < times (get_or xs k 0) xs = times_here xs k (omega arith) in omega arith
 
-pub get-past : (xs : List ℕ) (k : ℕ) → length xs ≤ k → get_or xs k 0 ≡ 0
-get-past [] zero h = refl
-get-past [] (suc k) h = refl
-get-past (x ∷ xs) zero h = absurd (omega arith)
-get-past (x ∷ xs) (suc k) h = get-past xs k (omega arith)
-
-pub times-get : (xs : List ℕ) (k : ℕ) → k < length xs → 0 < times (get_or xs k 0) xs
-times-get [] k h = absurd (omega arith)
-times-get (x ∷ xs) zero h = grind (arith, nat_tests)
-times-get (x ∷ xs) (suc k) h = let r : 0 < times (get_or xs k 0) xs = times-get xs k (omega arith) in omega arith
-
-pub total_of_first-le : (f : ℕ → ℕ) (k : ℕ) (xs : List ℕ) → total_of_first f k xs ≤ total f xs
-total_of_first-le f zero xs = omega arith
-total_of_first-le f (suc k) [] = omega arith
-total_of_first-le f (suc k) (x ∷ xs) = omega (arith, total_of_first-le f k xs)
+pub first_le : (f : ℕ → ℕ) (k : ℕ) (xs : List ℕ) → total_of_first f k xs ≤ total f xs
+first_le f zero xs = omega arith
+first_le f (suc k) [] = omega arith
+first_le f (suc k) (x ∷ xs) = omega (arith, first_le f k xs)
 
 -- it is what the counts say of how often a slot stands in a list
 pub occurs : (x : ℕ) (xs : List ℕ) → count_times x xs ≡ times x xs

@@ -1,4 +1,4 @@
--- A turn: one word is learnt.
+-- One word is learnt, as functions: what holds stays.
 use Rattle.std.proofs.Common.{◌≡◌, ℕ, zero, suc, ◌<◌, Bool, true, false, ltb, List, [], ◌∷◌, ◌++◌, length, get_or, refl, sym, subst, arith, length-append}
 use Rattle.std.proofs.lemmas.Bool.Decides.{nat_tests}
 use Rattle.rec_trial.proofs.Totals.{changed, times}
@@ -8,7 +8,7 @@ use Rattle.rec_trial.specs.declared.phase.Phase.{Phase}
 use Rattle.rec_trial.specs.declared.phase.Phase.TheVariants.{Idle, Marking, Scanning, Collecting}
 use Rattle.rec_trial.proofs.Holding.{WhileMarking, WhileScanning, WhileCollecting, inv_at, Inv, Same, Alive, Ready}
 use Rattle.rec_trial.proofs.Marks.{marked_null, marked_old, marked_new}
-use Rattle.rec_trial.proofs.Totals.{times-get, get-append}
+use Rattle.rec_trial.proofs.Totals.{times_here, get_grown}
 use Rattle.rec_trial.proofs.Orders.{ordered_word, ordered_join}
 use Rattle.rec_trial.proofs.Places.{placed_grow, placed_step, ltb_yes}
 use Rattle.rec_trial.proofs.Scans.{scanned_null, scanned_word, scanned_named}
@@ -33,7 +33,7 @@ module _ (o s : Deletion) (marks blacks finds : List Seen) where
         no_finds = m.no_finds;
       }
       go false e = record {
-        core = marked_new o s marks m.core x (get_or s.marked s.at 0) s.field e a (times-get s.marked s.at (ltb_yes s.at (length s.marked) d));
+        core = marked_new o s marks m.core x (get_or s.marked s.at 0) s.field e a (times_here s.marked s.at (ltb_yes s.at (length s.marked) d));
         place = placed_grow (placed_step m.place (ltb_yes s.at (length s.marked) d) (suc x) (ltb (suc s.field) s.fields) refl) (x ∷ []);
         no_blacks = m.no_blacks;
         no_finds = m.no_finds;
@@ -54,7 +54,7 @@ module _ (o s : Deletion) (marks blacks finds : List Seen) where
         no_finds = m.no_finds;
       }
       go true e = record {
-        core = scanned_named o s marks blacks m.core x (get_or s.work s.at 0) s.field e (times-get s.work s.at (ltb_yes s.at (length s.work) d));
+        core = scanned_named o s marks blacks m.core x (get_or s.work s.at 0) s.field e (times_here s.work s.at (ltb_yes s.at (length s.work) d));
         place = placed_grow (placed_step m.place (ltb_yes s.at (length s.work) d) (suc x) (ltb (suc s.field) s.fields) refl) (x ∷ []);
         no_finds = m.no_finds;
       }
@@ -72,15 +72,15 @@ module _ (o s : Deletion) (marks blacks finds : List Seen) where
         core = collected_word o s marks blacks finds m.core x (get_or s.members s.at 0) s.field e;
         place = placed_step m.place (ltb_yes s.at (length s.members) d) (suc x) (ltb (suc s.field) s.fields) refl;
         order = ordered_word s.members s.set_of s.sets s.at finds m.order (ltb_yes s.at (length s.members) d) (suc x) s.field (ltb (suc s.field) s.fields);
-          }
+      }
       go true e = record {
         core = collected_word o (join_if true s x) marks blacks finds (collected_join o s marks blacks finds m.core x e) x (get_or s.members s.at 0) s.field (grind (arith, nat_tests));
         place = placed_grow (placed_step m.place (ltb_yes s.at (length s.members) d) (suc x) (ltb (suc s.field) s.fields) refl) (x ∷ []);
         order =
             let h : s.at < length s.members = ltb_yes s.at (length s.members) d in
-            let some : 0 < s.sets = omega (arith, m.order.current s.at (omega arith) h, m.order.positive (get_or s.members s.at 0) (times-get s.members s.at h)) in
-            rw (get-append s.members (x ∷ []) s.at h) at (ordered_word (s.members ++ x ∷ []) (changed s.set_of x s.sets) s.sets s.at finds (ordered_join s.members s.set_of s.sets s.at finds m.order x some (unfound o s marks blacks finds m.core x e) (unjoined o s marks blacks finds m.core x e)) (omega (arith, length-append s.members (x ∷ []))) (suc x) s.field (ltb (suc s.field) s.fields));
-          }
+            let some : 0 < s.sets = omega (arith, m.order.current s.at (omega arith) h, m.order.positive (get_or s.members s.at 0) (times_here s.members s.at h)) in
+            rw (get_grown s.members (x ∷ []) s.at h) at (ordered_word (s.members ++ x ∷ []) (changed s.set_of x s.sets) s.sets s.at finds (ordered_join s.members s.set_of s.sets s.at finds m.order x some (unfound o s marks blacks finds m.core x e) (unjoined o s marks blacks finds m.core x e)) (omega (arith, length-append s.members (x ∷ []))) (suc x) s.field (ltb (suc s.field) s.fields));
+      }
 
 -- a turn keeps what holds
 pub told_kept : (o : Deletion) (p : Phase) (v : Story) → inv_at p o v.state v.marks v.blacks v.finds → v.state.phase ≡ p → due_at p v.state ≡ true → (w : ℕ) → Alive v.state.released w → Inv o (told_at p v w).state (told_at p v w).marks (told_at p v w).blacks (told_at p v w).finds

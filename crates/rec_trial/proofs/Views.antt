@@ -170,9 +170,6 @@ whitened_at [] (suc y) = refl
 whitened_at (v ∷ slots) zero = refl
 whitened_at (v ∷ slots) (suc y) = whitened_at slots y
 
-pub whitened_slot : (s : State) (y : ℕ) → slot_at (all_whitened s) y ≡ whitened (slot_at s y)
-whitened_slot s y = whitened_at s.slots y
-
 whitened_colour : (v : Slot) → (whitened v).colour ≡ cond (is_gray v.colour) White v.colour
 whitened_colour v = go (is_gray v.colour) refl
   where
