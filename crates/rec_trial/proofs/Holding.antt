@@ -52,6 +52,7 @@ pub record BaseOf (o : Deletion) (released : ℕ → Bool) (cyclic : ℕ → ℕ
   pub fresh : (x : ℕ) → times x marked ≡ 0 → named x marks ≡ 0
   pub reached : (x : ℕ) → 0 < times x marked → Reached o marks x
 
+-- while marking: just the Gray nodes are marked, and each seed is marked or still a root
 pub record MarkedOf (o : Deletion) (released : ℕ → Bool) (cyclic : ℕ → ℕ) (count : ℕ → ℕ) (marked : List ℕ) (colour : ℕ → Colour) (roots : List ℕ) (work : List ℕ) (members : List ℕ) (marks : List Seen) : Type 0 where
   pub base : BaseOf o released cyclic count marked marks
   pub grays : (x : ℕ) → times x marked ≡ one (is_gray (colour x))
@@ -66,12 +67,14 @@ pub record MarkedOf (o : Deletion) (released : ℕ → Bool) (cyclic : ℕ → �
 abbrev pub Marked : Deletion → Deletion → List Seen → Type 0
 Marked o s marks = MarkedOf o s.released s.cyclic s.count s.marked s.colour s.roots s.work s.members marks
 
+-- while marking, with the place in the marked list
 pub record WhileMarking (o s : Deletion) (marks blacks finds : List Seen) : Type 0 where
   pub core : Marked o s marks
   pub place : Placed s.fields s.marked s.at s.field marks
   pub no_blacks : blacks ≡ []
   pub no_finds : finds ≡ []
 
+-- while scanning: a marked node is Gray or in the work list, and what is there is Black and held by something outside
 pub record ScannedOf (o : Deletion) (fields : ℕ) (released : ℕ → Bool) (cyclic : ℕ → ℕ) (count : ℕ → ℕ) (marked : List ℕ) (colour : ℕ → Colour) (work : List ℕ) (members : List ℕ) (tried : ℕ) (marks blacks : List Seen) : Type 0 where
   pub base : BaseOf o released cyclic count marked marks
   pub marks_all : Placed fields marked (length marked) 0 marks
@@ -89,11 +92,13 @@ pub record ScannedOf (o : Deletion) (fields : ℕ) (released : ℕ → Bool) (cy
 abbrev pub Scanned : Deletion → Deletion → List Seen → List Seen → Type 0
 Scanned o s marks blacks = ScannedOf o s.fields s.released s.cyclic s.count s.marked s.colour s.work s.members s.tried marks blacks
 
+-- while scanning, with the place in the work list
 pub record WhileScanning (o s : Deletion) (marks blacks finds : List Seen) : Type 0 where
   pub core : Scanned o s marks blacks
   pub place : Placed s.fields s.work s.at s.field blacks
   pub no_finds : finds ≡ []
 
+-- while collecting: a marked node is White, or in the work list, or a member, and no Black node led to a White one or a member
 pub record CollectedOf (o : Deletion) (fields : ℕ) (released : ℕ → Bool) (cyclic : ℕ → ℕ) (count : ℕ → ℕ) (marked : List ℕ) (colour : ℕ → Colour) (work : List ℕ) (members : List ℕ) (tried : ℕ) (marks blacks finds : List Seen) : Type 0 where
   pub base : BaseOf o released cyclic count marked marks
   pub marks_all : Placed fields marked (length marked) 0 marks
@@ -124,11 +129,13 @@ pub record OrderedOf (members : List ℕ) (set_of : ℕ → ℕ) (sets at : ℕ)
 abbrev pub Ordered : Deletion → List Seen → Type 0
 Ordered s finds = OrderedOf s.members s.set_of s.sets s.at finds
 
+-- while collecting, with the place among the members
 pub record WhileCollecting (o s : Deletion) (marks blacks finds : List Seen) : Type 0 where
   pub core : Collected o s marks blacks finds
   pub place : Placed s.fields s.members s.at s.field finds
   pub order : Ordered s finds
 
+-- when all members are worked off, and all marked nodes were looked at
 pub record Finished (o s : Deletion) (marks blacks finds : List Seen) : Type 0 where
   pub core : Collected o s marks blacks finds
   pub place : Placed s.fields s.members s.at s.field finds
@@ -144,6 +151,7 @@ pub record Over (o s : Deletion) (marks blacks finds : List Seen) : Type 0 where
   pub no_marked : s.marked ≡ []
   pub no_work : s.work ≡ []
 
+-- what holds in each phase
 abbrev pub inv_at : Phase → Deletion → Deletion → List Seen → List Seen → List Seen → Type 0
 inv_at Idle o s marks blacks finds = Over o s marks blacks finds
 inv_at Marking o s marks blacks finds = WhileMarking o s marks blacks finds

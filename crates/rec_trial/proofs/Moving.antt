@@ -2,7 +2,7 @@
 use Rattle.std.proofs.Common.{◌≡◌, ℕ, zero, suc, ◌+◌, ◌<◌, ◌≤◌, Bool, true, false, ltb, List, [], ◌∷◌, length, get_or, refl, ◌∙◌, arith}
 use Rattle.std.proofs.lemmas.Bool.Decides.{nat_tests}
 use Rattle.rec_counts.specs.Lists.{one}
-use Rattle.rec_trial.proofs.Totals.{times, changed}
+use Rattle.rec_trial.proofs.Totals.{times}
 use Rattle.rec_trial.specs.Moves.{is_gray, is_white, is_purple}
 use Rattle.rec_trial.proofs.Deletion.{Seen, Deletion, blacken_if, has_rest, begin_set_if, try_scan, try_collect, one_root, root_if, one_at, due_at, drop_root}
 use Rattle.rec_counts.specs.declared.colour.Colour.{Colour}

@@ -1,6 +1,5 @@
 -- Counts that are ready for a trial stay so while references are counted.
-use Rattle.std.proofs.Common.{◌≡◌, ℕ, ◌<◌, Bool, true, false, eqb, List, [], ◌∷◌, ◌++◌, length, get_or, refl, sym, ap, ◌∙◌, arith, inl, inr}
-use Rattle.std.proofs.Math.ListN.{set}
+use Rattle.std.proofs.Common.{◌≡◌, ℕ, Bool, true, false, eqb, [], length, refl, ap, ◌∙◌, inl, inr}
 use Rattle.std.proofs.lemmas.List.{get_or-set_same, get_or-set_other, set_past}
 use Rattle.std.proofs.lemmas.Bool.{cases_lt}
 use Rattle.std.proofs.lemmas.Bool.Decides.{eqb_tells}
@@ -9,7 +8,7 @@ use Rattle.rec_counts.specs.declared.slot.Due.{Due}
 use Rattle.rec_counts.specs.declared.slot.Due.TheVariants.{Nothing, Zero, Root}
 use Rattle.rec_counts.specs.Counts.{State, slot_at, with_slot, sent, decremented}
 use Rattle.rec_counts.specs.Lists.{times}
-use Rattle.rec_counts.specs.Slot.{absent, raised, lessened, lessened_if, due_of}
+use Rattle.rec_counts.specs.Slot.{absent, lessened, lessened_if, due_of}
 use Rattle.rec_counts.proofs.Times.{times-nil}
 use Rattle.rec_trial.specs.Moves.{is_gray, is_white}
 use Rattle.rec_trial.specs.Rules.{IsReady}
