@@ -24,3 +24,4 @@ pub mod Readings
 pub mod Whole
 pub mod Exactly
 pub mod Worked
+pub mod Witnesses

@@ -61,11 +61,11 @@ still_tells word [] a = tt
 still_tells word (l ∷ loads) a = (ap code_of a.0, still_tells word loads a.1)
 
 -- a sum over the numbers below one, from the front
-below_front : (f : ℕ → ℕ) (n : ℕ) → total_below f (suc n) ≡ f 0 + total_below (λ g. f (suc g)) n
+pub below_front : (f : ℕ → ℕ) (n : ℕ) → total_below f (suc n) ≡ f 0 + total_below (λ g. f (suc g)) n
 below_front f zero = omega arith
 below_front f (suc n) = omega (arith, below_front f n)
 
-below_same : (f h : ℕ → ℕ) (n : ℕ) → ((g : ℕ) → f g ≡ h g) → total_below f n ≡ total_below h n
+pub below_same : (f h : ℕ → ℕ) (n : ℕ) → ((g : ℕ) → f g ≡ h g) → total_below f n ≡ total_below h n
 below_same f h zero e = refl
 below_same f h (suc n) e = omega (arith, below_same f h n e, e n)
 

@@ -4,3 +4,4 @@ pub mod Rules
 pub mod Trial
 pub mod Still
 pub mod Tried
+pub mod Witnessed

@@ -25,6 +25,6 @@ mod scanning;
 mod tests;
 mod trial;
 
-pub use laws::{trial_ends, trial_is_careful, trial_is_exact, trial_is_whole};
+pub use laws::{trial_ends, trial_is_careful, trial_is_exact, trial_is_whole, trial_is_witnessed};
 pub use phase::Phase;
 pub use trial::Trial;
