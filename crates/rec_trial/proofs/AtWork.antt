@@ -1,0 +1,149 @@
+-- A trial at work, from word to word: what it names, and that it stays one.
+use Rattle.std.proofs.Common.{◌≡◌, ℕ, ◌+◌, ◌*◌, ◌^◌, ◌<◌, ◌≤◌, true, None, Some, IsSome, List, [], ◌∷◌, ◌++◌, length, get_or, refl, sym, ap, subst, ◌∙◌, arith}
+use Rattle.std.specs.List.{concat}
+use Rattle.std.proofs.Math.Nat.{mul-le-mul}
+use Rattle.std.proofs.lemmas.List.{length-append}
+use Rattle.std.proofs.lemmas.List.Sums.{fold-append}
+use Rattle.std.proofs.lemmas.Bool.{false≢true}
+use Rattle.rec_word.specs.Place.{place_of}
+use Rattle.rec_word.specs.Word.{target_of}
+use Rattle.rec_word.specs.declared.op.Op.TheVariants.{LoadChild}
+use Rattle.rec_counts.specs.Counts.{State, IsKept}
+use Rattle.rec_counts.specs.Groups.{last_set, earlier_sets}
+use Rattle.rec_counts.proofs.Keeping.{members_once}
+use Rattle.rec_counts.proofs.Times.{length-once}
+use Rattle.rec_trial.specs.declared.phase.Phase.{Phase}
+use Rattle.rec_trial.specs.declared.phase.Phase.TheVariants.{Idle, Marking, Scanning, Collecting}
+use Rattle.rec_trial.specs.Loaded.{Run, IsAtWork, noted_at, noted, begun, run_of}
+use Rattle.rec_trial.specs.Rules.{IsReady, LeadsToUnreleased, AllLeadToUnreleased}
+use Rattle.rec_trial.specs.Trial.{Machine, Work, NamesPlace, next_of, list_of, is_due_at, took_of, started_of}
+use Rattle.rec_trial.proofs.Course.{Course, alive_range, first_view, due_seen, released_same}
+use Rattle.rec_trial.proofs.Deletion.{Seen}
+use Rattle.rec_trial.proofs.Holding.{inv_at}
+use Rattle.rec_trial.proofs.Midway.{at_work_told, at_work_course, at_work_due}
+use Rattle.rec_trial.proofs.Places.{ltb_yes}
+use Rattle.rec_trial.proofs.Runs.{Told, node_seen, begun_told, still_unreleased, told_next}
+use Rattle.rec_trial.proofs.Totals.{times_here}
+use Rattle.rec_trial.proofs.Views.{view, concat_last}
+
+-- a field of a slot that is there
+place_there : (slots fields slot field : ℕ) → slot < slots → field < fields → place_of slot field fields < slots * fields
+place_there slots fields slot field s f =
+    let m : (slot + 1) * fields ≤ slots * fields = mul-le-mul {n₁ = slot + 1} {m₁ = fields} {n₂ = slots} {m₂ = fields} (omega (arith, s)) (omega arith) in
+    omega (arith, m, f)
+
+-- the field that is due is one of a marked slot
+record Due (w : Work) : Type 0 where
+  slot : w.machine.slot < length w.counts.slots
+  field : w.machine.field < w.machine.fields
+
+due_at_work : {fields : ℕ} {before : State} (w : Work) {marks blacks finds : List Seen} → Course fields before w marks blacks finds → (p : Phase) → w.machine.phase ≡ p → (p ≡ Idle → ⊥) → is_due_at p w.machine.done w.counts ≡ true → w.machine.slot ≡ get_or (list_of p w.counts) w.machine.done 0 → inv_at p (first_view fields before) (view w) marks blacks finds → Due w
+due_at_work w c Idle e n d node i = absurd (n refl)
+due_at_work w c Marking e n d node i =
+    let l : (view w).at < length w.counts.marked = ltb_yes (view w).at (length w.counts.marked) (sym (due_seen w Marking e) ∙ d) in
+    let q : w.machine.slot ≡ get_or w.counts.marked (view w).at 0 = node ∙ node_seen w Marking e in
+    record { slot = rw q (alive_range w.counts (get_or w.counts.marked (view w).at 0) (i.core.base.alive (get_or w.counts.marked (view w).at 0)) (times_here w.counts.marked (view w).at l)); field = i.place.below }
+due_at_work w c Scanning e n d node i =
+    let l : (view w).at < length w.counts.work = ltb_yes (view w).at (length w.counts.work) (sym (due_seen w Scanning e) ∙ d) in
+    let x : ℕ = get_or w.counts.work (view w).at 0 in
+    let q : w.machine.slot ≡ x = node ∙ node_seen w Scanning e in
+    record { slot = rw q (alive_range w.counts x (i.core.base.alive x) (omega (arith, i.core.parts x, times_here w.counts.work (view w).at l))); field = i.place.below }
+due_at_work w c Collecting e n d node i =
+    let l : (view w).at < length (concat w.counts.sets) = ltb_yes (view w).at (length (concat w.counts.sets)) (sym (due_seen w Collecting e) ∙ d) in
+    let x : ℕ = get_or (concat w.counts.sets) (view w).at 0 in
+    let q : w.machine.slot ≡ x = node ∙ node_seen w Collecting e in
+    record { slot = rw q (alive_range w.counts x (i.core.base.alive x) (omega (arith, i.core.parts x, times_here (concat w.counts.sets) (view w).at l))); field = i.place.below }
+
+named_place : (m : Machine) (p : Phase) (place : ℕ) → m.phase ≡ p → next_of m ≡ Some (LoadChild place) → (p ≡ Idle → ⊥) × (place ≡ place_of m.slot m.field m.fields)
+unfolding next_of
+named_place m Idle place e h = absurd (none place (rw e at h))
+  where
+    none : (place : ℕ) → None ≡ Some (LoadChild place) → ⊥
+    none place h = cc
+named_place m Marking place e h = let k : Some (LoadChild (place_of m.slot m.field m.fields)) ≡ Some (LoadChild place) = rw e at h in (λ q. cc, cc)
+named_place m Scanning place e h = let k : Some (LoadChild (place_of m.slot m.field m.fields)) ≡ Some (LoadChild place) = rw e at h in (λ q. cc, cc)
+named_place m Collecting place e h = let k : Some (LoadChild (place_of m.slot m.field m.fields)) ≡ Some (LoadChild place) = rw e at h in (λ q. cc, cc)
+
+pub told_place : {fields : ℕ} {before : State} (r : Run) → Told fields before r → NamesPlace (length r.work.counts.slots) r.work.machine
+told_place r t place h =
+    let k = named_place r.work.machine r.work.machine.phase place refl h in
+    let d : Due r.work = due_at_work r.work t.course r.work.machine.phase refl k.0 t.due t.node t.course.inv in
+    rw k.1 (place_there (length r.work.counts.slots) r.work.machine.fields r.work.machine.slot r.work.machine.field d.slot d.field)
+
+pub at_work_place : (m : Machine) (s : State) → IsAtWork m s → NamesPlace (length s.slots) m
+at_work_place m s a = subst (λ (w : Work). NamesPlace (length w.counts.slots) w.machine) (sym a.is) (told_place (run_of m.fields a.before a.words) (at_work_told m s a))
+
+-- as many slots as at first
+pub at_work_slots : (m : Machine) (s : State) (a : IsAtWork m s) → length s.slots ≡ length a.before.slots
+at_work_slots m s a = (at_work_course m s a).rest.slots
+
+-- a list at work is small
+pub small_done : (m : Machine) (s : State) → IsKept s → IsAtWork m s → IsSome (next_of m) → m.done < 2 ^ 16
+unfolding next_of
+small_done m s k a b = go m.phase refl (at_work_due m s a)
+  where
+    go : (p : Phase) → m.phase ≡ p → is_due_at p m.done s ≡ true → m.done < 2 ^ 16
+    go Idle e d = absurd (false≢true (rw e at b))
+    go Marking e d = omega (arith, ltb_yes m.done (length s.marked) d, length-once (length s.slots) s.marked k.marked_once, k.few_slots)
+    go Scanning e d = omega (arith, ltb_yes m.done (length s.work) d, length-once (length s.slots) s.work k.work_once, k.few_slots)
+    go Collecting e d = omega (arith, ltb_yes m.done (length (last_set s.sets)) d, length-once (length s.slots) (concat s.sets) (members_once k), ap length (concat_last s.sets), length-append (concat (earlier_sets s.sets)) (last_set s.sets), k.few_slots)
+
+run_none : (fields : ℕ) (before : State) → (run_of fields before []).work ≡ started_of fields before
+unfolding run_of
+run_none fields before = refl
+
+-- a trial that began
+pub started_at_work : (fields : ℕ) (before : State) (m : Machine) (s : State) → 0 < fields → IsKept before → IsReady before → ◌≡◌ {A = Work} (record { machine = m; counts = s }) (started_of fields before) → IsAtWork m s
+started_at_work fields before m s f k r e =
+    let t : Told fields before (begun fields before) = begun_told fields before f r in
+    let q : m.fields ≡ fields = ap (λ (w : Work). w.machine.fields) e ∙ t.course.same.fields in
+    record { wide = rw q f; before = before; words = []; kept = k; ready = r; named = tt; is = e ∙ sym (run_none fields before) ∙ ap (λ n. (run_of n before []).work) (sym q) }
+
+pub started_slots : (fields : ℕ) (before : State) (m : Machine) (s : State) → 0 < fields → IsReady before → ◌≡◌ {A = Work} (record { machine = m; counts = s }) (started_of fields before) → length s.slots ≡ length before.slots
+started_slots fields before m s f r e = ap (λ (w : Work). length w.counts.slots) e ∙ (begun_told fields before f r).course.rest.slots
+
+-- a trial that learnt a word
+noted_work : (r : Run) (word : ℕ) → (noted r word).work ≡ took_of r.work word
+unfolding took_of
+noted_work r word = go r.work.machine.phase refl
+  where
+    go : (p : Phase) → r.work.machine.phase ≡ p → (noted_at p r word).work ≡ took_of r.work word
+    go Idle e = rw e refl
+    go Marking e = refl
+    go Scanning e = refl
+    go Collecting e = refl
+
+pub run_more : (fields : ℕ) (before : State) (words : List ℕ) (word : ℕ) → run_of fields before (words ++ word ∷ []) ≡ noted (run_of fields before words) word
+unfolding run_of
+run_more fields before words word = fold-append noted (begun fields before) words (word ∷ [])
+
+all_lead_more : (s : State) (words : List ℕ) (word : ℕ) → AllLeadToUnreleased s words → LeadsToUnreleased s word → AllLeadToUnreleased s (words ++ word ∷ [])
+all_lead_more s [] word a l = (l, tt)
+all_lead_more s (w ∷ words) word a l = (a.0, all_lead_more s words word a.1 l)
+
+-- the counts of fields stay
+took_fields : (m : Machine) (s : State) (a : IsAtWork m s) (word : ℕ) → LeadsToUnreleased s word → (took_of (record { machine = m; counts = s }) word).machine.fields ≡ m.fields
+took_fields m s a word l =
+    let r : Run = run_of m.fields a.before a.words in
+    let e : took_of (record { machine = m; counts = s }) word ≡ (noted r word).work = ap (λ (w : Work). took_of w word) a.is ∙ sym (noted_work r word) in
+    let lead : LeadsToUnreleased r.work.counts word = subst (λ (w : Work). LeadsToUnreleased w.counts word) a.is l in
+    ap (λ (w : Work). w.machine.fields) e ∙ (told_next r (at_work_told m s a) word lead).course.same.fields
+
+pub took_at_work : (m : Machine) (s : State) (a : IsAtWork m s) (word : ℕ) → LeadsToUnreleased s word → (n : Machine) (u : State) → ◌≡◌ {A = Work} (record { machine = n; counts = u }) (took_of (record { machine = m; counts = s }) word) → IsAtWork n u
+took_at_work m s a word l n u e =
+    let r : Run = run_of m.fields a.before a.words in
+    let q : n.fields ≡ m.fields = ap (λ (w : Work). w.machine.fields) e ∙ took_fields m s a word l in
+    let first : LeadsToUnreleased a.before word = still_unreleased a.before s (target_of word) (λ x. sym (released_same (record { machine = m; counts = s }) (at_work_course m s a) x)) l in
+    record {
+      wide = rw q a.wide;
+      before = a.before;
+      words = a.words ++ word ∷ [];
+      kept = a.kept;
+      ready = a.ready;
+      named = all_lead_more a.before a.words word a.named first;
+      is = e ∙ ap (λ (w : Work). took_of w word) a.is ∙ sym (noted_work r word) ∙ ap (λ (v : Run). v.work) (sym (run_more m.fields a.before a.words word)) ∙ ap (λ n. (run_of n a.before (a.words ++ word ∷ [])).work) (sym q);
+    }
+
+pub took_slots : (m : Machine) (s : State) (a : IsAtWork m s) (word : ℕ) → LeadsToUnreleased s word → (n : Machine) (u : State) → ◌≡◌ {A = Work} (record { machine = n; counts = u }) (took_of (record { machine = m; counts = s }) word) → length u.slots ≡ length s.slots
+unfolding took_at_work
+took_slots m s a word l n u e = at_work_slots n u (took_at_work m s a word l n u e) ∙ sym (at_work_slots m s a)

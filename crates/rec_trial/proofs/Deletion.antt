@@ -1,0 +1,166 @@
+-- A trial as functions of its nodes: the theory speaks of it. A word is 0 for null, else the node plus one.
+use Rattle.std.proofs.Common.{ℕ, zero, suc, ◌-◌, Bool, true, false, cond, ltb, List, [], ◌∷◌, ◌++◌, length, get_or}
+use Rattle.rec_counts.specs.declared.colour.Colour.{Colour}
+use Rattle.rec_counts.specs.declared.colour.Colour.TheVariants.{Black, Purple, Gray, White, Orange}
+use Rattle.rec_trial.specs.declared.phase.Phase.{Phase}
+use Rattle.rec_trial.specs.declared.phase.Phase.TheVariants.{Idle, Marking, Scanning, Collecting}
+use Rattle.rec_trial.specs.Moves.{is_gray, is_white}
+use Rattle.rec_trial.proofs.Totals.{changed}
+
+-- a field that was loaded, and the word that it gave
+pub record Seen : Type 0 where
+  pub node : ℕ
+  pub field : ℕ
+  pub word : ℕ
+
+-- `members` are those of all sets in order, `set_of` has the number of a node's set from 1, and `at` nodes of the list at
+-- work have had all their fields loaded
+pub record Deletion : Type 0 where
+  pub phase : Phase
+  pub fields : ℕ
+  pub count : ℕ → ℕ
+  pub cyclic : ℕ → ℕ
+  pub colour : ℕ → Colour
+  pub released : ℕ → Bool
+  pub roots : List ℕ
+  pub marked : List ℕ
+  pub work : List ℕ
+  pub members : List ℕ
+  pub set_of : ℕ → ℕ
+  pub sets : ℕ
+  pub tried : ℕ
+  pub at : ℕ
+  pub field : ℕ
+
+-- the list that the phase works off
+abbrev pub queue_at : Phase → Deletion → List ℕ
+queue_at Idle s = []
+queue_at Marking s = s.marked
+queue_at Scanning s = s.work
+queue_at Collecting s = s.members
+
+-- a load is due
+abbrev pub due_at : Phase → Deletion → Bool
+due_at Idle s = true
+due_at Marking s = ltb s.at (length s.marked)
+due_at Scanning s = ltb s.at (length s.work)
+due_at Collecting s = ltb s.at (length s.members)
+
+abbrev pub due : Deletion → Bool
+due s = due_at s.phase s
+
+-- the load that is due
+abbrev pub seen : Phase → Deletion → ℕ → Seen
+seen p s w = record { node = get_or (queue_at p s) s.at 0; field = s.field; word = w }
+
+-- marking
+
+abbrev pub touch_if : Bool → Deletion → ℕ → Deletion
+touch_if true s x = s
+touch_if false s x = record s { colour = changed s.colour x Gray; cyclic = changed s.cyclic x (s.count x); marked = s.marked ++ x ∷ [] }
+
+-- a node that is not Gray becomes Gray
+abbrev pub touch : Deletion → ℕ → Deletion
+touch s x = touch_if (is_gray (s.colour x)) s x
+
+abbrev pub take_one : Deletion → ℕ → Deletion
+take_one s x = record s { cyclic = changed s.cyclic x (s.cyclic x - 1) }
+
+abbrev pub mark_word : Deletion → ℕ → Deletion
+mark_word s zero = s
+mark_word s (suc x) = take_one (touch s x) x
+
+-- scanning
+
+abbrev pub blacken_if : Bool → Deletion → ℕ → Deletion
+blacken_if false s x = s
+blacken_if true s x = record s { colour = changed s.colour x Black; work = s.work ++ x ∷ [] }
+
+abbrev pub scan_word : Deletion → ℕ → Deletion
+scan_word s zero = s
+scan_word s (suc x) = blacken_if (is_gray (s.colour x)) s x
+
+-- collecting
+
+abbrev pub join_if : Bool → Deletion → ℕ → Deletion
+join_if false s x = s
+join_if true s x = record s { colour = changed s.colour x Orange; members = s.members ++ x ∷ []; set_of = changed s.set_of x s.sets }
+
+abbrev pub find_word : Deletion → ℕ → Deletion
+find_word s zero = s
+find_word s (suc x) = join_if (is_white (s.colour x)) s x
+
+-- the next place
+
+abbrev pub next_at : Bool → ℕ → ℕ
+next_at true at = at
+next_at false at = suc at
+
+abbrev pub next_field : Bool → ℕ → ℕ
+next_field true field = suc field
+next_field false field = 0
+
+abbrev pub advance : Phase → Deletion → Deletion
+advance p s = record s { phase = p; at = next_at (ltb (suc s.field) s.fields) s.at; field = next_field (ltb (suc s.field) s.fields) s.field }
+
+-- what is done between two loads
+
+abbrev pub begin_scan : Deletion → Deletion
+begin_scan s = record s { phase = Scanning; at = 0; field = 0; tried = 0 }
+
+abbrev pub drop_root : Deletion → ℕ → List ℕ → Deletion
+drop_root s x xs = record s { phase = Marking; roots = xs }
+
+abbrev pub root_if : Bool → Colour → Deletion → ℕ → List ℕ → Deletion
+root_if true c s x xs = drop_root s x xs
+root_if false Purple s x xs = touch_if false (drop_root s x xs) x
+root_if false Black s x xs = drop_root s x xs
+root_if false Gray s x xs = drop_root s x xs
+root_if false White s x xs = drop_root s x xs
+root_if false Orange s x xs = drop_root s x xs
+
+abbrev pub one_root : List ℕ → Deletion → Deletion
+one_root [] s = begin_scan s
+one_root (x ∷ xs) s = root_if (s.released x) (s.colour x) s x xs
+
+abbrev pub whiten : (ℕ → Colour) → ℕ → Colour
+whiten f x = cond (is_gray (f x)) White (f x)
+
+abbrev pub begin_collect : Deletion → Deletion
+begin_collect s = record s { phase = Collecting; at = 0; field = 0; tried = 0; colour = whiten s.colour }
+
+-- a Gray node with a rest is blackened
+abbrev pub has_rest : Deletion → ℕ → Bool
+has_rest s x = cond (is_gray (s.colour x)) (ltb 0 (s.cyclic x)) false
+
+abbrev pub try_scan : Bool → Deletion → Deletion
+try_scan false s = begin_collect s
+try_scan true s = record (blacken_if (has_rest s (get_or s.marked s.tried 0)) s (get_or s.marked s.tried 0)) { phase = Scanning; tried = suc s.tried }
+
+abbrev pub begin_set_if : Bool → Deletion → ℕ → Deletion
+begin_set_if false s x = s
+begin_set_if true s x = join_if true (record s { sets = suc s.sets }) x
+
+abbrev pub try_collect : Bool → Deletion → Deletion
+try_collect false s = record s { phase = Idle; marked = []; work = [] }
+try_collect true s = record (begin_set_if (is_white (s.colour (get_or s.marked s.tried 0))) s (get_or s.marked s.tried 0)) { phase = Collecting; tried = suc s.tried }
+
+abbrev pub one_at : Phase → Deletion → Deletion
+one_at Idle s = s
+one_at Marking s = one_root s.roots s
+one_at Scanning s = try_scan (ltb s.tried (length s.marked)) s
+one_at Collecting s = try_collect (ltb s.tried (length s.marked)) s
+
+-- a trial with what it loaded in marking, in scanning and in collecting, the last load first
+pub record Story : Type 0 where
+  pub state : Deletion
+  pub marks : List Seen
+  pub blacks : List Seen
+  pub finds : List Seen
+
+-- the load that is due gave this word, and the place moves on
+abbrev pub told_at : Phase → Story → ℕ → Story
+told_at Idle v w = v
+told_at Marking v w = record v { state = advance Marking (mark_word v.state w); marks = seen Marking v.state w ∷ v.marks }
+told_at Scanning v w = record v { state = advance Scanning (scan_word v.state w); blacks = seen Scanning v.state w ∷ v.blacks }
+told_at Collecting v w = record v { state = advance Collecting (find_word v.state w); finds = seen Collecting v.state w ∷ v.finds }

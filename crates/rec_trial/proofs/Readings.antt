@@ -1,0 +1,87 @@
+-- What was loaded, read as the loads of a trial by functions.
+use Rattle.std.proofs.Common.{◌≡◌, ℕ, zero, suc, ◌+◌, Bool, true, false, eqb, cond, Some, List, [], ◌∷◌, map, refl, ap, ◌∙◌, arith}
+use Rattle.std.specs.List.{count_by, sum_by, range_with_len}
+use Rattle.std.proofs.lemmas.Bool.Decides.{nat_tests}
+use Rattle.std.proofs.lemmas.List.Sums.{sum_by-cons}
+use Rattle.rec_word.specs.Word.{slot_of_bits, target_of}
+use Rattle.rec_counts.specs.Lists.{one}
+use Rattle.rec_trial.specs.Loaded.{Load}
+use Rattle.rec_trial.specs.Still.{AreStill}
+use Rattle.rec_trial.specs.Tried as tried
+use Rattle.rec_trial.specs.Tried.{leads_to, is_of}
+use Rattle.rec_trial.proofs.Holding.{named, loaded, edges, Tells}
+use Rattle.rec_trial.proofs.Runs.{code_of, seen_of}
+use Rattle.rec_trial.proofs.Steps.{bits_suc}
+use Rattle.rec_trial.proofs.Totals.{guarded, same, total, total_below}
+
+-- a word leads to a slot exactly where its code is the slot's
+null_leads : (x : ℕ) → one (leads_to x (slot_of_bits 0)) ≡ same (suc x) 0
+null_leads x = grind (arith, nat_tests)
+
+pub leads_code : (x code : ℕ) → one (leads_to x (slot_of_bits code)) ≡ same (suc x) code
+leads_code x zero = null_leads x
+leads_code x (suc y) = rw (bits_suc y) (next x y)
+  where
+    next : (x y : ℕ) → one (eqb x y) ≡ same (suc x) (suc y)
+    next x y = grind (arith, nat_tests)
+
+pub code_some : (code x : ℕ) → slot_of_bits code ≡ Some x → code ≡ suc x
+code_some zero x h = cc
+code_some (suc y) x h = let k : Some y ≡ Some x = rw (bits_suc y) at h in cc
+
+both : (a b : Bool) → one (cond a b false) ≡ guarded a (one b)
+both true b = refl
+both false b = refl
+
+pub loaded_read : (x g : ℕ) (loads : List Load) → tried.loaded x g loads ≡ loaded x g (map seen_of loads)
+unfolding tried.loaded
+loaded_read x g [] = refl
+loaded_read x g (l ∷ loads) =
+    let here : one (is_of x g l) ≡ guarded (eqb x l.slot) (same g l.field) = both (eqb x l.slot) (eqb g l.field) in
+    omega (arith, sum_by-cons (λ k. one (is_of x g k)) l loads, here, loaded_read x g loads)
+
+pub naming_read : (x : ℕ) (loads : List Load) → tried.naming x loads ≡ named x (map seen_of loads)
+unfolding tried.naming
+naming_read x [] = refl
+naming_read x (l ∷ loads) = omega (arith, sum_by-cons (λ (k : Load). one (leads_to x (target_of k.word))) l loads, leads_code x (code_of l.word), naming_read x loads)
+
+pub edges_read : (n x : ℕ) (loads : List Load) → tried.edges n x loads ≡ edges n x (map seen_of loads)
+unfolding tried.edges
+edges_read n x [] = refl
+edges_read n x (l ∷ loads) =
+    let here : one (cond (eqb n l.slot) (leads_to x (target_of l.word)) false) ≡ guarded (eqb n l.slot) (same (suc x) (code_of l.word)) = both (eqb n l.slot) (leads_to x (target_of l.word)) ∙ ap (guarded (eqb n l.slot)) (leads_code x (code_of l.word)) in
+    omega (arith, sum_by-cons (λ (k : Load). one (cond (eqb n k.slot) (leads_to x (target_of k.word)) false)) l loads, here, edges_read n x loads)
+
+-- words that do not change
+abbrev pub codes : (word : ℕ → ℕ → ℕ) → ℕ → ℕ → ℕ
+codes word n g = code_of (word n g)
+
+pub still_tells : (word : ℕ → ℕ → ℕ) (loads : List Load) → AreStill word loads → Tells (codes word) (map seen_of loads)
+still_tells word [] a = tt
+still_tells word (l ∷ loads) a = (ap code_of a.0, still_tells word loads a.1)
+
+-- a sum over the numbers below one, from the front
+pub below_front : (f : ℕ → ℕ) (n : ℕ) → total_below f (suc n) ≡ f 0 + total_below (λ g. f (suc g)) n
+below_front f zero = omega arith
+below_front f (suc n) = omega (arith, below_front f n)
+
+pub below_same : (f h : ℕ → ℕ) (n : ℕ) → ((g : ℕ) → f g ≡ h g) → total_below f n ≡ total_below h n
+below_same f h zero e = refl
+below_same f h (suc n) e = omega (arith, below_same f h n e, e n)
+
+range_read : (p : ℕ → Bool) (f : ℕ → ℕ) (a n : ℕ) → ((g : ℕ) → one (p (a + g)) ≡ f g) → count_by p (range_with_len a n) ≡ total_below f n
+range_read p f a zero h = refl
+range_read p f a (suc n) h =
+    let e : one (p a) ≡ f 0 = ap (λ k. one (p k)) (omega arith) ∙ h 0 in
+    let next : (g : ℕ) → one (p (a + 1 + g)) ≡ f (suc g) = λ g. ap (λ k. one (p k)) (omega arith) ∙ h (suc g) in
+    omega (arith, sum_by-cons (λ k. one (p k)) a (range_with_len (a + 1) n), e, range_read p (λ g. f (suc g)) (a + 1) n next, below_front f n)
+
+pub references_read : (fields : ℕ) (word : ℕ → ℕ → ℕ) (marked : List ℕ) (x : ℕ) → sum_by (λ n. count_by (λ field. leads_to x (target_of (word n field))) (range_with_len 0 fields)) marked ≡ total (λ n. total_below (λ g. same (suc x) (codes word n g)) fields) marked
+references_read fields word [] x = refl
+references_read fields word (n ∷ marked) x =
+    omega (
+      arith,
+      sum_by-cons (λ m. count_by (λ field. leads_to x (target_of (word m field))) (range_with_len 0 fields)) n marked,
+      range_read (λ field. leads_to x (target_of (word n field))) (λ g. same (suc x) (codes word n g)) 0 fields (λ g. ap (λ k. one (leads_to x (target_of (word n k)))) (omega arith) ∙ leads_code x (codes word n g)),
+      references_read fields word marked x,
+    )

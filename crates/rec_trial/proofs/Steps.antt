@@ -1,0 +1,151 @@
+-- What a trial learns and what it does between two loads, seen as a trial by functions.
+use Rattle.std.proofs.Common.{◌≡◌, ℕ, zero, suc, ◌+◌, ◌-◌, ◌<◌, Bool, true, false, eqb, ltb, Some, IfSome, List, [], ◌∷◌, length, get_or, refl, sym, ap, ◌∙◌, arith, inl, inr, add-one}
+use Rattle.std.specs.List.{concat}
+use Rattle.std.proofs.lemmas.List.{get_or_past, length-set, length-append}
+use Rattle.std.proofs.lemmas.Bool.{cases_lt, false≢true}
+use Rattle.std.proofs.lemmas.Bool.Decides.{nat_tests}
+use Rattle.rec_word.specs.Word.{slot_of_bits}
+use Rattle.rec_counts.specs.declared.colour.Colour.{Colour}
+use Rattle.rec_counts.specs.declared.colour.Colour.TheVariants.{Black, Purple, Gray, White, Orange}
+use Rattle.rec_counts.specs.declared.slot.Slot.{Slot}
+use Rattle.rec_counts.specs.Counts.{State, slot_at, without_root}
+use Rattle.rec_counts.specs.Slot.{absent}
+use Rattle.rec_trial.specs.declared.phase.Phase.{Phase}
+use Rattle.rec_trial.specs.declared.phase.Phase.TheVariants.{Idle, Marking, Scanning, Collecting}
+use Rattle.rec_trial.specs.Moves.{is_gray, is_white, touched_if, touched, one_off, marked_by, dropped_if, dropped, scanned_by, has_rest, all_whitened, collected_by, with_new_set}
+use Rattle.rec_trial.specs.Trial.{Machine, Work, begun_at, roots_moved, scan_moved, set_begun_if, collect_moved, advanced_if, advanced}
+use Rattle.rec_trial.proofs.Deletion.{Deletion, next_at, next_field}
+use Rattle.rec_trial.proofs.Deletion as plain
+use Rattle.rec_trial.proofs.Views.{at_of, earlier, view_of, view, view_touched, view_one_off, view_blackened, view_joined, view_whitened, view_rootless, concat_new, earlier_new}
+
+-- a slot that is not released is in range
+pub in_range : (s : State) (x : ℕ) → (slot_at s x).released ≡ false → x < length s.slots
+in_range s x e = elim (cases_lt x (length s.slots)) [
+  | inl l ↦ l
+  | inr l ↦ absurd (false≢true (sym e ∙ ap (λ (v : Slot). v.released) (get_or_past s.slots x absent l)))
+]
+
+pub bits_suc : (x : ℕ) → slot_of_bits (suc x) ≡ Some x
+bits_suc x = go (eqb (suc x) 0) refl
+  where
+    not_zero : eqb (suc x) 0 ≡ true → ⊥
+    not_zero e = grind (arith, nat_tests)
+
+    less : suc x - 1 ≡ x
+    less = omega arith
+
+    go : (b : Bool) → eqb (suc x) 0 ≡ b → slot_of_bits (suc x) ≡ Some x
+    go true e = absurd (not_zero e)
+    go false e = rw (e, less) refl
+
+-- the place moves on
+at_next : (p : Phase) (done before : ℕ) → at_of p (done + 1) before ≡ suc (at_of p done before)
+at_next Idle done before = omega arith
+at_next Marking done before = omega arith
+at_next Scanning done before = omega arith
+at_next Collecting done before = omega arith
+
+pub view_advanced : (m : Machine) (s : State) (p : Phase) → m.phase ≡ p → view_of (advanced m) s ≡ plain.advance p (view_of m s)
+view_advanced m s p e =
+    let f : m.field + 1 ≡ suc m.field = add-one m.field in
+    go (ltb (m.field + 1) m.fields) ∙ (λ i. record (view_of m s) { phase = e i; at = next_at (ltb (f i) m.fields) (view_of m s).at; field = next_field (ltb (f i) m.fields) m.field })
+  where
+    go : (b : Bool) → view_of (advanced_if b m) s ≡ record (view_of m s) { at = next_at b (view_of m s).at; field = next_field b m.field }
+    go true = let f : m.field + 1 ≡ suc m.field = add-one m.field in λ i. record (view_of m s) { field = f i }
+    go false = let a : at_of m.phase (m.done + 1) (earlier s) ≡ suc (at_of m.phase m.done (earlier s)) = at_next m.phase m.done (earlier s) in λ i. record (view_of m s) { at = a i; field = 0 }
+
+-- a target is learnt
+touched_length : (s : State) (x : ℕ) (b : Bool) → length (touched_if b s x).slots ≡ length s.slots
+touched_length s x true = refl
+touched_length s x false = length-set s.slots x (record (slot_at s x) { colour = Gray; cyclic = (slot_at s x).count })
+
+module _ (m : Machine) (s : State) where
+  view_marked : (x : ℕ) → x < length s.slots → view_of m (one_off (touched s x) x) ≡ plain.take_one (plain.touch (view_of m s) x) x
+  view_marked x l = go (is_gray (slot_at s x).colour)
+    where
+      go : (b : Bool) → view_of m (one_off (touched_if b s x) x) ≡ plain.take_one (plain.touch_if b (view_of m s) x) x
+      go b = view_one_off m (touched_if b s x) x (omega (arith, l, touched_length s x b)) ∙ ap (λ (v : Deletion). plain.take_one v x) (view_touched m s x l b)
+
+  pub view_marked_by : (code : ℕ) → IfSome (slot_of_bits code) (λ x. x < length s.slots) → view_of m (marked_by s (slot_of_bits code)) ≡ plain.mark_word (view_of m s) code
+  view_marked_by zero l = refl
+  view_marked_by (suc x) l = let h : x < length s.slots = rw (bits_suc x) at l in rw (bits_suc x) (view_marked x h)
+
+  pub view_scanned_by : (code : ℕ) → IfSome (slot_of_bits code) (λ x. x < length s.slots) → view_of m (scanned_by s (slot_of_bits code)) ≡ plain.scan_word (view_of m s) code
+  view_scanned_by zero l = refl
+  view_scanned_by (suc x) l = let h : x < length s.slots = rw (bits_suc x) at l in rw (bits_suc x) (view_blackened m s x h (is_gray (slot_at s x).colour))
+
+  pub view_collected_by : (code : ℕ) → IfSome (slot_of_bits code) (λ x. x < length s.slots) → 0 < length s.sets → view_of m (collected_by s (slot_of_bits code)) ≡ plain.find_word (view_of m s) code
+  view_collected_by zero l some = refl
+  view_collected_by (suc x) l some = let h : x < length s.slots = rw (bits_suc x) at l in rw (bits_suc x) (view_joined m s x h some (is_white (slot_at s x).colour))
+
+-- a root leaves
+module _ (w : Work) (e : w.machine.phase ≡ Marking) (x : ℕ) (xs : List ℕ) where
+  left : State
+  left = without_root (x ∷ xs) w.counts
+
+  marking : Machine
+  marking = record w.machine { phase = Marking }
+
+  view_left : view_of (record w.machine { phase = Marking }) (without_root (x ∷ xs) w.counts) ≡ plain.drop_root (view w) x xs
+  view_left =
+      view_rootless (record w.machine { phase = Marking }) w.counts x xs
+      ∙ (λ i. record (view w) { phase = Marking; roots = xs; at = at_of (sym e i) w.machine.done (earlier w.counts) })
+
+  view_dropped_if : (t : State) (out : Bool) (c : Colour) → view_of (record w.machine { phase = Marking }) t ≡ plain.drop_root (view w) x xs → (out ≡ false → x < length t.slots) → view_of (record w.machine { phase = Marking }) (dropped_if out c t x) ≡ plain.root_if out c (view w) x xs
+  view_dropped_if t true c q l = q
+  view_dropped_if t false Purple q l = view_touched (record w.machine { phase = Marking }) t x (l refl) false ∙ ap (λ (v : Deletion). plain.touch_if false v x) q
+  view_dropped_if t false Black q l = q
+  view_dropped_if t false Gray q l = q
+  view_dropped_if t false White q l = q
+  view_dropped_if t false Orange q l = q
+
+  view_dropped : view_of (record w.machine { phase = Marking }) (dropped (without_root (x ∷ xs) w.counts) x) ≡ plain.root_if (slot_at w.counts x).released (slot_at w.counts x).colour (view w) x xs
+  view_dropped =
+      let t : State = without_root (x ∷ xs) w.counts in
+      let out : (slot_at t x).released ≡ (slot_at w.counts x).released = ap (λ (v : Deletion). v.released x) view_left in
+      let colour : (slot_at t x).colour ≡ (slot_at w.counts x).colour = ap (λ (v : Deletion). v.colour x) view_left in
+      view_dropped_if t (slot_at t x).released (slot_at t x).colour view_left (λ f. in_range t x f)
+      ∙ (λ i. plain.root_if (out i) (colour i) (view w) x xs)
+
+pub view_roots : (w : Work) → w.machine.phase ≡ Marking → (rs : List ℕ) → w.counts.roots ≡ rs → view (roots_moved rs w) ≡ plain.one_root rs (view w)
+view_roots w e [] r = refl
+view_roots w e (x ∷ xs) r = view_dropped w e x xs
+
+-- scanning goes on
+pub view_scan : (w : Work) → w.machine.phase ≡ Scanning → w.counts.sets ≡ [] → (more : Bool) → (more ≡ true → get_or w.counts.marked w.machine.tried 0 < length w.counts.slots) → view (scan_moved more w) ≡ plain.try_scan more (view w)
+view_scan w e none false l =
+    let a : at_of Collecting 0 (earlier (all_whitened w.counts)) ≡ 0 = rw none refl in
+    view_whitened w.counts (begun_at Collecting w.machine.fields)
+    ∙ (λ i. record (plain.begin_collect (view w)) { at = a i })
+view_scan w e none true l =
+    let x : ℕ = get_or w.counts.marked w.machine.tried 0 in
+    let m : Machine = record w.machine { phase = Scanning; tried = w.machine.tried + 1 } in
+    let n : w.machine.tried + 1 ≡ suc w.machine.tried = add-one w.machine.tried in
+    let q : view_of m w.counts ≡ record (view w) { phase = Scanning; tried = suc w.machine.tried } = λ i. record (view w) { phase = Scanning; tried = n i; at = at_of (sym e i) w.machine.done (earlier w.counts) } in
+    view_blackened m w.counts x (l refl) (has_rest (slot_at w.counts x))
+    ∙ ap (λ (v : Deletion). plain.blacken_if (has_rest (slot_at w.counts x)) v x) q
+    ∙ swap (has_rest (slot_at w.counts x)) x
+  where
+    swap : (b : Bool) (x : ℕ) → plain.blacken_if b (record (view w) { phase = Scanning; tried = suc w.machine.tried }) x ≡ record (plain.blacken_if b (view w) x) { phase = Scanning; tried = suc w.machine.tried }
+    swap true x = refl
+    swap false x = refl
+
+-- collecting goes on
+view_set : (w : Work) → w.machine.phase ≡ Collecting → earlier w.counts + w.machine.done ≡ length (concat w.counts.sets) → (x : ℕ) → x < length w.counts.slots → (b : Bool) → view (set_begun_if b w x) ≡ record (plain.begin_set_if b (view w) x) { phase = Collecting; tried = suc w.machine.tried }
+view_set w e full x l false =
+    let n : w.machine.tried + 1 ≡ suc w.machine.tried = add-one w.machine.tried in
+    λ i. record (view w) { phase = Collecting; tried = n i; at = at_of (sym e i) w.machine.done (earlier w.counts) }
+view_set w e full x l true =
+    let m : Machine = record w.machine { phase = Collecting; tried = w.machine.tried + 1; done = 0 } in
+    let s : State = with_new_set w.counts in
+    let n : w.machine.tried + 1 ≡ suc w.machine.tried = add-one w.machine.tried in
+    let k : length s.sets ≡ suc (length w.counts.sets) = omega (arith, length-append w.counts.sets ([] ∷ [])) in
+    let c : concat s.sets ≡ concat w.counts.sets = concat_new w.counts.sets in
+    let here : earlier s + 0 ≡ earlier w.counts + w.machine.done = omega (arith, full, ap (λ (ys : List (List ℕ)). length (concat ys)) (earlier_new w.counts.sets)) in
+    let a : earlier s + 0 ≡ at_of w.machine.phase w.machine.done (earlier w.counts) = here ∙ (λ i. at_of (sym e i) w.machine.done (earlier w.counts)) in
+    view_joined m s x l (omega (arith, k)) true
+    ∙ (λ i. plain.join_if true (record (view w) { phase = Collecting; tried = n i; at = a i; members = c i; sets = k i }) x)
+
+pub view_collect : (w : Work) → w.machine.phase ≡ Collecting → (more : Bool) → (more ≡ true → get_or w.counts.marked w.machine.tried 0 < length w.counts.slots) → earlier w.counts + w.machine.done ≡ length (concat w.counts.sets) → view (collect_moved more w) ≡ plain.try_collect more (view w)
+view_collect w e false l full = λ i. record (plain.try_collect false (view w)) { at = at_of (sym e i) w.machine.done (earlier w.counts) }
+view_collect w e true l full = view_set w e full (get_or w.counts.marked w.machine.tried 0) (l refl) (is_white (slot_at w.counts (get_or w.counts.marked w.machine.tried 0)).colour)

@@ -1,0 +1,77 @@
+-- Sums of weights over lists and over numbers, and tests that guard a weight.
+use Rattle.std.proofs.Common.{◌≡◌, ℕ, zero, suc, ◌+◌, ◌<◌, ◌≤◌, Bool, true, false, cond, eqb, List, [], ◌∷◌, ◌++◌, length, get_or, refl, arith}
+use Rattle.std.proofs.lemmas.Bool.Decides.{nat_tests}
+use Rattle.rec_counts.specs.Lists.{one, times as count_times}
+use Rattle.rec_counts.proofs.Times.{times-nil, times-cons}
+
+-- the sum of a weight over a list
+abbrev pub total : {A : Type 0} → (A → ℕ) → List A → ℕ
+total f [] = 0
+total f (x ∷ xs) = f x + total f xs
+
+-- the sum of a weight over so many of the first
+abbrev pub total_of_first : (ℕ → ℕ) → ℕ → List ℕ → ℕ
+total_of_first f zero xs = 0
+total_of_first f (suc k) [] = 0
+total_of_first f (suc k) (x ∷ xs) = f x + total_of_first f k xs
+
+-- the sum of a weight over the numbers below one
+abbrev pub total_below : (ℕ → ℕ) → ℕ → ℕ
+total_below f zero = 0
+total_below f (suc k) = total_below f k + f k
+
+-- the number where it holds, else 0
+abbrev pub guarded : Bool → ℕ → ℕ
+guarded true n = n
+guarded false n = 0
+
+-- one where the two are equal
+abbrev pub same : ℕ → ℕ → ℕ
+same x y = one (eqb x y)
+
+-- how often a number stands in a list
+abbrev pub times : ℕ → List ℕ → ℕ
+times x xs = total (same x) xs
+
+-- a function changed at one place
+abbrev pub changed : {A : Type 0} → (ℕ → A) → ℕ → A → ℕ → A
+changed f x v y = cond (eqb y x) v (f y)
+
+pub total_append : {A : Type 0} (f : A → ℕ) (xs ys : List A) → total f (xs ++ ys) ≡ total f xs + total f ys
+total_append f [] ys = omega arith
+total_append f (x ∷ xs) ys = omega (arith, total_append f xs ys)
+
+pub first_grown : (f : ℕ → ℕ) (k : ℕ) (xs ys : List ℕ) → k ≤ length xs → total_of_first f k (xs ++ ys) ≡ total_of_first f k xs
+first_grown f zero xs ys h = refl
+first_grown f (suc k) [] ys h = absurd (omega arith)
+first_grown f (suc k) (x ∷ xs) ys h = omega (arith, first_grown f k xs ys (omega arith))
+
+pub first_more : (f : ℕ → ℕ) (k : ℕ) (xs : List ℕ) → k < length xs → total_of_first f (suc k) xs ≡ total_of_first f k xs + f (get_or xs k 0)
+first_more f zero [] h = absurd (omega arith)
+first_more f zero (x ∷ xs) h = omega arith
+first_more f (suc k) [] h = absurd (omega arith)
+first_more f (suc k) (x ∷ xs) h = let r : total_of_first f (suc k) xs ≡ total_of_first f k xs + f (get_or xs k 0) = first_more f k xs (omega arith) in omega arith
+
+pub first_whole : (f : ℕ → ℕ) (xs : List ℕ) → total_of_first f (length xs) xs ≡ total f xs
+first_whole f [] = refl
+first_whole f (x ∷ xs) = omega (arith, first_whole f xs)
+
+pub get_grown : (xs ys : List ℕ) (k : ℕ) → k < length xs → get_or (xs ++ ys) k 0 ≡ get_or xs k 0
+get_grown [] ys k h = absurd (omega arith)
+get_grown (x ∷ xs) ys zero h = refl
+get_grown (x ∷ xs) ys (suc k) h = get_grown xs ys k (omega arith)
+
+pub times_here : (xs : List ℕ) (k : ℕ) → k < length xs → 0 < times (get_or xs k 0) xs
+times_here [] k h = absurd (omega arith)
+times_here (x ∷ xs) zero h = grind (arith, nat_tests)
+times_here (x ∷ xs) (suc k) h = let r : 0 < times (get_or xs k 0) xs = times_here xs k (omega arith) in omega arith
+
+pub first_le : (f : ℕ → ℕ) (k : ℕ) (xs : List ℕ) → total_of_first f k xs ≤ total f xs
+first_le f zero xs = omega arith
+first_le f (suc k) [] = omega arith
+first_le f (suc k) (x ∷ xs) = omega (arith, first_le f k xs)
+
+-- it is what the counts say of how often a slot stands in a list
+pub occurs : (x : ℕ) (xs : List ℕ) → count_times x xs ≡ times x xs
+occurs x [] = times-nil x
+occurs x (y ∷ ys) = omega (arith, times-cons x y ys, occurs x ys)

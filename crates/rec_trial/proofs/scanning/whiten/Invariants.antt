@@ -1,0 +1,5 @@
+use Rattle.rec_trial.proofs.Conditions.{Whitening}
+use Rattle.rec_trial.proofs.scanning.whiten.Given as goal
+
+abbrev pub invariant-loop-index : goal.invariant-loop-index
+invariant-loop-index l = Whitening l.index l.counts l.initial.counts

@@ -1,0 +1,7 @@
+pub mod Loaded
+pub mod Moves
+pub mod Rules
+pub mod Trial
+pub mod Still
+pub mod Tried
+pub mod Witnessed

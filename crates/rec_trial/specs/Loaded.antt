@@ -1,0 +1,58 @@
+-- A trial with what it loaded: the record that proofs keep of it.
+use Rattle.std.specs.Prelude.{◌≡◌, ℕ, ◌<◌, List, [], ◌∷◌, fold, IsSome}
+use Rattle.rec_word.specs.Word.{target_of}
+use Rattle.rec_counts.specs.Counts.{State, IsKept}
+use Rattle.rec_trial.specs.declared.phase.Phase.{Phase}
+use Rattle.rec_trial.specs.declared.phase.Phase.TheVariants.{Idle, Marking, Scanning, Collecting}
+use Rattle.rec_trial.specs.Rules.{IsReady, LeadsToUnreleased, AllLeadToUnreleased}
+use Rattle.rec_trial.specs.Trial.{Machine, Work, next_of, took_of, started_of, opened_of, advanced, learnt_at}
+
+-- a field that was loaded, and the word that it held
+pub record Load : Type 0 where
+  pub slot : ℕ
+  pub field : ℕ
+  pub word : ℕ
+
+-- a trial, with what marking loaded, what blackening loaded and what collecting loaded, the last load first
+pub record Run : Type 0 where
+  pub work : Work
+  pub marking : List Load
+  pub blackening : List Load
+  pub collecting : List Load
+
+-- the field that was due, with its word
+abbrev pub load_of : Machine → (word : ℕ) → Load
+load_of m word = record { slot = m.slot; field = m.field; word = word }
+
+abbrev pub noted_at : Phase → Run → (word : ℕ) → Run
+noted_at Idle r word = r
+noted_at Marking r word = record r { work = took_of r.work word; marking = load_of r.work.machine word ∷ r.marking }
+noted_at Scanning r word = record r { work = took_of r.work word; blackening = load_of r.work.machine word ∷ r.blackening }
+noted_at Collecting r word = record r { work = took_of r.work word; collecting = load_of r.work.machine word ∷ r.collecting }
+
+-- one word more; where the trial is over, it is not taken in
+abbrev pub noted : Run → (word : ℕ) → Run
+noted r word = noted_at r.work.machine.phase r word
+
+-- a trial that has begun on these counts
+abbrev pub begun : (fields : ℕ) → State → Run
+begun fields before = record { work = started_of fields before; marking = []; blackening = []; collecting = [] }
+
+-- a trial after it took in these words, one after another
+unfoldable pub run_of : (fields : ℕ) (before : State) (words : List ℕ) → Run
+run_of fields before words = fold noted (begun fields before) words
+
+-- a trial came to this: it began on counts that were ready for it, and took in words that led to no released slot
+pub record IsAtWork (m : Machine) (s : State) : Type 0 where
+  pub wide : 0 < m.fields
+  pub before : State
+  pub words : List ℕ
+  pub kept : IsKept before
+  pub ready : IsReady before
+  pub named : AllLeadToUnreleased before words
+  pub is : ◌≡◌ {A = Work} (record { machine = m; counts = s }) (run_of m.fields before words).work
+
+-- a trial goes on without a load: it is about to begin, or has just learnt a word
+pub data GoesOn : Machine → State → Type 0 where
+  begins : {fields : ℕ} {s : State} → 0 < fields → IsKept s → IsReady s → GoesOn (opened_of fields) s
+  learns : {m : Machine} {s : State} → IsAtWork m s → IsSome (next_of m) → (word : ℕ) → LeadsToUnreleased s word → GoesOn (advanced m) (learnt_at m.phase s (target_of word))

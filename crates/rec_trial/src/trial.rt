@@ -1,0 +1,254 @@
+ghost use Rattle.std.specs.Prelude.{◌≡◌, ◌<◌, ◌+◌, ◌^◌, ◌↔◌, ℕ, true, false, None, List, length, IfSome, IsNone, IsSome};
+ghost use Rattle.rec_word.specs.Word.{target_of};
+ghost use Rattle.rec_trial.specs.Loaded.{GoesOn, IsAtWork};
+ghost use Rattle.rec_trial.specs.declared.phase.Phase.TheVariants.{Collecting, Scanning};
+ghost use Rattle.rec_trial.specs.Rules.{CanCollect, CanMark, CanScan, IsReady, LeadsToUnreleased, RulesAt};
+ghost use Rattle.rec_trial.specs.Trial.{NamesPlace, advanced, begun_at, collect_moved, idle_of, is_due, is_due_at, learnt_at, list_of, moved_at, next_of, pointed, roots_moved, scan_moved, settled, started_of, took_of};
+
+use crate::collecting::{begin, collect, last_members};
+use crate::marking::{drop_root, mark};
+use crate::phase::Phase;
+use crate::scanning::{blacken_held, scan, whiten};
+use rec_counts::{Colour, Counts};
+use rec_word::{Op, place, target};
+use std::marker::Model;
+
+/// Trial deletion. It takes no memory.
+#[derive(Debug, Drop)]
+pub struct Trial {
+    fields: u8,
+    phase: Phase,
+    // How many slots of the marked list scanning, or collecting, has looked at.
+    tried: usize,
+    // How many slots of the list at work have had all their fields loaded.
+    done: usize,
+    // The slot and the field that are loaded next.
+    slot: u16,
+    field: u8,
+}
+
+impl Model for Trial {
+    ghost use Rattle.std.specs.Prelude.{◌<◌};
+    ghost use Rattle.rec_trial.specs.Trial.{Machine};
+
+    ghost Value = { Machine };
+
+    ghost view = { λ trial. record { fields = trial.fields; phase = trial.phase; tried = trial.tried; done = trial.done; slot = trial.slot; field = trial.field } };
+
+    ghost invariant = { λ trial. trial.field < trial.fields };
+}
+
+impl Trial {
+    /// A trial with no work, over slots with so many fields, at least one.
+    #[tactic(auto, unfolding(crate::specs::Trial::next_of))]
+    pub fn idle(fields: u8) -> Trial
+        requires { 0 < fields }
+        ensures idle { result ≡ idle_of fields }
+        ensures none { IsNone (next_of result) }
+    {
+        Trial {
+            fields,
+            phase: Phase::Idle,
+            tried: 0,
+            done: 0,
+            slot: 0,
+            field: 0,
+        }
+    }
+
+    /// Begins a trial: roots are dropped, and what the first one that is Purple leads to is to be loaded.
+    pub fn start(&mut self, counts: &mut Counts)
+        requires idle { IsNone (next_of self.old) }
+        requires ready { IsReady counts.old }
+
+        ensures started { record { machine = self.new; counts = counts.new } ≡ started_of self.old.fields counts.old }
+        ensures kept { IsAtWork self.new counts.new }
+        ensures place { NamesPlace (length counts.new.slots) self.new }
+        ensures slots { length counts.new.slots ≡ length counts.old.slots }
+    {
+        counts.rules();
+        self.begin_phase(Phase::Marking);
+        self.settle(counts);
+        self.point(counts);
+    }
+
+    /// What comes next: a field of a marked slot is loaded. None where the trial is over.
+    #[tactic(auto, unfolding(crate::specs::Trial::next_of))]
+    pub fn next(&self) -> Option<Op>
+        ensures { result ≡ next_of self.now }
+    {
+        match self.phase {
+            Phase::Idle => None,
+            _ => Some(Op::LoadChild(place(self.slot, self.field, self.fields))),
+        }
+    }
+
+    /// Learns the word that the field holds.
+    pub fn took(&mut self, counts: &mut Counts, word: u64)
+        requires busy { IsSome (next_of self.old) }
+        requires kept { IsAtWork self.old counts.old }
+        requires named { LeadsToUnreleased counts.old word }
+
+        ensures took { record { machine = self.new; counts = counts.new } ≡ took_of (record { machine = self.old; counts = counts.old }) word }
+        ensures kept { IsAtWork self.new counts.new }
+        ensures place { NamesPlace (length counts.new.slots) self.new }
+        ensures slots { length counts.new.slots ≡ length counts.old.slots }
+    {
+        counts.rules();
+        self.learn(counts, target(word));
+        self.advance();
+        self.settle(counts);
+        self.point(counts);
+    }
+
+    fn learn(&self, counts: &mut Counts, target: Option<u16>)
+        requires in_range { IfSome target (λ slot. slot < length counts.old.slots) }
+        requires due { is_due_at self.now.phase self.now.done counts.old ≡ true }
+        requires rules { RulesAt self.now.phase counts.old }
+        ensures { counts.new ≡ learnt_at self.now.phase counts.old target }
+    {
+        match self.phase {
+            Phase::Idle => {}
+            Phase::Marking => mark(counts, target),
+            Phase::Scanning => scan(counts, target),
+            Phase::Collecting => collect(counts, target),
+        }
+    }
+
+    // On to the next field, or to the next slot of the list at work.
+    fn advance(&mut self)
+        requires { self.old.done < 2 ^ 16 }
+        ensures { self.new ≡ advanced self.old }
+    {
+        if self.field + 1 < self.fields {
+            self.field += 1;
+        } else {
+            self.done += 1;
+            self.field = 0;
+        }
+    }
+
+    // The list whose slots have their fields loaded, one after another.
+    fn list<'a>(&self, counts: &'a Counts) -> &'a [u16]
+        ensures { result.now ≡ list_of self.now.phase counts.now }
+    {
+        match self.phase {
+            Phase::Idle => &[],
+            Phase::Marking => counts.marked(),
+            Phase::Scanning => counts.work(),
+            Phase::Collecting => last_members(counts),
+        }
+    }
+
+    // Whether a field is to be loaded, or nothing is left to do.
+    fn is_due(&self, counts: &Counts) -> bool
+        ensures { result ≡ is_due_at self.now.phase self.now.done counts.now }
+    {
+        match self.phase {
+            Phase::Idle => true,
+            _ => self.done < self.list(counts).len(),
+        }
+    }
+
+    // Goes on without a load up to the next one, or to the end.
+    fn settle(&mut self, counts: &mut Counts)
+        requires { GoesOn self.old counts.old }
+        ensures { record { machine = self.new; counts = counts.new } ≡ settled (record { machine = self.old; counts = counts.old }) }
+    {
+        while !self.is_due(counts) {
+            self.move_on(counts);
+        }
+    }
+
+    // The slot whose field is loaded next.
+    fn point(&mut self, counts: &Counts)
+        ensures { record { machine = self.new; counts = counts.now } ≡ pointed (record { machine = self.old; counts = counts.now }) }
+    {
+        let list = self.list(counts);
+        self.slot = if self.done < list.len() {
+            list[self.done]
+        } else {
+            0
+        };
+    }
+
+    fn move_on(&mut self, counts: &mut Counts)
+        requires rules { RulesAt self.old.phase counts.old }
+        ensures { record { machine = self.new; counts = counts.new } ≡ moved_at self.old.phase (record { machine = self.old; counts = counts.old }) }
+    {
+        match self.phase {
+            Phase::Idle => {}
+            Phase::Marking => self.take_root(counts),
+            Phase::Scanning => self.scan_on(counts),
+            Phase::Collecting => self.collect_on(counts),
+        }
+    }
+
+    // The first root leaves the root buffer; where there is none, scanning begins.
+    fn take_root(&mut self, counts: &mut Counts)
+        requires { CanMark counts.old }
+        ensures { record { machine = self.new; counts = counts.new } ≡ roots_moved counts.old.roots (record { machine = self.old; counts = counts.old }) }
+    {
+        counts.rules();
+        match counts.pop_root() {
+            Some(slot) => {
+                drop_root(counts, slot);
+                self.phase = Phase::Marking;
+            }
+            None => self.begin_phase(Phase::Scanning),
+        }
+    }
+
+    // The next marked slot becomes Black where it has a rest; after the last one collecting begins.
+    fn scan_on(&mut self, counts: &mut Counts)
+        requires { CanScan counts.old }
+        ensures { record { machine = self.new; counts = counts.new } ≡ moved_at Scanning (record { machine = self.old; counts = counts.old }) }
+    {
+        counts.rules();
+        if self.tried < counts.marked().len() {
+            let slot = counts.marked()[self.tried];
+            blacken_held(counts, slot);
+            self.phase = Phase::Scanning;
+            self.tried += 1;
+        } else {
+            whiten(counts);
+            self.begin_phase(Phase::Collecting);
+        }
+    }
+
+    // The next marked slot begins a set where it is White; after the last one the trial is over.
+    fn collect_on(&mut self, counts: &mut Counts)
+        requires { CanCollect counts.old }
+        ensures { record { machine = self.new; counts = counts.new } ≡ moved_at Collecting (record { machine = self.old; counts = counts.old }) }
+    {
+        counts.rules();
+        if self.tried < counts.marked().len() {
+            let slot = counts.marked()[self.tried];
+            self.phase = Phase::Collecting;
+            self.tried += 1;
+            match counts.colour(slot) {
+                Colour::White => {
+                    begin(counts, slot);
+                    self.done = 0;
+                }
+                _ => {}
+            }
+        } else {
+            counts.clear_marked();
+            counts.clear_work();
+            self.phase = Phase::Idle;
+        }
+    }
+
+    // This phase begins, with nothing done in it.
+    fn begin_phase(&mut self, phase: Phase)
+        ensures begun { self.new ≡ begun_at phase self.old.fields }
+        ensures wide { 0 < self.new.fields }
+    {
+        self.phase = phase;
+        self.tried = 0;
+        self.done = 0;
+        self.slot = 0;
+        self.field = 0;
+    }
+}
