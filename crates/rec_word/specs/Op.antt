@@ -1,7 +1,7 @@
 -- What an operation leaves in the word that it names.
 use Rattle.std.specs.Prelude.{ℕ, ◌+◌, ◌*◌, ◌%◌, ◌^◌, ◌==◌, if◌then◌else◌}
 use Rattle.rec_word.specs.declared.op.Op.{Op}
-use Rattle.rec_word.specs.declared.op.Op.TheVariants.{LoadField, SwapField, LoadHeader, LoadEpoch, LoadCross, ClaimHeader, LoadFreed, ClearField, FreeHeader, TakeBox, GiveBox, StoreEpoch, LookBox, ReturnBox, AddFreed}
+use Rattle.rec_word.specs.declared.op.Op.TheVariants.{LoadField, SwapField, LoadHeader, LoadEpoch, LoadCross, ClaimHeader, LoadFreed, LoadChild, ClearField, FreeHeader, TakeBox, GiveBox, StoreEpoch, LookBox, ReturnBox, AddFreed}
 
 -- the crossing word of a mutator in this epoch, or crossing into it, with its mailbox in this state
 abbrev pub crossing_word : (epoch state : ℕ) → ℕ
@@ -18,6 +18,7 @@ written LoadEpoch found = found
 written (LoadCross t) found = found
 written (ClaimHeader slot label) found = if found == 0 then label + 1 else found
 written LoadFreed found = found
+written (LoadChild place) found = found
 written (ClearField place) found = 0
 written (FreeHeader slot) found = 0
 written (TakeBox t epoch) found = crossing_word epoch 1

@@ -19,6 +19,8 @@ pub enum Op {
     ClaimHeader(u16, u32),
     /// Load the freed word, which is odd exactly during a sweep.
     LoadFreed,
+    /// Load a field of a slot that trial deletion looks at.
+    LoadChild(u32),
     /// Exchange a field of a released slot for 0.
     ClearField(u32),
     /// Store 0 in the header of a slot, which is free then.
@@ -50,6 +52,7 @@ impl Op {
             | Op::LoadHeader(_)
             | Op::LoadEpoch
             | Op::LoadCross(_)
+            | Op::LoadChild(_)
             | Op::LoadFreed => found,
             Op::SwapField(_, word) => word,
             Op::ClaimHeader(_, label) => {
@@ -97,6 +100,7 @@ mod tests {
         assert_eq!(rt; Op::ClaimHeader(3, 20).written(0), 21);
         assert_eq!(rt; Op::ClaimHeader(3, 20).written(8), 8);
         assert_eq!(rt; Op::LoadFreed.written(8), 8);
+        assert_eq!(rt; Op::LoadChild(3).written(8), 8);
         assert_eq!(rt; Op::ClearField(3).written(8), 0);
         assert_eq!(rt; Op::FreeHeader(3).written(8), 0);
     }

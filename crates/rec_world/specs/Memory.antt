@@ -2,7 +2,7 @@
 use Rattle.std.specs.Prelude.{◌≡◌, ◌≢◌, ℕ, ◌+◌, ◌-◌, ◌*◌, ◌<◌, ◌≤◌, ◌==◌, if◌then◌else◌, true, false, List, length, replicate, slice_index_or, slice_range, slice_set}
 use Rattle.rec_word.specs.declared.op.Op.{Op}
 use Rattle.rec_model.specs.Reach.{is_in}
-use Rattle.rec_word.specs.declared.op.Op.TheVariants.{LoadField, SwapField, ClearField, LoadHeader, LoadEpoch, LoadCross, ClaimHeader, FreeHeader, LoadFreed, TakeBox, GiveBox, StoreEpoch, LookBox, ReturnBox, AddFreed}
+use Rattle.rec_word.specs.declared.op.Op.TheVariants.{LoadField, SwapField, LoadChild, ClearField, LoadHeader, LoadEpoch, LoadCross, ClaimHeader, FreeHeader, LoadFreed, TakeBox, GiveBox, StoreEpoch, LookBox, ReturnBox, AddFreed}
 
 -- a header for each slot, a word for each field of each slot, the epoch word, the freed word, and a crossing word for each mutator
 pub record Cells : Type 0 where
@@ -20,6 +20,7 @@ IsWithin cells (LoadHeader slot) = slot < length cells.headers
 IsWithin cells LoadEpoch = Unit {0}
 IsWithin cells (LoadCross t) = (1 ≤ t) × (t ≤ length cells.crossing)
 IsWithin cells (ClaimHeader slot label) = slot < length cells.headers
+IsWithin cells (LoadChild place) = place < length cells.words
 IsWithin cells (ClearField place) = place < length cells.words
 IsWithin cells (FreeHeader slot) = slot < length cells.headers
 IsWithin cells LoadFreed = Unit {0}
@@ -38,6 +39,7 @@ cell cells (LoadHeader slot) = slice_index_or cells.headers slot 0
 cell cells LoadEpoch = cells.epoch
 cell cells (LoadCross t) = slice_index_or cells.crossing (t - 1) 0
 cell cells (ClaimHeader slot label) = slice_index_or cells.headers slot 0
+cell cells (LoadChild place) = slice_index_or cells.words place 0
 cell cells (ClearField place) = slice_index_or cells.words place 0
 cell cells (FreeHeader slot) = slice_index_or cells.headers slot 0
 cell cells LoadFreed = cells.freed
@@ -56,6 +58,7 @@ with_cell cells (LoadHeader slot) x = record cells { headers = slice_set cells.h
 with_cell cells LoadEpoch x = record cells { epoch = x }
 with_cell cells (LoadCross t) x = record cells { crossing = slice_set cells.crossing (t - 1) x }
 with_cell cells (ClaimHeader slot label) x = record cells { headers = slice_set cells.headers slot x }
+with_cell cells (LoadChild place) x = record cells { words = slice_set cells.words place x }
 with_cell cells (ClearField place) x = record cells { words = slice_set cells.words place x }
 with_cell cells (FreeHeader slot) x = record cells { headers = slice_set cells.headers slot x }
 with_cell cells LoadFreed x = record cells { freed = x }

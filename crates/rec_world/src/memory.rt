@@ -72,7 +72,10 @@ impl Memory {
         ensures left { self.new ≡ with_cell self.old op (written op result) }
     {
         match op {
-            Op::LoadField(place) | Op::SwapField(place, _) | Op::ClearField(place) => {
+            Op::LoadField(place)
+            | Op::SwapField(place, _)
+            | Op::LoadChild(place)
+            | Op::ClearField(place) => {
                 let word = &mut self.words[place as usize];
                 let found = *word;
                 *word = op.written(found);
