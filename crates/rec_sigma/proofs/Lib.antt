@@ -1,0 +1,7 @@
+pub mod Bounds
+pub mod Cyclics
+pub mod Firsts
+pub mod Members
+pub mod Moves
+pub mod Renewals
+pub mod Runs

@@ -1,0 +1,5 @@
+pub mod Judged
+pub mod Prepare
+pub mod Prepared
+pub mod Refurbish
+pub mod Settling
