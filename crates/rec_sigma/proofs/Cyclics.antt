@@ -13,7 +13,7 @@ use Rattle.rec_counts.specs.Slot.{absent, is_in}
 use Rattle.rec_counts.proofs.Leaving.{all_of}
 use Rattle.rec_counts.proofs.Times.{times_at, times_more}
 use Rattle.rec_sigma.specs.Prepare.{members_of, renewed, renewed_if, less_if, taken_off}
-use Rattle.rec_sigma.specs.Prepared.{Load, leads_to, seen}
+use Rattle.rec_sigma.specs.Prepared.{KeepsOthers, Load, leads_to, seen}
 
 -- the set of a slot that is in the set of this number
 pub in_set : (number : ℕ) (o : Option ℕ) → is_in number o ≡ true → o ≡ Some number
@@ -27,7 +27,8 @@ set_in_range s number x e = elim (cases_lt x (length s.slots)) [
   | inr l ↦ absurd (false≢true (ap (λ (v : Slot). is_in number v.set) (sym (get_or_past s.slots x absent l)) ∙ e))
 ]
 
-of_one : (b : Bool) → 0 < one b → b ≡ true
+-- what has one holds
+pub of_one : (b : Bool) → 0 < one b → b ≡ true
 of_one true h = refl
 of_one false h = absurd (omega arith)
 
@@ -143,6 +144,53 @@ off_slot number s (Some y) x =
       | inr q ↦ ap (λ b. record (slot_at s x) { cyclic = (slot_at s x).cyclic - one (b && is_in number (slot_at s y).set) }) q.0
           ∙ ap (λ b. record (slot_at s x) { cyclic = (slot_at s x).cyclic - one (b && is_in number (slot_at s x).set) }) (sym q.0)
     ]
+
+pub others_same : (s : State) → KeepsOthers s s
+others_same s = record { slots = λ x. refl; many = refl; roots = refl; sets = refl; marked = refl; work = refl; zeros = refl; free = refl }
+
+pub others_on : {s t u : State} → KeepsOthers s t → KeepsOthers t u → KeepsOthers s u
+others_on {s = s} {t = t} {u = u} k l = record {
+  slots = λ x. l.slots x ∙ ap (λ (v : Slot). record v { cyclic = (slot_at u x).cyclic }) (k.slots x);
+  many = l.many ∙ k.many;
+  roots = l.roots ∙ k.roots;
+  sets = l.sets ∙ k.sets;
+  marked = l.marked ∙ k.marked;
+  work = l.work ∙ k.work;
+  zeros = l.zeros ∙ k.zeros;
+  free = l.free ∙ k.free;
+}
+
+-- a word that was loaded
+pub off_others : (number : ℕ) (s : State) (t : Option ℕ) → KeepsOthers s (taken_off number s t)
+off_others number s t =
+    let now : State = taken_off number s t in
+    let is : now ≡ record s { slots = now.slots } = off_is number s t in
+    record {
+      slots = λ x. off_slot number s t x ∙ ap (λ c. record (slot_at s x) { cyclic = c }) (sym (ap (λ (v : Slot). v.cyclic) (off_slot number s t x)));
+      many = off_many number s t;
+      roots = ap (λ (u : State). u.roots) is;
+      sets = ap (λ (u : State). u.sets) is;
+      marked = ap (λ (u : State). u.marked) is;
+      work = ap (λ (u : State). u.work) is;
+      zeros = ap (λ (u : State). u.zeros) is;
+      free = ap (λ (u : State). u.free) is;
+    }
+
+-- a set that was begun
+pub renewed_others : (s : State) (number : ℕ) → KeepsOthers s (renewed s number)
+renewed_others s number = record {
+  slots = λ x.
+      let b : Bool = is_in number (slot_at s x).set in
+      let e : slot_at (renewed s number) x ≡ renewed_if b (slot_at s x) = renewed_slot s number x in
+      e ∙ renewed_rest b (slot_at s x) ∙ ap (λ c. record (slot_at s x) { cyclic = c }) (ap (λ (v : Slot). v.cyclic) (sym e));
+  many = length-map s.slots (λ (v : Slot). renewed_if (is_in number v.set) v);
+  roots = refl;
+  sets = refl;
+  marked = refl;
+  work = refl;
+  zeros = refl;
+  free = refl;
+}
 
 pub seen-nil : (s : State) (number x : ℕ) → seen s number [] x ≡ 0
 unfolding seen

@@ -15,7 +15,7 @@ use Rattle.rec_counts.proofs.Times.{times-nil}
 use Rattle.rec_sigma.specs.declared.at.At.{At}
 use Rattle.rec_sigma.specs.Prepare.{members_of, renewed, renewed_if, taken_off, first_of, begun_at, next_set, next_member_if, next_member, next_field_if, next_field}
 use Rattle.rec_sigma.specs.Prepared.{Load, Prepared, PreparedTo, leads_to, place_loaded, places_from, places_of, seen}
-use Rattle.rec_sigma.proofs.Cyclics.{Tells, other_set, own_set, renewed_slot, renewed_rest, off_is, off_many, off_slot, seen-nil, seen_push}
+use Rattle.rec_sigma.proofs.Cyclics.{Tells, other_set, own_set, renewed_slot, renewed_others, off_others, off_slot, others_on, others_same, seen-nil, seen_push}
 use Rattle.rec_sigma.proofs.Firsts.{Behind, behind, rest_from}
 
 -- the first of a slot's places, and the others
@@ -36,11 +36,11 @@ retold {fields = fields} {before = before} {begun = begun} {left' = left'} {afte
 
 -- the set of a slot stays
 set_kept : {fields : ℕ} {before : State} {begun : ℕ} {left : List ℕ} {after : State} {loads : List Load} → Prepared fields before begun left after loads → (x : ℕ) → (slot_at after x).set ≡ (slot_at before x).set
-set_kept p x = ap (λ (v : Slot). v.set) (p.slots x)
+set_kept p x = ap (λ (v : Slot). v.set) (p.others.slots x)
 
 -- what tells afterwards told before
 pub told_before : {fields : ℕ} {before : State} {begun : ℕ} {left : List ℕ} {after : State} {loads : List Load} → Prepared fields before begun left after loads → Tells after → Tells before
-told_before p k = λ number x. ap (λ sets. times x (get_or sets number [])) (sym p.sets) ∙ k number x ∙ ap (λ o. one (is_in number o)) (set_kept p x)
+told_before p k = λ number x. ap (λ sets. times x (get_or sets number [])) (sym p.others.sets) ∙ k number x ∙ ap (λ o. one (is_in number o)) (set_kept p x)
 
 -- what one word more takes off, of a member of the set of this number
 taken : (before after : State) (set number x : ℕ) (t : Option ℕ) → (slot_at after x).set ≡ Some number → (slot_at (taken_off set after t) x).cyclic ≡ (slot_at after x).cyclic - one (leads_to x t && is_in set (Some number))
@@ -57,7 +57,6 @@ loaded_on fields before set slot field left after loads word m p =
     let t : Option ℕ = target_of word in
     let l : Load = record { slot = slot; field = field; word = word } in
     let now : State = taken_off set after t in
-    let is : now ≡ record after { slots = now.slots } = off_is set after t in
     let more : (number x : ℕ) → seen before number (loads ++ l ∷ []) x ≡ seen before number loads x + one (leads_to x t && is_in number (Some set)) =
     λ number x. seen_push before number loads l x ∙ ap (λ o. seen before number loads x + one (leads_to x t && is_in number o)) m in
     let less : (number x : ℕ) → (slot_at before x).set ≡ Some number → (slot_at now x).cyclic ≡ (slot_at after x).cyclic - one (leads_to x t && is_in set (Some number)) =
@@ -81,16 +80,7 @@ loaded_on fields before set slot field left after loads word m p =
       unseen = λ number x b.
           let v : one (leads_to x t && is_in number (Some set)) ≡ 0 = ap (λ c. one (leads_to x t && c)) (other_set number set (λ d. absurd (omega (arith, b, d)))) ∙ none_taken (leads_to x t) in
           omega (arith, more number x, v, p.unseen number x b);
-      slots = λ x.
-          let a : slot_at now x ≡ record (slot_at after x) { cyclic = (slot_at now x).cyclic } = off_slot set after t x ∙ ap (λ c. record (slot_at after x) { cyclic = c }) (sym (ap (λ (v : Slot). v.cyclic) (off_slot set after t x))) in
-          a ∙ ap (λ (v : Slot). record v { cyclic = (slot_at now x).cyclic }) (p.slots x);
-      many = off_many set after t ∙ p.many;
-      roots = ap (λ (s : State). s.roots) is ∙ p.roots;
-      sets = ap (λ (s : State). s.sets) is ∙ p.sets;
-      marked = ap (λ (s : State). s.marked) is ∙ p.marked;
-      work = ap (λ (s : State). s.work) is ∙ p.work;
-      zeros = ap (λ (s : State). s.zeros) is ∙ p.zeros;
-      free = ap (λ (s : State). s.free) is ∙ p.free;
+      others = others_on p.others (off_others set after t);
     }
 
 -- a set without members needs nothing
@@ -107,14 +97,7 @@ skipped_on fields before number left after loads k empty p =
       later = λ n x b e. p.later n x (omega (arith, b)) e;
       unset = p.unset;
       unseen = λ n x b. p.unseen n x (omega (arith, b));
-      slots = p.slots;
-      many = p.many;
-      roots = p.roots;
-      sets = p.sets;
-      marked = p.marked;
-      work = p.work;
-      zeros = p.zeros;
-      free = p.free;
+      others = p.others;
     }
 
 -- a set is begun
@@ -132,22 +115,12 @@ begun_on fields before number left after loads p =
         | inl l ↦ same n x e (other_set number n (λ d. absurd (omega (arith, l, d)))) ∙ p.members n x l e
         | inr l ↦ let q : n ≡ number = omega (arith, b, l) in
             let a : (slot_at now x).cyclic ≡ (slot_at after x).count = cyc x (Some number) (e ∙ ap Some q) ∙ ap (λ b. (renewed_if b (slot_at after x)).cyclic) (own_set number) in
-            omega (arith, a, ap (λ (v : Slot). v.count) (p.slots x), p.unseen n x l)
+            omega (arith, a, ap (λ (v : Slot). v.count) (p.others.slots x), p.unseen n x l)
       ];
       later = λ n x b e. same n x e (other_set number n (λ d. absurd (omega (arith, b, d)))) ∙ p.later n x (omega (arith, b)) e;
       unset = λ x e. cyc x None e ∙ p.unset x e;
       unseen = λ n x b. p.unseen n x (omega (arith, b));
-      slots = λ x.
-          let b : Bool = is_in number (slot_at after x).set in
-          let e : slot_at now x ≡ renewed_if b (slot_at after x) = renewed_slot after number x in
-          e ∙ renewed_rest b (slot_at after x) ∙ ap (λ c. record (slot_at after x) { cyclic = c }) (ap (λ (v : Slot). v.cyclic) (sym e)) ∙ ap (λ (v : Slot). record v { cyclic = (slot_at now x).cyclic }) (p.slots x);
-      many = length-map after.slots (λ (v : Slot). renewed_if (is_in number v.set) v) ∙ p.many;
-      roots = p.roots;
-      sets = p.sets;
-      marked = p.marked;
-      work = p.work;
-      zeros = p.zeros;
-      free = p.free;
+      others = others_on p.others (renewed_others after number);
     }
 
 first_on : (rest : List (List ℕ)) (fields : ℕ) (before : State) (n : ℕ) (after : State) (loads : List Load) → Tells before → drop n before.sets ≡ rest → n ≤ length before.sets → Prepared fields before n (places_of fields (concat rest)) after loads →
@@ -165,7 +138,7 @@ first_on ((x ∷ xs) ∷ rest) fields before n after loads k e l p =
 -- the next set that has a member is begun
 pub next_set_on : (fields : ℕ) (before : State) (n : ℕ) (after : State) (loads : List Load) → Tells before → n ≤ length before.sets → Prepared fields before n (places_of fields (concat (drop n before.sets))) after loads →
     PreparedTo fields before (next_set after n).at (next_set after n).counts loads
-next_set_on fields before n after loads k l p = subst (λ sets. PreparedTo fields before (first_of n (drop n sets)) (begun_at after (first_of n (drop n sets))) loads) (sym p.sets) (first_on (drop n before.sets) fields before n after loads k refl l p)
+next_set_on fields before n after loads k l p = subst (λ sets. PreparedTo fields before (first_of n (drop n sets)) (begun_at after (first_of n (drop n sets))) loads) (sym p.others.sets) (first_on (drop n before.sets) fields before n after loads k refl l p)
 
 -- the places behind the member at work
 abbrev pub places_behind : ℕ → State → At → List ℕ
@@ -176,7 +149,7 @@ member_if : (b : Bool) (fields : ℕ) (before : State) (a : At) (after : State) 
 member_if true fields before a after loads t k l p =
     let ms : List ℕ = members_of before a.set in
     let e : drop (a.index + 1) ms ≡ get_or ms (a.index + 1) 0 ∷ drop (a.index + 1 + 1) ms = rest_from ms (a.index + 1) 0 (ltb-true (a.index + 1) (length ms) t) in
-    subst (λ sets. PreparedTo fields before (Some (record { set = a.set; index = a.index + 1; slot = get_or (get_or sets a.set []) (a.index + 1) 0; field = 0 })) after loads) (sym p.sets)
+    subst (λ sets. PreparedTo fields before (Some (record { set = a.set; index = a.index + 1; slot = get_or (get_or sets a.set []) (a.index + 1) 0; field = 0 })) after loads) (sym p.others.sets)
     (retold refl (ap (λ ys. places_of fields (ys ++ concat (drop (a.set + 1) before.sets))) (sym e)) p)
 member_if false fields before a after loads t k l p =
     let ms : List ℕ = members_of before a.set in
@@ -187,7 +160,7 @@ member_if false fields before a after loads t k l p =
 pub next_member_on : (fields : ℕ) (before : State) (a : At) (after : State) (loads : List Load) → Tells before → a.set < length before.sets → Prepared fields before (a.set + 1) (places_behind fields before a) after loads →
     PreparedTo fields before (next_member after a).at (next_member after a).counts loads
 next_member_on fields before a after loads k l p =
-    let e : ltb (a.index + 1) (length (members_of before a.set)) ≡ ltb (a.index + 1) (length (members_of after a.set)) = ap (λ sets. ltb (a.index + 1) (length (get_or sets a.set []))) (sym p.sets) in
+    let e : ltb (a.index + 1) (length (members_of before a.set)) ≡ ltb (a.index + 1) (length (members_of after a.set)) = ap (λ sets. ltb (a.index + 1) (length (get_or sets a.set []))) (sym p.others.sets) in
     member_if (ltb (a.index + 1) (length (members_of after a.set))) fields before a after loads e k l p
 
 field_if : (b : Bool) (fields : ℕ) (before : State) (a : At) (after : State) (loads : List Load) → ltb (a.field + 1) fields ≡ b → Tells before → a.set < length before.sets → Prepared fields before (a.set + 1) (places_from fields a.slot (a.field + 1) ++ places_behind fields before a) after loads →
@@ -209,12 +182,5 @@ prepared_none fields s = record {
   later = λ n x b e. refl;
   unset = λ x e. refl;
   unseen = λ n x b. seen-nil s n x;
-  slots = λ x. refl;
-  many = refl;
-  roots = refl;
-  sets = refl;
-  marked = refl;
-  work = refl;
-  zeros = refl;
-  free = refl;
+  others = others_same s;
 }

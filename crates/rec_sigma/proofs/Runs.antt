@@ -1,13 +1,13 @@
 -- Whole preparations, word by word.
-use Rattle.std.proofs.Common.{◌≡◌, ℕ, ◌+◌, ◌<◌, ◌≤◌, Bool, true, false, ltb, Option, Some, None, IfSome, List, [], ◌∷◌, ◌++◌, length, refl, arith, sym, ◌∙◌, ap, subst, append_assoc}
+use Rattle.std.proofs.Common.{drop, ◌≡◌, ℕ, ◌+◌, ◌<◌, ◌≤◌, Bool, true, false, ltb, Option, Some, None, IfSome, List, [], ◌∷◌, ◌++◌, length, refl, arith, sym, ◌∙◌, ap, subst, append_assoc}
 use Rattle.std.proofs.lemmas.List.{append-nil}
 use Rattle.std.proofs.lemmas.Bool.{lt-ltb, le-ltb, ltb-true}
 use Rattle.rec_word.specs.Word.{target_of}
 use Rattle.rec_counts.specs.Counts.{State, IsKept, slot_at}
 use Rattle.rec_sigma.specs.declared.at.At.{At}
-use Rattle.rec_sigma.specs.Prepare.{Work, Next, members_of, taken_off, next_set, next_member_if, next_member, next_field_if, next_field, work_of, took_of, started_of, IsHeld, IsAtWork}
-use Rattle.rec_sigma.specs.Prepared.{Load, Prepared, PreparedTo, HasPrepared, places_from, loaded_at, loaded, taken_in}
-use Rattle.rec_sigma.proofs.Cyclics.{Tells, member_set, off_is}
+use Rattle.rec_sigma.specs.Prepare.{begun_at, first_of, Work, Next, members_of, taken_off, next_set, next_member_if, next_member, next_field_if, next_field, work_of, took_of, started_of, IsHeld, IsAtWork}
+use Rattle.rec_sigma.specs.Prepared.{KeepsOthers, Load, Prepared, PreparedTo, HasPrepared, places_from, loaded_at, loaded, taken_in}
+use Rattle.rec_sigma.proofs.Cyclics.{Tells, member_set, off_is, off_others, others_on, others_same, renewed_others}
 use Rattle.rec_sigma.proofs.Firsts.{held_still, next_set_field, next_set_held}
 use Rattle.rec_sigma.proofs.Moves.{loaded_on, next_field_on, next_set_on, places_behind, places_step, prepared_none, retold, told_before}
 
@@ -66,7 +66,7 @@ came_first fields before f k = record {
 pub came_more : (fields : ℕ) (before : State) (a : At) (after : State) (loads : List Load) (word : ℕ) → Tells before → a.field < fields → IsHeld after a → PreparedTo fields before (Some a) after loads →
     Came fields before (work_of fields (next_field fields (taken_off a.set after (target_of word)) a)) (loads ++ loaded_at (Some a) word)
 came_more fields before a after loads word k f h p =
-    let b : IsHeld before a = held_still after before a (sym p.sets) h in
+    let b : IsHeld before a = held_still after before a (sym p.others.sets) h in
     let now : State = taken_off a.set after (target_of word) in
     let q : Prepared fields before (a.set + 1) (places_from fields a.slot (a.field + 1) ++ places_behind fields before a) now (loads ++ loaded_at (Some a) word) =
     loaded_on fields before a.set a.slot a.field (places_from fields a.slot (a.field + 1) ++ places_behind fields before a) after loads word (held_set before a k b)
@@ -147,3 +147,25 @@ pub more_whole : (fields : ℕ) (a : At) (s : State) (word : ℕ) (v : Work) →
 unfolding took_of
 more_whole fields a s word v e k f h before loads p =
     subst (λ (u : Work). PreparedTo fields before u.machine.at u.counts (loads ++ loaded_at (Some a) word)) (sym e) (came_more fields before a s loads word (told_before p k) f h p).law
+
+-- nothing but cyclic counts changes
+begun_others : (s : State) (at : Option At) → KeepsOthers s (begun_at s at)
+begun_others s None = others_same s
+begun_others s (Some a) = renewed_others s a.set
+
+pub next_set_others : (s : State) (number : ℕ) → KeepsOthers s (next_set s number).counts
+next_set_others s number = begun_others s (first_of number (drop number s.sets))
+
+member_others : (b : Bool) (s : State) (a : At) → KeepsOthers s (next_member_if b s a).counts
+member_others true s a = others_same s
+member_others false s a = next_set_others s (a.set + 1)
+
+field_others : (b : Bool) (s : State) (a : At) → KeepsOthers s (next_field_if b s a).counts
+field_others true s a = others_same s
+field_others false s a = member_others (ltb (a.index + 1) (length (members_of s a.set))) s a
+
+-- so a word leaves the others, as its call tells
+pub more_others : (fields : ℕ) (a : At) (s : State) (word : ℕ) (v : Work) → v ≡ took_of (at_work fields (Some a) s) word → KeepsOthers s v.counts
+unfolding took_of
+more_others fields a s word v e =
+    subst (λ (u : Work). KeepsOthers s u.counts) (sym e) (others_on (off_others a.set s (target_of word)) (field_others (ltb (a.field + 1) fields) (taken_off a.set s (target_of word)) a))

@@ -3,3 +3,4 @@ pub mod Prepare
 pub mod Prepared
 pub mod Refurbish
 pub mod Settling
+pub mod Worked

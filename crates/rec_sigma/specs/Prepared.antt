@@ -52,6 +52,17 @@ seen s number loads x = count_by (λ (l : Load). leads_to x (target_of l.word) &
 abbrev pub outside : State → (number : ℕ) → (loads : List Load) → (x : ℕ) → ℕ
 outside s number loads x = (slot_at s x).count - seen s number loads x
 
+-- from s to t, of each slot no more changes than its cyclic count, and no list changes
+pub record KeepsOthers (s t : State) : Type 0 where
+  pub slots : (x : ℕ) → slot_at t x ≡ record (slot_at s x) { cyclic = (slot_at t x).cyclic }
+  pub many : length t.slots ≡ length s.slots
+  pub roots : t.roots ≡ s.roots
+  pub sets : t.sets ≡ s.sets
+  pub marked : t.marked ≡ s.marked
+  pub work : t.work ≡ s.work
+  pub zeros : t.zeros ≡ s.zeros
+  pub free : t.free ≡ s.free
+
 -- From the counts `before`, a preparation came to `after`. It loaded `loads`, in order; the places `left` are still to be
 -- loaded, and the sets of a number below `begun` were begun.
 pub record Prepared (fields : ℕ) (before : State) (begun : ℕ) (left : List ℕ) (after : State) (loads : List Load) : Type 0 where
@@ -64,15 +75,7 @@ pub record Prepared (fields : ℕ) (before : State) (begun : ℕ) (left : List �
   pub unset : (x : ℕ) → (slot_at before x).set ≡ None → (slot_at after x).cyclic ≡ (slot_at before x).cyclic
   -- nothing was loaded from the members of a set that was not begun
   pub unseen : (number x : ℕ) → begun ≤ number → seen before number loads x ≡ 0
-  -- nothing else changes
-  pub slots : (x : ℕ) → slot_at after x ≡ record (slot_at before x) { cyclic = (slot_at after x).cyclic }
-  pub many : length after.slots ≡ length before.slots
-  pub roots : after.roots ≡ before.roots
-  pub sets : after.sets ≡ before.sets
-  pub marked : after.marked ≡ before.marked
-  pub work : after.work ≡ before.work
-  pub zeros : after.zeros ≡ before.zeros
-  pub free : after.free ≡ before.free
+  pub others : KeepsOthers before after
 
 -- the same of a preparation with this field due
 abbrev pub PreparedTo : (fields : ℕ) (before : State) (at : Option At) (after : State) (loads : List Load) → Type 0

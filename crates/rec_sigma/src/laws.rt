@@ -4,6 +4,7 @@ ghost use Rattle.std.specs.Prelude.{ℕ, ◌*◌, ◌<◌, ◌≤◌, Option, If
 ghost use Rattle.std.specs.List.{concat};
 ghost use Rattle.rec_counts.specs.Counts.{State, IsKept};
 ghost use Rattle.rec_sigma.specs.declared.at.At.{At};
+ghost use Rattle.rec_sigma.specs.Judged.{SumsOutside};
 ghost use Rattle.rec_sigma.specs.Prepare.{Machine, IsAtWork, next_of};
 ghost use Rattle.rec_sigma.specs.Prepared.{HasPrepared, Load, LoadsWithin, PreparedTo};
 
@@ -22,4 +23,9 @@ pub fn preparation_is_bounded()
 /// A preparation names the loading of a field of the heap, while its counts are as it left them.
 pub fn preparation_names_places()
     ensures { (m : Machine) (s : State) → IsKept s → IsAtWork m s → IfSome (next_of m) (LoadsWithin (length s.slots * m.fields)) }
+{}
+
+/// What `sigma` sums up once all sets are prepared, and nothing was lowered yet, are the members' outside counts.
+pub fn sigma_sums_outside_counts()
+    ensures { (fields : ℕ) (before after : State) (loads : List Load) (number : ℕ) → IsKept before → SumsOutside fields before after loads number }
 {}

@@ -21,10 +21,15 @@ mod judge;
 mod laws;
 mod prepare;
 mod renewal;
+#[cfg(test)]
+mod tests;
 
 pub use at::At;
 pub use fate::Fate;
 pub use judge::{delta, sigma};
-pub use laws::{preparation_is_bounded, preparation_is_whole, preparation_names_places};
+pub use laws::{
+    preparation_is_bounded, preparation_is_whole, preparation_names_places,
+    sigma_sums_outside_counts,
+};
 pub use prepare::Prep;
 pub use renewal::refurbish;

@@ -3,7 +3,7 @@ ghost use Rattle.rec_word.specs.Word.{target_of};
 ghost use Rattle.rec_counts.specs.Counts.{State, slot_at, with_slot};
 ghost use Rattle.rec_sigma.specs.declared.at.At.{At};
 ghost use Rattle.rec_sigma.specs.Prepare.{IsAtWork, IsHeld, first_of, next_of, next_set, renewed, renewed_if, started_of, next_member, taken_off, took_of};
-ghost use Rattle.rec_sigma.specs.Prepared.{Load, PreparedTo, loaded_at};
+ghost use Rattle.rec_sigma.specs.Prepared.{KeepsOthers, Load, PreparedTo, loaded_at};
 
 use crate::at::At;
 use rec_counts::Counts;
@@ -46,6 +46,7 @@ impl Prep {
 
         ensures started { record { machine = self.new; counts = counts.new } ≡ started_of self.old counts.old }
         ensures kept { IsAtWork self.new counts.new }
+        ensures others { KeepsOthers counts.old counts.new }
 
         // Nothing is loaded yet.
         ensures whole { PreparedTo self.new.fields counts.old self.new.at counts.new [] }
@@ -73,6 +74,7 @@ impl Prep {
 
         ensures took { record { machine = self.new; counts = counts.new } ≡ took_of (record { machine = self.old; counts = counts.old }) word }
         ensures kept { IsAtWork self.new counts.new }
+        ensures others { KeepsOthers counts.old counts.new }
 
         // One field more was loaded, whatever this preparation loaded before.
         ensures whole { (before : State) (loads : List Load) → PreparedTo self.old.fields before self.old.at counts.old loads → PreparedTo self.new.fields before self.new.at counts.new (loads ++ loaded_at self.old.at word) }

@@ -1,9 +1,9 @@
 use Rattle.std.proofs.Common.{◌<◌, IfSome, [], sym, subst, ap}
 use Rattle.rec_sigma.specs.declared.at.At.{At}
 use Rattle.rec_sigma.specs.Prepare.{Next, work_of, started_of, IsAtWork}
-use Rattle.rec_sigma.specs.Prepared.{PreparedTo}
+use Rattle.rec_sigma.specs.Prepared.{KeepsOthers, PreparedTo}
 use Rattle.rec_sigma.proofs.Firsts.{next_set_field}
-use Rattle.rec_sigma.proofs.Runs.{came_first, is_work, next_set_is}
+use Rattle.rec_sigma.proofs.Runs.{came_first, is_work, next_set_is, next_set_others}
 use Rattle.rec_sigma.proofs.prepare.Prep.start.Goals as goal
 
 pub invariant_of-self : goal.invariant_of-self
@@ -21,3 +21,6 @@ returns-clause-kept c =
 pub returns-clause-whole : goal.returns-clause-whole
 returns-clause-whole c =
     subst (λ (n : Next). PreparedTo c.self.inside.fields c.args.counts.now n.at n.counts []) (sym c.begin_next-self-inside.ensures) (came_first c.self.inside.fields c.args.counts.now c.self.invariant.0 c.rules.ensures.numbers).law
+
+pub returns-clause-others : goal.returns-clause-others
+returns-clause-others c = subst (λ (n : Next). KeepsOthers c.args.counts.now n.counts) (sym c.begin_next-self-inside.ensures) (next_set_others c.args.counts.now 0)

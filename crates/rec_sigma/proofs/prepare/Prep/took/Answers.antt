@@ -3,7 +3,7 @@ use Rattle.rec_word.specs.Word.{target_of}
 use Rattle.rec_counts.specs.Counts.{State}
 use Rattle.rec_sigma.specs.declared.at.At.{At}
 use Rattle.rec_sigma.specs.Prepare.{Machine, Next, Work, next_member, taken_off, took_of, work_of, IsAtWork, IsHeld}
-use Rattle.rec_sigma.proofs.Runs.{at_work, held_off, more_kept, more_whole, next_member_is, took_last, took_none, took_on}
+use Rattle.rec_sigma.proofs.Runs.{at_work, held_off, more_kept, more_others, more_whole, next_member_is, took_last, took_none, took_on}
 use Rattle.rec_sigma.proofs.prepare.Prep.took.Goals as goal
 
 pub returns-in_default-clause-took : goal.returns-in_default-clause-took
@@ -67,3 +67,23 @@ returns-else-at-self-clause-whole c =
     let v : Work = at_work f c.member_behind-self-inside.result c.member_behind-self-inside.new.counts in
     let e : v ≡ took_of (at_work f (Some a) s) c.args.word = returns-else-at-self-clause-took c ∙ ap (λ (p : Machine). took_of (record { machine = p; counts = s }) c.args.word) m in
     rw m (more_whole f a s c.args.word v e c.rules.ensures.numbers k.field k.held)
+
+pub returns-then-at-self-clause-others : goal.returns-then-at-self-clause-others
+returns-then-at-self-clause-others c =
+    let a : At = c.in-Some.at in
+    let f : ℕ = c.self.inside.fields in
+    let s : State = c.args.counts.now in
+    let m : c.args.self.now ≡ record { fields = f; at = Some a } = sym c.self.view_is ∙ ap (λ (x : Option At). record { fields = f; at = x }) c.in-Some.is in
+    let v : Work = at_work f (Some (record { set = a.set; index = a.index; slot = a.slot; field = a.field + 1 })) c.take_off.new.counts in
+    let e : v ≡ took_of (at_work f (Some a) s) c.args.word = returns-then-at-self-clause-took c ∙ ap (λ (p : Machine). took_of (record { machine = p; counts = s }) c.args.word) m in
+    more_others f a s c.args.word v e
+
+pub returns-else-at-self-clause-others : goal.returns-else-at-self-clause-others
+returns-else-at-self-clause-others c =
+    let a : At = c.in-Some.at in
+    let f : ℕ = c.self.inside.fields in
+    let s : State = c.args.counts.now in
+    let m : c.args.self.now ≡ record { fields = f; at = Some a } = sym c.self.view_is ∙ ap (λ (x : Option At). record { fields = f; at = x }) c.in-Some.is in
+    let v : Work = at_work f c.member_behind-self-inside.result c.member_behind-self-inside.new.counts in
+    let e : v ≡ took_of (at_work f (Some a) s) c.args.word = returns-else-at-self-clause-took c ∙ ap (λ (p : Machine). took_of (record { machine = p; counts = s }) c.args.word) m in
+    more_others f a s c.args.word v e
