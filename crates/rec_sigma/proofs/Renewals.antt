@@ -130,7 +130,7 @@ pub record Placed (first : Option ℕ) (s : State) (xs : List ℕ) (t : State) :
   pub zeros : t.zeros ≡ s.zeros ++ filter (λ x. is_zero (fate_at s first x)) xs
   pub roots : t.roots ≡ s.roots ++ filter (λ x. is_rooted (fate_at s first x)) xs
   pub inside : (x : ℕ) → 0 < times x xs → slot_at t x ≡ coloured (fate_at s first x) (slot_at s x)
-  pub outside : (x : ℕ) → times x xs ≡ 0 → slot_at t x ≡ slot_at s x
+  pub others : (x : ℕ) → times x xs ≡ 0 → slot_at t x ≡ slot_at s x
   pub many : length t.slots ≡ length s.slots
   pub sets : t.sets ≡ s.sets
   pub marked : t.marked ≡ s.marked
@@ -159,7 +159,7 @@ placed_all first [] s once l = record {
   zeros = sym (append-nil s.zeros);
   roots = sym (append-nil s.roots);
   inside = λ x h. absurd (omega (arith, h, times-nil x));
-  outside = λ x h. refl;
+  others = λ x h. refl;
   many = refl;
   sets = refl;
   marked = refl;
@@ -177,14 +177,14 @@ placed_all first (x ∷ xs) s once l =
       zeros = one_list (λ y. is_zero (fate_at s first y)) (λ y. is_zero (fate_at now first y)) x xs s.zeros now.zeros (settled_all first xs now).zeros (settled_zeros f s x) i.zeros (λ y h. ap is_zero (fates y h));
       roots = one_list (λ y. is_rooted (fate_at s first y)) (λ y. is_rooted (fate_at now first y)) x xs s.roots now.roots (settled_all first xs now).roots (settled_roots f s x) i.roots (λ y h. ap is_rooted (fates y h));
       inside = λ y h. elim (eqb_tells y x) [
-        | inl q ↦ ap (λ z. slot_at (settled_all first xs now) z) q.1 ∙ i.outside x mine ∙ settled_own f s x (l x (omega (arith, times-cons x x xs, one-same x)))
+        | inl q ↦ ap (λ z. slot_at (settled_all first xs now) z) q.1 ∙ i.others x mine ∙ settled_own f s x (l x (omega (arith, times-cons x x xs, one-same x)))
             ∙ ap (λ z. coloured (fate_at s first z) (slot_at s z)) (sym q.1)
         | inr q ↦ let t : 0 < times y xs = let n : one (eqb y x) ≡ 0 = ap one q.0 in omega (arith, h, n, times-cons y x xs) in
             i.inside y t ∙ ap (λ g. coloured g (slot_at now y)) (fates y t) ∙ ap (coloured (fate_at s first y)) (same y t)
       ];
-      outside = λ y h.
+      others = λ y h.
           let d : y ≢ x = λ q. absurd (omega (arith, h, ap (λ z. times z (x ∷ xs)) q, times-cons x x xs, one-same x)) in
-          i.outside y (omega (arith, h, times-cons y x xs)) ∙ settled_other f s x y d;
+          i.others y (omega (arith, h, times-cons y x xs)) ∙ settled_other f s x y d;
       many = i.many ∙ settled_many f s x;
       sets = i.sets ∙ settled_sets f s x;
       marked = i.marked ∙ settled_marked f s x;
@@ -251,7 +251,7 @@ all_refurbished s first k r t e =
       zeros = p.zeros ∙ ap (λ ys. s.zeros ++ ys) (filter_same (λ x. is_zero (fate_at (dropped s) first x)) (λ x. is_zero (fate_at s first x)) ms (λ x h. ap is_zero (dropped_fate s first x)));
       roots = p.roots ∙ ap (λ ys. s.roots ++ ys) (filter_same (λ x. is_rooted (fate_at (dropped s) first x)) (λ x. is_rooted (fate_at s first x)) ms (λ x h. ap is_rooted (dropped_fate s first x)));
       inside = λ x h. p.inside x h ∙ ap (λ f. coloured f (slot_at (dropped s) x)) (dropped_fate s first x) ∙ ap (coloured (fate_at s first x)) (dropped_inside s x k h);
-      outside = λ x h. p.outside x h ∙ dropped_outside s x k h;
+      others = λ x h. p.others x h ∙ dropped_outside s x k h;
       many = p.many ∙ length-map s.slots (out_of_set (length s.sets - 1));
       sets = p.sets;
       marked = p.marked;

@@ -84,7 +84,7 @@ pub record Refurbished (before : State) (members : List ℕ) (first : Option ℕ
   pub roots : after.roots ≡ before.roots ++ filter (λ x. is_rooted (fate_at before first x)) members
   -- what is kept of a member depends on where it belongs, and of any other slot it stays
   pub inside : (x : ℕ) → 0 < times x members → slot_at after x ≡ refurbished (fate_at before first x) (slot_at before x)
-  pub outside : (x : ℕ) → times x members ≡ 0 → slot_at after x ≡ slot_at before x
+  pub others : (x : ℕ) → times x members ≡ 0 → slot_at after x ≡ slot_at before x
   pub many : length after.slots ≡ length before.slots
   -- the set is gone, and nothing else changes
   pub sets : after.sets ≡ earlier_sets before.sets
