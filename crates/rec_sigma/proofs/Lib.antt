@@ -3,5 +3,6 @@ pub mod Cyclics
 pub mod Firsts
 pub mod Members
 pub mod Moves
+pub mod Refused
 pub mod Renewals
 pub mod Runs

@@ -298,13 +298,13 @@ goes_on first s x f t e g h w =
     }
 
 -- what a fate says of the slot
-free_if : (released none root : Bool) → is_free (fate_if released none root) ≡ true → released ≡ true
+pub free_if : (released none root : Bool) → is_free (fate_if released none root) ≡ true → released ≡ true
 free_if true none root e = refl
 free_if false true root e = cc
 free_if false false true e = cc
 free_if false false false e = cc
 
-zero_if : (released none root : Bool) → is_zero (fate_if released none root) ≡ true → (released ≡ false) × (none ≡ true)
+pub zero_if : (released none root : Bool) → is_zero (fate_if released none root) ≡ true → (released ≡ false) × (none ≡ true)
 zero_if true none root e = cc
 zero_if false true root e = (refl, refl)
 zero_if false false true e = cc

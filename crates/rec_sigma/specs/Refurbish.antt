@@ -94,3 +94,7 @@ pub record Refurbished (before : State) (members : List ℕ) (first : Option ℕ
 -- the same of the last set
 abbrev pub LastRefurbished : (before after : State) → Type 0
 LastRefurbished before after = Refurbished before (last_set before.sets) (slice_get (last_set before.sets) 0) after
+
+-- the free list has released slots alone
+abbrev pub AreReleased : State → Type 0
+AreReleased s = (x : ℕ) → 0 < times x s.free → (slot_at s x).released ≡ true

@@ -1,7 +1,8 @@
 ghost use Rattle.std.specs.Prelude.{◌≡◌, ◌+◌, ◌<◌, true, false, length};
 ghost use Rattle.rec_counts.specs.Counts.{slot_at};
 ghost use Rattle.rec_counts.specs.Lists.{times};
-ghost use Rattle.rec_sigma.specs.Refurbish.{IsRefusable, LastRefurbished, fate_of, is_first, is_free, is_zero};
+ghost use Rattle.rec_counts.specs.Rest.{AreZeros};
+ghost use Rattle.rec_sigma.specs.Refurbish.{AreReleased, IsRefusable, LastRefurbished, fate_of, is_first, is_free, is_zero};
 ghost use Rattle.rec_sigma.specs.Settling.{settled};
 
 use crate::fate::Fate;
@@ -16,6 +17,10 @@ pub fn refurbish(counts: &mut Counts, set: u16)
     requires refusable { IsRefusable counts.old }
 
     ensures refurbished { LastRefurbished counts.old counts.new }
+
+    // The lists are as a release wants them.
+    ensures zeros { AreZeros counts.old → AreZeros counts.new }
+    ensures free { AreReleased counts.old → AreReleased counts.new }
 {
     counts.rules();
     let first = counts.set(set).first().copied();
@@ -24,6 +29,7 @@ pub fn refurbish(counts: &mut Counts, set: u16)
         let fate = fate_of_member(counts, slot, is_the(first, slot));
         settle(counts, slot, fate);
     }
+    counts.rules();
 }
 
 // Whether the slot is the first member.

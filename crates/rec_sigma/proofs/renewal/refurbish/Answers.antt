@@ -3,9 +3,10 @@ use Rattle.rec_counts.specs.Counts.{State, slot_at}
 use Rattle.rec_counts.specs.Groups.{last_set}
 use Rattle.rec_counts.specs.Lists.{times}
 use Rattle.rec_counts.proofs.Times.{one-le, times-nil}
-use Rattle.rec_sigma.specs.Refurbish.{fate_at, fate_of, Refurbished}
+use Rattle.rec_sigma.specs.Refurbish.{fate_at, fate_of, LastRefurbished, Refurbished}
 use Rattle.rec_sigma.specs.Settling.{settled}
 use Rattle.rec_sigma.proofs.Members.{each_once}
+use Rattle.rec_sigma.proofs.Refused.{released_after, zeros_after}
 use Rattle.rec_sigma.proofs.Renewals.{due, ends, free_unlisted, goes_on, zero_unlisted, Goes, IsDue}
 use Rattle.rec_sigma.proofs.renewal.refurbish.Goals as goal
 
@@ -65,4 +66,9 @@ returns c =
     let first : c.copied-first.result ≡ slice_get (last_set s.sets) 0 = c.copied-first.ensures ∙ c.first.ensures.value ∙ ap (λ xs. slice_get xs 0) ms in
     let r : Refurbished s (last_set s.sets) c.copied-first.result (record t { work = drop 1 t.work }) =
     ends c.copied-first.result s t c.rules.ensures c.requires.refusable (sym c.pop_work.ensures.first ∙ c.in_default.is) c.loop-slot.invariant.going in
-    record { refurbished = subst (λ f. Refurbished s (last_set s.sets) f c.pop_work.new.self) first (subst (Refurbished s (last_set s.sets) c.copied-first.result) (sym c.pop_work.ensures.rest) r) }
+    let f : LastRefurbished s c.pop_work.new.self = subst (λ x. Refurbished s (last_set s.sets) x c.pop_work.new.self) first (subst (Refurbished s (last_set s.sets) c.copied-first.result) (sym c.pop_work.ensures.rest) r) in
+    record {
+      refurbished = f;
+      zeros = zeros_after s (last_set s.sets) (slice_get (last_set s.sets) 0) c.pop_work.new.self f c.rules-2.ensures.zeros_once;
+      free = released_after s (last_set s.sets) (slice_get (last_set s.sets) 0) c.pop_work.new.self f;
+    }
