@@ -1,5 +1,6 @@
 ghost use Rattle.std.specs.Prelude.{◌≡◌, ◌<◌, ◌↔◌, length, IsTrue};
 ghost use Rattle.rec_counts.specs.declared.colour.Colour.TheVariants.{Orange};
+ghost use Rattle.rec_counts.specs.Counts.{slot_at};
 ghost use Rattle.rec_sigma.specs.Judged.{AreOrange, cyclic_sum};
 
 use rec_counts::{Colour, Counts};
@@ -27,11 +28,19 @@ pub fn sigma(counts: &Counts, set: u16) -> bool
 {
     counts.rules();
     for slot in counts.set(set) {
-        if counts.cyclic(*slot) != 0 {
+        if is_counted(counts, *slot) {
             return false;
         }
     }
     true
+}
+
+// Whether the slot has a cyclic count.
+fn is_counted(counts: &Counts, slot: u16) -> bool
+    requires { slot < length counts.now.slots }
+    ensures { IsTrue result ↔ (0 < (slot_at counts.now slot).cyclic) }
+{
+    counts.cyclic(slot) > 0
 }
 
 // Whether the colour is Orange.
