@@ -14,13 +14,17 @@
 #![tactic(auto)]
 
 mod at;
+mod cycle_free;
 mod laws;
+mod member;
 mod release;
 mod sweep;
 #[cfg(test)]
 mod tests;
 
 pub use at::At;
-pub use laws::{release_is_whole, sweep_is_whole};
+pub use cycle_free::CycleFree;
+pub use laws::{cycle_is_whole, release_is_whole, sweep_is_whole};
+pub use member::Member;
 pub use release::Release;
 pub use sweep::Sweep;
