@@ -1,6 +1,6 @@
 -- The freeing of a set goes on move by move: a reference is taken off, the next member is at work, all are listed.
-use Rattle.std.proofs.Common.{◌≡◌, ◌≢◌, ℕ, suc, ◌+◌, ◌-◌, ◌<◌, ◌≤◌, Bool, true, false, eqb, ltb, Option, Some, None, IfSome, List, [], ◌∷◌, ◌++◌, length, map, drop, get_or, slice_get, refl, arith, sym, ◌∙◌, ap, subst, inl, inr, append_assoc, drop-cons, add-one}
-use Rattle.std.proofs.Math.ListN.{set, drop_of_length-le}
+use Rattle.std.proofs.Common.{◌≡◌, ℕ, ◌+◌, ◌-◌, ◌<◌, ◌≤◌, Bool, true, false, eqb, ltb, Option, Some, None, IfSome, List, [], ◌∷◌, ◌++◌, length, map, drop, get_or, slice_get, refl, arith, sym, ◌∙◌, ap, subst, inl, inr, append_assoc, drop-cons, add-one}
+use Rattle.std.proofs.Math.ListN.{drop_of_length-le}
 use Rattle.std.proofs.lemmas.List.{append-nil, length-set, length-map, get_or-set_same, get_or-set_other, get_or_past, set_past, map-append}
 use Rattle.std.proofs.lemmas.Bool.{cases_lt, ltb-true, ltb-false, lt-ltb, le-ltb}
 use Rattle.std.proofs.lemmas.Bool.Decides.{eqb_tells}
@@ -16,7 +16,7 @@ use Rattle.rec_counts.proofs.Decrementing.{decremented_less, rest_decremented, z
 use Rattle.rec_counts.proofs.Keeping.{field_kept}
 use Rattle.rec_counts.proofs.Times.{times-append, times-nil}
 use Rattle.rec_release.specs.declared.member.Member.{Member}
-use Rattle.rec_release.specs.CycleFree.{down_if, first_member, given_up, given_up_slot, is_orange, listed, next_field, next_field_if, next_member, next_member_if, taken_off, work_of, took_of, started_of, Machine, Next, Work, IsAtWork, IsFreeable, IsHeld}
+use Rattle.rec_release.specs.CycleFree.{down_if, first_member, given_up, given_up_slot, is_orange, listed, next_field, next_field_if, next_member, next_member_if, taken_off, work_of, took_of, started_of, Next, Work, IsAtWork, IsFreeable, IsHeld}
 use Rattle.rec_release.specs.Freed.{came_out, held_of, listed_of, out_at, places_behind, places_of, taken_in, Freed, FreedTo, HasFreed, Out}
 use Rattle.rec_release.specs.Release.{IsReady}
 use Rattle.rec_release.specs.Released.{leading, leads_to, places_from}
@@ -26,13 +26,13 @@ use Rattle.rec_release.proofs.Places.{leading-nil, leading_push, places_end, pla
 lowered_less : (s : State) (y x : ℕ) → (slot_at (with_slot s y (lowered (slot_at s y))) x).count ≡ (slot_at s x).count - one (eqb x y)
 lowered_less s y x = elim (eqb_tells x y) [
   | inl q ↦ let n : one (eqb x y) ≡ 1 = ap one q.0 in elim (cases_lt y (length s.slots)) [
-      | inl l ↦ let e : (slot_at (with_slot s y (lowered (slot_at s y))) x).count ≡ (slot_at s x).count - 1 =
-            ap (λ z. (slot_at (with_slot s y (lowered (slot_at s y))) z).count) q.1 ∙ ap (λ (v : Slot). v.count) (get_or-set_same s.slots y (lowered (slot_at s y)) absent l) ∙ ap (λ z. (slot_at s z).count - 1) (sym q.1) in
-          omega (arith, e, n)
-      | inr l ↦ let e : (slot_at (with_slot s y (lowered (slot_at s y))) x).count ≡ (slot_at s x).count = ap (λ slots. (get_or slots x absent).count) (set_past s.slots y (lowered (slot_at s y)) l) in
-          let z : (slot_at s x).count ≡ 0 = ap (λ w. (slot_at s w).count) q.1 ∙ ap (λ (v : Slot). v.count) (get_or_past s.slots y absent l) in
-          omega (arith, e, z)
-    ]
+    | inl l ↦ let e : (slot_at (with_slot s y (lowered (slot_at s y))) x).count ≡ (slot_at s x).count - 1 =
+        ap (λ z. (slot_at (with_slot s y (lowered (slot_at s y))) z).count) q.1 ∙ ap (λ (v : Slot). v.count) (get_or-set_same s.slots y (lowered (slot_at s y)) absent l) ∙ ap (λ z. (slot_at s z).count - 1) (sym q.1) in
+        omega (arith, e, n)
+    | inr l ↦ let e : (slot_at (with_slot s y (lowered (slot_at s y))) x).count ≡ (slot_at s x).count = ap (λ slots. (get_or slots x absent).count) (set_past s.slots y (lowered (slot_at s y)) l) in
+        let z : (slot_at s x).count ≡ 0 = ap (λ w. (slot_at s w).count) q.1 ∙ ap (λ (v : Slot). v.count) (get_or_past s.slots y absent l) in
+        omega (arith, e, z)
+  ]
   | inr q ↦ let n : one (eqb x y) ≡ 0 = ap one q.0 in
       let e : (slot_at (with_slot s y (lowered (slot_at s y))) x).count ≡ (slot_at s x).count = ap (λ (v : Slot). v.count) (get_or-set_other s.slots y x (lowered (slot_at s y)) absent q.1) in
       omega (arith, e, n)
@@ -106,7 +106,7 @@ taken_on fields before members place left listed held after outs word r =
     let o : Out = record { place = place; word = word } in
     let k : KeepsMost after (taken_off after t) = off_most after t in
     let ws : (x : ℕ) → leading x (map (λ (p : Out). p.word) (outs ++ o ∷ [])) ≡ leading x (map (λ (p : Out). p.word) outs) + one (leads_to x t) =
-        λ x. ap (leading x) (map-append (λ (p : Out). p.word) outs (o ∷ [])) ∙ leading_push x (map (λ (p : Out). p.word) outs) word in
+    λ x. ap (leading x) (map-append (λ (p : Out). p.word) outs (o ∷ [])) ∙ leading_push x (map (λ (p : Out). p.word) outs) word in
     record {
       places = ap (λ ps. ps ++ left) (map-append (λ (p : Out). p.place) outs (o ∷ [])) ∙ append_assoc (map (λ (p : Out). p.place) outs) (place ∷ []) left ∙ r.places;
       counts = λ x. omega (arith, off_count after t x, r.counts x, ws x);
@@ -262,8 +262,8 @@ came_more fields before a after outs word w r =
     let now : State = taken_off after (target_of word) in
     let left : List ℕ = places_from fields a.slot (a.field + 1) ++ places_of fields (drop (a.index + 1) ms) in
     let q : Freed fields before ms left [] ms now (outs ++ out_at fields (Some a) word) =
-        taken_on fields before ms (place_of a.slot a.field fields) left [] ms after outs word
-        (retold (ap (λ ps. ps ++ places_of fields (drop (a.index + 1) ms)) (sym (places_step fields a.slot a.field w.field))) refl refl r) in
+    taken_on fields before ms (place_of a.slot a.field fields) left [] ms after outs word
+    (retold (ap (λ ps. ps ++ places_of fields (drop (a.index + 1) ms)) (sym (places_step fields a.slot a.field w.field))) refl refl r) in
     record {
       fields_kept = refl;
       work = next_field_work fields now a (off_work fields after (target_of word) a w);
@@ -349,3 +349,11 @@ pub more_field : (fields : ℕ) (s : State) (t : Option ℕ) (a : Member) → a.
 more_field fields s t a l w =
     let v : IsAtWork (record { fields = fields; at = Some a }) (taken_off s t) = off_work fields s t a w in
     record { field = l; held = record { index = v.held.index; slot = v.held.slot }; unlisted = v.unlisted; released = v.released; ready = v.ready }
+
+-- the number of slots stays
+member_many : (b : Bool) (s : State) (a : Member) → length (next_member_if b s a).counts.slots ≡ length s.slots
+member_many true s a = refl
+member_many false s a = refl
+
+pub next_member_many : (s : State) (a : Member) → length (next_member s a).counts.slots ≡ length s.slots
+next_member_many s a = member_many (ltb (a.index + 1) (length s.work)) s a

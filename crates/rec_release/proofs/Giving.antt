@@ -1,5 +1,5 @@
 -- A set is given up, and its members are listed.
-use Rattle.std.proofs.Common.{◌≡◌, ◌≢◌, ℕ, zero, suc, ◌+◌, ◌-◌, ◌<◌, ◌≤◌, Bool, true, false, eqb, ltb, Option, Some, None, IfSome, List, [], ◌∷◌, ◌++◌, length, map, take, drop, get_or, slice_get, refl, arith, sym, ◌∙◌, ap, subst, inl, inr, append_assoc}
+use Rattle.std.proofs.Common.{◌≡◌, ℕ, ◌+◌, ◌-◌, ◌<◌, ◌≤◌, Bool, true, false, eqb, ltb, Option, Some, None, IfSome, List, [], ◌∷◌, ◌++◌, length, map, take, drop, get_or, slice_get, refl, arith, sym, ◌∙◌, ap, subst, inl, inr, append_assoc}
 use Rattle.std.proofs.Math.ListN.{set}
 use Rattle.std.proofs.lemmas.List.{append-nil, length-set, length-map, get_or-set_same, get_or-set_other, get_or_past, get_or-map, set-set, take_all}
 use Rattle.std.proofs.lemmas.Bool.{cases_lt, lt-ltb}
@@ -9,11 +9,10 @@ use Rattle.rec_counts.specs.declared.slot.Slot.{Slot}
 use Rattle.rec_counts.specs.Counts.{State, IsKept, slot_at, with_slot, without_last_set}
 use Rattle.rec_counts.specs.Groups.{last_set}
 use Rattle.rec_counts.specs.Lists.{one, times, EachOnce}
-use Rattle.rec_counts.specs.Rest.{AreZeros}
 use Rattle.rec_counts.specs.Slot.{absent, is_in, unbuffered_if, out_of_set}
 use Rattle.rec_counts.proofs.Keeping.{members_once}
 use Rattle.rec_counts.proofs.Leaving.{all_of}
-use Rattle.rec_counts.proofs.Times.{in_range_once, length-once, one-le, one-same, times-append, times-cons, times-nil, times_at, times_more, times_part}
+use Rattle.rec_counts.proofs.Times.{in_range_once, one-le, one-same, times-append, times-cons, times-nil, times_at, times_more, times_part}
 use Rattle.rec_release.specs.declared.member.Member.{Member}
 use Rattle.rec_release.specs.CycleFree.{dead_if, first_member, given_up, given_up_slot, listed, IsAtWork, IsFreeable, IsHeld}
 
@@ -104,8 +103,8 @@ first_work o s fields e l k f =
     let inside : (x : ℕ) → 0 < times x now.work → 0 < times x ms = λ x h. omega (arith, h, ap (times x) (given_work s f)) in
     let freed : (x : ℕ) → 0 < times x ms → (slot_at now x).released ≡ true = λ x h. one-true (slot_at now x).released (omega (arith, given_released s x k f, ap one (f.unreleased x h), h, last_once s k x, one-le (ltb x (length s.slots)))) in
     let others : (x : ℕ) → 0 < times x s.zeros → (slot_at now x).released ≡ false = λ x h.
-        let none : times x ms ≡ 0 = elim (cases_lt 0 (times x ms)) [ inl m ↦ absurd (omega (arith, h, f.counted x m)) | inr m ↦ omega (arith, m) ] in
-        one-false (slot_at now x).released (omega (arith, given_released s x k f, none, ap one (f.ready.zeros.unreleased x h))) in
+    let none : times x ms ≡ 0 = elim (cases_lt 0 (times x ms)) [ inl m ↦ absurd (omega (arith, h, f.counted x m)) | inr m ↦ omega (arith, m) ] in
+    one-false (slot_at now x).released (omega (arith, given_released s x k f, none, ap one (f.ready.zeros.unreleased x h))) in
     record {
       field = go_field o;
       held = go_held o e;
@@ -124,6 +123,7 @@ first_work o s fields e l k f =
     go_field : (p : Option ℕ) → IfSome (first_member p) (λ (a : Member). a.field < fields)
     go_field None = tt
     go_field (Some x) = l
+
     go_held : (p : Option ℕ) → slice_get (last_set s.sets) 0 ≡ p → IfSome (first_member p) (IsHeld (given_up s))
     go_held None q = tt
     go_held (Some x) q = first_held (given_up s) (last_set s.sets) x (given_work s f) q
@@ -197,7 +197,7 @@ dead_slot s x l t e u h =
     let v : Slot = record (slot_at s x) { released = true } in
     let a : slot_at (with_slot s x v) x ≡ v = get_or-set_same s.slots x v absent l in
     let b : set (set s.slots x v) x (record (slot_at (with_slot s x v) x) { colour = Black }) ≡ set s.slots x (dead_if true (slot_at s x)) =
-        ap (λ (w : Slot). set (set s.slots x v) x (record w { colour = Black })) a ∙ set-set s.slots x v (record v { colour = Black }) in
+    ap (λ (w : Slot). set (set s.slots x v) x (record w { colour = Black })) a ∙ set-set s.slots x v (record v { colour = Black }) in
     h ∙ ap (λ (w : State). with_slot w x (record (slot_at w x) { colour = Black })) e ∙ ap {A = List Slot} {B = State} (λ slots. record s { slots = slots }) b
 
 -- the members are dead one after another
@@ -233,3 +233,14 @@ pub dying_last : (s t : State) (i : ℕ) → IsKept s → length (last_set s.set
 dying_last s t i k l d =
     d.rest ∙ ap {A = List Slot} {B = State} (λ slots. record (without_last_set s) { slots = slots })
     (dead_all s t.slots k d.many (λ x. d.slots x ∙ ap (λ xs. dead_if (ltb 0 (times x xs)) (slot_at (without_last_set s) x)) (take_all i (last_set s.sets) l)))
+
+-- the number of slots stays
+pub given_many : (s : State) → length (given_up s).slots ≡ length s.slots
+given_many s = length-map s.slots (given_up_slot (length s.sets - 1))
+
+-- what holds of one more in a list
+pub inside_more : (P : ℕ → Type 0) (xs : List ℕ) (i : ℕ) → i < length xs → P (get_or xs i 0) → ((x : ℕ) → 0 < times x (take i xs) → P x) → (x : ℕ) → 0 < times x (take (i + 1) xs) → P x
+inside_more P xs i l p h x t = elim (eqb_tells x (get_or xs i 0)) [
+  | inl q ↦ subst P (sym q.1) p
+  | inr q ↦ let n : one (eqb x (get_or xs i 0)) ≡ 0 = ap one q.0 in h x (omega (arith, t, n, times_more x xs i l))
+]

@@ -1,11 +1,11 @@
 -- A whole freeing of a set: what it exchanged, and what became of the counts and the free list.
-use Rattle.std.specs.Prelude.{◌≡◌, ℕ, ◌+◌, ◌-◌, ◌<◌, Option, None, Some, List, [], ◌∷◌, ◌++◌, drop, map, flat_map, fold, length}
+use Rattle.std.specs.Prelude.{◌≡◌, ℕ, ◌+◌, ◌-◌, Option, None, Some, List, [], ◌∷◌, ◌++◌, drop, map, flat_map, fold, length}
 use Rattle.rec_word.specs.Place.{place_of}
 use Rattle.rec_counts.specs.Counts.{State, slot_at}
 use Rattle.rec_counts.specs.Groups.{last_set, earlier_sets}
 use Rattle.rec_counts.specs.Lists.{one, times}
 use Rattle.rec_release.specs.declared.member.Member.{Member}
-use Rattle.rec_release.specs.CycleFree.{Machine, Work, took_of, started_of}
+use Rattle.rec_release.specs.CycleFree.{Work, took_of, started_of}
 use Rattle.rec_release.specs.Released.{leading, places_from}
 
 -- a place that was exchanged for 0, and the word that came out

@@ -49,6 +49,7 @@ impl CycleFree {
 
         ensures started { record { machine = self.new; counts = counts.new } ≡ started_of self.old counts.old }
         ensures kept { IsAtWork self.new counts.new }
+        ensures slots { length counts.new.slots ≡ length counts.old.slots }
 
         // Nothing is exchanged yet.
         ensures whole { FreedTo self.new.fields counts.old self.new.at counts.new [] }
@@ -79,6 +80,7 @@ impl CycleFree {
 
         ensures took { record { machine = self.new; counts = counts.new } ≡ took_of (record { machine = self.old; counts = counts.old }) word }
         ensures kept { IsAtWork self.new counts.new }
+        ensures slots { length counts.new.slots ≡ length counts.old.slots }
 
         // One word more came out of one place more, whatever this freeing took in before.
         ensures whole { (before : State) (outs : List Out) → FreedTo self.old.fields before self.old.at counts.old outs → FreedTo self.new.fields before self.new.at counts.new (outs ++ out_at self.old.fields self.old.at word) }

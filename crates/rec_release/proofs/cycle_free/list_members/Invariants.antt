@@ -1,4 +1,4 @@
-use Rattle.std.proofs.Common.{◌≡◌, [], ◌++◌, length}
+use Rattle.std.proofs.Common.{◌≡◌, length}
 use Rattle.rec_release.specs.CycleFree.{listed}
 use Rattle.rec_release.proofs.Giving.{IsListing}
 use Rattle.rec_release.proofs.cycle_free.list_members.Given as goal

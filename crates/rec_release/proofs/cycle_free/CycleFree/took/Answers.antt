@@ -1,9 +1,9 @@
-use Rattle.std.proofs.Common.{◌≡◌, ◌+◌, ◌<◌, ℕ, Option, Some, None, IfSome, refl, arith, sym, subst, ap, ◌∙◌}
+use Rattle.std.proofs.Common.{◌≡◌, ◌+◌, ◌<◌, ℕ, Option, Some, None, IfSome, length, sym, subst, ap, ◌∙◌}
 use Rattle.rec_word.specs.Word.{target_of}
 use Rattle.rec_counts.specs.Counts.{State}
 use Rattle.rec_release.specs.declared.member.Member.{Member}
 use Rattle.rec_release.specs.CycleFree.{Machine, Next, Work, next_member, taken_off, took_of, work_of, IsAtWork}
-use Rattle.rec_release.proofs.Freeing.{at_work, more_field, more_kept, more_whole, next_member_field, off_work, took_last, took_none, took_on}
+use Rattle.rec_release.proofs.Freeing.{at_work, more_field, more_kept, more_whole, next_member_field, next_member_many, off_most, off_work, took_last, took_none, took_on}
 use Rattle.rec_release.proofs.cycle_free.CycleFree.took.Goals as goal
 
 pub returns-in_default-clause-took : goal.returns-in_default-clause-took
@@ -77,3 +77,10 @@ returns-else-at-self-clause-whole c =
     let e : v ≡ took_of (at_work f (Some a) s) c.args.word = returns-else-at-self-clause-took c ∙ ap (λ (p : Machine). took_of (record { machine = p; counts = s }) c.args.word) m in
     rw m (more_whole f a s c.args.word v e k)
 
+pub returns-then-at-self-clause-slots : goal.returns-then-at-self-clause-slots
+returns-then-at-self-clause-slots c = ap (λ (u : State). length u.slots) c.count_down.ensures ∙ (off_most c.args.counts.now c.target.result).slots
+
+pub returns-else-at-self-clause-slots : goal.returns-else-at-self-clause-slots
+returns-else-at-self-clause-slots c =
+    ap (λ (n : Next). length n.counts.slots) c.member_behind-self-inside.ensures ∙ next_member_many c.count_down.new.counts c.in-Some.at
+    ∙ ap (λ (u : State). length u.slots) c.count_down.ensures ∙ (off_most c.args.counts.now c.target.result).slots
