@@ -1,3 +1,5 @@
+pub mod Freeing
+pub mod Giving
 pub mod Keeping
 pub mod Moves
 pub mod Places

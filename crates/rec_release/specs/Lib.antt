@@ -1,3 +1,5 @@
+pub mod CycleFree
+pub mod Freed
 pub mod Release
 pub mod Released
 pub mod Sweep

@@ -1,7 +1,9 @@
 //! What follows from the definitions alone, each law as the contract of a function that does nothing.
 
 ghost use Rattle.std.specs.Prelude.{ℕ, ◌<◌, List, length};
-ghost use Rattle.rec_counts.specs.Counts.{State};
+ghost use Rattle.rec_counts.specs.Counts.{State, IsKept};
+ghost use Rattle.rec_release.specs.CycleFree.{IsFreeable};
+ghost use Rattle.rec_release.specs.Freed.{HasFreed};
 ghost use Rattle.rec_release.specs.Release.{IsReady};
 ghost use Rattle.rec_release.specs.Released.{HasReleased};
 ghost use Rattle.rec_counts.specs.Lists.{EachOnce};
@@ -18,4 +20,10 @@ pub fn release_is_whole()
 /// reference, is Black and not released, and all else is as it was.
 pub fn sweep_is_whole()
     ensures { (before : State) (words : List ℕ) → EachOnce (length before.slots) before.free → HasSwept before words }
+{}
+
+/// Whatever words it is given, the freeing of a set exchanges each field of each member once and in order, takes one off the
+/// count of each target that came out, releases the members and no others, and lists them in the end.
+pub fn cycle_is_whole()
+    ensures { (fields : ℕ) (before : State) (words : List ℕ) → 0 < fields → IsKept before → IsFreeable before → HasFreed fields before words }
 {}

@@ -4,6 +4,8 @@
 //! A slot whose count came to zero is released: each of its fields is exchanged for null, and what came out has one reference
 //! less, so that slots behind it may come to zero in turn. An emptied slot goes to the free list, and the sweep stores 0 in
 //! its header.
+//! A set that passed both tests is freed likewise: its members are released together, and an orange target, which may be a
+//! member of an earlier set, is lowered in place of a decrement.
 //! The rule that this crate keeps: each field of each released slot is exchanged once; each reference that came out takes
 //! one off its target's true count, and nothing else changes a true count; a slot that stands in a buffer when it is emptied
 //! stays out of the free list; a swept slot has the count of its next birth, which is one.
@@ -14,13 +16,17 @@
 #![tactic(auto)]
 
 mod at;
+mod cycle_free;
 mod laws;
+mod member;
 mod release;
 mod sweep;
 #[cfg(test)]
 mod tests;
 
 pub use at::At;
-pub use laws::{release_is_whole, sweep_is_whole};
+pub use cycle_free::CycleFree;
+pub use laws::{cycle_is_whole, release_is_whole, sweep_is_whole};
+pub use member::Member;
 pub use release::Release;
 pub use sweep::Sweep;

@@ -1,12 +1,16 @@
 //! Releases and a sweep worked by hand. A test asks at run time for what a call requires, by the steps at the end.
-ghost use Rattle.std.specs.Prelude.{◌≡◌, ◌<◌, ℕ, [], false, length, IfOk, IfSome, IsTrue};
+ghost use Rattle.std.specs.Prelude.{◌≡◌, ◌<◌, ℕ, [], false, length, IfOk, IfSome, IsNone, IsTrue};
 ghost use Rattle.rec_word.specs.Word.{target_of};
 ghost use Rattle.rec_counts.specs.Counts.{slot_at};
+ghost use Rattle.rec_counts.specs.declared.colour.Colour.TheVariants.{Orange};
+ghost use Rattle.rec_counts.specs.Groups.{last_set};
+ghost use Rattle.rec_counts.specs.Lists.{times};
+ghost use Rattle.rec_release.specs.CycleFree.{IsAtWork as IsFreeing, IsFreeable, next_of as cycle_next_of};
 ghost use Rattle.rec_release.specs.Release.{IsAtWork, IsReady};
 ghost use Rattle.rec_release.specs.Sweep.{AreUnbuffered};
 
 use crate::release::take_off;
-use crate::{Release, Sweep};
+use crate::{CycleFree, Release, Sweep};
 use rec_counts::{Colour, Counts};
 use rec_word::{Op, target};
 use std::alloc::{AllocError as NoMemory, Global};
@@ -110,11 +114,55 @@ fn sweeps_a_slot(rt: HostRuntime) -> Result<(), Fail> {
     Ok(())
 }
 
+#[test]
+fn frees_a_set(rt: HostRuntime) -> Result<(), Fail> {
+    let mut counts = three_slots(rt.alloc(), 1)?;
+    begin(&mut counts);
+    join(&rt, &mut counts, 0);
+    join(&rt, &mut counts, 1);
+    let mut cycle = CycleFree::idle(1);
+    assert_eq!(rt; cycle.next(), None);
+    free_last(&rt, &mut cycle, &mut counts);
+    assert_eq!(rt;
+        exchange(&rt, &mut cycle, &mut counts, TO_1),
+        Some(Op::ClearField(0))
+    );
+    assert_eq!(rt;
+        exchange(&rt, &mut cycle, &mut counts, TO_0),
+        Some(Op::ClearField(1))
+    );
+    assert_eq!(rt; cycle.next(), None);
+    assert_eq!(rt; counts.free_list(), [0, 1].as_slice());
+    assert!(rt; counts.zeros().is_empty());
+    assert_eq!(rt; counts.sets(), 0);
+    Ok(())
+}
+
+#[test]
+fn lowers_a_member_of_an_earlier_set(rt: HostRuntime) -> Result<(), Fail> {
+    let mut counts = three_slots(rt.alloc(), 1)?;
+    begin(&mut counts);
+    join(&rt, &mut counts, 0);
+    begin_again(&rt, &mut counts);
+    join(&rt, &mut counts, 1);
+    let mut cycle = CycleFree::idle(1);
+    free_last(&rt, &mut cycle, &mut counts);
+    assert_eq!(rt;
+        exchange(&rt, &mut cycle, &mut counts, TO_0),
+        Some(Op::ClearField(1))
+    );
+    assert_eq!(rt; cycle.next(), None);
+    assert_eq!(rt; counts.free_list(), [1].as_slice());
+    assert!(rt; counts.zeros().is_empty());
+    Ok(())
+}
+
 // Three slots, the first with this true count.
 fn three_slots(alloc: Global, first: u64) -> Result<Counts, NoMemory>
     ensures three { IfOk result (λ counts. length counts.slots ≡ 3) }
     ensures ready { IfOk result IsReady }
     ensures none_free { IfOk result (λ counts. counts.free ≡ []) }
+    ensures no_set { IfOk result (λ counts. length counts.sets ≡ 0) }
 {
     let counts = Counts::open(alloc, 3, first)?;
     Ok(counts)
@@ -168,5 +216,111 @@ fn step(rt: &impl Abort, release: &mut Release, counts: &mut Counts, word: u64) 
     assert!(rt; op.is_some());
     assert!(rt; is_counted(counts, word));
     release.took(counts, word);
+    op
+}
+
+// A set of three slots begins.
+fn begin(counts: &mut Counts)
+    requires three { length counts.old.slots ≡ 3 }
+    requires none { length counts.old.sets ≡ 0 }
+    ensures three { length counts.new.slots ≡ 3 }
+    ensures some { 0 < length counts.new.sets }
+{
+    counts.begin_set();
+}
+
+// Another set begins.
+fn begin_again(rt: &impl Abort, counts: &mut Counts)
+    requires three { length counts.old.slots ≡ 3 }
+    ensures three { length counts.new.slots ≡ 3 }
+    ensures some { 0 < length counts.new.sets }
+{
+    assert!(rt; counts.sets() < 3);
+    counts.begin_set();
+}
+
+// An orange slot of three joins the last set.
+fn join(rt: &impl Abort, counts: &mut Counts, slot: u16)
+    requires three { length counts.old.slots ≡ 3 }
+    requires some { 0 < length counts.old.sets }
+    requires in_range { slot < 3 }
+    ensures three { length counts.new.slots ≡ 3 }
+    ensures some { 0 < length counts.new.sets }
+{
+    assert!(rt; !counts.buffered(slot));
+    counts.join_set(slot);
+    counts.set_colour(slot, Colour::Orange);
+}
+
+// Whether each member of the last set is Orange and not released.
+fn are_orange(counts: &Counts) -> bool
+    requires { 0 < length counts.now.sets }
+    ensures { IsTrue result → (x : ℕ) → 0 < times x (last_set counts.now.sets) → ((slot_at counts.now x).colour ≡ Orange) × ((slot_at counts.now x).released ≡ false) }
+{
+    counts.rules();
+    for slot in counts.set(counts.sets() - 1) {
+        if !is_orange(counts, *slot) {
+            return false;
+        }
+    }
+    true
+}
+
+// Whether the slot is Orange and not released.
+fn is_orange(counts: &Counts, slot: u16) -> bool
+    requires { slot < length counts.now.slots }
+    ensures { IsTrue result → ((slot_at counts.now slot).colour ≡ Orange) × ((slot_at counts.now slot).released ≡ false) }
+{
+    match counts.colour(slot) {
+        Colour::Orange => !counts.released(slot),
+        _ => false,
+    }
+}
+
+// Whether the last set can be freed, and the other lists are empty.
+fn is_freeable(counts: &Counts) -> bool
+    requires { 0 < length counts.now.sets }
+    ensures { IsTrue result → IsFreeable counts.now }
+{
+    let work = counts.work().len();
+    let zeros = counts.zeros().len();
+    let free = counts.free_list().len();
+    if work > 0 {
+        return false;
+    }
+    if zeros > 0 {
+        return false;
+    }
+    if free > 0 {
+        return false;
+    }
+    are_orange(counts)
+}
+
+// The freeing of the last set begins.
+fn free_last(rt: &impl Abort, cycle: &mut CycleFree, counts: &mut Counts)
+    requires three { length counts.old.slots ≡ 3 }
+    requires some { 0 < length counts.old.sets }
+    requires idle { IsNone (cycle_next_of cycle.old) }
+    ensures three { length counts.new.slots ≡ 3 }
+    ensures kept { IsFreeing cycle.new counts.new }
+{
+    assert!(rt; is_freeable(counts));
+    let last = counts.sets() - 1;
+    cycle.start(counts, last);
+}
+
+// One step of the freeing: the operation, after the word that it found was learnt.
+fn exchange(rt: &impl Abort, cycle: &mut CycleFree, counts: &mut Counts, word: u64) -> Option<Op>
+    requires three { length counts.old.slots ≡ 3 }
+    requires kept { IsFreeing cycle.old counts.old }
+
+    ensures three { length counts.new.slots ≡ 3 }
+    ensures kept { IsFreeing cycle.new counts.new }
+{
+    let op = cycle.next();
+    assert!(rt; op.is_some());
+    assert!(rt; is_counted(counts, word));
+    cycle.took(counts, word);
     op
 }

@@ -1,0 +1,359 @@
+-- The freeing of a set goes on move by move: a reference is taken off, the next member is at work, all are listed.
+use Rattle.std.proofs.Common.{◌≡◌, ℕ, ◌+◌, ◌-◌, ◌<◌, ◌≤◌, Bool, true, false, eqb, ltb, Option, Some, None, IfSome, List, [], ◌∷◌, ◌++◌, length, map, drop, get_or, slice_get, refl, arith, sym, ◌∙◌, ap, subst, inl, inr, append_assoc, drop-cons, add-one}
+use Rattle.std.proofs.Math.ListN.{drop_of_length-le}
+use Rattle.std.proofs.lemmas.List.{append-nil, length-set, length-map, get_or-set_same, get_or-set_other, get_or_past, set_past, map-append}
+use Rattle.std.proofs.lemmas.Bool.{cases_lt, ltb-true, ltb-false, lt-ltb, le-ltb}
+use Rattle.std.proofs.lemmas.Bool.Decides.{eqb_tells}
+use Rattle.rec_word.specs.Place.{place_of}
+use Rattle.rec_word.specs.Word.{target_of}
+use Rattle.rec_counts.specs.declared.slot.Slot.{Slot}
+use Rattle.rec_counts.specs.Counts.{State, IsKept, slot_at, with_slot, decremented}
+use Rattle.rec_counts.specs.Groups.{last_set}
+use Rattle.rec_counts.specs.Lists.{one, times}
+use Rattle.rec_counts.specs.Rest.{AreZeros, KeepsRest}
+use Rattle.rec_counts.specs.Slot.{absent, lowered}
+use Rattle.rec_counts.proofs.Decrementing.{decremented_less, rest_decremented, zeros_from, zeros_kept, ZerosFrom}
+use Rattle.rec_counts.proofs.Keeping.{field_kept}
+use Rattle.rec_counts.proofs.Times.{times-append, times-nil}
+use Rattle.rec_release.specs.declared.member.Member.{Member}
+use Rattle.rec_release.specs.CycleFree.{down_if, first_member, given_up, given_up_slot, is_orange, listed, next_field, next_field_if, next_member, next_member_if, taken_off, work_of, took_of, started_of, Next, Work, IsAtWork, IsFreeable, IsHeld}
+use Rattle.rec_release.specs.Freed.{came_out, held_of, listed_of, out_at, places_behind, places_of, taken_in, Freed, FreedTo, HasFreed, Out}
+use Rattle.rec_release.specs.Release.{IsReady}
+use Rattle.rec_release.specs.Released.{leading, leads_to, places_from}
+use Rattle.rec_release.proofs.Giving.{given_count, given_is_work, given_released, given_work, first_and_rest, nothing_first}
+use Rattle.rec_release.proofs.Places.{leading-nil, leading_push, places_end, places_step}
+
+lowered_less : (s : State) (y x : ℕ) → (slot_at (with_slot s y (lowered (slot_at s y))) x).count ≡ (slot_at s x).count - one (eqb x y)
+lowered_less s y x = elim (eqb_tells x y) [
+  | inl q ↦ let n : one (eqb x y) ≡ 1 = ap one q.0 in elim (cases_lt y (length s.slots)) [
+    | inl l ↦ let e : (slot_at (with_slot s y (lowered (slot_at s y))) x).count ≡ (slot_at s x).count - 1 =
+        ap (λ z. (slot_at (with_slot s y (lowered (slot_at s y))) z).count) q.1 ∙ ap (λ (v : Slot). v.count) (get_or-set_same s.slots y (lowered (slot_at s y)) absent l) ∙ ap (λ z. (slot_at s z).count - 1) (sym q.1) in
+        omega (arith, e, n)
+    | inr l ↦ let e : (slot_at (with_slot s y (lowered (slot_at s y))) x).count ≡ (slot_at s x).count = ap (λ slots. (get_or slots x absent).count) (set_past s.slots y (lowered (slot_at s y)) l) in
+        let z : (slot_at s x).count ≡ 0 = ap (λ w. (slot_at s w).count) q.1 ∙ ap (λ (v : Slot). v.count) (get_or_past s.slots y absent l) in
+        omega (arith, e, z)
+  ]
+  | inr q ↦ let n : one (eqb x y) ≡ 0 = ap one q.0 in
+      let e : (slot_at (with_slot s y (lowered (slot_at s y))) x).count ≡ (slot_at s x).count = ap (λ (v : Slot). v.count) (get_or-set_other s.slots y x (lowered (slot_at s y)) absent q.1) in
+      omega (arith, e, n)
+]
+
+-- what counting down leaves
+pub record KeepsMost (s t : State) : Type 0 where
+  pub slots : length t.slots ≡ length s.slots
+  pub sets : t.sets ≡ s.sets
+  pub marked : t.marked ≡ s.marked
+  pub work : t.work ≡ s.work
+  pub free : t.free ≡ s.free
+  pub released : (x : ℕ) → (slot_at t x).released ≡ (slot_at s x).released
+  pub zeros : (more : List ℕ) × (t.zeros ≡ s.zeros ++ more)
+  pub ready : AreZeros s → AreZeros t
+
+down_count : (b : Bool) (s : State) (y x : ℕ) → (slot_at (down_if b s y) x).count ≡ (slot_at s x).count - one (eqb x y)
+down_count true s y x = lowered_less s y x
+down_count false s y x = decremented_less s y x
+
+down_most : (b : Bool) (s : State) (y : ℕ) → KeepsMost s (down_if b s y)
+down_most true s y =
+    let now : State = with_slot s y (lowered (slot_at s y)) in
+    let released : (x : ℕ) → (slot_at now x).released ≡ (slot_at s x).released = λ x. field_kept (λ (v : Slot). v.released) s.slots y (lowered (slot_at s y)) refl x in
+    record {
+      slots = length-set s.slots y (lowered (slot_at s y));
+      sets = refl;
+      marked = refl;
+      work = refl;
+      free = refl;
+      released = released;
+      zeros = ([], sym (append-nil s.zeros));
+      ready = λ a. record { once = a.once; none = λ x h. omega (arith, lowered_less s y x, a.none x h); unreleased = λ x h. released x ∙ a.unreleased x h };
+    }
+down_most false s y =
+    let k : KeepsRest s (decremented s y) = rest_decremented s y in
+    let z : ZerosFrom s y = zeros_from s y in
+    record {
+      slots = k.slots;
+      sets = k.sets;
+      marked = k.marked;
+      work = k.work;
+      free = k.free;
+      released = k.released;
+      zeros = (z.more, z.zeros);
+      ready = zeros_kept s y;
+    }
+
+-- so the lists are ready for the next
+ready_on : {s t : State} → KeepsMost s t → IsReady s → IsReady t
+ready_on k r = record { zeros = k.ready r.zeros; free = λ x h. k.released x ∙ r.free x (subst (λ xs. 0 < times x xs) k.free h) }
+
+off_count : (s : State) (t : Option ℕ) (x : ℕ) → (slot_at (taken_off s t) x).count ≡ (slot_at s x).count - one (leads_to x t)
+off_count s None x = omega arith
+off_count s (Some y) x = down_count (is_orange (slot_at s y).colour) s y x
+
+pub off_most : (s : State) (t : Option ℕ) → KeepsMost s (taken_off s t)
+off_most s None = record { slots = refl; sets = refl; marked = refl; work = refl; free = refl; released = λ x. refl; zeros = ([], sym (append-nil s.zeros)); ready = λ a. a }
+off_most s (Some y) = down_most (is_orange (slot_at s y).colour) s y
+
+-- the same freeing, with its parts told otherwise
+retold : {fields : ℕ} {before : State} {members left left' listed listed' held held' : List ℕ} {after : State} {outs : List Out} → left' ≡ left → listed' ≡ listed → held' ≡ held → Freed fields before members left listed held after outs → Freed fields before members left' listed' held' after outs
+retold {fields = fields} {before = before} {members = members} {left = left} {left' = left'} {listed = listed} {listed' = listed'} {held = held} {held' = held'} {after = after} {outs = outs} e f g r =
+    subst (λ xs. Freed fields before members left' listed' xs after outs) (sym g) (subst (λ xs. Freed fields before members left' xs held after outs) (sym f) (subst (λ xs. Freed fields before members xs listed held after outs) (sym e) r))
+
+-- a reference that came out is taken off
+taken_on : (fields : ℕ) (before : State) (members : List ℕ) (place : ℕ) (left listed held : List ℕ) (after : State) (outs : List Out) (word : ℕ) → Freed fields before members (place ∷ left) listed held after outs →
+    Freed fields before members left listed held (taken_off after (target_of word)) (outs ++ record { place = place; word = word } ∷ [])
+taken_on fields before members place left listed held after outs word r =
+    let t : Option ℕ = target_of word in
+    let o : Out = record { place = place; word = word } in
+    let k : KeepsMost after (taken_off after t) = off_most after t in
+    let ws : (x : ℕ) → leading x (map (λ (p : Out). p.word) (outs ++ o ∷ [])) ≡ leading x (map (λ (p : Out). p.word) outs) + one (leads_to x t) =
+    λ x. ap (leading x) (map-append (λ (p : Out). p.word) outs (o ∷ [])) ∙ leading_push x (map (λ (p : Out). p.word) outs) word in
+    record {
+      places = ap (λ ps. ps ++ left) (map-append (λ (p : Out). p.place) outs (o ∷ [])) ∙ append_assoc (map (λ (p : Out). p.place) outs) (place ∷ []) left ∙ r.places;
+      counts = λ x. omega (arith, off_count after t x, r.counts x, ws x);
+      released = λ x. ap one (k.released x) ∙ r.released x;
+      free = k.free ∙ r.free;
+      work = k.work ∙ r.work;
+      zeros = (r.zeros.0 ++ k.zeros.0, k.zeros.1 ∙ ap (λ zs. zs ++ k.zeros.0) r.zeros.1 ∙ append_assoc before.zeros r.zeros.0 k.zeros.0);
+      sets = k.sets ∙ r.sets;
+      marked = k.marked ∙ r.marked;
+      many = k.slots ∙ r.many;
+    }
+
+-- the same with this field due
+abbrev pub FreedAt : (fields : ℕ) (before : State) (members : List ℕ) (at : Option Member) (after : State) (outs : List Out) → Type 0
+FreedAt fields before members at after outs = Freed fields before members (places_behind fields members at) (listed_of members at) (held_of members at) after outs
+
+-- all members are listed
+listed_on : (fields : ℕ) (before : State) (members : List ℕ) (after : State) (outs : List Out) → Freed fields before members [] [] members after outs → Freed fields before members [] members [] (listed after) outs
+listed_on fields before members after outs r = record {
+  places = r.places;
+  counts = r.counts;
+  released = r.released;
+  free = ap (λ f. f ++ after.work) (r.free ∙ append-nil before.free) ∙ ap (λ ws. before.free ++ ws) r.work;
+  work = refl;
+  zeros = r.zeros;
+  sets = r.sets;
+  marked = r.marked;
+  many = r.many;
+}
+
+rest_from : (xs : List ℕ) (n : ℕ) → n < length xs → drop n xs ≡ get_or xs n 0 ∷ drop (n + 1) xs
+rest_from xs n l = drop-cons xs n 0 l ∙ ap (λ m. get_or xs n 0 ∷ drop m xs) (sym (add-one n))
+
+member_if : (b : Bool) (fields : ℕ) (before : State) (members : List ℕ) (a : Member) (after : State) (outs : List Out) → ltb (a.index + 1) (length members) ≡ b → Freed fields before members (places_of fields (drop (a.index + 1) members)) [] members after outs →
+    FreedAt fields before members (next_member_if b after a).at (next_member_if b after a).counts outs
+member_if true fields before members a after outs t r =
+    let e : drop (a.index + 1) members ≡ get_or members (a.index + 1) 0 ∷ drop (a.index + 1 + 1) members = rest_from members (a.index + 1) (ltb-true (a.index + 1) (length members) t) in
+    subst (λ ws. FreedAt fields before members (Some (record { index = a.index + 1; slot = get_or ws (a.index + 1) 0; field = 0 })) after outs) (sym r.work)
+    (retold (ap (places_of fields) (sym e)) refl refl r)
+member_if false fields before members a after outs t r =
+    let e : drop (a.index + 1) members ≡ [] = drop_of_length-le members (ltb-false (a.index + 1) (length members) t) in
+    listed_on fields before members after outs (retold (ap (places_of fields) (sym e)) refl refl r)
+
+next_member_on : (fields : ℕ) (before : State) (members : List ℕ) (a : Member) (after : State) (outs : List Out) → Freed fields before members (places_of fields (drop (a.index + 1) members)) [] members after outs →
+    FreedAt fields before members (next_member after a).at (next_member after a).counts outs
+next_member_on fields before members a after outs r =
+    member_if (ltb (a.index + 1) (length after.work)) fields before members a after outs (ap (λ ws. ltb (a.index + 1) (length ws)) (sym r.work)) r
+
+field_if : (b : Bool) (fields : ℕ) (before : State) (members : List ℕ) (a : Member) (after : State) (outs : List Out) → ltb (a.field + 1) fields ≡ b → a.field < fields → Freed fields before members (places_from fields a.slot (a.field + 1) ++ places_of fields (drop (a.index + 1) members)) [] members after outs →
+    FreedAt fields before members (next_field_if b after a).at (next_field_if b after a).counts outs
+field_if true fields before members a after outs t l r = r
+field_if false fields before members a after outs t l r =
+    let q : a.field + 1 ≡ fields = omega (arith, l, ltb-false (a.field + 1) fields t) in
+    next_member_on fields before members a after outs (retold (ap (λ ps. ps ++ places_of fields (drop (a.index + 1) members)) (sym (ap (places_from fields a.slot) q ∙ places_end fields a.slot))) refl refl r)
+
+-- the set is given up, and nothing is exchanged yet
+begun : (fields : ℕ) (s : State) → IsKept s → IsFreeable s → Freed fields s (last_set s.sets) (places_of fields (last_set s.sets)) [] (last_set s.sets) (given_up s) []
+begun fields s k f = record {
+  places = refl;
+  counts = λ x. omega (arith, given_count s x, leading-nil x);
+  released = λ x. given_released s x k f;
+  free = sym (append-nil s.free);
+  work = given_work s f;
+  zeros = ([], sym (append-nil s.zeros));
+  sets = refl;
+  marked = refl;
+  many = length-map s.slots (given_up_slot (length s.sets - 1));
+}
+
+begun_if : (o : Option ℕ) (fields : ℕ) (s : State) → slice_get (last_set s.sets) 0 ≡ o → IsKept s → IsFreeable s → FreedTo fields s (first_member o) (given_up s) []
+begun_if None fields s e k f =
+    let n : last_set s.sets ≡ [] = nothing_first (last_set s.sets) e in
+    retold (sym (ap (places_of fields) n)) n (sym n) (begun fields s k f)
+begun_if (Some x) fields s e k f = retold (sym (ap (places_of fields) (first_and_rest (last_set s.sets) x e))) refl refl (begun fields s k f)
+
+-- what comes next once the set is given up
+abbrev pub begun_next : State → Next
+begun_next s = record { at = first_member (slice_get (last_set s.sets) 0); counts = given_up s }
+
+-- what the freeing came to
+pub record Came (fields : ℕ) (before : State) (w : Work) (outs : List Out) : Type 0 where
+  pub fields_kept : w.machine.fields ≡ fields
+  pub work : IsAtWork w.machine w.counts
+  pub law : FreedTo fields before w.machine.at w.counts outs
+
+pub came_first : (fields : ℕ) (before : State) → 0 < fields → IsKept before → IsFreeable before → Came fields before (work_of fields (begun_next before)) []
+came_first fields before l k f = record {
+  fields_kept = refl;
+  work = given_is_work before fields l k f;
+  law = begun_if (slice_get (last_set before.sets) 0) fields before refl k f;
+}
+
+-- the counts are as the freeing left them, after each move
+abbrev pub at_work : ℕ → Option Member → State → Work
+at_work fields at s = record { machine = record { fields = fields; at = at }; counts = s }
+
+off_held : (s : State) (t : Option ℕ) (a : Member) → IsHeld s a → IsHeld (taken_off s t) a
+off_held s t a h =
+    let e : (taken_off s t).work ≡ s.work = (off_most s t).work in
+    record { index = subst (λ ws. a.index < length ws) (sym e) h.index; slot = subst (λ ws. a.slot ≡ get_or ws a.index 0) (sym e) h.slot }
+
+pub off_work : (fields : ℕ) (s : State) (t : Option ℕ) (a : Member) → IsAtWork (record { fields = fields; at = Some a }) s → IsAtWork (record { fields = fields; at = Some a }) (taken_off s t)
+off_work fields s t a w =
+    let k : KeepsMost s (taken_off s t) = off_most s t in
+    record {
+      field = w.field;
+      held = off_held s t a w.held;
+      unlisted = λ x h. ap (times x) k.free ∙ w.unlisted x (subst (λ ws. 0 < times x ws) k.work h);
+      released = λ x h. k.released x ∙ w.released x (subst (λ ws. 0 < times x ws) k.work h);
+      ready = ready_on k w.ready;
+    }
+
+member_work : (b : Bool) (fields : ℕ) (s : State) (a : Member) → ltb (a.index + 1) (length s.work) ≡ b → IsAtWork (record { fields = fields; at = Some a }) s → IsAtWork (work_of fields (next_member_if b s a)).machine (next_member_if b s a).counts
+member_work true fields s a t w = record {
+  field = omega (arith, w.field);
+  held = record { index = ltb-true (a.index + 1) (length s.work) t; slot = refl };
+  unlisted = w.unlisted;
+  released = w.released;
+  ready = w.ready;
+}
+member_work false fields s a t w = record {
+  field = tt;
+  held = tt;
+  unlisted = λ x h. absurd (omega (arith, h, times-nil x));
+  released = λ x h. absurd (omega (arith, h, times-nil x));
+  ready = record {
+    zeros = record { once = w.ready.zeros.once; none = w.ready.zeros.none; unreleased = w.ready.zeros.unreleased };
+    free = λ x h. elim (cases_lt 0 (times x s.free)) [
+      | inl l ↦ w.ready.free x l
+      | inr l ↦ w.released x (omega (arith, h, l, times-append x s.free s.work))
+    ];
+  };
+}
+
+field_work : (b : Bool) (fields : ℕ) (s : State) (a : Member) → ltb (a.field + 1) fields ≡ b → IsAtWork (record { fields = fields; at = Some a }) s → IsAtWork (work_of fields (next_field_if b s a)).machine (next_field_if b s a).counts
+field_work true fields s a t w = record {
+  field = ltb-true (a.field + 1) fields t;
+  held = record { index = w.held.index; slot = w.held.slot };
+  unlisted = w.unlisted;
+  released = w.released;
+  ready = w.ready;
+}
+field_work false fields s a t w = member_work (ltb (a.index + 1) (length s.work)) fields s a refl w
+
+pub next_field_work : (fields : ℕ) (s : State) (a : Member) → IsAtWork (record { fields = fields; at = Some a }) s → IsAtWork (work_of fields (next_field fields s a)).machine (next_field fields s a).counts
+next_field_work fields s a w = field_work (ltb (a.field + 1) fields) fields s a refl w
+
+-- one word more
+pub came_more : (fields : ℕ) (before : State) (a : Member) (after : State) (outs : List Out) (word : ℕ) → IsAtWork (record { fields = fields; at = Some a }) after → FreedTo fields before (Some a) after outs →
+    Came fields before (work_of fields (next_field fields (taken_off after (target_of word)) a)) (outs ++ out_at fields (Some a) word)
+came_more fields before a after outs word w r =
+    let ms : List ℕ = last_set before.sets in
+    let now : State = taken_off after (target_of word) in
+    let left : List ℕ = places_from fields a.slot (a.field + 1) ++ places_of fields (drop (a.index + 1) ms) in
+    let q : Freed fields before ms left [] ms now (outs ++ out_at fields (Some a) word) =
+    taken_on fields before ms (place_of a.slot a.field fields) left [] ms after outs word
+    (retold (ap (λ ps. ps ++ places_of fields (drop (a.index + 1) ms)) (sym (places_step fields a.slot a.field w.field))) refl refl r) in
+    record {
+      fields_kept = refl;
+      work = next_field_work fields now a (off_work fields after (target_of word) a w);
+      law = field_if (ltb (a.field + 1) fields) fields before ms a now (outs ++ out_at fields (Some a) word) refl w.field q;
+    }
+
+word_in : (at : Option Member) (fields : ℕ) (before after : State) (outs : List Out) (word : ℕ) → Came fields before (at_work fields at after) outs → Came fields before (took_of (at_work fields at after) word) (outs ++ out_at fields at word)
+unfolding took_of
+word_in None fields before after outs word c = subst (Came fields before (at_work fields None after)) (sym (append-nil outs)) c
+word_in (Some a) fields before after outs word c = came_more fields before a after outs word c.work c.law
+
+pub came_on : (fields : ℕ) (before : State) (w : Work) (outs : List Out) (word : ℕ) → Came fields before w outs → Came fields before (took_of w word) (outs ++ out_at w.machine.fields w.machine.at word)
+came_on fields before w outs word c =
+    let e : w ≡ at_work fields w.machine.at w.counts = ap (λ n. record { machine = record { fields = n; at = w.machine.at }; counts = w.counts }) c.fields_kept in
+    let d : Came fields before (at_work fields w.machine.at w.counts) outs = subst (λ v. Came fields before v outs) e c in
+    subst (λ v. Came fields before (took_of v word) (outs ++ out_at v.machine.fields v.machine.at word)) (sym e) (word_in w.machine.at fields before w.counts outs word d)
+
+taken_none : (w : Work) → taken_in w [] ≡ w
+unfolding taken_in
+taken_none w = refl
+
+taken_more : (w : Work) (word : ℕ) (words : List ℕ) → taken_in w (word ∷ words) ≡ taken_in (took_of w word) words
+unfolding taken_in
+taken_more w word words = refl
+
+out_none : (w : Work) → came_out w [] ≡ []
+unfolding came_out
+out_none w = refl
+
+out_more : (w : Work) (word : ℕ) (words : List ℕ) → came_out w (word ∷ words) ≡ out_at w.machine.fields w.machine.at word ++ came_out (took_of w word) words
+unfolding came_out
+out_more w word words = refl
+
+-- words more
+pub came_by : (words : List ℕ) (fields : ℕ) (before : State) (w : Work) (outs : List Out) → Came fields before w outs → Came fields before (taken_in w words) (outs ++ came_out w words)
+came_by [] fields before w outs c =
+    subst (λ v. Came fields before v (outs ++ came_out w [])) (sym (taken_none w)) (subst (Came fields before w) (sym (ap (λ os. outs ++ os) (out_none w) ∙ append-nil outs)) c)
+came_by (word ∷ words) fields before w outs c =
+    let v : Work = took_of w word in
+    let os : List Out = outs ++ out_at w.machine.fields w.machine.at word in
+    let i : Came fields before (taken_in v words) (os ++ came_out v words) = came_by words fields before v os (came_on fields before w outs word c) in
+    let e : outs ++ came_out w (word ∷ words) ≡ os ++ came_out v words = ap (λ ms. outs ++ ms) (out_more w word words) ∙ sym (append_assoc outs (out_at w.machine.fields w.machine.at word) (came_out v words)) in
+    subst (λ u. Came fields before u (outs ++ came_out w (word ∷ words))) (sym (taken_more w word words)) (subst (Came fields before (taken_in v words)) (sym e) i)
+
+-- a whole freeing
+pub whole_freeing : (fields : ℕ) (before : State) (words : List ℕ) → 0 < fields → IsKept before → IsFreeable before → HasFreed fields before words
+unfolding started_of
+whole_freeing fields before words l k f = (came_by words fields before (work_of fields (begun_next before)) [] (came_first fields before l k f)).law
+
+-- what is learnt, where another field of the member is left
+pub took_on : (fields : ℕ) (a : Member) (s : State) (word : ℕ) → a.field + 1 < fields → took_of (at_work fields (Some a) s) word ≡ at_work fields (Some (record { index = a.index; slot = a.slot; field = a.field + 1 })) (taken_off s (target_of word))
+unfolding took_of
+took_on fields a s word l = ap (λ b. work_of fields (next_field_if b (taken_off s (target_of word)) a)) (lt-ltb (a.field + 1) fields l)
+
+-- where it was the last
+pub took_last : (fields : ℕ) (a : Member) (s : State) (word : ℕ) → fields ≤ a.field + 1 → took_of (at_work fields (Some a) s) word ≡ work_of fields (next_member (taken_off s (target_of word)) a)
+unfolding took_of
+took_last fields a s word l = ap (λ b. work_of fields (next_field_if b (taken_off s (target_of word)) a)) (le-ltb (a.field + 1) fields l)
+
+-- where the work is done
+pub took_none : (fields : ℕ) (s : State) (word : ℕ) → took_of (at_work fields None s) word ≡ at_work fields None s
+unfolding took_of
+took_none fields s word = refl
+
+-- what a word came to, as its call tells
+pub more_kept : (fields : ℕ) (a : Member) (s : State) (word : ℕ) (v : Work) → v ≡ took_of (at_work fields (Some a) s) word → IsAtWork (record { fields = fields; at = Some a }) s → IsAtWork v.machine v.counts
+unfolding took_of
+more_kept fields a s word v e w =
+    subst (λ (u : Work). IsAtWork u.machine u.counts) (sym e) (next_field_work fields (taken_off s (target_of word)) a (off_work fields s (target_of word) a w))
+
+pub more_whole : (fields : ℕ) (a : Member) (s : State) (word : ℕ) (v : Work) → v ≡ took_of (at_work fields (Some a) s) word → IsAtWork (record { fields = fields; at = Some a }) s → (before : State) (outs : List Out) → FreedTo fields before (Some a) s outs →
+    FreedTo fields before v.machine.at v.counts (outs ++ out_at fields (Some a) word)
+unfolding took_of
+more_whole fields a s word v e w before outs r =
+    subst (λ (u : Work). FreedTo fields before u.machine.at u.counts (outs ++ out_at fields (Some a) word)) (sym e) (came_more fields before a s outs word w r).law
+
+-- the next member is a member of its slot's fields
+pub next_member_field : (fields : ℕ) (s : State) (a : Member) → IsAtWork (record { fields = fields; at = Some a }) s → IfSome (next_member s a).at (λ (b : Member). b.field < fields)
+next_member_field fields s a w = (member_work (ltb (a.index + 1) (length s.work)) fields s a refl w).field
+
+-- as is the work, with another field due
+pub more_field : (fields : ℕ) (s : State) (t : Option ℕ) (a : Member) → a.field + 1 < fields → IsAtWork (record { fields = fields; at = Some a }) s → IsAtWork (record { fields = fields; at = Some (record { index = a.index; slot = a.slot; field = a.field + 1 }) }) (taken_off s t)
+more_field fields s t a l w =
+    let v : IsAtWork (record { fields = fields; at = Some a }) (taken_off s t) = off_work fields s t a w in
+    record { field = l; held = record { index = v.held.index; slot = v.held.slot }; unlisted = v.unlisted; released = v.released; ready = v.ready }
+
+-- the number of slots stays
+member_many : (b : Bool) (s : State) (a : Member) → length (next_member_if b s a).counts.slots ≡ length s.slots
+member_many true s a = refl
+member_many false s a = refl
+
+pub next_member_many : (s : State) (a : Member) → length (next_member s a).counts.slots ≡ length s.slots
+next_member_many s a = member_many (ltb (a.index + 1) (length s.work)) s a

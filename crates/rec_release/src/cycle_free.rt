@@ -1,0 +1,183 @@
+ghost use Rattle.std.specs.Prelude.{◌≡◌, ◌+◌, ◌<◌, ◌↔◌, ◌++◌, ℕ, List, [], None, length, true, IfSome, IsNone, IsSome};
+ghost use Rattle.rec_word.specs.Word.{target_of};
+ghost use Rattle.rec_counts.specs.Counts.{State, slot_at, with_slot};
+ghost use Rattle.rec_counts.specs.Lists.{times};
+ghost use Rattle.rec_counts.specs.Rest.{AreZeros};
+ghost use Rattle.rec_release.specs.CycleFree.{IsAtWork, IsFreeable, IsHeld, dead_if, first_member, given_up, listed, next_member, next_of, started_of, taken_off, took_of};
+ghost use Rattle.rec_release.specs.Freed.{FreedTo, Out, out_at};
+
+use crate::member::Member;
+use rec_counts::{Colour, Counts};
+use rec_word::{Op, place, target};
+use std::marker::Model;
+
+/// The freeing of a set that passed both tests. It takes no memory.
+#[derive(Debug, Drop)]
+pub struct CycleFree {
+    fields: u8,
+    at: Option<Member>,
+}
+
+impl Model for CycleFree {
+    ghost use Rattle.std.specs.Prelude.{◌<◌, IfSome};
+    ghost use Rattle.rec_release.specs.declared.member.Member.{Member};
+    ghost use Rattle.rec_release.specs.CycleFree.{Machine};
+
+    ghost Value = { Machine };
+
+    ghost view = { λ free. record { fields = free.fields; at = free.at } };
+
+    ghost invariant = { λ free. (0 < free.fields) × IfSome free.at (λ (a : Member). a.field < free.fields) };
+}
+
+impl CycleFree {
+    /// A freeing with no work, over slots with so many fields, at least one.
+    #[tactic(auto, unfolding(crate::specs::CycleFree::next_of))]
+    pub fn idle(fields: u8) -> CycleFree
+        requires { 0 < fields }
+        ensures idle { result ≡ record { fields = fields; at = None } }
+        ensures none { IsNone (next_of result) }
+    {
+        CycleFree { fields, at: None }
+    }
+
+    /// Begins to free set `set`, the last one: its members leave the cycle buffer, and are released and Black.
+    pub fn start(&mut self, counts: &mut Counts, set: u16)
+        requires idle { IsNone (next_of self.old) }
+        requires last { set + 1 ≡ length counts.old.sets }
+        requires freeable { IsFreeable counts.old }
+
+        ensures started { record { machine = self.new; counts = counts.new } ≡ started_of self.old counts.old }
+        ensures kept { IsAtWork self.new counts.new }
+        ensures slots { length counts.new.slots ≡ length counts.old.slots }
+
+        // Nothing is exchanged yet.
+        ensures whole { FreedTo self.new.fields counts.old self.new.at counts.new [] }
+    {
+        counts.rules();
+        let first = counts.set(set).first().copied();
+        give_up(counts);
+        self.at = member_of(first);
+    }
+
+    /// What comes next: a field of a member is exchanged for 0. None where the work is done.
+    #[tactic(auto, unfolding(crate::specs::CycleFree::next_of))]
+    pub fn next(&self) -> Option<Op>
+        ensures next { result ≡ next_of self.now }
+        ensures none { IsNone result ↔ IsNone self.now.at }
+    {
+        let at = self.at?;
+        Some(Op::ClearField(place(at.slot, at.field, self.fields)))
+    }
+
+    /// Learns the word that came out of the field: its target has one reference less. An orange target is lowered, any
+    /// other is decremented.
+    pub fn took(&mut self, counts: &mut Counts, word: u64)
+        requires busy { IsSome (next_of self.old) }
+        requires kept { IsAtWork self.old counts.old }
+        requires in_range { IfSome (target_of word) (λ slot. slot < length counts.old.slots) }
+        requires counted { IfSome (target_of word) (λ slot. 0 < (slot_at counts.old slot).count) }
+
+        ensures took { record { machine = self.new; counts = counts.new } ≡ took_of (record { machine = self.old; counts = counts.old }) word }
+        ensures kept { IsAtWork self.new counts.new }
+        ensures slots { length counts.new.slots ≡ length counts.old.slots }
+
+        // One word more came out of one place more, whatever this freeing took in before.
+        ensures whole { (before : State) (outs : List Out) → FreedTo self.old.fields before self.old.at counts.old outs → FreedTo self.new.fields before self.new.at counts.new (outs ++ out_at self.old.fields self.old.at word) }
+    {
+        let Some(at) = self.at else {
+            return;
+        };
+        count_down(counts, target(word));
+        if at.field + 1 < self.fields {
+            self.at = Some(Member {
+                index: at.index,
+                slot: at.slot,
+                field: at.field + 1,
+            });
+        } else {
+            self.at = member_behind(counts, at);
+        }
+    }
+}
+
+// The first field of the first member.
+fn member_of(first: Option<u16>) -> Option<Member>
+    ensures { result ≡ first_member first }
+{
+    let slot = first?;
+    Some(Member {
+        index: 0,
+        slot,
+        field: 0,
+    })
+}
+
+// The last set is gone: its members are released and Black, and stand in the work list.
+fn give_up(counts: &mut Counts)
+    requires { IsFreeable counts.old }
+    ensures { counts.new ≡ given_up counts.old }
+{
+    counts.rules();
+    counts.drop_set();
+    for index in 0..counts.work().len() {
+        let slot = counts.work()[index];
+        give_up_slot(counts, slot);
+    }
+}
+
+// The slot is released and Black.
+fn give_up_slot(counts: &mut Counts, slot: u16)
+    requires { slot < length counts.old.slots }
+    ensures { counts.new ≡ with_slot counts.old slot (dead_if true (slot_at counts.old slot)) }
+{
+    counts.release(slot);
+    counts.set_colour(slot, Colour::Black);
+}
+
+// The reference that came out is counted no more.
+fn count_down(counts: &mut Counts, target: Option<u16>)
+    requires in_range { IfSome target (λ slot. slot < length counts.old.slots) }
+    requires counted { IfSome target (λ slot. 0 < (slot_at counts.old slot).count) }
+    requires zeros { AreZeros counts.old }
+    ensures { counts.new ≡ taken_off counts.old target }
+{
+    let Some(slot) = target else {
+        return;
+    };
+    match counts.colour(slot) {
+        Colour::Orange => counts.lower(slot),
+        _ => counts.decrement(slot),
+    }
+}
+
+// The member behind this one is at work; after the last one all go to the free list.
+fn member_behind(counts: &mut Counts, at: Member) -> Option<Member>
+    requires held { IsHeld counts.old at }
+    requires unlisted { (x : ℕ) → 0 < times x counts.old.work → times x counts.old.free ≡ 0 }
+    ensures { record { at = result; counts = counts.new } ≡ next_member counts.old at }
+{
+    counts.rules();
+    let members = counts.work();
+    if at.index as usize + 1 < members.len() {
+        let index = at.index + 1;
+        return Some(Member {
+            index,
+            slot: members[index as usize],
+            field: 0,
+        });
+    }
+    list_members(counts);
+    None
+}
+
+// The members go to the free list.
+fn list_members(counts: &mut Counts)
+    requires { (x : ℕ) → 0 < times x counts.old.work → times x counts.old.free ≡ 0 }
+    ensures { counts.new ≡ listed counts.old }
+{
+    counts.rules();
+    while let Some(slot) = counts.pop_work() {
+        counts.push_free(slot);
+    }
+}

@@ -1,0 +1,186 @@
+-- A preparation goes on move by move: a word is taken off, the next member is at work, the next set is begun.
+use Rattle.std.proofs.Common.{◌≡◌, ℕ, suc, ◌+◌, ◌-◌, ◌<◌, ◌≤◌, Bool, true, false, ltb, ◌&&◌, Option, Some, None, List, [], ◌∷◌, ◌++◌, length, map, drop, get_or, refl, arith, sym, ◌∙◌, ap, subst, inl, inr, append_assoc}
+use Rattle.std.specs.List.{concat, range_with_len}
+use Rattle.std.proofs.Math.ListN.{drop_of_length-le}
+use Rattle.std.proofs.lemmas.List.{length-drop, map-append}
+use Rattle.std.proofs.lemmas.Bool.{cases_lt, ltb-true, ltb-false}
+use Rattle.std.proofs.lemmas.Bool.Decides.{eqb_tells}
+use Rattle.rec_word.specs.Place.{place_of}
+use Rattle.rec_word.specs.Word.{target_of}
+use Rattle.rec_counts.specs.declared.slot.Slot.{Slot}
+use Rattle.rec_counts.specs.Counts.{State, slot_at}
+use Rattle.rec_counts.specs.Lists.{one, times}
+use Rattle.rec_counts.specs.Slot.{is_in}
+use Rattle.rec_counts.proofs.Times.{times-nil}
+use Rattle.rec_sigma.specs.declared.at.At.{At}
+use Rattle.rec_sigma.specs.Prepare.{members_of, renewed, renewed_if, taken_off, first_of, begun_at, next_set, next_member_if, next_member, next_field_if, next_field}
+use Rattle.rec_sigma.specs.Prepared.{Load, Prepared, PreparedTo, leads_to, place_loaded, places_from, places_of, seen}
+use Rattle.rec_sigma.proofs.Cyclics.{Tells, other_set, own_set, renewed_slot, renewed_others, off_others, off_slot, others_on, others_same, seen-nil, seen_push}
+use Rattle.rec_sigma.proofs.Firsts.{Behind, behind, rest_from}
+
+-- the first of a slot's places, and the others
+pub places_step : (fields slot field : ℕ) → field < fields → places_from fields slot field ≡ place_of slot field fields ∷ places_from fields slot (field + 1)
+places_step fields slot field l =
+    let e : fields - field ≡ suc (fields - (field + 1)) = omega arith in
+    ap (λ n. map (λ f. place_of slot f fields) (range_with_len field n)) e
+
+-- past the last field there are none
+pub places_end : (fields slot field : ℕ) → fields ≤ field → places_from fields slot field ≡ []
+places_end fields slot field l =
+    let e : fields - field ≡ 0 = omega arith in
+    ap (λ n. map (λ f. place_of slot f fields) (range_with_len field n)) e
+
+-- the same preparation, with its parts told otherwise
+pub retold : {fields : ℕ} {before : State} {begun begun' : ℕ} {left left' : List ℕ} {after : State} {loads : List Load} → begun' ≡ begun → left' ≡ left → Prepared fields before begun left after loads → Prepared fields before begun' left' after loads
+retold {fields = fields} {before = before} {begun = begun} {left' = left'} {after = after} {loads = loads} e f p = subst (λ n. Prepared fields before n left' after loads) (sym e) (subst (λ xs. Prepared fields before begun xs after loads) (sym f) p)
+
+-- the set of a slot stays
+set_kept : {fields : ℕ} {before : State} {begun : ℕ} {left : List ℕ} {after : State} {loads : List Load} → Prepared fields before begun left after loads → (x : ℕ) → (slot_at after x).set ≡ (slot_at before x).set
+set_kept p x = ap (λ (v : Slot). v.set) (p.others.slots x)
+
+-- what tells afterwards told before
+pub told_before : {fields : ℕ} {before : State} {begun : ℕ} {left : List ℕ} {after : State} {loads : List Load} → Prepared fields before begun left after loads → Tells after → Tells before
+told_before p k = λ number x. ap (λ sets. times x (get_or sets number [])) (sym p.others.sets) ∙ k number x ∙ ap (λ o. one (is_in number o)) (set_kept p x)
+
+-- what one word more takes off, of a member of the set of this number
+taken : (before after : State) (set number x : ℕ) (t : Option ℕ) → (slot_at after x).set ≡ Some number → (slot_at (taken_off set after t) x).cyclic ≡ (slot_at after x).cyclic - one (leads_to x t && is_in set (Some number))
+taken before after set number x t e = ap (λ (v : Slot). v.cyclic) (off_slot set after t x) ∙ ap (λ o. (slot_at after x).cyclic - one (leads_to x t && is_in set o)) e
+
+none_taken : (b : Bool) → one (b && false) ≡ 0
+none_taken true = refl
+none_taken false = refl
+
+-- a word more was loaded, from a field of a member of this set, and is taken off
+pub loaded_on : (fields : ℕ) (before : State) (set slot field : ℕ) (left : List ℕ) (after : State) (loads : List Load) (word : ℕ) → (slot_at before slot).set ≡ Some set → Prepared fields before (set + 1) (place_of slot field fields ∷ left) after loads →
+    Prepared fields before (set + 1) left (taken_off set after (target_of word)) (loads ++ record { slot = slot; field = field; word = word } ∷ [])
+loaded_on fields before set slot field left after loads word m p =
+    let t : Option ℕ = target_of word in
+    let l : Load = record { slot = slot; field = field; word = word } in
+    let now : State = taken_off set after t in
+    let more : (number x : ℕ) → seen before number (loads ++ l ∷ []) x ≡ seen before number loads x + one (leads_to x t && is_in number (Some set)) =
+    λ number x. seen_push before number loads l x ∙ ap (λ o. seen before number loads x + one (leads_to x t && is_in number o)) m in
+    let less : (number x : ℕ) → (slot_at before x).set ≡ Some number → (slot_at now x).cyclic ≡ (slot_at after x).cyclic - one (leads_to x t && is_in set (Some number)) =
+    λ number x e. taken before after set number x t (set_kept p x ∙ e) in
+    record {
+      places = ap (λ ps. ps ++ left) (map-append (place_loaded fields) loads (l ∷ [])) ∙ append_assoc (map (place_loaded fields) loads) (place_of slot field fields ∷ []) left ∙ p.places;
+      members = λ number x b e. elim (eqb_tells number set) [
+        | inl q ↦ let u : one (leads_to x t && is_in set (Some number)) ≡ one (leads_to x t && is_in number (Some set)) = ap (λ n. one (leads_to x t && is_in set (Some n))) q.1 ∙ ap (λ n. one (leads_to x t && is_in n (Some set))) (sym q.1) in
+            omega (arith, less number x e, more number x, u, p.members number x b e)
+        | inr q ↦ let u : one (leads_to x t && is_in set (Some number)) ≡ 0 = ap (λ c. one (leads_to x t && c)) (other_set set number (λ d. q.1 (sym d))) ∙ none_taken (leads_to x t) in
+            let v : one (leads_to x t && is_in number (Some set)) ≡ 0 = ap (λ c. one (leads_to x t && c)) (other_set number set q.1) ∙ none_taken (leads_to x t) in
+            omega (arith, less number x e, more number x, u, v, p.members number x b e)
+      ];
+      later = λ number x b e.
+          let u : one (leads_to x t && is_in set (Some number)) ≡ 0 = ap (λ c. one (leads_to x t && c)) (other_set set number (λ d. absurd (omega (arith, b, d)))) ∙ none_taken (leads_to x t) in
+          omega (arith, less number x e, u, p.later number x b e);
+      unset = λ x e.
+          let f : (slot_at after x).set ≡ None = set_kept p x ∙ e in
+          let n : (slot_at now x).cyclic ≡ (slot_at after x).cyclic - one (leads_to x t && false) = ap (λ (v : Slot). v.cyclic) (off_slot set after t x) ∙ ap (λ o. (slot_at after x).cyclic - one (leads_to x t && is_in set o)) f in
+          omega (arith, n, none_taken (leads_to x t), p.unset x e);
+      unseen = λ number x b.
+          let v : one (leads_to x t && is_in number (Some set)) ≡ 0 = ap (λ c. one (leads_to x t && c)) (other_set number set (λ d. absurd (omega (arith, b, d)))) ∙ none_taken (leads_to x t) in
+          omega (arith, more number x, v, p.unseen number x b);
+      others = others_on p.others (off_others set after t);
+    }
+
+-- a set without members needs nothing
+pub skipped_on : (fields : ℕ) (before : State) (number : ℕ) (left : List ℕ) (after : State) (loads : List Load) → Tells before → members_of before number ≡ [] → Prepared fields before number left after loads →
+    Prepared fields before (number + 1) left after loads
+skipped_on fields before number left after loads k empty p =
+    let nobody : (x : ℕ) → (slot_at before x).set ≡ Some number → 0 < 0 = λ x e. omega (arith, times-nil x, ap (times x) empty, k number x, ap (λ o. one (is_in number o)) e, ap one (own_set number)) in
+    record {
+      places = p.places;
+      members = λ n x b e. elim (cases_lt n number) [
+        | inl l ↦ p.members n x l e
+        | inr l ↦ let q : n ≡ number = omega (arith, b, l) in absurd (omega (arith, nobody x (e ∙ ap Some q)))
+      ];
+      later = λ n x b e. p.later n x (omega (arith, b)) e;
+      unset = p.unset;
+      unseen = λ n x b. p.unseen n x (omega (arith, b));
+      others = p.others;
+    }
+
+-- a set is begun
+pub begun_on : (fields : ℕ) (before : State) (number : ℕ) (left : List ℕ) (after : State) (loads : List Load) → Prepared fields before number left after loads →
+    Prepared fields before (number + 1) left (renewed after number) loads
+begun_on fields before number left after loads p =
+    let now : State = renewed after number in
+    let cyc : (x : ℕ) (o : Option ℕ) → (slot_at before x).set ≡ o → (slot_at now x).cyclic ≡ (renewed_if (is_in number o) (slot_at after x)).cyclic =
+    λ x o e. ap (λ (v : Slot). v.cyclic) (renewed_slot after number x) ∙ ap (λ q. (renewed_if (is_in number q) (slot_at after x)).cyclic) (set_kept p x ∙ e) in
+    let same : (n x : ℕ) → (slot_at before x).set ≡ Some n → is_in number (Some n) ≡ false → (slot_at now x).cyclic ≡ (slot_at after x).cyclic =
+    λ n x e f. cyc x (Some n) e ∙ ap (λ b. (renewed_if b (slot_at after x)).cyclic) f in
+    record {
+      places = p.places;
+      members = λ n x b e. elim (cases_lt n number) [
+        | inl l ↦ same n x e (other_set number n (λ d. absurd (omega (arith, l, d)))) ∙ p.members n x l e
+        | inr l ↦ let q : n ≡ number = omega (arith, b, l) in
+            let a : (slot_at now x).cyclic ≡ (slot_at after x).count = cyc x (Some number) (e ∙ ap Some q) ∙ ap (λ b. (renewed_if b (slot_at after x)).cyclic) (own_set number) in
+            omega (arith, a, ap (λ (v : Slot). v.count) (p.others.slots x), p.unseen n x l)
+      ];
+      later = λ n x b e. same n x e (other_set number n (λ d. absurd (omega (arith, b, d)))) ∙ p.later n x (omega (arith, b)) e;
+      unset = λ x e. cyc x None e ∙ p.unset x e;
+      unseen = λ n x b. p.unseen n x (omega (arith, b));
+      others = others_on p.others (renewed_others after number);
+    }
+
+first_on : (rest : List (List ℕ)) (fields : ℕ) (before : State) (n : ℕ) (after : State) (loads : List Load) → Tells before → drop n before.sets ≡ rest → n ≤ length before.sets → Prepared fields before n (places_of fields (concat rest)) after loads →
+    PreparedTo fields before (first_of n rest) (begun_at after (first_of n rest)) loads
+first_on [] fields before n after loads k e l p =
+    let q : length before.sets ≡ n = omega (arith, l, ap length e, length-drop n before.sets) in
+    retold q refl p
+first_on ([] ∷ rest) fields before n after loads k e l p =
+    let b : Behind before.sets n [] [] rest = behind before.sets n [] [] rest e in
+    first_on rest fields before (n + 1) after loads k b.rest (omega (arith, b.in_range)) (skipped_on fields before n (places_of fields (concat rest)) after loads k b.item p)
+first_on ((x ∷ xs) ∷ rest) fields before n after loads k e l p =
+    let b : Behind before.sets n [] (x ∷ xs) rest = behind before.sets n [] (x ∷ xs) rest e in
+    retold refl (ap (λ ys. places_from fields x 0 ++ places_of fields (drop 1 ys ++ concat (drop (n + 1) before.sets))) b.item ∙ ap (λ yss. places_from fields x 0 ++ places_of fields (xs ++ concat yss)) b.rest) (begun_on fields before n (places_of fields (concat ((x ∷ xs) ∷ rest))) after loads p)
+
+-- the next set that has a member is begun
+pub next_set_on : (fields : ℕ) (before : State) (n : ℕ) (after : State) (loads : List Load) → Tells before → n ≤ length before.sets → Prepared fields before n (places_of fields (concat (drop n before.sets))) after loads →
+    PreparedTo fields before (next_set after n).at (next_set after n).counts loads
+next_set_on fields before n after loads k l p = subst (λ sets. PreparedTo fields before (first_of n (drop n sets)) (begun_at after (first_of n (drop n sets))) loads) (sym p.others.sets) (first_on (drop n before.sets) fields before n after loads k refl l p)
+
+-- the places behind the member at work
+abbrev pub places_behind : ℕ → State → At → List ℕ
+places_behind fields s a = places_of fields (drop (a.index + 1) (members_of s a.set) ++ concat (drop (a.set + 1) s.sets))
+
+member_if : (b : Bool) (fields : ℕ) (before : State) (a : At) (after : State) (loads : List Load) → ltb (a.index + 1) (length (members_of before a.set)) ≡ b → Tells before → a.set < length before.sets → Prepared fields before (a.set + 1) (places_behind fields before a) after loads →
+    PreparedTo fields before (next_member_if b after a).at (next_member_if b after a).counts loads
+member_if true fields before a after loads t k l p =
+    let ms : List ℕ = members_of before a.set in
+    let e : drop (a.index + 1) ms ≡ get_or ms (a.index + 1) 0 ∷ drop (a.index + 1 + 1) ms = rest_from ms (a.index + 1) 0 (ltb-true (a.index + 1) (length ms) t) in
+    subst (λ sets. PreparedTo fields before (Some (record { set = a.set; index = a.index + 1; slot = get_or (get_or sets a.set []) (a.index + 1) 0; field = 0 })) after loads) (sym p.others.sets)
+    (retold refl (ap (λ ys. places_of fields (ys ++ concat (drop (a.set + 1) before.sets))) (sym e)) p)
+member_if false fields before a after loads t k l p =
+    let ms : List ℕ = members_of before a.set in
+    let e : drop (a.index + 1) ms ≡ [] = drop_of_length-le ms (ltb-false (a.index + 1) (length ms) t) in
+    next_set_on fields before (a.set + 1) after loads k (omega (arith, l)) (retold refl (ap (λ ys. places_of fields (ys ++ concat (drop (a.set + 1) before.sets))) (sym e)) p)
+
+-- the next member is at work, or the next set
+pub next_member_on : (fields : ℕ) (before : State) (a : At) (after : State) (loads : List Load) → Tells before → a.set < length before.sets → Prepared fields before (a.set + 1) (places_behind fields before a) after loads →
+    PreparedTo fields before (next_member after a).at (next_member after a).counts loads
+next_member_on fields before a after loads k l p =
+    let e : ltb (a.index + 1) (length (members_of before a.set)) ≡ ltb (a.index + 1) (length (members_of after a.set)) = ap (λ sets. ltb (a.index + 1) (length (get_or sets a.set []))) (sym p.others.sets) in
+    member_if (ltb (a.index + 1) (length (members_of after a.set))) fields before a after loads e k l p
+
+field_if : (b : Bool) (fields : ℕ) (before : State) (a : At) (after : State) (loads : List Load) → ltb (a.field + 1) fields ≡ b → Tells before → a.set < length before.sets → Prepared fields before (a.set + 1) (places_from fields a.slot (a.field + 1) ++ places_behind fields before a) after loads →
+    PreparedTo fields before (next_field_if b after a).at (next_field_if b after a).counts loads
+field_if true fields before a after loads t k l p = p
+field_if false fields before a after loads t k l p =
+    next_member_on fields before a after loads k l (retold refl (ap (λ ps. ps ++ places_behind fields before a) (sym (places_end fields a.slot (a.field + 1) (ltb-false (a.field + 1) fields t)))) p)
+
+-- the next field is due
+pub next_field_on : (fields : ℕ) (before : State) (a : At) (after : State) (loads : List Load) → Tells before → a.set < length before.sets → Prepared fields before (a.set + 1) (places_from fields a.slot (a.field + 1) ++ places_behind fields before a) after loads →
+    PreparedTo fields before (next_field fields after a).at (next_field fields after a).counts loads
+next_field_on fields before a after loads k l p = field_if (ltb (a.field + 1) fields) fields before a after loads refl k l p
+
+-- nothing is loaded yet
+pub prepared_none : (fields : ℕ) (s : State) → Prepared fields s 0 (places_of fields (concat s.sets)) s []
+prepared_none fields s = record {
+  places = refl;
+  members = λ n x b e. absurd (omega (arith, b));
+  later = λ n x b e. refl;
+  unset = λ x e. refl;
+  unseen = λ n x b. seen-nil s n x;
+  others = others_same s;
+}

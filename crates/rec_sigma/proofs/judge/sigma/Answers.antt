@@ -1,0 +1,27 @@
+use Rattle.std.proofs.Common.{◌≡◌, ℕ, ◌<◌, length, get_or, arith, sym, ap, ◌∙◌, inl, inr}
+use Rattle.std.proofs.lemmas.List.Sums.{sum_by_more}
+use Rattle.std.proofs.lemmas.Bool.{cases_lt, false≢true}
+use Rattle.rec_counts.specs.Counts.{State, slot_at}
+use Rattle.rec_sigma.specs.Prepare.{members_of}
+use Rattle.rec_sigma.proofs.Members.{member_in_range, part_of_none}
+use Rattle.rec_sigma.proofs.judge.sigma.Goals as goal
+
+pub is_counted-requires : goal.is_counted-requires
+is_counted-requires c = rw c.set-slot-items.ensures (member_in_range c.args.counts.now c.args.set c.loop-slot.slot-index c.rules.ensures (omega (arith, ap length c.set-slot-items.ensures)))
+
+pub returns-then-is_counted : goal.returns-then-is_counted
+returns-then-is_counted c =
+    let s : State = c.args.counts.now in
+    let i : ℕ = c.loop-slot.slot-index in
+    let l : i < length (members_of s c.args.set) = omega (arith, ap length c.set-slot-items.ensures) in
+    let e : get_or c.set-slot-items.result.now i 0 ≡ get_or (members_of s c.args.set) i 0 = ap (λ xs. get_or xs i 0) c.set-slot-items.ensures in
+    (λ n. absurd (false≢true n), λ o. absurd (omega (arith, c.is_counted.ensures.0 c.if-is_counted.true, ap (λ x. (slot_at s x).cyclic) e, part_of_none (λ x. (slot_at s x).cyclic) (members_of s c.args.set) i l o)))
+
+pub loop-slot-preserved : goal.loop-slot-preserved
+loop-slot-preserved c =
+    let x : ℕ = get_or c.set-slot-items.result.now c.loop-slot.slot-index 0 in
+    let n : (slot_at c.args.counts.now x).cyclic ≡ 0 = elim (cases_lt 0 (slot_at c.args.counts.now x).cyclic) [
+      | inl l ↦ absurd (false≢true (sym c.if-is_counted.false ∙ c.is_counted.ensures.1 l))
+      | inr l ↦ omega (arith, l)
+    ] in
+    omega (arith, sum_by_more (λ y. (slot_at c.args.counts.now y).cyclic) c.set-slot-items.result.now c.loop-slot.slot-index 0 c.loop-slot-test.true, c.loop-slot.invariant, n)

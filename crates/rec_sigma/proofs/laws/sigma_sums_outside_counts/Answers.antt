@@ -1,0 +1,5 @@
+use Rattle.rec_sigma.proofs.Bounds.{sums_outside}
+use Rattle.rec_sigma.proofs.laws.sigma_sums_outside_counts.Goals as goal
+
+pub returns : goal.returns
+returns c = sums_outside

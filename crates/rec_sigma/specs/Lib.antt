@@ -1,0 +1,6 @@
+pub mod Judged
+pub mod Prepare
+pub mod Prepared
+pub mod Refurbish
+pub mod Settling
+pub mod Worked

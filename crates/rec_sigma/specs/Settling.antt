@@ -1,0 +1,18 @@
+-- The members of a refused set get their places one after another.
+use Rattle.std.specs.Prelude.{ℕ, Option, List, [], ◌∷◌, ◌++◌}
+use Rattle.rec_counts.specs.Counts.{State, slot_at, with_slot}
+use Rattle.rec_sigma.specs.declared.fate.Fate.{Fate}
+use Rattle.rec_sigma.specs.declared.fate.Fate.TheVariants.{Free, Zero, Root, Plain}
+use Rattle.rec_sigma.specs.Refurbish.{coloured, fate_at}
+
+-- a slot that is in no buffer gets its place
+abbrev pub settled : Fate → State → ℕ → State
+settled Free s x = record s { free = s.free ++ x ∷ [] }
+settled Zero s x = record (with_slot s x (coloured Zero (slot_at s x))) { zeros = s.zeros ++ x ∷ [] }
+settled Root s x = record (with_slot s x (coloured Root (slot_at s x))) { roots = s.roots ++ x ∷ [] }
+settled Plain s x = with_slot s x (coloured Plain (slot_at s x))
+
+-- these slots get their places, in order
+abbrev pub settled_all : (first : Option ℕ) → List ℕ → State → State
+settled_all first [] s = s
+settled_all first (x ∷ xs) s = settled_all first xs (settled (fate_at s first x) s x)

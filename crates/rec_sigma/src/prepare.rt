@@ -1,0 +1,181 @@
+ghost use Rattle.std.specs.Prelude.{◌≡◌, ◌+◌, ◌<◌, ◌≤◌, ◌↔◌, ◌++◌, ℕ, List, [], None, length, drop, IfSome, IsNone, IsSome, true};
+ghost use Rattle.rec_word.specs.Word.{target_of};
+ghost use Rattle.rec_counts.specs.Counts.{State, slot_at, with_slot};
+ghost use Rattle.rec_sigma.specs.declared.at.At.{At};
+ghost use Rattle.rec_sigma.specs.Prepare.{IsAtWork, IsHeld, first_of, next_of, next_set, renewed, renewed_if, started_of, next_member, taken_off, took_of};
+ghost use Rattle.rec_sigma.specs.Prepared.{KeepsOthers, Load, PreparedTo, loaded_at};
+
+use crate::at::At;
+use rec_counts::Counts;
+use rec_word::{Op, place, target};
+use std::marker::Model;
+
+/// The preparation of all sets for their tests. It takes no memory.
+#[derive(Debug, Drop)]
+pub struct Prep {
+    fields: u8,
+    at: Option<At>,
+}
+
+impl Model for Prep {
+    ghost use Rattle.std.specs.Prelude.{◌<◌, IfSome};
+    ghost use Rattle.rec_sigma.specs.declared.at.At.{At};
+    ghost use Rattle.rec_sigma.specs.Prepare.{Machine};
+
+    ghost Value = { Machine };
+
+    ghost view = { λ prep. record { fields = prep.fields; at = prep.at } };
+
+    ghost invariant = { λ prep. (0 < prep.fields) × IfSome prep.at (λ (a : At). a.field < prep.fields) };
+}
+
+impl Prep {
+    /// A preparation with no work, over slots with so many fields, at least one.
+    #[tactic(auto, unfolding(crate::specs::Prepare::next_of))]
+    pub fn idle(fields: u8) -> Prep
+        requires { 0 < fields }
+        ensures idle { result ≡ record { fields = fields; at = None } }
+        ensures none { IsNone (next_of result) }
+    {
+        Prep { fields, at: None }
+    }
+
+    /// Begins to prepare the sets: each member of the first one has its true count as its cyclic count.
+    pub fn start(&mut self, counts: &mut Counts)
+        requires idle { IsNone (next_of self.old) }
+
+        ensures started { record { machine = self.new; counts = counts.new } ≡ started_of self.old counts.old }
+        ensures kept { IsAtWork self.new counts.new }
+        ensures others { KeepsOthers counts.old counts.new }
+
+        // Nothing is loaded yet.
+        ensures whole { PreparedTo self.new.fields counts.old self.new.at counts.new [] }
+    {
+        counts.rules();
+        self.at = begin_next(counts, 0);
+    }
+
+    /// What comes next: a field of a member is loaded. None where the work is done.
+    #[tactic(auto, unfolding(crate::specs::Prepare::next_of))]
+    pub fn next(&self) -> Option<Op>
+        ensures next { result ≡ next_of self.now }
+        ensures none { IsNone result ↔ IsNone self.now.at }
+    {
+        let at = self.at?;
+        Some(Op::LoadChild(place(at.slot, at.field, self.fields)))
+    }
+
+    /// Learns the word that was found in the field: where it leads to a member of the same set, it takes one off that
+    /// member's cyclic count, not below zero.
+    pub fn took(&mut self, counts: &mut Counts, word: u64)
+        requires busy { IsSome (next_of self.old) }
+        requires kept { IsAtWork self.old counts.old }
+        requires in_range { IfSome (target_of word) (λ slot. slot < length counts.old.slots) }
+
+        ensures took { record { machine = self.new; counts = counts.new } ≡ took_of (record { machine = self.old; counts = counts.old }) word }
+        ensures kept { IsAtWork self.new counts.new }
+        ensures others { KeepsOthers counts.old counts.new }
+
+        // One field more was loaded, whatever this preparation loaded before.
+        ensures whole { (before : State) (loads : List Load) → PreparedTo self.old.fields before self.old.at counts.old loads → PreparedTo self.new.fields before self.new.at counts.new (loads ++ loaded_at self.old.at word) }
+    {
+        counts.rules();
+        let Some(at) = self.at else {
+            return;
+        };
+        take_off(counts, at.set, target(word));
+        if at.field + 1 < self.fields {
+            self.at = Some(At {
+                set: at.set,
+                index: at.index,
+                slot: at.slot,
+                field: at.field + 1,
+            });
+        } else {
+            self.at = member_behind(counts, at);
+        }
+    }
+}
+
+// A word that leads to a member of the set takes one off.
+fn take_off(counts: &mut Counts, set: u16, target: Option<u16>)
+    requires in_range { IfSome target (λ slot. slot < length counts.old.slots) }
+    ensures { counts.new ≡ taken_off set counts.old target }
+{
+    let Some(slot) = target else {
+        return;
+    };
+    if counts.set_of(slot) == Some(set) {
+        let left = counts.cyclic(slot).saturating_sub(1);
+        counts.set_cyclic(slot, left);
+    }
+}
+
+// The member behind this one is at work; after the last one of its set, the first of the next set.
+fn member_behind(counts: &mut Counts, at: At) -> Option<At>
+    requires held { IsHeld counts.old at }
+    ensures { record { at = result; counts = counts.new } ≡ next_member counts.old at }
+{
+    counts.rules();
+    let members = counts.set(at.set);
+    if at.index as usize + 1 < members.len() {
+        let index = at.index + 1;
+        return Some(At {
+            set: at.set,
+            index,
+            slot: members[index as usize],
+            field: 0,
+        });
+    }
+    begin_next(counts, at.set + 1)
+}
+
+// Begins the next set that has a member, from this number on; None where there is none.
+fn begin_next(counts: &mut Counts, from: u16) -> Option<At>
+    requires { from ≤ length counts.old.sets }
+    ensures { record { at = result; counts = counts.new } ≡ next_set counts.old from }
+{
+    let at = first_member(counts, from)?;
+    renew(counts, at.set);
+    Some(at)
+}
+
+// The first member of the first set that has one, from this number on.
+fn first_member(counts: &Counts, from: u16) -> Option<At>
+    requires { from ≤ length counts.now.sets }
+    ensures first { result ≡ first_of from (drop from counts.now.sets) }
+    ensures held { IfSome result (IsHeld counts.now) }
+{
+    for set in from..counts.sets() {
+        if let Some(slot) = counts.set(set).first() {
+            return Some(At {
+                set,
+                index: 0,
+                slot: *slot,
+                field: 0,
+            });
+        }
+    }
+    None
+}
+
+// The cyclic count of each member becomes its true count.
+fn renew(counts: &mut Counts, set: u16)
+    requires { set < length counts.old.sets }
+    ensures { counts.new ≡ renewed counts.old set }
+{
+    counts.rules();
+    for index in 0..counts.set(set).len() {
+        let slot = counts.set(set)[index];
+        renew_slot(counts, slot);
+    }
+}
+
+// The cyclic count of the slot becomes its true count.
+fn renew_slot(counts: &mut Counts, slot: u16)
+    requires { slot < length counts.old.slots }
+    ensures { counts.new ≡ with_slot counts.old slot (renewed_if true (slot_at counts.old slot)) }
+{
+    let count = counts.count(slot);
+    counts.set_cyclic(slot, count);
+}
