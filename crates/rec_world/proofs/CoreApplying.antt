@@ -9,6 +9,7 @@ use Rattle.std.proofs.lemmas.List.Sums.{sum_by-cons, sum_by-append}
 use Rattle.rec_model.specs.Accounted.{is_dead}
 use Rattle.rec_model.specs.Moves.{Move, is_up_to, puts_in, replaces_in, added, taken}
 use Rattle.rec_model.specs.Pending.{Write, Dated, dated, is_at}
+use Rattle.rec_model.proofs.Sums.{sum_by-flat_map, sum_by-map}
 use Rattle.rec_model.proofs.Consequences.{counts_bounded}
 use Rattle.rec_model.proofs.CollectorMoves.{unnamed_uncounted}
 use Rattle.rec_model.proofs.Ledgers.{batch_covered}
@@ -39,7 +40,7 @@ use Rattle.rec_world.proofs.CoreActors.{epoch_here, settled_here}
 use Rattle.rec_world.proofs.CoreBatches.{gain, loss, gain_named, gain_none, loss_named, loss_none, same_at, none_of, sum_parts}
 use Rattle.rec_world.proofs.CoreCounts.{slot_in, accounts_with}
 use Rattle.rec_world.proofs.CoreMoves.{spare_names}
-use Rattle.rec_world.proofs.CoreSums.{share, log_share, buffers_sum, sum_by-flat_map, sum_by-map}
+use Rattle.rec_world.proofs.CoreSums.{share, log_share, buffers_sum}
 use Rattle.rec_world.proofs.CoreTurns.{now_at, returned_home}
 
 -- a spare adds nothing, and takes nothing
@@ -363,9 +364,9 @@ module _ (w : Core) (t : ℕ) (kept : IsKept w) (phase : w.collector.phase ≡ R
       ap (λ n. sum_by (is_up_to n) (registers_of w)) next
       ∙ sum_by-flat_map (is_up_to (w.epoch - 1)) (λ (p : Private). dated_all (epoch_at p) p.registers) w.mutators
       ∙ none_of (λ (p : Private). sum_by (is_up_to (w.epoch - 1)) (dated_all (epoch_at p) p.registers)) w.mutators nobody (λ i below.
-          let l = log_of i below in
-          ap (λ e. sum_by (is_up_to (w.epoch - 1)) (dated_all e (slice_index_or w.mutators i nobody).registers)) l.1
-          ∙ none_late (w.epoch - 1) w.epoch (slice_index_or w.mutators i nobody).registers (omega (arith, some_epochs)))
+      let l = log_of i below in
+      ap (λ e. sum_by (is_up_to (w.epoch - 1)) (dated_all e (slice_index_or w.mutators i nobody).registers)) l.1
+      ∙ none_late (w.epoch - 1) w.epoch (slice_index_or w.mutators i nobody).registers (omega (arith, some_epochs)))
 
   -- the batch is one of the accounts
   pub batch_move : Move (pending w) (record (accounts_with (pending w) w.words counted) { applied = w.epoch - 1 })
@@ -398,24 +399,24 @@ module _ (w : Core) (t : ℕ) (kept : IsKept w) (phase : w.collector.phase ≡ R
           let is : node ≡ x + 1 = omega arith in
           elim (cases_lt x w.config.slots) [
             | inl below ↦ omega (
-                arith,
-                batch_counts c.counts c.newer c.older rises falls x,
-                ap (taken (pending w)) is,
-                ap (added (pending w)) is,
-                taken_is x,
-                added_is x,
-                ap (λ (v : Slot). v.count) (get_or_default c.counts.slots x fresh absent (omega (arith, slots_are))),
-                ap (λ (v : Slot). v.count) (get_or_default counted.slots x fresh absent (omega (arith, slots_are, counted_rest.slots))),
-              )
+              arith,
+              batch_counts c.counts c.newer c.older rises falls x,
+              ap (taken (pending w)) is,
+              ap (added (pending w)) is,
+              taken_is x,
+              added_is x,
+              ap (λ (v : Slot). v.count) (get_or_default c.counts.slots x fresh absent (omega (arith, slots_are))),
+              ap (λ (v : Slot). v.count) (get_or_default counted.slots x fresh absent (omega (arith, slots_are, counted_rest.slots))),
+            )
             | inr past ↦ omega (
-                arith,
-                (none_past x past).0,
-                (none_past x past).1,
-                ap (taken (pending w)) is,
-                ap (added (pending w)) is,
-                taken_is x,
-                added_is x,
-                ap (λ (v : Slot). v.count) (get_or_past c.counts.slots x fresh (omega (arith, past, slots_are))),
-                ap (λ (v : Slot). v.count) (get_or_past counted.slots x fresh (omega (arith, past, slots_are, counted_rest.slots))),
-              )
+              arith,
+              (none_past x past).0,
+              (none_past x past).1,
+              ap (taken (pending w)) is,
+              ap (added (pending w)) is,
+              taken_is x,
+              added_is x,
+              ap (λ (v : Slot). v.count) (get_or_past c.counts.slots x fresh (omega (arith, past, slots_are))),
+              ap (λ (v : Slot). v.count) (get_or_past counted.slots x fresh (omega (arith, past, slots_are, counted_rest.slots))),
+            )
           ]

@@ -44,13 +44,13 @@ pub alike_slots : (s t : State) → length t.slots ≡ length s.slots → ((x : 
     → (node : ℕ) → ((slot_in t node).count ≡ (slot_in s node).count) × ((slot_in t node).released ≡ (slot_in s node).released)
 alike_slots s t many counts released node = elim (cases_lt (node - 1) (length s.slots)) [
   | inl below ↦ (
-      ap (λ (v : Slot). v.count) (slot_here t node (omega arith)) ∙ counts (node - 1) ∙ ap (λ (v : Slot). v.count) (sym (slot_here s node below)),
-      ap (λ (v : Slot). v.released) (slot_here t node (omega arith)) ∙ released (node - 1) ∙ ap (λ (v : Slot). v.released) (sym (slot_here s node below)),
-    )
+    ap (λ (v : Slot). v.count) (slot_here t node (omega arith)) ∙ counts (node - 1) ∙ ap (λ (v : Slot). v.count) (sym (slot_here s node below)),
+    ap (λ (v : Slot). v.released) (slot_here t node (omega arith)) ∙ released (node - 1) ∙ ap (λ (v : Slot). v.released) (sym (slot_here s node below)),
+  )
   | inr past ↦ (
-      ap (λ (v : Slot). v.count) (slot_past t node (omega arith) ∙ sym (slot_past s node past)),
-      ap (λ (v : Slot). v.released) (slot_past t node (omega arith) ∙ sym (slot_past s node past)),
-    )
+    ap (λ (v : Slot). v.count) (slot_past t node (omega arith) ∙ sym (slot_past s node past)),
+    ap (λ (v : Slot). v.released) (slot_past t node (omega arith) ∙ sym (slot_past s node past)),
+  )
 ]
 
 -- released stays, where it stays of each slot
@@ -81,20 +81,20 @@ taken_counts s word counted node pos = go (target_of word) refl
         ] in
         elim (cases_lt (node - 1) (length s.slots)) [
           | inl below ↦ omega (
-              arith,
-              less,
-              same,
-              ap (one_if_same node) target,
-              ap (λ (v : Slot). v.count) (slot_here (decremented s x) node (omega arith)),
-              ap (λ (v : Slot). v.count) (slot_here s node below),
-            )
+            arith,
+            less,
+            same,
+            ap (one_if_same node) target,
+            ap (λ (v : Slot). v.count) (slot_here (decremented s x) node (omega arith)),
+            ap (λ (v : Slot). v.count) (slot_here s node below),
+          )
           | inr past ↦ omega (
-              arith,
-              ap (one_if_same node) target,
-              none_if_differs node (x + 1) (λ n. omega arith),
-              ap (λ (v : Slot). v.count) (slot_past (decremented s x) node (omega arith)),
-              ap (λ (v : Slot). v.count) (slot_past s node past),
-            )
+            arith,
+            ap (one_if_same node) target,
+            none_if_differs node (x + 1) (λ n. omega arith),
+            ap (λ (v : Slot). v.count) (slot_past (decremented s x) node (omega arith)),
+            ap (λ (v : Slot). v.count) (slot_past s node past),
+          )
         ]
 
 -- what counting off leaves of what is released
@@ -133,15 +133,13 @@ flagged s z there node pos =
       | inl is ↦
           let at : node - 1 ≡ z = omega arith in
           let new : slot_in (with_slot s z v) node ≡ v = ap (λ (n : ℕ). slice_index_or (slice_set s.slots z v) n fresh) at ∙ get_or-set_same s.slots z v fresh there in
-          let old : slot_in s node ≡ slot_at s z = ap (λ (n : ℕ). slice_index_or s.slots n fresh) at ∙ get_or_default s.slots z fresh absent there in
-          (
+          let old : slot_in s node ≡ slot_at s z = ap (λ (n : ℕ). slice_index_or s.slots n fresh) at ∙ get_or_default s.slots z fresh absent there in (
             ap (λ (x : Slot). x.released) new ∙ sym (cond-true (node == z + 1) true (test node) (eq-eqb node (z + 1) is)),
             ap (λ (x : Slot). x.count) new ∙ sym (ap (λ (x : Slot). x.count) old),
           )
       | inr other ↦
           let apart : (node - 1) ≢ z = λ e. other (omega arith) in
-          let same : slot_in (with_slot s z v) node ≡ slot_in s node = get_or-set_other s.slots z (node - 1) v fresh apart in
-          (
+          let same : slot_in (with_slot s z v) node ≡ slot_in s node = get_or-set_other s.slots z (node - 1) v fresh apart in (
             ap (λ (x : Slot). x.released) same ∙ sym (cond-false (node == z + 1) true (test node) (ne_eqb node (z + 1) other)),
             ap (λ (x : Slot). x.count) same,
           )
@@ -215,7 +213,7 @@ emptied_leads words fields slot some none = none_at (leads_out_of fields (slot +
 pub freeing_move : (p : Pending) (headers : List ℕ) (s : State) (x : ℕ) → x < length s.slots → x < length headers → (slot_at s x).released ≡ true → (slot_at s x).count ≡ 0
     → sum_at (leads_out_of p.fields (x + 1)) p.words ≡ 0
     → Move (record (accounts_with p p.words s) { free = λ node. slice_index_or headers (node - 1) 0 == 0 })
-        (record (accounts_with p p.words (swept s x)) { free = λ node. slice_index_or (slice_set headers x 0) (node - 1) 0 == 0 })
+    (record (accounts_with p p.words (swept s x)) { free = λ node. slice_index_or (slice_set headers x 0) (node - 1) 0 == 0 })
 freeing_move p headers s x there header released none empty =
     let v : Slot = swept_clean (slot_at s x) in
     let old : slot_in s (x + 1) ≡ slot_at s x = (let at : x + 1 - 1 ≡ x = omega arith in ap (λ (n : ℕ). slice_index_or s.slots n fresh) at ∙ get_or_default s.slots x fresh absent there) in

@@ -103,7 +103,7 @@ taken_kept w t kept is busy may phase =
     let unsettled : IsSettledIn p.phase → ⊥ = λ s. subst IsSettledIn phase s in
     let (due, where_) = unsettled_due w.config w.epoch p (crossing_of w t) (box w t) (stand_at w.collector.phase t) unsettled actor.handshake in
     let here : is_giving p.phase ≡ false = ap is_giving phase in
-    let behind : IsBehind w.config w.epoch p (crossing_of w t) (box w t) = elim where_ [ | inl behind ↦ behind | inr crosses ↦ absurd (false≢true (sym here ∙ ap is_giving crosses.phase)) ] in
+    let behind : IsBehind w.config w.epoch p (crossing_of w t) (box w t) = elim where_ [ inl behind ↦ behind | inr crosses ↦ absurd (false≢true (sym here ∙ ap is_giving crosses.phase)) ] in
     let (gathers, way) = due_gathers w.epoch t w.collector.phase due in
     let epoch : p.epoch + 1 ≡ w.epoch = behind.epoch in
     let q_phase : q.phase ≡ at.Giving = ap (λ (x : Private). x.phase) c.after in
@@ -137,8 +137,8 @@ taken_kept w t kept is busy may phase =
     let many : length p.log.entries ≤ p.log.capacity = actor.log.few in
     let capacity : p.log.capacity ≡ w.config.log_entries = actor.own.capacity in
     let more : entries_made w.config p + 0 ≤ entries_made w.config q = crossing_entries w.config.first_epoch w.config.log_entries p.epoch (length p.log.entries) (entries_made w.config p) (entries_made w.config q) (omega arith)
-        (omega arith) (ap (λ e. (e - w.config.first_epoch) * w.config.log_entries + length p.log.entries) at_p)
-        (ap (λ e. (e - w.config.first_epoch) * w.config.log_entries + length q.log.entries) at_q ∙ ap (λ (x : Contents). (p.epoch + 1 - w.config.first_epoch) * w.config.log_entries + length x.entries) q_log) in
+    (omega arith) (ap (λ e. (e - w.config.first_epoch) * w.config.log_entries + length p.log.entries) at_p)
+    (ap (λ e. (e - w.config.first_epoch) * w.config.log_entries + length q.log.entries) at_q ∙ ap (λ (x : Contents). (p.epoch + 1 - w.config.first_epoch) * w.config.log_entries + length x.entries) q_log) in
     let whole : IsKept v = record {
       config = kept.config;
       headers = kept.headers;
@@ -173,7 +173,7 @@ given_kept w t kept is busy may phase same =
     let unsettled : IsSettledIn p.phase → ⊥ = λ s. subst IsSettledIn phase s in
     let (due, where_) = unsettled_due w.config w.epoch p (crossing_of w t) (box w t) (stand_at w.collector.phase t) unsettled actor.handshake in
     let gives_ : is_giving p.phase ≡ true = ap is_giving phase in
-    let crosses : IsCrossing w.config w.epoch p (crossing_of w t) = elim where_ [ | inl behind ↦ absurd (false≢true (sym behind.here ∙ gives_)) | inr crosses ↦ crosses ] in
+    let crosses : IsCrossing w.config w.epoch p (crossing_of w t) = elim where_ [ inl behind ↦ absurd (false≢true (sym behind.here ∙ gives_)) | inr crosses ↦ crosses ] in
     let epoch : p.epoch + 1 ≡ w.epoch = crosses.epoch in
     let q_phase : q.phase ≡ at.Finished works.Poll (makes.Crossed (Some (p.epoch + 1))) = ap (λ (x : Private). x.phase) c.after in
     let q_epoch : q.epoch ≡ p.epoch + 1 = ap (λ (x : Private). x.epoch) c.after in
@@ -279,7 +279,7 @@ fitting w t kept is =
           let unsettled : IsSettledIn (mutator w t).phase → ⊥ = λ s. subst IsSettledIn phase s in
           let (due, where_) = unsettled_due w.config w.epoch (mutator w t) (crossing_of w t) (box w t) (stand_at w.collector.phase t) unsettled actor.handshake in
           let number : (mutator w t).number ≡ t = actor.own.number in
-          ap (λ n. slice_index_or w.crossing (n - 1) 0) number ∙ elim where_ [ | inl behind ↦ behind.word | inr crosses ↦ absurd (false≢true (sym (ap is_giving phase) ∙ ap is_giving crosses.phase)) ];
+          ap (λ n. slice_index_or w.crossing (n - 1) 0) number ∙ elim where_ [ inl behind ↦ behind.word | inr crosses ↦ absurd (false≢true (sym (ap is_giving phase) ∙ ap is_giving crosses.phase)) ];
     }
   where
     small : w.epoch < 2 ^ 24

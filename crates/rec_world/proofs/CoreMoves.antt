@@ -12,7 +12,7 @@ use Rattle.rec_model.specs.Moves.{KeepsEpochs, KeepsSlots, Crosses, Drops, Loads
 use Rattle.rec_model.specs.Pending.{node_of, epoch_of, home, Write, Dated, dated, Pending, is_at, Holds}
 use Rattle.rec_model.specs.Reach.{named}
 use Rattle.rec_model.specs.Sums.{sum_at}
-use Rattle.rec_model.proofs.Sums.{sum_at-set}
+use Rattle.rec_model.proofs.Sums.{sum_at-set, sum_by-map, sum_by-flat_map}
 use Rattle.rec_model.proofs.Weights.{only_if_self, one_if_self}
 use Rattle.rec_log.specs.declared.contents.Contents.{Contents}
 use Rattle.rec_log.specs.declared.entry.Entry.TheVariants as entries
@@ -22,7 +22,7 @@ use Rattle.rec_world.specs.Core.{Core, mutator, box, spare_of}
 use Rattle.rec_world.specs.CorePending.{Filed, filed, code, writes_in, births_in, dated_names, dated_all, epoch_at, buffers, snapshots_of, registers_of, older_at, pending}
 use Rattle.rec_world.specs.State.{nobody}
 use Rattle.rec_world.proofs.CoreShapes.{with_mutator}
-use Rattle.rec_world.proofs.CoreSums.{share, buffers_sum, own_sum, registers_sum, register_sum, writes_more, writes_same, births_more, births_same, names_most, names_all, none_named, sum_by-map, sum_by-flat_map}
+use Rattle.rec_world.proofs.CoreSums.{share, buffers_sum, own_sum, registers_sum, register_sum, writes_more, writes_same, births_more, births_same, names_most, names_all, none_named}
 
 -- the node of a word is that of its target
 pub code_target : (word : ℕ) → code (target_of word) ≡ node_of word

@@ -1,20 +1,19 @@
 -- What every heap with its collector keeps holds as it is opened.
-use Rattle.std.proofs.Common.{◌≡◌, inl, inr, ℕ, ◌+◌, ◌-◌, ◌*◌, ◌^◌, ◌<◌, ◌≤◌, ◌==◌, zero, suc, false, List, [], ◌∷◌, Option, None, Some, slice_index_or, length, map, flat_map, replicate, refl, sym, ap, subst, ◌∙◌, arith}
+use Rattle.std.proofs.Common.{◌≡◌, inl, inr, ℕ, ◌+◌, ◌-◌, ◌*◌, ◌^◌, ◌<◌, ◌≤◌, ◌==◌, zero, suc, false, List, [], ◌∷◌, Option, None, slice_index_or, length, map, flat_map, replicate, refl, sym, ap, subst, ◌∙◌, arith}
 use Rattle.std.specs.List.{sum_by}
 use Rattle.std.proofs.lemmas.Bool.{cases_lt, false≢true}
 use Rattle.std.proofs.lemmas.Bool.Decides.{nat_tests}
 use Rattle.std.proofs.lemmas.List.{get_or_past, get_or-replicate, get_or-set_same, get_or-set_other, length-replicate, length-set}
-use Rattle.std.proofs.lemmas.List.Elements.{All-cons, All-nil, All-from_get_or, All-replicate}
+use Rattle.std.proofs.lemmas.List.Elements.{All-nil, All-from_get_or}
 use Rattle.std.proofs.lemmas.List.Folds.{sum_by-replicate}
 use Rattle.std.proofs.lemmas.List.Sums.{sum_by-cons, sum_by-append}
-use Rattle.rec_word.specs.Word.{IsTarget}
 use Rattle.rec_model.specs.Accounted.{is_wrong_register, is_late_snapshot}
 use Rattle.rec_model.specs.Opened.{IsOpening}
 use Rattle.rec_model.specs.Pending.{Write, Dated, dated}
 use Rattle.rec_model.proofs.Beginning.{opening_accounted}
 use Rattle.rec_model.proofs.Consequences.{opening_uncounted}
 use Rattle.rec_model.proofs.Opened.{opening_sound}
-use Rattle.rec_model.proofs.Sums.{sum_at-replicate_none}
+use Rattle.rec_model.proofs.Sums.{sum_at-replicate_none, sum_by-flat_map}
 use Rattle.rec_log.specs.declared.contents.Contents.{Contents}
 use Rattle.rec_counts.specs.Slot.{fresh}
 use Rattle.rec_counts.specs.declared.slot.Slot.{Slot}
@@ -33,39 +32,20 @@ use Rattle.rec_world.specs.State.{nobody, opened_mutator, opened_mutators}
 use Rattle.rec_world.specs.declared.config.Config.{Config}
 use Rattle.rec_world.proofs.CoreActors.{spare_buffer}
 use Rattle.rec_world.proofs.CoreBatches.{none_of}
-use Rattle.rec_world.proofs.CoreSums.{share, log_share, buffers_sum, sum_by-flat_map, none_named}
+use Rattle.rec_world.proofs.CoreSums.{share, log_share, buffers_sum, none_named}
 use Rattle.rec_world.proofs.CoreTurns.{AddsNothing, writes_nothing, births_nothing, snapshots_nothing}
-use Rattle.rec_world.proofs.Openings.{free_at, small_header, registers_opened, length-opened, opened_at}
+use Rattle.rec_world.proofs.Openings.{free_at, small_header, registers_opened, length-opened, opened_at, registers_many, machine_opened as mutator_opened}
 
 -- a mutator as it is opened
 own_kept : (config : Config) (t : ℕ) → IsConfig config → IsMutator config t → IsOwn config t (opened_mutator config t)
 own_kept config t is there =
-    let few : config.mutators ≤ 8 = is.few_mutators in
-    let last : t ≤ config.mutators = there.1 in
-    let slots : 1 ≤ config.slots = is.some_slots in
-    let few_slots : config.slots ≤ 65535 = is.few_slots in
-    let epoch : config.first_epoch ≤ 16777215 = is.few_epochs in
-    let entries : config.log_entries ≤ 262143 = is.few_log_entries in
-    let some : 1 ≤ config.registers = is.some_registers in
-    let rest : length {A = Option ℕ} (replicate (config.registers - 1) None) ≡ config.registers - 1 = length-replicate (config.registers - 1) None in
-    let first : IsTarget (Some 0) = omega arith in
     record {
       number = refl;
       slots = refl;
       fields = refl;
-      registers = omega arith;
+      registers = registers_many config t is;
       capacity = refl;
-      machine = record {
-        number = omega arith;
-        epoch = omega arith;
-        first_slot = omega arith;
-        last_slot = omega arith;
-        capacity = omega arith;
-        entries = omega arith;
-        registers = All-cons IsTarget (Some 0) (replicate (config.registers - 1) None) first (All-replicate IsTarget (config.registers - 1) None tt);
-        snapshot = length-replicate config.registers None ∙ omega arith;
-        now = refl;
-      };
+      machine = mutator_opened config t is there;
       between = tt;
       label = tt;
     }
@@ -156,7 +136,7 @@ older_sum {Y} g f config nothing =
     = buffers_sum g f (opened config) in
     let logs : sum_by (log_share g f) (opened_mutators config config.mutators) ≡ 0
     = none_of (log_share g f) (opened_mutators config config.mutators) nobody (λ i below.
-        ap (log_share g f) (opened_at config config.mutators i (omega (arith, below, length-opened config config.mutators))) ∙ nothing.nothing config.first_epoch) in
+    ap (log_share g f) (opened_at config config.mutators i (omega (arith, below, length-opened config config.mutators))) ∙ nothing.nothing config.first_epoch) in
     let spare : sum_by (share g f last) spares ≡ 0 = sum_by-replicate (share g f last) config.mutators (spare_of config) ∙ ap (λ n. config.mutators * n) (nothing.nothing last) ∙ omega arith in
     omega (arith, sums, logs, spare, sum_by-replicate (share g f last) config.mutators (first_snapshot config))
 
@@ -250,7 +230,7 @@ module _ (config : Config) (is : IsConfig config) where
     left = opened_snapshots (is_late_snapshot config.first_epoch) ∙ omega (arith, ap (λ n. config.mutators * n) not_late);
     registers = λ weight null. opened_registers weight config ∙ ap (λ n. config.mutators * n) (first_alone weight config (null config.first_epoch));
     entered = opened_registers (is_wrong_register last config.first_epoch) config
-    ∙ ap (λ n. config.mutators * n) (first_alone (is_wrong_register last config.first_epoch) config (not_wrong 0) ∙ not_wrong 1) ∙ omega arith;
+        ∙ ap (λ n. config.mutators * n) (first_alone (is_wrong_register last config.first_epoch) config (not_wrong 0) ∙ not_wrong 1) ∙ omega arith;
     count = ap (λ (v : Slot). v.count) first_slot;
     taken = refl;
     free = λ node more. ap (λ n. n == 0) (free_header node more);

@@ -251,7 +251,7 @@ module _ (w : Core) (a : At) (kept : IsKept w) (phase : w.collector.phase ≡ Re
   empty : w.config.fields ≤ a.field + 1 → AreEmpty w.config.slots w.config.fields words out
   empty last x f there in_range is =
       let before : (slot_at off x).released ≡ true = sym (ap (λ (s : List Slot). (slice_index_or s x absent).released) (emptied_alike off a.slot)) ∙ is in
-      elim (off_left x f there in_range before) [ | inl left ↦ absurd (omega (arith, left.1, in_range, last)) | inr none ↦ none ]
+      elim (off_left x f there in_range before) [ inl left ↦ absurd (omega (arith, left.1, in_range, last)) | inr none ↦ none ]
 
   ready : IsReady out
   ready = ready_emptied off a.slot ((rest_off c.counts (target_of word)).released a.slot ∙ work.held.released) (ready_off c.counts (target_of word) work.ready)
@@ -278,4 +278,4 @@ module _ (w : Core) (a : At) (kept : IsKept w) (phase : w.collector.phase ≡ Re
 
   -- where the release comes to
   pub released_lands : HasLanded w w.crossing words (took_of (record { machine = c.release; counts = c.counts }) word)
-  released_lands = subst (λ (m : Machine). HasLanded w w.crossing words (took_of (record { machine = m; counts = c.counts }) word)) machine_is (elim (cases_lt (a.field + 1) w.config.fields) [ | inl more ↦ on more | inr last ↦ next last ])
+  released_lands = subst (λ (m : Machine). HasLanded w w.crossing words (took_of (record { machine = m; counts = c.counts }) word)) machine_is (elim (cases_lt (a.field + 1) w.config.fields) [ inl more ↦ on more | inr last ↦ next last ])

@@ -76,7 +76,7 @@ module _ {w : Core} {t word : ℕ} {op : Op} {q : Private} (m : Makes w t word o
   -- a write of a field
   puts : (src f val slot : ℕ) → register p src ≡ Some slot → HasRoom p
       → Decides p op q (commands.Put src f val) (at.Begun (works.Command (commands.Put src f val))) (ops.SwapField (place_of slot f p.fields) (word_for p val)) p.registers
-          (p.log.entries ++ entries.Put (place_of slot f p.fields) (word_for p val) word ∷ []) (record { answer = answers_.Done; saw = word; left = word_for p val })
+      (p.log.entries ++ entries.Put (place_of slot f p.fields) (word_for p val) word ∷ []) (record { answer = answers_.Done; saw = word; left = word_for p val })
       → IsKept (record (with_mutator w t q) { words = slice_set w.words (place_of slot f w.config.fields) (word_for p val) })
   puts src f val slot names room d =
       let fields : p.fields ≡ w.config.fields = actor.own.fields in
@@ -112,12 +112,12 @@ module _ {w : Core} {t word : ℕ} {op : Op} {q : Private} (m : Makes w t word o
     where
       decided_at : p.fields ≡ w.config.fields → word ≡ slice_index_or w.words (place_of slot f w.config.fields) 0
           → Decides p op q (commands.Put src f val) (at.Begun (works.Command (commands.Put src f val))) (ops.SwapField (place_of slot f p.fields) (word_for p val)) p.registers
-              (p.log.entries ++ entries.Put (place_of slot f p.fields) (word_for p val) word ∷ []) (record { answer = answers_.Done; saw = word; left = word_for p val })
+          (p.log.entries ++ entries.Put (place_of slot f p.fields) (word_for p val) word ∷ []) (record { answer = answers_.Done; saw = word; left = word_for p val })
           → Decides p op q (commands.Put src f val) (at.Begun (works.Command (commands.Put src f val))) (ops.SwapField (place_of slot f p.fields) (word_for p val)) p.registers
-              (p.log.entries ++ entries.Put (place_of slot f w.config.fields) (word_for p val) (slice_index_or w.words (place_of slot f w.config.fields) 0) ∷ []) (record { answer = answers_.Done; saw = word; left = word_for p val })
+          (p.log.entries ++ entries.Put (place_of slot f w.config.fields) (word_for p val) (slice_index_or w.words (place_of slot f w.config.fields) 0) ∷ []) (record { answer = answers_.Done; saw = word; left = word_for p val })
       decided_at fields found is =
           let P : ℕ → ℕ → Type 0 = λ n x. Decides p op q (commands.Put src f val) (at.Begun (works.Command (commands.Put src f val))) (ops.SwapField (place_of slot f p.fields) (word_for p val)) p.registers
-              (p.log.entries ++ entries.Put (place_of slot f n) (word_for p val) x ∷ []) (record { answer = answers_.Done; saw = word; left = word_for p val }) in
+          (p.log.entries ++ entries.Put (place_of slot f n) (word_for p val) x ∷ []) (record { answer = answers_.Done; saw = word; left = word_for p val }) in
           subst (P w.config.fields) found (subst (λ n. P n word) fields is)
 
   -- a birth in a free slot
@@ -162,10 +162,13 @@ probe_found w word slot label op found at = found ∙ ap (cell (cells_of w)) at
 
 -- a scan that passes a taken slot has passed it
 passes : (w : Core) (before slot : ℕ) → HasPassed w.headers w.freed before slot → 0 < slice_index_or w.headers slot 0 → HasPassed w.headers w.freed before (slot + 1)
-passes w before slot is taken = (is.0, λ same even s below. elim (cases_eq s slot) [
-  | inl here ↦ subst (λ n. 0 < slice_index_or w.headers n 0) (sym here) taken
-  | inr other ↦ is.1 same even s (omega arith)
-])
+passes w before slot is taken = (
+  is.0,
+  λ same even s below. elim (cases_eq s slot) [
+    | inl here ↦ subst (λ n. 0 < slice_index_or w.headers n 0) (sym here) taken
+    | inr other ↦ is.1 same even s (omega arith)
+  ],
+)
 
 -- the label of a scan
 label_at : (w : Core) (t : ℕ) (phase : phases.Phase) → IsKept w → IsMutator w.config t → (mutator w t).phase ≡ phase → HasLabelAt phase

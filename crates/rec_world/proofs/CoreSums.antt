@@ -4,6 +4,7 @@ use Rattle.std.specs.List.{sum_by, flat_map}
 use Rattle.std.proofs.lemmas.List.Sums.{sum_by-append, sum_by-cons, sum_by-set}
 use Rattle.rec_model.specs.Pending.{Write, Dated, dated}
 use Rattle.rec_model.specs.Reach.{named}
+use Rattle.rec_model.proofs.Sums.{sum_by-flat_map, sum_by-map}
 use Rattle.rec_log.specs.declared.contents.Contents.{Contents}
 use Rattle.rec_log.specs.declared.entry.Entry.{Entry}
 use Rattle.rec_log.specs.declared.entry.Entry.TheVariants as entries
@@ -12,16 +13,6 @@ use Rattle.rec_collector.specs.Private.{blank}
 use Rattle.rec_world.specs.Core.{Core, mutator, box}
 use Rattle.rec_world.specs.CorePending.{Filed, filed, code, writes_in, births_in, dated_names, dated_all, older_at, epoch_at, buffers}
 use Rattle.rec_world.specs.State.{nobody}
-
--- the sum over what each gives
-pub sum_by-flat_map : {X Y : Type 0} (g : Y → ℕ) (f : X → List Y) (xs : List X) → sum_by g (flat_map f xs) ≡ sum_by (λ x. sum_by g (f x)) xs
-sum_by-flat_map g f [] = refl
-sum_by-flat_map g f (x ∷ xs) = omega (arith, sum_by-append g (f x) (flat_map f xs), sum_by-cons (λ y. sum_by g (f y)) x xs, sum_by-flat_map g f xs)
-
--- the sum over what each becomes
-pub sum_by-map : {X Y : Type 0} (g : Y → ℕ) (f : X → Y) (xs : List X) → sum_by g (map f xs) ≡ sum_by (λ x. g (f x)) xs
-sum_by-map g f [] = refl
-sum_by-map g f (x ∷ xs) = omega (arith, sum_by-cons g (f x) (map f xs), sum_by-cons (λ y. g (f y)) x xs, sum_by-map g f xs)
 
 -- what a buffer adds to a sum, by its epoch
 abbrev pub share : {Y : Type 0} → (Y → ℕ) → (Filed → List Y) → (epoch : ℕ) → Contents → ℕ

@@ -41,7 +41,7 @@ use Rattle.rec_collector.specs.declared.phase.Phase.TheVariants.{Idle, Opening, 
 use Rattle.rec_world.specs.declared.config.Config.{Config}
 use Rattle.rec_world.specs.Config.{IsMutator}
 use Rattle.rec_world.specs.Core.{Core, sight}
-use Rattle.rec_world.specs.CoreKept.{IsBufferOf, IsLeft, Stand, stand_at, HasCollector, HasSweeps, HasPassed, IsScanning, HasScans, one_if_sweeping, IsKept}
+use Rattle.rec_world.specs.CoreKept.{IsBufferOf, IsLeft, Stand, stand_at, HasPassed, IsScanning, HasScans, one_if_sweeping, IsKept}
 use Rattle.rec_world.specs.CorePending.{dated_all, epoch_at, older_at, applied_at, pending}
 use Rattle.rec_world.specs.State.{nobody}
 use Rattle.rec_world.proofs.CoreCounts.{slot_in, accounts_with, emptied_leads, freeing_move}
@@ -82,7 +82,7 @@ module _ (w : Core) (due : Option ℕ) (kept : IsKept w) (phase : w.collector.ph
         config = kept.config;
         headers = kept.headers;
         labels = kept.labels;
-        mutators = phase_moves kept.mutators (λ s there. sym (ap (λ p. Rattle.rec_world.specs.CoreKept.stand_at p s) phase));
+        mutators = phase_moves kept.mutators (λ s there. sym (ap (λ p. stand_at p s) phase));
         collector = record {
           machine = machine;
           between = tt;
@@ -132,7 +132,7 @@ module _ (w : Core) (swept_ : ℕ) (kept : IsKept w) (phase : w.collector.phase 
         config = kept.config;
         headers = kept.headers;
         labels = kept.labels;
-        mutators = phase_moves kept.mutators (λ s there. sym (ap (λ p. Rattle.rec_world.specs.CoreKept.stand_at p s) phase));
+        mutators = phase_moves kept.mutators (λ s there. sym (ap (λ p. stand_at p s) phase));
         collector = record {
           machine = machine;
           between = tt;

@@ -322,9 +322,9 @@ module _ (w : Core) (t : ℕ) (kept : IsKept w) (phase : w.collector.phase ≡ L
       let none : Rattle.rec_world.specs.CoreKept.one_if_sweeping w.collector.phase ≡ 0 = ap Rattle.rec_world.specs.CoreKept.one_if_sweeping phase in
       let applied : Rattle.rec_world.specs.CorePending.applied_at w.epoch w.collector.phase ≡ w.epoch - 2 = ap (Rattle.rec_world.specs.CorePending.applied_at w.epoch) phase in
       let move : Move (pending w) (record (pending gathered) { applied = (pending w).applied }) = same_move (pending w) (pending gathered)
-          (λ weight. gather_sums weight (λ (b : Filed). writes_in b.buffer.entries) (writes_nothing w.config weight))
-          (λ weight. gather_sums weight (λ (b : Filed). births_in b.epoch b.buffer.entries) (births_nothing w.config weight))
-          (λ weight. gather_sums weight (λ (b : Filed). dated_names b.epoch b.buffer.snapshot) (snapshots_nothing w.config weight)) in
+      (λ weight. gather_sums weight (λ (b : Filed). writes_in b.buffer.entries) (writes_nothing w.config weight))
+      (λ weight. gather_sums weight (λ (b : Filed). births_in b.epoch b.buffer.entries) (births_nothing w.config weight))
+      (λ weight. gather_sums weight (λ (b : Filed). dated_names b.epoch b.buffer.snapshot) (snapshots_nothing w.config weight)) in
       let many : length w.collector.newer ≡ w.config.mutators = k.mutators in
       record {
         config = kept.config;

@@ -7,7 +7,7 @@ use Rattle.rec_word.specs.Word.{IsTarget}
 use Rattle.rec_model.specs.Heap.{opening}
 use Rattle.rec_model.specs.Sight.{StandsFor, IsSound, opening_sight}
 use Rattle.rec_model.proofs.Opened.{opening_sound, opening_stands}
-use Rattle.rec_mutator.specs.Private.{Private}
+use Rattle.rec_mutator.specs.Private.{Private, IsMachine}
 use Rattle.rec_world.specs.Config.{IsConfig, IsMutator}
 use Rattle.rec_world.specs.declared.config.Config.{Config}
 use Rattle.rec_world.specs.State.{nobody, opened_mutator, opened_mutators}
@@ -76,36 +76,47 @@ mutator_opened config t there =
     let number : t - 1 + 1 ≡ t = omega arith in
     opened_at config config.mutators (t - 1) (omega arith) ∙ ap (opened_mutator config) number
 
--- what is known of a mutator as it is opened
-own_kept : (config : Config) (t : ℕ) → IsConfig config → IsMutator config t → IsOwn config 1 t (opened_mutator config t)
-own_kept config t is there =
+-- its registers
+pub registers_many : (config : Config) (t : ℕ) → IsConfig config → length (opened_mutator config t).registers ≡ config.registers
+registers_many config t is =
+    let some : 1 ≤ config.registers = is.some_registers in
+    let rest : length {A = Option ℕ} (replicate (config.registers - 1) None) ≡ config.registers - 1 = length-replicate (config.registers - 1) None in
+    omega arith
+
+-- its machine
+pub machine_opened : (config : Config) (t : ℕ) → IsConfig config → IsMutator config t → IsMachine (opened_mutator config t)
+machine_opened config t is there =
     let few : config.mutators ≤ 8 = is.few_mutators in
     let last : t ≤ config.mutators = there.1 in
     let slots : 1 ≤ config.slots = is.some_slots in
     let few_slots : config.slots ≤ 65535 = is.few_slots in
     let epoch : config.first_epoch ≤ 16777215 = is.few_epochs in
     let entries : config.log_entries ≤ 262143 = is.few_log_entries in
-    let some : 1 ≤ config.registers = is.some_registers in
-    let rest : length {A = Option ℕ} (replicate (config.registers - 1) None) ≡ config.registers - 1 = length-replicate (config.registers - 1) None in
+    let many = registers_many config t is in
     let first : IsTarget (Some 0) = omega arith in
+    record {
+      number = omega arith;
+      epoch = omega arith;
+      first_slot = omega arith;
+      last_slot = omega arith;
+      capacity = omega arith;
+      entries = omega arith;
+      registers = All-cons IsTarget (Some 0) (replicate (config.registers - 1) None) first (All-replicate IsTarget (config.registers - 1) None tt);
+      snapshot = length-replicate config.registers None ∙ sym many;
+      now = refl;
+    }
+
+-- what is known of a mutator as it is opened
+own_kept : (config : Config) (t : ℕ) → IsConfig config → IsMutator config t → IsOwn config 1 t (opened_mutator config t)
+own_kept config t is there =
     record {
       number = refl;
       epoch = refl;
       slots = refl;
       fields = refl;
-      registers = omega arith;
+      registers = registers_many config t is;
       capacity = refl;
-      machine = record {
-        number = omega arith;
-        epoch = omega arith;
-        first_slot = omega arith;
-        last_slot = omega arith;
-        capacity = omega arith;
-        entries = omega arith;
-        registers = All-cons IsTarget (Some 0) (replicate (config.registers - 1) None) first (All-replicate IsTarget (config.registers - 1) None tt);
-        snapshot = length-replicate config.registers None ∙ omega arith;
-        now = refl;
-      };
+      machine = machine_opened config t is there;
       working = tt;
       stamps = λ i entry there. cc;
     }
