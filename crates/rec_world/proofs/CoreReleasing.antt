@@ -144,6 +144,10 @@ module _ (w : Core) (a : At) (kept : IsKept w) (phase : w.collector.phase ≡ Re
       ap (λ (n : ℕ). (slot_in c.counts n).released) at_home ∙ ap (λ (n : ℕ). (slice_index_or c.counts.slots n fresh).released) one
       ∙ ap (λ (v : Slot). v.released) (get_or_default c.counts.slots a.slot fresh absent (omega (arith, below, slots))) ∙ work.held.released
 
+  -- the slot at work was given up, and the field is one of its own
+  pub held_released : (a.field < w.config.fields) × ((slot_at c.counts a.slot).released ≡ true)
+  held_released = (within, work.held.released)
+
   -- what the word leads to is counted
   pub counted_target : (slot : ℕ) → target_of word ≡ Some slot → 0 < (slot_at c.counts slot).count
   counted_target slot is =

@@ -21,7 +21,7 @@ use Rattle.rec_world.specs.declared.config.Config.{Config}
 use Rattle.rec_world.specs.Config.{IsConfig, IsMutator}
 use Rattle.rec_world.specs.Core.{Core, cells_of, box, opened}
 use Rattle.rec_world.specs.CoreKept.{IsKept}
-use Rattle.rec_world.specs.CoreMoves.{looked_at, turned, turned_at, Move, after_move, after_moves, Fits, AllFit, IsRun}
+use Rattle.rec_world.specs.CoreMoves.{looked_at, turned, turned_at, Move, after_move, after_moves, Fits, AllFit, IsRun, EndsRun}
 use Rattle.rec_world.specs.Memory.{cell}
 use Rattle.rec_world.proofs.CoreApplying.{covered}
 use Rattle.rec_world.proofs.CoreCrossings.{step_kept, begun_kept}
@@ -103,3 +103,7 @@ moves_kept w (m ∷ ms) kept fit = moves_kept (after_move w m) ms (move_kept w m
 -- the end of a run keeps it
 pub run_kept : (config : Config) (moves : List Move) (end : Core) → IsConfig config → IsRun config moves end → IsKept end
 run_kept config moves end is run = subst IsKept run.ends (moves_kept (opened config) moves (opened_kept config is) run.fit)
+
+-- so does a state that some run ends in
+pub end_kept : (w : Core) → IsConfig w.config → EndsRun w → IsKept w
+end_kept w is (moves, run) = run_kept w.config moves w is run

@@ -162,7 +162,7 @@ module _ (w : Core) (swept_ : ℕ) (kept : IsKept w) (phase : w.collector.phase 
       even_next n odd = grind arith
 
 -- what a register names is named by the accounts
-root_named : (n : ℕ) (ps : List Private) → is_in n (roots (map (λ (p : Private). p.registers) ps)) ≡ true → 0 < sum_by (is_node (n + 1)) (flat_map (λ (p : Private). dated_all (epoch_at p) p.registers) ps)
+pub root_named : (n : ℕ) (ps : List Private) → is_in n (roots (map (λ (p : Private). p.registers) ps)) ≡ true → 0 < sum_by (is_node (n + 1)) (flat_map (λ (p : Private). dated_all (epoch_at p) p.registers) ps)
 root_named n [] there = absurd (false≢true there)
 root_named n (p ∷ ps) there =
     let rest : List Dated = flat_map (λ (q : Private). dated_all (epoch_at q) q.registers) ps in
@@ -204,24 +204,25 @@ module _ (w : Core) (done : ℕ) (x : ℕ) (kept : IsKept w) (phase : w.collecto
   pub swept_below : x < w.config.slots
   swept_below = let there : x < length c.counts.slots = in_range_once (length c.counts.slots) c.counts.free x kept.collector.machine.counts.free_once listed in omega (arith, slots)
 
-  released : (slot_at c.counts x).released ≡ true
-  released = kept.collector.listed x listed
+  -- it was given up
+  pub due_released : (slot_at c.counts x).released ≡ true
+  due_released = kept.collector.listed x listed
 
   in_accounts : slot_in c.counts (x + 1) ≡ slot_at c.counts x
   in_accounts = let one_ : x + 1 - 1 ≡ x = omega arith in ap (λ (n : ℕ). slice_index_or c.counts.slots n fresh) one_ ∙ get_or_default c.counts.slots x fresh absent (omega (arith, swept_below, slots))
 
   uncounted : (slot_at c.counts x).count ≡ 0
-  uncounted = ap (λ (v : Slot). v.count) (sym in_accounts) ∙ kept.uncounted (x + 1) (omega arith) (ap (λ (v : Slot). v.released) in_accounts ∙ released)
+  uncounted = ap (λ (v : Slot). v.count) (sym in_accounts) ∙ kept.uncounted (x + 1) (omega arith) (ap (λ (v : Slot). v.released) in_accounts ∙ due_released)
 
   -- its fields are empty
   empty : (f : ℕ) → f < w.config.fields → slice_index_or w.words (place_of x f w.config.fields) 0 ≡ 0
-  empty f within = elim (kept.collector.emptied x f swept_below within released) [
+  empty f within = elim (kept.collector.emptied x f swept_below within due_released) [
     | inl left ↦ absurd (subst (λ (o : Option At). IsLeft o x f) sweeping.0.still left)
     | inr none ↦ none
   ]
 
   dead : is_dead (pending w) (x + 1) ≡ true
-  dead = ap (λ (b : Bool). if (pending w).free (x + 1) then true else b) (ap (λ (v : Slot). v.released) in_accounts ∙ released) ∙ either ((pending w).free (x + 1))
+  dead = ap (λ (b : Bool). if (pending w).free (x + 1) then true else b) (ap (λ (v : Slot). v.released) in_accounts ∙ due_released) ∙ either ((pending w).free (x + 1))
     where
       either : (b : Bool) → (if b then true else true) ≡ true
       either true = refl
@@ -236,7 +237,7 @@ module _ (w : Core) (done : ℕ) (x : ℕ) (kept : IsKept w) (phase : w.collecto
       let t = field_target (sight w) s x there in
       absurd (omega (
         arith,
-        released_count (pending w) kept.accounted (x + 1) (omega arith) (ap (λ (v : Slot). v.released) in_accounts ∙ released),
+        released_count (pending w) kept.accounted (x + 1) (omega arith) (ap (λ (v : Slot). v.released) in_accounts ∙ due_released),
         ap (λ (v : Slot). v.count) in_accounts,
         uncounted,
         get_or-le-sum_at (names (x + 1)) w.words (s * w.config.fields + t.0) 0 t.2,
@@ -337,7 +338,7 @@ module _ (w : Core) (done : ℕ) (x : ℕ) (kept : IsKept w) (phase : w.collecto
       let older : older_at w.epoch c.phase ≡ older_at w.epoch next = ap (older_at w.epoch) phase ∙ sym (on.older w.epoch) in
       let applied : applied_at w.epoch c.phase ≡ applied_at w.epoch next = ap (applied_at w.epoch) phase ∙ sym (on.applied w.epoch) in
       let leads = emptied_leads w.words w.config.fields x (let some : 1 ≤ w.config.fields = kept.config.some_fields in some) empty in
-      let move = freeing_move (pending w) w.headers c.counts x (omega (arith, swept_below, slots)) (omega (arith, swept_below, headers)) released uncounted leads in
+      let move = freeing_move (pending w) w.headers c.counts x (omega (arith, swept_below, slots)) (omega (arith, swept_below, headers)) due_released uncounted leads in
       let same : pending (after_sweep due next) ≡ record (accounts_with (pending w) w.words (swept c.counts x)) { free = λ node. slice_index_or (slice_set w.headers x 0) (node - 1) 0 == 0 } = rw (sym applied, sym older) refl in
       record {
         config = kept.config;

@@ -9,6 +9,7 @@ pub mod CoreCrossings
 pub mod CoreLandings
 pub mod CoreMoves
 pub mod CoreOpening
+pub mod CoreReach
 pub mod CoreReleasing
 pub mod CoreRuns
 pub mod CoreRules

@@ -3,6 +3,7 @@ pub mod Core
 pub mod CoreKept
 pub mod CoreMoves
 pub mod CorePending
+pub mod CoreReach
 pub mod Inside
 pub mod Journal
 pub mod Memory

@@ -1,12 +1,18 @@
 //! What holds of every run, each law as the contract of a function that does nothing.
 
-ghost use Rattle.std.specs.Prelude.{◌≡◌, List, false};
+ghost use Rattle.std.specs.Prelude.{◌≡◌, ℕ, ◌+◌, ◌<◌, List, false, slice_index_or};
+ghost use Rattle.rec_model.specs.Heap.{Heap};
+ghost use Rattle.rec_model.specs.References.{count_formula};
+ghost use Rattle.rec_model.specs.Sight.{IsTaken, Reaches, StandsFor};
+ghost use Rattle.rec_counts.specs.Counts.{slot_at};
 ghost use Rattle.rec_world.specs.declared.config.Config.{Config as Numbers};
 ghost use Rattle.rec_world.specs.Config.{IsConfig};
 ghost use Rattle.rec_world.specs.Run.{Move, Fits, after_move, IsRun, EndsRun};
-ghost use Rattle.rec_world.specs.Core.{Core};
-ghost use Rattle.rec_world.specs.CoreMoves.{Move as CoreMove, IsRun as IsCoreRun};
+ghost use Rattle.rec_world.specs.Core.{Core, sight as core_sight};
+ghost use Rattle.rec_world.specs.CoreMoves.{Move as CoreMove, IsRun as IsCoreRun, EndsRun as EndsCoreRun, stepped as core_stepped, turned as core_turned};
 ghost use Rattle.rec_world.specs.CoreKept.{IsKept as IsCoreKept};
+ghost use Rattle.rec_world.specs.CorePending.{pending};
+ghost use Rattle.rec_world.specs.CoreReach.{KeepsReached};
 ghost use Rattle.rec_world.specs.World.{State, IsKept, IsWorld};
 
 /// What every heap keeps holds at the end of every run: a mutator that scans has passed taken slots alone, each log entry
@@ -28,4 +34,20 @@ pub fn heaps_end_runs()
 /// What every heap with its collector keeps holds at the end of every run.
 pub fn core_runs_keep()
     ensures { (config : Numbers) (moves : List CoreMove) (end : Core) → IsConfig config → IsCoreRun config moves end → IsCoreKept end }
+{}
+
+/// Nothing that a register reaches is released, freed or handed out again, in any state of any run of a heap with its
+/// collector: a reached slot is taken and not released; a turn of the collector keeps its header and its words; a step of a
+/// mutator claims no taken slot. And whatever heap that never frees stood for what was seen stands for it after every turn.
+pub fn nothing_reached_is_freed()
+    ensures reached { (w : Core) → IsConfig w.config → EndsCoreRun w → (slot : ℕ) → Reaches (core_sight w) slot → IsTaken (core_sight w) slot × ((slot_at w.collector.counts slot).released ≡ false) }
+    ensures turned { (w : Core) → IsConfig w.config → EndsCoreRun w → KeepsReached (core_sight w) (core_sight (core_turned w)) }
+    ensures stands { (w : Core) (heap : Heap) → IsConfig w.config → EndsCoreRun w → StandsFor heap (core_sight w) → StandsFor heap (core_sight (core_turned w)) }
+    ensures claimed { (w : Core) (t slot : ℕ) → IsTaken (core_sight w) slot → slice_index_or (core_stepped w t).headers slot 0 ≡ slice_index_or w.headers slot 0 }
+{}
+
+/// The true count of every slot is the count formula of its node at the epoch of the last batch, in every state of every run
+/// of a heap with its collector.
+pub fn true_counts_are_the_formula()
+    ensures { (w : Core) → IsConfig w.config → EndsCoreRun w → (slot : ℕ) → slot < w.config.slots → (slot_at w.collector.counts slot).count ≡ count_formula (pending w) (pending w).applied (slot + 1) }
 {}
