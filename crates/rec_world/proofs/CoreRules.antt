@@ -45,7 +45,7 @@ unfolding epoch_of
 epoch_of_stamp x s is = ap (λ (y : Stamp). y.epoch) is
 
 -- a field's word, where its place was reckoned by the mutator
-word_found : (w : Core) (t word slot f : ℕ) (op : Op) → IsKept w → IsMutator w.config t → word ≡ cell (cells_of w) op → op ≡ ops.LoadField (place_of slot f (mutator w t).fields) → word ≡ word_at (sight w) slot f
+pub word_found : (w : Core) (t word slot f : ℕ) (op : Op) → IsKept w → IsMutator w.config t → word ≡ cell (cells_of w) op → op ≡ ops.LoadField (place_of slot f (mutator w t).fields) → word ≡ word_at (sight w) slot f
 word_found w t word slot f op kept is found at = found ∙ ap (cell (cells_of w)) at ∙ ap (λ n. slice_index_or w.words (place_of slot f n) 0) (actor_of w t kept is).own.fields
 
 -- a field of a taken slot is one of the words
@@ -59,6 +59,15 @@ names_held : (w : Core) (t r slot : ℕ) → IsKept w → IsMutator w.config t �
 names_held w t r slot kept is within names = subst (Holds (pending w) (epoch_at (mutator w t))) (ap code names) (has_register w t r (in_list w t kept is) within)
 
 -- the entry that a write made is one of its log's epoch
+-- the word that a write leaves leads to what the register names
+pub leads_to : (w : Core) (t val : ℕ) → IsKept w → IsMutator w.config t → HasRoom (mutator w t) → target_of (word_for (mutator w t) val) ≡ register (mutator w t) val
+leads_to w t val kept is room =
+    let p : Private = mutator w t in
+    let machine = (actor_of w t kept is).own.machine in
+    let free : length p.log.entries < p.log.capacity = has_room p machine room in
+    let most : p.log.capacity ≤ 2 ^ 18 = machine.capacity in
+    target_of-packed (register p val) (next_stamp p) (register_target p val machine) (record { writer = machine.number; epoch = machine.epoch; index = omega arith })
+
 module _ {w : Core} {t word : ℕ} {op : Op} {q : Private} (m : Makes w t word op q) where
   abbrev p : Private
   p = mutator w t
@@ -92,12 +101,10 @@ module _ {w : Core} {t word : ℕ} {op : Op} {q : Private} (m : Makes w t word o
       let is_word : word ≡ slice_index_or w.words place 0 = m.found ∙ ap (cell (cells_of w)) d.operation ∙ ap (λ n. slice_index_or w.words (place_of slot f n) 0) fields in
       let a = answers refl m (decided_at fields is_word d) in
       let free : length p.log.entries < p.log.capacity = has_room p actor.own.machine room in
-      let most : p.log.capacity ≤ 2 ^ 18 = actor.own.machine.capacity in
       let stamp : stamp_of left ≡ next_stamp p = word_stamp p val actor.own.machine room in
       let here : epoch_at p ≡ p.epoch = epoch_here p a.here in
       let in_epoch : epoch_of left ≡ epoch_at p = epoch_of_stamp left (next_stamp p) stamp ∙ sym here in
-      let leads : target_of left ≡ register p val
-      = target_of-packed (register p val) (next_stamp p) (register_target p val actor.own.machine) (record { writer = actor.own.machine.number; epoch = actor.own.machine.epoch; index = omega arith }) in
+      let leads : target_of left ≡ register p val = leads_to w t val m.kept m.is room in
       let node : node_of left ≡ code (register p val) = sym (code_target left) ∙ ap code leads in
       let there : t - 1 < length w.mutators = in_list w t m.kept m.is in
       let holds : Holds (pending w) (epoch_at p) (slot + 1) = names_held w t src slot m.kept m.is from names in
@@ -153,11 +160,11 @@ module _ {w : Core} {t word : ℕ} {op : Op} {q : Private} (m : Makes w t word o
       ]
 
 -- what is known of a scan's slot
-scanned : (w : Core) (t : ℕ) (phase : phases.Phase) → IsKept w → IsMutator w.config t → (mutator w t).phase ≡ phase → IsScanning w.config.slots w.headers w.freed phase
+pub scanned : (w : Core) (t : ℕ) (phase : phases.Phase) → IsKept w → IsMutator w.config t → (mutator w t).phase ≡ phase → IsScanning w.config.slots w.headers w.freed phase
 scanned w t phase kept is at = subst (IsScanning w.config.slots w.headers w.freed) at (kept.scans t is)
 
 -- a probe's word
-probe_found : (w : Core) (word slot label : ℕ) (op : Op) → word ≡ cell (cells_of w) op → op ≡ ops.ClaimHeader slot label → word ≡ slice_index_or w.headers slot 0
+pub probe_found : (w : Core) (word slot label : ℕ) (op : Op) → word ≡ cell (cells_of w) op → op ≡ ops.ClaimHeader slot label → word ≡ slice_index_or w.headers slot 0
 probe_found w word slot label op found at = found ∙ ap (cell (cells_of w)) at
 
 -- a scan that passes a taken slot has passed it

@@ -14,6 +14,7 @@ pub mod CoreReleasing
 pub mod CoreRuns
 pub mod CoreRules
 pub mod CoreShapes
+pub mod CoreShowing
 pub mod CoreSteps
 pub mod CoreSums
 pub mod CoreSweeping

@@ -4,6 +4,7 @@ pub mod CoreKept
 pub mod CoreMoves
 pub mod CorePending
 pub mod CoreReach
+pub mod CoreShown
 pub mod Inside
 pub mod Journal
 pub mod Memory

@@ -1,18 +1,20 @@
 //! What holds of every run, each law as the contract of a function that does nothing.
 
-ghost use Rattle.std.specs.Prelude.{◌≡◌, ℕ, ◌+◌, ◌<◌, List, false, slice_index_or};
+ghost use Rattle.std.specs.Prelude.{◌≡◌, ℕ, ◌+◌, ◌<◌, List, false, true, slice_index_or};
 ghost use Rattle.rec_model.specs.Heap.{Heap};
 ghost use Rattle.rec_model.specs.References.{count_formula};
 ghost use Rattle.rec_model.specs.Sight.{IsTaken, Reaches, StandsFor};
 ghost use Rattle.rec_counts.specs.Counts.{slot_at};
 ghost use Rattle.rec_world.specs.declared.config.Config.{Config as Numbers};
-ghost use Rattle.rec_world.specs.Config.{IsConfig};
+ghost use Rattle.rec_mutator.specs.Private.{is_busy, answer_of};
+ghost use Rattle.rec_world.specs.Config.{IsConfig, IsMutator};
 ghost use Rattle.rec_world.specs.Run.{Move, Fits, after_move, IsRun, EndsRun};
-ghost use Rattle.rec_world.specs.Core.{Core, sight as core_sight};
+ghost use Rattle.rec_world.specs.Core.{Core, sight as core_sight, mutator as core_mutator};
 ghost use Rattle.rec_world.specs.CoreMoves.{Move as CoreMove, IsRun as IsCoreRun, EndsRun as EndsCoreRun, stepped as core_stepped, turned as core_turned};
 ghost use Rattle.rec_world.specs.CoreKept.{IsKept as IsCoreKept};
 ghost use Rattle.rec_world.specs.CorePending.{pending};
 ghost use Rattle.rec_world.specs.CoreReach.{KeepsReached};
+ghost use Rattle.rec_world.specs.CoreShown.{IsShown as IsCoreShown};
 ghost use Rattle.rec_world.specs.World.{State, IsKept, IsWorld};
 
 /// What every heap keeps holds at the end of every run: a mutator that scans has passed taken slots alone, each log entry
@@ -50,4 +52,11 @@ pub fn nothing_reached_is_freed()
 /// of a heap with its collector.
 pub fn true_counts_are_the_formula()
     ensures { (w : Core) → IsConfig w.config → EndsCoreRun w → (slot : ℕ) → slot < w.config.slots → (slot_at w.collector.counts slot).count ≡ count_formula (pending w) (pending w).applied (slot + 1) }
+{}
+
+/// Where a step of a mutator answers a command, in any state of any run of a heap with its collector, whatever heap that never
+/// frees stood for what was seen gives the answer, and what asking makes of it stands for what is seen afterwards. Full is
+/// answered only where no slot is free. Every other step leaves all that is seen.
+pub fn answers_are_explained()
+    ensures { (w : Core) (t : ℕ) → IsConfig w.config → EndsCoreRun w → IsMutator w.config t → is_busy (core_mutator w t) ≡ true → IsCoreShown w t (answer_of (core_mutator (core_stepped w t) t)) (core_stepped w t) }
 {}
