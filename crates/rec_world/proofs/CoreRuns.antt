@@ -90,7 +90,7 @@ turned_kept w kept = go (next_of w.collector) refl
         rule_kept w op word (step_of w.collector word b) (turn_of w.collector word) (record { kept = kept; found = refl; machine = machine }) step
 
 -- a move
-move_kept : (w : Core) (m : Move) → IsKept w → Fits w m → IsKept (after_move w m)
+pub move_kept : (w : Core) (m : Move) → IsKept w → Fits w m → IsKept (after_move w m)
 move_kept w (Move.Begins t work) kept fits = begun_kept w t work kept fits.0 fits.1 fits.2 fits.3
 move_kept w (Move.Steps t) kept fits = step_kept w t kept fits.0 fits.1
 move_kept w Move.Turns kept fits = turned_kept w kept

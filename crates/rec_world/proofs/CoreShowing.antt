@@ -1,11 +1,10 @@
 -- What a step of a mutator shows, rule by rule.
-use Rattle.std.proofs.Common.{◌≡◌, ℕ, ◌+◌, ◌-◌, ◌<◌, false, true, Bool, List, [], ◌∷◌, ◌++◌, Option, None, Some, length, map, slice_index_or, slice_set, refl, sym, ap, subst, ◌∙◌, arith}
+use Rattle.std.proofs.Common.{◌≡◌, ℕ, ◌+◌, ◌-◌, ◌<◌, false, true, Bool, List, Option, None, Some, length, slice_index_or, slice_set, refl, sym, ap, subst, ◌∙◌, arith}
 use Rattle.std.proofs.lemmas.Bool.{false≢true}
 use Rattle.std.proofs.lemmas.List.{get_or-set_same}
 use Rattle.rec_word.specs.Place.{place_of}
 use Rattle.rec_word.specs.Word.{target_of}
 use Rattle.rec_word.specs.declared.op.Op.{Op}
-use Rattle.rec_word.specs.declared.op.Op.TheVariants as ops
 use Rattle.rec_model.specs.Asking.{null_or_object, same, yes_or_no}
 use Rattle.rec_model.specs.Explained.{IsExplained}
 use Rattle.rec_model.specs.Heap.{register}
@@ -18,10 +17,9 @@ use Rattle.rec_model.proofs.Answered.{null_explained, copy_explained, same_expla
 use Rattle.rec_log.specs.declared.contents.Contents.{Contents}
 use Rattle.rec_log.specs.declared.entry.Entry.{Entry}
 use Rattle.rec_mutator.specs.Causes.{is_refusal}
-use Rattle.rec_mutator.specs.Private.{Private, register as register_of, word_for, next_stamp, is_busy, work_of, work_at, answer_of, answer_at}
-use Rattle.rec_mutator.specs.Step.{Step, Decides, GoesOn, Crosses, HasRoom}
-use Rattle.rec_mutator.specs.Took.{plain, step_of, took_of, left_of}
-use Rattle.rec_mutator.specs.Next.{next_of}
+use Rattle.rec_mutator.specs.Private.{Private, register as register_of, word_for, is_busy, work_of, work_at, answer_of, answer_at}
+use Rattle.rec_mutator.specs.Step.{Step, Decides, GoesOn, Crosses}
+use Rattle.rec_mutator.specs.Took.{plain, step_of}
 use Rattle.rec_mutator.specs.declared.made.Made.{Made}
 use Rattle.rec_mutator.specs.declared.made.Made.TheVariants as makes
 use Rattle.rec_mutator.specs.declared.phase.Phase as phases

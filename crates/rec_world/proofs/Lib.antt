@@ -3,6 +3,7 @@ pub mod Clears
 pub mod Commands
 pub mod CoreActors
 pub mod CoreApplying
+pub mod CoreAsked
 pub mod CoreBatches
 pub mod CoreCounts
 pub mod CoreCrossings

@@ -1,5 +1,6 @@
 pub mod Config
 pub mod Core
+pub mod CoreAsked
 pub mod CoreKept
 pub mod CoreMoves
 pub mod CorePending
