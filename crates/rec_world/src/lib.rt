@@ -10,6 +10,8 @@
 //! the answer is the one asked. Nothing is freed before the marking, so a birth takes the lowest free slot.
 //! A `Numbering` lists the slots that registers reach, in the order of a listing: the marking goes by it, and so does the
 //! text of a script. Its list is the one list of the reached slots in that order.
+//! A heap with its collector stands beside it as plain data (`Core` and the other modules of that name under `specs/`): its
+//! moves, what it keeps, and the laws of all its runs. The code that is this heap comes in the place of `World`.
 //! The layer above may use the contracts of `World`, `Journal`, `Order` and `Numbering`, the definitions of `specs/`, and
 //! the laws of all runs, which are the contracts of the functions in `laws`.
 //! That mutators run beside each other with a log each is the idea of the paper "Java without the Coffee Breaks" (2001);
@@ -28,7 +30,10 @@ mod world;
 
 pub use config::Config;
 pub use journal::Journal;
-pub use laws::{heaps_end_runs, runs_go_on, runs_keep};
+pub use laws::{
+    answers_are_explained, core_runs_keep, heaps_end_runs, nothing_reached_is_freed,
+    runs_answer_as_asked, runs_go_on, runs_keep, true_counts_are_the_formula,
+};
 pub use numbering::Numbering;
 pub use open_error::OpenError;
 pub use order::Order;
