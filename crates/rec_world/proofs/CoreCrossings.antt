@@ -1,6 +1,6 @@
 -- The steps of a crossing keep what every heap with its collector keeps, and so does the begin of a work.
 use Rattle.std.proofs.Common.{◌≡◌, inl, inr, ℕ, ◌+◌, ◌-◌, ◌*◌, ◌^◌, ◌<◌, ◌≤◌, if◌then◌else◌, Bool, true, false, List, Option, Some, length, slice_index_or, slice_set, refl, sym, ap, subst, ◌∙◌, arith, add-zero}
-use Rattle.std.specs.List.{sum_by}
+use Rattle.std.specs.List.{sum_by, All}
 use Rattle.std.proofs.Math.Nat.{add-mul}
 use Rattle.std.proofs.lemmas.Bool.{false≢true, cases_Bool}
 use Rattle.std.proofs.lemmas.List.{set-get_or}
@@ -16,7 +16,7 @@ use Rattle.rec_model.proofs.Moving.{move_accounted}
 use Rattle.rec_log.specs.declared.contents.Contents.{Contents}
 use Rattle.rec_mutator.specs.Causes.{is_giving}
 use Rattle.rec_mutator.specs.Next.{next_of, next_at}
-use Rattle.rec_mutator.specs.Private.{Private, is_busy, IsMachine, IsValid}
+use Rattle.rec_mutator.specs.Private.{Private, is_busy, IsMachine, IsValid, is_busy_at}
 use Rattle.rec_mutator.specs.Step.{Crosses, IsFitting}
 use Rattle.rec_mutator.specs.Took.{begun_of, took_of, took_at, swapped_of, swapped_at, left_of, left_at, step_of, retired, IsFound, IsRequested, IsBetween}
 use Rattle.rec_mutator.specs.declared.made.Made.TheVariants as makes
@@ -32,7 +32,7 @@ use Rattle.rec_collector.specs.declared.phase.Phase.{Phase}
 use Rattle.rec_collector.specs.declared.phase.Phase.TheVariants.{Idle, Looking, Swapping, Returning, Releasing, Opening, Sweeping, Closing}
 use Rattle.rec_world.specs.Config.{IsMutator}
 use Rattle.rec_world.specs.Core.{Core, cells_of, sight, mutator, box, crossing_of, spare_of}
-use Rattle.rec_world.specs.CoreKept.{IsSettledIn, HasLabelAt, IsOwn, IsBufferOf, Stand, stand_at, HasCrossed, IsBehind, IsCrossing, IsHandshake, IsActor, IsScanning, entries_made, IsKept}
+use Rattle.rec_world.specs.CoreKept.{IsSettledIn, HasLabelAt, IsOwn, IsBufferOf, Stand, stand_at, HasCrossed, IsBehind, IsCrossing, IsHandshake, IsActor, IsScanning, entries_made, IsKept, HasMutators, IsMadeIn}
 use Rattle.rec_world.specs.CoreMoves.{performed, found_by, stepped, begun}
 use Rattle.rec_world.specs.CorePending.{epoch_at, applied_at, pending}
 use Rattle.rec_world.specs.Memory.{cell}
@@ -121,14 +121,14 @@ taken_kept w t kept is busy may phase =
     let v : Core = record (with_mutator w t q) { crossing = crossings; boxes = slice_set w.boxes (t - 1) b } in
     let own : IsOwn w.config t q = own_stepped actor.own (its_box w t kept is) may (step_made p word (box w t) busy actor.own.between) (subst HasLabelAt (sym q_phase) tt) in
     let retired_log : IsBufferOf w.config (w.epoch - 1) b
-    = subst (IsBufferOf w.config (w.epoch - 1)) (sym left) (record { snapshot = actor.own.registers; capacity = actor.log.capacity; few = actor.log.few; made = subst (λ (e : ℕ). Rattle.std.specs.List.All (Rattle.rec_world.specs.CoreKept.IsMadeIn e) p.log.entries) (at_p ∙ sym last) actor.log.made }) in
+    = subst (IsBufferOf w.config (w.epoch - 1)) (sym left) (record { snapshot = actor.own.registers; capacity = actor.log.capacity; few = actor.log.few; made = subst (λ (e : ℕ). All (IsMadeIn e) p.log.entries) (at_p ∙ sym last) actor.log.made }) in
     let q_actor : IsActor w.config w.epoch w.collector.phase t q (crossing_word (p.epoch + 1) 1) b
     = record {
       own = own;
       log = subst (IsBufferOf w.config (epoch_at q)) (sym q_log) (spare_buffer w.config (epoch_at q));
       unwritten = ap (λ (x : Contents). named x.snapshot) q_log ∙ none_named w.config.registers;
       mailbox = retired_log;
-      handshake = subst (Rattle.rec_world.specs.CoreKept.IsHandshake w.config w.epoch q (crossing_word (p.epoch + 1) 1) b) (sym due)
+      handshake = subst (IsHandshake w.config w.epoch q (crossing_word (p.epoch + 1) 1) b) (sym due)
           (inr (inl (record { epoch = ap (λ n. n + 1) q_epoch ∙ epoch; phase = q_phase; word = ap (λ n. crossing_word n 1) epoch; spare = q_log })));
     } in
     let amid = crossing_amid w t q b crossings (in_list w t kept is) (boxed w t kept is) p.epoch epoch unapplied at_p at_q q_registers behind.spare q_log left in
@@ -143,7 +143,7 @@ taken_kept w t kept is busy may phase =
       config = kept.config;
       headers = kept.headers;
       labels = kept.labels;
-      mutators = subst (λ (n : ℕ). Rattle.rec_world.specs.CoreKept.HasMutators w.config w.epoch w.collector.phase (slice_set w.mutators (t - 1) q) (slice_set w.crossing (n - 1) (crossing_word (p.epoch + 1) 1)) (slice_set w.boxes (t - 1) b)) (sym number)
+      mutators = subst (λ (n : ℕ). HasMutators w.config w.epoch w.collector.phase (slice_set w.mutators (t - 1) q) (slice_set w.crossing (n - 1) (crossing_word (p.epoch + 1) 1)) (slice_set w.boxes (t - 1) b)) (sym number)
           (others_stay t q (crossing_word (p.epoch + 1) 1) b kept.mutators is q_actor);
       collector = kept.collector;
       sweeps = kept.sweeps;
@@ -191,7 +191,7 @@ given_kept w t kept is busy may phase same =
       log = subst (λ (e : ℕ). IsBufferOf w.config e q.log) (at_p ∙ sym at_q) (subst (IsBufferOf w.config (epoch_at p)) (sym q_log) actor.log);
       unwritten = ap (λ (x : Contents). named x.snapshot) q_log ∙ actor.unwritten;
       mailbox = actor.mailbox;
-      handshake = subst (Rattle.rec_world.specs.CoreKept.IsHandshake w.config w.epoch q (crossing_word (p.epoch + 1) 2) (box w t)) (sym due)
+      handshake = subst (IsHandshake w.config w.epoch q (crossing_word (p.epoch + 1) 2) (box w t)) (sym due)
           (inr (inr (record { epoch = q_epoch ∙ epoch; word = ap (λ n. crossing_word n 2) epoch; settled = subst IsSettledIn (sym q_phase) tt })));
     } in
     let quiet : pending v ≡ pending w = same_pending w t q q_log q_registers (at_q ∙ sym at_p) in
@@ -201,8 +201,8 @@ given_kept w t kept is busy may phase same =
       config = kept.config;
       headers = kept.headers;
       labels = kept.labels;
-      mutators = subst (λ (n : ℕ). Rattle.rec_world.specs.CoreKept.HasMutators w.config w.epoch w.collector.phase (slice_set w.mutators (t - 1) q) (slice_set w.crossing (n - 1) (crossing_word (p.epoch + 1) 2)) w.boxes) (sym number)
-          (subst (λ (bs : List Contents). Rattle.rec_world.specs.CoreKept.HasMutators w.config w.epoch w.collector.phase (slice_set w.mutators (t - 1) q) (slice_set w.crossing (t - 1) (crossing_word (p.epoch + 1) 2)) bs) (set-get_or w.boxes (t - 1) (blank 0 0))
+      mutators = subst (λ (n : ℕ). HasMutators w.config w.epoch w.collector.phase (slice_set w.mutators (t - 1) q) (slice_set w.crossing (n - 1) (crossing_word (p.epoch + 1) 2)) w.boxes) (sym number)
+          (subst (λ (bs : List Contents). HasMutators w.config w.epoch w.collector.phase (slice_set w.mutators (t - 1) q) (slice_set w.crossing (t - 1) (crossing_word (p.epoch + 1) 2)) bs) (set-get_or w.boxes (t - 1) (blank 0 0))
           (others_stay t q (crossing_word (p.epoch + 1) 2) (box w t) kept.mutators is q_actor));
       collector = kept.collector;
       sweeps = kept.sweeps;
@@ -254,7 +254,7 @@ begun_kept w t work kept is idle valid label =
     })
     refl refl tt
   where
-    idle_here : (phase : phases.Phase) → Rattle.rec_mutator.specs.Private.is_busy_at phase ≡ false → is_giving phase ≡ false
+    idle_here : (phase : phases.Phase) → is_busy_at phase ≡ false → is_giving phase ≡ false
     idle_here at.Idle is = refl
     idle_here (at.Begun work) is = refl
     idle_here (at.Scanning reg label before slot) is = refl

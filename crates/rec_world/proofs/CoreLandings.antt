@@ -18,7 +18,7 @@ use Rattle.rec_log.specs.declared.entry.Entry.{Entry}
 use Rattle.rec_log.specs.declared.entry.Entry.TheVariants as entries
 use Rattle.rec_counts.specs.Counts.{State, slot_at}
 use Rattle.rec_counts.specs.Lists.{one, times}
-use Rattle.rec_counts.specs.Slot.{absent, unrooted}
+use Rattle.rec_counts.specs.Slot.{absent, unrooted, unrooted_if}
 use Rattle.rec_counts.specs.declared.slot.Slot.{Slot}
 use Rattle.rec_counts.proofs.Times.{times-nil, times-cons, times-append}
 use Rattle.rec_release.specs.Release.{Work, IsAtWork}
@@ -58,7 +58,7 @@ passed p x (y ∷ ys) some = elim (cases_Bool (p y)) [
 pub dropped_released : (s : State) (x : ℕ) → (slot_at (dropped s) x).released ≡ (slot_at s x).released
 dropped_released s x = ap (λ (v : Slot). v.released) (get_or-map unrooted s.slots x absent) ∙ go (slot_at s x) (slot_at s x).set
   where
-    go : (v : Slot) (set : Option ℕ) → (Rattle.rec_counts.specs.Slot.unrooted_if set v).released ≡ v.released
+    go : (v : Slot) (set : Option ℕ) → (unrooted_if set v).released ≡ v.released
     go v None = refl
     go v (Some n) = refl
 

@@ -24,9 +24,10 @@ use Rattle.rec_mutator.specs.declared.phase.Phase as phases
 use Rattle.rec_mutator.specs.declared.phase.Phase.TheVariants as at
 use Rattle.rec_mutator.specs.declared.work.Work.TheVariants as works
 use Rattle.rec_mutator.proofs.Steps.{TakesNone}
+use Rattle.rec_mutator.specs.Took.{plain}
 use Rattle.rec_world.specs.Config.{IsMutator}
 use Rattle.rec_world.specs.Core.{Core, cells_of, sight, mutator, box, crossing_of}
-use Rattle.rec_world.specs.CoreKept.{HasLabelAt, IsOwn, HasPassed, IsScanning, entries_made, IsKept}
+use Rattle.rec_world.specs.CoreKept.{HasLabelAt, IsOwn, HasPassed, IsScanning, entries_made, IsKept, IsActor}
 use Rattle.rec_world.specs.CoreMoves.{performed}
 use Rattle.rec_world.specs.CorePending.{code, epoch_at, pending}
 use Rattle.rec_world.specs.Memory.{cell}
@@ -72,7 +73,7 @@ module _ {w : Core} {t word : ℕ} {op : Op} {q : Private} (m : Makes w t word o
   abbrev p : Private
   p = mutator w t
 
-  abbrev actor : Rattle.rec_world.specs.CoreKept.IsActor w.config w.epoch w.collector.phase t p (crossing_of w t) (box w t)
+  abbrev actor : IsActor w.config w.epoch w.collector.phase t p (crossing_of w t) (box w t)
   actor = actor_of w t m.kept m.is
 
   -- the entries of an answer are more than before
@@ -129,7 +130,7 @@ module _ {w : Core} {t word : ℕ} {op : Op} {q : Private} (m : Makes w t word o
 
   -- a birth in a free slot
   births : (reg label before slot : ℕ) → word ≡ 0 → slice_index_or w.headers slot 0 ≡ 0 → slot < w.config.slots → label < 2 ^ 32
-      → Decides p op q (commands.New reg label) (at.Scanning reg label before slot) (ops.ClaimHeader slot label) (slice_set p.registers reg (Some slot)) (p.log.entries ++ entries.Born slot ∷ []) (Rattle.rec_mutator.specs.Took.plain answers_.Done)
+      → Decides p op q (commands.New reg label) (at.Scanning reg label before slot) (ops.ClaimHeader slot label) (slice_set p.registers reg (Some slot)) (p.log.entries ++ entries.Born slot ∷ []) (plain answers_.Done)
       → IsKept (record (with_mutator w t q) { headers = slice_set w.headers slot (label + 1); made = w.made + 1 })
   births reg label before slot free empty below fits d =
       let scan = (at_phase p (at.Scanning reg label before slot) actor.own.machine d.phase).0 in

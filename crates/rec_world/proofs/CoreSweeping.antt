@@ -38,6 +38,7 @@ use Rattle.rec_collector.specs.Kept as collector_kept
 use Rattle.rec_collector.specs.Took.{cleared}
 use Rattle.rec_collector.specs.declared.phase.Phase.{Phase}
 use Rattle.rec_collector.specs.declared.phase.Phase.TheVariants.{Idle, Opening, Sweeping, Closing}
+use Rattle.rec_collector.specs.Step.{IsBetween}
 use Rattle.rec_world.specs.declared.config.Config.{Config}
 use Rattle.rec_world.specs.Config.{IsMutator}
 use Rattle.rec_world.specs.Core.{Core, sight}
@@ -312,7 +313,7 @@ module _ (w : Core) (done : ℕ) (x : ℕ) (kept : IsKept w) (phase : w.collecto
     pub applied : (e : ℕ) → applied_at e next ≡ e - 1
     pub older : (e : ℕ) → older_at e next ≡ e - 2
     pub stands : (s : ℕ) → stand_at next s ≡ Stand.Done
-    pub between : Rattle.rec_collector.specs.Step.IsBetween next
+    pub between : IsBetween next
 
   released_else : (y : ℕ) → y ≢ x → slot_at (swept c.counts x) y ≡ slot_at c.counts y
   released_else y other = get_or-set_other c.counts.slots x y (swept_clean (slot_at c.counts x)) absent other

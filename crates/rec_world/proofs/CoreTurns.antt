@@ -20,8 +20,8 @@ use Rattle.rec_collector.specs.declared.phase.Phase.TheVariants.{Idle, Looking, 
 use Rattle.rec_world.specs.declared.config.Config.{Config}
 use Rattle.rec_world.specs.Config.{IsMutator}
 use Rattle.rec_world.specs.Core.{Core, mutator, box, crossing_of, spare_of}
-use Rattle.rec_world.specs.CoreKept.{IsOwn, IsBufferOf, Stand, stand_at, HasCrossed, IsBehind, IsCrossing, IsHandshake, IsActor, HasMutators, HasCollector, HasSweeps, IsKept}
-use Rattle.rec_world.specs.CorePending.{Filed, filed, writes_in, births_in, dated_names, older_at, epoch_at, buffers, writes_of, births_of, snapshots_of, pending}
+use Rattle.rec_world.specs.CoreKept.{IsOwn, IsBufferOf, Stand, stand_at, HasCrossed, IsBehind, IsCrossing, IsHandshake, IsActor, HasMutators, HasCollector, HasSweeps, IsKept, one_if_sweeping}
+use Rattle.rec_world.specs.CorePending.{Filed, filed, writes_in, births_in, dated_names, older_at, epoch_at, buffers, writes_of, births_of, snapshots_of, pending, applied_at}
 use Rattle.rec_world.specs.State.{nobody}
 use Rattle.rec_world.proofs.CoreActors.{spare_buffer, settled_here}
 use Rattle.rec_world.proofs.CoreBatches.{none_of}
@@ -106,7 +106,7 @@ module _ (w : Core) (c : collectors.Private) (kept : IsKept w) (idle : w.collect
   request_move =
       let some : 1 ≤ w.config.first_epoch = kept.config.some_epoch in
       let begun : w.config.first_epoch + w.collector.collections + collector_kept.under_way w.collector.phase ≡ w.epoch = kept.collector.begun in
-      let now : Rattle.rec_world.specs.CorePending.applied_at w.epoch w.collector.phase ≡ w.epoch - 1 = ap (Rattle.rec_world.specs.CorePending.applied_at w.epoch) idle in
+      let now : applied_at w.epoch w.collector.phase ≡ w.epoch - 1 = ap (applied_at w.epoch) idle in
       Move.request (record {
         done = omega (arith, now);
         fields = refl;
@@ -130,7 +130,7 @@ module _ (w : Core) (c : collectors.Private) (kept : IsKept w) (idle : w.collect
       let way : collector_kept.under_way w.collector.phase ≡ 0 = ap collector_kept.under_way idle in
       let last : older_at w.epoch w.collector.phase ≡ w.epoch - 1 = ap (older_at w.epoch) idle in
       let same : w.epoch + 1 - 2 ≡ w.epoch - 1 = omega arith in
-      let none : Rattle.rec_world.specs.CoreKept.one_if_sweeping w.collector.phase ≡ 0 = ap Rattle.rec_world.specs.CoreKept.one_if_sweeping idle in
+      let none : one_if_sweeping w.collector.phase ≡ 0 = ap one_if_sweeping idle in
       record {
         config = kept.config;
         headers = kept.headers;
@@ -319,8 +319,8 @@ module _ (w : Core) (t : ℕ) (kept : IsKept w) (phase : w.collector.phase ≡ L
       let a = kept.mutators.each t is in
       let way : collector_kept.under_way w.collector.phase ≡ 1 = ap collector_kept.under_way phase in
       let older : older_at w.epoch w.collector.phase ≡ w.epoch - 2 = ap (older_at w.epoch) phase in
-      let none : Rattle.rec_world.specs.CoreKept.one_if_sweeping w.collector.phase ≡ 0 = ap Rattle.rec_world.specs.CoreKept.one_if_sweeping phase in
-      let applied : Rattle.rec_world.specs.CorePending.applied_at w.epoch w.collector.phase ≡ w.epoch - 2 = ap (Rattle.rec_world.specs.CorePending.applied_at w.epoch) phase in
+      let none : one_if_sweeping w.collector.phase ≡ 0 = ap one_if_sweeping phase in
+      let applied : applied_at w.epoch w.collector.phase ≡ w.epoch - 2 = ap (applied_at w.epoch) phase in
       let move : Move (pending w) (record (pending gathered) { applied = (pending w).applied }) = same_move (pending w) (pending gathered)
       (λ weight. gather_sums weight (λ (b : Filed). writes_in b.buffer.entries) (writes_nothing w.config weight))
       (λ weight. gather_sums weight (λ (b : Filed). births_in b.epoch b.buffer.entries) (births_nothing w.config weight))
@@ -406,7 +406,7 @@ module _ (w : Core) (t : ℕ) (kept : IsKept w) (phase : w.collector.phase ≡ R
       let k = kept.collector in
       let way : collector_kept.under_way w.collector.phase ≡ 1 = ap collector_kept.under_way phase in
       let older : older_at w.epoch w.collector.phase ≡ w.epoch - 2 = ap (older_at w.epoch) phase in
-      let none : Rattle.rec_world.specs.CoreKept.one_if_sweeping w.collector.phase ≡ 0 = ap Rattle.rec_world.specs.CoreKept.one_if_sweeping phase in
+      let none : one_if_sweeping w.collector.phase ≡ 0 = ap one_if_sweeping phase in
       let same : pending returned ≡ pending w = rw phase refl in
       record {
         config = kept.config;
