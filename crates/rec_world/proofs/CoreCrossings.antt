@@ -32,7 +32,7 @@ use Rattle.rec_collector.specs.declared.phase.Phase.{Phase}
 use Rattle.rec_collector.specs.declared.phase.Phase.TheVariants.{Idle, Looking, Swapping, Returning, Releasing, Opening, Sweeping, Closing}
 use Rattle.rec_world.specs.Config.{IsMutator}
 use Rattle.rec_world.specs.Core.{Core, cells_of, sight, mutator, box, crossing_of, spare_of}
-use Rattle.rec_world.specs.CoreKept.{IsSettledIn, HasLabelAt, IsOwn, IsBufferOf, Stand, stand_at, HasCrossed, IsBehind, IsCrossing, IsHandshake, IsActor, IsScanning, entries_made, IsKept, HasMutators, IsMadeIn}
+use Rattle.rec_world.specs.CoreKept.{IsSettledIn, HasLabelAt, IsOwn, IsBufferOf, Stand, stand_at, IsBehind, IsCrossing, IsHandshake, IsActor, IsScanning, entries_made, IsKept, HasMutators, IsMadeIn}
 use Rattle.rec_world.specs.CoreMoves.{performed, found_by, stepped, begun}
 use Rattle.rec_world.specs.CorePending.{epoch_at, applied_at, pending}
 use Rattle.rec_world.specs.Memory.{cell}

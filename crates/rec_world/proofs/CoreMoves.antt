@@ -11,7 +11,7 @@ use Rattle.rec_word.specs.Word.{target_of}
 use Rattle.rec_model.specs.Moves.{KeepsEpochs, KeepsSlots, Crosses, Drops, Loads, Move, with_answer}
 use Rattle.rec_model.specs.Pending.{node_of, epoch_of, home, Write, Dated, dated, Pending, is_at, Holds}
 use Rattle.rec_model.specs.Reach.{named}
-use Rattle.rec_model.specs.Sums.{sum_at, one_if_same}
+use Rattle.rec_model.specs.Sums.{one_if_same}
 use Rattle.rec_model.proofs.Sums.{sum_at-set, sum_by-map, sum_by-flat_map}
 use Rattle.rec_model.proofs.Weights.{only_if_self, one_if_self}
 use Rattle.rec_log.specs.declared.contents.Contents.{Contents}

@@ -27,7 +27,7 @@ use Rattle.rec_mutator.proofs.Steps.{TakesNone}
 use Rattle.rec_mutator.specs.Took.{plain}
 use Rattle.rec_world.specs.Config.{IsMutator}
 use Rattle.rec_world.specs.Core.{Core, cells_of, sight, mutator, box, crossing_of}
-use Rattle.rec_world.specs.CoreKept.{HasLabelAt, IsOwn, HasPassed, IsScanning, entries_made, IsKept, IsActor}
+use Rattle.rec_world.specs.CoreKept.{HasLabelAt, HasPassed, IsScanning, entries_made, IsKept, IsActor}
 use Rattle.rec_world.specs.CoreMoves.{performed}
 use Rattle.rec_world.specs.CorePending.{code, epoch_at, pending}
 use Rattle.rec_world.specs.Memory.{cell}

@@ -20,8 +20,8 @@ use Rattle.rec_collector.specs.declared.phase.Phase.TheVariants.{Idle, Looking, 
 use Rattle.rec_world.specs.declared.config.Config.{Config}
 use Rattle.rec_world.specs.Config.{IsMutator}
 use Rattle.rec_world.specs.Core.{Core, mutator, box, crossing_of, spare_of}
-use Rattle.rec_world.specs.CoreKept.{IsOwn, IsBufferOf, Stand, stand_at, HasCrossed, IsBehind, IsCrossing, IsHandshake, IsActor, HasMutators, HasCollector, HasSweeps, IsKept, one_if_sweeping}
-use Rattle.rec_world.specs.CorePending.{Filed, filed, writes_in, births_in, dated_names, older_at, epoch_at, buffers, writes_of, births_of, snapshots_of, pending, applied_at}
+use Rattle.rec_world.specs.CoreKept.{IsBufferOf, Stand, stand_at, HasCrossed, IsHandshake, IsActor, HasMutators, HasCollector, IsKept, one_if_sweeping}
+use Rattle.rec_world.specs.CorePending.{Filed, writes_in, births_in, dated_names, older_at, buffers, pending, applied_at}
 use Rattle.rec_world.specs.State.{nobody}
 use Rattle.rec_world.proofs.CoreActors.{spare_buffer, settled_here}
 use Rattle.rec_world.proofs.CoreBatches.{none_of}
