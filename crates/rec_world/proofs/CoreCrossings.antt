@@ -90,6 +90,15 @@ due_gathers requested t (Closing n) is = cc
 boxed : (w : Core) (t : ℕ) → IsKept w → IsMutator w.config t → t - 1 < length w.boxes
 boxed w t kept is = let many : length w.boxes ≡ w.config.mutators = kept.mutators.mailboxes in omega (arith, is.0, is.1)
 
+-- a mutator that is about to take its mailbox is behind, and its turn in the gathering is to come
+pub behind_of : (w : Core) (t : ℕ) → IsKept w → IsMutator w.config t → (mutator w t).phase ≡ at.Crossing → (stand_at w.collector.phase t ≡ Stand.Due) × IsBehind w.config w.epoch (mutator w t) (crossing_of w t) (box w t)
+behind_of w t kept is phase =
+    let p : Private = mutator w t in
+    let unsettled : IsSettledIn p.phase → ⊥ = λ s. subst IsSettledIn phase s in
+    let (due, where_) = unsettled_due w.config w.epoch p (crossing_of w t) (box w t) (stand_at w.collector.phase t) unsettled (actor_of w t kept is).handshake in
+    let here : is_giving p.phase ≡ false = ap is_giving phase in
+    (due, elim where_ [ inl behind ↦ behind | inr crosses ↦ absurd (false≢true (sym here ∙ ap is_giving crosses.phase)) ])
+
 -- a mutator takes its mailbox
 pub taken_kept : (w : Core) (t : ℕ) → IsKept w → IsMutator w.config t → is_busy (mutator w t) ≡ true → IsFound (mutator w t) (next_of (mutator w t)) (found_by w t) → (mutator w t).phase ≡ at.Crossing → IsKept (stepped w t)
 taken_kept w t kept is busy may phase =
@@ -100,10 +109,8 @@ taken_kept w t kept is busy may phase =
     let c = takes p word (box w t) phase in
     let actor = actor_of w t kept is in
     let left : b ≡ retired p = leaves p word (box w t) phase in
-    let unsettled : IsSettledIn p.phase → ⊥ = λ s. subst IsSettledIn phase s in
-    let (due, where_) = unsettled_due w.config w.epoch p (crossing_of w t) (box w t) (stand_at w.collector.phase t) unsettled actor.handshake in
     let here : is_giving p.phase ≡ false = ap is_giving phase in
-    let behind : IsBehind w.config w.epoch p (crossing_of w t) (box w t) = elim where_ [ inl behind ↦ behind | inr crosses ↦ absurd (false≢true (sym here ∙ ap is_giving crosses.phase)) ] in
+    let (due, behind) = behind_of w t kept is phase in
     let (gathers, way) = due_gathers w.epoch t w.collector.phase due in
     let epoch : p.epoch + 1 ≡ w.epoch = behind.epoch in
     let q_phase : q.phase ≡ at.Giving = ap (λ (x : Private). x.phase) c.after in

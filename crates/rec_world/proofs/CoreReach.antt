@@ -50,6 +50,7 @@ use Rattle.rec_world.proofs.CoreReleasing.{held_released}
 use Rattle.rec_world.proofs.CoreSteps.{slot_there}
 use Rattle.rec_world.proofs.CoreSweeping.{root_named, due_released}
 use Rattle.rec_world.proofs.CoreTurning.{some_op}
+use Rattle.rec_world.proofs.CoreWords.{IsOwnOp, own_next}
 
 -- what is named is named in some epoch
 some_epoch : (n : ℕ) (ds : List Dated) → 0 < sum_by (is_node n) ds → (epoch : ℕ) × (0 < sum_by (is_at epoch n) ds)
@@ -186,84 +187,34 @@ keeps_stands heap w v keeps (number, by) =
       },
     )
 
--- an operation that frees no header
-abbrev FreesNothing : Op → Type 0
-FreesNothing (ops.FreeHeader slot) = ⊥
-FreesNothing _ = Unit {0}
-
--- a mutator frees no header
-frees_nothing : (p : Private) → FreesNothing (mutator_next p)
-unfolding mutator_next mutator_next_at
-frees_nothing p = by p.phase
-  where
-    read : (f : ℕ) (x : Option ℕ) → FreesNothing (read_op p f x)
-    read f None = tt
-    read f (Some slot) = tt
-
-    wrote : (f val : ℕ) (x : Option ℕ) (full : Bool) → FreesNothing (write_op p f val x full)
-    wrote f val None full = tt
-    wrote f val (Some slot) true = tt
-    wrote f val (Some slot) false = tt
-
-    labelled : (x : Option ℕ) → FreesNothing (label_op p x)
-    labelled None = tt
-    labelled (Some slot) = tt
-
-    born : (full : Bool) → FreesNothing (if full then own_word p else ops.LoadFreed)
-    born true = tt
-    born false = tt
-
-    first : (cmd : Cmd) → FreesNothing (first_op p cmd)
-    first (commands.New reg label) = born (is_full p)
-    first (commands.Null reg) = tt
-    first (commands.Copy dst src) = tt
-    first (commands.Get dst src f) = read f (register p src)
-    first (commands.Put src f val) = wrote f val (register p src) (is_full p)
-    first (commands.Value reg) = labelled (register p reg)
-    first (commands.Same a b) = tt
-
-    worked : (work : MutatorWork) → FreesNothing (begun_op p work)
-    worked (works.Command cmd) = first cmd
-    worked works.Poll = tt
-
-    by : (phase : phases.Phase) → FreesNothing (mutator_next_at p phase)
-    by at.Idle = tt
-    by (at.Begun work) = worked work
-    by (at.Scanning reg label before slot) = tt
-    by (at.Scanned reg label before) = tt
-    by at.Crossing = tt
-    by at.Swapping = tt
-    by at.Giving = tt
-    by (at.Finished work made) = tt
-
--- where no header is freed, a taken slot keeps its own: a claim of it fails
-taken_keeps : (w : Core) (op : Op) (slot : ℕ) → FreesNothing op → IsTaken (sight w) slot → slice_index_or (with_cell (cells_of w) op (written op (cell (cells_of w) op))).headers slot 0 ≡ slice_index_or w.headers slot 0
-taken_keeps w (ops.ClaimHeader s label) slot f taken = elim (cases_eq slot s) [
+-- after an operation of a mutator a taken slot has the header that it had: a claim of it fails
+taken_keeps : (w : Core) (p : Private) (op : Op) (slot : ℕ) → IsOwnOp p op → IsTaken (sight w) slot → slice_index_or (with_cell (cells_of w) op (written op (cell (cells_of w) op))).headers slot 0 ≡ slice_index_or w.headers slot 0
+taken_keeps w p (ops.ClaimHeader s label) slot f taken = elim (cases_eq slot s) [
   | inl same ↦
       let found : slice_index_or w.headers s 0 ≢ 0 = λ none. omega (arith, taken, ap (λ i. slice_index_or w.headers i 0) same, none) in
       let stays : written (ops.ClaimHeader s label) (slice_index_or w.headers s 0) ≡ slice_index_or w.headers s 0 = cond-false (slice_index_or w.headers s 0 == 0) (label + 1) (slice_index_or w.headers s 0) (ne_eqb (slice_index_or w.headers s 0) 0 found) in
       ap (λ xs. slice_index_or xs slot 0) (ap (slice_set w.headers s) stays ∙ set-get_or w.headers s 0)
   | inr other ↦ get_or-set_other w.headers s slot (written (ops.ClaimHeader s label) (slice_index_or w.headers s 0)) 0 other
 ]
-taken_keeps w (ops.LoadHeader s) slot f taken = ap (λ xs. slice_index_or xs slot 0) (set-get_or w.headers s 0)
-taken_keeps w (ops.FreeHeader s) slot f taken = absurd f
-taken_keeps w (ops.LoadField place) slot f taken = refl
-taken_keeps w (ops.SwapField place word) slot f taken = refl
-taken_keeps w ops.LoadEpoch slot f taken = refl
-taken_keeps w (ops.LoadCross t) slot f taken = refl
-taken_keeps w ops.LoadFreed slot f taken = refl
-taken_keeps w (ops.LoadChild place) slot f taken = refl
-taken_keeps w (ops.ClearField place) slot f taken = refl
-taken_keeps w (ops.TakeBox t e) slot f taken = refl
-taken_keeps w (ops.GiveBox t e) slot f taken = refl
-taken_keeps w (ops.StoreEpoch e) slot f taken = refl
-taken_keeps w (ops.LookBox t e) slot f taken = refl
-taken_keeps w (ops.ReturnBox t e) slot f taken = refl
-taken_keeps w ops.AddFreed slot f taken = refl
+taken_keeps w p (ops.LoadHeader s) slot f taken = ap (λ xs. slice_index_or xs slot 0) (set-get_or w.headers s 0)
+taken_keeps w p (ops.FreeHeader s) slot f taken = absurd f
+taken_keeps w p (ops.LoadField place) slot f taken = refl
+taken_keeps w p (ops.SwapField place word) slot f taken = refl
+taken_keeps w p ops.LoadEpoch slot f taken = refl
+taken_keeps w p (ops.LoadCross t) slot f taken = refl
+taken_keeps w p ops.LoadFreed slot f taken = refl
+taken_keeps w p (ops.LoadChild place) slot f taken = refl
+taken_keeps w p (ops.ClearField place) slot f taken = refl
+taken_keeps w p (ops.TakeBox t e) slot f taken = refl
+taken_keeps w p (ops.GiveBox t e) slot f taken = refl
+taken_keeps w p (ops.StoreEpoch e) slot f taken = refl
+taken_keeps w p (ops.LookBox t e) slot f taken = refl
+taken_keeps w p (ops.ReturnBox t e) slot f taken = refl
+taken_keeps w p ops.AddFreed slot f taken = refl
 
 -- No step of a mutator claims or frees a slot that is taken.
 pub steps_keep_taken : (w : Core) (t slot : ℕ) → IsTaken (sight w) slot → slice_index_or (stepped w t).headers slot 0 ≡ slice_index_or w.headers slot 0
-steps_keep_taken w t slot taken = taken_keeps w (mutator_next (mutator w t)) slot (frees_nothing (mutator w t)) taken
+steps_keep_taken w t slot taken = taken_keeps w (mutator w t) (mutator_next (mutator w t)) slot (own_next (mutator w t)) taken
 
 -- The true count of a slot is the count formula of its node, at the epoch of the last batch.
 pub counted_so : (w : Core) (slot : ℕ) → IsKept w → slot < w.config.slots → (slot_at w.collector.counts slot).count ≡ count_formula (pending w) (pending w).applied (slot + 1)

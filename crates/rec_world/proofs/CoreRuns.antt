@@ -42,7 +42,7 @@ looked_is w (Sweeping n) kept is = (omega arith, kept.config.some_mutators)
 looked_is w (Closing n) kept is = (omega arith, kept.config.some_mutators)
 
 -- and it is of this heap's size
-sized_is : (w : Core) → IsKept w → IsSized w.collector.registers w.collector.capacity (box w (looked_at w.collector.phase))
+pub sized_is : (w : Core) → IsKept w → IsSized w.collector.registers w.collector.capacity (box w (looked_at w.collector.phase))
 sized_is w kept =
     let actor = kept.mutators.each (looked_at w.collector.phase) (looked_is w w.collector.phase kept refl) in
     (actor.mailbox.snapshot ∙ sym kept.collector.registers, actor.mailbox.capacity ∙ sym kept.collector.capacity)
@@ -71,7 +71,7 @@ given_at w op Opening kept is named = tt
 given_at w op (Sweeping n) kept is named = tt
 given_at w op (Closing n) kept is named = tt
 
-given_is : (w : Core) (op : Op) → IsKept w → ◌≡◌ {A = Option Op} (next_of w.collector) (Some op) → IsGiven w.collector (cell (cells_of w) op)
+pub given_is : (w : Core) (op : Op) → IsKept w → ◌≡◌ {A = Option Op} (next_of w.collector) (Some op) → IsGiven w.collector (cell (cells_of w) op)
 unfolding IsGiven next_of
 given_is w op kept named = given_at w op w.collector.phase kept refl named
 

@@ -21,6 +21,7 @@ pub mod CoreSums
 pub mod CoreSweeping
 pub mod CoreTurning
 pub mod CoreTurns
+pub mod CoreWords
 pub mod Deciding
 pub mod Filled
 pub mod Finding

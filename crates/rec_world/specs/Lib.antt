@@ -2,6 +2,7 @@ pub mod Config
 pub mod Core
 pub mod CoreAsked
 pub mod CoreKept
+pub mod CoreMet
 pub mod CoreMoves
 pub mod CorePending
 pub mod CoreReach

@@ -1,16 +1,18 @@
 //! What holds of every run, each law as the contract of a function that does nothing.
 
-ghost use Rattle.std.specs.Prelude.{◌≡◌, ℕ, ◌+◌, ◌<◌, List, false, true, slice_index_or};
+ghost use Rattle.std.specs.Prelude.{◌≡◌, ℕ, ◌+◌, ◌<◌, List, IfSome, false, true, slice_index_or};
 ghost use Rattle.rec_model.specs.Heap.{Heap, opening};
 ghost use Rattle.rec_model.specs.References.{count_formula};
 ghost use Rattle.rec_model.specs.Sight.{IsTaken, Reaches, StandsFor};
 ghost use Rattle.rec_counts.specs.Counts.{slot_at};
 ghost use Rattle.rec_world.specs.declared.config.Config.{Config as Numbers};
 ghost use Rattle.rec_mutator.specs.Private.{is_busy, answer_of};
+ghost use Rattle.rec_collector.specs.Next.{next_of as collector_next};
 ghost use Rattle.rec_world.specs.Config.{IsConfig, IsMutator};
 ghost use Rattle.rec_world.specs.Run.{Move, Fits, after_move, IsRun, EndsRun};
 ghost use Rattle.rec_world.specs.Core.{Core, sight as core_sight, mutator as core_mutator, opened as core_opened};
 ghost use Rattle.rec_world.specs.CoreAsked.{AreAsked, told_in_all};
+ghost use Rattle.rec_world.specs.CoreMet.{MayStep, MayTurn};
 ghost use Rattle.rec_world.specs.CoreMoves.{Move as CoreMove, IsRun as IsCoreRun, EndsRun as EndsCoreRun, stepped as core_stepped, turned as core_turned};
 ghost use Rattle.rec_world.specs.CoreKept.{IsKept as IsCoreKept};
 ghost use Rattle.rec_world.specs.CorePending.{pending};
@@ -66,4 +68,12 @@ pub fn answers_are_explained()
 /// answered as a heap that never frees is asked, from the opening on; and at the end this heap stands for what is seen.
 pub fn runs_answer_as_asked()
     ensures { (config : Numbers) (moves : List CoreMove) (end : Core) → IsConfig config → IsCoreRun config moves end → AreAsked config.fields (opening config.fields config.registers config.mutators) (told_in_all (core_opened config) moves) (core_sight end) }
+{}
+
+/// Whatever the machines ask of the heap in which they make a step holds in every state of every run of a heap with its
+/// collector: the word that a step names is there, and is one that the machine may find, and a mailbox that is taken holds what
+/// it has to. So the code that runs them tests none of it.
+pub fn conditions_are_met()
+    ensures steps { (w : Core) (t : ℕ) → IsConfig w.config → EndsCoreRun w → IsMutator w.config t → is_busy (core_mutator w t) ≡ true → MayStep w t }
+    ensures turns { (w : Core) → IsConfig w.config → EndsCoreRun w → IfSome (collector_next w.collector) (MayTurn w) }
 {}

@@ -31,8 +31,9 @@ mod world;
 pub use config::Config;
 pub use journal::Journal;
 pub use laws::{
-    answers_are_explained, core_runs_keep, heaps_end_runs, nothing_reached_is_freed,
-    runs_answer_as_asked, runs_go_on, runs_keep, true_counts_are_the_formula,
+    answers_are_explained, conditions_are_met, core_runs_keep, heaps_end_runs,
+    nothing_reached_is_freed, runs_answer_as_asked, runs_go_on, runs_keep,
+    true_counts_are_the_formula,
 };
 pub use numbering::Numbering;
 pub use open_error::OpenError;
