@@ -1,4 +1,4 @@
--- What a command does to registers, headers and words is what asking gives, whatever heap stood before.
+-- What a command does to registers, headers and words is what asking gives, whatever heap stood before, and objects keep their numbers.
 use Rattle.std.proofs.Common.{◌≡◌, inl, inr, ℕ, ◌+◌, ◌-◌, ◌<◌, ◌==◌, [], Option, None, Some, true, false, slice_index_or, length, map, replicate, refl, sym, ap, subst, ◌∙◌, arith}
 use Rattle.std.specs.Option.{option_map, is_some}
 use Rattle.std.proofs.Math.ListN.{get_or-map}
@@ -15,18 +15,31 @@ use Rattle.rec_model.specs.Reach.IsReached.{root, child}
 use Rattle.rec_model.specs.Heap.{Heap, Field, Object, object, field, born, register, with_register, with_field, with_object}
 use Rattle.rec_model.specs.Asking.{Asked, asked, asks, answered, refused, AnswersAs, LeavesWord, IsTold, null_or_object, got, put, value, same, yes_or_no, is_done, refuses_new}
 use Rattle.rec_model.specs.Sight.{Sight, words_of, targets_of, word_at, Reaches, field_of, StandsBy, StandsFor, IsSound, sight_with_register, sight_with_word, sight_with_header}
-use Rattle.rec_model.specs.Explained.{IsExplained}
+use Rattle.rec_model.specs.Explained.{IsExplained, GoesOnBy}
 use Rattle.rec_model.proofs.Names.{register_root, named_at}
 use Rattle.rec_model.proofs.Words.{named-nulls, null_fields}
-use Rattle.rec_model.proofs.Standing.{MayName, taken_is_other, reached_is_taken, register_stands, register_names, field_agrees, word_in, with_birth, with_birth-same, object_born, birth_stands, write_stands}
+use Rattle.rec_model.proofs.Standing.{MayName, taken_is_other, reached_is_taken, register_stands, register_names, field_agrees, word_in, with_birth, with_birth-same, object_born, birth_stands, birth_numbers, write_stands}
 
 -- an answer that leaves and saw no word
 abbrev pub plain : Answer → Told
 plain answer = record { answer = answer; saw = 0; left = 0 }
 
-pub null_explained : (w : Sight) (t reg : ℕ) → IsExplained w t (commands.Null reg) (plain answers.Done) (sight_with_register w t reg None)
-null_explained w t reg heap (number, by) =
-    (record { answer = refl; saw = refl; left = refl }, (number, register_stands heap w number t reg None (λ n is. cc) by))
+-- so whatever heap stood, by whatever numbers, what it then is stands
+pub explained_stands : (before : Sight) (t : ℕ) (cmd : Cmd) (told : Told) (after : Sight) → IsExplained before t cmd told after → (heap : Heap) → StandsFor heap before
+    → IsTold before.fields heap t cmd told × StandsFor (asked before.fields heap t cmd told).heap after
+explained_stands before t cmd told after explained heap (number, by) =
+    let (is_told, (later, goes_on)) = explained heap number by in
+    (is_told, (later, goes_on.stands))
+
+-- where headers stay, the numbers stay
+numbers_stay : (heap : Heap) (before after : Sight) (number : ℕ → ℕ) (next : ℕ) → after.headers ≡ before.headers → StandsBy heap after number → GoesOnBy heap before after number number next
+numbers_stay heap before after number next same by =
+    let header : (s : ℕ) → slice_index_or after.headers s 0 ≡ slice_index_or before.headers s 0 = λ s. ap (λ hs. slice_index_or hs s 0) same in
+    record {
+      stands = by;
+      kept = λ s taken. (subst (λ n. 0 < n) (sym (header s)) taken, refl);
+      born = λ s taken free. absurd (free (subst (λ n. 0 < n) (header s) taken));
+    }
 
 -- a register that is null, on both sides
 null_register : (heap : Heap) (w : Sight) (number : ℕ → ℕ) (t r : ℕ) → StandsBy heap w number → register w.registers t r ≡ None → register heap.registers t r ≡ None
@@ -36,33 +49,39 @@ null_register heap w number t r by is = register_names heap w number t r by ∙ 
 some_register : (heap : Heap) (w : Sight) (number : ℕ → ℕ) (t r slot : ℕ) → StandsBy heap w number → register w.registers t r ≡ Some slot → register heap.registers t r ≡ Some (number slot)
 some_register heap w number t r slot by is = register_names heap w number t r by ∙ ap (option_map number) is
 
--- what was told is what asking gives, where asking gives this
-told_by : (fields : ℕ) (heap : Heap) (t : ℕ) (cmd : Cmd) (told : Told) (next : Asked) (after : Sight) → asked fields heap t cmd told ≡ next
-    → AnswersAs cmd next.answer told.answer → told.saw ≡ next.saw → LeavesWord heap t cmd told → StandsFor next.heap after
-    → IsTold fields heap t cmd told × StandsFor (asked fields heap t cmd told).heap after
-told_by fields heap t cmd told next after is answer saw left stands = (
+-- what was told is what asking gives, where asking gives this and headers stay
+told_by : (w : Sight) (heap : Heap) (number : ℕ → ℕ) (t : ℕ) (cmd : Cmd) (told : Told) (next : Asked) (after : Sight) → asked w.fields heap t cmd told ≡ next
+    → AnswersAs cmd next.answer told.answer → told.saw ≡ next.saw → LeavesWord heap t cmd told → after.headers ≡ w.headers → StandsBy next.heap after number
+    → IsTold w.fields heap t cmd told × ((later : ℕ → ℕ) × GoesOnBy (asked w.fields heap t cmd told).heap w after number later (length heap.objects))
+told_by w heap number t cmd told next after is answer saw left same by = (
   record {
     answer = subst (λ (x : Asked). AnswersAs cmd x.answer told.answer) (sym is) answer;
     saw = saw ∙ ap (λ (x : Asked). x.saw) (sym is);
     left = left;
   },
-  subst (λ (x : Asked). StandsFor x.heap after) (sym is) stands,
+  (number, numbers_stay (asked w.fields heap t cmd told).heap w after number (length heap.objects) same (subst (λ (x : Asked). StandsBy x.heap after number) (sym is) by)),
 )
+
+-- a register that becomes null
+pub null_explained : (w : Sight) (t reg : ℕ) → IsExplained w t (commands.Null reg) (plain answers.Done) (sight_with_register w t reg None)
+null_explained w t reg heap number by =
+    told_by w heap number t (commands.Null reg) (plain answers.Done) (answered (with_register heap t reg None) answers.Done 0) (sight_with_register w t reg None) refl refl refl refl refl
+    (register_stands heap w number t reg None (λ n is. cc) by)
 
 -- a register that becomes what another is
 pub copy_explained : (w : Sight) (t dst src : ℕ) → IsExplained w t (commands.Copy dst src) (plain answers.Done) (sight_with_register w t dst (register w.registers t src))
-copy_explained w t dst src heap (number, by) =
+copy_explained w t dst src heap number by =
     let named : Option ℕ = register w.registers t src in
     let become : Option ℕ → Asked = λ x. answered (with_register heap t dst x) answers.Done 0 in
-    told_by w.fields heap t (commands.Copy dst src) (plain answers.Done) (become (option_map number named)) (sight_with_register w t dst named)
-    (ap become (register_names heap w number t src by)) refl refl refl
-    (number, register_stands heap w number t dst named (λ n there. inl (root n (register_root w.registers t src n there))) by)
+    told_by w heap number t (commands.Copy dst src) (plain answers.Done) (become (option_map number named)) (sight_with_register w t dst named)
+    (ap become (register_names heap w number t src by)) refl refl refl refl
+    (register_stands heap w number t dst named (λ n there. inl (root n (register_root w.registers t src n there))) by)
 
 -- a read through a null register
 pub get_of_null : (w : Sight) (t dst src f : ℕ) → register w.registers t src ≡ None → IsExplained w t (commands.Get dst src f) (plain answers.NoObject) w
-get_of_null w t dst src f is heap (number, by) =
-    told_by w.fields heap t (commands.Get dst src f) (plain answers.NoObject) (answered heap answers.NoObject 0) w
-    (ap (got heap t dst f) (null_register heap w number t src by is)) refl refl refl (number, by)
+get_of_null w t dst src f is heap number by =
+    told_by w heap number t (commands.Get dst src f) (plain answers.NoObject) (answered heap answers.NoObject 0) w
+    (ap (got heap t dst f) (null_register heap w number t src by is)) refl refl refl refl by
 
 -- a numbering keeps what is null null
 null_or_object-map : (number : ℕ → ℕ) (x : Option ℕ) → null_or_object x ≡ null_or_object (option_map number x)
@@ -81,40 +100,41 @@ target_reached w slot f n in_range from is =
 -- a read of a field
 pub get_explained : (w : Sight) (t dst src f slot : ℕ) → f < w.fields → register w.registers t src ≡ Some slot
     → IsExplained w t (commands.Get dst src f) (record { answer = null_or_object (target_of (word_at w slot f)); saw = word_at w slot f; left = 0 }) (sight_with_register w t dst (target_of (word_at w slot f)))
-get_explained w t dst src f slot in_range is heap (number, by) =
+get_explained w t dst src f slot in_range is heap number by =
     let word : ℕ = word_at w slot f in
     let from : Reaches w slot = root slot (register_root w.registers t src slot is) in
     let read : Field → Asked = λ x. answered (with_register heap t dst x.target) (null_or_object x.target) x.word in
-    told_by w.fields heap t (commands.Get dst src f) (record { answer = null_or_object (target_of word); saw = word; left = 0 }) (read (field_of number word)) (sight_with_register w t dst (target_of word))
+    told_by w heap number t (commands.Get dst src f) (record { answer = null_or_object (target_of word); saw = word; left = 0 }) (read (field_of number word)) (sight_with_register w t dst (target_of word))
     (ap (got heap t dst f) (some_register heap w number t src slot by is) ∙ ap read (field_agrees heap w number slot f by from in_range))
-    (null_or_object-map number (target_of word)) refl refl
-    (number, register_stands heap w number t dst (target_of word) (λ n there. inl (target_reached w slot f n in_range from there)) by)
+    (null_or_object-map number (target_of word)) refl refl refl
+    (register_stands heap w number t dst (target_of word) (λ n there. inl (target_reached w slot f n in_range from there)) by)
 
 -- a write through a null register
 pub put_of_null : (w : Sight) (t src f val : ℕ) → register w.registers t src ≡ None → IsExplained w t (commands.Put src f val) (plain answers.NoObject) w
-put_of_null w t src f val is heap (number, by) =
-    told_by w.fields heap t (commands.Put src f val) (plain answers.NoObject) (answered heap answers.NoObject 0) w
-    (ap (put heap f (register heap.registers t val) false 0) (null_register heap w number t src by is)) refl refl refl (number, by)
+put_of_null w t src f val is heap number by =
+    told_by w heap number t (commands.Put src f val) (plain answers.NoObject) (answered heap answers.NoObject 0) w
+    (ap (put heap f (register heap.registers t val) false 0) (null_register heap w number t src by is)) refl refl refl refl by
 
 -- a write that finds no room in the log
 pub put_refused : (w : Sight) (t src f val slot : ℕ) → register w.registers t src ≡ Some slot → IsExplained w t (commands.Put src f val) (plain answers.LogFull) w
-put_refused w t src f val slot is heap (number, by) =
-    told_by w.fields heap t (commands.Put src f val) (plain answers.LogFull) (refused heap) w
-    (ap (put heap f (register heap.registers t val) false 0) (some_register heap w number t src slot by is)) refl refl refl (number, by)
+put_refused w t src f val slot is heap number by =
+    told_by w heap number t (commands.Put src f val) (plain answers.LogFull) (refused heap) w
+    (ap (put heap f (register heap.registers t val) false 0) (some_register heap w number t src slot by is)) refl refl refl refl by
 
 -- a write of a field
 pub put_explained : (w : Sight) (t src f val slot word : ℕ) → IsSound w → f < w.fields → register w.registers t src ≡ Some slot → target_of word ≡ register w.registers t val
     → IsExplained w t (commands.Put src f val) (record { answer = answers.Done; saw = word_at w slot f; left = word }) (sight_with_word w slot f word)
-put_explained w t src f val slot word sound in_range is names heap (number, by) =
+put_explained w t src f val slot word sound in_range is names heap number by =
     let from : Reaches w slot = root slot (register_root w.registers t src slot is) in
     let target : register heap.registers t val ≡ option_map number (target_of word) = register_names heap w number t val by ∙ ap (option_map number) (sym names) in
     let write : Option ℕ → Asked = λ x. answered (with_field heap (number slot) f (record { target = x; word = word })) answers.Done (field heap (number slot) f).word in
-    told_by w.fields heap t (commands.Put src f val) (record { answer = answers.Done; saw = word_at w slot f; left = word }) (write (option_map number (target_of word))) (sight_with_word w slot f word)
+    told_by w heap number t (commands.Put src f val) (record { answer = answers.Done; saw = word_at w slot f; left = word }) (write (option_map number (target_of word))) (sight_with_word w slot f word)
     (ap (put heap f (register heap.registers t val) true word) (some_register heap w number t src slot by is) ∙ ap write target)
     refl
     (sym (ap (λ (x : Field). x.word) (field_agrees heap w number slot f by from in_range)))
     (is_some-map number (target_of word) ∙ ap is_some (sym target))
-    (number, write_stands heap w number slot f word sound in_range from (λ n there. root n (register_root w.registers t val n (sym names ∙ there))) by)
+    refl
+    (write_stands heap w number slot f word sound in_range from (λ n there. root n (register_root w.registers t val n (sym names ∙ there))) by)
 
 -- one value in two options
 some_same : (m n : ℕ) → ◌≡◌ {A = Option ℕ} (Some m) (Some n) → m ≡ n
@@ -123,7 +143,7 @@ some_same m n is = cc
 -- a birth in a free slot
 pub new_explained : (w : Sight) (t reg label slot : ℕ) → IsSound w → slot < length w.headers → slice_index_or w.headers slot 0 ≡ 0
     → IsExplained w t (commands.New reg label) (plain answers.Done) (sight_with_register (sight_with_header w slot (label + 1)) t reg (Some slot))
-new_explained w t reg label slot sound in_range free heap (number, by) =
+new_explained w t reg label slot sound in_range free heap number by =
     let next : ℕ → ℕ = with_birth number slot (length heap.objects) in
     let grown : Heap = with_object heap (born w.fields label) in
     let after : Sight = sight_with_header w slot (label + 1) in
@@ -136,32 +156,33 @@ new_explained w t reg label slot sound in_range free heap (number, by) =
       record { answer = refl; saw = refl; left = refl },
       (
         next,
-        subst (λ n. StandsBy (with_register grown t reg (Some n)) (sight_with_register after t reg (Some slot)) next) is
-            (register_stands grown after next t reg (Some slot) may (birth_stands heap w number slot label sound in_range free by)),
+        birth_numbers (with_register grown t reg (Some (length heap.objects))) w number slot (label + 1) (length heap.objects) t reg (Some slot) free
+            (subst (λ n. StandsBy (with_register grown t reg (Some n)) (sight_with_register after t reg (Some slot)) next) is
+            (register_stands grown after next t reg (Some slot) may (birth_stands heap w number slot label sound in_range free by))),
       ),
     )
 
 -- an allocation that is refused
 pub new_refused : (w : Sight) (t reg label : ℕ) (answer : Answer) → refuses_new answer ≡ true → is_done answer ≡ false → IsExplained w t (commands.New reg label) (plain answer) w
-new_refused w t reg label answer refuses undone heap (number, by) =
-    told_by w.fields heap t (commands.New reg label) (plain answer) (refused heap) w
-    (ap (λ made. asks w.fields heap t (commands.New reg label) made 0) undone) refuses refl refl (number, by)
+new_refused w t reg label answer refuses undone heap number by =
+    told_by w heap number t (commands.New reg label) (plain answer) (refused heap) w
+    (ap (λ made. asks w.fields heap t (commands.New reg label) made 0) undone) refuses refl refl refl by
 
 -- the label of a null register
 pub value_of_null : (w : Sight) (t reg : ℕ) → register w.registers t reg ≡ None → IsExplained w t (commands.Value reg) (plain answers.NoObject) w
-value_of_null w t reg is heap (number, by) =
-    told_by w.fields heap t (commands.Value reg) (plain answers.NoObject) (answered heap answers.NoObject 0) w
-    (ap (λ x. answered heap (value heap x) 0) (null_register heap w number t reg by is)) refl refl refl (number, by)
+value_of_null w t reg is heap number by =
+    told_by w heap number t (commands.Value reg) (plain answers.NoObject) (answered heap answers.NoObject 0) w
+    (ap (λ x. answered heap (value heap x) 0) (null_register heap w number t reg by is)) refl refl refl refl by
 
 -- the label of an object
 pub value_explained : (w : Sight) (t reg slot : ℕ) → IsSound w → register w.registers t reg ≡ Some slot
     → IsExplained w t (commands.Value reg) (plain (answers.Value (slice_index_or w.headers slot 0 - 1))) w
-value_explained w t reg slot sound is heap (number, by) =
+value_explained w t reg slot sound is heap number by =
     let from : Reaches w slot = root slot (register_root w.registers t reg slot is) in
     let label : slice_index_or w.headers slot 0 ≡ (object heap (number slot)).label + 1 = by.label slot (reached_is_taken w sound slot from) in
     let same : slice_index_or w.headers slot 0 - 1 ≡ (object heap (number slot)).label = omega arith in
-    told_by w.fields heap t (commands.Value reg) (plain (answers.Value (slice_index_or w.headers slot 0 - 1))) (answered heap (answers.Value (object heap (number slot)).label) 0) w
-    (ap (λ x. answered heap (value heap x) 0) (some_register heap w number t reg slot by is)) (ap answers.Value same) refl refl (number, by)
+    told_by w heap number t (commands.Value reg) (plain (answers.Value (slice_index_or w.headers slot 0 - 1))) (answered heap (answers.Value (object heap (number slot)).label) 0) w
+    (ap (λ x. answered heap (value heap x) 0) (some_register heap w number t reg slot by is)) (ap answers.Value same) refl refl refl by
 
 -- the numbering keeps apart what two registers name
 same_numbered : (heap : Heap) (w : Sight) (number : ℕ → ℕ) (t a b : ℕ) (x y : Option ℕ) → IsSound w → StandsBy heap w number
@@ -178,10 +199,10 @@ same_numbered heap w number t a b (Some m) (Some n) sound by x-is y-is =
 -- a comparison of two registers
 pub same_explained : (w : Sight) (t a b : ℕ) → IsSound w
     → IsExplained w t (commands.Same a b) (plain (yes_or_no (same (register w.registers t a) (register w.registers t b)))) w
-same_explained w t a b sound heap (number, by) =
+same_explained w t a b sound heap number by =
     let x : Option ℕ = register w.registers t a in
     let y : Option ℕ = register w.registers t b in
     let tell : Option ℕ → Option ℕ → Asked = λ m n. answered heap (yes_or_no (same m n)) 0 in
-    told_by w.fields heap t (commands.Same a b) (plain (yes_or_no (same x y))) (tell (option_map number x) (option_map number y)) w
+    told_by w heap number t (commands.Same a b) (plain (yes_or_no (same x y))) (tell (option_map number x) (option_map number y)) w
     (ap (λ m. tell m (register heap.registers t b)) (register_names heap w number t a by) ∙ ap (tell (option_map number x)) (register_names heap w number t b by))
-    (ap yes_or_no (same_numbered heap w number t a b x y sound by refl refl)) refl refl (number, by)
+    (ap yes_or_no (same_numbered heap w number t a b x y sound by refl refl)) refl refl refl by

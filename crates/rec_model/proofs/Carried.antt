@@ -28,6 +28,14 @@ is_in-map f n (m ∷ ns) h = elim (is_in-cons n m ns h) [
   | inr later ↦ is_in-tail (f n) (f m) (map f ns) (is_in-map f n ns later)
 ]
 
+-- and each image is that of a number there
+pub in_map : (f : ℕ → ℕ) (n : ℕ) (ns : List ℕ) → is_in n (map f ns) ≡ true → (m : ℕ) × (is_in m ns ≡ true) × (f m ≡ n)
+in_map f n [] h = absurd (false≢true h)
+in_map f n (m ∷ ns) h = elim (is_in-cons n (f m) (map f ns) h) [
+  | inl e ↦ (m, is_in-head m ns, e)
+  | inr later ↦ let (k, there, is) = in_map f n ns later in (k, is_in-tail k m ns there, is)
+]
+
 -- a renaming that is one to one on what has P
 abbrev pub IsOneToOne : (P : ℕ → Type 0) → (ℕ → ℕ) → Type 0
 IsOneToOne P f = (m n : ℕ) → P m → P n → f m ≡ f n → m ≡ n

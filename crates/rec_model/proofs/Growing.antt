@@ -1,5 +1,5 @@
--- A legal order goes on by one answer.
-use Rattle.std.proofs.Common.{◌≡◌, ◌⊎◌, inl, inr, ℕ, ◌+◌, ◌-◌, ◌<◌, ◌≤◌, zero, suc, List, [], ◌∷◌, ◌++◌, None, Some, if◌then◌else◌, slice_index_or, slice_set, length, refl, sym, ap, subst, ◌∙◌, arith}
+-- A legal order goes on by one event: an answer, a freeing, or the begin or end of a sweep.
+use Rattle.std.proofs.Common.{◌≡◌, ◌⊎◌, inl, inr, ℕ, ◌+◌, ◌-◌, ◌%◌, ◌<◌, ◌≤◌, zero, suc, List, [], ◌∷◌, ◌++◌, Option, None, Some, if◌then◌else◌, slice_index_or, slice_set, length, refl, sym, ap, subst, ◌∙◌, arith}
 use Rattle.std.specs.List.{slice_get, filter_map, cons_option}
 use Rattle.std.proofs.lemmas.Bool.{cases_eq, eq-eqb, ne_eqb}
 use Rattle.std.proofs.lemmas.List.{append-nil, take-append-le, take_all, length_push, get_or-set_same, get_or-set_other, length-set}
@@ -8,8 +8,9 @@ use Rattle.std.proofs.lemmas.Option.{slice_get_within}
 use Rattle.rec_word.specs.Word.{stamp_of}
 use Rattle.rec_model.specs.declared.answer.Answer.TheVariants as answers
 use Rattle.rec_model.specs.Reach.{is_in}
+use Rattle.rec_model.specs.Numbering.{IsDistinct}
 use Rattle.rec_model.specs.LegalOrder.{Line, Event, Limits, Moment, after, after_all, moment, AnswerFits, Fits, IsQuiet, BusyFits, Stamped, IsLegalOrder, word_left, left_by, line_by}
-use Rattle.rec_model.specs.LegalOrder.Event.{Answers}
+use Rattle.rec_model.specs.LegalOrder.Event.{Answers, Frees, Marks}
 
 -- an element of a list with one more is an old one, or the new one
 pub get_cases : {X : Type 0} (xs : List X) (y : X) (i : ℕ) (z : X) → slice_get (xs ++ y ∷ []) i ≡ Some z → (slice_get xs i ≡ Some z) ⊎ ((i ≡ length xs) × (y ≡ z))
@@ -62,45 +63,58 @@ busy_grow limits start events e t i before after there fits =
       );
     }
 
--- a word left bears its writer's number, and a stamp that no word has that was left before
-pub record StampsAnew (events : List Event) (t : ℕ) (line : Line) : Type 0 where
-  pub writer : (word : ℕ) → word_left line.0 line.1 ≡ Some word → (stamp_of word).writer ≡ t
-  pub anew : (i v word : ℕ) (d : Event) → slice_get events i ≡ Some d → left_by d ≡ Some v → word_left line.0 line.1 ≡ Some word → stamp_of v ≡ stamp_of word → ⊥
-
 -- two answers that are one event
 same_answer : (s t : ℕ) (j k : Line) → Answers s j ≡ Answers t k → (s ≡ t) × (j ≡ k)
 same_answer s t j k is = (cc, cc)
-
-stamps_grow : (events : List Event) (t : ℕ) (line : Line) → StampsAnew events t line → Stamped events → Stamped (events ++ Answers t line ∷ [])
-stamps_grow events t line new stamped =
-    record {
-      writer = λ i s word j is leaves. elim (get_cases events (Answers t line) i (Answers s j) is) [
-        | inl old ↦ stamped.writer i s word j old leaves
-        | inr last ↦
-            let same : (t ≡ s) × (line ≡ j) = same_answer t s line j last.1 in
-            new.writer word (ap (λ (l : Line). word_left l.0 l.1) same.1 ∙ leaves) ∙ same.0
-      ];
-      distinct = λ i j v w c d i_is v_left j_is w_left stamps. elim (get_cases events (Answers t line) i c i_is) [
-        | inl i_old ↦ elim (get_cases events (Answers t line) j d j_is) [
-          | inl j_old ↦ stamped.distinct i j v w c d i_old v_left j_old w_left stamps
-          | inr j_last ↦ absurd (new.anew i v w c i_old v_left (ap left_by j_last.1 ∙ w_left) stamps)
-        ]
-        | inr i_last ↦ elim (get_cases events (Answers t line) j d j_is) [
-          | inl j_old ↦ absurd (new.anew j w v d j_old w_left (ap left_by i_last.1 ∙ v_left) (sym stamps))
-          | inr j_last ↦ i_last.0 ∙ sym j_last.0
-        ]
-      ];
-    }
 
 -- the journals with a line more in one of them
 abbrev pub with_line : List (List Line) → ℕ → Line → List (List Line)
 with_line journals t line = slice_set journals (t - 1) (slice_index_or journals (t - 1) [] ++ line ∷ [])
 
+-- the journals after an event: an answer is a line more
+abbrev pub with_event : List (List Line) → Event → List (List Line)
+with_event journals (Answers t line) = with_line journals t line
+with_event journals _ = journals
+
+-- there are as many journals as before
+journals_stay : (journals : List (List Line)) (e : Event) → length (with_event journals e) ≡ length journals
+journals_stay journals (Answers t line) = length-set journals (t - 1) (slice_index_or journals (t - 1) [] ++ line ∷ [])
+journals_stay journals (Frees n) = refl
+journals_stay journals Marks = refl
+
+-- What an event needs to come after those of a legal order: it fits the last moment, an answer is of a mutator, a busy one has
+-- its evidence, and a word left bears its writer's number and a stamp that no word has that was left before.
+pub record MayCome (limits : Limits) (start : Moment) (journals : List (List Line)) (events : List Event) (e : Event) : Type 0 where
+  pub numbered : (t : ℕ) (line : Line) → e ≡ Answers t line → (0 < t) × (t ≤ length journals)
+  pub fits : Fits limits (after_all limits start events) e
+  pub busy : (t before after : ℕ) (line : Line) → e ≡ Answers t line → line.1.answer ≡ answers.Busy before after → BusyFits limits start (events ++ e ∷ []) t (length events) before after
+  pub writer : (t word : ℕ) (line : Line) → e ≡ Answers t line → word_left line.0 line.1 ≡ Some word → (stamp_of word).writer ≡ t
+  pub anew : (i v word : ℕ) (d : Event) → slice_get events i ≡ Some d → left_by d ≡ Some v → left_by e ≡ Some word → stamp_of v ≡ stamp_of word → ⊥
+
+stamps_grow : (limits : Limits) (start : Moment) (journals : List (List Line)) (events : List Event) (e : Event) → MayCome limits start journals events e → Stamped events → Stamped (events ++ e ∷ [])
+stamps_grow limits start journals events e may stamped =
+    record {
+      writer = λ i s word j is leaves. elim (get_cases events e i (Answers s j) is) [
+        | inl old ↦ stamped.writer i s word j old leaves
+        | inr last ↦ may.writer s word j last.1 leaves
+      ];
+      distinct = λ i j v w c d i_is v_left j_is w_left stamps. elim (get_cases events e i c i_is) [
+        | inl i_old ↦ elim (get_cases events e j d j_is) [
+          | inl j_old ↦ stamped.distinct i j v w c d i_old v_left j_old w_left stamps
+          | inr j_last ↦ absurd (may.anew i v w c i_old v_left (ap left_by j_last.1 ∙ w_left) stamps)
+        ]
+        | inr i_last ↦ elim (get_cases events e j d j_is) [
+          | inl j_old ↦ absurd (may.anew j w v d j_old w_left (ap left_by i_last.1 ∙ v_left) (sym stamps))
+          | inr j_last ↦ i_last.0 ∙ sym j_last.0
+        ]
+      ];
+    }
+
 -- each journal's own lines
-own_grow : (journals : List (List Line)) (events : List Event) (t : ℕ) (line : Line) → 0 < t → t ≤ length journals
+own_after_answer : (journals : List (List Line)) (events : List Event) (t : ℕ) (line : Line) → 0 < t → t ≤ length journals
     → ((s : ℕ) → 0 < s → filter_map (line_by s) events ≡ slice_index_or journals (s - 1) [])
     → (s : ℕ) → 0 < s → filter_map (line_by s) (events ++ Answers t line ∷ []) ≡ slice_index_or (with_line journals t line) (s - 1) []
-own_grow journals events t line positive within own s s_positive = elim (cases_eq t s) [
+own_after_answer journals events t line positive within own s s_positive = elim (cases_eq t s) [
   | inl same ↦
       filter_map-append (line_by s) events (Answers t line ∷ [])
       ∙ ap (λ b. filter_map (line_by s) events ++ cons_option (if b then Some line else None) []) (eq-eqb t s same)
@@ -115,36 +129,118 @@ own_grow journals events t line positive within own s s_positive = elim (cases_e
       ∙ sym (get_or-set_other journals (t - 1) (s - 1) (slice_index_or journals (t - 1) [] ++ line ∷ []) [] (λ same. other (omega arith)))
 ]
 
--- A legal order goes on by an answer that is none of Busy, where the answer fits the last moment and its word is stamped anew.
-pub legal_grows : (limits : Limits) (start : Moment) (journals : List (List Line)) (events : List Event) (t : ℕ) (line : Line) → 0 < t → t ≤ length journals
-    → AnswerFits limits (after_all limits start events) t line → ((before after : ℕ) → line.1.answer ≡ answers.Busy before after → ⊥) → StampsAnew events t line
-    → IsLegalOrder limits start journals events → IsLegalOrder limits start (with_line journals t line) (events ++ Answers t line ∷ [])
-legal_grows limits start journals events t line positive within fits not_busy anew legal =
+-- an event that is no answer adds no line
+own_stays : (journals : List (List Line)) (events : List Event) (e : Event) (s : ℕ) → line_by s e ≡ None → filter_map (line_by s) events ≡ slice_index_or journals (s - 1) []
+    → filter_map (line_by s) (events ++ e ∷ []) ≡ slice_index_or journals (s - 1) []
+own_stays journals events e s none own =
+    filter_map-append (line_by s) events (e ∷ []) ∙ ap (λ (o : Option Line). filter_map (line_by s) events ++ cons_option o []) none ∙ append-nil (filter_map (line_by s) events) ∙ own
+
+own_grow : (journals : List (List Line)) (events : List Event) (e : Event) → ((t : ℕ) (line : Line) → e ≡ Answers t line → (0 < t) × (t ≤ length journals))
+    → ((s : ℕ) → 0 < s → filter_map (line_by s) events ≡ slice_index_or journals (s - 1) [])
+    → (s : ℕ) → 0 < s → filter_map (line_by s) (events ++ e ∷ []) ≡ slice_index_or (with_event journals e) (s - 1) []
+own_grow journals events (Answers t line) numbered own s some = own_after_answer journals events t line (numbered t line refl).0 (numbered t line refl).1 own s some
+own_grow journals events (Frees n) numbered own s some = own_stays journals events (Frees n) s refl (own s some)
+own_grow journals events Marks numbered own s some = own_stays journals events Marks s refl (own s some)
+
+-- A legal order goes on by an event that may come.
+pub legal_grows : (limits : Limits) (start : Moment) (journals : List (List Line)) (events : List Event) (e : Event) → MayCome limits start journals events e
+    → IsLegalOrder limits start journals events → IsLegalOrder limits start (with_event journals e) (events ++ e ∷ [])
+legal_grows limits start journals events e may legal =
     record {
-      own = own_grow journals events t line positive within legal.own;
-      numbered = λ i s j is. elim (get_cases events (Answers t line) i (Answers s j) is) [
-        | inl old ↦ let (lower, upper) = legal.numbered i s j old in (lower, subst (λ n. s ≤ n) (sym (length-set journals (t - 1) (slice_index_or journals (t - 1) [] ++ line ∷ []))) upper)
+      own = own_grow journals events e may.numbered legal.own;
+      numbered = λ i s j is.
+          let (lower, upper) = elim (get_cases events e i (Answers s j) is) as (λ _. (0 < s) × (s ≤ length journals)) [
+            | inl old ↦ legal.numbered i s j old
+            | inr last ↦ may.numbered s j last.1
+          ] in
+          (lower, subst (λ n. s ≤ n) (sym (journals_stay journals e)) upper);
+      fits = λ i d is. elim (get_cases events e i d is) [
+        | inl old ↦ subst (λ w. Fits limits w d) (sym (moment-grow limits start events e i (let there : i < length events = slice_get_within events i d old in omega arith))) (legal.fits i d old)
         | inr last ↦
-            let same : (t ≡ s) × (line ≡ j) = same_answer t s line j last.1 in (
-              subst (λ n. 0 < n) same.0 positive,
-              subst (λ n. s ≤ n) (sym (length-set journals (t - 1) (slice_index_or journals (t - 1) [] ++ line ∷ []))) (subst (λ n. n ≤ length journals) same.0 within),
-            )
+            let P : ℕ → Type 0 = λ n. Fits limits (moment limits start (events ++ e ∷ []) n) d in
+            let here : Fits limits (after_all limits start events) d = subst (λ x. Fits limits (after_all limits start events) x) last.1 may.fits in
+            subst P (sym last.0) (subst (λ w. Fits limits w d) (sym (moment-end limits start events e)) here)
       ];
-      fits = λ i e is. elim (get_cases events (Answers t line) i e is) [
-        | inl old ↦ subst (λ w. Fits limits w e) (sym (moment-grow limits start events (Answers t line) i (let there : i < length events = slice_get_within events i e old in omega arith))) (legal.fits i e old)
-        | inr last ↦
-            let P : ℕ → Type 0 = λ n. Fits limits (moment limits start (events ++ Answers t line ∷ []) n) e in
-            let here : Fits limits (after_all limits start events) e = subst (λ d. Fits limits (after_all limits start events) d) last.1 fits in
-            subst P (sym last.0) (subst (λ w. Fits limits w e) (sym (moment-end limits start events (Answers t line))) here)
+      busy = λ i s before after j is answer. elim (get_cases events e i (Answers s j) is) [
+        | inl old ↦ busy_grow limits start events e s i before after (slice_get_within events i (Answers s j) old) (legal.busy i s before after j old answer)
+        | inr last ↦ subst (λ n. BusyFits limits start (events ++ e ∷ []) s n before after) (sym last.0) (may.busy s before after j last.1 answer)
       ];
-      busy = λ i s before after j is answer. elim (get_cases events (Answers t line) i (Answers s j) is) [
-        | inl old ↦ busy_grow limits start events (Answers t line) s i before after (slice_get_within events i (Answers s j) old) (legal.busy i s before after j old answer)
-        | inr last ↦
-            let same : (t ≡ s) × (line ≡ j) = same_answer t s line j last.1 in
-            absurd (not_busy before after (ap (λ (l : Line). l.1.answer) same.1 ∙ answer))
-      ];
-      stamped = stamps_grow events t line anew legal.stamped;
+      stamped = stamps_grow limits start journals events e may legal.stamped;
     }
+
+-- a busy answer whose evidence is the last moment: a sweep runs, and as many objects as slots are unfreed
+pub record IsBusyNow (limits : Limits) (w : Moment) (before after : ℕ) : Type 0 where
+  pub sweep : (before % 2 ≡ 1) ⊎ (before < after)
+  pub began : w.marks ≡ before
+  pub ended : w.marks ≡ after
+  pub many : limits.slots ≤ length w.unfreed
+  pub distinct : IsDistinct w.unfreed
+
+-- nothing is between a place and itself
+quiet_nowhere : (t : ℕ) (events : List Event) (i : ℕ) → IsQuiet t events i i
+quiet_nowhere t events i k d from to is = absurd (omega arith)
+
+-- after the last event
+moment-last : (limits : Limits) (start : Moment) (events : List Event) (e : Event) → moment limits start (events ++ e ∷ []) (length events + 1) ≡ after limits (after_all limits start events) e
+moment-last limits start events e =
+    let long : length (events ++ e ∷ []) ≡ length events + 1 = length_push events e in
+    ap (after_all limits start) (take_all (length events + 1) (events ++ e ∷ []) (omega arith)) ∙ after_all-grow limits start events e
+
+busy_now : (limits : Limits) (start : Moment) (events : List Event) (t before later : ℕ) (line : Line) → IsBusyNow limits (after_all limits start events) before later
+    → BusyFits limits start (events ++ Answers t line ∷ []) t (length events) before later
+busy_now limits start events t before later line now =
+    let e : Event = Answers t line in
+    let i : ℕ = length events in
+    let here : moment limits start (events ++ e ∷ []) i ≡ after_all limits start events = moment-end limits start events e in
+    let last : (moment limits start (events ++ e ∷ []) (i + 1)).marks ≡ (after_all limits start events).marks = ap (λ (w : Moment). w.marks) (moment-last limits start events e) in
+    let long : length (events ++ e ∷ []) ≡ i + 1 = length_push events e in
+    record {
+      sweep = now.sweep;
+      began = (i, omega arith, quiet_nowhere t (events ++ e ∷ []) i, ap (λ (w : Moment). w.marks) here ∙ now.began);
+      ended = (i + 1, omega arith, omega arith, quiet_nowhere t (events ++ e ∷ []) (i + 1), last ∙ now.ended);
+      taken = (
+        (after_all limits start events).unfreed,
+        now.many,
+        now.distinct,
+        λ n named. (i, omega arith, quiet_nowhere t (events ++ e ∷ []) i, ap (λ (w : Moment). is_in n w.unfreed) here ∙ named),
+      );
+    }
+
+-- a word left bears its writer's number, and a stamp that no word has that was left before
+pub record StampsAnew (events : List Event) (t : ℕ) (line : Line) : Type 0 where
+  pub writer : (word : ℕ) → word_left line.0 line.1 ≡ Some word → (stamp_of word).writer ≡ t
+  pub anew : (i v word : ℕ) (d : Event) → slice_get events i ≡ Some d → left_by d ≡ Some v → word_left line.0 line.1 ≡ Some word → stamp_of v ≡ stamp_of word → ⊥
+
+-- An answer may come where it fits the last moment, the last moment is the evidence where it is Busy, and its word is stamped anew.
+pub answer_may_come : (limits : Limits) (start : Moment) (journals : List (List Line)) (events : List Event) (t : ℕ) (line : Line) → 0 < t → t ≤ length journals
+    → AnswerFits limits (after_all limits start events) t line
+    → ((before after : ℕ) → line.1.answer ≡ answers.Busy before after → IsBusyNow limits (after_all limits start events) before after)
+    → StampsAnew events t line → MayCome limits start journals events (Answers t line)
+answer_may_come limits start journals events t line positive within fits busy new =
+    record {
+      numbered = λ s j is. let same : (t ≡ s) × (line ≡ j) = same_answer t s line j is in (subst (λ n. 0 < n) same.0 positive, subst (λ n. n ≤ length journals) same.0 within);
+      fits = fits;
+      busy = λ s before later j is answer.
+          let same : (t ≡ s) × (line ≡ j) = same_answer t s line j is in
+          subst (λ n. BusyFits limits start (events ++ Answers t line ∷ []) n (length events) before later) same.0
+          (busy_now limits start events t before later line (busy before later (ap (λ (l : Line). l.1.answer) same.1 ∙ answer)));
+      writer = λ s word j is leaves.
+          let same : (t ≡ s) × (line ≡ j) = same_answer t s line j is in
+          new.writer word (ap (λ (l : Line). word_left l.0 l.1) same.1 ∙ leaves) ∙ same.0;
+      anew = new.anew;
+    }
+
+-- A freeing may come where it fits the last moment.
+pub frees_may_come : (limits : Limits) (start : Moment) (journals : List (List Line)) (events : List Event) (n : ℕ) → Fits limits (after_all limits start events) (Frees n)
+    → MayCome limits start journals events (Frees n)
+frees_may_come limits start journals events n fits =
+    record { numbered = λ t line is. cc; fits = fits; busy = λ t before after line is answer. cc; writer = λ t word line is leaves. cc; anew = λ i v word d there left leaves same. cc }
+
+-- The begin or end of a sweep may come where it fits the last moment.
+pub marks_may_come : (limits : Limits) (start : Moment) (journals : List (List Line)) (events : List Event) → Fits limits (after_all limits start events) Marks
+    → MayCome limits start journals events Marks
+marks_may_come limits start journals events fits =
+    record { numbered = λ t line is. cc; fits = fits; busy = λ t before after line is answer. cc; writer = λ t word line is leaves. cc; anew = λ i v word d there left leaves same. cc }
 
 -- no line is a legal order of empty journals
 pub legal_empty : (limits : Limits) (start : Moment) (journals : List (List Line)) → ((t : ℕ) → 0 < t → [] ≡ slice_index_or journals (t - 1) []) → IsLegalOrder limits start journals []

@@ -1,6 +1,7 @@
 pub mod Alike
 pub mod Answered
 pub mod Beginning
+pub mod Births
 pub mod Carried
 pub mod Changed
 pub mod Collected
@@ -13,6 +14,7 @@ pub mod Growing
 pub mod Holding
 pub mod Ledgers
 pub mod Listed
+pub mod Lives
 pub mod Loading
 pub mod Members
 pub mod Moving
@@ -27,11 +29,13 @@ pub mod Positions
 pub mod Reaching
 pub mod Seen
 pub mod Sets
+pub mod Shaped
 pub mod Since
 pub mod Standing
 pub mod Sums
 pub mod Testing
 pub mod Trials
+pub mod Unfreed
 pub mod Weights
 pub mod Within
 pub mod Words

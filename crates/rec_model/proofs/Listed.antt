@@ -13,8 +13,9 @@ use Rattle.rec_model.specs.Heap.{Heap, object, roots, children, count_of, IsList
 use Rattle.rec_model.specs.Sight.{Sight, IsTaken, Reaches, NumbersSlots, holders_of, words_of, targets_of, field_of, StandsBy, StandsFor, IsCollected}
 use Rattle.rec_model.specs.Listing.{Row, number_in, row, IsListing, slot_row, ListsSlots}
 use Rattle.rec_model.proofs.Members.{is_in-head, is_in-tail, is_in-cases, in_flat_map, of_all, all_of}
+use Rattle.rec_model.proofs.Lives.{roots_same, children_same}
 use Rattle.rec_model.proofs.Numbered.{one_numbering}
-use Rattle.rec_model.proofs.Carried.{named-map, flat_map-named, is_in-map, Each, firsts_after-map, number_in-map, times-map}
+use Rattle.rec_model.proofs.Carried.{is_in-map, Each, firsts_after-map, number_in-map, times-map}
 
 -- a heap has one listing
 pub one_listing : (heap : Heap) (xs ys : List Row) → IsListing heap xs → IsListing heap ys → xs ≡ ys
@@ -28,28 +29,15 @@ module _ (heap : Heap) (w : Sight) (number : ℕ → ℕ) (stands : StandsBy hea
   taken : (slot : ℕ) → Reaches w slot → IsTaken w slot
   taken slot = (collected slot).1
 
-  roots_same : roots heap.registers ≡ map number (roots w.registers)
-  roots_same = ap roots stands.registers ∙ flat_map-named number w.registers
-
-  targets_same : (words : List ℕ) → map (λ x. x.target) (map (field_of number) words) ≡ map (option_map number) (map target_of words)
-  targets_same [] = refl
-  targets_same (word ∷ words) = ap (λ xs. option_map number (target_of word) ∷ xs) (targets_same words)
-
-  children_same : (slot : ℕ) → Reaches w slot → children heap (number slot) ≡ map number (targets_of w slot)
-  children_same slot reached =
-      ap (λ xs. named (map (λ x. x.target) xs)) (stands.fields slot reached)
-      ∙ ap named (targets_same (words_of w slot))
-      ∙ named-map number (map target_of (words_of w slot))
-
   reached_same : (slot : ℕ) → Reaches w slot → IsReached (roots heap.registers) (children heap) (number slot)
-  reached_same slot (root n there) = root (number n) (rw roots_same (is_in-map number n (roots w.registers) there))
+  reached_same slot (root n there) = root (number n) (rw (roots_same heap w number stands) (is_in-map number n (roots w.registers) there))
   reached_same slot (child m n from there) =
-      child (number m) (number n) (reached_same m from) (rw (children_same m from) (is_in-map number n (targets_of w m) there))
+      child (number m) (number n) (reached_same m from) (rw (children_same heap w number stands m from) (is_in-map number n (targets_of w m) there))
 
   all_children_same : (slots : List ℕ) → Each (Reaches w) slots → flat_map (children heap) (map number slots) ≡ map number (flat_map (targets_of w) slots)
   all_children_same [] each = refl
   all_children_same (slot ∷ slots) each =
-      ap (λ ns. ns ++ flat_map (children heap) (map number slots)) (children_same slot (each slot (is_in-head slot slots)))
+      ap (λ ns. ns ++ flat_map (children heap) (map number slots)) (children_same heap w number stands slot (each slot (is_in-head slot slots)))
       ∙ ap (λ ns. map number (targets_of w slot) ++ ns) (all_children_same slots (λ n h. each n (is_in-tail n slot slots h)))
       ∙ sym (map-append number (targets_of w slot) (flat_map (targets_of w) slots))
 
@@ -71,7 +59,7 @@ module _ (heap : Heap) (w : Sight) (number : ℕ → ℕ) (stands : StandsBy hea
             ∙ sym (firsts_after-map (IsTaken w) number stands.one_to_one [] (roots w.registers ++ flat_map (targets_of w) slots) (λ n h. absurd (false≢true h))
             (both_taken (roots w.registers) (flat_map (targets_of w) slots) roots_taken (children_taken slots each)))
             ∙ ap firsts (map-append number (roots w.registers) (flat_map (targets_of w) slots)
-            ∙ ap (λ ns. ns ++ map number (flat_map (targets_of w) slots)) (sym roots_same)
+            ∙ ap (λ ns. ns ++ map number (flat_map (targets_of w) slots)) (sym (roots_same heap w number stands))
             ∙ ap (λ ns. roots heap.registers ++ ns) (sym (all_children_same slots each)));
         reached = All-map (IsReached (roots heap.registers) (children heap)) number slots
             (all_of (λ slot. IsReached (roots heap.registers) (children heap) (number slot)) slots (λ slot h. reached_same slot (each slot h)));
@@ -80,7 +68,7 @@ module _ (heap : Heap) (w : Sight) (number : ℕ → ℕ) (stands : StandsBy hea
   -- each image is held as often as its slot
   count_same : (slots : List ℕ) → Each (Reaches w) slots → (slot : ℕ) → IsTaken w slot → count_of heap (map number slots) (number slot) ≡ holders_of w slots slot
   count_same slots each slot held =
-      ap (λ ns. times (number slot) ns + times (number slot) (flat_map (children heap) (map number slots))) roots_same
+      ap (λ ns. times (number slot) ns + times (number slot) (flat_map (children heap) (map number slots))) (roots_same heap w number stands)
       ∙ ap (λ k. k + times (number slot) (flat_map (children heap) (map number slots))) (times-map (IsTaken w) number stands.one_to_one slot (roots w.registers) held roots_taken)
       ∙ ap (λ ns. times slot (roots w.registers) + times (number slot) ns) (all_children_same slots each)
       ∙ ap (λ k. times slot (roots w.registers) + k) (times-map (IsTaken w) number stands.one_to_one slot (flat_map (targets_of w) slots) held (children_taken slots each))

@@ -1,10 +1,12 @@
 -- Which numbers stand in a list: in parts of it, in a list of lists, and in one without repeats.
-use Rattle.std.proofs.Common.{subst, ◌<◌, ◌≤◌, length, eqb, ◌≡◌, ℕ, ◌==◌, ◌||◌, ◌⊎◌, inl, inr, Bool, true, false, List, [], ◌∷◌, ◌++◌, All, refl, sym, ◌∙◌, ap}
+use Rattle.std.proofs.Common.{subst, filter, not, ◌≢◌, ◌<◌, ◌≤◌, length, eqb, ◌≡◌, ℕ, ◌==◌, ◌||◌, ◌⊎◌, inl, inr, Bool, true, false, List, [], ◌∷◌, ◌++◌, All, refl, sym, ◌∙◌, ap}
 use Rattle.std.specs.List.{flat_map, list_any, IsDistinct as IsDistinctBy}
+use Rattle.std.proofs.lemmas.Cmp.{nat_eq_equiv}
+use Rattle.std.proofs.lemmas.Map.Made.{length-le_from_is_member}
 use Rattle.std.proofs.lemmas.Map.Keys.{IsDistinct-cons}
 use Rattle.std.proofs.lemmas.Map.Steps.{length-le_from_distinct_below}
 use Rattle.std.proofs.lemmas.List.Folds.{list_any-append}
-use Rattle.std.proofs.lemmas.Bool.{cases_Bool, both_ways, false≢true, true≢false, eq-eqb, eqb-true, eqb-false, ne_eqb, or_cases}
+use Rattle.std.proofs.lemmas.Bool.{cases_Bool, both_ways, false≢true, true≢false, eq-eqb, eqb-true, eqb-false, ne_eqb, or_cases, cases_eq}
 use Rattle.std.proofs.lemmas.List.Elements.{All-nil, All-cons, All-head, All-tail, recursion_from_All}
 use Rattle.std.proofs.Math.Bool.{or-true}
 use Rattle.rec_model.specs.Reach.{is_in}
@@ -104,6 +106,58 @@ any_is_in n (m ∷ ns) h = elim (or_cases (eqb n m) (list_any (eqb n) ns) h) [
   | inr e ↦ is_in-tail n m ns (any_is_in n ns e)
 ]
 
+-- and the other way round
+is_in_any : (n : ℕ) (ns : List ℕ) → is_in n ns ≡ true → list_any (eqb n) ns ≡ true
+is_in_any n [] h = h
+is_in_any n (m ∷ ns) h = elim (is_in-cons n m ns h) [
+  | inl e ↦ ap (λ b. b || list_any (eqb n) ns) (eq-eqb n m (sym e))
+  | inr e ↦ ap (λ b. eqb n m || b) (is_in_any n ns e) ∙ or-true (eqb n m)
+]
+
+-- different numbers that all stand in a list are at most as many
+pub distinct_within : (ns ms : List ℕ) → IsDistinct ns → ((n : ℕ) → is_in n ns ≡ true → is_in n ms ≡ true) → length ns ≤ length ms
+distinct_within ns ms d within = length-le_from_is_member nat_eq_equiv ns ms (by_std ns d) (λ n h. is_in_any n ms (within n (any_is_in n ns h)))
+
 -- different numbers below a bound are at most as many
 pub distinct_below : (ns : List ℕ) (bound : ℕ) → IsDistinct ns → ((n : ℕ) → is_in n ns ≡ true → n < bound) → length ns ≤ bound
 distinct_below ns bound d below = length-le_from_distinct_below ns bound (by_std ns d) (λ n h. below n (any_is_in n ns h))
+
+-- the numbers but for one
+abbrev pub without : ℕ → List ℕ → List ℕ
+without k ns = filter (λ m. not (m == k)) ns
+
+-- a number stands among those that are left where one is taken out, as long as it is another
+pub is_in-without : (n k : ℕ) (ns : List ℕ) → is_in n (without k ns) ≡ true → (is_in n ns ≡ true) × (n ≢ k)
+is_in-without n k [] h = absurd (false≢true h)
+is_in-without n k (m ∷ ns) h = elim (cases_eq m k) [
+  | inl e ↦
+      let kept = is_in-without n k ns (rw (eq-eqb m k e) at h) in
+      (is_in-tail n m ns kept.0, kept.1)
+  | inr apart ↦ elim (is_in-cons n m (without k ns) (rw (ne_eqb m k apart) at h)) [
+    | inl e ↦ (subst (λ j. is_in n (j ∷ ns) ≡ true) (sym e) (is_in-head n ns), λ is. apart (e ∙ is))
+    | inr later ↦ let kept = is_in-without n k ns later in (is_in-tail n m ns kept.0, kept.1)
+  ]
+]
+
+pub without-is_in : (n k : ℕ) (ns : List ℕ) → n ≢ k → is_in n ns ≡ true → is_in n (without k ns) ≡ true
+without-is_in n k [] other h = absurd (false≢true h)
+without-is_in n k (m ∷ ns) other h = elim (cases_eq m k) [
+  | inl e ↦ rw (eq-eqb m k e) (elim (is_in-cons n m ns h) [ inl is ↦ absurd (other (sym is ∙ e)) | inr later ↦ without-is_in n k ns other later ])
+  | inr apart ↦ rw (ne_eqb m k apart) (elim (is_in-cons n m ns h) [
+    | inl is ↦ subst (λ j. is_in n (j ∷ without k ns) ≡ true) (sym is) (is_in-head n (without k ns))
+    | inr later ↦ is_in-tail n m (without k ns) (without-is_in n k ns other later)
+  ])
+]
+
+pub IsDistinct-without : (k : ℕ) (ns : List ℕ) → IsDistinct ns → IsDistinct (without k ns)
+IsDistinct-without k [] d = tt
+IsDistinct-without k (m ∷ ns) d = elim (cases_eq m k) [
+  | inl e ↦ rw (eq-eqb m k e) (IsDistinct-without k ns d.1)
+  | inr apart ↦ rw (ne_eqb m k apart) (
+    elim (cases_Bool (is_in m (without k ns))) [
+      | inr none ↦ none
+      | inl there ↦ absurd (both_ways (is_in m ns) d.0 (is_in-without m k ns there).0)
+    ],
+    IsDistinct-without k ns d.1,
+  )
+]

@@ -7,7 +7,9 @@ use Rattle.std.specs.Option.{option_map}
 use Rattle.rec_word.specs.Word.{target_of}
 use Rattle.rec_model.specs.Reach.{named, is_in}
 use Rattle.rec_model.specs.Heap.{opening, roots}
-use Rattle.rec_model.specs.Sight.{Sight, IsTaken, words_of, targets_of, field_of, StandsFor, IsSound, opening_sight}
+use Rattle.rec_model.specs.Sight.{Sight, IsTaken, words_of, targets_of, field_of, StandsBy, StandsFor, IsSound, opening_sight}
+use Rattle.rec_model.specs.Unfreed.{AreUnfreed}
+use Rattle.rec_model.proofs.Members.{is_in-head, is_in-cons}
 use Rattle.rec_model.proofs.Names.{is_in_cases}
 use Rattle.rec_model.proofs.Standing.{reached_is_taken}
 use Rattle.rec_model.proofs.Words.{named-nulls, null_fields}
@@ -77,22 +79,35 @@ map-replicate : {A B : Type 0} (f : A → B) (n : ℕ) (x : A) → map f (replic
 map-replicate f zero x = refl
 map-replicate f (suc n) x = ap (λ xs. f x ∷ xs) (map-replicate f n x)
 
+-- every slot's number at opening
+abbrev pub opening_number : ℕ → ℕ
+opening_number _ = 0
+
 -- the object in slot 0, as every register of number 0 names it
-pub opening_stands : (slots fields registers mutators : ℕ) → 0 < slots → StandsFor (opening fields registers mutators) (opening_sight slots fields registers mutators)
-opening_stands slots fields registers mutators some =
-    let number : ℕ → ℕ = λ _. 0 in
+pub opening_stands_by : (slots fields registers mutators : ℕ) → 0 < slots → StandsBy (opening fields registers mutators) (opening_sight slots fields registers mutators) opening_number
+opening_stands_by slots fields registers mutators some =
     let w : Sight = opening_sight slots fields registers mutators in
     let first : (s : ℕ) → IsTaken w s → s ≡ 0 = only_first slots fields registers mutators in
-    let own : Some 0 ∷ replicate (registers - 1) None ≡ map (option_map number) (Some 0 ∷ replicate (registers - 1) None)
-    = ap (λ (xs : List (Option ℕ)). Some 0 ∷ xs) (sym (map-replicate (option_map number) (registers - 1) None)) in (
-      number,
-      record {
-        one_to_one = λ s t s_taken t_taken same. first s s_taken ∙ sym (first t t_taken);
-        there = λ s taken. lit< tt;
-        label = λ s taken. ap (λ n. slice_index_or w.headers n 0) (first s taken);
-        registers = ap (replicate mutators) own ∙ sym (map-replicate (map (option_map number)) mutators (Some 0 ∷ replicate (registers - 1) None));
-        fields = λ s from.
-            let is : s ≡ 0 = first s (reached_is_taken w (opening_sound slots fields registers mutators some) s from) in
-            null_fields number fields ∙ ap (map (field_of number)) (sym (ap (words_of w) is ∙ null_words slots fields registers mutators 0 some));
-      },
-    )
+    let own : Some 0 ∷ replicate (registers - 1) None ≡ map (option_map opening_number) (Some 0 ∷ replicate (registers - 1) None)
+    = ap (λ (xs : List (Option ℕ)). Some 0 ∷ xs) (sym (map-replicate (option_map opening_number) (registers - 1) None)) in
+    record {
+      one_to_one = λ s t s_taken t_taken same. first s s_taken ∙ sym (first t t_taken);
+      there = λ s taken. lit< tt;
+      label = λ s taken. ap (λ n. slice_index_or w.headers n 0) (first s taken);
+      registers = ap (replicate mutators) own ∙ sym (map-replicate (map (option_map opening_number)) mutators (Some 0 ∷ replicate (registers - 1) None));
+      fields = λ s from.
+          let is : s ≡ 0 = first s (reached_is_taken w (opening_sound slots fields registers mutators some) s from) in
+          null_fields opening_number fields ∙ ap (map (field_of opening_number)) (sym (ap (words_of w) is ∙ null_words slots fields registers mutators 0 some));
+    }
+
+pub opening_stands : (slots fields registers mutators : ℕ) → 0 < slots → StandsFor (opening fields registers mutators) (opening_sight slots fields registers mutators)
+opening_stands slots fields registers mutators some = (opening_number, opening_stands_by slots fields registers mutators some)
+
+-- that object is unfreed, and no other
+pub opening_unfreed : (slots fields registers mutators : ℕ) → AreUnfreed (opening_sight slots fields registers mutators) opening_number (0 ∷ [])
+opening_unfreed slots fields registers mutators =
+    record {
+      distinct = (refl, tt);
+      there = λ s taken. is_in-head 0 [];
+      taken = λ n there. elim (is_in-cons n 0 [] there) [ inl is ↦ (0, lit< tt, is) | inr none ↦ absurd (false≢true none) ];
+    }

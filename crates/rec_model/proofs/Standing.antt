@@ -8,6 +8,7 @@ use Rattle.rec_model.specs.Reach.{named, is_in}
 use Rattle.rec_model.specs.Reach.IsReached.{root, child}
 use Rattle.rec_model.specs.Heap.{Heap, Field, Object, object, field, born, null_field, nothing, register, set_register, roots, with_register, with_field, with_object}
 use Rattle.rec_model.specs.Sight.{Sight, IsTaken, words_of, targets_of, word_at, Reaches, field_of, StandsBy, IsSound, sight_with_register, sight_with_word, sight_with_header}
+use Rattle.rec_model.specs.Explained.{GoesOnBy}
 use Rattle.std.proofs.Math.ListN.{get_or-map}
 use Rattle.std.proofs.lemmas.List.{get_or-take, get_or-drop, get_or-set_same, get_or-set_other, get_or_append_left, get_or_push, length_push, length-set, map-set}
 use Rattle.rec_model.proofs.Names.{named_at, named_set, named_tail, is_in_head, is_in_tail, is_in_left, is_in_right, set_register_roots, set_register-map, register-map}
@@ -201,6 +202,20 @@ birth_stands heap w number slot label sound in_range free by =
 -- what was taken stays taken at a birth
 taken_stays : (w : Sight) (slot header s : ℕ) → slice_index_or w.headers slot 0 ≡ 0 → IsTaken w s → IsTaken (sight_with_header w slot header) s
 taken_stays w slot header s free taken = subst (λ n. 0 < n) (sym (get_or-set_other w.headers slot s header 0 (taken_is_other w slot s free taken))) taken
+
+-- every object keeps its number at a birth, and the new one has its own
+pub birth_numbers : (heap : Heap) (w : Sight) (number : ℕ → ℕ) (slot header object t r : ℕ) (x : Option ℕ) → slice_index_or w.headers slot 0 ≡ 0
+    → StandsBy heap (sight_with_register (sight_with_header w slot header) t r x) (with_birth number slot object)
+    → GoesOnBy heap w (sight_with_register (sight_with_header w slot header) t r x) number (with_birth number slot object) object
+birth_numbers heap w number slot header object t r x free by =
+    record {
+      stands = by;
+      kept = λ s taken. (taken_stays w slot header s free taken, with_birth-other number slot object s (taken_is_other w slot s free taken));
+      born = λ s taken new. elim (cases_eq s slot) [
+        | inl is ↦ ap (with_birth number slot object) is ∙ with_birth-same number slot object
+        | inr other ↦ absurd (new (taken_before w slot header s other taken))
+      ];
+    }
 
 -- a birth keeps every name in a taken slot
 pub birth_sound : (w : Sight) (slot header : ℕ) → slot < length w.headers → slice_index_or w.headers slot 0 ≡ 0 → IsSound w → IsSound (sight_with_header w slot header)

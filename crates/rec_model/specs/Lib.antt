@@ -14,5 +14,6 @@ pub mod Seen
 pub mod Sets
 pub mod Sight
 pub mod Sums
+pub mod Unfreed
 pub use Rattle.rec_word.specs.Place
 pub use Rattle.rec_word.specs.Word

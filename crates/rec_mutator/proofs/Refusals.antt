@@ -12,13 +12,13 @@ use Rattle.rec_model.specs.Asking.{null_or_object, same, yes_or_no}
 use Rattle.rec_log.specs.declared.contents.Contents.{Contents}
 use Rattle.rec_log.specs.declared.entry.Entry.{Entry}
 use Rattle.rec_mutator.specs.Causes.{AnswersBy, is_refusal, LacksObject, MakesEntry, FoundNoneAt, FoundNone, HasCause}
-use Rattle.rec_mutator.specs.Private.{Private, register, work_of, work_at, answer_of, answer_at, IsAt, IsScan, IsMachine}
-use Rattle.rec_mutator.specs.Took.{step_of}
+use Rattle.rec_mutator.specs.Private.{Private, register, is_busy, work_of, work_at, answer_of, answer_at, IsAt, IsScan, IsMachine}
+use Rattle.rec_mutator.specs.Took.{took_of, swapped_at, swapped_of, step_of, IsBetween}
 use Rattle.rec_mutator.specs.Step.{Step, Decides, GoesOn, IsLogFull, IsStill}
 use Rattle.rec_mutator.specs.declared.made.Made.{Made}
 use Rattle.rec_mutator.specs.declared.made.Made.TheVariants as makes
 use Rattle.rec_mutator.specs.declared.phase.Phase.{Phase}
-use Rattle.rec_mutator.specs.declared.phase.Phase.TheVariants.{Scanned}
+use Rattle.rec_mutator.specs.declared.phase.Phase.TheVariants.{Idle, Begun, Scanning, Scanned, Crossing, Swapping, Giving, Finished}
 use Rattle.rec_mutator.specs.declared.work.Work.{Work}
 use Rattle.rec_mutator.specs.declared.work.Work.TheVariants as works
 use Rattle.rec_mutator.proofs.Steps.{step_made}
@@ -212,3 +212,23 @@ step_cause {q = q} cmd told kept work answer (Step.give_box c) = absurd (crosses
 -- every answer has its cause
 pub answer_cause : (p : Private) (word : ℕ) (box : Contents) (cmd : Cmd) (told : Told) → IsMachine p → AnswersBy p word box cmd told → HasCause p (step_of p word box) cmd word told.answer
 answer_cause p word box cmd told kept by = step_cause cmd told kept by.work by.answer (step_made p word box by.busy by.between)
+
+-- where a command is answered no mailbox waits to be swapped: the whole step is what is learnt of the word
+unswapped : (q : Private) (box : Contents) (told : Told) (at : Phase) → answer_at at ≡ Some (makes.Answered told) → swapped_at q box at ≡ q
+unfolding swapped_at
+unswapped q box told Idle answer = refl
+unswapped q box told (Begun work) answer = refl
+unswapped q box told (Scanning reg label before slot) answer = refl
+unswapped q box told (Scanned reg label before) answer = refl
+unswapped q box told Crossing answer = refl
+unswapped q box told Swapping answer = let not_so : ◌≡◌ {A = Option Made} None (Some (makes.Answered told)) = answer in absurd (cc)
+unswapped q box told Giving answer = refl
+unswapped q box told (Finished work made) answer = refl
+
+-- so what is learnt has the cause of its answer
+pub took_cause : (p : Private) (word : ℕ) (cmd : Cmd) (told : Told) → IsMachine p → is_busy p ≡ true → IsBetween p.phase → work_of p ≡ Some (works.Command cmd) → answer_of (took_of p word) ≡ Some (makes.Answered told)
+    → HasCause p (took_of p word) cmd word told.answer
+unfolding step_of swapped_of
+took_cause p word cmd told kept busy between work answer =
+    let whole : step_of p word p.log ≡ took_of p word = unswapped (took_of p word) p.log told (took_of p word).phase answer in
+    subst (λ q. HasCause p q cmd word told.answer) whole (step_cause cmd told kept work (ap answer_of whole ∙ answer) (step_made p word p.log busy between))

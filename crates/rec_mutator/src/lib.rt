@@ -5,9 +5,9 @@
 //! The rule that it keeps: what comes next and what is learnt are functions of the machine's private record and of the
 //! word found alone, and of the buffer in the own mailbox where a step takes it; and each work ends: an allocation after at
 //! most two steps more than there are slots, every other command after one, a poll after at most three.
-//! The layer above may use that `next`, `took`, `swap_box` and `begin` are exactly `next_of`, `took_of`, `swapped_of` and `begun_of` of
-//! `specs/`, and
-//! the laws, which are the contracts of the functions in `laws`.
+//! The layer above may use that `next`, `took`, `swap_box` and `begin` are exactly `next_of`, `took_of`, `swapped_of` and
+//! `begun_of` of `specs/`, that `took` says why each refusal comes and where a poll ends, and the laws, which are the
+//! contracts of the functions in `laws`.
 //! That a mutator logs what it writes and is never stopped is the idea of the paper "Java without the Coffee Breaks"
 //! (2001); the steps of each command are this project's profile (`docs/PROFILE.md`).
 #![tactic(auto)]

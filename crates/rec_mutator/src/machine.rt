@@ -3,6 +3,11 @@ ghost use Rattle.rec_word.specs.Place.{place_of};
 ghost use Rattle.rec_mutator.specs.Private.{Private, opened, register, is_full, word_for, is_busy, work_of, answer_of, HasOperands, IsValid, limit_of, IsScan, IsMachine, KeepsSizes};
 ghost use Rattle.rec_mutator.specs.Next.{next_of, begun_op, first_op, own_word};
 ghost use Rattle.rec_model.specs.Asking.{null_or_object, same, yes_or_no};
+ghost use Rattle.rec_mutator.specs.Causes.{HasCause, PollHasCause};
+ghost use Rattle.rec_mutator.specs.declared.made.Made.TheVariants as makes;
+ghost use Rattle.rec_mutator.specs.declared.work.Work.TheVariants as works;
+ghost use Rattle.rec_model.specs.declared.command.Cmd.{Cmd as Command};
+ghost use Rattle.rec_model.specs.declared.told.Told.{Told as Answered};
 ghost use Rattle.rec_mutator.specs.Took.{begun_of, begun_by, took_of, took_at, plain, moved, answered, with_register, first_by, polled, probed, none_free, spare, swapped_of, IsFound, IsRequested, IsSwapping, IsBetween};
 
 use crate::phase::Phase;
@@ -115,7 +120,6 @@ impl Machine {
     }
 
     /// Learns the word that the operation of `next` found: the step is made.
-    #[tactic(auto, unfolding(crate::specs::Next::next_of, crate::specs::Next::next_at, crate::specs::Took::took_of, crate::specs::Took::took_at))]
     #[inline(always)]
     pub fn took(&mut self, word: u64)
         requires busy { is_busy self.old ≡ true }
@@ -125,25 +129,20 @@ impl Machine {
         ensures took { self.new ≡ took_of self.old word }
         ensures same { KeepsSizes self.old self.new }
 
+        // A command is refused exactly where its cause is, and a refusal changes no register and no log.
+        ensures cause { (cmd : Command) (told : Answered) → work_of self.old ≡ Some (works.Command cmd) → answer_of self.new ≡ Some (makes.Answered told) → HasCause self.old self.new cmd word told.answer }
+
+        // A poll tells that it crossed nowhere exactly where the epoch word was the own epoch; else it tells the epoch after the
+        // own one, in which the mutator is then.
+        ensures polled { PollHasCause self.old self.new word }
+
         // Each step counts, and a work ends in time.
         ensures steps { self.new.steps ≡ self.old.steps + 1 }
         ensures work { work_of self.new ≡ work_of self.old }
         ensures limit { IfSome (work_of self.new) (λ work. self.new.steps ≤ limit_of self.new.slots work) }
         ensures kept { IsMachine self.new }
     {
-        match self.phase {
-            Phase::Begun { work } => self.took_begun(work, word),
-            Phase::Scanning {
-                reg,
-                label,
-                before,
-                slot,
-            } => self.took_probe(reg, label, before, slot, word),
-            Phase::Scanned { reg, label, before } => self.took_last(reg, label, before, word),
-            Phase::Crossing => self.took_box(),
-            Phase::Giving => self.gave_box(),
-            Phase::Idle | Phase::Swapping | Phase::Finished { .. } => {}
-        }
+        self.learn(word);
     }
 
     /// Takes the buffer of the own mailbox, which is held, as the log, and gives the retired log that takes its place there.
@@ -280,6 +279,37 @@ impl Machine {
             return self.own_word();
         }
         Op::SwapField(self.place_of(slot, field), self.word_for(val))
+    }
+
+    // Learns the word that was found, by phase.
+    #[tactic(auto, unfolding(crate::specs::Next::next_of, crate::specs::Next::next_at, crate::specs::Took::took_of, crate::specs::Took::took_at))]
+    #[inline(always)]
+    fn learn(&mut self, word: u64)
+        requires busy { is_busy self.old ≡ true }
+        requires between { IsBetween self.old.phase }
+        requires found { IsFound self.old (next_of self.old) word }
+
+        ensures was { IsMachine self.old }
+        ensures took { self.new ≡ took_of self.old word }
+        ensures same { KeepsSizes self.old self.new }
+        ensures steps { self.new.steps ≡ self.old.steps + 1 }
+        ensures work { work_of self.new ≡ work_of self.old }
+        ensures limit { IfSome (work_of self.new) (λ work. self.new.steps ≤ limit_of self.new.slots work) }
+        ensures kept { IsMachine self.new }
+    {
+        match self.phase {
+            Phase::Begun { work } => self.took_begun(work, word),
+            Phase::Scanning {
+                reg,
+                label,
+                before,
+                slot,
+            } => self.took_probe(reg, label, before, slot, word),
+            Phase::Scanned { reg, label, before } => self.took_last(reg, label, before, word),
+            Phase::Crossing => self.took_box(),
+            Phase::Giving => self.gave_box(),
+            Phase::Idle | Phase::Swapping | Phase::Finished { .. } => {}
+        }
     }
 
     // Learns what the first step of a work found.

@@ -1,79 +1,34 @@
 -- What the clauses of the heap's calls and of a script's readers give to the played run.
-use Rattle.std.proofs.Common.{◌≡◌, inl, inr, ℕ, ◌+◌, ◌-◌, ◌<◌, ◌≤◌, length, false, get_or-set_other, if◌then◌else◌, sym, ap, subst, ◌∙◌, arith}
-use Rattle.std.specs.Option.{IfSome}
+use Rattle.std.proofs.Common.{◌≡◌, ◌≢◌, inl, inr, ℕ, ◌+◌, ◌-◌, ◌<◌, ◌≤◌, List, Option, None, Some, slice_index_or, length, false, sym, ap, subst, ◌∙◌, arith}
 use Rattle.std.proofs.lemmas.Bool.{cases_eq}
-use Rattle.rec_word.specs.Word.{stamp_of}
-use Rattle.rec_model.specs.declared.command.Cmd.{Cmd}
-use Rattle.rec_model.specs.declared.told.Told.{Told}
-use Rattle.rec_model.specs.Explained.{IsExplained}
-use Rattle.rec_model.specs.LegalOrder.{is_birth, word_left}
-use Rattle.rec_model.specs.Sight.{Sight}
+use Rattle.std.proofs.lemmas.List.{length-set}
+use Rattle.rec_model.specs.Heap.{Heap}
+use Rattle.rec_model.specs.Sight.{Sight, IsTaken, StandsBy}
 use Rattle.rec_mutator.specs.Private.{Private, is_busy}
+use Rattle.rec_mutator.specs.declared.work.Work.TheVariants as works
+use Rattle.rec_collector.specs.Kept.{IsAt}
+use Rattle.rec_collector.specs.declared.phase.Phase.TheVariants.{Looking}
+use Rattle.rec_collector.specs.declared.turn.Turn.{Turn}
+use Rattle.rec_collector.specs.declared.turn.Turn.TheVariants.{Waiting}
 use Rattle.rec_world.specs.declared.config.Config.{Config}
 use Rattle.rec_world.specs.Config.{IsMutator}
-use Rattle.rec_world.specs.State.{nobody}
-use Rattle.rec_world.specs.World.{State, sight, mutator, log_length, OnlyWorks, entries_of}
+use Rattle.rec_world.specs.Core.{Core, sight, mutator, nobody}
+use Rattle.rec_world.specs.CoreKept.{IsKept}
+use Rattle.rec_world.specs.CoreMoves.{EndsRun, turned}
+use Rattle.rec_world.specs.CoreSwept.{IsSweep}
+use Rattle.rec_world.specs.CoreSwept.IsSweep.{rests, marks, frees}
+use Rattle.rec_world.specs.World.{IsWorld, IsQuiet, IsCrossed as IsCrossedTo, IsLowestFree, TurnHasCause}
+use Rattle.rec_world.specs.Worked.{IsWorked}
+use Rattle.rec_world.proofs.CoreRuns.{end_kept}
 use Rattle.rec_script.specs.Script.{Contents, IsScript}
-use Rattle.rec_play.specs.Commanded.{AreIdle, Commanded}
+use Rattle.rec_play.specs.Commanded.{AreIdle, IsCrossed, Polled, Turned}
 
 -- a script has few mutators
 pub few_mutators : (script : Contents) → IsScript script → length script.commands ≤ 8
 few_mutators script is = is.most_mutators
 
--- the other mutators stay
-others_stay : (before mid : State) (t s : ℕ) → OnlyWorks before mid t → 0 < t → 0 < s → (s ≡ t → ⊥) → mutator mid s ≡ mutator before s
-others_stay before mid t s only some s_some other =
-    let apart : s - 1 ≡ t - 1 → ⊥ = λ same. other (omega arith) in
-    ap (λ (w : State). mutator w s) only.others
-    ∙ get_or-set_other before.mutators (t - 1) (s - 1) (mutator mid t) nobody apart
-
--- a mutator that only worked has its log and its epoch
-log_stays : (before mid : State) (t s : ℕ) → OnlyWorks before mid t → 0 < t → 0 < s → log_length mid s ≡ log_length before s
-log_stays before mid t s only some s_some = elim (cases_eq s t) [
-  | inl same ↦ subst (λ n. log_length mid n ≡ log_length before n) (sym same) (ap (λ (p : Private). length p.log.entries) only.own)
-  | inr other ↦ ap (λ (p : Private). length p.log.entries) (others_stay before mid t s only some s_some other)
-]
-
--- all are idle where the one that worked is
-pub idle_stay : (before mid : State) (t : ℕ) → OnlyWorks before mid t → 0 < t → is_busy (mutator mid t) ≡ false → AreIdle before → AreIdle mid
-idle_stay before mid t only some idle all s there =
-    let same : mid.config ≡ before.config = ap (λ (w : State). w.config) only.others in
-    let was : IsMutator before.config s = subst (λ c. IsMutator c s) same there in
-    elim (cases_eq s t) [
-      | inl is ↦ subst (λ n. is_busy (mutator mid n) ≡ false) (sym is) idle
-      | inr other ↦ ap is_busy (others_stay before mid t s only some (omega (arith, was.0)) other) ∙ all s was
-    ]
-
--- A poll before a command changes nothing that counts.
-pub polled : (before mid after : State) (t : ℕ) (cmd : Cmd) (told : Told) → 0 < t → OnlyWorks before mid t → sight mid ≡ sight before → (AreIdle before → AreIdle mid)
-    → Commanded mid after t cmd told → Commanded before after t cmd told
-polled before mid after t cmd told some only seen idle done =
-    let config : mid.config ≡ before.config = ap (λ (w : State). w.config) only.others in
-    let made : mid.made ≡ before.made = ap (λ (w : State). w.made) only.others in
-    let logged : log_length mid t ≡ log_length before t = log_stays before mid t t only some some in
-    let epoch : (mutator mid t).epoch ≡ (mutator before t).epoch = ap (λ (p : Private). p.epoch) only.own in
-    record {
-      explained = subst (λ (w : Sight). IsExplained w t cmd told (sight after)) seen done.explained;
-      log_full = λ full. sym logged ∙ done.log_full full ∙ ap (λ (c : Config). c.log_entries) config;
-      full = λ full. sym made ∙ done.full full ∙ ap (λ (c : Config). c.slots) config;
-      never = done.never;
-      made = done.made ∙ ap (λ n. n + (if is_birth (cmd, told) then 1 else 0)) made;
-      within = done.within;
-      logged = done.logged ∙ ap (λ n. n + entries_of cmd told.answer) logged;
-      others = λ s s_some most other. done.others s s_some (subst (λ (c : Config). s ≤ c.mutators) (sym config) most) other ∙ log_stays before mid t s only some s_some;
-      stamp = subst (λ n. IfSome (word_left cmd told) (λ word. stamp_of word ≡ record { writer = t; epoch = n; index = log_length before t })) epoch
-          (subst (λ n. IfSome (word_left cmd told) (λ word. stamp_of word ≡ record { writer = t; epoch = (mutator mid t).epoch; index = n })) logged done.stamp);
-      config = done.config ∙ config;
-      unmarked = done.unmarked;
-      idle = λ all. done.idle (idle all);
-    }
-
--- the others' logs stay, and all are idle, where the others' records stay
-pub others_logged : (before after : State) (t : ℕ) → ((s : ℕ) → (s ≡ t → ⊥) → 1 ≤ s → mutator after s ≡ mutator before s)
-    → (s : ℕ) → 0 < s → s ≤ before.config.mutators → (s ≡ t → ⊥) → log_length after s ≡ log_length before s
-others_logged before after t stay s some most other = ap (λ (p : Private). length p.log.entries) (stay s other some)
-
-pub others_idle : (before after : State) (t : ℕ) → after.config ≡ before.config → ((s : ℕ) → (s ≡ t → ⊥) → 1 ≤ s → mutator after s ≡ mutator before s)
+-- all are idle where the others' records stay
+pub others_idle : (before after : Core) (t : ℕ) → after.config ≡ before.config → ((s : ℕ) → s ≢ t → 1 ≤ s → mutator after s ≡ mutator before s)
     → is_busy (mutator after t) ≡ false → AreIdle before → AreIdle after
 others_idle before after t config stay idle all s there =
     let was : IsMutator before.config s = subst (λ c. IsMutator c s) config there in
@@ -81,3 +36,65 @@ others_idle before after t config stay idle all s there =
       | inl is ↦ subst (λ n. is_busy (mutator after n) ≡ false) (sym is) idle
       | inr other ↦ ap is_busy (stay s other was.0) ∙ all s was
     ]
+
+-- the mutator stays in its epoch, or crossed into the next
+crossed_by : (before after : Core) (t : ℕ) (x : Option ℕ) → IsCrossedTo before after t x → IsCrossed before after t
+crossed_by before after t None crossed = inl crossed
+crossed_by before after t (Some epoch) crossed = inr (crossed.1 ∙ crossed.0, crossed.2)
+
+-- A poll.
+pub polled_by : (before after : Core) (t : ℕ) (x : Option ℕ) → before.marked ≡ false → IsQuiet before after t → IsCrossedTo before after t x → is_busy (mutator after t) ≡ false → IsWorld after → IsWorked before t works.Poll after
+    → Polled before after t
+polled_by before after t x unmarked quiet crossed idle world worked =
+    record {
+      stays = record { config = quiet.config; unmarked = quiet.marked ∙ unmarked; slots = ap (λ (s : Sight). length s.headers) quiet.seen; sound = world.shaped.sound };
+      mutators = record { others = quiet.others; idle = idle };
+      collector = quiet.collector;
+      freed = quiet.freed;
+      requested = quiet.requested;
+      worked = worked;
+      seen = quiet.seen;
+      made = quiet.made;
+      crossed = crossed_by before after t x crossed;
+    }
+
+-- a sweep keeps the number of slots
+sweep_slots : (before after : Core) → IsSweep before after → length after.headers ≡ length before.headers
+sweep_slots before after (rests nothing headers freed less) = ap (length {A = ℕ}) headers
+sweep_slots before after (marks named headers freed freed_one none) = ap (length {A = ℕ}) headers
+sweep_slots before after (frees slot named there taken out odd headers freed) = ap (length {A = ℕ}) headers ∙ length-set before.headers slot 0
+
+-- A turn of the collector.
+pub turned_by : (before after : Core) → after.config ≡ before.config → after.marked ≡ false → IsSweep before after → IsWorld after → after.mutators ≡ before.mutators
+    → ((heap : Heap) (number : ℕ → ℕ) → StandsBy heap (sight before) number → StandsBy heap (sight after) number) → after.made ≡ before.made → after.epoch ≤ before.epoch + 1 → after ≡ turned before → Turned before after
+turned_by before after config unmarked sweep world mutators stands made requested step =
+    record {
+      step = step;
+      stays = record { config = config; unmarked = unmarked; slots = sweep_slots before after sweep; sound = world.shaped.sound };
+      mutators = mutators;
+      stands = stands;
+      sweep = sweep;
+      made = made;
+      requested = requested;
+    }
+
+-- all are idle after it
+pub turned_idle : (before after : Core) → Turned before after → AreIdle before → AreIdle after
+turned_idle before after done idle t there =
+    ap is_busy (ap (λ (ps : List Private). slice_index_or ps (t - 1) nobody) done.mutators) ∙ idle t (subst (λ (c : Config). IsMutator c t) done.stays.config there)
+
+-- The mutator for which the collector waits is one of the heap's.
+pub waits_for_one : (before after : Core) (turn : Turn) (t : ℕ) → TurnHasCause before after turn → turn ≡ Waiting t → EndsRun after → IsWorld after → IsMutator after.config t
+waits_for_one before after turn t cause is run world =
+    let waits : TurnHasCause before after (Waiting t) = subst (TurnHasCause before after) is cause in
+    let kept : IsKept after = end_kept after world.shaped.config run in
+    let phase : after.collector.phase ≡ Looking t = ap (λ (w : Core). w.collector.phase) waits.2 ∙ waits.0 in
+    let at : IsAt after.collector (Looking t) = subst (IsAt after.collector) phase kept.collector.machine.now in
+    let first : 0 < t = at.first in
+    let there : t ≤ length after.collector.newer = at.there in
+    let many : length after.collector.newer ≡ after.config.mutators = kept.collector.mutators in
+    (omega arith, omega arith)
+
+-- A birth's slot was free.
+pub born_free : (before : Core) (slot : ℕ) → IsLowestFree (sight before) slot → (s : ℕ) × (s < length before.headers) × (IsTaken (sight before) s → ⊥)
+born_free before slot lowest = (slot, lowest.there, λ taken. let free : slice_index_or before.headers slot 0 ≡ 0 = lowest.free in omega arith)

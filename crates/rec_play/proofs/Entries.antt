@@ -1,53 +1,27 @@
--- What a command adds: births, log entries and stamped words.
-use Rattle.std.proofs.Common.{◌≡◌, ℕ, ◌+◌, ◌<◌, ◌≤◌, List, [], ◌∷◌, ◌++◌, Option, None, Some, Bool, true, false, if◌then◌else◌, ◌&&◌, length, refl, sym, subst, ◌∙◌, arith}
+-- What a command adds: log entries and stamped words; and which stamps a mutator has left behind.
+use Rattle.std.proofs.Common.{◌≡◌, ◌≢◌, ◌⊎◌, inl, inr, ℕ, ◌<◌, ◌≤◌, None, Some, true, if◌then◌else◌, ◌&&◌, length, refl, sym, ap, subst, ◌∙◌, arith}
 use Rattle.std.specs.Option.{IfSome}
-use Rattle.std.proofs.lemmas.List.{length_push, length-set}
+use Rattle.std.proofs.lemmas.Bool.{cases_eq}
+use Rattle.rec_word.specs.declared.stamps.Stamp.{Stamp}
 use Rattle.rec_model.specs.declared.command.Cmd.{Cmd}
 use Rattle.rec_model.specs.declared.command.Cmd.TheVariants as commands
 use Rattle.rec_model.specs.declared.answer.Answer.{Answer}
 use Rattle.rec_model.specs.declared.answer.Answer.TheVariants as answers
 use Rattle.rec_model.specs.declared.told.Told.{Told}
-use Rattle.rec_model.specs.Heap.{Heap, Object, register, born}
-use Rattle.rec_model.specs.Asking.{asked, asks, is_done, got, put}
-use Rattle.rec_model.specs.LegalOrder.{Limits, Moment, is_new, is_birth, AllocationFits, word_left}
-use Rattle.rec_world.specs.World.{entries_of}
-
--- births are counted: a read, a write and the others make none
-got_births : (heap : Heap) (t dst f : ℕ) (x : Option ℕ) → length (got heap t dst f x).heap.objects ≡ length heap.objects + 0
-got_births heap t dst f None = omega arith
-got_births heap t dst f (Some n) = omega arith
-
-put_births : (heap : Heap) (f : ℕ) (val : Option ℕ) (made : Bool) (left : ℕ) (x : Option ℕ) → length (put heap f val made left x).heap.objects ≡ length heap.objects + 0
-put_births heap f val made left None = omega arith
-put_births heap f val true left (Some n) = omega (arith, length-set {A = Object})
-put_births heap f val false left (Some n) = omega arith
-
-births_at : (fields : ℕ) (heap : Heap) (t : ℕ) (cmd : Cmd) (made : Bool) (left : ℕ)
-    → length (asks fields heap t cmd made left).heap.objects ≡ length heap.objects + (if is_new cmd && made then 1 else 0)
-births_at fields heap t (commands.New reg label) true left = length_push heap.objects (born fields label)
-births_at fields heap t (commands.New reg label) false left = omega arith
-births_at fields heap t (commands.Null reg) made left = omega arith
-births_at fields heap t (commands.Copy dst src) made left = omega arith
-births_at fields heap t (commands.Get dst src f) made left = got_births heap t dst f (register heap.registers t src)
-births_at fields heap t (commands.Put src f val) made left = put_births heap f (register heap.registers t val) made left (register heap.registers t src)
-births_at fields heap t (commands.Value reg) made left = omega arith
-births_at fields heap t (commands.Same a b) made left = omega arith
-
-pub births : (fields : ℕ) (heap : Heap) (t : ℕ) (cmd : Cmd) (told : Told) → length (asked fields heap t cmd told).heap.objects ≡ length heap.objects + (if is_birth (cmd, told) then 1 else 0)
-births fields heap t cmd told = births_at fields heap t cmd (is_done told.answer) told.left
-
--- a list that grows by one where there is a birth
-pub grows_at : (ns : List ℕ) (n : ℕ) (birth : Bool) → length (if birth then ns ++ n ∷ [] else ns) ≡ length ns + (if birth then 1 else 0)
-grows_at ns n true = length_push ns n
-grows_at ns n false = omega arith
+use Rattle.rec_model.specs.Asking.{is_done}
+use Rattle.rec_model.specs.LegalOrder.{Limits, Moment, is_new, AllocationFits, word_left}
+use Rattle.rec_mutator.specs.Private.{Private}
+use Rattle.rec_world.specs.Core.{Core, mutator}
+use Rattle.rec_world.specs.World.{log_length, entries_of}
+use Rattle.rec_script.specs.Script.{Contents}
 
 -- an allocation's answer fits
-pub allocation_fits : (limits : Limits) (w : Moment) (made : ℕ) (cmd : Cmd) (answer : Answer) → made ≡ length w.unfreed
-    → (answer ≡ answers.Full → made ≡ limits.slots) → (is_new cmd && is_done answer ≡ true → made < limits.slots) → AllocationFits limits w cmd answer
-allocation_fits limits w made (commands.New reg label) answers.Done is full lowest = subst (λ n. n < limits.slots) is (lowest refl)
-allocation_fits limits w made (commands.New reg label) answers.Full is full lowest = sym is ∙ full refl
-allocation_fits limits w made (commands.New reg label) _ is full lowest = tt
-allocation_fits limits w made _ answer is full lowest = tt
+pub allocation_fits : (limits : Limits) (w : Moment) (cmd : Cmd) (answer : Answer) → (answer ≡ answers.Full → length w.unfreed ≡ limits.slots)
+    → (is_new cmd && is_done answer ≡ true → length w.unfreed < limits.slots) → AllocationFits limits w cmd answer
+allocation_fits limits w (commands.New reg label) answers.Done full fewer = fewer refl
+allocation_fits limits w (commands.New reg label) answers.Full full fewer = full refl
+allocation_fits limits w (commands.New reg label) _ full fewer = tt
+allocation_fits limits w _ answer full fewer = tt
 
 -- a write that leaves a word makes a log entry
 put_entry : (src f val : ℕ) (answer : Answer) (left v : ℕ) → (if is_done answer then Some left else None) ≡ Some v → entries_of (commands.Put src f val) answer ≡ 1
@@ -67,3 +41,45 @@ one_entry _ _ = omega arith
 -- the stamp that a word left bears
 pub stamp_is : (cmd : Cmd) (told : Told) (P : ℕ → Type 0) (v : ℕ) → IfSome (word_left cmd told) P → word_left cmd told ≡ Some v → P v
 stamp_is cmd told P v held leaves = subst (λ o. IfSome o P) leaves held
+
+-- one entry comes before another in the order of epochs, and within an epoch of their indices
+abbrev pub IsBefore : (epoch index later_epoch later_index : ℕ) → Type 0
+IsBefore epoch index later_epoch later_index = (epoch < later_epoch) ⊎ ((epoch ≡ later_epoch) × (index < later_index))
+
+-- a word's entry is one that its writer has left behind
+pub record HasEntry (script : Contents) (world : Core) (stamp : Stamp) : Type 0 where
+  pub some : 0 < stamp.writer
+  pub most : stamp.writer ≤ length script.commands
+  pub earlier : IsBefore stamp.epoch stamp.index (mutator world stamp.writer).epoch (log_length world stamp.writer)
+
+-- a mutator's log only grows, or the mutator is in a later epoch
+abbrev pub Advances : (before after : Core) → ℕ → Type 0
+Advances before after t =
+    (((mutator after t).epoch ≡ (mutator before t).epoch) × (log_length before t ≤ log_length after t)) ⊎ ((mutator before t).epoch < (mutator after t).epoch)
+
+-- what was left behind stays so
+pub entry_stays : (script : Contents) (before after : Core) (stamp : Stamp) → ((t : ℕ) → 0 < t → Advances before after t) → HasEntry script before stamp → HasEntry script after stamp
+entry_stays script before after stamp advances has =
+    record {
+      some = has.some;
+      most = has.most;
+      earlier = later (advances stamp.writer has.some) has.earlier;
+    }
+  where
+    later : Advances before after stamp.writer → IsBefore stamp.epoch stamp.index (mutator before stamp.writer).epoch (log_length before stamp.writer)
+        → IsBefore stamp.epoch stamp.index (mutator after stamp.writer).epoch (log_length after stamp.writer)
+    later (inl (same, grown)) (inl earlier) = inl (omega arith)
+    later (inl (same, grown)) (inr (here, below)) = inr (here ∙ sym same, omega arith)
+    later (inr next) (inl earlier) = inl (omega arith)
+    later (inr next) (inr (here, below)) = inl (omega arith)
+
+-- a mutator that stays as it is
+pub advances_same : (before after : Core) (t : ℕ) → mutator after t ≡ mutator before t → Advances before after t
+advances_same before after t same = inl (ap (λ (p : Private). p.epoch) same, let stays : log_length after t ≡ log_length before t = ap (λ (p : Private). length p.log.entries) same in omega arith)
+
+-- all advance where one does, and the others stay as they are
+pub all_advance : (before after : Core) (t : ℕ) → ((s : ℕ) → s ≢ t → 1 ≤ s → mutator after s ≡ mutator before s) → Advances before after t → (s : ℕ) → 0 < s → Advances before after s
+all_advance before after t others own s some = elim (cases_eq s t) [
+  | inl same ↦ subst (Advances before after) (sym same) own
+  | inr other ↦ advances_same before after s (others s other some)
+]

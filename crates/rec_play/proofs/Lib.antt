@@ -4,5 +4,6 @@ pub mod Orders
 pub mod Commands
 pub mod Entries
 pub mod Going
+pub mod Shows
 pub mod Rounds
 pub mod Ready

@@ -218,3 +218,27 @@ order_comes lengths seed turns =
 -- no turn drawn: mutator by mutator
 pub order_undrawn : (lengths : List ℕ) (seed : ℕ) → order lengths seed 0 ≡ by_mutator lengths
 order_undrawn lengths seed = ap (λ actors. mutators_of actors ++ by_mutator (left_after lengths actors)) (drawn_nothing 0 lengths (generator_of seed) refl)
+
+-- how many turns are the collector's
+abbrev pub collectors : List Actor → ℕ
+collectors [] = 0
+collectors (Mutator t ∷ actors) = collectors actors
+collectors (Collector ∷ actors) = 1 + collectors actors
+
+-- none of the remaining commands' turns is, and of the others no more than there are
+none_of_mutators : (ts : List ℕ) → collectors (map (λ t. Mutator t) ts) ≡ 0
+none_of_mutators [] = refl
+none_of_mutators (t ∷ ts) = none_of_mutators ts
+
+collectors_among : (actors : List Actor) (ts : List ℕ) → collectors (actors ++ map (λ t. Mutator t) ts) ≤ length actors
+collectors_among [] ts = let none : collectors (map (λ t. Mutator t) ts) ≡ 0 = none_of_mutators ts in omega arith
+collectors_among (Mutator t ∷ actors) ts = let rest : collectors (actors ++ map (λ t. Mutator t) ts) ≤ length actors = collectors_among actors ts in omega arith
+collectors_among (Collector ∷ actors) ts = let rest : collectors (actors ++ map (λ t. Mutator t) ts) ≤ length actors = collectors_among actors ts in omega arith
+
+-- so no more turns to come are the collector's than may be drawn
+pub collectors_few : (lengths : List ℕ) (seed turns : ℕ) → collectors (to_come (record { left = lengths; generator = generator_of seed; turns = turns })) ≤ turns
+collectors_few lengths seed turns =
+    let few : length (drawn lengths seed turns) ≤ turns = drawn_few lengths seed turns in
+    let among : collectors (to_come (record { left = lengths; generator = generator_of seed; turns = turns })) ≤ length (drawn lengths seed turns) =
+    collectors_among (drawn lengths seed turns) (by_mutator (left_after lengths (drawn lengths seed turns))) in
+    omega arith

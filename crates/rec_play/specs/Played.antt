@@ -1,34 +1,15 @@
 -- What the commands of a script gave when they were played.
-use Rattle.std.specs.Prelude.{◌≡◌, ℕ, ◌≤◌, max, Bool, true, Some, is_some, List, [], ◌∷◌, map, length, replicate, slice_index_or}
-use Rattle.std.specs.List.{slice_get, All}
+use Rattle.std.specs.Prelude.{◌≡◌, ℕ, ◌≤◌, true, List, [], ◌∷◌, map, length, replicate, slice_index_or}
+use Rattle.std.specs.List.{All}
 use Rattle.rec_model.specs.declared.command.Cmd.{Cmd}
 use Rattle.rec_model.specs.Heap.{opening}
-use Rattle.rec_model.specs.LegalOrder.{Line, Event, Limits, Moment, after_all, actor, actors, IsLegalOrder}
-use Rattle.rec_world.specs.declared.config.Config.{Config}
+use Rattle.rec_model.specs.LegalOrder.{Line, Event, Limits, Moment, after_all, actors, IsLegalOrder}
+use Rattle.rec_world.specs.Core.{Core}
 use Rattle.rec_world.specs.Journal.{Notes}
 use Rattle.rec_script.specs.Script.{Contents}
-use Rattle.rec_play.specs.Playing.{order}
-
--- the greatest number of commands of a mutator
-abbrev pub longest : List (List Cmd) → ℕ
-longest [] = 0
-longest (cmds ∷ rest) = max (length cmds) (longest rest)
-
--- the room of each log: that of the longest mutator, and at least one entry
-abbrev pub log_room : Contents → ℕ
-log_room script = max (longest script.commands) 1
-
--- the numbers of the heap that a script runs on
-abbrev pub config_of : Contents → Config
-config_of script =
-    record {
-      slots = script.slots;
-      fields = script.fields;
-      registers = script.registers;
-      mutators = length script.commands;
-      log_entries = log_room script;
-      first_epoch = 1;
-    }
+use Rattle.rec_play.specs.Playing.{order, all_turns}
+use Rattle.rec_play.specs.Run.{IsPlayedRun}
+pub use Rattle.rec_play.specs.Numbers.{longest, log_room, config_of}
 
 -- the numbers that its one order speaks of
 abbrev pub limits_of : Contents → Limits
@@ -49,10 +30,6 @@ opening_moment script =
 abbrev pub last_moment : Contents → List Event → Moment
 last_moment script = after_all (limits_of script) (opening_moment script)
 
--- whether the event is an answer
-abbrev pub is_answer : Event → Bool
-is_answer e = is_some (actor e)
-
 -- how many commands each mutator has
 abbrev pub lengths_of : Contents → List ℕ
 lengths_of script = map length script.commands
@@ -71,10 +48,11 @@ pub record AreReady (commands : List (List Cmd)) (journals : List Notes) : Type 
   pub empty : All (λ journal. journal.lines ≡ []) journals
   pub room : (i : ℕ) → length (slice_index_or commands i []) ≤ (slice_index_or journals i no_notes).room
 
--- The journals hold the script's commands with what was told. One legal order from the opening heap explains them, in
--- which nothing is freed, and its answers stand in the order of the playing rule.
-pub record IsPlayed (script : Contents) (seed turns : ℕ) (journals : List (List Line)) (events : List Event) : Type 0 where
+-- The journals hold the script's commands with what was told. One legal order from the opening heap explains them, and its
+-- answers stand in the order of the playing rule. What was told is what the run tells that the rule's turns make up, with the
+-- frees and the sweeps of the collector's turns, and the world is the one at its end.
+pub record IsPlayed (script : Contents) (seed turns : ℕ) (journals : List (List Line)) (events : List Event) (world : Core) : Type 0 where
   pub commands : map (map (λ line. line.0)) journals ≡ script.commands
   pub legal : IsLegalOrder (limits_of script) (opening_moment script) journals events
-  pub answers_only : (i : ℕ) (e : Event) → slice_get events i ≡ Some e → is_answer e ≡ true
   pub in_order : actors events ≡ order (lengths_of script) seed turns
+  pub run : IsPlayedRun script (all_turns (lengths_of script) seed turns) events world

@@ -68,6 +68,11 @@ abbrev pub order : (lengths : List ℕ) → (seed turns : ℕ) → List ℕ
 order lengths seed turns =
     mutators_of (drawn lengths seed turns) ++ by_mutator (left_after lengths (drawn lengths seed turns))
 
+-- All turns: those drawn, and then the remaining commands mutator by mutator.
+abbrev pub all_turns : (lengths : List ℕ) → (seed turns : ℕ) → List Actor
+all_turns lengths seed turns =
+    drawn lengths seed turns ++ map (λ t. Mutator t) (by_mutator (left_after lengths (drawn lengths seed turns)))
+
 -- the rule in the middle: what each mutator has left, the generator, and how many turns may still be drawn
 pub record Rest : Type 0 where
   pub left : List ℕ

@@ -2,10 +2,10 @@
 //!
 //! Where several mutators' commands run one at a time, a rule says who comes next. While a mutator has commands left, and
 //! no more turns were drawn than told, a random word names one of those mutators or the collector; a mutator's turn is its
-//! next command. Afterwards the remaining commands run mutator by mutator.
+//! next command, and the collector's one step of its collection. Afterwards the remaining commands run mutator by mutator.
 //! The rule that this crate keeps: who has which turn follows from the numbers of commands, the seed and the number of
 //! drawn turns alone, and never from the heap; each mutator's own commands keep their order; and what is told is what the
-//! heap that never frees tells in that order.
+//! heap that never frees tells in that order, with frees and sweeps among the answers.
 //! The layer above may use the contracts of `play` and of the calls that open what a script is played with, the laws of
 //! orders, which are the contracts of the functions in `laws`, and the definitions of `specs/`.
 //! The rule is this project's profile (`docs/PROFILE.md`); the generator is PCG's, by O'Neill, with 32-bit words.

@@ -1,24 +1,26 @@
 //! The commands of a script, carried out in the order of the playing rule.
 
-ghost use Rattle.std.specs.Prelude.{◌≡◌, ℕ, ◌+◌, ◌-◌, ◌<◌, ◌≤◌, List, [], ◌∷◌, ◌++◌, Some, false, length, take, slice_get, slice_index_or};
+ghost use Rattle.std.specs.Prelude.{◌≡◌, ◌⊎◌, ℕ, ◌+◌, ◌-◌, ◌<◌, ◌≤◌, List, [], ◌∷◌, ◌++◌, Some, false, length, take, slice_get, slice_index_or};
 ghost use Rattle.std.specs.List.{sum};
 ghost use Rattle.rec_model.specs.LegalOrder.{Event};
 ghost use Rattle.rec_model.specs.Sight.{StandsFor};
 ghost use Rattle.rec_model.specs.declared.command.Cmd.{Cmd};
 ghost use Rattle.rec_model.specs.declared.told.Told.{Told};
-ghost use Rattle.rec_world.specs.World.{sight, opened};
-ghost use Rattle.rec_play.specs.Commanded.{AreIdle, Commanded};
+ghost use Rattle.rec_world.specs.Core.{Core, sight, opened};
+ghost use Rattle.rec_play.specs.Commanded.{AreIdle, Commanded, Polled, PollsNone, PollsOne, Turned, noted};
 ghost use Rattle.rec_play.specs.Played.{AreReady, IsPlayed, config_of, last_moment, lengths_of, lines_of};
 ghost use Rattle.rec_play.specs.Playing.{order as order_of};
+ghost use Rattle.rec_play.specs.Run.{commands_of};
 
 use crate::Actor;
 use crate::schedule::{MOST_MUTATORS, Schedule};
+use rec_collector::Turn;
 use rec_script::Script;
 use rec_world::{Journal, Order, World};
 
 /// Runs the commands of a script on the heap that was opened for it, by the playing rule with this seed and at most so many
-/// drawn turns. Each mutator's journal gets its commands with what was told, and `order` the mutators, turn by turn. It
-/// takes no memory.
+/// drawn turns; a turn of the collector is one step of its collection. Each mutator's journal gets its commands with what was
+/// told, and `order` the mutators, turn by turn. It takes no memory.
 pub fn play(
     script: &Script,
     seed: u64,
@@ -35,13 +37,17 @@ pub fn play(
     requires room { sum (lengths_of script.now) ≤ order.old.room }
 
     // Some legal order explains what was told. Its answers stand in the order of the rule, and its heap stands for the world.
+    // Its events are what the run tells that the turns of the rule make up, and the world is the one at its end.
     ensures played { (events : List Event)
-        × IsPlayed script.now seed turns (lines_of journals.new) events
+        × IsPlayed script.now seed turns (lines_of journals.new) events world.new
         × StandsFor (last_moment script.now events).heap (sight world.new)
         × (world.new.made ≡ length (last_moment script.now events).heap.objects) }
     ensures order { order.new.list ≡ order_of (lengths_of script.now) seed turns }
     ensures config { world.new.config ≡ config_of script.now }
     ensures unmarked { world.new.marked ≡ false }
+
+    // Each of the collector's turns requests one epoch more at most.
+    ensures epochs { world.new.epoch ≤ 1 + turns }
 {
     let lengths = lengths_of(script);
     let mutators = usize::from(script.mutators());
@@ -52,8 +58,7 @@ pub fn play(
                 let journal = &mut journals[usize::from(t) - 1];
                 give_turn(script, t, world, journal, order);
             }
-            // Until there are epochs, the collector's turn does nothing.
-            Actor::Collector => {}
+            Actor::Collector => give_collector_turn(script, world, journals),
         }
     }
 }
@@ -80,10 +85,11 @@ fn give_turn(script: &Script, t: u8, world: &mut World, journal: &mut Journal, o
     requires journal_room { 0 < journal.old.room }
     requires order_room { 0 < order.old.room }
 
-    // The mutator's next command was carried out and noted.
-    ensures commanded { (cmd : Cmd) × (told : Told)
+    // The mutator polled, and its next command was carried out and noted.
+    ensures commanded { (polled : Core) × (cmd : Cmd) × (told : Told)
         × (slice_get (slice_index_or script.now.commands (t - 1) []) (length journal.old.lines) ≡ Some cmd)
-        × Commanded world.old world.new t cmd told
+        × Polled world.old polled t
+        × Commanded polled world.new t cmd told
         × (journal.new.lines ≡ journal.old.lines ++ (cmd, told) ∷ []) }
     ensures journal_room { journal.new.room ≡ journal.old.room - 1 }
     ensures turn { order.new.list ≡ order.old.list ++ t ∷ [] }
@@ -94,4 +100,23 @@ fn give_turn(script: &Script, t: u8, world: &mut World, journal: &mut Journal, o
     let told = world.command(t, cmd);
     journal.note(cmd, told);
     order.note(t);
+}
+
+// The collector makes a step. Where it waits for a mutator that has no command left, that mutator polls: no turn of its own
+// comes in which it could cross.
+fn give_collector_turn(script: &Script, world: &mut World, journals: &[Journal])
+    requires config { world.old.config ≡ config_of script.now }
+    requires unmarked { world.old.marked ≡ false }
+    requires idle { AreIdle world.old }
+    requires journals { length journals.now ≡ length script.now.commands }
+    requires few { (t : ℕ) → noted journals.now t ≤ length (slice_index_or script.now.commands (t - 1) []) }
+
+    ensures { (stepped : Core) × Turned world.old stepped × (PollsOne script.now journals.now world.old stepped world.new ⊎ PollsNone script.now journals.now world.old stepped world.new) }
+{
+    if let Turn::Waiting { mutator } = world.turn() {
+        let journal = &journals[usize::from(mutator) - 1];
+        if journal.lines().len() == script.commands(mutator).len() {
+            world.poll(mutator);
+        }
+    }
 }

@@ -1,8 +1,13 @@
+ghost use Rattle.std.specs.Prelude.{◌≡◌, ◌≤◌, [], IfOk};
+ghost use Rattle.std.specs.List.{sum};
+ghost use Rattle.rec_world.specs.Core.{opened};
+ghost use Rattle.rec_play.specs.Played.{AreReady, config_of, lengths_of};
+
 use super::*;
 use crate::schedule::Schedule;
-use rec_model::Answer;
-use rec_script::read;
-use rec_world::{Config, World};
+use rec_model::{Answer, Cmd};
+use rec_script::{Script, read};
+use rec_world::{Config, Journal, Order, World};
 use std::alloc::Global;
 use std::test::Fail;
 
@@ -87,6 +92,46 @@ fn opens_what_a_script_is_played_with(rt: HostRuntime) -> Result<(), Fail> {
     Ok(())
 }
 
+// The heap of a script.
+fn open_world(alloc: Global, script: &Script) -> Result<World, Fail>
+    ensures { IfOk result (λ world. world ≡ opened (config_of script.now)) }
+{
+    let world = World::open(alloc, config_for(script))?;
+    Ok(world)
+}
+
+// Plays a script on the heap that was opened for it.
+fn play_on(
+    script: &Script,
+    seed: u64,
+    turns: u32,
+    mut world: World,
+    journals: &mut [Journal],
+    mut order: Order,
+) -> Order
+    requires opened { world ≡ opened (config_of script.now) }
+    requires journals { AreReady script.now.commands journals.old }
+    requires order { order.list ≡ [] }
+    requires room { sum (lengths_of script.now) ≤ order.room }
+{
+    play(script, seed, turns, &mut world, journals, &mut order);
+    order
+}
+
+// What comes of playing a script.
+fn played(
+    alloc: Global,
+    script: &Script,
+    seed: u64,
+    turns: u32,
+) -> Result<(Vec<Journal>, Order), Fail> {
+    let world = open_world(alloc, script)?;
+    let mut journals = journals_for(alloc, script)?;
+    let order = order_for(alloc, script)?;
+    let order = play_on(script, seed, turns, world, &mut journals, order);
+    Ok((journals, order))
+}
+
 // Whether playing the script of a text gives this order, and these answers to each mutator.
 fn plays(
     alloc: Global,
@@ -96,10 +141,7 @@ fn plays(
     wanted: &[&[Answer]],
 ) -> Result<bool, Fail> {
     let script = read(alloc, text)?;
-    let mut world = World::open(alloc, config_for(&script))?;
-    let mut journals = journals_for(alloc, &script)?;
-    let mut order = order_for(alloc, &script)?;
-    play(&script, seed, 300, &mut world, &mut journals, &mut order);
+    let (journals, order) = played(alloc, &script, seed, 300)?;
     if order.list() != wanted_order || journals.len() != wanted.len() {
         return Ok(false);
     }
@@ -149,44 +191,95 @@ fn plays_five_mutators(rt: HostRuntime) -> Result<(), Fail> {
     Ok(())
 }
 
-// Whether the commands of a played run, asked one by one in its order of a second heap, are told the same and leave the
-// same words.
-fn is_told_again(alloc: Global, text: &[u8], seed: u64) -> Result<bool, Fail> {
-    let script = read(alloc, text)?;
-    let mut world = World::open(alloc, config_for(&script))?;
-    let mut journals = journals_for(alloc, &script)?;
-    let mut order = order_for(alloc, &script)?;
-    play(&script, seed, 20, &mut world, &mut journals, &mut order);
-    let mut again = World::open(alloc, config_for(&script))?;
-    let mut asked = [0usize; 9];
-    for t in order.list() {
-        let index = usize::from(*t);
-        if index == 0 || index > journals.len() || index > 8 {
-            return Ok(false);
-        }
-        let Some((cmd, told)) = journals[index - 1].lines().get(asked[index]) else {
-            return Ok(false);
-        };
-        asked[index] += 1;
-        if !again.valid(*t, cmd) || again.busy(*t) || again.marked() {
-            return Ok(false);
-        }
-        if again.command(*t, *cmd) != *told {
-            return Ok(false);
-        }
-    }
-    Ok(again.words() == world.words())
+// A heap like a script's with so many slots.
+fn open_wide(alloc: Global, script: &Script, slots: u32) -> Result<World, Fail> {
+    let config = config_for(script);
+    let world = World::open(alloc, Config { slots, ..config })?;
+    Ok(world)
 }
 
+// The answer to a command, where it may be asked.
+fn ask(world: &mut World, t: u8, cmd: Cmd) -> Option<Answer> {
+    if !world.valid(t, &cmd) || world.busy(t) || world.marked() {
+        return None;
+    }
+    Some(world.command(t, cmd).answer)
+}
+
+// Whether the commands of these journals, asked one by one in this order of a heap that never frees, get the same answers, but
+// for those that found no free slot.
+fn are_told_again(order: &[u8], journals: &[Journal], again: &mut World) -> bool {
+    let mut asked = [0usize; 9];
+    for t in order {
+        let index = usize::from(*t);
+        if index == 0 || index > journals.len() || index > 8 {
+            return false;
+        }
+        let Some((cmd, told)) = journals[index - 1].lines().get(asked[index]) else {
+            return false;
+        };
+        asked[index] += 1;
+        let found_none = matches!(told.answer, Answer::Full | Answer::Busy { .. });
+        if !found_none && ask(again, *t, *cmd) != Some(told.answer) {
+            return false;
+        }
+    }
+    true
+}
+
+// The same of a heap with a slot for every birth, whose collector makes no turn. The words that its writes leave are all of the
+// first epoch.
+fn are_told_alike(
+    alloc: Global,
+    script: &Script,
+    order: &[u8],
+    journals: &[Journal],
+) -> Result<bool, Fail> {
+    let mut again = open_wide(alloc, script, 1000)?;
+    Ok(are_told_again(order, journals, &mut again))
+}
+
+// Whether what comes of playing the script of a text is told so.
+fn is_played_alike(alloc: Global, text: &[u8], seed: u64) -> Result<bool, Fail> {
+    let script = read(alloc, text)?;
+    let (journals, order) = played(alloc, &script, seed, 2000)?;
+    are_told_alike(alloc, &script, order.list(), &journals)
+}
+
+// A script in which each of these mutators makes its commands ten times over.
+fn repeated(alloc: Global, front: &str, mutators: &[&str]) -> Result<String, Fail> {
+    let mut text = String::new(alloc);
+    text.push_str(front)?;
+    for commands in mutators {
+        text.push_str("mutator\n")?;
+        for _ in 0..10 {
+            text.push_str(commands)?;
+        }
+    }
+    Ok(text)
+}
+
+// Scripts of two and of three mutators over so few slots that they are freed and taken again.
 #[test]
-fn three_mutators_are_told_as_one_by_one(rt: HostRuntime) -> Result<(), Fail> {
-    for seed in 0..20 {
-        let told = is_told_again(
-            rt.alloc(),
-            b"recycler 1\nheap 4 2 3\nmutator\nnew 1 10\nput 0 0 1\nget 2 0 1\nvalue 2\nnull 1\nsame 1 2\nmutator\nget 1 0 0\nput 1 1 0\nnew 2 20\nput 0 1 2\nvalue 1\nmutator\ncopy 1 0\nget 2 1 0\nvalue 2\nnew 2 30\nput 1 0 2\nsame 0 1\n",
-            seed,
-        )?;
-        assert_eq!(rt; told, true, "with seed {seed}");
+fn played_runs_are_told_as_by_a_heap_that_never_frees(rt: HostRuntime) -> Result<(), Fail> {
+    let two: [&str; 2] = [
+        "new 1 1\nput 0 0 1\nnull 1\nnew 1 2\nput 0 0 1\nget 2 0 0\nvalue 2\nnull 1\nnull 2\nnew 1 3\nvalue 1\nput 0 1 1\nget 2 0 1\nsame 1 2\nnull 2\nnew 1 4\nnew 2 5\nput 1 0 2\nget 2 1 0\nvalue 2\nnull 1\nnull 2\n",
+        "get 1 0 0\nvalue 1\nput 0 1 1\nnull 1\nnew 1 7\nvalue 1\nget 2 0 1\nput 1 1 2\nnull 2\nget 2 1 1\nvalue 2\nnull 1\nnew 1 8\nput 0 0 1\nget 2 0 0\nvalue 2\nnull 1\nnull 2\nnew 2 9\nvalue 2\nnull 2\n",
+    ];
+    let three: [&str; 3] = [
+        "new 1 1\nput 0 0 1\nnull 1\nnew 1 2\nput 0 0 1\nget 2 0 0\nvalue 2\nnull 2\nnew 2 3\nput 1 0 2\nnull 1\nget 3 2 0\nvalue 3\nnull 2\n",
+        "get 1 0 0\nvalue 1\nnew 2 5\nput 2 0 1\nput 0 0 2\nnull 1\nnull 2\nget 1 0 0\nget 2 1 0\nvalue 2\nnull 1\nnull 2\nnew 3 6\nvalue 3\n",
+        "new 1 7\nget 2 0 0\nput 1 0 2\nnull 2\nget 2 1 0\nvalue 2\nput 0 0 1\nnull 1\nnull 2\nget 1 0 0\nvalue 1\nsame 1 2\nnull 1\n",
+    ];
+    let scripts = [
+        repeated(rt.alloc(), "recycler 1\nheap 4 2 3\n", &two)?,
+        repeated(rt.alloc(), "recycler 1\nheap 5 1 4\n", &three)?,
+    ];
+    for text in &scripts {
+        for seed in 0..50 {
+            let alike = is_played_alike(rt.alloc(), text.as_bytes(), seed)?;
+            assert_eq!(rt; alike, true, "with seed {seed}");
+        }
     }
     Ok(())
 }

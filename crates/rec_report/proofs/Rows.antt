@@ -13,7 +13,7 @@ use Rattle.rec_model.specs.Listing.{Row, number_in, slot_row, ListsSlots}
 use Rattle.rec_model.proofs.Members.{is_in-head, is_in-tail}
 use Rattle.rec_model.proofs.Numbered.{lists_reached}
 use Rattle.rec_world.specs.Numbering.{Numbered, number_of}
-use Rattle.rec_world.specs.World.{State, sight, label_of}
+use Rattle.rec_world.specs.World.{Core, sight, label_of}
 use Rattle.rec_report.specs.Report.{IsNumbered, AreHolders}
 use Rattle.rec_report.specs.Text.{field_number, live_line, row_line, row_lines}
 use Rattle.rec_report.proofs.Held.{own_words}
@@ -50,7 +50,7 @@ abbrev row_of : ℕ → ℕ → List (Option ℕ) → Row
 row_of label count fields = record { label = label; count = count; fields = fields }
 
 -- the row that is read off a listed slot
-pub read_row : (w : State) (fields : ℕ) (n : Numbered) (i slot wide again label count : ℕ) (found : Option ℕ) (words counts : List ℕ) → IsNumbered w fields n → AreHolders w n.list counts → i < length n.list → slot ≡ get_or n.list i 0 → wide ≡ fields → again ≡ fields → words ≡ w.words → found ≡ label_of (get_or w.headers slot 0) → label ≡ unwrap_or found 0 → count ≡ get_or counts slot 0 → row_of label count (map (λ word. field_number n.list (target_of word)) (slice_range words (slot * wide) (slot * wide + again))) ≡ slot_row (sight w) n.list (get_or n.list i 0)
+pub read_row : (w : Core) (fields : ℕ) (n : Numbered) (i slot wide again label count : ℕ) (found : Option ℕ) (words counts : List ℕ) → IsNumbered w fields n → AreHolders w n.list counts → i < length n.list → slot ≡ get_or n.list i 0 → wide ≡ fields → again ≡ fields → words ≡ w.words → found ≡ label_of (get_or w.headers slot 0) → label ≡ unwrap_or found 0 → count ≡ get_or counts slot 0 → row_of label count (map (λ word. field_number n.list (target_of word)) (slice_range words (slot * wide) (slot * wide + again))) ≡ slot_row (sight w) n.list (get_or n.list i 0)
 read_row w fields n i slot wide again label count found words counts numbered held within at e f all look opened counted =
     let reached : Reaches (sight w) slot = subst (Reaches (sight w)) (sym at) (All-get_or (Reaches (sight w)) n.list i 0 within numbered.numbers.reached) in
     ap (λ k. row_of k count (map (λ word. field_number n.list (target_of word)) (slice_range words (slot * wide) (slot * wide + again)))) (opened ∙ ap (λ x. unwrap_or x 0) look ∙ header_label (get_or w.headers slot 0))
@@ -61,7 +61,7 @@ read_row w fields n i slot wide again label count found words counts numbered he
     ∙ ap (slot_row (sight w) n.list) at
 
 -- the next row
-pub row_step : (first so_far more : List (List ℕ)) (line : List ℕ) (w : State) (list : List ℕ) (i : ℕ) (row : Row) → i < length list → so_far ≡ first ++ row_lines (map (slot_row (sight w) list) (take i list)) → line ≡ row_line (i + 1) row → row ≡ slot_row (sight w) list (get_or list i 0) → more ≡ so_far ++ line ∷ [] → more ≡ first ++ row_lines (map (slot_row (sight w) list) (take (i + 1) list))
+pub row_step : (first so_far more : List (List ℕ)) (line : List ℕ) (w : Core) (list : List ℕ) (i : ℕ) (row : Row) → i < length list → so_far ≡ first ++ row_lines (map (slot_row (sight w) list) (take i list)) → line ≡ row_line (i + 1) row → row ≡ slot_row (sight w) list (get_or list i 0) → more ≡ so_far ++ line ∷ [] → more ≡ first ++ row_lines (map (slot_row (sight w) list) (take (i + 1) list))
 row_step first so_far more line w list i row within e f is g =
     let rows : List Row = map (slot_row (sight w) list) list in
     let size : i < length rows = rw length-map within in
@@ -76,13 +76,13 @@ row_step first so_far more line w list i row within e f is g =
     ∙ ap (λ l. row_lines (map (slot_row (sight w) list) (take i list)) ++ l ∷ []) (sym f))
 
 -- the same where the slot was read off the list
-pub row_read : (w : State) (fields : ℕ) (n : Numbered) (i slot wide again label count : ℕ) (found : Option ℕ) (words counts now : List ℕ) → IsNumbered w fields n → AreHolders w n.list counts → now ≡ n.list → i < length n.list → slot ≡ get_or now i 0 → wide ≡ fields → again ≡ fields → words ≡ w.words → found ≡ label_of (get_or w.headers (get_or now i 0) 0) → label ≡ unwrap_or found 0 → count ≡ get_or counts (get_or now i 0) 0 → row_of label count (map (λ word. field_number n.list (target_of word)) (slice_range words (slot * wide) (slot * wide + again))) ≡ slot_row (sight w) n.list (get_or n.list i 0)
+pub row_read : (w : Core) (fields : ℕ) (n : Numbered) (i slot wide again label count : ℕ) (found : Option ℕ) (words counts now : List ℕ) → IsNumbered w fields n → AreHolders w n.list counts → now ≡ n.list → i < length n.list → slot ≡ get_or now i 0 → wide ≡ fields → again ≡ fields → words ≡ w.words → found ≡ label_of (get_or w.headers (get_or now i 0) 0) → label ≡ unwrap_or found 0 → count ≡ get_or counts (get_or now i 0) 0 → row_of label count (map (λ word. field_number n.list (target_of word)) (slice_range words (slot * wide) (slot * wide + again))) ≡ slot_row (sight w) n.list (get_or n.list i 0)
 row_read w fields n i slot wide again label count found words counts now numbered held same within at e f all look opened counted =
     read_row w fields n i slot wide again label count found words counts numbered held within (at ∙ ap (λ ns. get_or ns i 0) same) e f all
     (look ∙ ap (λ s. label_of (get_or w.headers s 0)) (sym at)) opened (counted ∙ ap (λ s. get_or counts s 0) (sym at))
 
 -- a listing behind the number of its rows
-pub listed : (w : State) (n : Numbered) (list : List ℕ) (live : ℕ) (first line more : List (List ℕ)) (head : List ℕ) → NumbersSlots (sight w) n.list → list ≡ n.list → live ≡ length list → head ≡ live_line live → line ≡ first ++ head ∷ [] → more ≡ line ++ row_lines (map (slot_row (sight w) n.list) n.list) → (rows : List Row) × ListsSlots (sight w) rows × (live ≡ length rows) × (more ≡ first ++ live_line live ∷ row_lines rows)
+pub listed : (w : Core) (n : Numbered) (list : List ℕ) (live : ℕ) (first line more : List (List ℕ)) (head : List ℕ) → NumbersSlots (sight w) n.list → list ≡ n.list → live ≡ length list → head ≡ live_line live → line ≡ first ++ head ∷ [] → more ≡ line ++ row_lines (map (slot_row (sight w) n.list) n.list) → (rows : List Row) × ListsSlots (sight w) rows × (live ≡ length rows) × (more ≡ first ++ live_line live ∷ row_lines rows)
 listed w n list live first line more head numbers same size e f g =
     let rows : List Row = map (slot_row (sight w) n.list) n.list in (
       rows,

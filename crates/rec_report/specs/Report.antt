@@ -1,24 +1,24 @@
 -- What a report is made from.
 use Rattle.std.specs.Prelude.{◌≡◌, ℕ, List, length, slice_index_or}
 use Rattle.rec_model.specs.Sight.{NumbersSlots, holders_of}
-use Rattle.rec_world.specs.World.{State, sight}
+use Rattle.rec_world.specs.World.{Core, sight}
 use Rattle.rec_world.specs.Numbering.{Numbered}
 use Rattle.rec_script.specs.Script.{Contents}
 
 -- the script's numbers are the world's
-pub record AreFor (script : Contents) (w : State) : Type 0 where
+pub record AreFor (script : Contents) (w : Core) : Type 0 where
   pub slots : script.slots ≡ w.config.slots
   pub fields : script.fields ≡ w.config.fields
   pub registers : script.registers ≡ w.config.registers
   pub mutators : length script.commands ≡ w.config.mutators
 
 -- the numbering of a world's listing, and how many fields an object has
-pub record IsNumbered (w : State) (fields : ℕ) (n : Numbered) : Type 0 where
+pub record IsNumbered (w : Core) (fields : ℕ) (n : Numbered) : Type 0 where
   pub slots : n.slots ≡ w.config.slots
   pub same_fields : fields ≡ w.config.fields
   pub numbers : NumbersSlots (sight w) n.list
 
 -- for each slot how many registers and fields of listed slots hold it
-pub record AreHolders (w : State) (list counts : List ℕ) : Type 0 where
+pub record AreHolders (w : Core) (list counts : List ℕ) : Type 0 where
   pub slots : length counts ≡ w.config.slots
   pub each : (slot : ℕ) → slice_index_or counts slot 0 ≡ holders_of (sight w) list slot

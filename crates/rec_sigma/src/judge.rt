@@ -5,8 +5,7 @@ ghost use Rattle.rec_sigma.specs.Judged.{AreOrange, cyclic_sum};
 
 use rec_counts::{Colour, Counts};
 
-/// Whether each member of set `set` is Orange still: since it was prepared, no reference to a member was counted, up or
-/// down.
+/// Whether each member of set `set` is Orange. Only colours are looked at, no count and no field.
 pub fn delta(counts: &Counts, set: u16) -> bool
     requires { set < length counts.now.sets }
     ensures { IsTrue result ↔ AreOrange counts.now set }

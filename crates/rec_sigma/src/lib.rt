@@ -3,8 +3,8 @@
 //!
 //! A set is a list of slots that trial deletion found to be a possible garbage cycle. Its preparation computes each
 //! member's outside count: its true count less the words seen in fields of members that lead to it. A collection later,
-//! `delta` asks whether no reference to a member was counted since, and `sigma` whether the outside counts sum to zero. A
-//! set that fails one of them is refurbished: its members go back to where they belong.
+//! `delta` asks whether each member is Orange still, and `sigma` whether the outside counts sum to zero. A set that fails
+//! one of them is refurbished: its members go back to where they belong.
 //! The rule that this crate keeps: each field of each member is loaded once and no other; a word takes one off a member of
 //! its own set alone, not below zero; no true count, colour or list changes in preparation; a refurbished member loses no
 //! place that it is due.

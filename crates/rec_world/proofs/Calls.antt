@@ -1,47 +1,85 @@
--- What the fields of a world become in a call is what the definitions say of the state that they make up.
-use Rattle.std.proofs.Common.{◌≡◌, ℕ, ◌+◌, ◌-◌, ◌*◌, ◌<◌, List, ◌∷◌, Some, Bool, true, false, slice_index_or, slice_set, length, replicate, refl, sym, ap, subst, ◌∙◌, arith}
-use Rattle.std.proofs.lemmas.Bool.{false≢true}
-use Rattle.std.proofs.lemmas.List.{get_or_default, length-replicate}
-use Rattle.rec_word.specs.Op.{written}
-use Rattle.rec_word.specs.Place.{place_of}
+-- What the fields of a world become in a call is what the definitions say of the core that they make up.
+use Rattle.std.proofs.Common.{◌≡◌, ◌≢◌, inl, inr, ℕ, ◌+◌, ◌-◌, ◌*◌, ◌^◌, ◌<◌, ◌≤◌, ◌==◌, if◌then◌else◌, All, List, ◌∷◌, Option, None, Some, Bool, true, false, slice_index_or, slice_set, length, map, replicate, zero, suc, [], refl, sym, ap, subst, ◌∙◌, arith}
+use Rattle.std.specs.List.{sum_by}
+use Rattle.std.specs.Option.{IsSome}
+use Rattle.std.proofs.lemmas.Bool.{false≢true, eq-eqb, ne_eqb, cases_eq}
+use Rattle.std.proofs.Math.ListN.{get_or-map}
+use Rattle.std.proofs.lemmas.List.{get_or_default, get_or-replicate, get_or-set_same, get_or-set_other, length-set, length-map, length-replicate, map-set}
+use Rattle.std.proofs.lemmas.List.Elements.{All-from_get_or}
+use Rattle.std.proofs.lemmas.List.Sums.{sum_by-le}
+use Rattle.std.proofs.Math.Nat.{mul-le-mul}
+use Rattle.rec_word.specs.Op.{written, crossing_word}
 use Rattle.rec_word.specs.declared.op.Op.{Op}
 use Rattle.rec_word.specs.declared.op.Op.TheVariants as ops
 use Rattle.rec_model.specs.declared.command.Cmd.{Cmd}
 use Rattle.rec_model.specs.declared.command.Cmd.TheVariants as commands
+use Rattle.rec_log.specs.declared.contents.Contents.{Contents}
+use Rattle.rec_mutator.specs.Causes.{is_giving}
 use Rattle.rec_mutator.specs.Next.{next_of}
-use Rattle.rec_mutator.specs.Private.{Private, register, is_busy, IsValid, HasOperands as HasOwnOperands}
-use Rattle.rec_mutator.specs.Step.{Step}
-use Rattle.rec_mutator.specs.Took.{begun_of, took_of}
-use Rattle.rec_mutator.specs.declared.phase.Phase.TheVariants.{Scanning}
+use Rattle.rec_mutator.specs.Private.{Private, is_busy, IsValid, HasOperands as HasOwnOperands}
+use Rattle.rec_mutator.specs.Took.{begun_of, took_of, step_of, swapped_of, left_of}
+use Rattle.rec_mutator.specs.declared.made.Made.{Made}
+use Rattle.rec_mutator.specs.declared.phase.Phase as phases
 use Rattle.rec_mutator.specs.declared.work.Work.{Work}
 use Rattle.rec_mutator.specs.declared.work.Work.TheVariants as works
-use Rattle.rec_mutator.proofs.Steps.{learnt_made}
+use Rattle.rec_collector.specs.Private as collectors
 use Rattle.rec_world.specs.declared.config.Config.{Config}
-use Rattle.rec_world.specs.Config.{IsConfig, IsMutator, HasOperands}
-use Rattle.rec_world.specs.Memory.{Cells, IsWithin, cell, with_cell, births_of}
-use Rattle.rec_world.specs.Run.{Move, Fits, EndsRun, begun, stepped, found_by}
-use Rattle.rec_world.specs.State.{cells_of, nobody, opened_mutators}
-use Rattle.rec_world.specs.World.{State, sight, mutator, opened, IsOwn, IsKept, HasRun, IsWorld, IsWork}
-use Rattle.rec_world.proofs.Deciding.{read_range, write_range}
-use Rattle.rec_world.proofs.Kept.{register_taken, taken_in_range, own_here}
-use Rattle.rec_world.proofs.Machines.{at_phase}
-use Rattle.rec_world.proofs.Moves.{step_kept, begin_kept}
-use Rattle.rec_world.proofs.Openings.{opened_kept}
-use Rattle.rec_world.proofs.Places.{place_within}
-use Rattle.rec_world.proofs.Runs.{run_more, run_opened}
+use Rattle.rec_world.specs.declared.world.World.TheInside.{Inside}
+use Rattle.rec_world.specs.Config.{IsConfig, IsMutator, HasOperands, IsWork}
+use Rattle.rec_world.specs.Core.{Core, cells_of, sight, mutator, box, nobody, opened, opened_mutators, spare_of}
+use Rattle.rec_world.specs.CoreKept.{IsKept, entries_made}
+use Rattle.rec_world.specs.CorePending.{epoch_at}
+use Rattle.rec_world.specs.CoreMoves.{Move, after_move, Fits, EndsRun, begun, stepped, found_by, looked_at}
+use Rattle.rec_world.specs.Inside.{core, IsWhole}
+use Rattle.rec_world.specs.Mailbox.{held}
+use Rattle.rec_world.specs.Memory.{Cells, cell, with_cell, births_of}
+use Rattle.rec_world.specs.World.{IsShaped, HasRun, IsWorld, HasFound, IsFinished}
+use Rattle.rec_world.specs.Worked.{StepsTo, IsWorked}
+use Rattle.rec_world.proofs.Commands.{waits_marked}
+use Rattle.rec_world.proofs.CoreOpening.{opened_kept}
+use Rattle.rec_world.proofs.CoreRuns.{looked_is, move_kept, move_stays, end_kept, run_more, run_opened}
+use Rattle.rec_world.proofs.CoreShowing.{mutator_left}
+use Rattle.rec_world.proofs.CoreSteps.{actor_of}
+use Rattle.rec_world.proofs.CoreTurns.{numbered}
 
--- a heap that isn't marked is the end of a run
-ends_run : (w : State) → HasRun w → w.marked ≡ false → EndsRun w
+-- a world that isn't marked is the end of a run
+ends_run : (w : Core) → HasRun w → w.marked ≡ false → EndsRun w
 ends_run w (HasRun.runs v is run) unmarked = run
-ends_run w (HasRun.marks before v run is) unmarked = absurd (false≢true (sym unmarked ∙ ap (λ (x : State). x.marked) is.others))
+ends_run w (HasRun.marks before v run is) unmarked = absurd (false≢true (sym unmarked ∙ ap (λ (x : Core). x.marked) is.others))
 
-pub world_run : (w : State) → IsWorld w → w.marked ≡ false → EndsRun w
+pub world_run : (w : Core) → IsWorld w → w.marked ≡ false → EndsRun w
 world_run w world unmarked = ends_run w world.run unmarked
 
+-- so it keeps what every heap with its collector keeps
+pub world_kept : (w : Core) → IsWorld w → w.marked ≡ false → IsKept w
+world_kept w world unmarked = end_kept w world.shaped.config (world_run w world unmarked)
+
+-- what such a heap keeps tells of its words and registers
+pub shaped_of : (w : Core) → IsKept w → IsShaped w
+shaped_of w kept =
+    record {
+      config = kept.config;
+      headers = kept.headers;
+      mutators = kept.mutators.many;
+      registers = λ t is. (actor_of w t kept is).own.registers;
+      slots = kept.collector.slots;
+      labels = kept.labels;
+      epoch = subst (λ n. n < 2 ^ 24) kept.collector.epoch kept.collector.machine.epoch;
+      sound = kept.sound;
+    }
+
+-- every move leaves a world
+pub moved_world : (w : Core) (m : Move) → IsWorld w → w.marked ≡ false → Fits w m → IsWorld (after_move w m)
+moved_world w m world unmarked fits =
+    record {
+      shaped = shaped_of (after_move w m) (move_kept w m (world_kept w world unmarked) fits);
+      run = HasRun.runs (after_move w m) ((move_stays w m).1 ∙ unmarked) (run_more w m (world_run w world unmarked) fits);
+    }
+
 -- a mutator that was read from the list
-pub mutator_read : (w : State) (t i : ℕ) (p : Private) → IsKept w → IsMutator w.config t → i ≡ t → p ≡ slice_index_or w.mutators (i - 1) p → p ≡ mutator w t
-mutator_read w t i p kept is at read =
-    let all : length w.mutators ≡ w.config.mutators = kept.mutators in
+pub mutator_read : (w : Core) (t i : ℕ) (p : Private) → IsShaped w → IsMutator w.config t → i ≡ t → p ≡ slice_index_or w.mutators (i - 1) p → p ≡ mutator w t
+mutator_read w t i p shaped is at read =
+    let all : length w.mutators ≡ w.config.mutators = shaped.mutators in
     read ∙ ap (λ n. slice_index_or w.mutators (n - 1) p) at ∙ get_or_default w.mutators (t - 1) p nobody (omega (arith, is.0, is.1))
 
 -- the operands of a command that fits these numbers
@@ -54,119 +92,197 @@ operands_fit p config (commands.Put src f val) registers fields is = (omega (ari
 operands_fit p config (commands.Value reg) registers fields is = omega (arith, is)
 operands_fit p config (commands.Same a b) registers fields is = (omega (arith, is.0), omega (arith, is.1))
 
--- the operands of a command that fits the heap fit the mutator
-pub own_operands : (w : State) (t : ℕ) (cmd : Cmd) → IsKept w → IsMutator w.config t → HasOperands w.config cmd → HasOwnOperands (mutator w t) cmd
-own_operands w t cmd kept is operands =
-    let own : IsOwn w.config w.made t (mutator w t) = kept.own t is in
-    operands_fit (mutator w t) w.config cmd own.registers own.fields operands
-
 -- a work that fits the heap fits the mutator
-pub own_work : (w : State) (t : ℕ) (work : Work) → IsKept w → IsMutator w.config t → IsWork w.config work → IsValid (mutator w t) work
-own_work w t (works.Command cmd) kept is fits = own_operands w t cmd kept is fits
+pub own_work : (w : Core) (t : ℕ) (work : Work) → IsKept w → IsMutator w.config t → IsWork w.config work → IsValid (mutator w t) work
+own_work w t (works.Command cmd) kept is fits = let own = (actor_of w t kept is).own in operands_fit (mutator w t) w.config cmd own.registers own.fields fits
 own_work w t works.Poll kept is fits = tt
 
 -- what the begin of a work leaves
-pub begun_is : (w : State) (t i : ℕ) (work : Work) (p new : Private) → IsKept w → IsMutator w.config t → i ≡ t → p ≡ slice_index_or w.mutators (i - 1) p → new ≡ begun_of p work
-    → ◌≡◌ {A = State} (record w { mutators = slice_set w.mutators (i - 1) new }) (begun w t work)
-begun_is w t i work p new kept is at read begins =
-    let make : ℕ → Private → State = λ n x. record w { mutators = slice_set w.mutators (n - 1) x } in
-    ap (λ n. make n new) at ∙ ap (make t) (begins ∙ ap (λ x. begun_of x work) (mutator_read w t i p kept is at read))
+pub begun_is : (w : Core) (t i : ℕ) (work : Work) (p new : Private) → IsShaped w → IsMutator w.config t → i ≡ t → p ≡ slice_index_or w.mutators (i - 1) p → new ≡ begun_of p work
+    → ◌≡◌ {A = Core} (record w { mutators = slice_set w.mutators (i - 1) new }) (begun w t work)
+begun_is w t i work p new shaped is at read begins =
+    let make : ℕ → Private → Core = λ n x. record w { mutators = slice_set w.mutators (n - 1) x } in
+    ap (λ n. make n new) at ∙ ap (make t) (begins ∙ ap (λ x. begun_of x work) (mutator_read w t i p shaped is at read))
 
--- it is a heap, and the end of a run
-pub begun_world : (w : State) (t : ℕ) (work : Work) → IsWorld w → w.marked ≡ false → Fits w (Move.Begins t work) → IsWorld (begun w t work)
-begun_world w t work world unmarked fits =
-    record { kept = begin_kept w t work world.kept fits.0 fits.2 fits.3; run = HasRun.runs (begun w t work) unmarked (run_more w (Move.Begins t work) (world_run w world unmarked) fits) }
+-- a mailbox that was read from those of a world
+pub box_read : (boxes : List (Option Contents)) (t i : ℕ) (mailbox : Option Contents) → i ≡ t → t - 1 < length boxes → mailbox ≡ slice_index_or boxes (i - 1) mailbox → held mailbox ≡ slice_index_or (map held boxes) (t - 1) (collectors.blank 0 0)
+box_read boxes t i mailbox at there read =
+    ap held (read ∙ ap (λ n. slice_index_or boxes (n - 1) mailbox) at ∙ get_or_default boxes (t - 1) mailbox None there) ∙ sym (get_or-map held boxes (t - 1) None)
 
--- what a step leaves
-pub stepped_is : (w : State) (t i : ℕ) (op : Op) (found births : ℕ) (p q new : Private) (cells : Cells) → IsKept w → IsMutator w.config t → i ≡ t
-    → p ≡ slice_index_or w.mutators (i - 1) p → q ≡ slice_index_or w.mutators (i - 1) q → op ≡ next_of p → found ≡ cell (cells_of w) op → cells ≡ with_cell (cells_of w) op (written op found)
-    → new ≡ took_of q found → births ≡ births_of op found
-    → ◌≡◌ {A = State} (record w { headers = cells.headers; words = cells.words; epoch = cells.epoch; freed = cells.freed; crossing = cells.crossing; mutators = slice_set w.mutators (i - 1) new; made = w.made + births }) (stepped w t)
-stepped_is w t i op found births p q new cells kept is at read read_again names finds leaves learns counts =
-    let make : ℕ → Cells → Private → ℕ → State
-    = λ n x y b. record w { headers = x.headers; words = x.words; epoch = x.epoch; freed = x.freed; crossing = x.crossing; mutators = slice_set w.mutators (n - 1) y; made = w.made + b } in
-    let its_op : op ≡ next_of (mutator w t) = names ∙ ap next_of (mutator_read w t i p kept is at read) in
-    let its_word : found ≡ found_by w t = finds ∙ ap (cell (cells_of w)) its_op in
-    ap (λ n. make n cells new births) at
-    ∙ ap (λ x. make t x new births) (leaves ∙ ap (λ o. with_cell (cells_of w) o (written o found)) its_op ∙ ap (λ n. with_cell (cells_of w) (next_of (mutator w t)) (written (next_of (mutator w t)) n)) its_word)
-    ∙ ap (λ y. make t (with_cell (cells_of w) (next_of (mutator w t)) (written (next_of (mutator w t)) (found_by w t))) y births)
-    (learns ∙ ap (λ x. took_of x found) (mutator_read w t i q kept is at read_again) ∙ ap (took_of (mutator w t)) its_word)
-    ∙ ap (λ b. make t (with_cell (cells_of w) (next_of (mutator w t)) (written (next_of (mutator w t)) (found_by w t))) (took_of (mutator w t) (found_by w t)) b)
-    (counts ∙ ap (λ o. births_of o found) its_op ∙ ap (births_of (next_of (mutator w t))) its_word)
+-- it is home
+pub box_home : (boxes : List (Option Contents)) (i : ℕ) (mailbox : Option Contents) → ((j : ℕ) → j < length boxes → IsSome (slice_index_or boxes j None)) → i < length boxes → mailbox ≡ slice_index_or boxes i mailbox → IsSome mailbox
+box_home boxes i mailbox home there read = subst IsSome (sym (read ∙ get_or_default boxes i mailbox None there)) (home i there)
 
--- it is a heap
-pub stepped_world : (w : State) (t : ℕ) → IsWorld w → w.marked ≡ false → Fits w (Move.Steps t) → IsWorld (stepped w t)
-stepped_world w t world unmarked fits =
-    record { kept = step_kept w t world.kept unmarked fits.0 fits.1; run = HasRun.runs (stepped w t) unmarked (run_more w (Move.Steps t) (world_run w world unmarked) fits) }
+-- with one that is home replaced by another that is, all are home
+pub home_again : (boxes : List (Option Contents)) (i : ℕ) (x : Option Contents) → IsSome x → ((j : ℕ) → j < length boxes → IsSome (slice_index_or boxes j None)) → (j : ℕ) → j < length (slice_set boxes i x) → IsSome (slice_index_or (slice_set boxes i x) j None)
+home_again boxes i x some home j there =
+    let within : j < length boxes = subst (λ n. j < n) (length-set boxes i x) there in
+    elim (cases_eq i j) [
+      | inl same ↦ subst IsSome (sym (ap (λ n. slice_index_or (slice_set boxes n x) j None) same ∙ get_or-set_same boxes j x None within)) some
+      | inr other ↦ subst IsSome (sym (get_or-set_other boxes i j x None (λ same. other (sym same)))) (home j within)
+    ]
 
--- the word that a step names is there: the own crossing word
-cross_within : (w : State) (t : ℕ) → IsKept w → IsMutator w.config t → IsWithin (cells_of w) (ops.LoadCross (mutator w t).number)
-cross_within w t kept is =
-    let number : (mutator w t).number ≡ t = (kept.own t is).number in
-    let all : length w.crossing ≡ w.config.mutators = ap length kept.crossing ∙ length-replicate w.config.mutators (4 * w.config.first_epoch) in
-    (omega (arith, is.0), omega (arith, is.1))
+-- there is a mailbox for each mutator
+pub boxes_many : (w : Core) (t : ℕ) (boxes : List (Option Contents)) → IsKept w → IsMutator w.config t → w.boxes ≡ map held boxes → t - 1 < length boxes
+boxes_many w t boxes kept is same =
+    let many : length boxes ≡ w.config.mutators = sym (ap (λ (bs : List Contents). length bs) same ∙ rw length-map refl) ∙ kept.mutators.mailboxes in
+    omega (arith, is.0, is.1)
 
--- a field of what a register names
-field_within : (w : State) (t r slot f : ℕ) → IsKept w → IsMutator w.config t → register (mutator w t) r ≡ Some slot → f < w.config.fields → place_of slot f (mutator w t).fields < length w.words
-field_within w t r slot f kept is names in_range =
-    let fields : (mutator w t).fields ≡ w.config.fields = (kept.own t is).fields in
-    subst (λ n. place_of slot f n < length w.words) (sym fields)
-    (place_within w.config.fields (length w.headers) (length w.words) slot f kept.sound.places (taken_in_range (sight w) slot (register_taken w kept t r slot names)) in_range)
+-- a mutator has made no more entries than fit all epochs
+few_entries : (w : Core) (t : ℕ) → IsKept w → IsMutator w.config t → entries_made w.config (mutator w t) ≤ 2 ^ 58
+few_entries w t kept is =
+    let a = actor_of w t kept is in
+    let p : Private = mutator w t in
+    let epoch : epoch_at p < 2 ^ 25 = small p.phase in
+    let capacity : p.log.capacity ≡ w.config.log_entries = a.own.capacity in
+    let few : length p.log.entries ≤ p.log.capacity = a.log.few in
+    let most : w.config.log_entries ≤ 262143 = kept.config.few_log_entries in
+    let all : (epoch_at p - w.config.first_epoch) * w.config.log_entries ≤ 2 ^ 25 * 262143 = mul-le-mul {n₂ = 2 ^ 25} {m₂ = 262143} (omega (arith, epoch)) most in
+    omega arith
+  where
+    small : (phase : phases.Phase) → (if is_giving phase then (mutator w t).epoch + 1 else (mutator w t).epoch) < 2 ^ 25
+    small phase = let own : (mutator w t).epoch < 2 ^ 24 = (actor_of w t kept is).own.machine.epoch in go (is_giving phase) own
+      where
+        go : (b : Bool) → (mutator w t).epoch < 2 ^ 24 → (if b then (mutator w t).epoch + 1 else (mutator w t).epoch) < 2 ^ 25
+        go true own = omega arith
+        go false own = omega arith
 
--- a slot that a scan has come to
-scan_within : (w : State) (t reg label before slot : ℕ) → IsKept w → IsMutator w.config t → (mutator w t).phase ≡ Scanning reg label before slot → slot < length w.headers
-scan_within w t reg label before slot kept is phase =
-    let own : IsOwn w.config w.made t (mutator w t) = kept.own t is in
-    let slots : (mutator w t).slots ≡ w.config.slots = own.slots in
-    let headers : length w.headers ≡ w.config.slots = kept.headers in
-    let there : slot < (mutator w t).slots = (at_phase (mutator w t) (Scanning reg label before slot) own.machine phase).1 in
+-- so a birth more is counted
+pub made_small : (w : Core) → IsKept w → w.made + 1 < 2 ^ 64
+made_small w kept =
+    let each : All (λ (p : Private). entries_made w.config p ≤ 2 ^ 58) w.mutators
+    = All-from_get_or (λ (p : Private). entries_made w.config p ≤ 2 ^ 58) w.mutators nobody (λ i there. subst (λ n. entries_made w.config (slice_index_or w.mutators n nobody) ≤ 2 ^ 58) (let same : i + 1 - 1 ≡ i = omega arith in same) (few_entries w (i + 1) kept (numbered w i kept (subst (λ n. i < n) kept.mutators.many there)))) in
+    let all : sum_by (entries_made w.config) w.mutators ≤ length w.mutators * 2 ^ 58 = sum_by-le (entries_made w.config) (2 ^ 58) w.mutators each in
+    let many : length w.mutators ≡ w.config.mutators = kept.mutators.many in
+    let few : w.config.mutators ≤ 8 = kept.config.few_mutators in
+    let made : w.made ≤ 1 + sum_by (entries_made w.config) w.mutators = kept.made in
+    let product : length w.mutators * 2 ^ 58 ≤ 8 * 2 ^ 58 = mul-le-mul {n₂ = 8} {m₂ = 2 ^ 58} (omega arith) (omega arith) in
     omega arith
 
--- every word that a step names
-step_within : {w : State} {t word : ℕ} {op : Op} {q : Private} → IsKept w → IsMutator w.config t → Step (mutator w t) word (mutator w t).log op q → IsWithin (cells_of w) op
-step_within {w = w} {t = t} kept is (Step.null reg d) = subst (IsWithin (cells_of w)) (sym d.operation) (cross_within w t kept is)
-step_within {w = w} {t = t} kept is (Step.copy dst src d) = subst (IsWithin (cells_of w)) (sym d.operation) (cross_within w t kept is)
-step_within {w = w} {t = t} kept is (Step.compare a b d) = subst (IsWithin (cells_of w)) (sym d.operation) (cross_within w t kept is)
-step_within {w = w} {t = t} kept is (Step.get_of_null dst src f names d) = subst (IsWithin (cells_of w)) (sym d.operation) (cross_within w t kept is)
-step_within {w = w} {t = t} kept is (Step.get dst src f slot names d) = subst (IsWithin (cells_of w)) (sym d.operation) (field_within w t src slot f kept is names (read_range w t dst src f kept is d.phase))
-step_within {w = w} {t = t} kept is (Step.put_of_null src f val names d) = subst (IsWithin (cells_of w)) (sym d.operation) (cross_within w t kept is)
-step_within {w = w} {t = t} kept is (Step.put_refused src f val slot names full d) = subst (IsWithin (cells_of w)) (sym d.operation) (cross_within w t kept is)
-step_within {w = w} {t = t} kept is (Step.put src f val slot names room d) = subst (IsWithin (cells_of w)) (sym d.operation) (field_within w t src slot f kept is names (write_range w t src f val kept is d.phase))
-step_within {w = w} {t = t} kept is (Step.value_of_null reg names d) = subst (IsWithin (cells_of w)) (sym d.operation) (cross_within w t kept is)
-step_within {w = w} {t = t} kept is (Step.value reg slot names d) = subst (IsWithin (cells_of w)) (sym d.operation) (taken_in_range (sight w) slot (register_taken w kept t reg slot names))
-step_within {w = w} {t = t} kept is (Step.new_refused reg label full d) = subst (IsWithin (cells_of w)) (sym d.operation) (cross_within w t kept is)
-step_within {w = w} {t = t} kept is (Step.new_begins reg label room g) = subst (IsWithin (cells_of w)) (sym g.operation) tt
-step_within {w = w} {t = t} kept is (Step.new_wins reg label before slot free d) = subst (IsWithin (cells_of w)) (sym d.operation) (scan_within w t reg label before slot kept is d.phase)
-step_within {w = w} {t = t} kept is (Step.new_goes_on reg label before slot taken more g) = subst (IsWithin (cells_of w)) (sym g.operation) (scan_within w t reg label before slot kept is g.phase)
-step_within {w = w} {t = t} kept is (Step.new_finds_none reg label before slot taken last g) = subst (IsWithin (cells_of w)) (sym g.operation) (scan_within w t reg label before slot kept is g.phase)
-step_within {w = w} {t = t} kept is (Step.new_is_full reg label before still d) = subst (IsWithin (cells_of w)) (sym d.operation) tt
-step_within {w = w} {t = t} kept is (Step.new_is_busy reg label before moves d) = subst (IsWithin (cells_of w)) (sym d.operation) tt
-step_within {w = w} {t = t} kept is (Step.poll_stays own g) = subst (IsWithin (cells_of w)) (sym g.operation) tt
-step_within {w = w} {t = t} kept is (Step.poll_crosses other g) = subst (IsWithin (cells_of w)) (sym g.operation) tt
-step_within {w = w} {t = t} kept is (Step.take_box c) = subst (IsWithin (cells_of w)) (sym c.operation) (cross_within w t kept is)
-step_within {w = w} {t = t} kept is (Step.give_box c) = subst (IsWithin (cells_of w)) (sym c.operation) (cross_within w t kept is)
+-- an operation makes one birth at most
+pub births_few : (op : Op) (found : ℕ) → births_of op found ≤ 1
+births_few (ops.ClaimHeader slot label) found = go (found == 0)
+  where
+    go : (b : Bool) → (if b then 1 else 0) ≤ 1
+    go true = omega arith
+    go false = omega arith
+births_few (ops.LoadField place) found = omega arith
+births_few (ops.SwapField place word) found = omega arith
+births_few (ops.LoadHeader slot) found = omega arith
+births_few ops.LoadEpoch found = omega arith
+births_few (ops.LoadCross t) found = omega arith
+births_few (ops.LoadChild place) found = omega arith
+births_few (ops.ClearField place) found = omega arith
+births_few (ops.FreeHeader slot) found = omega arith
+births_few ops.LoadFreed found = omega arith
+births_few (ops.TakeBox t e) found = omega arith
+births_few (ops.GiveBox t e) found = omega arith
+births_few (ops.StoreEpoch e) found = omega arith
+births_few (ops.LookBox t e) found = omega arith
+births_few (ops.ReturnBox t e) found = omega arith
+births_few ops.AddFreed found = omega arith
 
--- the word that the next step names
-pub next_within : (w : State) (t : ℕ) → IsKept w → IsMutator w.config t → is_busy (mutator w t) ≡ true → IsWithin (cells_of w) (next_of (mutator w t))
-next_within w t kept is busy = step_within kept is (learnt_made (mutator w t) (found_by w t) (mutator w t).log busy (own_here w t kept is).0)
+-- what a step leaves
+pub stepped_is : (w : Core) (t i : ℕ) (boxes : List (Option Contents)) (op : Op) (found births : ℕ) (p q : Private) (mailbox left : Option Contents) (taken new : Private) (cells : Cells)
+    → IsShaped w → IsMutator w.config t → w.boxes ≡ map held boxes → t - 1 < length boxes → i ≡ t
+    → p ≡ slice_index_or w.mutators (i - 1) p → q ≡ slice_index_or w.mutators (i - 1) q → mailbox ≡ slice_index_or boxes (i - 1) mailbox
+    → op ≡ next_of p → found ≡ cell (cells_of w) op → cells ≡ with_cell (cells_of w) op (written op found)
+    → taken ≡ took_of q found → new ≡ swapped_of taken (held mailbox) → left ≡ Some (left_of taken (held mailbox)) → births ≡ births_of op found
+    → ◌≡◌ {A = Core} (record w { headers = cells.headers; words = cells.words; epoch = cells.epoch; freed = cells.freed; crossing = cells.crossing; mutators = slice_set w.mutators (i - 1) new; boxes = map held (slice_set boxes (i - 1) left); made = w.made + births }) (stepped w t)
+unfolding step_of
+stepped_is w t i boxes op found births p q mailbox left taken new cells shaped is same there at read read_again its_box names finds leaves learns swaps gives counts =
+    let make : ℕ → Cells → Private → List Contents → ℕ → Core
+    = λ n x y b k. record w { headers = x.headers; words = x.words; epoch = x.epoch; freed = x.freed; crossing = x.crossing; mutators = slice_set w.mutators (n - 1) y; boxes = b; made = w.made + k } in
+    let m : Private = mutator w t in
+    let its_op : op ≡ next_of m = names ∙ ap next_of (mutator_read w t i p shaped is at read) in
+    let its_word : found ≡ found_by w t = finds ∙ ap (cell (cells_of w)) its_op in
+    let learnt : taken ≡ took_of m (found_by w t) = learns ∙ ap (λ x. took_of x found) (mutator_read w t i q shaped is at read_again) ∙ ap (took_of m) its_word in
+    let was : held mailbox ≡ box w t = box_read boxes t i mailbox at there its_box ∙ ap (λ (bs : List Contents). slice_index_or bs (t - 1) (collectors.blank 0 0)) (sym same) in
+    let its_new : new ≡ step_of m (found_by w t) (box w t) = swaps ∙ ap (λ x. swapped_of x (held mailbox)) learnt ∙ ap (swapped_of (took_of m (found_by w t))) was in
+    let its_left : left ≡ Some (left_of (took_of m (found_by w t)) (box w t)) = gives ∙ ap (λ x. Some (left_of x (held mailbox))) learnt ∙ ap (λ b. Some (left_of (took_of m (found_by w t)) b)) was in
+    let boxed : map held (slice_set boxes (i - 1) left) ≡ slice_set w.boxes (t - 1) (left_of (took_of m (found_by w t)) (box w t))
+    = ap (λ n. map held (slice_set boxes (n - 1) left)) at ∙ ap (λ x. map held (slice_set boxes (t - 1) x)) its_left ∙ map-set held boxes (t - 1) (Some (left_of (took_of m (found_by w t)) (box w t)))
+    ∙ ap (λ bs. slice_set bs (t - 1) (left_of (took_of m (found_by w t)) (box w t))) (sym same) in
+    let its_cells : cells ≡ with_cell (cells_of w) (next_of m) (written (next_of m) (found_by w t)) = leaves ∙ ap (λ o. with_cell (cells_of w) o (written o found)) its_op ∙ ap (λ n. with_cell (cells_of w) (next_of m) (written (next_of m) n)) its_word in
+    let its_births : births ≡ births_of (next_of m) (found_by w t) = counts ∙ ap (λ o. births_of o found) its_op ∙ ap (births_of (next_of m)) its_word in
+    ap (λ n. make n cells new (map held (slice_set boxes (i - 1) left)) births) at
+    ∙ ap (λ x. make t x new (map held (slice_set boxes (i - 1) left)) births) its_cells
+    ∙ ap (λ y. make t (with_cell (cells_of w) (next_of m) (written (next_of m) (found_by w t))) y (map held (slice_set boxes (i - 1) left)) births) its_new
+    ∙ ap (λ b. make t (with_cell (cells_of w) (next_of m) (written (next_of m) (found_by w t))) (step_of m (found_by w t) (box w t)) b births) boxed
+    ∙ ap (λ k. make t (with_cell (cells_of w) (next_of m) (written (next_of m) (found_by w t))) (step_of m (found_by w t) (box w t)) (slice_set w.boxes (t - 1) (left_of (took_of m (found_by w t)) (box w t))) k) its_births
 
--- the opened heap
+-- one value, many times
+map-replicate : {X Y : Type 0} (f : X → Y) (n : ℕ) (x : X) → map f (replicate n x) ≡ replicate n (f x)
+map-replicate f zero x = refl
+map-replicate f (suc n) x = ap (λ ys. f x ∷ ys) (map-replicate f n x)
+
+-- the opened heap is a world
 pub opened_world : (config : Config) → IsConfig config → IsWorld (opened config)
-opened_world config is = record { kept = opened_kept config is; run = HasRun.runs (opened config) refl (run_opened config) }
+opened_world config is = record { shaped = shaped_of (opened config) (opened_kept config is); run = HasRun.runs (opened config) refl (run_opened config) }
+
+-- every mailbox is home
+pub opened_home : (config : Config) (boxes : List (Option Contents)) → boxes ≡ replicate config.mutators (Some (spare_of config)) → (i : ℕ) → i < length boxes → IsSome (slice_index_or boxes i None)
+opened_home config boxes are i there =
+    let many : length boxes ≡ config.mutators = ap (λ (bs : List (Option Contents)). length bs) are ∙ length-replicate config.mutators (Some (spare_of config)) in
+    subst IsSome (sym (ap (λ (bs : List (Option Contents)). slice_index_or bs i None) are ∙ get_or-replicate config.mutators i (Some (spare_of config)) None (omega (arith, there)))) refl
 
 -- its parts make it up
-pub opened_parts : (config : Config) (cells : Cells) (mutators : List Private)
+pub opened_parts : (config : Config) (cells : Cells) (boxes : List (Option Contents)) (mutators : List Private) (collector : collectors.Private)
     → cells ≡ record { headers = 1 ∷ replicate (config.slots - 1) 0; words = replicate (config.slots * config.fields) 0; epoch = config.first_epoch; freed = 0; crossing = replicate config.mutators (4 * config.first_epoch) }
-    → mutators ≡ opened_mutators config config.mutators
-    → ◌≡◌ {A = State} (record { config = config; headers = cells.headers; words = cells.words; epoch = cells.epoch; freed = cells.freed; crossing = cells.crossing; mutators = mutators; made = 1; marked = false }) (opened config)
-opened_parts config cells mutators is own = rw (is, own) refl
+    → boxes ≡ replicate config.mutators (Some (spare_of config)) → mutators ≡ opened_mutators config config.mutators
+    → collector ≡ collectors.opened config.slots config.fields config.registers config.mutators config.log_entries config.first_epoch
+    → ◌≡◌ {A = Core} (record { config = config; headers = cells.headers; words = cells.words; epoch = cells.epoch; freed = cells.freed; crossing = cells.crossing; boxes = map held boxes; mutators = mutators; collector = collector; made = 1; marked = false }) (opened config)
+opened_parts config cells boxes mutators collector is are own counts =
+    let make : Cells → List Contents → List Private → collectors.Private → Core
+    = λ x b m c. record { config = config; headers = x.headers; words = x.words; epoch = x.epoch; freed = x.freed; crossing = x.crossing; boxes = b; mutators = m; collector = c; made = 1; marked = false } in
+    let spares : map held boxes ≡ replicate config.mutators (spare_of config) = ap (map held) are ∙ map-replicate held config.mutators (Some (spare_of config)) in
+    let first : Cells = record { headers = 1 ∷ replicate (config.slots - 1) 0; words = replicate (config.slots * config.fields) 0; epoch = config.first_epoch; freed = 0; crossing = replicate config.mutators (4 * config.first_epoch) } in
+    ap (λ x. make x (map held boxes) mutators collector) is
+    ∙ ap (λ b. make first b mutators collector) spares
+    ∙ ap (λ m. make first (replicate config.mutators (spare_of config)) m collector) own
+    ∙ ap (λ c. make first (replicate config.mutators (spare_of config)) (opened_mutators config config.mutators) c) counts
 
--- what is known of a state is known of the fields that make it up
-pub mutator_back : (w s : State) (t : ℕ) → w ≡ s → IsMutator s.config t → IsMutator w.config t
-mutator_back w s t is there = subst (λ (x : State). IsMutator x.config t) (sym is) there
+-- a work that was begun has found nothing yet
+pub begun_found : (w : Core) (t : ℕ) (work : Work) → IsKept w → IsMutator w.config t → HasFound (begun w t work) (mutator (begun w t work) t).phase
+unfolding begun_of
+begun_found w t work kept is = subst (λ (p : Private). HasFound (begun w t work) p.phase) (sym (mutator_left w t (begun_of (mutator w t) work) kept is)) tt
 
-pub busy_back : (w s : State) (t : ℕ) (busy : Bool) → w ≡ s → is_busy (mutator s t) ≡ busy → is_busy (mutator w t) ≡ busy
-busy_back w s t busy is there = ap (λ (x : State). is_busy (mutator x t)) is ∙ there
+-- what the last state before the end of a work keeps
+pub finished_kept : (w b v : Core) (t : ℕ) (work : Work) (made : Made) → w.marked ≡ false → b ≡ begun w t work → (f : IsFinished b t made v) → IsKept f.last
+finished_kept w b v t work made unmarked begins f = world_kept f.last f.world (waits_marked b f.last t f.waits ∙ ap (λ (x : Core). x.marked) begins ∙ unmarked)
 
-pub unmarked_back : (w s : State) → w ≡ s → s.marked ≡ false → w.marked ≡ false
-unmarked_back w s is there = ap (λ (x : State). x.marked) is ∙ there
+-- a work that was begun and finished was made to its end
+pub worked : (w b v : Core) (t : ℕ) (work : Work) (made : Made) → b ≡ begun w t work → IsFinished b t made v → is_busy (mutator v t) ≡ false → IsWorked w t work v
+worked w b v t work made begins f idle = record { last = f.last; path = subst (λ (x : Core). StepsTo x t f.last) begins f.path; busy = f.busy; steps = f.steps; idle = idle }
+
+-- the machine that was replaced is the mutator then
+pub machine_left : (w : Core) (t i : ℕ) (q : Private) → IsKept w → IsMutator w.config t → i ≡ t → slice_index_or (slice_set w.mutators (i - 1) q) (t - 1) nobody ≡ q
+machine_left w t i q kept is at = ap (λ n. slice_index_or (slice_set w.mutators (n - 1) q) (t - 1) nobody) at ∙ mutator_left w t q kept is
+
+-- what is known of a world that isn't marked, and of a mutator of it
+pub record Ready (inside : Inside) (t : ℕ) : Type 0 where
+  pub kept : IsKept (core inside)
+  pub is : IsMutator (core inside).config t
+  pub unmarked : (core inside).marked ≡ false
+  pub boxed : t - 1 < length inside.boxes.items
+
+pub ready : (inside : Inside) (old : Core) (t : ℕ) → IsWhole inside → core inside ≡ old → IsMutator old.config t → old.marked ≡ false → Ready inside t
+ready inside old t whole view is unmarked =
+    let its_unmarked : (core inside).marked ≡ false = ap (λ (x : Core). x.marked) view ∙ unmarked in
+    let its : IsMutator (core inside).config t = subst (λ (x : Core). IsMutator x.config t) (sym view) is in
+    let kept : IsKept (core inside) = world_kept (core inside) whole.world its_unmarked in
+    record { kept = kept; is = its; unmarked = its_unmarked; boxed = boxes_many (core inside) t inside.boxes.items kept its refl }
+
+-- the same of a world of which no mutator is asked
+pub record ReadyToTurn (inside : Inside) : Type 0 where
+  pub kept : IsKept (core inside)
+  pub unmarked : (core inside).marked ≡ false
+  pub is : IsMutator (core inside).config (looked_at (core inside).collector.phase)
+  pub boxed : looked_at (core inside).collector.phase - 1 < length inside.boxes.items
+
+pub ready_to_turn : (inside : Inside) (old : Core) → IsWhole inside → core inside ≡ old → old.marked ≡ false → ReadyToTurn inside
+ready_to_turn inside old whole view unmarked =
+    let its_unmarked : (core inside).marked ≡ false = ap (λ (x : Core). x.marked) view ∙ unmarked in
+    let kept : IsKept (core inside) = world_kept (core inside) whole.world its_unmarked in
+    let is : IsMutator (core inside).config (looked_at (core inside).collector.phase) = looked_is (core inside) (core inside).collector.phase kept refl in
+    record { kept = kept; unmarked = its_unmarked; is = is; boxed = boxes_many (core inside) (looked_at (core inside).collector.phase) inside.boxes.items kept is refl }

@@ -1,71 +1,143 @@
--- What a command is told, from what its last step says.
-use Rattle.std.proofs.Common.{◌≡◌, ◌≢◌, ◌↔◌, ℕ, ◌+◌, ◌-◌, ◌<◌, ◌≤◌, Option, None, Some, IfSome, true, false, length, refl, sym, ap, subst, ◌∙◌, arith}
+-- What a command and a poll are told, from what their steps say.
+use Rattle.std.proofs.Common.{◌≡◌, ◌≢◌, ◌↔◌, ℕ, ◌+◌, ◌-◌, ◌%◌, ◌<◌, ◌≤◌, ◌&&◌, if◌then◌else◌, Bool, Option, None, Some, IfSome, true, false, List, length, slice_index_or, refl, sym, ap, subst, ◌∙◌, arith}
 use Rattle.std.specs.Option.{is_none}
 use Rattle.std.proofs.lemmas.Bool.{false≢true}
 use Rattle.std.proofs.lemmas.List.{set-set, set-get_or}
+use Rattle.rec_word.specs.Word.{stamp_of}
+use Rattle.rec_model.specs.Asking.{is_done, refuses_new}
+use Rattle.rec_model.specs.Explained.{IsExplained}
+use Rattle.rec_model.specs.LegalOrder.{is_new, is_birth, word_left}
+use Rattle.rec_model.specs.Sight.{Sight, IsTaken}
+use Rattle.rec_model.specs.declared.answer.Answer.{Answer}
+use Rattle.rec_model.specs.declared.answer.Answer.TheVariants as answers
 use Rattle.rec_model.specs.declared.command.Cmd.{Cmd}
 use Rattle.rec_model.specs.declared.command.Cmd.TheVariants as commands
-use Rattle.rec_model.specs.declared.answer.Answer.TheVariants as answers
 use Rattle.rec_model.specs.declared.told.Told.{Told}
-use Rattle.rec_model.specs.Sight.{Sight}
-use Rattle.rec_mutator.specs.Causes.{HasCause, LacksObject, MakesEntry, is_refusal}
+use Rattle.rec_log.specs.declared.contents.Contents.{Contents}
+use Rattle.rec_mutator.specs.Causes.{HasCause, LacksObject, MakesEntry, FoundNone, FoundNoneAt, is_refusal, is_giving}
+use Rattle.rec_mutator.specs.Next.{next_of, next_at}
 use Rattle.rec_mutator.specs.Private.{Private, IsAt, is_busy, is_busy_at, work_of, work_at, answer_of, answer_at, limit_of}
-use Rattle.rec_mutator.specs.Step.{IsStill, IsLogFull as IsLogFullOf}
-use Rattle.rec_mutator.specs.Took.{took_of, begun_of}
+use Rattle.rec_mutator.specs.Step.{Step, IsLogFull as IsLogFullOf}
+use Rattle.rec_mutator.specs.Took.{begun_of, step_of}
 use Rattle.rec_mutator.specs.declared.made.Made.{Made}
-use Rattle.rec_mutator.specs.declared.made.Made.TheVariants as makes_
+use Rattle.rec_mutator.specs.declared.made.Made.TheVariants as makes
 use Rattle.rec_mutator.specs.declared.phase.Phase.{Phase}
 use Rattle.rec_mutator.specs.declared.phase.Phase.TheVariants.{Idle, Begun, Scanning, Scanned, Crossing, Swapping, Giving, Finished}
 use Rattle.rec_mutator.specs.declared.work.Work.{Work}
 use Rattle.rec_mutator.specs.declared.work.Work.TheVariants as works
-use Rattle.rec_mutator.proofs.Refusals.{answer_cause, same_command, same_told}
-use Rattle.rec_mutator.proofs.Sizes.{took_keeps, step_counts}
-use Rattle.rec_mutator.proofs.Steps.{learnt_made, here_same, none_between}
+use Rattle.rec_mutator.proofs.Polls.{poll_has_cause}
+use Rattle.rec_mutator.proofs.Refusals.{same_command, same_told}
+use Rattle.rec_mutator.proofs.Sizes.{step_keeps, step_counts}
+use Rattle.rec_mutator.proofs.Steps.{step_made}
 use Rattle.rec_world.specs.declared.config.Config.{Config}
 use Rattle.rec_world.specs.Config.{IsMutator}
-use Rattle.rec_world.specs.Run.{begun, stepped, found_by}
-use Rattle.rec_world.specs.State.{nobody}
-use Rattle.rec_world.specs.World.{State, sight, mutator, with_mutator, log_length, IsOwn, IsKept, IsLogFull, is_plain, IsCaused, IsShown, IsFinished, OnlyWorks}
-use Rattle.rec_world.proofs.Deciding.{IsToldOf, IsDecided, Says, performed_says}
-use Rattle.rec_world.proofs.Kept.{own_here}
-use Rattle.rec_world.proofs.Moves.{makes}
-use Rattle.rec_world.proofs.Shapes.{registers_stay, changed_same, changed_other}
-
--- the mutator after its step
-pub stepped_mutator : (w : State) (t : ℕ) → IsKept w → IsMutator w.config t → mutator (stepped w t) t ≡ took_of (mutator w t) (found_by w t)
-stepped_mutator w t kept is = let all : length w.mutators ≡ w.config.mutators = kept.mutators in changed_same w.mutators t (took_of (mutator w t) (found_by w t)) is.0 (omega (arith, is.1))
-
--- what the next step of a mutator says
-pub step_says : (w : State) (t : ℕ) → IsKept w → w.marked ≡ false → IsMutator w.config t → is_busy (mutator w t) ≡ true → Says w t (mutator (stepped w t) t) (stepped w t)
-step_says w t kept unmarked is busy =
-    let m = makes w t kept unmarked is busy in
-    subst (λ (q : Private). Says w t q (stepped w t)) (sym (stepped_mutator w t kept is)) (performed_says m m.step)
-
--- where only a mutator's work changed, all that is seen stays
-pub works_sight : (w v : State) (t : ℕ) → OnlyWorks w v t → sight v ≡ sight w
-works_sight w v t only =
-    ap sight only.others ∙ ap (λ rss. let s : Sight = record (sight w) { registers = rss } in s) (registers_stay w t (mutator v t) (ap (λ (p : Private). p.registers) only.own))
+use Rattle.rec_world.specs.Core.{Core, cells_of, nobody, box}
+use Rattle.rec_world.specs.CoreKept.{IsKept}
+use Rattle.rec_world.specs.CoreMoves.{begun, stepped, found_by}
+use Rattle.rec_world.specs.CoreShown.{may_answer, sight_told, probed_at, IsBirthplace, IsDecided}
+use Rattle.rec_world.specs.Memory.{cell}
+use Rattle.rec_world.specs.World.{sight, mutator, with_mutator, log_length, entries_of, IsLogFull, FindsNone, IsFull, IsBusy, IsLowestFree, OnlyWorks, IsQuiet, HasFound, Waits, IsFinished, IsCrossed}
+use Rattle.rec_world.proofs.CoreCrossings.{giving_of}
+use Rattle.rec_world.proofs.CoreShowing.{Says, mutator_left, mutator_other, stepped_mutator, step_says, step_caused, works_sight}
+use Rattle.rec_world.proofs.CoreSteps.{actor_of, its_box}
 
 -- nothing changed
-pub works_none : (w : State) (t : ℕ) → IsKept w → OnlyWorks w w t
-works_none w t kept = record { others = ap (λ ms. let x : State = record w { mutators = ms } in x) (sym (set-get_or w.mutators (t - 1) nobody)); own = refl }
+pub works_none : (w : Core) (t : ℕ) → OnlyWorks w w t
+works_none w t = record { others = ap (λ ms. let x : Core = record w { mutators = ms } in x) (sym (set-get_or w.mutators (t - 1) nobody)); own = refl }
 
 -- first these steps and then those
-pub works_both : (w v u : State) (t : ℕ) → OnlyWorks w v t → OnlyWorks v u t → OnlyWorks w u t
+pub works_both : (w v u : Core) (t : ℕ) → OnlyWorks w v t → OnlyWorks v u t → OnlyWorks w u t
 works_both w v u t first second =
-    let set_set : State → State = λ x. with_mutator x t (mutator u t) in
+    let set_set : Core → Core = λ x. with_mutator x t (mutator u t) in
     record {
-      others = second.others ∙ ap set_set first.others ∙ ap (λ ms. let x : State = record w { mutators = ms } in x) (set-set w.mutators (t - 1) (mutator v t) (mutator u t));
+      others = second.others ∙ ap set_set first.others ∙ ap (λ ms. let x : Core = record w { mutators = ms } in x) (set-set w.mutators (t - 1) (mutator v t) (mutator u t));
       own = second.own ∙ ap (λ (p : Private). let q : Private = record p { phase = (mutator u t).phase; steps = (mutator u t).steps } in q) first.own;
     }
 
--- a step that answers nothing leaves all but the work
-pub step_waits : (w v : State) (t : ℕ) (q : Private) → answer_of q ≡ None → Says w t q v → OnlyWorks w v t
-step_waits w v t q none (Says.decided cmd told work answer said refused) =
-    let not_so : ◌≡◌ {A = Option Made} None (Some (makes_.Answered told)) = sym none ∙ answer in
-    (cc)
-step_waits w v t q none (Says.going answer only) = only
-step_waits w v t q none (Says.polled answer work only) = only
+-- a work that went on is quiet
+pub works_quiet : (w v : Core) (t : ℕ) → 1 ≤ t → OnlyWorks w v t → IsQuiet w v t
+works_quiet w v t first only =
+    record {
+      seen = works_sight w v t only;
+      others = λ s other some. ap (λ (x : Core). mutator x s) only.others ∙ mutator_other w.mutators t s (mutator v t) first other some;
+      collector = ap (λ (x : Core). x.collector) only.others;
+      freed = ap (λ (x : Core). x.freed) only.others;
+      requested = ap (λ (x : Core). x.epoch) only.others;
+      made = ap (λ (x : Core). x.made) only.others;
+      config = ap (λ (x : Core). x.config) only.others;
+      marked = ap (λ (x : Core). x.marked) only.others;
+    }
+
+-- first what is quiet here and then there
+pub quiet_both : (w v u : Core) (t : ℕ) → IsQuiet w v t → IsQuiet v u t → IsQuiet w u t
+quiet_both w v u t first second =
+    record {
+      seen = second.seen ∙ first.seen;
+      others = λ s other some. second.others s other some ∙ first.others s other some;
+      collector = second.collector ∙ first.collector;
+      freed = second.freed ∙ first.freed;
+      requested = second.requested ∙ first.requested;
+      made = second.made ∙ first.made;
+      config = second.config ∙ first.config;
+      marked = second.marked ∙ first.marked;
+    }
+
+-- what a scan has found is said of headers and the freed word alone
+found_same : (w : Core) (t : ℕ) (q : Private) (phase : Phase) → HasFound w phase → HasFound (with_mutator w t q) phase
+found_same w t q Idle is = tt
+found_same w t q (Begun work) is = tt
+found_same w t q (Scanning reg label before slot) is = is
+found_same w t q (Scanned reg label before) is = is
+found_same w t q Crossing is = tt
+found_same w t q Swapping is = tt
+found_same w t q Giving is = tt
+found_same w t q (Finished work made) is = tt
+
+works_found : (w v : Core) (t : ℕ) (phase : Phase) → OnlyWorks w v t → HasFound w phase → HasFound v phase
+works_found w v t phase only is = subst (λ (x : Core). HasFound x phase) (sym only.others) (found_same w t (mutator v t) phase is)
+
+-- the begin of a work changes nothing but the work
+pub begun_works : (w : Core) (t : ℕ) (work : Work) → IsKept w → IsMutator w.config t → OnlyWorks w (begun w t work) t
+unfolding begun_of
+begun_works w t work kept is =
+    let here : mutator (begun w t work) t ≡ begun_of (mutator w t) work = mutator_left w t (begun_of (mutator w t) work) kept is in
+    let P : Private → Type 0 = λ x. x ≡ record (mutator w t) { phase = x.phase; steps = x.steps } in
+    record { others = ap (with_mutator w t) (sym here); own = subst P (sym here) refl }
+
+-- no step was made yet
+pub waits_none : (w : Core) (t : ℕ) → HasFound w (mutator w t).phase → Waits w w t
+waits_none w t found = Waits.works (works_none w t) found
+
+-- nor of a work that begins
+pub begun_waits : (w : Core) (t : ℕ) (work : Work) → IsKept w → IsMutator w.config t → Waits (begun w t work) (begun w t work) t
+unfolding begun_of
+begun_waits w t work kept is =
+    let here : mutator (begun w t work) t ≡ begun_of (mutator w t) work = mutator_left w t (begun_of (mutator w t) work) kept is in
+    waits_none (begun w t work) t (subst (λ (p : Private). HasFound (begun w t work) p.phase) (sym here) tt)
+
+-- steps that finished nothing are quiet
+pub waits_quiet : (before w : Core) (t : ℕ) → 1 ≤ t → Waits before w t → IsQuiet before w t
+waits_quiet before w t first (Waits.works only found) = works_quiet before w t first only
+waits_quiet before w t first (Waits.holds phase still epoch) = still
+
+-- they leave the numbers
+pub waits_config : (before w : Core) (t : ℕ) → Waits before w t → w.config ≡ before.config
+waits_config before w t (Waits.works only found) = ap (λ (x : Core). x.config) only.others
+waits_config before w t (Waits.holds phase still epoch) = still.config
+
+-- so the mutator is still there
+pub mutator_there : (before w : Core) (t : ℕ) → Waits before w t → IsMutator before.config t → IsMutator w.config t
+mutator_there before w t waits is = subst (λ (c : Config). IsMutator c t) (sym (waits_config before w t waits)) is
+
+-- and a heap that isn't marked
+pub waits_marked : (before w : Core) (t : ℕ) → Waits before w t → w.marked ≡ before.marked
+waits_marked before w t (Waits.works only found) = ap (λ (x : Core). x.marked) only.others
+waits_marked before w t (Waits.holds phase still epoch) = still.marked
+
+-- the mutator is still in its epoch
+pub waits_epoch : (before w : Core) (t : ℕ) → Waits before w t → (mutator w t).epoch ≡ (mutator before t).epoch
+waits_epoch before w t (Waits.works only found) = ap (λ (p : Private). p.epoch) only.own
+waits_epoch before w t (Waits.holds phase still epoch) = epoch
 
 -- a machine whose work isn't finished is busy
 busy_told : (at : Phase) (work : Work) → work_at at ≡ Some work → is_busy_at at ≡ is_none (answer_at at)
@@ -89,16 +161,6 @@ busy_work Swapping busy = (works.Poll, refl)
 busy_work Giving busy = (works.Poll, refl)
 busy_work (Finished work made) busy = absurd (false≢true busy)
 
--- the work of a mutator stays the same in its step
-pub work_stays : (w : State) (t : ℕ) → IsKept w → IsMutator w.config t → is_busy (mutator w t) ≡ true → work_of (mutator (stepped w t) t) ≡ work_of (mutator w t)
-work_stays w t kept is busy = ap work_of (stepped_mutator w t kept is) ∙ (took_keeps (mutator w t) (found_by w t) busy (own_here w t kept is).0).1
-
--- after a step a mutator is busy just where nothing was answered
-pub step_busy : (w : State) (t : ℕ) → IsKept w → IsMutator w.config t → is_busy (mutator w t) ≡ true → is_busy (mutator (stepped w t) t) ≡ is_none (answer_of (mutator (stepped w t) t))
-step_busy w t kept is busy =
-    let (work, its) = busy_work (mutator w t).phase busy in
-    busy_told (mutator (stepped w t) t).phase work (work_stays w t kept is busy ∙ its)
-
 -- a finished work is no longer busy
 answered_idle : (at : Phase) (made : Made) → answer_at at ≡ Some made → is_busy_at at ≡ false
 answered_idle Idle made is = refl
@@ -109,6 +171,24 @@ answered_idle Crossing made is = let not_so : ◌≡◌ {A = Option Made} None (
 answered_idle Swapping made is = let not_so : ◌≡◌ {A = Option Made} None (Some made) = is in (cc)
 answered_idle Giving made is = let not_so : ◌≡◌ {A = Option Made} None (Some made) = is in (cc)
 answered_idle (Finished its other) made is = refl
+
+-- the step that a mutator makes
+its_step : (w : Core) (t : ℕ) → IsKept w → IsMutator w.config t → is_busy (mutator w t) ≡ true → Step (mutator w t) (found_by w t) (box w t) (next_of (mutator w t)) (step_of (mutator w t) (found_by w t) (box w t))
+its_step w t kept is busy = step_made (mutator w t) (found_by w t) (box w t) busy (actor_of w t kept is).own.between
+
+-- the work of a mutator stays the same in its step
+pub work_stays : (w : Core) (t : ℕ) → IsKept w → IsMutator w.config t → is_busy (mutator w t) ≡ true → work_of (mutator (stepped w t) t) ≡ work_of (mutator w t)
+work_stays w t kept is busy = ap work_of (stepped_mutator w t kept is) ∙ (step_keeps (its_box w t kept is).capacity (its_step w t kept is busy)).1
+
+-- after a step a mutator is busy just where nothing was answered
+pub step_busy : (w : Core) (t : ℕ) → IsKept w → IsMutator w.config t → is_busy (mutator w t) ≡ true → is_busy (mutator (stepped w t) t) ≡ is_none (answer_of (mutator (stepped w t) t))
+step_busy w t kept is busy =
+    let (work, its) = busy_work (mutator w t).phase busy in
+    busy_told (mutator (stepped w t) t).phase work (work_stays w t kept is busy ∙ its)
+
+-- a step counts
+pub steps_counted : (w : Core) (t : ℕ) → IsKept w → IsMutator w.config t → is_busy (mutator w t) ≡ true → (mutator (stepped w t) t).steps ≡ (mutator w t).steps + 1
+steps_counted w t kept is busy = ap (λ (p : Private). p.steps) (stepped_mutator w t kept is) ∙ step_counts (its_step w t kept is busy)
 
 -- the steps of a work are within its limit
 limit_at : (p : Private) (at : Phase) → IsAt p at → IfSome (work_at at) (λ work. p.steps ≤ limit_of p.slots work)
@@ -122,9 +202,9 @@ limit_at p Giving is = let two : p.steps ≡ 2 = is.0 in omega arith
 limit_at p (Finished work made) is = is
 
 -- those of a mutator
-pub steps_limited : (w : State) (t : ℕ) → IsKept w → IsMutator w.config t → IfSome (work_of (mutator w t)) (λ work. (mutator w t).steps ≤ limit_of w.config.slots work)
+pub steps_limited : (w : Core) (t : ℕ) → IsKept w → IsMutator w.config t → IfSome (work_of (mutator w t)) (λ work. (mutator w t).steps ≤ limit_of w.config.slots work)
 steps_limited w t kept is =
-    let own : IsOwn w.config w.made t (mutator w t) = kept.own t is in
+    let own = (actor_of w t kept is).own in
     subst (λ n. IfSome (work_of (mutator w t)) (λ work. (mutator w t).steps ≤ limit_of n work)) own.slots (limit_at (mutator w t) (mutator w t).phase own.machine.now)
 
 -- no work takes more steps than an allocation may
@@ -139,10 +219,174 @@ most_at slots steps (Some (works.Command (commands.Value reg))) work some is few
 most_at slots steps (Some (works.Command (commands.Same a b))) work some is few = let one : steps ≤ 1 = few in omega arith
 most_at slots steps (Some works.Poll) work some is few = let three : steps ≤ 3 = few in omega arith
 
-pub most_steps : (w : State) (t : ℕ) → IsKept w → IsMutator w.config t → is_busy (mutator w t) ≡ true → (mutator w t).steps ≤ w.config.slots + 2
+pub most_steps : (w : Core) (t : ℕ) → IsKept w → IsMutator w.config t → is_busy (mutator w t) ≡ true → (mutator w t).steps ≤ w.config.slots + 2
 most_steps w t kept is busy =
     let (work, its) = busy_work (mutator w t).phase busy in
     most_at w.config.slots (mutator w t).steps (work_of (mutator w t)) work kept.config.some_slots its (steps_limited w t kept is)
+
+-- a loop of steps comes nearer to its end
+pub nearer : (before w v : Core) (t : ℕ) → IsKept w → IsMutator w.config t → is_busy (mutator w t) ≡ true → Waits before w t → v ≡ stepped w t
+    → before.config.slots + 3 - (mutator v t).steps < before.config.slots + 3 - (mutator w t).steps
+nearer before w v t kept is busy waits steps =
+    let slots : w.config.slots ≡ before.config.slots = ap (λ (c : Config). c.slots) (waits_config before w t waits) in
+    let most : (mutator w t).steps ≤ w.config.slots + 2 = most_steps w t kept is busy in
+    let more : (mutator v t).steps ≡ (mutator w t).steps + 1 = ap (λ (x : Core). (mutator x t).steps) steps ∙ steps_counted w t kept is busy in
+    omega arith
+
+-- a mutator that gives its mailbox back finishes its poll
+giving_answers : (w : Core) (t : ℕ) → IsKept w → IsMutator w.config t → is_busy (mutator w t) ≡ true → (mutator w t).phase ≡ Giving → answer_of (mutator (stepped w t) t) ≡ Some (makes.Crossed (Some ((mutator w t).epoch + 1)))
+giving_answers w t kept is busy phase =
+    ap answer_of (stepped_mutator w t kept is)
+    ∙ ((poll_has_cause (mutator w t) (found_by w t) (box w t) busy (actor_of w t kept is).own.between).some ((mutator w t).epoch + 1)).1 (phase, refl)
+
+-- Steps that finished nothing, and one more that finishes nothing either.
+pub waited : (before w v : Core) (t : ℕ) → IsKept w → IsMutator w.config t → is_busy (mutator w t) ≡ true → Waits before w t → v ≡ stepped w t → answer_of (mutator v t) ≡ None → Waits before v t
+waited before w v t kept is busy (Waits.holds phase still epoch) steps none =
+    let not_so : ◌≡◌ {A = Option Made} None (Some (makes.Crossed (Some ((mutator w t).epoch + 1)))) = sym none ∙ ap (λ (x : Core). answer_of (mutator x t)) steps ∙ giving_answers w t kept is busy phase in
+    (cc)
+waited before w v t kept is busy (Waits.works only found) steps none =
+    go (subst (λ (x : Core). Says w t (mutator x t) x) (sym steps) (step_says w t kept is busy))
+  where
+    told : (made : Made) → answer_of (mutator v t) ≡ Some made → Waits before v t
+    told made answer =
+        let not_so : ◌≡◌ {A = Option Made} None (Some made) = sym none ∙ answer in
+        (cc)
+
+    go : Says w t (mutator v t) v → Waits before v t
+    go (Says.decided cmd its_told work answer said refused) = told (makes.Answered its_told) answer
+    go (Says.going answer here finds) = Waits.works (works_both before w v t only here) (works_found w v t (mutator v t).phase here (finds found))
+    go (Says.holding answer phase still epoch) = Waits.holds phase (quiet_both before w v t (works_quiet before w t is.0 only) still) (epoch ∙ ap (λ (p : Private). p.epoch) only.own)
+    go (Says.stayed answer work here its_only) = told (makes.Crossed None) answer
+    go (Says.crossed answer work phase still epoch log) = told (makes.Crossed (Some ((mutator w t).epoch + 1))) answer
+
+-- A step that answers a command, in a heap in which nothing else moved since its begin.
+record Answering (w : Core) (t : ℕ) (cmd : Cmd) (told : Told) (v : Core) : Type 0 where
+  pub kept : IsKept w
+  pub is : IsMutator w.config t
+  pub work : work_of (mutator w t) ≡ Some (works.Command cmd)
+  pub found : HasFound w (mutator w t).phase
+  pub said : IsDecided w t cmd told v
+  pub cause : HasCause (mutator w t) (mutator v t) cmd (found_by w t) told.answer
+  pub refused : is_refusal told.answer ≡ true → OnlyWorks w v t
+
+-- the last step of an allocation's scan finds the freed word
+scanned_finds : (w : Core) (t reg label before : ℕ) → (mutator w t).phase ≡ Scanned reg label before → found_by w t ≡ w.freed
+unfolding next_of next_at
+scanned_finds w t reg label before is = ap (cell (cells_of w)) (ap (next_at (mutator w t)) is)
+
+-- where every probe failed, the freed word found before is the one found now
+record FoundFilled (w : Core) (t : ℕ) (cmd : Cmd) (before : ℕ) : Type 0 where
+  pub none : FindsNone w t cmd
+  pub first : before ≡ w.freed
+  pub last : found_by w t ≡ w.freed
+
+found_filled : {w : Core} {t : ℕ} {cmd : Cmd} {told : Told} {v : Core} (before : ℕ) → Answering w t cmd told v → FoundNone (mutator w t) before → FoundFilled w t cmd before
+found_filled {w = w} {t = t} {cmd = cmd} before a none = go (mutator w t).phase refl (actor_of w t a.kept a.is).own.machine.now a.work a.found none
+  where
+    go : (phase : Phase) → (mutator w t).phase ≡ phase → IsAt (mutator w t) phase → work_at phase ≡ Some (works.Command cmd) → HasFound w phase → FoundNoneAt phase before → FoundFilled w t cmd before
+    go Idle its at work found none = absurd none
+    go (Begun begun) its at work found none = absurd none
+    go (Scanning reg label first slot) its at work found none = absurd none
+    go (Scanned reg label first) its at work found none =
+        let p : Private = mutator w t in
+        let room : length p.log.entries < p.log.capacity = at.0.room in
+        let capacity : p.log.capacity ≡ w.config.log_entries = (actor_of w t a.kept a.is).own.capacity in
+        record {
+          none = record { new = ap is_new (sym (same_command (commands.New reg label) cmd work)); room = omega arith; filled = found.1 };
+          first = sym none ∙ found.0;
+          last = scanned_finds w t reg label first its;
+        }
+    go Crossing its at work found none = absurd none
+    go Swapping its at work found none = absurd none
+    go Giving its at work found none = absurd none
+    go (Finished begun made) its at work found none = absurd none
+
+-- an allocation is done, or refused for one of three causes
+data IsOfNew (answer : Answer) : Type 0 where
+  new_done : answer ≡ answers.Done → IsOfNew answer
+  new_log_full : answer ≡ answers.LogFull → IsOfNew answer
+  new_full : answer ≡ answers.Full → IsOfNew answer
+  new_busy : (before after : ℕ) → answer ≡ answers.Busy before after → IsOfNew answer
+
+answer_of_new : (answer : Answer) → (if is_done answer then true else refuses_new answer) ≡ true → IsOfNew answer
+answer_of_new answers.Done may = IsOfNew.new_done refl
+answer_of_new answers.Null may = absurd (false≢true may)
+answer_of_new answers.Object may = absurd (false≢true may)
+answer_of_new (answers.Value label) may = absurd (false≢true may)
+answer_of_new answers.Yes may = absurd (false≢true may)
+answer_of_new answers.No may = absurd (false≢true may)
+answer_of_new answers.NoObject may = absurd (false≢true may)
+answer_of_new answers.Full may = IsOfNew.new_full refl
+answer_of_new (answers.Busy before after) may = IsOfNew.new_busy before after refl
+answer_of_new answers.LogFull may = IsOfNew.new_log_full refl
+
+new_answered : (cmd : Cmd) (answer : Answer) → is_new cmd ≡ true → may_answer cmd answer ≡ true → IsOfNew answer
+new_answered (commands.New reg label) answer new may = answer_of_new answer may
+new_answered (commands.Null reg) answer new may = absurd (false≢true new)
+new_answered (commands.Copy dst src) answer new may = absurd (false≢true new)
+new_answered (commands.Get dst src f) answer new may = absurd (false≢true new)
+new_answered (commands.Put src f val) answer new may = absurd (false≢true new)
+new_answered (commands.Value reg) answer new may = absurd (false≢true new)
+new_answered (commands.Same a b) answer new may = absurd (false≢true new)
+
+-- where every slot is taken, no object is born
+not_done : {w : Core} {t : ℕ} {cmd : Cmd} {told : Told} {v : Core} → Answering w t cmd told v → FindsNone w t cmd → told.answer ≡ answers.Done → ⊥
+not_done {w = w} {t = t} {cmd = cmd} {told = told} a none done =
+    let (slot, leaves) = a.said.leaves in
+    let born : is_birth (cmd, told) ≡ true = ap (λ (b : Bool). b && is_done told.answer) none.new ∙ ap is_done done in
+    let place : IsBirthplace w t slot = leaves.birth born in
+    let free : slice_index_or w.headers slot 0 ≡ 0 = place.free in
+    let taken : 0 < slice_index_or w.headers slot 0 = none.filled slot place.there in
+    omega arith
+
+-- where the log has room, it isn't full
+not_log_full : {w : Core} {t : ℕ} {cmd : Cmd} {told : Told} {v : Core} → Answering w t cmd told v → FindsNone w t cmd → told.answer ≡ answers.LogFull → ⊥
+not_log_full {w = w} {t = t} a none is =
+    let all : log_length w t ≡ (mutator w t).log.capacity = (a.cause.log_full.0 is).0 in
+    let room : log_length w t < w.config.log_entries = none.room in
+    let capacity : (mutator w t).log.capacity ≡ w.config.log_entries = (actor_of w t a.kept a.is).own.capacity in
+    omega arith
+
+-- Full is told where no sweep runs
+told_full : {w : Core} {t : ℕ} {cmd : Cmd} {told : Told} {v : Core} → Answering w t cmd told v → told.answer ≡ answers.Full → IsFull w t cmd
+told_full a is =
+    let (before, none, still) = a.cause.full.0 is in
+    let found = found_filled before a none in
+    record { none = found.none; even = ap (λ n. n % 2) (sym found.first) ∙ still.0 }
+
+-- and Busy where one does
+told_busy : {w : Core} {t : ℕ} {cmd : Cmd} {told : Told} {v : Core} (before after : ℕ) → Answering w t cmd told v → told.answer ≡ answers.Busy before after → IsBusy w t cmd × (before ≡ w.freed) × (after ≡ w.freed)
+told_busy {w = w} before after a is =
+    let (none, ends, moves) = (a.cause.busy before after).0 is in
+    let found = found_filled before a none in
+    let odd : w.freed % 2 ≢ 0 = λ even. moves (ap (λ n. n % 2) found.first ∙ even, found.first ∙ sym found.last) in
+    (record { none = found.none; odd = omega (arith, odd) }, found.first, ends ∙ found.last)
+
+-- an even freed word isn't odd
+even_odd : (n : ℕ) → n % 2 ≡ 0 → n % 2 ≡ 1 → ⊥
+even_odd n even odd = omega arith
+
+must_be_full : {w : Core} {t : ℕ} {cmd : Cmd} {told : Told} {v : Core} → Answering w t cmd told v → IsFull w t cmd → told.answer ≡ answers.Full
+must_be_full {w = w} {cmd = cmd} {told = told} a full = go (new_answered cmd told.answer full.none.new a.said.kind)
+  where
+    go : IsOfNew told.answer → told.answer ≡ answers.Full
+    go (IsOfNew.new_done is) = absurd (not_done a full.none is)
+    go (IsOfNew.new_log_full is) = absurd (not_log_full a full.none is)
+    go (IsOfNew.new_full is) = is
+    go (IsOfNew.new_busy before after is) = absurd (even_odd w.freed full.even (told_busy before after a is).0.odd)
+
+must_be_busy : {w : Core} {t : ℕ} {cmd : Cmd} {told : Told} {v : Core} (before after : ℕ) → Answering w t cmd told v → IsBusy w t cmd × (before ≡ w.freed) × (after ≡ w.freed) → told.answer ≡ answers.Busy before after
+must_be_busy {w = w} {cmd = cmd} {told = told} before after a (busy, first, last) = go (new_answered cmd told.answer busy.none.new a.said.kind)
+  where
+    go : IsOfNew told.answer → told.answer ≡ answers.Busy before after
+    go (IsOfNew.new_done is) = absurd (not_done a busy.none is)
+    go (IsOfNew.new_log_full is) = absurd (not_log_full a busy.none is)
+    go (IsOfNew.new_full is) = absurd (even_odd w.freed (told_full a is).even busy.odd)
+    go (IsOfNew.new_busy b e is) =
+        let parts = told_busy b e a is in
+        let same_first : b ≡ before = parts.1 ∙ sym first in
+        let same_last : e ≡ after = parts.2 ∙ sym last in
+        (cc)
 
 -- what only the registers and the log tell
 lacks_same : (p : Private) (phase : Phase) (steps : ℕ) (cmd : Cmd) → LacksObject (record p { phase = phase; steps = steps }) cmd ↔ LacksObject p cmd
@@ -163,253 +407,325 @@ enters_same p phase steps (commands.Put src f val) = (λ x. x, λ x. x)
 enters_same p phase steps (commands.Value reg) = (λ x. x, λ x. x)
 enters_same p phase steps (commands.Same a b) = (λ x. x, λ x. x)
 
--- what is said of a command, in parts
-pub record IsAnswered (w : State) (t : ℕ) (cmd : Cmd) (told : Told) (v : State) : Type 0 where
-  pub told_of : IsDecided w t cmd told v
+-- What is said of a command that was told this: how it is explained, why it was refused, what it left, and that all else stays.
+pub record IsAnswered (w v : Core) (t : ℕ) (cmd : Cmd) (told : Told) : Type 0 where
+  pub explained : IsExplained (sight w) t cmd told (sight v)
   pub log_full : (told.answer ≡ answers.LogFull) ↔ IsLogFull w t cmd
   pub no_object : (told.answer ≡ answers.NoObject) ↔ LacksObject (mutator w t) cmd
-  pub busy : (before after : ℕ) → told.answer ≡ answers.Busy before after → (before ≡ w.freed) × (after ≡ v.freed) × (IsStill before after → ⊥)
+  pub full : (told.answer ≡ answers.Full) ↔ IsFull w t cmd
+  pub busy : (before after : ℕ) → (told.answer ≡ answers.Busy before after) ↔ (IsBusy w t cmd × (before ≡ w.freed) × (after ≡ w.freed))
   pub refused : is_refusal told.answer ≡ true → OnlyWorks w v t
+  pub seen : (slot : ℕ) × (sight v ≡ sight_told (sight w) slot t cmd told) × (is_birth (cmd, told) ≡ true → IsLowestFree (sight w) slot)
   pub others : (s : ℕ) → s ≢ t → 1 ≤ s → mutator v s ≡ mutator w s
   pub idle : is_busy (mutator v t) ≡ false
+  pub made : v.made ≡ w.made + (if is_birth (cmd, told) then 1 else 0)
+  pub logged : log_length v t ≡ log_length w t + entries_of cmd told.answer
+  pub stamp : IfSome (word_left cmd told) (λ word. stamp_of word ≡ record { writer = t; epoch = (mutator w t).epoch; index = log_length w t })
+  pub epoch : (mutator v t).epoch ≡ (mutator w t).epoch
+  pub requested : v.epoch ≡ w.epoch
+  pub freed : v.freed ≡ w.freed
+  pub collector : v.collector ≡ w.collector
   pub config : v.config ≡ w.config
-  pub marked : v.marked ≡ false
+  pub marked : v.marked ≡ w.marked
+
+-- what an allocation finds, in another heap with the same headers and freed word, and as many entries of this mutator
+finds_along : (w v : Core) (t : ℕ) (cmd : Cmd) → log_length v t ≡ log_length w t → v.config ≡ w.config → v.headers ≡ w.headers → FindsNone w t cmd → FindsNone v t cmd
+finds_along w v t cmd entries config headers is =
+    let room : log_length w t < w.config.log_entries = is.room in
+    let many : v.config.log_entries ≡ w.config.log_entries = ap (λ (c : Config). c.log_entries) config in
+    record {
+      new = is.new;
+      room = omega arith;
+      filled = λ slot below. subst (λ (hs : List ℕ). 0 < slice_index_or hs slot 0) (sym headers) (is.filled slot (subst (λ (c : Config). slot < c.slots) config below));
+    }
+
+full_along : (w v : Core) (t : ℕ) (cmd : Cmd) → log_length v t ≡ log_length w t → v.config ≡ w.config → v.headers ≡ w.headers → v.freed ≡ w.freed → IsFull w t cmd → IsFull v t cmd
+full_along w v t cmd entries config headers freed is = record { none = finds_along w v t cmd entries config headers is.none; even = ap (λ n. n % 2) freed ∙ is.even }
+
+busy_along : (w v : Core) (t : ℕ) (cmd : Cmd) → log_length v t ≡ log_length w t → v.config ≡ w.config → v.headers ≡ w.headers → v.freed ≡ w.freed → IsBusy w t cmd → IsBusy v t cmd
+busy_along w v t cmd entries config headers freed is = record { none = finds_along w v t cmd entries config headers is.none; odd = ap (λ n. n % 2) freed ∙ is.odd }
+
+-- each slot below the one that a scan has come to is taken
+probed_lower : (w : Core) (phase : Phase) (slot : ℕ) → HasFound w phase → probed_at phase ≡ Some slot → (s : ℕ) → s < slot → IsTaken (sight w) s
+probed_lower w Idle slot found is s below = let not_so : ◌≡◌ {A = Option ℕ} None (Some slot) = is in (cc)
+probed_lower w (Begun work) slot found is s below = let not_so : ◌≡◌ {A = Option ℕ} None (Some slot) = is in (cc)
+probed_lower w (Scanning reg label before at) slot found is s below =
+    let same : ◌≡◌ {A = Option ℕ} (Some at) (Some slot) = is in
+    let here : at ≡ slot = cc in
+    found.1 s (omega arith)
+probed_lower w (Scanned reg label before) slot found is s below = let not_so : ◌≡◌ {A = Option ℕ} None (Some slot) = is in (cc)
+probed_lower w Crossing slot found is s below = let not_so : ◌≡◌ {A = Option ℕ} None (Some slot) = is in (cc)
+probed_lower w Swapping slot found is s below = let not_so : ◌≡◌ {A = Option ℕ} None (Some slot) = is in (cc)
+probed_lower w Giving slot found is s below = let not_so : ◌≡◌ {A = Option ℕ} None (Some slot) = is in (cc)
+probed_lower w (Finished work made) slot found is s below = let not_so : ◌≡◌ {A = Option ℕ} None (Some slot) = is in (cc)
+
+-- the free slot that a scan has come to is the lowest one
+lowest : {w : Core} {t : ℕ} {cmd : Cmd} {told : Told} {v : Core} (slot : ℕ) → Answering w t cmd told v → IsBirthplace w t slot → IsLowestFree (sight w) slot
+lowest {w = w} {t = t} slot a place =
+    let headers : length w.headers ≡ w.config.slots = a.kept.headers in
+    let below : slot < w.config.slots = place.there in
+    record { there = omega arith; free = place.free; lower = probed_lower w (mutator w t).phase slot a.found place.probed }
+
+-- what is said of the command, from its last step
+answers_all : (w last v : Core) (t : ℕ) (cmd : Cmd) (told : Told) → IsKept w → IsMutator w.config t → OnlyWorks w last t → v ≡ stepped last t → answer_of (mutator v t) ≡ Some (makes.Answered told)
+    → Answering last t cmd told v → IsAnswered w v t cmd told
+answers_all w last v t cmd told kept is only steps answer a =
+    let p : Private = mutator w t in
+    let entries : log_length last t ≡ log_length w t = ap (λ (x : Private). length x.log.entries) only.own in
+    let epoch : (mutator last t).epoch ≡ p.epoch = ap (λ (x : Private). x.epoch) only.own in
+    let capacity : p.log.capacity ≡ w.config.log_entries = (actor_of w t kept is).own.capacity in
+    let config : last.config ≡ w.config = ap (λ (x : Core). x.config) only.others in
+    let headers : last.headers ≡ w.headers = ap (λ (x : Core). x.headers) only.others in
+    let freed : last.freed ≡ w.freed = ap (λ (x : Core). x.freed) only.others in
+    let same : sight last ≡ sight w = works_sight w last t only in
+    let quiet : IsQuiet w last t = works_quiet w last t is.0 only in
+    let phase : Phase = (mutator last t).phase in
+    let steps_made : ℕ = (mutator last t).steps in
+    let (slot, leaves) = a.said.leaves in
+    record {
+      explained = subst (λ (s : Sight). IsExplained s t cmd told (sight v)) same a.said.explained;
+      log_full = (
+        λ full.
+            let found : IsLogFullOf (mutator last t) × MakesEntry (mutator last t) cmd = a.cause.log_full.0 full in
+            let all : length p.log.entries ≡ p.log.capacity = subst IsLogFullOf only.own found.0 in
+            (all ∙ capacity, (enters_same p phase steps_made cmd).0 (subst (λ (x : Private). MakesEntry x cmd) only.own found.1)),
+        λ full.
+            let all : length p.log.entries ≡ p.log.capacity = full.0 ∙ sym capacity in
+            a.cause.log_full.1 (subst IsLogFullOf (sym only.own) all, subst (λ (x : Private). MakesEntry x cmd) (sym only.own) ((enters_same p phase steps_made cmd).1 full.1)),
+      );
+      no_object = (
+        λ none. (lacks_same p phase steps_made cmd).0 (subst (λ (x : Private). LacksObject x cmd) only.own (a.cause.no_object.0 none)),
+        λ none. a.cause.no_object.1 (subst (λ (x : Private). LacksObject x cmd) (sym only.own) ((lacks_same p phase steps_made cmd).1 none)),
+      );
+      full = (
+        λ full. full_along last w t cmd (sym entries) (sym config) (sym headers) (sym freed) (told_full a full),
+        λ full. must_be_full a (full_along w last t cmd entries config headers freed full),
+      );
+      busy = λ before after. (
+        λ sweeps.
+            let (busy, first, ends) = told_busy before after a sweeps in
+            (busy_along last w t cmd (sym entries) (sym config) (sym headers) (sym freed) busy, first ∙ freed, ends ∙ freed),
+        λ sweeps. must_be_busy before after a (busy_along w last t cmd entries config headers freed sweeps.0, sweeps.1 ∙ sym freed, sweeps.2 ∙ sym freed),
+      );
+      refused = λ refusal. works_both w last v t only (a.refused refusal);
+      seen = (
+        slot,
+        subst (λ (s : Sight). sight v ≡ sight_told s slot t cmd told) same leaves.seen,
+        λ born. subst (λ (s : Sight). IsLowestFree s slot) same (lowest slot a (leaves.birth born)),
+      );
+      others = λ s other some.
+          ap (λ (x : Core). mutator x s) steps ∙ mutator_other last.mutators t s (step_of (mutator last t) (found_by last t) (box last t)) is.0 other some ∙ quiet.others s other some;
+      idle = answered_idle (mutator v t).phase (makes.Answered told) answer;
+      made = a.said.made ∙ ap (λ n. n + (if is_birth (cmd, told) then 1 else 0)) quiet.made;
+      logged = a.said.logged ∙ ap (λ n. n + entries_of cmd told.answer) entries;
+      stamp = subst (λ n. IfSome (word_left cmd told) (λ word. stamp_of word ≡ record { writer = t; epoch = n; index = log_length w t })) epoch
+          (subst (λ n. IfSome (word_left cmd told) (λ word. stamp_of word ≡ record { writer = t; epoch = (mutator last t).epoch; index = n })) entries a.said.stamp);
+      epoch = a.said.epoch ∙ epoch;
+      requested = a.said.requested ∙ quiet.requested;
+      freed = a.said.freed ∙ freed;
+      collector = ap (λ (x : Core). x.collector) steps ∙ quiet.collector;
+      config = ap (λ (x : Core). x.config) steps ∙ config;
+      marked = ap (λ (x : Core). x.marked) steps ∙ quiet.marked;
+    }
 
 -- what was said of the command that was answered
-decided_of : (w v : State) (t : ℕ) (q : Private) (cmd : Cmd) (told : Told) → work_of (mutator w t) ≡ Some (works.Command cmd) → answer_of q ≡ Some (makes_.Answered told) → Says w t q v
+decided_of : (w v : Core) (t : ℕ) (q : Private) (cmd : Cmd) (told : Told) → work_of (mutator w t) ≡ Some (works.Command cmd) → answer_of q ≡ Some (makes.Answered told) → Says w t q v
     → IsDecided w t cmd told v × (is_refusal told.answer ≡ true → OnlyWorks w v t)
 decided_of w v t q cmd told work answer (Says.decided its_cmd its_told its_work its_answer said refused) =
     let cmds : its_cmd ≡ cmd = same_command its_cmd cmd (sym its_work ∙ work) in
     let tolds : its_told ≡ told = same_told its_told told (sym its_answer ∙ answer) in
     let P : Cmd → Told → Type 0 = λ c x. IsDecided w t c x v × (is_refusal x.answer ≡ true → OnlyWorks w v t) in
     subst (λ x. P cmd x) tolds (subst (λ c. P c its_told) cmds (said, refused))
-decided_of w v t q cmd told work answer (Says.going none only) =
-    let not_so : ◌≡◌ {A = Option Made} None (Some (makes_.Answered told)) = sym none ∙ answer in
+decided_of w v t q cmd told work answer (Says.going none only found) =
+    let not_so : ◌≡◌ {A = Option Made} None (Some (makes.Answered told)) = sym none ∙ answer in
     (cc)
-decided_of w v t q cmd told work answer (Says.polled crossed poll only) =
-    let not_so : ◌≡◌ {A = Option Made} (Some (makes_.Crossed None)) (Some (makes_.Answered told)) = sym crossed ∙ answer in
+decided_of w v t q cmd told work answer (Says.holding none phase still epoch) =
+    let not_so : ◌≡◌ {A = Option Made} None (Some (makes.Answered told)) = sym none ∙ answer in
     (cc)
-
--- the last step of a work, of a heap in which only the work has changed since
-pub record IsEnd (w last : State) (t : ℕ) (work : Work) (made : Made) (v : State) : Type 0 where
-  pub only : OnlyWorks w last t
-  pub kept : IsKept last
-  pub busy : is_busy (mutator last t) ≡ true
-  pub its_work : work_of (mutator last t) ≡ Some work
-  pub steps : v ≡ stepped last t
-  pub answer : answer_of (mutator v t) ≡ Some made
-
--- the cause of an answer
-answer_caused : (w : State) (t : ℕ) (cmd : Cmd) (told : Told) → IsKept w → IsMutator w.config t → is_busy (mutator w t) ≡ true → work_of (mutator w t) ≡ Some (works.Command cmd)
-    → answer_of (took_of (mutator w t) (found_by w t)) ≡ Some (makes_.Answered told) → HasCause (mutator w t) (took_of (mutator w t) (found_by w t)) cmd (found_by w t) told.answer
-answer_caused w t cmd told kept is busy work answer =
-    let p : Private = mutator w t in
-    let none = (own_here w t kept is).0 in
-    let same = here_same p (found_by w t) p.log busy none in
-    subst (λ (q : Private). HasCause p q cmd (found_by w t) told.answer) same
-    (answer_cause p (found_by w t) p.log cmd told (kept.own t is).machine (record { busy = busy; between = none_between p.phase none; work = work; answer = ap answer_of same ∙ answer }))
-
-caused : (w last v : State) (t : ℕ) (cmd : Cmd) (told : Told) → IsMutator last.config t → (e : IsEnd w last t (works.Command cmd) (makes_.Answered told) v)
-    → HasCause (mutator last t) (took_of (mutator last t) (found_by last t)) cmd (found_by last t) told.answer
-caused w last v t cmd told is e =
-    answer_caused last t cmd told e.kept is e.busy e.its_work (ap answer_of (sym (ap (λ (x : State). mutator x t) e.steps ∙ stepped_mutator last t e.kept is)) ∙ e.answer)
-
--- what is told of the command
-pub answers_all : (w last v : State) (t : ℕ) (cmd : Cmd) (told : Told) → IsKept w → w.marked ≡ false → IsMutator w.config t → IsEnd w last t (works.Command cmd) (makes_.Answered told) v → IsAnswered w t cmd told v
-answers_all w last v t cmd told kept unmarked is e =
-    let p : Private = mutator w t in
-    let config : last.config ≡ w.config = ap (λ (x : State). x.config) e.only.others in
-    let made : last.made ≡ w.made = ap (λ (x : State). x.made) e.only.others in
-    let last_unmarked : last.marked ≡ false = ap (λ (x : State). x.marked) e.only.others ∙ unmarked in
-    let there : IsMutator last.config t = subst (λ (c : Config). IsMutator c t) (sym config) is in
-    let entries : log_length last t ≡ log_length w t = ap (λ (x : Private). length x.log.entries) e.only.own in
-    let epoch : (mutator last t).epoch ≡ p.epoch = ap (λ (x : Private). x.epoch) e.only.own in
-    let capacity : p.log.capacity ≡ w.config.log_entries = (kept.own t is).capacity in
-    let says : Says last t (mutator v t) v = subst (λ (x : State). Says last t (mutator x t) x) (sym e.steps) (step_says last t e.kept last_unmarked there e.busy) in
-    let decided : IsDecided last t cmd told v × (is_refusal told.answer ≡ true → OnlyWorks last v t) = decided_of last v t (mutator v t) cmd told e.its_work e.answer says in
-    let cause = caused w last v t cmd told there e in
-    let told_of : IsDecided w t cmd told v
-    = subst (λ (n : ℕ). IsToldOf (sight w) w.config w.made (log_length w t) n t cmd told v) epoch
-    (subst (λ (n : ℕ). IsToldOf (sight w) w.config w.made n (mutator last t).epoch t cmd told v) entries
-    (subst (λ (n : ℕ). IsToldOf (sight w) w.config n (log_length last t) (mutator last t).epoch t cmd told v) made
-    (subst (λ (c : Config). IsToldOf (sight w) c last.made (log_length last t) (mutator last t).epoch t cmd told v) config
-    (subst (λ (s : Sight). IsToldOf s last.config last.made (log_length last t) (mutator last t).epoch t cmd told v) (works_sight w last t e.only) decided.0)))) in
-    let phase : Phase = (mutator last t).phase in
-    let steps : ℕ = (mutator last t).steps in
-    record {
-      told_of = told_of;
-      log_full = (
-        λ full.
-            let found : IsLogFullOf (mutator last t) × MakesEntry (mutator last t) cmd = cause.log_full.0 full in
-            let all : length p.log.entries ≡ p.log.capacity = subst IsLogFullOf e.only.own found.0 in
-            (all ∙ capacity, (enters_same p phase steps cmd).0 (subst (λ (x : Private). MakesEntry x cmd) e.only.own found.1)),
-        λ full.
-            let all : length p.log.entries ≡ p.log.capacity = full.0 ∙ sym capacity in
-            cause.log_full.1 (subst IsLogFullOf (sym e.only.own) all, subst (λ (x : Private). MakesEntry x cmd) (sym e.only.own) ((enters_same p phase steps cmd).1 full.1)),
-      );
-      no_object = (
-        λ none. (lacks_same p phase steps cmd).0 (subst (λ (x : Private). LacksObject x cmd) e.only.own (cause.no_object.0 none)),
-        λ none. cause.no_object.1 (subst (λ (x : Private). LacksObject x cmd) (sym e.only.own) ((lacks_same p phase steps cmd).1 none)),
-      );
-      busy = λ before after sweeps. absurd (false≢true (sym (ap is_plain sweeps) ∙ told_of.never));
-      refused = λ refusal. works_both w last v t e.only (decided.1 refusal);
-      others = λ s other first.
-          ap (λ (x : State). mutator x s) e.steps ∙ changed_other last.mutators t s (took_of (mutator last t) (found_by last t)) is.0 first other
-          ∙ ap (λ (x : State). mutator x s) e.only.others ∙ changed_other w.mutators t s (mutator last t) is.0 first other;
-      idle = answered_idle (mutator v t).phase (makes_.Answered told) e.answer;
-      config = ap (λ (x : State). x.config) e.steps ∙ config;
-      marked = ap (λ (x : State). x.marked) e.steps ∙ last_unmarked;
-    }
-
--- what is told of a poll
-pub record IsPolled (w : State) (t : ℕ) (crossed : Option ℕ) (v : State) : Type 0 where
-  pub none : crossed ≡ None
-  pub only : OnlyWorks w v t
-  pub idle : is_busy (mutator v t) ≡ false
-
-crossed_of : (w v : State) (t : ℕ) (q : Private) (crossed : Option ℕ) → answer_of q ≡ Some (makes_.Crossed crossed) → Says w t q v → (crossed ≡ None) × OnlyWorks w v t
-crossed_of w v t q crossed answer (Says.decided cmd told work its_answer said refused) =
-    let not_so : ◌≡◌ {A = Option Made} (Some (makes_.Answered told)) (Some (makes_.Crossed crossed)) = sym its_answer ∙ answer in
+decided_of w v t q cmd told work answer (Says.stayed crossed poll here only) =
+    let not_so : ◌≡◌ {A = Option Made} (Some (makes.Crossed None)) (Some (makes.Answered told)) = sym crossed ∙ answer in
     (cc)
-crossed_of w v t q crossed answer (Says.going none only) =
-    let not_so : ◌≡◌ {A = Option Made} None (Some (makes_.Crossed crossed)) = sym none ∙ answer in
-    (cc)
-crossed_of w v t q crossed answer (Says.polled its_answer work only) =
-    let same : ◌≡◌ {A = Option Made} (Some (makes_.Crossed crossed)) (Some (makes_.Crossed None)) = sym answer ∙ its_answer in
-    let none : crossed ≡ None = cc in
-    (none, only)
-
-pub polls_all : (w last v : State) (t : ℕ) (crossed : Option ℕ) → w.marked ≡ false → IsMutator w.config t → IsEnd w last t works.Poll (makes_.Crossed crossed) v → IsPolled w t crossed v
-polls_all w last v t crossed unmarked is e =
-    let config : last.config ≡ w.config = ap (λ (x : State). x.config) e.only.others in
-    let last_unmarked : last.marked ≡ false = ap (λ (x : State). x.marked) e.only.others ∙ unmarked in
-    let there : IsMutator last.config t = subst (λ (c : Config). IsMutator c t) (sym config) is in
-    let says : Says last t (mutator v t) v = subst (λ (x : State). Says last t (mutator x t) x) (sym e.steps) (step_says last t e.kept last_unmarked there e.busy) in
-    let said : (crossed ≡ None) × OnlyWorks last v t = crossed_of last v t (mutator v t) crossed e.answer says in
-    record { none = said.0; only = works_both w last v t e.only said.1; idle = answered_idle (mutator v t).phase (makes_.Crossed crossed) e.answer }
-
--- no command ends as a poll does, and no poll as a command
-pub no_crossing : (w v : State) (t : ℕ) (q : Private) (cmd : Cmd) (crossed : Option ℕ) → work_of (mutator w t) ≡ Some (works.Command cmd) → answer_of q ≡ Some (makes_.Crossed crossed) → Says w t q v → ⊥
-no_crossing w v t q cmd crossed work answer (Says.decided its_cmd told its_work its_answer said refused) =
-    let not_so : ◌≡◌ {A = Option Made} (Some (makes_.Answered told)) (Some (makes_.Crossed crossed)) = sym its_answer ∙ answer in
-    (cc)
-no_crossing w v t q cmd crossed work answer (Says.going none only) =
-    let not_so : ◌≡◌ {A = Option Made} None (Some (makes_.Crossed crossed)) = sym none ∙ answer in
-    (cc)
-no_crossing w v t q cmd crossed work answer (Says.polled its_answer its_work only) =
-    let not_so : ◌≡◌ {A = Option Work} (Some (works.Command cmd)) (Some works.Poll) = sym work ∙ its_work in
+decided_of w v t q cmd told work answer (Says.crossed crossed poll phase still epoch log) =
+    let not_so : ◌≡◌ {A = Option Made} (Some (makes.Crossed (Some ((mutator w t).epoch + 1)))) (Some (makes.Answered told)) = sym crossed ∙ answer in
     (cc)
 
-pub no_answer : (w v : State) (t : ℕ) (q : Private) (told : Told) → work_of (mutator w t) ≡ Some works.Poll → answer_of q ≡ Some (makes_.Answered told) → Says w t q v → ⊥
-no_answer w v t q told work answer (Says.decided cmd its_told its_work its_answer said refused) =
-    let not_so : ◌≡◌ {A = Option Work} (Some (works.Command cmd)) (Some works.Poll) = sym its_work ∙ work in
+-- a command never holds the mailbox
+command_works : (before w : Core) (t : ℕ) (cmd : Cmd) → Waits before w t → work_of (mutator w t) ≡ Some (works.Command cmd) → OnlyWorks before w t × HasFound w (mutator w t).phase
+command_works before w t cmd (Waits.works only found) work = (only, found)
+command_works before w t cmd (Waits.holds phase still epoch) work =
+    let not_so : ◌≡◌ {A = Option Work} (Some works.Poll) (Some (works.Command cmd)) = sym (ap work_at phase) ∙ work in
     (cc)
-no_answer w v t q told work answer (Says.going none only) =
-    let not_so : ◌≡◌ {A = Option Made} None (Some (makes_.Answered told)) = sym none ∙ answer in
-    (cc)
-no_answer w v t q told work answer (Says.polled crossed its_work only) =
-    let not_so : ◌≡◌ {A = Option Made} (Some (makes_.Crossed None)) (Some (makes_.Answered told)) = sym crossed ∙ answer in
-    (cc)
-
--- the begin of a work changes nothing but the work
-pub begun_works : (w : State) (t : ℕ) (work : Work) → IsKept w → IsMutator w.config t → OnlyWorks w (begun w t work) t
-unfolding begun_of
-begun_works w t work kept is =
-    let all : length w.mutators ≡ w.config.mutators = kept.mutators in
-    let here : mutator (begun w t work) t ≡ begun_of (mutator w t) work = changed_same w.mutators t (begun_of (mutator w t) work) is.0 (omega (arith, is.1)) in
-    let P : Private → Type 0 = λ x. x ≡ record (mutator w t) { phase = x.phase; steps = x.steps } in
-    record { others = ap (with_mutator w t) (sym here); own = subst P (sym here) refl }
-
--- a step counts
-pub steps_counted : (w : State) (t : ℕ) → IsKept w → IsMutator w.config t → is_busy (mutator w t) ≡ true → (mutator (stepped w t) t).steps ≡ (mutator w t).steps + 1
-steps_counted w t kept is busy = ap (λ (p : Private). p.steps) (stepped_mutator w t kept is) ∙ step_counts (learnt_made (mutator w t) (found_by w t) (mutator w t).log busy (own_here w t kept is).0)
-
--- a loop of steps comes nearer to its end
-pub nearer : (before w v : State) (t : ℕ) → IsKept w → IsMutator w.config t → is_busy (mutator w t) ≡ true → OnlyWorks before w t → v ≡ stepped w t
-    → before.config.slots + 3 - (mutator v t).steps < before.config.slots + 3 - (mutator w t).steps
-nearer before w v t kept is busy only steps =
-    let slots : w.config.slots ≡ before.config.slots = ap (λ (x : State). x.config.slots) only.others in
-    let most : (mutator w t).steps ≤ w.config.slots + 2 = most_steps w t kept is busy in
-    let more : (mutator v t).steps ≡ (mutator w t).steps + 1 = ap (λ (x : State). (mutator x t).steps) steps ∙ steps_counted w t kept is busy in
-    omega arith
-
--- where only a mutator's work changed, its number is still there, and the heap isn't marked
-pub mutator_there : (before w : State) (t : ℕ) → OnlyWorks before w t → IsMutator before.config t → IsMutator w.config t
-mutator_there before w t only is = subst (λ (c : Config). IsMutator c t) (sym (ap (λ (x : State). x.config) only.others)) is
-
-pub unmarked_there : (before w : State) (t : ℕ) → OnlyWorks before w t → before.marked ≡ false → w.marked ≡ false
-unmarked_there before w t only unmarked = ap (λ (x : State). x.marked) only.others ∙ unmarked
-
--- a step that answers nothing leaves all as it was but the work
-pub waited : (w v : State) (t : ℕ) → IsKept w → w.marked ≡ false → IsMutator w.config t → is_busy (mutator w t) ≡ true → v ≡ stepped w t → answer_of (mutator v t) ≡ None → OnlyWorks w v t
-waited w v t kept unmarked is busy steps none =
-    step_waits w v t (mutator v t) none (subst (λ (x : State). Says w t (mutator x t) x) (sym steps) (step_says w t kept unmarked is busy))
-
--- A work that was begun, and whose steps are finished: the last of them is the last step of the work, of the heap before.
-pub ends_work : (w v : State) (t : ℕ) (work : Work) (made : Made) → IsKept w → IsMutator w.config t → work_of (mutator (begun w t work) t) ≡ Some work → (f : IsFinished (begun w t work) t made v) → IsEnd w f.last t work made v
-ends_work w v t work made kept is its f =
-    record {
-      only = works_both w (begun w t work) f.last t (begun_works w t work kept is) f.waits;
-      kept = f.world.kept;
-      busy = f.busy;
-      its_work = f.work ∙ its;
-      steps = f.steps;
-      answer = f.answer;
-    }
 
 -- what the last step of a work says
-pub end_says : (w last v : State) (t : ℕ) (work : Work) (made : Made) → w.marked ≡ false → IsMutator w.config t → IsEnd w last t work made v → Says last t (mutator v t) v
-end_says w last v t work made unmarked is e =
-    subst (λ (x : State). Says last t (mutator x t) x) (sym e.steps)
-    (step_says last t e.kept (unmarked_there w last t e.only unmarked) (mutator_there w last t e.only is) e.busy)
+end_says : (before v : Core) (t : ℕ) (made : Made) → IsMutator before.config t → (f : IsFinished before t made v) → IsKept f.last → Says f.last t (mutator v t) v
+end_says before v t made is f kept =
+    subst (λ (x : Core). Says f.last t (mutator x t) x) (sym f.steps) (step_says f.last t kept (mutator_there before f.last t f.waits is) f.busy)
 
--- what a command is told whose work was begun and finished
-pub command_said : (w b v : State) (t : ℕ) (cmd : Cmd) (told : Told) → IsKept w → w.marked ≡ false → IsMutator w.config t → b ≡ begun w t (works.Command cmd) → work_of (mutator b t) ≡ Some (works.Command cmd)
-    → IsFinished b t (makes_.Answered told) v → IsAnswered w t cmd told v
-command_said w b v t cmd told kept unmarked is begins its f =
-    let its_begun : work_of (mutator (begun w t (works.Command cmd)) t) ≡ Some (works.Command cmd) = ap (λ (x : State). work_of (mutator x t)) (sym begins) ∙ its in
-    let finished : IsFinished (begun w t (works.Command cmd)) t (makes_.Answered told) v = subst (λ (x : State). IsFinished x t (makes_.Answered told) v) begins f in
-    answers_all w finished.last v t cmd told kept unmarked is (ends_work w v t (works.Command cmd) (makes_.Answered told) kept is its_begun finished)
+-- What a command is told whose work was begun and finished.
+pub command_said : (w b v : Core) (t : ℕ) (cmd : Cmd) (told : Told) → IsKept w → IsMutator w.config t → b ≡ begun w t (works.Command cmd) → work_of (mutator b t) ≡ Some (works.Command cmd)
+    → (f : IsFinished b t (makes.Answered told) v) → IsKept f.last → IsAnswered w v t cmd told
+command_said w b v t cmd told kept is begins its f last_kept =
+    let here : OnlyWorks w b t = subst (λ (x : Core). OnlyWorks w x t) (sym begins) (begun_works w t (works.Command cmd) kept is) in
+    let there : IsMutator b.config t = subst (λ (x : Core). IsMutator x.config t) (sym begins) is in
+    let work : work_of (mutator f.last t) ≡ Some (works.Command cmd) = f.work ∙ its in
+    let waited = command_works b f.last t cmd f.waits work in
+    let decided = decided_of f.last v t (mutator v t) cmd told work f.answer (end_says b v t (makes.Answered told) there f last_kept) in
+    let last_there : IsMutator f.last.config t = mutator_there b f.last t f.waits there in
+    let answer : answer_of (mutator (stepped f.last t) t) ≡ Some (makes.Answered told) = ap (λ (x : Core). answer_of (mutator x t)) (sym f.steps) ∙ f.answer in
+    let cause : HasCause (mutator f.last t) (mutator v t) cmd (found_by f.last t) told.answer
+    = subst (λ (x : Core). HasCause (mutator f.last t) (mutator x t) cmd (found_by f.last t) told.answer) (sym f.steps) (step_caused f.last t cmd told last_kept last_there f.busy work answer) in
+    answers_all w f.last v t cmd told kept is (works_both w b f.last t here waited.0) f.steps f.answer
+    (record { kept = last_kept; is = last_there; work = work; found = waited.1; said = decided.0; cause = cause; refused = decided.1 })
 
 -- a command never ends as a poll does
-pub command_crosses : (w b v : State) (t : ℕ) (cmd : Cmd) (crossed : Option ℕ) → IsKept w → w.marked ≡ false → IsMutator w.config t → b ≡ begun w t (works.Command cmd) → work_of (mutator b t) ≡ Some (works.Command cmd)
-    → IsFinished b t (makes_.Crossed crossed) v → ⊥
-command_crosses w b v t cmd crossed kept unmarked is begins its f =
-    let its_begun : work_of (mutator (begun w t (works.Command cmd)) t) ≡ Some (works.Command cmd) = ap (λ (x : State). work_of (mutator x t)) (sym begins) ∙ its in
-    let finished : IsFinished (begun w t (works.Command cmd)) t (makes_.Crossed crossed) v = subst (λ (x : State). IsFinished x t (makes_.Crossed crossed) v) begins f in
-    let e : IsEnd w finished.last t (works.Command cmd) (makes_.Crossed crossed) v = ends_work w v t (works.Command cmd) (makes_.Crossed crossed) kept is its_begun finished in
-    no_crossing finished.last v t (mutator v t) cmd crossed e.its_work e.answer (end_says w finished.last v t (works.Command cmd) (makes_.Crossed crossed) unmarked is e)
+pub command_crosses : (w b v : Core) (t : ℕ) (cmd : Cmd) (crossed : Option ℕ) → IsKept w → IsMutator w.config t → b ≡ begun w t (works.Command cmd) → work_of (mutator b t) ≡ Some (works.Command cmd)
+    → (f : IsFinished b t (makes.Crossed crossed) v) → IsKept f.last → ⊥
+command_crosses w b v t cmd crossed kept is begins its f last_kept =
+    let there : IsMutator b.config t = subst (λ (x : Core). IsMutator x.config t) (sym begins) is in
+    go (f.work ∙ its) f.answer (end_says b v t (makes.Crossed crossed) there f last_kept)
+  where
+    go : {last : Core} {q : Private} → work_of (mutator last t) ≡ Some (works.Command cmd) → answer_of q ≡ Some (makes.Crossed crossed) → Says last t q v → ⊥
+    go work answer (Says.decided its_cmd told its_work its_answer said refused) =
+        let not_so : ◌≡◌ {A = Option Made} (Some (makes.Answered told)) (Some (makes.Crossed crossed)) = sym its_answer ∙ answer in
+        (cc)
+    go work answer (Says.going none only found) =
+        let not_so : ◌≡◌ {A = Option Made} None (Some (makes.Crossed crossed)) = sym none ∙ answer in
+        (cc)
+    go work answer (Says.holding none phase still epoch) =
+        let not_so : ◌≡◌ {A = Option Made} None (Some (makes.Crossed crossed)) = sym none ∙ answer in
+        (cc)
+    go work answer (Says.stayed its_answer poll here only) =
+        let not_so : ◌≡◌ {A = Option Work} (Some (works.Command cmd)) (Some works.Poll) = sym work ∙ poll in
+        (cc)
+    go work answer (Says.crossed its_answer poll phase still epoch log) =
+        let not_so : ◌≡◌ {A = Option Work} (Some (works.Command cmd)) (Some works.Poll) = sym work ∙ poll in
+        (cc)
 
--- what a poll is told whose work was begun and finished
-pub poll_said : (w b v : State) (t : ℕ) (crossed : Option ℕ) → IsKept w → w.marked ≡ false → IsMutator w.config t → b ≡ begun w t works.Poll → work_of (mutator b t) ≡ Some works.Poll
-    → IsFinished b t (makes_.Crossed crossed) v → IsPolled w t crossed v
-poll_said w b v t crossed kept unmarked is begins its f =
-    let its_begun : work_of (mutator (begun w t works.Poll) t) ≡ Some works.Poll = ap (λ (x : State). work_of (mutator x t)) (sym begins) ∙ its in
-    let finished : IsFinished (begun w t works.Poll) t (makes_.Crossed crossed) v = subst (λ (x : State). IsFinished x t (makes_.Crossed crossed) v) begins f in
-    polls_all w finished.last v t crossed unmarked is (ends_work w v t works.Poll (makes_.Crossed crossed) kept is its_begun finished)
+-- nor a poll as a command
+pub poll_answers : (w b v : Core) (t : ℕ) (told : Told) → IsKept w → IsMutator w.config t → b ≡ begun w t works.Poll → work_of (mutator b t) ≡ Some works.Poll
+    → (f : IsFinished b t (makes.Answered told) v) → IsKept f.last → ⊥
+poll_answers w b v t told kept is begins its f last_kept =
+    let there : IsMutator b.config t = subst (λ (x : Core). IsMutator x.config t) (sym begins) is in
+    go (f.work ∙ its) f.answer (end_says b v t (makes.Answered told) there f last_kept)
+  where
+    go : {last : Core} {q : Private} → work_of (mutator last t) ≡ Some works.Poll → answer_of q ≡ Some (makes.Answered told) → Says last t q v → ⊥
+    go work answer (Says.decided cmd its_told its_work its_answer said refused) =
+        let not_so : ◌≡◌ {A = Option Work} (Some (works.Command cmd)) (Some works.Poll) = sym its_work ∙ work in
+        (cc)
+    go work answer (Says.going none only found) =
+        let not_so : ◌≡◌ {A = Option Made} None (Some (makes.Answered told)) = sym none ∙ answer in
+        (cc)
+    go work answer (Says.holding none phase still epoch) =
+        let not_so : ◌≡◌ {A = Option Made} None (Some (makes.Answered told)) = sym none ∙ answer in
+        (cc)
+    go work answer (Says.stayed crossed poll here only) =
+        let not_so : ◌≡◌ {A = Option Made} (Some (makes.Crossed None)) (Some (makes.Answered told)) = sym crossed ∙ answer in
+        (cc)
+    go {last} {q} work answer (Says.crossed crossed poll phase still epoch log) =
+        let not_so : ◌≡◌ {A = Option Made} (Some (makes.Crossed (Some ((mutator last t).epoch + 1)))) (Some (makes.Answered told)) = sym crossed ∙ answer in
+        (cc)
 
--- a poll never ends as a command does
-pub poll_answers : (w b v : State) (t : ℕ) (told : Told) → IsKept w → w.marked ≡ false → IsMutator w.config t → b ≡ begun w t works.Poll → work_of (mutator b t) ≡ Some works.Poll
-    → IsFinished b t (makes_.Answered told) v → ⊥
-poll_answers w b v t told kept unmarked is begins its f =
-    let its_begun : work_of (mutator (begun w t works.Poll) t) ≡ Some works.Poll = ap (λ (x : State). work_of (mutator x t)) (sym begins) ∙ its in
-    let finished : IsFinished (begun w t works.Poll) t (makes_.Answered told) v = subst (λ (x : State). IsFinished x t (makes_.Answered told) v) begins f in
-    let e : IsEnd w finished.last t works.Poll (makes_.Answered told) v = ends_work w v t works.Poll (makes_.Answered told) kept is its_begun finished in
-    no_answer finished.last v t (mutator v t) told e.its_work e.answer (end_says w finished.last v t works.Poll (makes_.Answered told) unmarked is e)
+-- What is said of a poll that ended so: nothing is seen of it, the mutator stays in its epoch just where that is the requested one,
+-- and else is in the requested one, with an empty log.
+pub record IsPolled (w v : Core) (t : ℕ) (crossed : Option ℕ) : Type 0 where
+  pub quiet : IsQuiet w v t
+  pub crossed_into : IsCrossed w v t crossed
+  pub idle : is_busy (mutator v t) ≡ false
+  pub none : (crossed ≡ None) ↔ (w.epoch ≡ (mutator w t).epoch)
+  pub some : (epoch : ℕ) → crossed ≡ Some epoch → epoch ≡ w.epoch
 
--- why a step that answers a command refuses it
-step_caused : (w : State) (t : ℕ) (cmd : Cmd) (told : Told) → IsKept w → IsMutator w.config t → is_busy (mutator w t) ≡ true → work_of (mutator w t) ≡ Some (works.Command cmd)
-    → answer_of (mutator (stepped w t) t) ≡ Some (makes_.Answered told) → IsDecided w t cmd told (stepped w t) → IsCaused w t cmd told (stepped w t)
-step_caused w t cmd told kept is busy work answer said =
+-- the word that a poll looks at first is the requested epoch
+poll_finds : (w : Core) (t : ℕ) → (mutator w t).phase ≡ Begun works.Poll → found_by w t ≡ w.epoch
+unfolding next_of next_at
+poll_finds w t is = ap (cell (cells_of w)) (ap (next_at (mutator w t)) is)
+
+-- a poll that ends with no crossing found its own epoch requested
+stayed_epoch : (w : Core) (t : ℕ) → IsKept w → IsMutator w.config t → is_busy (mutator w t) ≡ true → answer_of (mutator (stepped w t) t) ≡ Some (makes.Crossed None) → w.epoch ≡ (mutator w t).epoch
+stayed_epoch w t kept is busy answer =
+    let cause = (poll_has_cause (mutator w t) (found_by w t) (box w t) busy (actor_of w t kept is).own.between).none.0 (ap answer_of (sym (stepped_mutator w t kept is)) ∙ answer) in
+    sym (poll_finds w t cause.0) ∙ cause.1
+
+-- a mutator that holds its mailbox isn't in the requested epoch, and has an empty log
+holds_next : (w : Core) (t : ℕ) → IsKept w → IsMutator w.config t → (mutator w t).phase ≡ Giving → ((mutator w t).epoch + 1 ≡ w.epoch) × (log_length w t ≡ 0)
+holds_next w t kept is phase =
+    let crosses = (giving_of w t kept is phase).1 in
+    (crosses.epoch, ap (λ (b : Contents). length b.entries) crosses.spare)
+
+-- a poll that ended in the epoch in which it began
+polled_here : (w last v : Core) (t : ℕ) → IsQuiet w last t → (mutator last t).epoch ≡ (mutator w t).epoch → log_length last t ≡ log_length w t → 1 ≤ t → OnlyWorks last v t → last.epoch ≡ (mutator last t).epoch
+    → is_busy (mutator v t) ≡ false → IsPolled w v t None
+polled_here w last v t quiet epoch log first only requested idle =
     record {
-      cause = subst (λ (q : Private). HasCause (mutator w t) q cmd (found_by w t) told.answer) (sym (stepped_mutator w t kept is))
-          (answer_caused w t cmd told kept is busy work (ap answer_of (sym (stepped_mutator w t kept is)) ∙ answer));
-      taken = λ full. (said.full.0 full).2;
+      quiet = quiet_both w last v t quiet (works_quiet last v t first only);
+      crossed_into = (ap (λ (p : Private). p.epoch) only.own ∙ epoch, ap (λ (p : Private). length p.log.entries) only.own ∙ log);
+      idle = idle;
+      none = (λ _. sym quiet.requested ∙ requested ∙ epoch, λ _. refl);
+      some = λ e is. let not_so : ◌≡◌ {A = Option ℕ} None (Some e) = is in (cc);
     }
 
--- a step shows what it answers
-pub step_shown : (w : State) (t : ℕ) → IsKept w → IsMutator w.config t → is_busy (mutator w t) ≡ true → Says w t (mutator (stepped w t) t) (stepped w t) → IsShown w t (answer_of (mutator (stepped w t) t)) (stepped w t)
-step_shown w t kept is busy (Says.decided cmd told work answer said refused) =
-    subst (λ x. IsShown w t x (stepped w t)) (sym answer) (cmd, work, said.explained, step_caused w t cmd told kept is busy work answer said)
-step_shown w t kept is busy (Says.going answer only) = subst (λ x. IsShown w t x (stepped w t)) (sym answer) (works_sight w (stepped w t) t only)
-step_shown w t kept is busy (Says.polled answer work only) = subst (λ x. IsShown w t x (stepped w t)) (sym answer) (works_sight w (stepped w t) t only)
+-- a poll that ended in the next one
+polled_there : (w last v : Core) (t : ℕ) → IsQuiet w last t → (mutator last t).epoch ≡ (mutator w t).epoch → ((mutator last t).epoch + 1 ≡ last.epoch) × (log_length last t ≡ 0) → IsQuiet last v t
+    → (mutator v t).epoch ≡ (mutator last t).epoch + 1 → (mutator v t).log ≡ (mutator last t).log → is_busy (mutator v t) ≡ false → IsPolled w v t (Some ((mutator last t).epoch + 1))
+polled_there w last v t quiet epoch next still its_epoch its_log idle =
+    let requested : last.epoch ≡ w.epoch = quiet.requested in
+    let last_epoch : (mutator last t).epoch + 1 ≡ last.epoch = next.0 in
+    record {
+      quiet = quiet_both w last v t quiet still;
+      crossed_into = (ap (λ n. n + 1) epoch, its_epoch, ap (λ (b : Contents). length b.entries) its_log ∙ next.1);
+      idle = idle;
+      none = (λ is. cc, λ same. let its : w.epoch ≡ (mutator w t).epoch = same in absurd (omega arith));
+      some = λ e is.
+          let same : ◌≡◌ {A = Option ℕ} (Some ((mutator last t).epoch + 1)) (Some e) = is in
+          let here : (mutator last t).epoch + 1 ≡ e = cc in
+          sym here ∙ last_epoch ∙ requested;
+    }
+
+-- a mutator that gives no mailbox back has the log with which it began
+waits_log : (before w : Core) (t : ℕ) → Waits before w t → is_giving (mutator w t).phase ≡ false → log_length w t ≡ log_length before t
+waits_log before w t (Waits.works only found) here = ap (λ (p : Private). length p.log.entries) only.own
+waits_log before w t (Waits.holds phase still epoch) here = absurd (false≢true (sym here ∙ ap is_giving phase))
+
+-- What a poll is told whose work was begun and finished.
+pub poll_said : (w b v : Core) (t : ℕ) (crossed : Option ℕ) → IsKept w → IsMutator w.config t → b ≡ begun w t works.Poll → work_of (mutator b t) ≡ Some works.Poll
+    → (f : IsFinished b t (makes.Crossed crossed) v) → IsKept f.last → IsPolled w v t crossed
+poll_said w b v t crossed kept is begins its f last_kept =
+    let there : IsMutator b.config t = subst (λ (x : Core). IsMutator x.config t) (sym begins) is in
+    go (f.work ∙ its) (end_says b v t (makes.Crossed crossed) there f last_kept)
+  where
+    last_there : IsMutator f.last.config t
+    last_there = mutator_there b f.last t f.waits (subst (λ (x : Core). IsMutator x.config t) (sym begins) is)
+
+    here : OnlyWorks w b t
+    here = subst (λ (x : Core). OnlyWorks w x t) (sym begins) (begun_works w t works.Poll kept is)
+
+    quiet : IsQuiet w f.last t
+    quiet = quiet_both w b f.last t (works_quiet w b t is.0 here) (waits_quiet b f.last t is.0 f.waits)
+
+    epoch_same : (mutator f.last t).epoch ≡ (mutator w t).epoch
+    epoch_same = waits_epoch b f.last t f.waits ∙ ap (λ (p : Private). p.epoch) here.own
+
+    idle : is_busy (mutator v t) ≡ false
+    idle = answered_idle (mutator v t).phase (makes.Crossed crossed) f.answer
+
+    told : (x : Option ℕ) → answer_of (mutator v t) ≡ Some (makes.Crossed x) → x ≡ crossed
+    told x answer =
+        let same : ◌≡◌ {A = Option Made} (Some (makes.Crossed x)) (Some (makes.Crossed crossed)) = sym answer ∙ f.answer in
+        (cc)
+
+    go : work_of (mutator f.last t) ≡ Some works.Poll → Says f.last t (mutator v t) v → IsPolled w v t crossed
+    go work (Says.decided cmd its_told its_work its_answer said refused) =
+        let not_so : ◌≡◌ {A = Option Work} (Some (works.Command cmd)) (Some works.Poll) = sym its_work ∙ work in
+        (cc)
+    go work (Says.going none only found) =
+        let not_so : ◌≡◌ {A = Option Made} None (Some (makes.Crossed crossed)) = sym none ∙ f.answer in
+        (cc)
+    go work (Says.holding none phase still epoch) =
+        let not_so : ◌≡◌ {A = Option Made} None (Some (makes.Crossed crossed)) = sym none ∙ f.answer in
+        (cc)
+    go work (Says.stayed answer poll stays only) =
+        let log : log_length f.last t ≡ log_length w t = waits_log b f.last t f.waits stays ∙ ap (λ (p : Private). length p.log.entries) here.own in
+        let requested : f.last.epoch ≡ (mutator f.last t).epoch = stayed_epoch f.last t last_kept last_there f.busy (ap (λ (x : Core). answer_of (mutator x t)) (sym f.steps) ∙ answer) in
+        subst (IsPolled w v t) (told None answer) (polled_here w f.last v t quiet epoch_same log is.0 only requested idle)
+    go work (Says.crossed answer poll phase still epoch log) =
+        subst (IsPolled w v t) (told (Some ((mutator f.last t).epoch + 1)) answer)
+        (polled_there w f.last v t quiet epoch_same (holds_next f.last t last_kept last_there phase) still epoch log idle)

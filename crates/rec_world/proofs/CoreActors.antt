@@ -20,10 +20,9 @@ use Rattle.rec_collector.specs.Private.{blank}
 use Rattle.rec_collector.specs.declared.phase.Phase.{Phase}
 use Rattle.rec_world.specs.declared.config.Config.{Config}
 use Rattle.rec_world.specs.Config.{IsMutator}
-use Rattle.rec_world.specs.Core.{spare_of}
+use Rattle.rec_world.specs.Core.{spare_of, nobody}
 use Rattle.rec_world.specs.CoreKept.{IsSettledIn, HasLabelAt, IsOwn, IsMadeIn, IsBufferOf, Stand, stand_at, IsBehind, IsCrossing, IsHandshake, IsActor, HasMutators}
 use Rattle.rec_world.specs.CorePending.{epoch_at}
-use Rattle.rec_world.specs.State.{nobody}
 use Rattle.rec_world.proofs.Machines.{IsBox, step_machine}
 
 -- the machine of a mutator after its step

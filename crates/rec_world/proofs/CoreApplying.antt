@@ -32,10 +32,9 @@ use Rattle.rec_collector.specs.Kept as collector_kept
 use Rattle.rec_collector.specs.declared.phase.Phase.TheVariants.{Returning}
 use Rattle.rec_world.specs.declared.config.Config.{Config}
 use Rattle.rec_world.specs.Config.{IsMutator}
-use Rattle.rec_world.specs.Core.{Core, mutator, box, crossing_of, spare_of}
+use Rattle.rec_world.specs.Core.{Core, mutator, box, crossing_of, spare_of, nobody}
 use Rattle.rec_world.specs.CoreKept.{IsBufferOf, Stand, stand_at, HasCrossed, IsHandshake, IsKept}
 use Rattle.rec_world.specs.CorePending.{Filed, filed, code, writes_in, births_in, dated_names, dated_all, older_at, applied_at, epoch_at, buffers, writes_of, births_of, snapshots_of, registers_of, pending}
-use Rattle.rec_world.specs.State.{nobody}
 use Rattle.rec_world.proofs.CoreActors.{epoch_here, settled_here}
 use Rattle.rec_world.proofs.CoreBatches.{gain, loss, gain_named, gain_none, loss_named, loss_none, same_at, none_of, sum_parts}
 use Rattle.rec_world.proofs.CoreCounts.{slot_in, accounts_with}

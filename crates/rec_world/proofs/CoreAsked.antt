@@ -5,6 +5,7 @@ use Rattle.rec_model.specs.Heap.{Heap, opening}
 use Rattle.rec_model.specs.LegalOrder.{Event}
 use Rattle.rec_model.specs.Sight.{Sight, StandsFor}
 use Rattle.rec_model.specs.declared.command.Cmd.{Cmd}
+use Rattle.rec_model.proofs.Answered.{explained_stands}
 use Rattle.rec_model.proofs.Opened.{opening_stands}
 use Rattle.rec_mutator.specs.Private.{work_of, answer_of}
 use Rattle.rec_mutator.specs.Took.{begun_of}
@@ -23,13 +24,13 @@ use Rattle.rec_world.specs.CoreShown.{IsShown}
 use Rattle.rec_world.specs.declared.config.Config.{Config}
 use Rattle.rec_world.proofs.CoreOpening.{opened_kept}
 use Rattle.rec_world.proofs.CoreReach.{turned_keeps, keeps_stands}
-use Rattle.rec_world.proofs.CoreRuns.{move_kept}
+use Rattle.rec_world.proofs.CoreRuns.{move_kept, move_stays}
 use Rattle.rec_world.proofs.CoreShowing.{step_shown}
 use Rattle.rec_world.proofs.CoreSteps.{registers_stay}
 use Rattle.rec_world.proofs.Openings.{registers_opened}
 
 -- a work that begins is seen by nobody
-begun_sight : (w : Core) (t : ℕ) (work : Work) → sight (begun w t work) ≡ sight w
+pub begun_sight : (w : Core) (t : ℕ) (work : Work) → sight (begun w t work) ≡ sight w
 unfolding begun_of
 begun_sight w t work = ap (λ (rss : List (List (Option ℕ))). let s : Sight = record (sight w) { registers = rss } in s) (registers_stay w t (begun_of (mutator w t) work) refl)
 
@@ -52,28 +53,14 @@ after_step fields heap w v t es seen work (Some (makes.Crossed epoch)) same its 
 after_step fields heap w v t es seen work (Some (makes.Answered told)) same its shown stands rest =
     let cmd : Cmd = shown.0 in
     let is : work ≡ Some (works.Command cmd) = sym its ∙ shown.1 in
-    let both : IsTold fields heap t cmd told × StandsFor (asked fields heap t cmd told).heap (sight v) = subst (λ n. IsTold n heap t cmd told × StandsFor (asked n heap t cmd told).heap (sight v)) (sym same) (shown.2 heap stands) in
+    let both : IsTold fields heap t cmd told × StandsFor (asked fields heap t cmd told).heap (sight v) = subst (λ n. IsTold n heap t cmd told × StandsFor (asked n heap t cmd told).heap (sight v)) (sym same) (explained_stands (sight w) t cmd told (sight v) shown.2.explained heap stands) in
     subst (λ (x : Option Work). AreAsked fields heap (told_by t x (Some (makes.Answered told)) ++ es) seen) (sym is) (both.0, rest (asked fields heap t cmd told).heap both.1)
-
--- a turn keeps the numbers of the heap, with or without an operation
-turned_config : (w : Core) → (turned w).config ≡ w.config
-turned_config w = go (collector_next.next_of w.collector)
-  where
-    go : (x : Option Op) → (turned_at w x).config ≡ w.config
-    go None = refl
-    go (Some op) = refl
-
--- no move changes how many fields there are
-fields_stay : (w : Core) (m : Move) → (after_move w m).config ≡ w.config
-fields_stay w (Move.Begins t work) = refl
-fields_stay w (Move.Steps t) = refl
-fields_stay w Move.Turns = turned_config w
 
 moves_asked : (fields : ℕ) (heap : Heap) (w : Core) (ms : List Move) → fields ≡ w.config.fields → IsKept w → AllFit w ms → StandsFor heap (sight w) → AreAsked fields heap (told_in_all w ms) (sight (after_moves w ms))
 moves_asked fields heap w [] same kept fit stands = stands
 moves_asked fields heap w (m ∷ ms) same kept fit stands =
     let later : (next : Heap) → StandsFor next (sight (after_move w m)) → AreAsked fields next (told_in_all (after_move w m) ms) (sight (after_moves (after_move w m) ms))
-    = λ next stood. moves_asked fields next (after_move w m) ms (same ∙ sym (ap (λ (c : Config). c.fields) (fields_stay w m))) (move_kept w m kept fit.0) fit.1 stood in
+    = λ next stood. moves_asked fields next (after_move w m) ms (same ∙ sym (ap (λ (c : Config). c.fields) (move_stays w m).0)) (move_kept w m kept fit.0) fit.1 stood in
     by m fit.0 later
   where
     by : (n : Move) → Fits w n → ((next : Heap) → StandsFor next (sight (after_move w n)) → AreAsked fields next (told_in_all (after_move w n) ms) (sight (after_moves (after_move w n) ms)))

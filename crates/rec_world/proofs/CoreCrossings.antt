@@ -30,22 +30,21 @@ use Rattle.rec_collector.specs.Kept.{under_way}
 use Rattle.rec_collector.specs.Private.{blank}
 use Rattle.rec_collector.specs.declared.phase.Phase.{Phase}
 use Rattle.rec_collector.specs.declared.phase.Phase.TheVariants.{Idle, Looking, Swapping, Returning, Releasing, Opening, Sweeping, Closing}
-use Rattle.rec_world.specs.Config.{IsMutator}
-use Rattle.rec_world.specs.Core.{Core, cells_of, sight, mutator, box, crossing_of, spare_of}
+use Rattle.rec_world.specs.Config.{IsMutator, HasLabel}
+use Rattle.rec_world.specs.Core.{Core, cells_of, sight, mutator, box, crossing_of, spare_of, with_mutator}
 use Rattle.rec_world.specs.CoreKept.{IsSettledIn, HasLabelAt, IsOwn, IsBufferOf, Stand, stand_at, IsBehind, IsCrossing, IsHandshake, IsActor, IsScanning, entries_made, IsKept, HasMutators, IsMadeIn}
 use Rattle.rec_world.specs.CoreMoves.{performed, found_by, stepped, begun}
 use Rattle.rec_world.specs.CorePending.{epoch_at, applied_at, pending}
 use Rattle.rec_world.specs.Memory.{cell}
-use Rattle.rec_world.specs.Run.{HasLabel}
 use Rattle.rec_world.proofs.CoreActors.{own_stepped, epoch_here, handshake_stays, unsettled_due, spare_buffer, others_stay}
 use Rattle.rec_world.proofs.CoreMoves.{same_pending, crossing_amid, crossing_drops}
-use Rattle.rec_world.proofs.CoreShapes.{with_mutator, after_take, after_give}
+use Rattle.rec_world.proofs.CoreShapes.{after_take, after_give}
 use Rattle.rec_world.proofs.CoreSums.{none_named}
 use Rattle.rec_world.proofs.CoreSteps.{Makes, actor_of, in_list, its_box, register_taken, taken_slot, scans_stay, entries_stay, registers_stay, quiet_kept}
 use Rattle.rec_world.proofs.CoreRules.{performed_kept}
 
 -- a step that takes the own mailbox
-takes : (p : Private) (word : ℕ) (b : Contents) → p.phase ≡ at.Crossing → Crosses p (next_of p) (step_of p word b) at.Crossing (ops.TakeBox p.number (p.epoch + 1)) p.epoch b at.Giving
+pub takes : (p : Private) (word : ℕ) (b : Contents) → p.phase ≡ at.Crossing → Crosses p (next_of p) (step_of p word b) at.Crossing (ops.TakeBox p.number (p.epoch + 1)) p.epoch b at.Giving
 unfolding next_of next_at took_of took_at swapped_of swapped_at step_of
 takes p word b is = record { phase = is; operation = ap (next_at p) is; after = ap (λ x. swapped_of (took_at p word x) b) is }
 
@@ -61,7 +60,7 @@ unfolding next_of next_at took_of took_at swapped_of swapped_at step_of
 gives p word b is = record { phase = is; operation = ap (next_at p) is; after = ap (λ x. swapped_of (took_at p word x) b) is }
 
 -- where nobody's mailbox waits to be swapped, it holds what it held
-left_same : (q : Private) (b : Contents) → IsBetween q.phase → left_of q b ≡ b
+pub left_same : (q : Private) (b : Contents) → IsBetween q.phase → left_of q b ≡ b
 unfolding left_of left_at
 left_same q b is = same_at q b q.phase is
   where
@@ -98,6 +97,14 @@ behind_of w t kept is phase =
     let (due, where_) = unsettled_due w.config w.epoch p (crossing_of w t) (box w t) (stand_at w.collector.phase t) unsettled (actor_of w t kept is).handshake in
     let here : is_giving p.phase ≡ false = ap is_giving phase in
     (due, elim where_ [ inl behind ↦ behind | inr crosses ↦ absurd (false≢true (sym here ∙ ap is_giving crosses.phase)) ])
+
+-- one that is about to give its mailbox back is crossing, and its turn in the gathering is to come
+pub giving_of : (w : Core) (t : ℕ) → IsKept w → IsMutator w.config t → (mutator w t).phase ≡ at.Giving → (stand_at w.collector.phase t ≡ Stand.Due) × IsCrossing w.config w.epoch (mutator w t) (crossing_of w t)
+giving_of w t kept is phase =
+    let unsettled : IsSettledIn (mutator w t).phase → ⊥ = λ s. subst IsSettledIn phase s in
+    let (due, where_) = unsettled_due w.config w.epoch (mutator w t) (crossing_of w t) (box w t) (stand_at w.collector.phase t) unsettled (actor_of w t kept is).handshake in
+    let gives_ : is_giving (mutator w t).phase ≡ true = ap is_giving phase in
+    (due, elim where_ [ inl behind ↦ absurd (false≢true (sym behind.here ∙ gives_)) | inr crosses ↦ crosses ])
 
 -- a mutator takes its mailbox
 pub taken_kept : (w : Core) (t : ℕ) → IsKept w → IsMutator w.config t → is_busy (mutator w t) ≡ true → IsFound (mutator w t) (next_of (mutator w t)) (found_by w t) → (mutator w t).phase ≡ at.Crossing → IsKept (stepped w t)
@@ -177,10 +184,8 @@ given_kept w t kept is busy may phase same =
     let q : Private = step_of p word (box w t) in
     let c = gives p word (box w t) phase in
     let actor = actor_of w t kept is in
-    let unsettled : IsSettledIn p.phase → ⊥ = λ s. subst IsSettledIn phase s in
-    let (due, where_) = unsettled_due w.config w.epoch p (crossing_of w t) (box w t) (stand_at w.collector.phase t) unsettled actor.handshake in
+    let (due, crosses) = giving_of w t kept is phase in
     let gives_ : is_giving p.phase ≡ true = ap is_giving phase in
-    let crosses : IsCrossing w.config w.epoch p (crossing_of w t) = elim where_ [ inl behind ↦ absurd (false≢true (sym behind.here ∙ gives_)) | inr crosses ↦ crosses ] in
     let epoch : p.epoch + 1 ≡ w.epoch = crosses.epoch in
     let q_phase : q.phase ≡ at.Finished works.Poll (makes.Crossed (Some (p.epoch + 1))) = ap (λ (x : Private). x.phase) c.after in
     let q_epoch : q.epoch ≡ p.epoch + 1 = ap (λ (x : Private). x.epoch) c.after in

@@ -226,7 +226,7 @@ module _ (w : Core) (crossing words : List ℕ) (u : Work) (q : collectors.Priva
           listed = l.work.ready.free;
           emptied = l.emptied;
         };
-        sweeps = record { odd = l.kept.sweeps.odd ∙ l.still; few = omega (arith, l.kept.sweeps.few, l.still) };
+        sweeps = record { odd = l.kept.sweeps.odd ∙ l.still; few = omega (arith, l.kept.sweeps.few, l.still); some = tt };
         scans = l.kept.scans;
         made = l.kept.made;
         sound = l.sound;
@@ -268,7 +268,7 @@ module _ (w : Core) (crossing words : List ℕ) (u : Work) (q : collectors.Priva
           listed = dropped_listed u.counts l.work.ready.free;
           emptied = dropped_emptied;
         };
-        sweeps = record { odd = l.kept.sweeps.odd ∙ l.still; few = omega (arith, l.kept.sweeps.few, l.still) };
+        sweeps = record { odd = l.kept.sweeps.odd ∙ l.still; few = omega (arith, l.kept.sweeps.few, l.still); some = tt };
         scans = l.kept.scans;
         made = l.kept.made;
         sound = l.sound;
@@ -311,7 +311,7 @@ module _ (w : Core) (crossing words : List ℕ) (u : Work) (q : collectors.Priva
           listed = λ x some. absurd (omega (arith, some, ap (times x) none, times-nil x));
           emptied = dropped_emptied;
         };
-        sweeps = record { odd = l.kept.sweeps.odd ∙ l.still; few = omega (arith, l.kept.sweeps.few, l.still) };
+        sweeps = record { odd = l.kept.sweeps.odd ∙ l.still; few = omega (arith, l.kept.sweeps.few, l.still); some = tt };
         scans = l.kept.scans;
         made = l.kept.made;
         sound = l.sound;

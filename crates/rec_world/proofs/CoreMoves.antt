@@ -18,10 +18,8 @@ use Rattle.rec_log.specs.declared.contents.Contents.{Contents}
 use Rattle.rec_log.specs.declared.entry.Entry.TheVariants as entries
 use Rattle.rec_mutator.specs.Private.{Private, register}
 use Rattle.rec_world.specs.declared.config.Config.{Config}
-use Rattle.rec_world.specs.Core.{Core, mutator, box, spare_of}
+use Rattle.rec_world.specs.Core.{Core, mutator, box, spare_of, nobody, with_mutator}
 use Rattle.rec_world.specs.CorePending.{Filed, filed, code, writes_in, births_in, dated_names, dated_all, epoch_at, buffers, snapshots_of, registers_of, older_at, pending}
-use Rattle.rec_world.specs.State.{nobody}
-use Rattle.rec_world.proofs.CoreShapes.{with_mutator}
 use Rattle.rec_world.proofs.CoreSums.{share, buffers_sum, own_sum, registers_sum, register_sum, writes_more, writes_same, births_more, births_same, names_most, names_all, none_named}
 
 -- the node of a word is that of its target

@@ -25,10 +25,9 @@ use Rattle.rec_collector.specs.Private as collectors
 use Rattle.rec_collector.specs.declared.phase.Phase.TheVariants.{Idle}
 use Rattle.rec_collector.proofs.Opening.{opened_keeps}
 use Rattle.rec_world.specs.Config.{IsConfig, IsMutator}
-use Rattle.rec_world.specs.Core.{Core, spare_of, opened}
+use Rattle.rec_world.specs.Core.{Core, spare_of, opened, nobody, opened_mutator, opened_mutators}
 use Rattle.rec_world.specs.CoreKept.{IsOwn, IsBufferOf, IsMadeIn, IsActor, HasCollector, IsScanning, IsKept}
 use Rattle.rec_world.specs.CorePending.{Filed, buffers, writes_in, births_in, dated_names, dated_all, epoch_at, pending}
-use Rattle.rec_world.specs.State.{nobody, opened_mutator, opened_mutators}
 use Rattle.rec_world.specs.declared.config.Config.{Config}
 use Rattle.rec_world.proofs.CoreActors.{spare_buffer}
 use Rattle.rec_world.proofs.CoreBatches.{none_of}
@@ -266,7 +265,7 @@ opened_kept config is =
         each = λ t there. each_kept config t is there;
       };
       collector = collector_opened config is;
-      sweeps = record { odd = refl; few = omega arith };
+      sweeps = record { odd = refl; few = omega arith; some = tt };
       scans = λ t there. subst (λ (p : Private). IsScanning config.slots (opened config).headers 0 p.phase) (sym (one_of config t there)) tt;
       made = omega arith;
       sound = rw (registers_opened config config.mutators) (opening_sound config.slots config.fields config.registers config.mutators slots);

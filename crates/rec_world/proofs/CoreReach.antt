@@ -14,12 +14,10 @@ use Rattle.rec_model.specs.Heap.{Heap, roots}
 use Rattle.rec_model.specs.Pending.{Dated, is_at}
 use Rattle.rec_model.specs.Reach.{is_in, named}
 use Rattle.rec_model.specs.References.{count_formula}
-use Rattle.rec_model.specs.declared.command.Cmd.{Cmd}
-use Rattle.rec_model.specs.declared.command.Cmd.TheVariants as commands
 use Rattle.rec_model.proofs.Consequences.{counted_by_formula}
 use Rattle.rec_model.specs.Reach.IsReached.{root, child}
 use Rattle.rec_model.specs.Seen.{IsSightOf}
-use Rattle.rec_model.specs.Sight.{Sight, IsTaken, Reaches, StandsFor, field_of, targets_of}
+use Rattle.rec_model.specs.Sight.{Sight, IsTaken, Reaches, StandsBy, StandsFor, field_of, targets_of}
 use Rattle.rec_model.specs.Sums.{one_if_same}
 use Rattle.rec_model.proofs.Seen.{reached_taken}
 use Rattle.rec_model.proofs.Standing.{reached_is_taken}
@@ -30,12 +28,8 @@ use Rattle.rec_counts.specs.Counts.{slot_at}
 use Rattle.rec_release.specs.declared.at.At.{At}
 use Rattle.rec_release.specs.Release.{op_at as release_op_at, next_of as release_next}
 use Rattle.rec_release.specs.Sweep.{next_of as sweep_next}
-use Rattle.rec_mutator.specs.Next.{own_word, read_op, write_op, label_op, first_op, begun_op, next_at as mutator_next_at, next_of as mutator_next}
-use Rattle.rec_mutator.specs.Private.{Private, register, is_full}
-use Rattle.rec_mutator.specs.declared.phase.Phase as phases
-use Rattle.rec_mutator.specs.declared.phase.Phase.TheVariants as at
-use Rattle.rec_mutator.specs.declared.work.Work.{Work as MutatorWork}
-use Rattle.rec_mutator.specs.declared.work.Work.TheVariants as works
+use Rattle.rec_mutator.specs.Next.{next_of as mutator_next}
+use Rattle.rec_mutator.specs.Private.{Private}
 use Rattle.rec_collector.specs.Next.{is_spent, next_of, next_at}
 use Rattle.rec_collector.specs.Step.{IsBetween}
 use Rattle.rec_collector.specs.declared.phase.Phase.{Phase}
@@ -172,20 +166,21 @@ reached_before v w keeps =
     all_reached (Reaches w) (roots v.registers) (targets_of v) (λ n there. root n (sym (ap (λ rs. is_in n (roots rs)) keeps.registers) ∙ there))
     (λ m n from before there. child m n before (sym (ap (λ ws. is_in n (named (map target_of ws))) (keeps.reached m before).1) ∙ there))
 
--- Whatever heap that never frees stood for what was seen stands for it still.
-pub keeps_stands : (heap : Heap) (w v : Sight) → KeepsReached w v → StandsFor heap w → StandsFor heap v
-keeps_stands heap w v keeps (number, by) =
-    let before : (s : ℕ) → IsTaken v s → slice_index_or v.headers s 0 ≡ slice_index_or w.headers s 0 = λ s taken. elim (keeps.others s) [ inl same ↦ same | inr none ↦ absurd (omega (arith, taken, none)) ] in
-    let was : (s : ℕ) → IsTaken v s → IsTaken w s = λ s taken. subst (λ n. 0 < n) (before s taken) taken in (
-      number,
-      record {
-        one_to_one = λ s t s_taken t_taken same. by.one_to_one s t (was s s_taken) (was t t_taken) same;
-        there = λ s taken. by.there s (was s taken);
-        label = λ s taken. before s taken ∙ by.label s (was s taken);
-        registers = by.registers ∙ ap (map (map (option_map number))) (sym keeps.registers);
-        fields = λ s after. let from = reached_before v w keeps s after in by.fields s from ∙ ap (map (field_of number)) (sym (keeps.reached s from).1);
-      },
-    )
+-- Whatever heap that never frees stood for what was seen stands for it still, by the same numbers.
+pub keeps_stands_by : (heap : Heap) (before after : Sight) (number : ℕ → ℕ) → KeepsReached before after → StandsBy heap before number → StandsBy heap after number
+keeps_stands_by heap before after number keeps by =
+    let header : (s : ℕ) → IsTaken after s → slice_index_or after.headers s 0 ≡ slice_index_or before.headers s 0 = λ s taken. elim (keeps.others s) [ inl same ↦ same | inr none ↦ absurd (omega (arith, taken, none)) ] in
+    let was : (s : ℕ) → IsTaken after s → IsTaken before s = λ s taken. subst (λ n. 0 < n) (header s taken) taken in
+    record {
+      one_to_one = λ s t s_taken t_taken same. by.one_to_one s t (was s s_taken) (was t t_taken) same;
+      there = λ s taken. by.there s (was s taken);
+      label = λ s taken. header s taken ∙ by.label s (was s taken);
+      registers = by.registers ∙ ap (map (map (option_map number))) (sym keeps.registers);
+      fields = λ s later. let from = reached_before after before keeps s later in by.fields s from ∙ ap (map (field_of number)) (sym (keeps.reached s from).1);
+    }
+
+pub keeps_stands : (heap : Heap) (before after : Sight) → KeepsReached before after → StandsFor heap before → StandsFor heap after
+keeps_stands heap before after keeps (number, by) = (number, keeps_stands_by heap before after number keeps by)
 
 -- after an operation of a mutator a taken slot has the header that it had: a claim of it fails
 taken_keeps : (w : Core) (p : Private) (op : Op) (slot : ℕ) → IsOwnOp p op → IsTaken (sight w) slot → slice_index_or (with_cell (cells_of w) op (written op (cell (cells_of w) op))).headers slot 0 ≡ slice_index_or w.headers slot 0

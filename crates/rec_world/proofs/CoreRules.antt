@@ -26,14 +26,14 @@ use Rattle.rec_mutator.specs.declared.work.Work.TheVariants as works
 use Rattle.rec_mutator.proofs.Steps.{TakesNone}
 use Rattle.rec_mutator.specs.Took.{plain}
 use Rattle.rec_world.specs.Config.{IsMutator}
-use Rattle.rec_world.specs.Core.{Core, cells_of, sight, mutator, box, crossing_of}
+use Rattle.rec_world.specs.Core.{Core, cells_of, sight, mutator, box, crossing_of, with_mutator}
 use Rattle.rec_world.specs.CoreKept.{HasLabelAt, HasPassed, IsScanning, entries_made, IsKept, IsActor}
 use Rattle.rec_world.specs.CoreMoves.{performed}
 use Rattle.rec_world.specs.CorePending.{code, epoch_at, pending}
 use Rattle.rec_world.specs.Memory.{cell}
 use Rattle.rec_world.proofs.CoreActors.{one_entry, epoch_here}
 use Rattle.rec_world.proofs.CoreMoves.{code_target, home_of, has_register, put_move, birth_move}
-use Rattle.rec_world.proofs.CoreShapes.{with_mutator, after_cross, after_field, after_header, after_epoch, after_freed, after_probe, after_swap, after_claim}
+use Rattle.rec_world.proofs.CoreShapes.{after_cross, after_field, after_header, after_epoch, after_freed, after_probe, after_swap, after_claim}
 use Rattle.rec_world.proofs.CoreSteps.{Makes, actor_of, in_list, register_taken, target_taken, taken_slot, held_stays, emptied_stays, changed_kept, moved_accounts, answers, answered_actor, unchanged, sets, goes_on, about_to_cross, registers_stay, registers_set, Answers}
 use Rattle.rec_world.proofs.LogStamps.{word_stamp}
 use Rattle.rec_world.proofs.Machines.{at_phase, has_room, register_target}

@@ -1,5 +1,5 @@
 -- Every move of a heap with its collector keeps what every such heap keeps, and so does every run.
-use Rattle.std.proofs.Common.{◌≡◌, ℕ, ◌<◌, Option, None, Some, IfSome, List, [], ◌∷◌, slice_index_or, refl, sym, ap, subst, ◌∙◌, arith}
+use Rattle.std.proofs.Common.{◌≡◌, ℕ, ◌<◌, Option, None, Some, IfSome, List, [], ◌∷◌, ◌++◌, slice_index_or, refl, sym, ap, subst, ◌∙◌, arith}
 use Rattle.rec_word.specs.Place.{place_of}
 use Rattle.rec_word.specs.Word.{target_of}
 use Rattle.rec_word.specs.declared.op.Op.{Op}
@@ -31,7 +31,7 @@ use Rattle.rec_world.proofs.CoreTurning.{mutator_at, some_op, rule_kept}
 use Rattle.rec_world.proofs.CoreTurns.{now_at}
 
 -- the mailbox that the collector looks at next is that of a mutator
-looked_is : (w : Core) (phase : Phase) → IsKept w → w.collector.phase ≡ phase → IsMutator w.config (looked_at phase)
+pub looked_is : (w : Core) (phase : Phase) → IsKept w → w.collector.phase ≡ phase → IsMutator w.config (looked_at phase)
 looked_is w (Looking t) kept is = let now = now_at w (Looking t) kept is in mutator_at w t (Looking t) kept is (now.first, now.there)
 looked_is w Idle kept is = (omega arith, kept.config.some_mutators)
 looked_is w (Swapping t) kept is = (omega arith, kept.config.some_mutators)
@@ -107,3 +107,39 @@ run_kept config moves end is run = subst IsKept run.ends (moves_kept (opened con
 -- so does a state that some run ends in
 pub end_kept : (w : Core) → IsConfig w.config → EndsRun w → IsKept w
 end_kept w is (moves, run) = run_kept w.config moves w is run
+
+-- one move more
+after_more : (w : Core) (ms : List Move) (m : Move) → after_moves w (ms ++ m ∷ []) ≡ after_move (after_moves w ms) m
+after_more w [] m = refl
+after_more w (n ∷ ms) m = after_more (after_move w n) ms m
+
+fit_more : (w : Core) (ms : List Move) (m : Move) → AllFit w ms → Fits (after_moves w ms) m → AllFit w (ms ++ m ∷ [])
+fit_more w [] m fit fits = (fits, tt)
+fit_more w (n ∷ ms) m fit fits = (fit.0, fit_more (after_move w n) ms m fit.1 fits)
+
+-- a turn keeps the numbers of the heap, with or without an operation, and marks nothing
+turned_stays : (w : Core) → ((turned w).config ≡ w.config) × ((turned w).marked ≡ w.marked)
+turned_stays w = go (next_of w.collector)
+  where
+    go : (x : Option Op) → ((turned_at w x).config ≡ w.config) × ((turned_at w x).marked ≡ w.marked)
+    go None = (refl, refl)
+    go (Some op) = (refl, refl)
+
+-- so does every move
+pub move_stays : (w : Core) (m : Move) → ((after_move w m).config ≡ w.config) × ((after_move w m).marked ≡ w.marked)
+move_stays w (Move.Begins t work) = (refl, refl)
+move_stays w (Move.Steps t) = (refl, refl)
+move_stays w Move.Turns = turned_stays w
+
+-- a run that ends there goes on with a move that fits
+pub run_more : (w : Core) (m : Move) → EndsRun w → Fits w m → EndsRun (after_move w m)
+run_more w m (moves, run) fits =
+    let longer : IsRun w.config (moves ++ m ∷ []) (after_move w m) = record {
+      fit = fit_more (opened w.config) moves m run.fit (subst (λ v. Fits v m) (sym run.ends) fits);
+      ends = after_more (opened w.config) moves m ∙ ap (λ v. after_move v m) run.ends;
+    } in
+    (moves ++ m ∷ [], subst (λ c. IsRun c (moves ++ m ∷ []) (after_move w m)) (sym (move_stays w m).0) longer)
+
+-- the opening is the end of the run without moves
+pub run_opened : (config : Config) → EndsRun (opened config)
+run_opened config = ([], record { fit = tt; ends = refl })

@@ -8,7 +8,7 @@ use Rattle.rec_word.specs.declared.op.Op.TheVariants as ops
 use Rattle.rec_log.specs.declared.contents.Contents.{Contents}
 use Rattle.rec_mutator.specs.Private.{Private}
 use Rattle.rec_collector.specs.Private.{blank}
-use Rattle.rec_world.specs.Core.{Core, cells_of, box}
+use Rattle.rec_world.specs.Core.{Core, cells_of, box, with_mutator}
 use Rattle.rec_world.specs.CoreMoves.{performed}
 use Rattle.rec_world.specs.Memory.{cell}
 
@@ -16,10 +16,6 @@ use Rattle.rec_world.specs.Memory.{cell}
 abbrev pub changed : Core → (t : ℕ) → (headers words crossing : List ℕ) → Private → Contents → (made : ℕ) → Core
 changed w t headers words crossing q b made =
     record w { headers = headers; words = words; crossing = crossing; mutators = slice_set w.mutators (t - 1) q; boxes = slice_set w.boxes (t - 1) b; made = made }
-
--- with this mutator alone
-abbrev pub with_mutator : Core → (t : ℕ) → Private → Core
-with_mutator w t q = record w { mutators = slice_set w.mutators (t - 1) q }
 
 -- the mailbox as it was
 same_box : (w : Core) (t : ℕ) → slice_set w.boxes (t - 1) (box w t) ≡ w.boxes

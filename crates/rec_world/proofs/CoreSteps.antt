@@ -39,14 +39,12 @@ use Rattle.rec_mutator.specs.declared.work.Work.TheVariants as works
 use Rattle.rec_mutator.proofs.Steps.{TakesNone}
 use Rattle.rec_world.specs.declared.config.Config.{Config}
 use Rattle.rec_world.specs.Config.{IsMutator}
-use Rattle.rec_world.specs.Core.{Core, cells_of, sight, mutator, box, crossing_of}
+use Rattle.rec_world.specs.Core.{Core, cells_of, sight, mutator, box, crossing_of, nobody, with_mutator}
 use Rattle.rec_world.specs.CoreKept.{IsSettledIn, HasLabelAt, IsHandshake, stand_at, IsOwn, IsBufferOf, IsActor, HasCollector, IsScanning, HasScans, entries_made, IsKept}
 use Rattle.rec_world.specs.CorePending.{code, epoch_at, slot_of, pending}
 use Rattle.rec_world.specs.Memory.{cell}
-use Rattle.rec_world.specs.State.{nobody}
 use Rattle.rec_world.proofs.CoreActors.{own_stepped, settled_here, epoch_here, behind_due, actor_stays, mutator_changes}
 use Rattle.rec_world.proofs.CoreMoves.{same_pending, register_move}
-use Rattle.rec_world.proofs.CoreShapes.{with_mutator}
 use Rattle.rec_world.proofs.Machines.{IsBox}
 
 -- A step of mutator `t` that takes no mailbox, of a heap with its collector.

@@ -10,9 +10,8 @@ use Rattle.rec_log.specs.declared.entry.Entry.{Entry}
 use Rattle.rec_log.specs.declared.entry.Entry.TheVariants as entries
 use Rattle.rec_mutator.specs.Private.{Private}
 use Rattle.rec_collector.specs.Private.{blank}
-use Rattle.rec_world.specs.Core.{Core, mutator, box}
+use Rattle.rec_world.specs.Core.{Core, mutator, box, nobody}
 use Rattle.rec_world.specs.CorePending.{Filed, filed, code, writes_in, births_in, dated_names, dated_all, older_at, epoch_at, buffers}
-use Rattle.rec_world.specs.State.{nobody}
 
 -- what a buffer adds to a sum, by its epoch
 abbrev pub share : {Y : Type 0} → (Y → ℕ) → (Filed → List Y) → (epoch : ℕ) → Contents → ℕ

@@ -41,10 +41,9 @@ use Rattle.rec_collector.specs.declared.phase.Phase.TheVariants.{Idle, Opening, 
 use Rattle.rec_collector.specs.Step.{IsBetween}
 use Rattle.rec_world.specs.declared.config.Config.{Config}
 use Rattle.rec_world.specs.Config.{IsMutator}
-use Rattle.rec_world.specs.Core.{Core, sight}
-use Rattle.rec_world.specs.CoreKept.{IsBufferOf, IsLeft, Stand, stand_at, HasPassed, IsScanning, HasScans, one_if_sweeping, IsKept}
+use Rattle.rec_world.specs.Core.{Core, sight, nobody}
+use Rattle.rec_world.specs.CoreKept.{IsBufferOf, IsLeft, Stand, stand_at, HasPassed, IsScanning, HasScans, one_if_sweeping, IsSomeSwept, IsKept}
 use Rattle.rec_world.specs.CorePending.{dated_all, epoch_at, older_at, applied_at, pending}
-use Rattle.rec_world.specs.State.{nobody}
 use Rattle.rec_world.proofs.CoreCounts.{slot_in, accounts_with, emptied_leads, freeing_move}
 use Rattle.rec_world.proofs.CoreLandings.{complete_move, cleared_buffer}
 use Rattle.rec_world.proofs.CoreTurns.{now_at, phase_moves}
@@ -99,7 +98,7 @@ module _ (w : Core) (due : Option ℕ) (kept : IsKept w) (phase : w.collector.ph
           listed = k.listed;
           emptied = k.emptied;
         };
-        sweeps = record { odd = odd_next w.freed (kept.sweeps.odd ∙ still); few = omega (arith, kept.sweeps.few, still) };
+        sweeps = record { odd = odd_next w.freed (kept.sweeps.odd ∙ still); few = omega (arith, kept.sweeps.few, still); some = tt };
         scans = scans_change w.config w.headers w.headers w.freed (w.freed + 1) w.mutators (passed_more w.headers w.freed) kept.scans;
         made = kept.made;
         sound = kept.sound;
@@ -151,7 +150,7 @@ module _ (w : Core) (swept_ : ℕ) (kept : IsKept w) (phase : w.collector.phase 
           listed = k.listed;
           emptied = k.emptied;
         };
-        sweeps = record { odd = even_next w.freed (kept.sweeps.odd ∙ odd); few = omega (arith, kept.sweeps.few, odd) };
+        sweeps = record { odd = even_next w.freed (kept.sweeps.odd ∙ odd); few = omega (arith, kept.sweeps.few, odd); some = tt };
         scans = scans_change w.config w.headers w.headers w.freed (w.freed + 1) w.mutators (passed_more w.headers w.freed) kept.scans;
         made = kept.made;
         sound = kept.sound;
@@ -314,6 +313,7 @@ module _ (w : Core) (done : ℕ) (x : ℕ) (kept : IsKept w) (phase : w.collecto
     pub older : (e : ℕ) → older_at e next ≡ e - 2
     pub stands : (s : ℕ) → stand_at next s ≡ Stand.Done
     pub between : IsBetween next
+    pub some : IsSomeSwept next
 
   released_else : (y : ℕ) → y ≢ x → slot_at (swept c.counts x) y ≡ slot_at c.counts y
   released_else y other = get_or-set_other c.counts.slots x y (swept_clean (slot_at c.counts x)) absent other
@@ -364,7 +364,7 @@ module _ (w : Core) (done : ℕ) (x : ℕ) (kept : IsKept w) (phase : w.collecto
             | inr other ↦ k.emptied y f below within (sym (ap (λ (v : Slot). v.released) (released_else y other)) ∙ is)
           ];
         };
-        sweeps = record { odd = kept.sweeps.odd ∙ odd ∙ sym on.sweeping; few = omega (arith, kept.sweeps.few, odd, on.sweeping) };
+        sweeps = record { odd = kept.sweeps.odd ∙ odd ∙ sym on.sweeping; few = omega (arith, kept.sweeps.few, odd, on.sweeping); some = on.some };
         scans = scans_change w.config w.headers (slice_set w.headers x 0) w.freed w.freed w.mutators (λ before slot is. (is.0, λ now even. absurd (omega (arith, odd, kept.sweeps.odd, ap (λ n. n % 2) now, even)))) kept.scans;
         made = kept.made;
         sound = sound;

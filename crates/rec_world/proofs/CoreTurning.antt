@@ -37,7 +37,7 @@ pub mutator_at : (w : Core) (t : ℕ) (phase : Phase) → IsKept w → w.collect
 mutator_at w t phase kept is there = let many : length w.collector.newer ≡ w.config.mutators = kept.collector.mutators in (omega (arith, there.0), omega (arith, there.1, many))
 
 -- the freed word rises by one: it is far from its greatest value
-freed_more : (w : Core) → IsKept w → (w.freed + 1) % 2 ^ 64 ≡ w.freed + 1
+pub freed_more : (w : Core) → IsKept w → (w.freed + 1) % 2 ^ 64 ≡ w.freed + 1
 freed_more w kept =
     let most : w.freed ≤ 2 * w.collector.collections + one_if_sweeping w.collector.phase = kept.sweeps.few in
     let few : w.collector.collections + collector_kept.under_way w.collector.phase ≤ w.collector.epoch = kept.collector.machine.collections in
@@ -153,8 +153,8 @@ rule_kept w op word q turn m (Step.begin_sweep opening named g) =
 rule_kept w op word q turn m (Step.sweep swept u next sweeping named took follows g) = go w.collector.due refl
   where
     still : (n : Phase) → IsNext swept u n → (x : ℕ) (due : w.collector.due ≡ Some x) → IsStillSweeping w swept x m.kept sweeping due n
-    still n (IsNext.more some is) x due = subst (IsStillSweeping w swept x m.kept sweeping due) (sym is) (record { sweeping = refl; way = refl; applied = λ e. refl; older = λ e. refl; stands = λ s. refl; between = tt })
-    still n (IsNext.last none is) x due = subst (IsStillSweeping w swept x m.kept sweeping due) (sym is) (record { sweeping = refl; way = refl; applied = λ e. refl; older = λ e. refl; stands = λ s. refl; between = tt })
+    still n (IsNext.more some is) x due = subst (IsStillSweeping w swept x m.kept sweeping due) (sym is) (record { sweeping = refl; way = refl; applied = λ e. refl; older = λ e. refl; stands = λ s. refl; between = tt; some = tt })
+    still n (IsNext.last none is) x due = subst (IsStillSweeping w swept x m.kept sweeping due) (sym is) (record { sweeping = refl; way = refl; applied = λ e. refl; older = λ e. refl; stands = λ s. refl; between = tt; some = omega arith })
 
     go : (x : Option ℕ) → w.collector.due ≡ x → IsKept (collected w op word q (left_by w.collector word (box w (looked_at w.collector.phase)) w.collector.phase))
     go None due = let not_so : ◌≡◌ {A = Option Op} (Some op) None = named ∙ ap sweeps.next_of due in absurd (cc)

@@ -19,10 +19,9 @@ use Rattle.rec_collector.specs.declared.phase.Phase.{Phase}
 use Rattle.rec_collector.specs.declared.phase.Phase.TheVariants.{Idle, Looking, Returning}
 use Rattle.rec_world.specs.declared.config.Config.{Config}
 use Rattle.rec_world.specs.Config.{IsMutator}
-use Rattle.rec_world.specs.Core.{Core, mutator, box, crossing_of, spare_of}
+use Rattle.rec_world.specs.Core.{Core, mutator, box, crossing_of, spare_of, nobody}
 use Rattle.rec_world.specs.CoreKept.{IsBufferOf, Stand, stand_at, HasCrossed, IsHandshake, IsActor, HasMutators, HasCollector, IsKept, one_if_sweeping}
 use Rattle.rec_world.specs.CorePending.{Filed, writes_in, births_in, dated_names, older_at, buffers, pending, applied_at}
-use Rattle.rec_world.specs.State.{nobody}
 use Rattle.rec_world.proofs.CoreActors.{spare_buffer, settled_here}
 use Rattle.rec_world.proofs.CoreBatches.{none_of}
 use Rattle.rec_world.proofs.CoreMoves.{spare_names}
@@ -170,7 +169,7 @@ module _ (w : Core) (c : collectors.Private) (kept : IsKept w) (idle : w.collect
           listed = k.listed;
           emptied = k.emptied;
         };
-        sweeps = record { odd = kept.sweeps.odd ∙ none; few = omega (arith, kept.sweeps.few, none) };
+        sweeps = record { odd = kept.sweeps.odd ∙ none; few = omega (arith, kept.sweeps.few, none); some = tt };
         scans = kept.scans;
         made = kept.made;
         sound = kept.sound;
@@ -363,7 +362,7 @@ module _ (w : Core) (t : ℕ) (kept : IsKept w) (phase : w.collector.phase ≡ L
           listed = k.listed;
           emptied = k.emptied;
         };
-        sweeps = record { odd = kept.sweeps.odd ∙ none; few = omega (arith, kept.sweeps.few, none) };
+        sweeps = record { odd = kept.sweeps.odd ∙ none; few = omega (arith, kept.sweeps.few, none); some = tt };
         scans = kept.scans;
         made = kept.made;
         sound = kept.sound;
@@ -428,7 +427,7 @@ module _ (w : Core) (t : ℕ) (kept : IsKept w) (phase : w.collector.phase ≡ R
           listed = k.listed;
           emptied = k.emptied;
         };
-        sweeps = record { odd = kept.sweeps.odd ∙ none; few = omega (arith, kept.sweeps.few, none) };
+        sweeps = record { odd = kept.sweeps.odd ∙ none; few = omega (arith, kept.sweeps.few, none); some = tt };
         scans = kept.scans;
         made = kept.made;
         sound = kept.sound;

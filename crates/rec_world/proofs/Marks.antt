@@ -12,8 +12,8 @@ use Rattle.rec_model.proofs.Members.{of_all, is_in-left, is_in-right, is_in-flat
 use Rattle.rec_model.proofs.Within.{all_reached}
 use Rattle.rec_world.specs.Memory.{Cells, KeepsListed}
 use Rattle.rec_world.specs.Numbering.{NamesBelow, sight_of}
-use Rattle.rec_world.specs.State.{cells_of}
-use Rattle.rec_world.specs.World.{State, sight, IsKept, HasRun, IsWorld}
+use Rattle.rec_world.specs.Core.{Core, cells_of, sight}
+use Rattle.rec_world.specs.World.{IsShaped, HasRun, IsWorld}
 use Rattle.rec_world.proofs.Names.{names_sound}
 
 -- what is reached is listed
@@ -43,7 +43,7 @@ pub decided : (w : Sight) (list : List ℕ) → NumbersSlots w list → (s : ℕ
 decided w list numbers s = told_reached w list s (is_in s list) numbers refl
 
 -- keeping what is listed is keeping what is reached
-pub keeps_collects : (w : State) (list : List ℕ) (after : Cells) → NumbersSlots (sight w) list → KeepsListed w.config.fields (cells_of w) after list → Collects (sight w) after.headers after.words
+pub keeps_collects : (w : Core) (list : List ℕ) (after : Cells) → NumbersSlots (sight w) list → KeepsListed w.config.fields (cells_of w) after list → Collects (sight w) after.headers after.words
 keeps_collects w list after numbers keeps =
     record {
       slots = keeps.slots;
@@ -53,56 +53,53 @@ keeps_collects w list after numbers keeps =
     }
 
 -- the labels still fit
-labels_kept : (w : State) (list : List ℕ) (after : Cells) → IsKept w → KeepsListed w.config.fields (cells_of w) after list → (s : ℕ) (listed : Bool) → s < length w.headers → is_in s list ≡ listed
+labels_fit : (w : Core) (list : List ℕ) (after : Cells) → IsShaped w → KeepsListed w.config.fields (cells_of w) after list → (s : ℕ) (listed : Bool) → s < length w.headers → is_in s list ≡ listed
     → slice_index_or after.headers s 0 ≤ 2 ^ 32
-labels_kept w list after kept keeps s true there is =
-    let old : slice_index_or w.headers s 0 ≤ 2 ^ 32 = All-get_or (λ header. header ≤ 2 ^ 32) w.headers s 0 there kept.labels in
+labels_fit w list after shaped keeps s true there is =
+    let old : slice_index_or w.headers s 0 ≤ 2 ^ 32 = All-get_or (λ header. header ≤ 2 ^ 32) w.headers s 0 there shaped.labels in
     let same : slice_index_or after.headers s 0 ≡ slice_index_or w.headers s 0 = (keeps.kept s is).0 in
     omega arith
-labels_kept w list after kept keeps s false there is =
+labels_fit w list after shaped keeps s false there is =
     let none : slice_index_or after.headers s 0 ≡ 0 = (keeps.freed s there is).0 in
     omega arith
 
 -- a marked heap
-marked_kept : (w : State) (list : List ℕ) (after : Cells) → IsKept w → NumbersSlots (sight w) list → KeepsListed w.config.fields (cells_of w) after list
-    → IsKept (record w { headers = after.headers; words = after.words; marked = true })
-marked_kept w list after kept numbers keeps =
+marked_shaped : (w : Core) (list : List ℕ) (after : Cells) → IsShaped w → NumbersSlots (sight w) list → KeepsListed w.config.fields (cells_of w) after list
+    → IsShaped (record w { headers = after.headers; words = after.words; marked = true })
+marked_shaped w list after shaped numbers keeps =
     record {
-      config = kept.config;
-      headers = keeps.slots ∙ kept.headers;
-      epoch = kept.epoch;
-      freed = kept.freed;
-      crossing = kept.crossing;
-      mutators = kept.mutators;
-      own = kept.own;
-      labels = All-from_get_or (λ header. header ≤ 2 ^ 32) after.headers 0 (λ s there. labels_kept w list after kept keeps s (is_in s list) (subst (λ n. s < n) keeps.slots there) refl);
-      made = kept.made;
-      sound = collects_sound (sight w) after.headers after.words kept.sound (decided (sight w) list numbers) (keeps_collects w list after numbers keeps);
-      births = λ is. absurd (false≢true (sym is));
+      config = shaped.config;
+      headers = keeps.slots ∙ shaped.headers;
+      mutators = shaped.mutators;
+      registers = shaped.registers;
+      slots = shaped.slots;
+      epoch = shaped.epoch;
+      labels = All-from_get_or (λ header. header ≤ 2 ^ 32) after.headers 0 (λ s there. labels_fit w list after shaped keeps s (is_in s list) (subst (λ n. s < n) keeps.slots there) refl);
+      sound = collects_sound (sight w) after.headers after.words shaped.sound (decided (sight w) list numbers) (keeps_collects w list after numbers keeps);
     }
 
 -- with the headers and words of some cells, and marked
-abbrev pub marked_with : State → Cells → State
+abbrev pub marked_with : Core → Cells → Core
 marked_with w cells = record w { headers = cells.headers; words = cells.words; marked = true }
 
 -- it is a heap
-pub mark_kept : (w : State) (list : List ℕ) (after : Cells) → IsWorld w → NumbersSlots (sight w) list → KeepsListed w.config.fields (cells_of w) after list → IsWorld (marked_with w after)
+pub mark_kept : (w : Core) (list : List ℕ) (after : Cells) → IsWorld w → NumbersSlots (sight w) list → KeepsListed w.config.fields (cells_of w) after list → IsWorld (marked_with w after)
 mark_kept w list after world numbers keeps =
     record {
-      kept = marked_kept w list after world.kept numbers keeps;
+      shaped = marked_shaped w list after world.shaped numbers keeps;
       run = HasRun.marks w (marked_with w after) world.run (record { collects = keeps_collects w list after numbers keeps; others = refl });
     }
 
 -- its other words are those of before
-pub marked_same : (w : State) (list : List ℕ) (after : Cells) → KeepsListed w.config.fields (cells_of w) after list
-    → ◌≡◌ {A = State} (record w { headers = after.headers; words = after.words; epoch = after.epoch; freed = after.freed; crossing = after.crossing; marked = true }) (marked_with w after)
+pub marked_same : (w : Core) (list : List ℕ) (after : Cells) → KeepsListed w.config.fields (cells_of w) after list
+    → ◌≡◌ {A = Core} (record w { headers = after.headers; words = after.words; epoch = after.epoch; freed = after.freed; crossing = after.crossing; marked = true }) (marked_with w after)
 marked_same w list after keeps = rw (keeps.rest.epoch, keeps.rest.freed, keeps.rest.crossing) refl
 
 -- registers and fields name slots
-pub names_below : (w : State) → IsKept w → NamesBelow (sight_of (sight w).registers w.words w.config.fields) w.config.slots
-names_below w kept =
-    let names : NamesBelow (sight w) (length w.headers) = names_sound (sight w) kept.sound in
+pub names_below : (w : Core) → IsShaped w → NamesBelow (sight_of (sight w).registers w.words w.config.fields) w.config.slots
+names_below w shaped =
+    let names : NamesBelow (sight w) (length w.headers) = names_sound (sight w) shaped.sound in
     record {
-      registers = λ slot there. subst (λ n. slot < n) kept.headers (names.registers slot there);
-      fields = λ s slot there. subst (λ n. slot < n) kept.headers (names.fields s slot there);
+      registers = λ slot there. subst (λ n. slot < n) shaped.headers (names.registers slot there);
+      fields = λ s slot there. subst (λ n. slot < n) shaped.headers (names.fields s slot there);
     }

@@ -10,8 +10,7 @@ use Rattle.rec_model.proofs.Opened.{opening_sound, opening_stands}
 use Rattle.rec_mutator.specs.Private.{Private, IsMachine}
 use Rattle.rec_world.specs.Config.{IsConfig, IsMutator}
 use Rattle.rec_world.specs.declared.config.Config.{Config}
-use Rattle.rec_world.specs.State.{nobody, opened_mutator, opened_mutators}
-use Rattle.rec_world.specs.World.{sight, mutator, opened, IsOwn, IsKept}
+use Rattle.rec_world.specs.Core.{sight, mutator, nobody, opened, opened_mutator, opened_mutators}
 
 -- a list of one value, within and past its end
 pub free_at : (n s : ℕ) → slice_index_or {A = ℕ} (replicate n 0) s 0 ≡ 0
@@ -20,11 +19,7 @@ free_at n s = elim (cases_lt s n) [
   | inr past ↦ get_or_past (replicate n 0) s 0 (subst (λ m. m ≤ s) (sym (length-replicate n 0)) past)
 ]
 
--- the headers at opening
-pub first_header : (slots s : ℕ) → (0 < slice_index_or {A = ℕ} (1 ∷ replicate (slots - 1) 0) s 0) ↔ (s < 1)
-first_header slots zero = (λ _. lit< tt, λ _. lit< tt)
-first_header slots (suc s) = (λ taken. let free : slice_index_or {A = ℕ} (replicate (slots - 1) 0) s 0 ≡ 0 = free_at (slots - 1) s in absurd (omega arith), λ below. absurd (omega arith))
-
+-- a header at opening
 pub small_header : (slots s : ℕ) → slice_index_or {A = ℕ} (1 ∷ replicate (slots - 1) 0) s 0 ≤ 2 ^ 32
 small_header slots zero = lit≤ tt
 small_header slots (suc s) = let free : slice_index_or {A = ℕ} (replicate (slots - 1) 0) s 0 ≡ 0 = free_at (slots - 1) s in omega arith
@@ -104,40 +99,6 @@ machine_opened config t is there =
       registers = All-cons IsTarget (Some 0) (replicate (config.registers - 1) None) first (All-replicate IsTarget (config.registers - 1) None tt);
       snapshot = length-replicate config.registers None ∙ sym many;
       now = refl;
-    }
-
--- what is known of a mutator as it is opened
-own_kept : (config : Config) (t : ℕ) → IsConfig config → IsMutator config t → IsOwn config 1 t (opened_mutator config t)
-own_kept config t is there =
-    record {
-      number = refl;
-      epoch = refl;
-      slots = refl;
-      fields = refl;
-      registers = registers_many config t is;
-      capacity = refl;
-      machine = machine_opened config t is there;
-      working = tt;
-      stamps = λ i entry there. cc;
-    }
-
--- the opened heap
-pub opened_kept : (config : Config) → IsConfig config → IsKept (opened config)
-opened_kept config is =
-    let slots : 1 ≤ config.slots = is.some_slots in
-    let free : length {A = ℕ} (replicate (config.slots - 1) 0) ≡ config.slots - 1 = length-replicate (config.slots - 1) 0 in
-    record {
-      config = is;
-      headers = omega arith;
-      epoch = refl;
-      freed = refl;
-      crossing = refl;
-      mutators = length-opened config config.mutators;
-      own = λ t there. subst (IsOwn config 1 t) (sym (mutator_opened config t there)) (own_kept config t is there);
-      labels = All-from_get_or (λ header. header ≤ 2 ^ 32) (1 ∷ replicate (config.slots - 1) 0) 0 (λ i there. small_header config.slots i);
-      made = slots;
-      sound = subst IsSound (sym (sight_opened config)) (opening_sound config.slots config.fields config.registers config.mutators slots);
-      births = λ _ slot. first_header config.slots slot;
     }
 
 -- the opening heap stands for it

@@ -1,7 +1,9 @@
 -- The numbers that a heap can have, and the commands that fit them.
-use Rattle.std.specs.Prelude.{ℕ, ◌<◌, ◌≤◌}
+use Rattle.std.specs.Prelude.{ℕ, ◌<◌, ◌≤◌, ◌^◌}
 use Rattle.rec_model.specs.declared.command.Cmd.{Cmd}
 use Rattle.rec_model.specs.declared.command.Cmd.TheVariants as commands
+use Rattle.rec_mutator.specs.declared.work.Work.{Work}
+use Rattle.rec_mutator.specs.declared.work.Work.TheVariants as works
 use Rattle.rec_world.specs.declared.config.Config.{Config}
 use Rattle.rec_world.specs.declared.open_error.OpenError.{OpenError}
 use Rattle.rec_world.specs.declared.open_error.OpenError.TheVariants as errors
@@ -68,3 +70,13 @@ IsMutator config t = (1 ≤ t) × (t ≤ config.mutators)
 -- a command that this mutator may ask
 abbrev pub IsValid : Config → ℕ → Cmd → Type 0
 IsValid config t cmd = IsMutator config t × HasOperands config cmd
+
+-- the registers and fields that a work names are there
+abbrev pub IsWork : Config → Work → Type 0
+IsWork config (works.Command cmd) = HasOperands config cmd
+IsWork config works.Poll = Unit {0}
+
+-- the label of an allocation fits a header
+abbrev pub HasLabel : Work → Type 0
+HasLabel (works.Command (commands.New reg label)) = label < 2 ^ 32
+HasLabel _ = Unit {0}

@@ -24,11 +24,9 @@ use Rattle.rec_collector.specs.Step as collector_step
 use Rattle.rec_collector.specs.declared.phase.Phase.{Phase}
 use Rattle.rec_collector.specs.declared.phase.Phase.TheVariants.{Looking, Swapping, Returning, Sweeping, Closing}
 use Rattle.rec_world.specs.declared.config.Config.{Config}
-use Rattle.rec_world.specs.Config.{IsConfig, IsMutator}
-use Rattle.rec_world.specs.Core.{Core, sight, spare_of}
+use Rattle.rec_world.specs.Config.{IsConfig, IsMutator, HasLabel}
+use Rattle.rec_world.specs.Core.{Core, sight, spare_of, nobody}
 use Rattle.rec_world.specs.CorePending.{pending, older_at, epoch_at}
-use Rattle.rec_world.specs.Run.{HasLabel}
-use Rattle.rec_world.specs.State.{nobody}
 
 -- a mutator that is neither crossing nor about to
 abbrev pub IsSettledIn : phases.Phase → Type 0
@@ -152,10 +150,17 @@ is_sweeping _ = false
 abbrev pub one_if_sweeping : Phase → ℕ
 one_if_sweeping phase = if is_sweeping phase then 1 else 0
 
--- what is known of the freed word: it is odd exactly during a sweep, and rises by two at most in a collection
+-- a sweep that is to end has freed a slot
+abbrev pub IsSomeSwept : Phase → Type 0
+IsSomeSwept (Closing swept) = 0 < swept
+IsSomeSwept _ = Unit {0}
+
+-- what is known of the freed word: it is odd exactly during a sweep, and rises by two at most in a collection; and a
+-- sweep that is to end has freed a slot
 pub record HasSweeps (freed : ℕ) (collections : ℕ) (phase : Phase) : Type 0 where
   pub odd : freed % 2 ≡ one_if_sweeping phase
   pub few : freed ≤ 2 * collections + one_if_sweeping phase
+  pub some : IsSomeSwept phase
 
 -- What a scan knows: unless a sweep has begun or ended since it began, each slot that it has passed is taken still.
 abbrev pub HasPassed : (headers : List ℕ) → (freed before slot : ℕ) → Type 0

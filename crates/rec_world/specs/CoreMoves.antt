@@ -13,10 +13,9 @@ use Rattle.rec_collector.specs.Took as collector_took
 use Rattle.rec_collector.specs.declared.phase.Phase.{Phase}
 use Rattle.rec_collector.specs.declared.phase.Phase.TheVariants.{Looking}
 use Rattle.rec_world.specs.declared.config.Config.{Config}
-use Rattle.rec_world.specs.Config.{IsMutator}
+use Rattle.rec_world.specs.Config.{IsMutator, HasLabel}
 use Rattle.rec_world.specs.Core.{Core, cells_of, with_cells, mutator, box, opened}
 use Rattle.rec_world.specs.Memory.{cell, with_cell, births_of}
-use Rattle.rec_world.specs.Run.{HasLabel}
 
 -- An operation of a mutator was carried out: its word was found, what it leaves stands there, the mutator is this now, this is
 -- in its mailbox, and a birth is counted where a claim succeeded.

@@ -1,11 +1,13 @@
 -- The heap that the fields of a world make up.
-use Rattle.std.specs.Prelude.{◌≡◌}
-use Rattle.rec_world.specs.World.{State, IsWorld}
+use Rattle.std.specs.Prelude.{◌≡◌, ℕ, ◌<◌, Option, None, IsSome, length, map, slice_index_or}
+use Rattle.rec_world.specs.Core.{Core}
+use Rattle.rec_world.specs.Mailbox.{held}
+use Rattle.rec_world.specs.World.{IsWorld}
 use Rattle.rec_world.specs.declared.world.World.TheInside.{Inside}
 
--- the words and the private records of the mutators
-abbrev pub state : Inside → State
-state inside =
+-- the words, the mailboxes, and the private records of the mutators and of the collector
+abbrev pub core : Inside → Core
+core inside =
     record {
       config = inside.config;
       headers = inside.memory.headers;
@@ -13,12 +15,15 @@ state inside =
       epoch = inside.memory.epoch;
       freed = inside.memory.freed;
       crossing = inside.memory.crossing;
+      boxes = map held inside.boxes.items;
       mutators = inside.machines.items;
+      collector = inside.collector;
       made = inside.made;
       marked = inside.marked;
     }
 
--- what the fields of every world keep; there is a number for each slot
+-- what the fields of every world keep; every mailbox is home, and there is a number for each slot
 pub record IsWhole (inside : Inside) : Type 0 where
-  pub world : IsWorld (state inside)
+  pub world : IsWorld (core inside)
+  pub home : (i : ℕ) → i < length inside.boxes.items → IsSome (slice_index_or inside.boxes.items i None)
   pub numbering : inside.numbering.slots ≡ inside.config.slots

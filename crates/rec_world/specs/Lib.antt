@@ -7,13 +7,14 @@ pub mod CoreMoves
 pub mod CorePending
 pub mod CoreReach
 pub mod CoreShown
+pub mod CoreSwept
 pub mod Inside
 pub mod Journal
+pub mod Mailbox
 pub mod Memory
 pub mod Numbering
 pub mod Order
-pub mod Run
-pub mod State
+pub mod Worked
 pub mod World
 pub use Rattle.rec_model.specs.Asking
 pub use Rattle.rec_model.specs.Heap

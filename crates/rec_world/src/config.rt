@@ -1,7 +1,8 @@
-ghost use Rattle.std.specs.Prelude.{IfSome, ◌≡◌, ◌↔◌, ◌≤◌, IsTrue};
-ghost use Rattle.rec_world.specs.Config.{IsConfig, IsFirstWrong};
+ghost use Rattle.std.specs.Prelude.{IfSome, ◌≡◌, ◌↔◌, ◌<◌, ◌≤◌, IsTrue};
+ghost use Rattle.rec_world.specs.Config.{IsConfig, IsFirstWrong, HasOperands};
 
 use crate::Part;
+use rec_model::Cmd;
 
 /// The numbers of a heap, which never change.
 #[derive(Clone, Copy, Debug, PartialEq, Eq)]
@@ -41,6 +42,35 @@ impl Config {
         } else {
             None
         }
+    }
+
+    /// Whether the registers and the field that a command names are there.
+    pub(crate) fn has_operands(&self, cmd: &Cmd) -> bool
+        ensures { IsTrue result ↔ HasOperands self.now cmd.now }
+    {
+        match *cmd {
+            Cmd::New { reg, .. } | Cmd::Null { reg } | Cmd::Value { reg } => self.has_register(reg),
+            Cmd::Copy { dst, src } => self.has_register(dst) && self.has_register(src),
+            Cmd::Get { dst, src, field } => {
+                self.has_register(dst) && self.has_register(src) && self.has_field(field)
+            }
+            Cmd::Put { src, field, val } => {
+                self.has_register(src) && self.has_field(field) && self.has_register(val)
+            }
+            Cmd::Same { a, b } => self.has_register(a) && self.has_register(b),
+        }
+    }
+
+    fn has_register(&self, r: u8) -> bool
+        ensures { IsTrue result ↔ (r < self.now.registers) }
+    {
+        u32::from(r) < self.registers
+    }
+
+    fn has_field(&self, field: u8) -> bool
+        ensures { IsTrue result ↔ (field < self.now.fields) }
+    {
+        u32::from(field) < self.fields
     }
 }
 

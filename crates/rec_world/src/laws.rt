@@ -3,77 +3,71 @@
 ghost use Rattle.std.specs.Prelude.{◌≡◌, ℕ, ◌+◌, ◌<◌, List, IfSome, false, true, slice_index_or};
 ghost use Rattle.rec_model.specs.Heap.{Heap, opening};
 ghost use Rattle.rec_model.specs.References.{count_formula};
-ghost use Rattle.rec_model.specs.Sight.{IsTaken, Reaches, StandsFor};
+ghost use Rattle.rec_model.specs.Sight.{IsTaken, Reaches, StandsBy};
 ghost use Rattle.rec_counts.specs.Counts.{slot_at};
 ghost use Rattle.rec_world.specs.declared.config.Config.{Config as Numbers};
 ghost use Rattle.rec_mutator.specs.Private.{is_busy, answer_of};
 ghost use Rattle.rec_collector.specs.Next.{next_of as collector_next};
 ghost use Rattle.rec_world.specs.Config.{IsConfig, IsMutator};
-ghost use Rattle.rec_world.specs.Run.{Move, Fits, after_move, IsRun, EndsRun};
-ghost use Rattle.rec_world.specs.Core.{Core, sight as core_sight, mutator as core_mutator, opened as core_opened};
+ghost use Rattle.rec_world.specs.Core.{Core, sight, mutator, opened};
 ghost use Rattle.rec_world.specs.CoreAsked.{AreAsked, told_in_all};
+ghost use Rattle.rec_world.specs.CoreKept.{IsKept};
 ghost use Rattle.rec_world.specs.CoreMet.{MayStep, MayTurn};
-ghost use Rattle.rec_world.specs.CoreMoves.{Move as CoreMove, IsRun as IsCoreRun, EndsRun as EndsCoreRun, stepped as core_stepped, turned as core_turned};
-ghost use Rattle.rec_world.specs.CoreKept.{IsKept as IsCoreKept};
+ghost use Rattle.rec_world.specs.CoreMoves.{Move, Fits, after_move, IsRun, EndsRun, stepped, turned};
 ghost use Rattle.rec_world.specs.CorePending.{pending};
 ghost use Rattle.rec_world.specs.CoreReach.{KeepsReached};
-ghost use Rattle.rec_world.specs.CoreShown.{IsShown as IsCoreShown};
-ghost use Rattle.rec_world.specs.World.{State, IsKept, IsWorld};
+ghost use Rattle.rec_world.specs.CoreShown.{IsShown};
+ghost use Rattle.rec_world.specs.World.{IsWorld};
 
-/// What every heap keeps holds at the end of every run: a mutator that scans has passed taken slots alone, each log entry
-/// has its own stamp, every epoch is the first one, the freed word is 0, and registers and fields name taken slots.
+/// What every heap keeps holds at the end of every run.
 pub fn runs_keep()
-    ensures { (config : Numbers) (moves : List Move) (end : State) → IsConfig config → IsRun config moves end → IsKept end }
+    ensures { (config : Numbers) (moves : List Move) (end : Core) → IsConfig config → IsRun config moves end → IsKept end }
 {}
 
-/// A run goes on with every move that its end lets a mutator make.
+/// A run goes on with every move that fits its end.
 pub fn runs_go_on()
-    ensures { (w : State) (m : Move) → EndsRun w → Fits w m → EndsRun (after_move w m) }
+    ensures { (w : Core) (m : Move) → EndsRun w → Fits w m → EndsRun (after_move w m) }
 {}
 
-/// A heap that isn't marked is the end of some run from its opening.
-pub fn heaps_end_runs()
-    ensures { (w : State) → IsWorld w → w.marked ≡ false → EndsRun w }
-{}
-
-/// What every heap with its collector keeps holds at the end of every run.
-pub fn core_runs_keep()
-    ensures { (config : Numbers) (moves : List CoreMove) (end : Core) → IsConfig config → IsCoreRun config moves end → IsCoreKept end }
+/// A world that isn't marked is the end of some run from its opening.
+pub fn worlds_end_runs()
+    ensures { (w : Core) → IsWorld w → w.marked ≡ false → EndsRun w }
 {}
 
 /// Nothing that a register reaches is released, freed or handed out again, in any state of any run of a heap with its
 /// collector: a reached slot is taken and not released; a turn of the collector keeps its header and its words; a step of a
-/// mutator claims no taken slot. And whatever heap that never frees stood for what was seen stands for it after every turn.
+/// mutator claims no taken slot. And whatever heap that never frees stood for what was seen stands for it after every turn,
+/// by the same numbers.
 pub fn nothing_reached_is_freed()
-    ensures reached { (w : Core) → IsConfig w.config → EndsCoreRun w → (slot : ℕ) → Reaches (core_sight w) slot → IsTaken (core_sight w) slot × ((slot_at w.collector.counts slot).released ≡ false) }
-    ensures turned { (w : Core) → IsConfig w.config → EndsCoreRun w → KeepsReached (core_sight w) (core_sight (core_turned w)) }
-    ensures stands { (w : Core) (heap : Heap) → IsConfig w.config → EndsCoreRun w → StandsFor heap (core_sight w) → StandsFor heap (core_sight (core_turned w)) }
-    ensures claimed { (w : Core) (t slot : ℕ) → IsTaken (core_sight w) slot → slice_index_or (core_stepped w t).headers slot 0 ≡ slice_index_or w.headers slot 0 }
+    ensures reached { (w : Core) → IsConfig w.config → EndsRun w → (slot : ℕ) → Reaches (sight w) slot → IsTaken (sight w) slot × ((slot_at w.collector.counts slot).released ≡ false) }
+    ensures turned { (w : Core) → IsConfig w.config → EndsRun w → KeepsReached (sight w) (sight (turned w)) }
+    ensures stands { (w : Core) (heap : Heap) (number : ℕ → ℕ) → IsConfig w.config → EndsRun w → StandsBy heap (sight w) number → StandsBy heap (sight (turned w)) number }
+    ensures claimed { (w : Core) (t slot : ℕ) → IsTaken (sight w) slot → slice_index_or (stepped w t).headers slot 0 ≡ slice_index_or w.headers slot 0 }
 {}
 
 /// The true count of every slot is the count formula of its node at the epoch of the last batch, in every state of every run
 /// of a heap with its collector.
 pub fn true_counts_are_the_formula()
-    ensures { (w : Core) → IsConfig w.config → EndsCoreRun w → (slot : ℕ) → slot < w.config.slots → (slot_at w.collector.counts slot).count ≡ count_formula (pending w) (pending w).applied (slot + 1) }
+    ensures { (w : Core) → IsConfig w.config → EndsRun w → (slot : ℕ) → slot < w.config.slots → (slot_at w.collector.counts slot).count ≡ count_formula (pending w) (pending w).applied (slot + 1) }
 {}
 
 /// Where a step of a mutator answers a command, in any state of any run of a heap with its collector, whatever heap that never
 /// frees stood for what was seen gives the answer, and what asking makes of it stands for what is seen afterwards. Full is
 /// answered only where no slot is free. Every other step leaves all that is seen.
 pub fn answers_are_explained()
-    ensures { (w : Core) (t : ℕ) → IsConfig w.config → EndsCoreRun w → IsMutator w.config t → is_busy (core_mutator w t) ≡ true → IsCoreShown w t (answer_of (core_mutator (core_stepped w t) t)) (core_stepped w t) }
+    ensures { (w : Core) (t : ℕ) → IsConfig w.config → EndsRun w → IsMutator w.config t → is_busy (mutator w t) ≡ true → IsShown w t (answer_of (mutator (stepped w t) t)) (stepped w t) }
 {}
 
 /// Over every run of a heap with its collector, the commands answered, in the order of the steps that answered them, were
 /// answered as a heap that never frees is asked, from the opening on; and at the end this heap stands for what is seen.
 pub fn runs_answer_as_asked()
-    ensures { (config : Numbers) (moves : List CoreMove) (end : Core) → IsConfig config → IsCoreRun config moves end → AreAsked config.fields (opening config.fields config.registers config.mutators) (told_in_all (core_opened config) moves) (core_sight end) }
+    ensures { (config : Numbers) (moves : List Move) (end : Core) → IsConfig config → IsRun config moves end → AreAsked config.fields (opening config.fields config.registers config.mutators) (told_in_all (opened config) moves) (sight end) }
 {}
 
 /// Whatever the machines ask of the heap in which they make a step holds in every state of every run of a heap with its
 /// collector: the word that a step names is there, and is one that the machine may find, and a mailbox that is taken holds what
 /// it has to. So the code that runs them tests none of it.
 pub fn conditions_are_met()
-    ensures steps { (w : Core) (t : ℕ) → IsConfig w.config → EndsCoreRun w → IsMutator w.config t → is_busy (core_mutator w t) ≡ true → MayStep w t }
-    ensures turns { (w : Core) → IsConfig w.config → EndsCoreRun w → IfSome (collector_next w.collector) (MayTurn w) }
+    ensures steps { (w : Core) (t : ℕ) → IsConfig w.config → EndsRun w → IsMutator w.config t → is_busy (mutator w t) ≡ true → MayStep w t }
+    ensures turns { (w : Core) → IsConfig w.config → EndsRun w → IfSome (collector_next w.collector) (MayTurn w) }
 {}

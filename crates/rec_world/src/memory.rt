@@ -1,4 +1,4 @@
-ghost use Rattle.std.specs.Prelude.{◌≡◌, ℕ, ◌-◌, ◌*◌, ◌<◌, ◌≤◌, length, ◌∷◌, replicate, IfOk};
+ghost use Rattle.std.specs.Prelude.{◌≡◌, ℕ, ◌-◌, ◌*◌, ◌<◌, ◌≤◌, length, ◌∷◌, replicate, slice_index_or, IfOk};
 ghost use Rattle.rec_word.specs.Op.{written};
 ghost use Rattle.rec_world.specs.Memory.{IsWithin, cell, with_cell, IsCleared, KeepsListed};
 
@@ -115,6 +115,14 @@ impl Memory {
         ensures { result.now ≡ self.now.words }
     {
         self.words.as_slice()
+    }
+
+    /// The header of the slot.
+    pub fn header(&self, slot: u16) -> u64
+        requires { slot < length self.now.headers }
+        ensures { result ≡ slice_index_or self.now.headers slot 0 }
+    {
+        self.headers[usize::from(slot)]
     }
 
     /// Clears the header and the fields of every slot that isn't numbered.

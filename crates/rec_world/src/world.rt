@@ -1,53 +1,68 @@
-ghost use Rattle.std.specs.Prelude.{◌≡◌, ◌≢◌, ℕ, ◌+◌, ◌*◌, ◌<◌, ◌≤◌, ◌↔◌, if◌then◌else◌, true, false, is_none, length, slice_index_or, IsTrue, IsNone, IfOk, IfErr, IfSome};
+ghost use Rattle.std.specs.Prelude.{◌≡◌, ◌≢◌, ℕ, ◌+◌, ◌*◌, ◌%◌, ◌^◌, ◌<◌, ◌≤◌, ◌↔◌, if◌then◌else◌, true, false, Some, All, is_none, length, map, slice_index_or, IsTrue, IsNone, IsSome, IfOk, IfErr, IfSome};
+ghost use Rattle.rec_word.specs.Op.{crossing_word};
 ghost use Rattle.rec_word.specs.Word.{stamp_of};
+ghost use Rattle.rec_counts.specs.Counts.{slot_at};
 ghost use Rattle.rec_model.specs.declared.answer.Answer.TheVariants as answers;
 ghost use Rattle.rec_model.specs.Heap.{Heap, opening, register, registers_of};
 ghost use Rattle.rec_model.specs.Explained.{IsExplained};
 ghost use Rattle.rec_model.specs.LegalOrder.{is_birth, word_left};
-ghost use Rattle.rec_model.specs.Sight.{IsTaken, IsCollected, Collects, StandsFor, NumbersSlots};
+ghost use Rattle.rec_model.specs.Sight.{IsTaken, IsCollected, Collects, StandsBy, StandsFor, NumbersSlots};
 ghost use Rattle.rec_mutator.specs.Causes.{is_refusal, LacksObject};
 ghost use Rattle.rec_mutator.specs.Private.{is_busy, answer_of, limit_of, work_of};
-ghost use Rattle.rec_mutator.specs.Step.{IsStill};
-ghost use Rattle.rec_world.specs.Config.{IsConfig, IsMutator, IsRefused, HasOperands, IsValid};
+ghost use Rattle.rec_mutator.specs.declared.made.Made.TheVariants as makes;
+ghost use Rattle.rec_mutator.specs.declared.work.Work.TheVariants as works;
+ghost use Rattle.rec_collector.specs.declared.phase.Phase as phases;
+ghost use Rattle.rec_collector.specs.declared.turn.Turn as turns;
+ghost use Rattle.rec_world.specs.Config.{IsConfig, IsMutator, IsRefused, IsValid, IsWork, HasLabel};
+ghost use Rattle.rec_world.specs.Core.{Core, sight, mutator, crossing_of, log_length, opened, opened_mutator, opened_mutators};
+ghost use Rattle.rec_world.specs.CoreMoves.{begun, stepped, turned, EndsRun};
+ghost use Rattle.rec_world.specs.CoreReach.{KeepsReached};
+ghost use Rattle.rec_world.specs.CoreShown.{IsShown, entries_of, sight_told};
+ghost use Rattle.rec_world.specs.CoreSwept.{IsSweep};
 ghost use Rattle.rec_world.specs.Memory.{births_of};
-ghost use Rattle.rec_world.specs.Run.{begun, stepped, EndsRun, HasLabel};
-ghost use Rattle.rec_world.specs.State.{opened_mutators, opened_mutator};
-ghost use Rattle.rec_world.specs.World.{State, sight, mutator, with_mutator, log_length, opened, IsWorld, label_of, IsLogFull, IsFull, is_plain, entries_of, IsLowestFree, IsMarked, IsWork, IsShown, IsFinished, OnlyWorks, sight_after};
+ghost use Rattle.rec_world.specs.World.{IsWorld, label_of, IsLogFull, IsFull, IsBusy, IsLowestFree, HasFound, IsFinished, IsQuiet, IsCrossed, OnlyWorks, TurnHasCause};
+ghost use Rattle.rec_world.specs.Worked.{IsWorked};
 
+use crate::mailbox::{mailbox_of, open_boxes, swap_gathered, swap_own};
 use crate::memory::Memory;
 use crate::{Config, Numbering, OpenError};
+use rec_collector::{Machine as Collector, Turn};
+use rec_log::Buffer;
 use rec_model::{Cmd, Told};
 use rec_mutator::{Machine, Made, Work};
 use rec_word::Op;
 use std::alloc::{AllocError as NoMemory, Global};
 use std::marker::Model;
 
-/// A heap on which the commands of one to eight mutators run, step by step, with no collector: nothing is freed until it
-/// is marked.
+/// A heap on which the commands of one to eight mutators run, and the turns of its collector, step by step, in any order.
 #[derive(Debug, Drop)]
 pub struct World {
     config: Config,
     memory: Memory,
+    // Each mutator's mailbox; its buffer is out only while a step swaps it for another.
+    boxes: Vec<Option<Buffer>>,
     machines: Vec<Machine>,
+    collector: Collector,
     numbering: Numbering,
-    made: u32,
+    made: u64,
     marked: bool,
 }
 
 impl Model for World {
-    ghost use Rattle.rec_world.specs.World.{State};
+    ghost use Rattle.rec_world.specs.Core.{Core};
 
-    ghost Value = { State };
+    ghost Value = { Core };
 
-    ghost use Rattle.rec_world.specs.Inside.{state, IsWhole};
+    ghost use Rattle.rec_world.specs.Inside.{core, IsWhole};
 
-    ghost view = { state };
+    ghost view = { core };
 
     ghost invariant = { IsWhole };
 }
 
 impl World {
-    /// A heap with one object, whose label is 0, in slot 0 and in register 0 of every mutator. All its memory is taken here.
+    /// A heap with one object, whose label is 0, in slot 0 and in register 0 of every mutator; the collection of the epoch
+    /// before the first counts as done. All its memory is taken here.
     pub fn open(alloc: Global, config: Config) -> Result<World, OpenError>
         // The first number that is out of its range is named, before any memory is asked for.
         ensures refused { IfErr result (λ error. IsRefused config error) }
@@ -70,7 +85,7 @@ impl World {
         ensures { IsTrue result ↔ IsValid self.now.config t cmd.now }
     {
         let is_mutator = 1 <= t && u32::from(t) <= self.config.mutators;
-        is_mutator && self.has_operands(cmd)
+        is_mutator && self.config.has_operands(cmd)
     }
 
     /// Whether mutator `t` has begun a work that isn't finished.
@@ -124,11 +139,50 @@ impl World {
         ensures kept { IsWorld self.new }
     {
         let index = usize::from(t) - 1;
-        let op = self.machines[index].next();
+        let machine = &mut self.machines[index];
+        let op = machine.next();
         let found = self.memory.perform(op);
-        self.machines[index].took(found);
+        machine.took(found);
+        swap_own(machine, &mut self.boxes[index]);
         self.made += births(op, found);
-        self.machines[index].answer()
+        machine.answer()
+    }
+
+    /// Makes one turn of the collector: one step of its collection, on the word that this names. It waits for a mutator that
+    /// hasn't crossed into the requested epoch, and stops for good where the next request would be epoch 16,777,216.
+    pub fn turn(&mut self) -> Turn
+        requires unmarked { self.old.marked ≡ false }
+
+        ensures turned { self.new ≡ turned self.old }
+
+        // Why each answer comes. A turn that waits, or that finds the epochs spent, changes nothing.
+        ensures cause { TurnHasCause self.old self.new result }
+        ensures waiting { (t : ℕ) → self.old.collector.phase ≡ phases.Phase.Looking t → crossing_of self.old t ≢ crossing_word self.old.epoch 2 → result ≡ turns.Turn.Waiting t }
+        ensures spent { self.old.collector.phase ≡ phases.Phase.Idle → self.old.epoch + 1 ≡ 2 ^ 24 → result ≡ turns.Turn.EpochsSpent }
+
+        // No slot that a register reaches is freed or changed, and whatever heap stood for the world still does, by the same
+        // numbers of its objects. Within a sweep a turn frees one slot at most.
+        ensures reached { KeepsReached (sight self.old) (sight self.new) }
+        ensures stands { (heap : Heap) (number : ℕ → ℕ) → StandsBy heap (sight self.old) number → StandsBy heap (sight self.new) number }
+        ensures sweep { IsSweep self.old self.new }
+
+        // One epoch more is requested at most, and no mutator changes.
+        ensures requested { self.new.epoch ≤ self.old.epoch + 1 }
+        ensures mutators { self.new.mutators ≡ self.old.mutators }
+        ensures config { self.new.config ≡ self.old.config }
+        ensures made { self.new.made ≡ self.old.made }
+        ensures marked { self.new.marked ≡ false }
+        ensures run { EndsRun self.new }
+        ensures kept { IsWorld self.new }
+    {
+        let Some(op) = self.collector.next() else {
+            return Turn::EpochsSpent;
+        };
+        let found = self.memory.perform(op);
+        let turn = self.collector.took(found);
+        let mailbox = &mut self.boxes[usize::from(mailbox_of(op)) - 1];
+        swap_gathered(&mut self.collector, mailbox);
+        turn
     }
 
     /// Carries out a command of mutator `t`, and tells the answer with the field words that it saw and left.
@@ -137,31 +191,36 @@ impl World {
         requires unmarked { self.old.marked ≡ false }
         requires idle { is_busy (mutator self.old t) ≡ false }
 
+        // The command is begun, its steps are made to the end, and the last one answers.
+        ensures worked { IsWorked self.old t (works.Command cmd) self.new }
+        ensures answer { answer_of (mutator self.new t) ≡ Some (makes.Answered result) }
+
         // Whatever heap that never frees stands for the world, what is told is what asking it gives, and what it then is
-        // stands for the world afterwards.
+        // stands for the world afterwards, by numbers of its objects that go on.
         ensures explained { IsExplained (sight self.old) t cmd result (sight self.new) }
 
         // When each refusal comes. It changes no register, no field, no header and no log: only the mutator's work differs.
         ensures log_full { (result.answer ≡ answers.LogFull) ↔ IsLogFull self.old t cmd }
         ensures full { (result.answer ≡ answers.Full) ↔ IsFull self.old t cmd }
+        ensures busy { (before after : ℕ) → (result.answer ≡ answers.Busy before after) ↔ (IsBusy self.old t cmd × (before ≡ self.old.freed) × (after ≡ self.old.freed)) }
         ensures no_object { (result.answer ≡ answers.NoObject) ↔ LacksObject (mutator self.old t) cmd }
-        ensures busy { (before after : ℕ) → result.answer ≡ answers.Busy before after → (before ≡ self.old.freed) × (after ≡ self.new.freed) × (IsStill before after → ⊥) }
-        ensures never { is_plain result.answer ≡ true }
         ensures refused { is_refusal result.answer ≡ true → OnlyWorks self.old self.new t }
 
-        // What changes, and what stays.
-        ensures seen { sight self.new ≡ sight_after self.old t cmd result }
+        // What changes: a birth takes the lowest free slot, and a write leaves the stamp of its log entry.
+        ensures seen { (slot : ℕ) × (sight self.new ≡ sight_told (sight self.old) slot t cmd result) × (is_birth (cmd, result) ≡ true → IsLowestFree (sight self.old) slot) }
+        ensures stamp { IfSome (word_left cmd result) (λ word. stamp_of word ≡ record { writer = t; epoch = (mutator self.old t).epoch; index = log_length self.old t }) }
+        ensures logged { log_length self.new t ≡ log_length self.old t + entries_of cmd result.answer }
+        ensures made { self.new.made ≡ self.old.made + (if is_birth (cmd, result) then 1 else 0) }
+
+        // What stays: the collector, the epochs, the freed word and the other mutators.
+        ensures collector { self.new.collector ≡ self.old.collector }
+        ensures requested { self.new.epoch ≡ self.old.epoch }
+        ensures epoch { (mutator self.new t).epoch ≡ (mutator self.old t).epoch }
+        ensures freed { self.new.freed ≡ self.old.freed }
         ensures others { (s : ℕ) → s ≢ t → 1 ≤ s → mutator self.new s ≡ mutator self.old s }
         ensures idle { is_busy (mutator self.new t) ≡ false }
-        ensures made { self.new.made ≡ self.old.made + (if is_birth (cmd, result) then 1 else 0) }
-        ensures logged { log_length self.new t ≡ log_length self.old t + entries_of cmd result.answer }
         ensures config { self.new.config ≡ self.old.config }
         ensures marked { self.new.marked ≡ false }
-
-        // A birth takes the lowest free slot; a write leaves the stamp of its log entry.
-        ensures lowest { is_birth (cmd, result) ≡ true → IsLowestFree (sight self.old) self.old.made }
-        ensures stamp { IfSome (word_left cmd result) (λ word. stamp_of word ≡ record { writer = t; epoch = (mutator self.old t).epoch; index = log_length self.old t }) }
-
         ensures run { EndsRun self.new }
         ensures kept { IsWorld self.new }
     {
@@ -175,16 +234,22 @@ impl World {
     }
 
     /// Lets mutator `t` look at the epoch word, and cross into the requested epoch where it is another one. The answer is
-    /// that epoch, or `None` where the mutator is in it already; no epoch is requested yet.
+    /// that epoch, or `None` where the mutator is in it already.
     pub fn poll(&mut self, t: u8) -> Option<u32>
         requires mutator { IsMutator self.old.config t }
         requires unmarked { self.old.marked ≡ false }
         requires idle { is_busy (mutator self.old t) ≡ false }
 
+        // The poll is begun, its steps are made to the end, and the last one answers.
+        ensures worked { IsWorked self.old t works.Poll self.new }
+        ensures answer { answer_of (mutator self.new t) ≡ Some (makes.Crossed result) }
+
         ensures none { (result ≡ None) ↔ (self.old.epoch ≡ (mutator self.old t).epoch) }
-        ensures stays { result ≡ None }
-        ensures others { OnlyWorks self.old self.new t }
-        ensures seen { sight self.new ≡ sight self.old }
+        ensures some { (epoch : ℕ) → result ≡ Some epoch → epoch ≡ self.old.epoch }
+
+        // A mutator that crosses hands over its log; nothing that is seen changes, and nothing of the collector.
+        ensures crossed { IsCrossed self.old self.new t result }
+        ensures quiet { IsQuiet self.old self.new t }
         ensures idle { is_busy (mutator self.new t) ≡ false }
         ensures run { EndsRun self.new }
         ensures kept { IsWorld self.new }
@@ -220,7 +285,7 @@ impl World {
         requires { slot < self.now.config.slots }
         ensures { IsTrue result ↔ IsTaken (sight self.now) slot }
     {
-        self.memory.headers[usize::from(slot)] != 0
+        self.memory.header(slot) != 0
     }
 
     /// The label of the object in the slot, or `None` where the slot is free.
@@ -230,7 +295,7 @@ impl World {
         ensures label { result ≡ label_of (slice_index_or self.now.headers slot 0) }
         ensures free { IsNone result ↔ (IsTaken (sight self.now) slot → ⊥) }
     {
-        let header = self.memory.headers[usize::from(slot)];
+        let header = self.memory.header(slot);
         if header == 0 {
             None
         } else {
@@ -244,6 +309,15 @@ impl World {
         ensures { result ≡ slice_index_or self.now.words place 0 }
     {
         self.memory.words[place as usize]
+    }
+
+    /// The true count of the slot: one for a free slot, else how many references to its object were counted, which is an epoch
+    /// or two behind the fields and registers that hold it.
+    pub fn count(&self, slot: u16) -> u64
+        requires { slot < self.now.config.slots }
+        ensures { result ≡ (slot_at self.now.collector.counts slot).count }
+    {
+        self.collector.count(slot)
     }
 
     /// What register `r` of mutator `t` names.
@@ -309,6 +383,29 @@ impl World {
         self.memory.freed
     }
 
+    /// How many slots were freed since the opening.
+    pub fn freed(&self) -> u64
+        ensures freed { result ≡ self.now.collector.freed }
+        ensures kept { IsWorld self.now }
+    {
+        self.collector.freed()
+    }
+
+    /// How many collections were completed since the opening.
+    pub fn collections(&self) -> u32
+        ensures collections { result ≡ self.now.collector.collections }
+        ensures kept { IsWorld self.now }
+    {
+        self.collector.collections()
+    }
+
+    /// Whether every mailbox is home: no mutator holds its own, and the collector none.
+    pub fn boxes_home(&self) -> bool
+        ensures { IsTrue result ↔ All (λ word. word % 2 ≡ 0) self.now.crossing }
+    {
+        self.memory.crossing.iter().all(|word| word % 2 == 0)
+    }
+
     /// How many mutators there are.
     pub fn mutators(&self) -> u8
         ensures mutators { result ≡ self.now.config.mutators }
@@ -322,7 +419,7 @@ impl World {
         ensures made { result ≡ self.now.made }
         ensures kept { IsWorld self.now }
     {
-        u64::from(self.made)
+        self.made
     }
 
     /// Whether the heap was marked. Then it takes no command.
@@ -333,58 +430,12 @@ impl World {
         self.marked
     }
 
-    fn has_operands(&self, cmd: &Cmd) -> bool
-        ensures { IsTrue result ↔ HasOperands self.now.config cmd.now }
-    {
-        match *cmd {
-            Cmd::New { reg, .. } | Cmd::Null { reg } | Cmd::Value { reg } => self.has_register(reg),
-            Cmd::Copy { dst, src } => self.has_register(dst) && self.has_register(src),
-            Cmd::Get { dst, src, field } => {
-                self.has_register(dst) && self.has_register(src) && self.has_field(field)
-            }
-            Cmd::Put { src, field, val } => {
-                self.has_register(src) && self.has_field(field) && self.has_register(val)
-            }
-            Cmd::Same { a, b } => self.has_register(a) && self.has_register(b),
-        }
-    }
-
-    fn has_register(&self, r: u8) -> bool
-        ensures { IsTrue result ↔ (r < self.now.config.registers) }
-    {
-        u32::from(r) < self.config.registers
-    }
-
-    fn has_field(&self, field: u8) -> bool
-        ensures { IsTrue result ↔ (field < self.now.config.fields) }
-    {
-        u32::from(field) < self.config.fields
-    }
-
-    // Steps of mutator `t` until its work is finished, and what came of it. Most works end with their first step, so it is put
-    // in where the work is begun, and the later ones stand apart.
+    // Steps of mutator `t` until its work is finished, and what came of it.
     #[inline(always)]
     fn finish(&mut self, t: u8) -> Made
         requires mutator { IsMutator self.old.config t }
         requires unmarked { self.old.marked ≡ false }
-        requires busy { is_busy (mutator self.old t) ≡ true }
-        requires world { IsWorld self.old }
-
-        ensures finished { IsFinished self.old t result self.new }
-        ensures run { EndsRun self.new }
-        ensures kept { IsWorld self.new }
-    {
-        match self.step(t) {
-            Some(made) => made,
-            None => self.go_on(t),
-        }
-    }
-
-    // The steps that are left until the work of mutator `t` is finished, and what came of it.
-    #[inline(never)]
-    fn go_on(&mut self, t: u8) -> Made
-        requires mutator { IsMutator self.old.config t }
-        requires unmarked { self.old.marked ≡ false }
+        requires begun { HasFound self.old (mutator self.old t).phase }
         requires busy { is_busy (mutator self.old t) ≡ true }
         requires world { IsWorld self.old }
 
@@ -415,12 +466,24 @@ fn open_in_range(alloc: Global, config: Config) -> Result<World, NoMemory>
         config.mutators as usize,
         config.first_epoch,
     )?;
+    let boxes = open_boxes(alloc, &config)?;
     let machines = open_machines(alloc, &config)?;
+    let collector = Collector::open(
+        alloc,
+        config.slots as u16,
+        config.fields as u8,
+        config.registers as u8,
+        config.mutators as u8,
+        config.log_entries,
+        config.first_epoch,
+    )?;
     let numbering = Numbering::open(alloc, config.slots as u16)?;
     Ok(World {
         config,
         memory,
+        boxes,
         machines,
+        collector,
         numbering,
         made: 1,
         marked: false,
@@ -466,7 +529,7 @@ fn see_label(work: Work)
 }
 
 // The births of an operation that found this word.
-fn births(op: Op, found: u64) -> u32
+fn births(op: Op, found: u64) -> u64
     ensures { result ≡ births_of op found }
 {
     match op {
@@ -475,5 +538,7 @@ fn births(op: Op, found: u64) -> u32
     }
 }
 
+#[cfg(test)]
+mod collecting_tests;
 #[cfg(test)]
 mod tests;

@@ -10,7 +10,7 @@ use Rattle.rec_model.specs.LegalOrder.{Line, Event, actors}
 use Rattle.rec_model.specs.Listing.{Row, ListsSlots}
 use Rattle.rec_model.specs.Sight.{StandsFor, IsCollected}
 use Rattle.rec_model.proofs.Listed.{listing_carried}
-use Rattle.rec_world.specs.World.{State, sight}
+use Rattle.rec_world.specs.World.{Core, sight}
 use Rattle.recycler.specs.declared.status.Status.{Status}
 use Rattle.recycler.specs.declared.status.Status.TheVariants as statuses
 use Rattle.rec_script.specs.declared.error.Kind.{Kind}
@@ -164,14 +164,15 @@ if_ok (Ok x) P Q step held = step x held
 if_ok (Err e) P Q step held = held
 
 -- what was played, settled and listed is the answer
-pub answers_script : (script : Contents) (seed turns : ℕ) (journals : List (List Line)) (events : List Event) (world : State) (rows : List Row) (text : List ℕ)
-    → IsPlayed script seed turns journals events → StandsFor (last_moment script events).heap (sight world) → IsCollected (sight world)
+pub answers_script : (script : Contents) (seed turns : ℕ) (journals : List (List Line)) (events : List Event) (end world : Core) (rows : List Row) (text : List ℕ)
+    → IsPlayed script seed turns journals events end → StandsFor (last_moment script events).heap (sight world) → IsCollected (sight world)
     → length world.headers ≡ script.slots → ListsSlots (sight world) rows
     → text ≡ play_text journals (Some (actors events)) rows (length (last_moment script events).heap.objects) → Answers script seed turns text
-answers_script script seed turns journals events world rows text played stands collected room listed written =
+answers_script script seed turns journals events end world rows text played stands collected room listed written =
     record {
       journals = journals;
       events = events;
+      end = end;
       played = played;
       rows = rows;
       settled = record {

@@ -5,6 +5,7 @@ use Rattle.rec_model.specs.Heap.{Heap}
 use Rattle.rec_model.specs.LegalOrder.{Line, Event, actors}
 use Rattle.rec_model.specs.Listing.{Row, IsListing}
 use Rattle.rec_model.specs.Sight.{Sight, StandsFor, IsCollected}
+use Rattle.rec_world.specs.Core.{Core}
 use Rattle.rec_play.specs.Played.{IsPlayed, last_moment}
 use Rattle.rec_io.specs.Sink.{Appends}
 use Rattle.rec_script.specs.Lines.{lines}
@@ -29,7 +30,9 @@ pub record IsSettledAs (heap : Heap) (slots : ℕ) (rows : List Row) : Type 0 wh
 pub record Answers (script : Contents) (seed turns : ℕ) (text : List ℕ) : Type 0 where
   pub journals : List (List Line)
   pub events : List Event
-  pub played : IsPlayed script seed turns journals events
+  -- the world after the last turn
+  pub end : Core
+  pub played : IsPlayed script seed turns journals events end
   pub rows : List Row
   pub settled : IsSettledAs (last_moment script events).heap script.slots rows
   pub written : text ≡ play_text journals (Some (actors events)) rows (length (last_moment script events).heap.objects)

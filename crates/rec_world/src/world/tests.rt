@@ -24,7 +24,7 @@ fn ask(rt: &impl Abort, world: &mut World, cmd: Cmd) -> Told
 }
 
 // What a mutator is told, of a command that it may ask.
-fn ask_of(rt: &impl Abort, world: &mut World, t: u8, cmd: Cmd) -> Told
+pub(super) fn ask_of(rt: &impl Abort, world: &mut World, t: u8, cmd: Cmd) -> Told
     ensures { world.new.config ≡ world.old.config }
 {
     assert!(rt; world.valid(t, &cmd));
@@ -208,43 +208,42 @@ fn each_command(rt: HostRuntime) -> Result<(), Fail> {
     Ok(())
 }
 
+// A write leaves the stamp of its log entry. What needs an entry is refused once the log is full, and a write is no longer once
+// the mutator has crossed, as its log is empty then.
 #[test]
-fn a_full_log_refuses_writes(rt: HostRuntime) -> Result<(), Fail> {
+fn a_full_log_refuses_until_its_mutator_crosses(rt: HostRuntime) -> Result<(), Fail> {
     let config = Config {
         log_entries: 1,
         ..CONFIG
     };
     let mut world = World::open(rt.alloc(), config)?;
-    let first = ask(
-        &rt,
-        &mut world,
-        Cmd::Put {
-            src: 0,
-            field: 0,
-            val: 0,
-        },
-    );
-    assert_eq!(rt;
-        first,
-        Told {
-            answer: Answer::Done,
-            saw: 0,
-            left: 1_099_511_693_313
-        }
-    );
-    let second = ask(
-        &rt,
-        &mut world,
-        Cmd::Put {
-            src: 0,
-            field: 1,
-            val: 0,
-        },
-    );
-    assert_eq!(rt; second.answer, Answer::LogFull);
+    let put = Cmd::Put {
+        src: 0,
+        field: 0,
+        val: 0,
+    };
+    let next = Cmd::Put {
+        src: 0,
+        field: 1,
+        val: 0,
+    };
+    let left = 1_099_511_693_313;
+    let done = Told {
+        answer: Answer::Done,
+        saw: 0,
+        left,
+    };
+    assert_eq!(rt; ask(&rt, &mut world, put), done);
+    assert_eq!(rt; ask(&rt, &mut world, next).answer, Answer::LogFull);
     assert_eq!(rt; world.field(1), 0);
-    let third = ask(&rt, &mut world, Cmd::New { reg: 0, label: 1 });
-    assert_eq!(rt; third.answer, Answer::LogFull);
+    let new = Cmd::New { reg: 0, label: 1 };
+    assert_eq!(rt; ask(&rt, &mut world, new).answer, Answer::LogFull);
+    assert!(rt; !world.marked());
+    assert_eq!(rt; world.turn(), Turn::Moved);
+    assert!(rt; !world.busy(1));
+    assert!(rt; !world.marked());
+    assert_eq!(rt; world.poll(1), Some(2));
+    assert_eq!(rt; ask(&rt, &mut world, next).answer, Answer::Done);
     Ok(())
 }
 

@@ -1,5 +1,5 @@
 -- What a run keeps tells what is reached.
-use Rattle.rec_world.proofs.CoreReach.{reached_stays, turned_keeps, keeps_stands, steps_keep_taken}
+use Rattle.rec_world.proofs.CoreReach.{reached_stays, turned_keeps, keeps_stands_by, steps_keep_taken}
 use Rattle.rec_world.proofs.CoreRuns.{end_kept}
 use Rattle.rec_world.specs.Core.{sight}
 use Rattle.rec_world.specs.CoreMoves.{turned}
@@ -12,7 +12,7 @@ pub returns-clause-turned : goal.returns-clause-turned
 returns-clause-turned c = λ w config run. turned_keeps w (end_kept w config run)
 
 pub returns-clause-stands : goal.returns-clause-stands
-returns-clause-stands c = λ w heap config run. keeps_stands heap (sight w) (sight (turned w)) (turned_keeps w (end_kept w config run))
+returns-clause-stands c = λ w heap number config run. keeps_stands_by heap (sight w) (sight (turned w)) number (turned_keeps w (end_kept w config run))
 
 pub returns-clause-claimed : goal.returns-clause-claimed
 returns-clause-claimed c = steps_keep_taken

@@ -1,4 +1,4 @@
-use Rattle.rec_world.proofs.Runs.{run_more}
+use Rattle.rec_world.proofs.CoreRuns.{run_more}
 use Rattle.rec_world.proofs.laws.runs_go_on.Goals as goal
 
 pub returns : goal.returns

@@ -1,4 +1,5 @@
-use Rattle.rec_world.proofs.Runs.{run_kept}
+-- What holds at the end of every run of a heap with its collector.
+use Rattle.rec_world.proofs.CoreRuns.{run_kept}
 use Rattle.rec_world.proofs.laws.runs_keep.Goals as goal
 
 pub returns : goal.returns

@@ -1,12 +1,14 @@
 -- The parts make up the heap as it is opened.
-use Rattle.std.proofs.Common.{◌≡◌, false, sym, subst}
-use Rattle.rec_world.specs.World.{State, opened, IsWorld}
-use Rattle.rec_world.proofs.Calls.{opened_parts, opened_world}
+use Rattle.std.proofs.Common.{◌≡◌, false, map, refl, sym, ap, subst, ◌∙◌}
+use Rattle.rec_world.specs.Core.{Core, opened}
+use Rattle.rec_world.specs.Mailbox.{held}
+use Rattle.rec_world.specs.World.{IsWorld}
+use Rattle.rec_world.proofs.Calls.{opened_parts, opened_world, opened_home}
 use Rattle.rec_world.proofs.world.open_in_range.Goals as goal
 use Rattle.rec_world.proofs.world.open_in_range.Goals.{In_ok-numbering}
 
--- the state that is made
-made : In_ok-numbering → State
+-- the core that is made
+made : In_ok-numbering → Core
 made c =
     record {
       config = c.args.config;
@@ -15,18 +17,25 @@ made c =
       epoch = c.in_ok-memory.memory.epoch;
       freed = c.in_ok-memory.memory.freed;
       crossing = c.in_ok-memory.memory.crossing;
+      boxes = map held c.in_ok-boxes.boxes.items;
       mutators = c.in_ok-machines.machines.items;
+      collector = c.in_ok-collector.collector;
       made = 1;
       marked = false;
     }
 
 is_opened : (c : In_ok-numbering) → made c ≡ opened c.args.config
 unfolding made
-is_opened c = opened_parts c.args.config c.in_ok-memory.memory c.in_ok-machines.machines.items c.in_ok-memory.ensures c.in_ok-machines.ensures
+is_opened c = opened_parts c.args.config c.in_ok-memory.memory c.in_ok-boxes.boxes.items c.in_ok-machines.machines.items c.in_ok-collector.collector c.in_ok-memory.ensures c.in_ok-boxes.ensures c.in_ok-machines.ensures c.in_ok-collector.ensures.opened
 
 pub invariant_of-result : goal.invariant_of-result
 unfolding made
-invariant_of-result c = record { world = subst IsWorld (sym (is_opened c)) (opened_world c.args.config c.requires); numbering = c.in_ok-numbering.ensures.slots }
+invariant_of-result c =
+    record { world = subst IsWorld (sym (is_opened c)) (opened_world c.args.config c.requires); home = opened_home c.args.config c.in_ok-boxes.boxes.items c.in_ok-boxes.ensures; numbering = c.in_ok-numbering.ensures.slots }
+
+pub returns-clause-opened : goal.returns-clause-opened
+unfolding made
+returns-clause-opened c = is_opened c
 
 pub returns-clause-kept : goal.returns-clause-kept
 unfolding made

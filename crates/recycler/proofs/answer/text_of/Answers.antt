@@ -2,7 +2,7 @@
 use Rattle.std.proofs.Common.{◌≡◌, ◌∙◌, ℕ, List, Some, sym, ap, subst}
 use Rattle.std.specs.List.{flat_map}
 use Rattle.rec_model.specs.LegalOrder.{Line, actors}
-use Rattle.rec_world.specs.World.{State}
+use Rattle.rec_world.specs.World.{Core}
 use Rattle.rec_world.specs.declared.config.Config.{Config}
 use Rattle.rec_script.specs.Script.{Contents}
 use Rattle.rec_report.specs.Text.{IsOrderOf, play_text}
@@ -23,13 +23,13 @@ returns c =
     let script : Contents = c.args.script.now in
     let (events, played, stands, made) = c.play.ensures.played in
     let journals : List (List Line) = lines_of c.play.new.journals in
-    let world : State = c.mark.new.self in
+    let world : Core = c.mark.new.self in
     let in_order : c.play.new.order.list ≡ actors events = c.play.ensures.order ∙ sym played.in_order in
     if_ok c.text.result _ (λ text. Answers script c.args.seed c.args.turns (flat_map (λ line. line) text))
-    (λ text (rows, listed, is). answers_script script c.args.seed c.args.turns journals events world rows (flat_map (λ line. line) text) played
+    (λ text (rows, listed, is). answers_script script c.args.seed c.args.turns journals events c.play.new.world world rows (flat_map (λ line. line) text) played
     (c.mark.ensures.stands (last_moment script events).heap stands) c.mark.ensures.collected
-    (c.mark.ensures.kept.kept.headers ∙ ap (λ (w : State). w.config.slots) c.mark.ensures.others ∙ ap (λ (k : Config). k.slots) c.play.ensures.config)
+    (c.mark.ensures.kept.shaped.headers ∙ ap (λ (w : Core). w.config.slots) c.mark.ensures.others ∙ ap (λ (k : Config). k.slots) c.play.ensures.config)
     listed
     (ap joined is ∙ ap (λ (ts : List ℕ). play_text journals (Some ts) rows c.mark.new.self.made) in_order
-    ∙ ap (λ n. play_text journals (Some (actors events)) rows n) (ap (λ (w : State). w.made) c.mark.ensures.others ∙ made)))
+    ∙ ap (λ n. play_text journals (Some (actors events)) rows n) (ap (λ (w : Core). w.made) c.mark.ensures.others ∙ made)))
     c.text.ensures.lines

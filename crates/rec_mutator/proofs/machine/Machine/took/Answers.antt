@@ -1,20 +1,14 @@
-use Rattle.std.proofs.Common.{◌≡◌, sym, ap, ◌∙◌}
-use Rattle.rec_mutator.specs.Private.{Private}
-use Rattle.rec_mutator.specs.declared.phase.Phase.TheVariants.{Begun}
-use Rattle.rec_mutator.proofs.Sizes.{first_keeps, first_counts}
+use Rattle.std.proofs.Common.{sym, subst, ap, ◌∙◌}
+use Rattle.rec_mutator.specs.Causes.{HasCause, PollHasCause}
+use Rattle.rec_mutator.specs.Private.{Private, answer_of}
+use Rattle.rec_mutator.proofs.Refusals.{took_cause}
+use Rattle.rec_mutator.proofs.Polls.{took_polled}
 use Rattle.rec_mutator.proofs.machine.Machine.took.Goals as goal
 
-pub returns-in-Begun-clause-same : goal.returns-in-Begun-clause-same
-returns-in-Begun-clause-same c =
-    let begun : c.args.self.now.phase ≡ Begun c.in-Begun.work = ap (λ (p : Private). p.phase) (sym c.self.view_is) ∙ c.in-Begun.is in
-    (first_keeps c.args.self.now c.took_begun.new.self c.args.word c.in-Begun.work begun c.took_begun.ensures.took).0
+pub returns-clause-cause : goal.returns-clause-cause
+returns-clause-cause c = λ cmd told work answer.
+    subst (λ (q : Private). HasCause c.args.self.now q cmd c.args.word told.answer) (sym c.learn.ensures.took)
+    (took_cause c.args.self.now c.args.word cmd told c.learn.ensures.was c.requires.busy c.requires.between work (ap answer_of (sym c.learn.ensures.took) ∙ answer))
 
-pub returns-in-Begun-clause-work : goal.returns-in-Begun-clause-work
-returns-in-Begun-clause-work c =
-    let begun : c.args.self.now.phase ≡ Begun c.in-Begun.work = ap (λ (p : Private). p.phase) (sym c.self.view_is) ∙ c.in-Begun.is in
-    (first_keeps c.args.self.now c.took_begun.new.self c.args.word c.in-Begun.work begun c.took_begun.ensures.took).1
-
-pub returns-in-Begun-clause-steps : goal.returns-in-Begun-clause-steps
-returns-in-Begun-clause-steps c =
-    let begun : c.args.self.now.phase ≡ Begun c.in-Begun.work = ap (λ (p : Private). p.phase) (sym c.self.view_is) ∙ c.in-Begun.is in
-    first_counts c.args.self.now c.took_begun.new.self c.args.word c.in-Begun.work begun c.took_begun.ensures.took
+pub returns-clause-polled : goal.returns-clause-polled
+returns-clause-polled c = subst (λ (q : Private). PollHasCause c.args.self.now q c.args.word) (sym c.learn.ensures.took) (took_polled c.args.self.now c.args.word c.requires.busy c.requires.between)

@@ -1,47 +1,59 @@
--- The machine of the mutator begins, and the state is that of the definitions.
+-- The machine of the mutator begins, and the core is that of the definitions.
 use Rattle.std.proofs.Common.{◌≡◌, ◌-◌, false, slice_set, sym, ap, subst, ◌∙◌}
-use Rattle.rec_mutator.specs.Private.{is_busy}
-use Rattle.rec_world.specs.Config.{IsMutator}
-use Rattle.rec_world.specs.Inside.{state}
-use Rattle.rec_world.specs.Run.{Move, Fits, EndsRun, begun}
-use Rattle.rec_world.specs.World.{State, sight, mutator, IsWork, IsWorld}
-use Rattle.rec_world.proofs.Calls.{begun_is, begun_world, own_work, world_run}
-use Rattle.rec_world.proofs.Commands.{begun_works, works_sight}
+use Rattle.rec_mutator.specs.Private.{Private, is_busy, IsValid}
+use Rattle.rec_world.specs.Config.{IsMutator, IsWork}
+use Rattle.rec_world.specs.Core.{Core, sight, mutator}
+use Rattle.rec_world.specs.CoreKept.{IsKept}
+use Rattle.rec_world.specs.CoreMoves.{Move, Fits, EndsRun, begun}
+use Rattle.rec_world.specs.Inside.{core}
+use Rattle.rec_world.specs.World.{IsWorld}
+use Rattle.rec_world.proofs.Calls.{Ready, ready, mutator_read, begun_is, moved_world, own_work, world_kept, world_run}
+use Rattle.rec_world.proofs.CoreAsked.{begun_sight}
 use Rattle.rec_world.proofs.world.World.begin.Goals as goal
 use Rattle.rec_world.proofs.world.World.begin.Goals.{After-begin}
 
--- the state before
-abbrev before : After-begin → State
-before c = state c.self.inside
+-- the core before
+abbrev before : After-begin → Core
+before c = core c.self.inside
+
+unmarked : (c : After-begin) → (before c).marked ≡ false
+unmarked c = ap (λ (s : Core). s.marked) c.self.view_is ∙ c.requires.unmarked
+
+-- what it keeps
+kept : (c : After-begin) → IsKept (before c)
+kept c = world_kept (before c) c.self.invariant.world (unmarked c)
 
 -- its mutator
 mutator_is : (c : After-begin) → IsMutator (before c).config c.args.t
-mutator_is c = subst (λ (s : State). IsMutator s.config c.args.t) (sym c.self.view_is) c.requires.mutator
+mutator_is c = subst (λ (s : Core). IsMutator s.config c.args.t) (sym c.self.view_is) c.requires.mutator
 
 -- the work may begin
 fits : (c : After-begin) → Fits (before c) (Move.Begins c.args.t c.args.work)
 fits c = (
   mutator_is c,
-  subst (λ (s : State). is_busy (mutator s c.args.t) ≡ false) (sym c.self.view_is) c.requires.idle,
-  own_work (before c) c.args.t c.args.work c.self.invariant.world.kept (mutator_is c) (subst (λ (s : State). IsWork s.config c.args.work) (sym c.self.view_is) c.requires.work),
+  subst (λ (s : Core). is_busy (mutator s c.args.t) ≡ false) (sym c.self.view_is) c.requires.idle,
+  own_work (before c) c.args.t c.args.work (kept c) (mutator_is c) (subst (λ (s : Core). IsWork s.config c.args.work) (sym c.self.view_is) c.requires.work),
   c.see_label.ensures,
 )
 
-unmarked : (c : After-begin) → (before c).marked ≡ false
-unmarked c = ap (λ (s : State). s.marked) c.self.view_is ∙ c.requires.unmarked
+pub begin-requires-clause-valid : goal.begin-requires-clause-valid
+begin-requires-clause-valid c =
+    let now : Ready c.self.inside c.args.t = ready c.self.inside c.args.self.now c.args.t c.self.invariant c.self.view_is c.requires.mutator c.requires.unmarked in
+    subst (λ (p : Private). IsValid p c.args.work) (sym (mutator_read (core c.self.inside) c.args.t c.from.result c.index_mut.result.now c.self.invariant.world.shaped now.is c.from.ensures c.index_mut.ensures.value))
+    (own_work (core c.self.inside) c.args.t c.args.work now.kept now.is (subst (λ (s : Core). IsWork s.config c.args.work) (sym c.self.view_is) c.requires.work))
 
--- the state that is left
-left : (c : After-begin) → ◌≡◌ {A = State} (record (before c) { mutators = slice_set (before c).mutators (c.from.result - 1) c.begin.new.self }) (begun (before c) c.args.t c.args.work)
-left c = begun_is (before c) c.args.t c.from.result c.args.work c.index_mut.result.now c.begin.new.self c.self.invariant.world.kept (mutator_is c) c.from.ensures c.index_mut.ensures.value c.begin.ensures.begun
+-- the core that is left
+left : (c : After-begin) → ◌≡◌ {A = Core} (record (before c) { mutators = slice_set (before c).mutators (c.from.result - 1) c.begin.new.self }) (begun (before c) c.args.t c.args.work)
+left c = begun_is (before c) c.args.t c.from.result c.args.work c.index_mut.result.now c.begin.new.self c.self.invariant.world.shaped (mutator_is c) c.from.ensures c.index_mut.ensures.value c.begin.ensures.begun
 
--- it is a heap
+-- it is a world
 world : (c : After-begin) → IsWorld (begun (before c) c.args.t c.args.work)
-world c = begun_world (before c) c.args.t c.args.work c.self.invariant.world (unmarked c) (fits c)
+world c = moved_world (before c) (Move.Begins c.args.t c.args.work) c.self.invariant.world (unmarked c) (fits c)
 
 pub invariant_of-self : goal.invariant_of-self
 invariant_of-self c =
     let here : After-begin = (goal.at.invariant_of-self c).After-begin in
-    record { world = subst IsWorld (sym (left here)) (world here); numbering = c.self.invariant.numbering }
+    record { world = subst IsWorld (sym (left here)) (world here); home = c.self.invariant.home; numbering = c.self.invariant.numbering }
 
 pub returns-clause-run : goal.returns-clause-run
 returns-clause-run c =
@@ -56,4 +68,4 @@ returns-clause-kept c =
 pub returns-clause-seen : goal.returns-clause-seen
 returns-clause-seen c =
     let here : After-begin = (goal.at.returns-clause-seen c).After-begin in
-    ap sight (left here) ∙ works_sight (before here) _ c.args.t (begun_works (before here) c.args.t c.args.work c.self.invariant.world.kept (mutator_is here)) ∙ ap sight c.self.view_is
+    ap sight (left here) ∙ begun_sight (before here) c.args.t c.args.work ∙ ap sight c.self.view_is

@@ -1,22 +1,36 @@
--- A first step that answers nothing leaves all as it was but the work, and the later ones finish it.
-use Rattle.std.proofs.Common.{◌≡◌, None, sym, ◌∙◌}
+-- A step that answers nothing leaves all as it was but the work, and the next one follows.
+use Rattle.std.proofs.Common.{◌≡◌, None, false, refl, sym, ap, ◌∙◌}
+use Rattle.std.specs.Option.{is_none}
 use Rattle.rec_mutator.specs.Private.{answer_of}
-use Rattle.rec_world.specs.World.{State, mutator, IsFinished}
-use Rattle.rec_world.proofs.Commands.{works_both, waited}
+use Rattle.rec_world.specs.Config.{IsMutator}
+use Rattle.rec_world.specs.Core.{Core, mutator}
+use Rattle.rec_world.specs.CoreKept.{IsKept}
+use Rattle.rec_world.specs.Worked.{StepsTo}
+use Rattle.rec_world.proofs.Calls.{world_kept}
+use Rattle.rec_world.proofs.Commands.{waits_none, waited, waits_marked, nearer, mutator_there}
 use Rattle.rec_world.proofs.world.World.finish.Goals as goal
 
-pub returns-in-None-clause-finished : goal.returns-in-None-clause-finished
-returns-in-None-clause-finished c =
-    let w : State = c.args.self.now in
-    let first : State = c.step.new.self in
-    let none : answer_of (mutator first c.args.t) ≡ None = sym c.step.ensures.answer ∙ c.in-None.is in
-    let later : IsFinished first c.args.t c.go_on.result c.go_on.new.self = c.go_on.ensures.finished in
+pub loop-made-init : goal.loop-made-init
+loop-made-init c = record { path = StepsTo.here c.args.self.now refl; waits = waits_none c.args.self.now c.args.t c.requires.begun; work = refl; busy = c.requires.busy; world = c.requires.world }
+
+pub loop-made-preserved : goal.loop-made-preserved
+loop-made-preserved c =
+    let before : Core = c.args.self.now in
+    let w : Core = c.loop-made.self in
+    let is : IsMutator w.config c.args.t = mutator_there before w c.args.t c.loop-made.invariant.waits c.requires.mutator in
+    let kept : IsKept w = world_kept w c.loop-made.invariant.world (waits_marked before w c.args.t c.loop-made.invariant.waits ∙ c.requires.unmarked) in
+    let none : answer_of (mutator c.step.new.self c.args.t) ≡ None = sym c.step.ensures.answer ∙ c.in_default.is in
     record {
-      last = later.last;
-      waits = works_both w first later.last c.args.t (waited w first c.args.t c.requires.world.kept c.requires.unmarked c.requires.mutator c.requires.busy c.step.ensures.stepped none) later.waits;
-      busy = later.busy;
-      work = later.work ∙ c.step.ensures.work;
-      world = later.world;
-      steps = later.steps;
-      answer = later.answer;
+      path = StepsTo.further w c.step.new.self c.loop-made.invariant.path c.loop-made.invariant.busy c.step.ensures.stepped;
+      waits = waited before w c.step.new.self c.args.t kept is c.loop-made.invariant.busy c.loop-made.invariant.waits c.step.ensures.stepped none;
+      work = c.step.ensures.work ∙ c.loop-made.invariant.work;
+      busy = c.step.ensures.busy ∙ ap is_none c.in_default.is;
+      world = c.step.ensures.kept;
     }
+
+pub loop-made-smaller : goal.loop-made-smaller
+loop-made-smaller c =
+    let before : Core = c.args.self.now in
+    let w : Core = c.loop-made.self in
+    nearer before w c.step.new.self c.args.t (world_kept w c.loop-made.invariant.world (waits_marked before w c.args.t c.loop-made.invariant.waits ∙ c.requires.unmarked))
+    (mutator_there before w c.args.t c.loop-made.invariant.waits c.requires.mutator) c.loop-made.invariant.busy c.loop-made.invariant.waits c.step.ensures.stepped

@@ -1,35 +1,47 @@
 -- The last step of the poll says all.
-use Rattle.std.proofs.Common.{◌≡◌, sym, subst, ◌∙◌}
-use Rattle.rec_world.specs.World.{mutator, IsKept}
-use Rattle.rec_world.proofs.Commands.{IsPolled, poll_said, poll_answers, works_sight}
+use Rattle.std.proofs.Common.{◌≡◌, false, sym, ap, subst, ◌∙◌}
+use Rattle.rec_world.specs.Core.{Core, mutator}
+use Rattle.rec_world.specs.World.{HasFound, IsWorld}
+use Rattle.rec_world.proofs.Calls.{world_kept, finished_kept, begun_found, worked}
+use Rattle.rec_world.proofs.Commands.{IsPolled, poll_said, poll_answers}
 use Rattle.rec_world.proofs.world.World.poll.Goals as goal
 use Rattle.rec_world.proofs.world.World.poll.Goals.{In-Crossed}
 
 -- what is said of the poll
-said : (c : In-Crossed) → IsPolled c.args.self.now c.args.t c.in-Crossed.epoch c.finish.new.self
+said : (c : In-Crossed) → IsPolled c.args.self.now c.finish.new.self c.args.t c.in-Crossed.epoch
 said c =
-    poll_said c.args.self.now c.begin.new.self c.finish.new.self c.args.t c.in-Crossed.epoch (subst IsKept c.self.view_is c.self.invariant.world.kept)
-    c.requires.unmarked c.requires.mutator c.begin.ensures.begun c.begin.ensures.work c.in-Crossed.ensures.finished
+    poll_said c.args.self.now c.begin.new.self c.finish.new.self c.args.t c.in-Crossed.epoch (world_kept c.args.self.now (subst IsWorld c.self.view_is c.self.invariant.world) c.requires.unmarked)
+    c.requires.mutator c.begin.ensures.begun c.begin.ensures.work c.in-Crossed.ensures.finished
+    (finished_kept c.args.self.now c.begin.new.self c.finish.new.self c.args.t _ _ c.requires.unmarked c.begin.ensures.begun c.in-Crossed.ensures.finished)
 
--- the epoch word is the mutator's epoch
-same : (c : In-Crossed) → c.args.self.now.epoch ≡ (mutator c.args.self.now c.args.t).epoch
-same c =
-    let kept : IsKept c.args.self.now = subst IsKept c.self.view_is c.self.invariant.world.kept in
-    kept.epoch ∙ sym (kept.own c.args.t c.requires.mutator).epoch
+pub finish-requires-clause-begun : goal.finish-requires-clause-begun
+finish-requires-clause-begun c =
+    subst (λ (x : Core). HasFound x (mutator x c.args.t).phase) (sym c.begin.ensures.begun)
+    (begun_found c.args.self.now c.args.t _ (world_kept c.args.self.now (subst IsWorld c.self.view_is c.self.invariant.world) c.requires.unmarked) c.requires.mutator)
 
 pub unreachable-requires : goal.unreachable-requires
 unreachable-requires c =
-    poll_answers c.args.self.now c.begin.new.self c.finish.new.self c.args.t c.in-Answered.field-0 (subst IsKept c.self.view_is c.self.invariant.world.kept)
-    c.requires.unmarked c.requires.mutator c.begin.ensures.begun c.begin.ensures.work c.in-Answered.ensures.finished
+    poll_answers c.args.self.now c.begin.new.self c.finish.new.self c.args.t c.in-Answered.field-0 (world_kept c.args.self.now (subst IsWorld c.self.view_is c.self.invariant.world) c.requires.unmarked)
+    c.requires.mutator c.begin.ensures.begun c.begin.ensures.work c.in-Answered.ensures.finished
+    (finished_kept c.args.self.now c.begin.new.self c.finish.new.self c.args.t _ _ c.requires.unmarked c.begin.ensures.begun c.in-Answered.ensures.finished)
+
+pub returns-clause-worked : goal.returns-clause-worked
+returns-clause-worked c = worked c.args.self.now c.begin.new.self c.finish.new.self c.args.t _ _ c.begin.ensures.begun c.in-Crossed.ensures.finished (said c).idle
+
+pub returns-clause-answer : goal.returns-clause-answer
+returns-clause-answer c = c.in-Crossed.ensures.finished.answer
 
 pub returns-clause-none : goal.returns-clause-none
-returns-clause-none c = (λ _. same c, λ _. (said c).none)
+returns-clause-none c = (said c).none
 
-pub returns-clause-stays : goal.returns-clause-stays
-returns-clause-stays c = (said c).none
+pub returns-clause-some : goal.returns-clause-some
+returns-clause-some c = (said c).some
 
-pub returns-clause-others : goal.returns-clause-others
-returns-clause-others c = (said c).only
+pub returns-clause-crossed : goal.returns-clause-crossed
+returns-clause-crossed c = (said c).crossed_into
 
-pub returns-clause-seen : goal.returns-clause-seen
-returns-clause-seen c = works_sight c.args.self.now c.finish.new.self c.args.t (said c).only
+pub returns-clause-quiet : goal.returns-clause-quiet
+returns-clause-quiet c = (said c).quiet
+
+pub returns-clause-idle : goal.returns-clause-idle
+returns-clause-idle c = (said c).idle

@@ -1,129 +1,165 @@
--- The machine names an operation, the memory carries it out, the machine learns: the state is that of the definitions.
-use Rattle.std.proofs.Common.{◌≡◌, ◌-◌, ◌+◌, List, true, false, length, slice_index_or, slice_set, arith, sym, ap, subst, ◌∙◌}
-use Rattle.std.proofs.lemmas.List.{get_or_default, length-set}
+-- The machine names an operation, the memory carries it out, the machine learns: the core is that of the definitions.
+use Rattle.std.proofs.Common.{◌≡◌, ◌-◌, ◌+◌, ◌<◌, ◌≤◌, ◌^◌, true, false, map, length, slice_index_or, slice_set, arith, refl, sym, ap, subst, ◌∙◌}
+use Rattle.std.specs.Option.{is_none, is_some, IfSome}
 use Rattle.rec_mutator.specs.Next.{next_of}
-use Rattle.rec_mutator.specs.Private.{Private, is_busy, answer_of}
-use Rattle.rec_mutator.specs.Took.{IsFound, IsBetween}
-use Rattle.rec_mutator.proofs.Steps.{none_between}
-use Rattle.rec_world.specs.Config.{IsMutator}
-use Rattle.rec_world.specs.Inside.{state}
-use Rattle.rec_world.specs.Memory.{IsWithin, cell}
-use Rattle.rec_world.specs.Run.{EndsRun, stepped}
-use Rattle.rec_world.specs.State.{cells_of, nobody}
-use Rattle.rec_world.specs.World.{State, mutator, IsShown, IsWorld}
-use Rattle.rec_world.proofs.Calls.{mutator_back, busy_back, unmarked_back, mutator_read, next_within, stepped_is, stepped_world, world_run}
-use Rattle.rec_world.proofs.Commands.{step_says, step_shown, steps_counted}
-use Rattle.rec_world.proofs.Finding.{next_found}
-use Rattle.rec_world.proofs.Kept.{own_here}
+use Rattle.rec_mutator.specs.Private.{Private, is_busy, work_of, answer_of, limit_of}
+use Rattle.rec_mutator.specs.Took.{IsFound, IsBetween, IsSwapping, spare, took_of}
+use Rattle.rec_world.specs.Core.{Core, cells_of, mutator, box}
+use Rattle.rec_world.specs.CoreMet.{MayStep}
+use Rattle.rec_world.specs.CoreMoves.{Move, EndsRun, stepped, found_by}
+use Rattle.rec_world.specs.CoreShown.{IsShown}
+use Rattle.rec_world.specs.Inside.{core}
+use Rattle.rec_world.specs.Mailbox.{held}
+use Rattle.rec_world.specs.Memory.{IsWithin, cell, births_of}
+use Rattle.rec_world.specs.World.{IsWorld}
+use Rattle.rec_world.proofs.Calls.{Ready, ready, mutator_read, box_read, box_home, home_again, machine_left, stepped_is, moved_world, world_run, made_small, births_few}
+use Rattle.rec_world.proofs.Commands.{work_stays, step_busy, steps_counted, steps_limited}
+use Rattle.rec_world.proofs.CoreRuns.{move_kept}
+use Rattle.rec_world.proofs.CoreShowing.{step_shown}
+use Rattle.rec_world.proofs.CoreWords.{may_step}
 use Rattle.rec_world.proofs.world.World.step.Goals as goal
-use Rattle.rec_world.proofs.world.World.step.Goals.{After-next-op, After-index_mut, After-answer}
+use Rattle.rec_world.proofs.world.World.step.Goals.{After-index_mut-machine, After-answer}
 
--- the state before
-abbrev before : After-next-op → State
-before c = state c.self.inside
+-- what is known as the machine is asked
+begins : (c : After-index_mut-machine) → Ready c.self.inside c.args.t
+begins c = ready c.self.inside c.args.self.now c.args.t c.self.invariant c.self.view_is c.requires.mutator c.requires.unmarked
 
--- its mutator
-mutator_is : (c : After-next-op) → IsMutator (before c).config c.args.t
-mutator_is c = subst (λ (s : State). IsMutator s.config c.args.t) (sym c.self.view_is) c.requires.mutator
-
-busy : (c : After-next-op) → is_busy (mutator (before c) c.args.t) ≡ true
-busy c = subst (λ (s : State). is_busy (mutator s c.args.t) ≡ true) (sym c.self.view_is) c.requires.busy
+may : (c : After-index_mut-machine) → MayStep (core c.self.inside) c.args.t
+may c = may_step (core c.self.inside) c.args.t (begins c).kept (begins c).is (ap (λ (s : Core). is_busy (mutator s c.args.t)) c.self.view_is ∙ c.requires.busy)
 
 -- the machine that was asked
-asked : (c : After-next-op) → c.index.result.now ≡ mutator (before c) c.args.t
-asked c = mutator_read (before c) c.args.t c.from-index.result c.index.result.now c.self.invariant.world.kept (mutator_is c) c.from-index.ensures c.index.ensures
-
--- the operation that it named
-named : (c : After-next-op) → c.next-op.result ≡ next_of (mutator (before c) c.args.t)
-named c = c.next-op.ensures ∙ ap next_of (asked c)
+asked : (c : After-index_mut-machine) → c.index_mut-machine.result.now ≡ mutator (core c.self.inside) c.args.t
+asked c = mutator_read (core c.self.inside) c.args.t c.from-index.result c.index_mut-machine.result.now c.self.invariant.world.shaped (begins c).is c.from-index.ensures c.index_mut-machine.ensures.value
 
 pub perform-found-requires : goal.perform-found-requires
 perform-found-requires c =
-    let here : After-next-op = (goal.at.perform-found-requires c).After-next-op in
-    subst (IsWithin (cells_of (before here))) (sym (named here)) (next_within (before here) c.args.t c.self.invariant.world.kept (mutator_is here) (busy here))
-
-pub took-requires-clause-found : goal.took-requires-clause-found
-took-requires-clause-found c =
-    let here : After-next-op = (goal.at.took-requires-clause-found c).After-next-op in
-    let again : c.index_mut.result.now ≡ mutator (before here) c.args.t
-    = mutator_read (before here) c.args.t c.from-index.result c.index_mut.result.now c.self.invariant.world.kept (mutator_is here) c.from-index.ensures c.index_mut.ensures.value in
-    let found : c.perform-found.result ≡ cell (cells_of (before here)) (next_of (mutator (before here) c.args.t)) = c.perform-found.ensures.found ∙ ap (cell (cells_of (before here))) (named here) in
-    subst (λ (p : Private). IsFound p (next_of p) c.perform-found.result) (sym again)
-    (subst (IsFound (mutator (before here) c.args.t) (next_of (mutator (before here) c.args.t))) (sym found) (next_found (before here) c.args.t c.self.invariant.world.kept (mutator_is here)))
+    let here : After-index_mut-machine = (goal.at.perform-found-requires c).After-index_mut-machine in
+    subst (IsWithin (cells_of (core c.self.inside))) (sym (c.next-op.ensures ∙ ap next_of (asked here))) (may here).within
 
 pub took-requires-clause-between : goal.took-requires-clause-between
 took-requires-clause-between c =
-    let here : After-next-op = (goal.at.took-requires-clause-between c).After-next-op in
-    let again : c.index_mut.result.now ≡ mutator (before here) c.args.t
-    = mutator_read (before here) c.args.t c.from-index.result c.index_mut.result.now c.self.invariant.world.kept (mutator_is here) c.from-index.ensures c.index_mut.ensures.value in
-    subst (λ (p : Private). IsBetween p.phase) (sym again) (none_between (mutator (before here) c.args.t).phase (own_here (before here) c.args.t c.self.invariant.world.kept (mutator_is here)).0)
+    let here : After-index_mut-machine = (goal.at.took-requires-clause-between c).After-index_mut-machine in
+    subst (λ (p : Private). IsBetween p.phase) (sym (asked here)) (may here).between
 
--- the state before the step
-abbrev first : After-answer → State
-first c = state c.self.inside
+pub took-requires-clause-found : goal.took-requires-clause-found
+took-requires-clause-found c =
+    let here : After-index_mut-machine = (goal.at.took-requires-clause-found c).After-index_mut-machine in
+    let w : Core = core c.self.inside in
+    let found : c.perform-found.result ≡ found_by w c.args.t = c.perform-found.ensures.found ∙ ap (cell (cells_of w)) (c.next-op.ensures ∙ ap next_of (asked here)) in
+    subst (λ (p : Private). IsFound p (next_of p) c.perform-found.result) (sym (asked here)) (subst (IsFound (mutator w c.args.t) (next_of (mutator w c.args.t))) (sym found) (may here).found)
 
-its_mutator : (c : After-answer) → IsMutator (first c).config c.args.t
-its_mutator c = mutator_back (first c) c.args.self.now c.args.t c.self.view_is c.requires.mutator
+pub index_mut-requires : goal.index_mut-requires
+index_mut-requires c =
+    let there : c.args.t - 1 < length c.self.inside.boxes.items = (begins (goal.at.index_mut-requires c).After-index_mut-machine).boxed in
+    omega (arith, there, c.from-index.ensures)
 
-was_busy : (c : After-answer) → is_busy (mutator (first c) c.args.t) ≡ true
-was_busy c = busy_back (first c) c.args.self.now c.args.t true c.self.view_is c.requires.busy
+pub swap_own-requires-clause-home : goal.swap_own-requires-clause-home
+swap_own-requires-clause-home c =
+    let there : c.args.t - 1 < length c.self.inside.boxes.items = (begins (goal.at.swap_own-requires-clause-home c).After-index_mut-machine).boxed in
+    box_home c.self.inside.boxes.items (c.from-index.result - 1) c.index_mut.result.now c.self.invariant.home (subst (λ n. n - 1 < length c.self.inside.boxes.items) (sym c.from-index.ensures) there) c.index_mut.ensures.value
 
-was_unmarked : (c : After-answer) → (first c).marked ≡ false
-was_unmarked c = unmarked_back (first c) c.args.self.now c.self.view_is c.requires.unmarked
+pub swap_own-requires-clause-spare : goal.swap_own-requires-clause-spare
+swap_own-requires-clause-spare c =
+    let here : After-index_mut-machine = (goal.at.swap_own-requires-clause-spare c).After-index_mut-machine in
+    let w : Core = core c.self.inside in
+    let found : c.perform-found.result ≡ found_by w c.args.t = c.perform-found.ensures.found ∙ ap (cell (cells_of w)) (c.next-op.ensures ∙ ap next_of (asked here)) in
+    let learnt : c.took.new.self ≡ took_of (mutator w c.args.t) (found_by w c.args.t) = c.took.ensures.took ∙ ap (λ p. took_of p c.perform-found.result) (asked here) ∙ ap (took_of (mutator w c.args.t)) found in
+    λ swaps.
+    box_read c.self.inside.boxes.items c.args.t c.from-index.result c.index_mut.result.now c.from-index.ensures (begins here).boxed c.index_mut.ensures.value
+    ∙ (may here).spare (subst (λ (p : Private). IsSwapping p.phase) learnt swaps) ∙ ap spare (sym learnt)
 
--- the state that is left
-abbrev after : After-answer → State
+pub overflow_add-self : goal.overflow_add-self
+overflow_add-self c =
+    let few : c.self.inside.made + 1 < 2 ^ 64 = made_small (core c.self.inside) (begins (goal.at.overflow_add-self c).After-index_mut-machine).kept in
+    let one : births_of c.next-op.result c.perform-found.result ≤ 1 = births_few c.next-op.result c.perform-found.result in
+    omega (arith, few, one, c.births.ensures)
+
+-- what is known as the step ends
+ends : (c : After-answer) → Ready c.self.inside c.args.t
+ends c = ready c.self.inside c.args.self.now c.args.t c.self.invariant c.self.view_is c.requires.mutator c.requires.unmarked
+
+was_busy : (c : After-answer) → is_busy (mutator (core c.self.inside) c.args.t) ≡ true
+was_busy c = ap (λ (s : Core). is_busy (mutator s c.args.t)) c.self.view_is ∙ c.requires.busy
+
+-- the core that is left
+abbrev after : After-answer → Core
 after c =
-    record (first c) {
+    record (core c.self.inside) {
       headers = c.perform-found.new.self.headers;
       words = c.perform-found.new.self.words;
       epoch = c.perform-found.new.self.epoch;
       freed = c.perform-found.new.self.freed;
       crossing = c.perform-found.new.self.crossing;
-      mutators = slice_set (first c).mutators (c.from-index.result - 1) c.took.new.self;
-      made = (first c).made + c.births.result;
+      mutators = slice_set c.self.inside.machines.items (c.from-index.result - 1) c.swap_own.new.machine;
+      boxes = map held (slice_set c.self.inside.boxes.items (c.from-index.result - 1) c.swap_own.new.mailbox);
+      made = c.self.inside.made + c.births.result;
     }
 
 -- it is the one of the definitions
-left : (c : After-answer) → after c ≡ stepped (first c) c.args.t
+left : (c : After-answer) → after c ≡ stepped (core c.self.inside) c.args.t
 left c =
-    stepped_is (first c) c.args.t c.from-index.result c.next-op.result c.perform-found.result c.births.result c.index.result.now c.index_mut.result.now c.took.new.self c.perform-found.new.self
-    c.self.invariant.world.kept (its_mutator c) c.from-index.ensures c.index.ensures c.index_mut.ensures.value c.next-op.ensures c.perform-found.ensures.found c.perform-found.ensures.left c.took.ensures.took c.births.ensures
+    stepped_is (core c.self.inside) c.args.t c.from-index.result c.self.inside.boxes.items c.next-op.result c.perform-found.result c.births.result c.index_mut-machine.result.now c.index_mut-machine.result.now c.index_mut.result.now c.swap_own.new.mailbox
+    c.took.new.self c.swap_own.new.machine c.perform-found.new.self c.self.invariant.world.shaped (ends c).is refl (ends c).boxed c.from-index.ensures c.index_mut-machine.ensures.value c.index_mut-machine.ensures.value c.index_mut.ensures.value
+    c.next-op.ensures c.perform-found.ensures.found c.perform-found.ensures.left c.took.ensures.took c.swap_own.ensures.machine c.swap_own.ensures.mailbox c.births.ensures
 
--- it is a heap
-world : (c : After-answer) → IsWorld (stepped (first c) c.args.t)
-world c = stepped_world (first c) c.args.t c.self.invariant.world (was_unmarked c) (its_mutator c, was_busy c)
+world : (c : After-answer) → IsWorld (after c)
+world c = subst IsWorld (sym (left c)) (moved_world (core c.self.inside) (Move.Steps c.args.t) c.self.invariant.world (ends c).unmarked ((ends c).is, was_busy c))
 
 pub invariant_of-self : goal.invariant_of-self
-invariant_of-self c = record { world = subst IsWorld (sym (left c)) (world c); numbering = c.self.invariant.numbering }
+invariant_of-self c =
+    record { world = world (goal.at.invariant_of-self c).After-answer; home = home_again c.self.inside.boxes.items (c.from-index.result - 1) c.swap_own.new.mailbox (ap is_some c.swap_own.ensures.mailbox) c.self.invariant.home; numbering = c.self.invariant.numbering }
 
-pub returns-clause-run : goal.returns-clause-run
-returns-clause-run c = subst EndsRun (sym (left c)) (world_run _ (world c) (was_unmarked c))
-
-pub returns-clause-kept : goal.returns-clause-kept
-returns-clause-kept c = subst IsWorld (sym (left c)) (world c)
+pub returns-clause-stepped : goal.returns-clause-stepped
+returns-clause-stepped c = left (goal.at.returns-clause-stepped c).After-answer ∙ ap (λ (s : Core). stepped s c.args.t) c.self.view_is
 
 -- what the machine answers
-answered : (c : After-answer) → c.answer.result ≡ answer_of (mutator (stepped (first c) c.args.t) c.args.t)
+answered : (c : After-answer) → c.answer.result ≡ answer_of (mutator (stepped (core c.self.inside) c.args.t) c.args.t)
 answered c =
-    let all : length (first c).mutators ≡ (first c).config.mutators = c.self.invariant.world.kept.mutators in
-    let number : c.from-index.result ≡ c.args.t = c.from-index.ensures in
-    let there : IsMutator (first c).config c.args.t = its_mutator c in
-    let ms : List Private = slice_set (first c).mutators (c.from-index.result - 1) c.took.new.self in
-    let long : length ms ≡ length (first c).mutators = length-set (first c).mutators (c.from-index.result - 1) c.took.new.self in
-    c.answer.ensures.answer ∙ ap answer_of (c.index-2.ensures ∙ get_or_default ms (c.from-index.result - 1) c.index-2.result.now nobody (omega (arith, there.0, there.1)) ∙ ap (λ n. slice_index_or ms (n - 1) nobody) number)
-    ∙ ap (λ (s : State). answer_of (mutator s c.args.t)) (left c)
+    c.answer.ensures.answer
+    ∙ ap answer_of (sym (machine_left (core c.self.inside) c.args.t c.from-index.result c.swap_own.new.machine (ends c).kept (ends c).is c.from-index.ensures) ∙ ap (λ (s : Core). mutator s c.args.t) (left c))
+
+pub returns-clause-answer : goal.returns-clause-answer
+returns-clause-answer c =
+    let at : After-answer = (goal.at.returns-clause-answer c).After-answer in
+    answered at ∙ ap (λ (s : Core). answer_of (mutator s c.args.t)) (sym (left at))
+
+pub returns-clause-busy : goal.returns-clause-busy
+returns-clause-busy c =
+    let at : After-answer = (goal.at.returns-clause-busy c).After-answer in
+    let w : Core = core c.self.inside in
+    ap (λ (s : Core). is_busy (mutator s c.args.t)) (left at) ∙ step_busy w c.args.t (ends at).kept (ends at).is (was_busy at) ∙ ap is_none (sym (answered at))
 
 pub returns-clause-shown : goal.returns-clause-shown
 returns-clause-shown c =
-    let w : State = first c in
-    let says = step_says w c.args.t c.self.invariant.world.kept (was_unmarked c) (its_mutator c) (was_busy c) in
-    let shown : IsShown w c.args.t (answer_of (mutator (stepped w c.args.t) c.args.t)) (stepped w c.args.t) = step_shown w c.args.t c.self.invariant.world.kept (its_mutator c) (was_busy c) says in
-    subst (λ (s : State). IsShown s c.args.t c.answer.result (after c)) c.self.view_is
-    (subst (λ (s : State). IsShown w c.args.t c.answer.result s) (sym (left c))
-    (subst (λ x. IsShown w c.args.t x (stepped w c.args.t)) (sym (answered c)) shown))
+    let at : After-answer = (goal.at.returns-clause-shown c).After-answer in
+    let w : Core = core c.self.inside in
+    subst (λ (s : Core). IsShown s c.args.t c.answer.result (after at)) c.self.view_is
+    (subst (λ (s : Core). IsShown w c.args.t c.answer.result s) (sym (left at))
+    (subst (λ x. IsShown w c.args.t x (stepped w c.args.t)) (sym (answered at)) (step_shown w c.args.t (ends at).kept (ends at).is (was_busy at))))
+
+pub returns-clause-work : goal.returns-clause-work
+returns-clause-work c =
+    let at : After-answer = (goal.at.returns-clause-work c).After-answer in
+    let w : Core = core c.self.inside in
+    ap (λ (s : Core). work_of (mutator s c.args.t)) (left at) ∙ work_stays w c.args.t (ends at).kept (ends at).is (was_busy at) ∙ ap (λ (s : Core). work_of (mutator s c.args.t)) c.self.view_is
 
 pub returns-clause-steps : goal.returns-clause-steps
 returns-clause-steps c =
-    let w : State = first c in
-    ap (λ (s : State). (mutator s c.args.t).steps) (left c) ∙ steps_counted w c.args.t c.self.invariant.world.kept (its_mutator c) (was_busy c) ∙ ap (λ (s : State). (mutator s c.args.t).steps + 1) c.self.view_is
+    let at : After-answer = (goal.at.returns-clause-steps c).After-answer in
+    let w : Core = core c.self.inside in
+    ap (λ (s : Core). (mutator s c.args.t).steps) (left at) ∙ steps_counted w c.args.t (ends at).kept (ends at).is (was_busy at) ∙ ap (λ (s : Core). (mutator s c.args.t).steps + 1) c.self.view_is
+
+pub returns-clause-limit : goal.returns-clause-limit
+returns-clause-limit c =
+    let at : After-answer = (goal.at.returns-clause-limit c).After-answer in
+    let w : Core = core c.self.inside in
+    let P : Core → Type 0 = λ s. IfSome (work_of (mutator s c.args.t)) (λ work. (mutator s c.args.t).steps ≤ limit_of s.config.slots work) in
+    subst P (sym (left at)) (steps_limited (stepped w c.args.t) c.args.t (move_kept w (Move.Steps c.args.t) (ends at).kept ((ends at).is, was_busy at)) (ends at).is)
+
+pub returns-clause-run : goal.returns-clause-run
+returns-clause-run c =
+    let at : After-answer = (goal.at.returns-clause-run c).After-answer in
+    world_run (after at) (world at) (ends at).unmarked
+
+pub returns-clause-kept : goal.returns-clause-kept
+returns-clause-kept c = world (goal.at.returns-clause-kept c).After-answer

@@ -1,12 +1,15 @@
--- The steps so far left all as it was but the work, and a work ends in time.
+-- The steps so far finished nothing, and a work ends in time.
 use Rattle.std.proofs.Common.{◌≡◌, ◌+◌, ◌-◌, true}
 use Rattle.rec_mutator.specs.Private.{is_busy, work_of}
-use Rattle.rec_world.specs.World.{mutator, IsWorld, OnlyWorks}
-use Rattle.rec_world.proofs.world.World.go_on.Given as goal
+use Rattle.rec_world.specs.Core.{mutator}
+use Rattle.rec_world.specs.World.{IsWorld, Waits}
+use Rattle.rec_world.specs.Worked.{StepsTo}
+use Rattle.rec_world.proofs.world.World.finish.Given as goal
 
 abbrev pub invariant-loop-made : goal.invariant-loop-made
 invariant-loop-made l = record {
-  waits : OnlyWorks l.fn.self l.self l.t;
+  path : StepsTo l.fn.self l.t l.self;
+  waits : Waits l.fn.self l.self l.t;
   work : work_of (mutator l.self l.t) ≡ work_of (mutator l.fn.self l.t);
   busy : is_busy (mutator l.self l.t) ≡ true;
   world : IsWorld l.self;

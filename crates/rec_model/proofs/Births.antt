@@ -1,0 +1,33 @@
+-- A birth adds one object.
+use Rattle.std.proofs.Common.{◌≡◌, ℕ, ◌+◌, Option, None, Some, Bool, true, false, if◌then◌else◌, ◌&&◌, length, arith}
+use Rattle.std.proofs.lemmas.List.{length_push, length-set}
+use Rattle.rec_model.specs.declared.command.Cmd.{Cmd}
+use Rattle.rec_model.specs.declared.command.Cmd.TheVariants as commands
+use Rattle.rec_model.specs.declared.told.Told.{Told}
+use Rattle.rec_model.specs.Heap.{Heap, Object, register, born}
+use Rattle.rec_model.specs.Asking.{asked, asks, is_done, got, put}
+use Rattle.rec_model.specs.LegalOrder.{is_new, is_birth}
+
+-- a read, a write and the others make none
+got_births : (heap : Heap) (t dst f : ℕ) (x : Option ℕ) → length (got heap t dst f x).heap.objects ≡ length heap.objects + 0
+got_births heap t dst f None = omega arith
+got_births heap t dst f (Some n) = omega arith
+
+put_births : (heap : Heap) (f : ℕ) (val : Option ℕ) (made : Bool) (left : ℕ) (x : Option ℕ) → length (put heap f val made left x).heap.objects ≡ length heap.objects + 0
+put_births heap f val made left None = omega arith
+put_births heap f val true left (Some n) = omega (arith, length-set {A = Object})
+put_births heap f val false left (Some n) = omega arith
+
+births_at : (fields : ℕ) (heap : Heap) (t : ℕ) (cmd : Cmd) (made : Bool) (left : ℕ)
+    → length (asks fields heap t cmd made left).heap.objects ≡ length heap.objects + (if is_new cmd && made then 1 else 0)
+births_at fields heap t (commands.New reg label) true left = length_push heap.objects (born fields label)
+births_at fields heap t (commands.New reg label) false left = omega arith
+births_at fields heap t (commands.Null reg) made left = omega arith
+births_at fields heap t (commands.Copy dst src) made left = omega arith
+births_at fields heap t (commands.Get dst src f) made left = got_births heap t dst f (register heap.registers t src)
+births_at fields heap t (commands.Put src f val) made left = put_births heap f (register heap.registers t val) made left (register heap.registers t src)
+births_at fields heap t (commands.Value reg) made left = omega arith
+births_at fields heap t (commands.Same a b) made left = omega arith
+
+pub births : (fields : ℕ) (heap : Heap) (t : ℕ) (cmd : Cmd) (told : Told) → length (asked fields heap t cmd told).heap.objects ≡ length heap.objects + (if is_birth (cmd, told) then 1 else 0)
+births fields heap t cmd told = births_at fields heap t cmd (is_done told.answer) told.left

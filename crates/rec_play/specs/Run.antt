@@ -1,0 +1,66 @@
+-- The played run: what each turn makes of the world, and what it tells.
+use Rattle.std.specs.Prelude.{◌≡◌, ◌≢◌, ℕ, zero, suc, ◌<◌, ◌≤◌, Option, Some, List, [], ◌∷◌, ◌++◌, length, slice_index_or}
+use Rattle.std.specs.List.{slice_get, filter_map}
+use Rattle.rec_word.specs.Op.{crossing_word}
+use Rattle.rec_word.specs.declared.op.Op.{Op}
+use Rattle.rec_word.specs.declared.op.Op.TheVariants.{FreeHeader, AddFreed}
+use Rattle.rec_model.specs.declared.command.Cmd.{Cmd}
+use Rattle.rec_model.specs.declared.told.Told.{Told}
+use Rattle.rec_model.specs.LegalOrder.{Event, line_by}
+use Rattle.rec_model.specs.LegalOrder.Event.{Answers, Frees, Marks}
+use Rattle.rec_mutator.specs.Private.{answer_of}
+use Rattle.rec_mutator.specs.declared.made.Made.TheVariants as makes
+use Rattle.rec_mutator.specs.declared.work.Work.TheVariants as works
+use Rattle.rec_collector.specs.Next.{next_of}
+use Rattle.rec_collector.specs.declared.phase.Phase.TheVariants.{Looking}
+use Rattle.rec_world.specs.Core.{Core, mutator, crossing_of, opened}
+use Rattle.rec_world.specs.CoreMoves.{turned}
+use Rattle.rec_world.specs.Worked.{IsWorked}
+use Rattle.rec_script.specs.Script.{Contents}
+use Rattle.rec_play.specs.declared.actor.Actor.{Actor}
+use Rattle.rec_play.specs.declared.actor.Actor.TheVariants.{Mutator, Collector}
+use Rattle.rec_play.specs.Numbers.{config_of}
+
+-- the commands of a mutator, numbered from 1
+abbrev pub commands_of : Contents → ℕ → List Cmd
+commands_of script zero = []
+commands_of script (suc i) = slice_index_or script.commands i []
+
+-- how many commands of each mutator were answered
+abbrev pub made_in : List Event → ℕ → ℕ
+made_in events t = length (filter_map (line_by t) events)
+
+-- A mutator's turn after these events: it polls, makes its next command, and is told this.
+pub record IsTurnOf (script : Contents) (events : List Event) (t : ℕ) (cmd : Cmd) (told : Told) (before after : Core) : Type 0 where
+  pub next : slice_get (commands_of script t) (made_in events t) ≡ Some cmd
+  pub polled : Core
+  pub poll : IsWorked before t works.Poll polled
+  pub command : IsWorked polled t (works.Command cmd) after
+  pub answer : answer_of (mutator after t) ≡ Some (makes.Answered told)
+
+-- the collector waits for a mutator that hasn't crossed into the requested epoch
+pub record WaitsFor (w : Core) (t : ℕ) : Type 0 where
+  pub looks : w.collector.phase ≡ Looking t
+  pub behind : crossing_of w t ≢ crossing_word w.epoch 2
+
+-- what a turn of the collector tells, by its operation: that a sweep began or ended, or that an object was freed, or nothing
+abbrev pub Tells : Option Op → List Event → Type 0
+Tells (Some AddFreed) told = told ≡ Marks ∷ []
+Tells (Some (FreeHeader slot)) told = (n : ℕ) × (told ≡ Frees n ∷ [])
+Tells _ told = told ≡ []
+
+-- How a turn of the collector ends, after its step, where each mutator has made so many commands. One for which it waited, and
+-- that has no command left, polls: no turn of its own comes in which it could cross. Else nothing follows.
+pub data EndsTurn (script : Contents) (made : ℕ → ℕ) (before stepped after : Core) : Type 0 where
+  polls : (t : ℕ) → WaitsFor before t → length (commands_of script t) ≤ made t → IsWorked stepped t works.Poll after → EndsTurn script made before stepped after
+  rests : ((t : ℕ) → WaitsFor before t → made t < length (commands_of script t)) → after ≡ stepped → EndsTurn script made before stepped after
+
+-- The run of a script by these turns, one after the other from the opening of its heap: what was told, and the world at its end.
+pub data IsPlayedRun (script : Contents) : List Actor → List Event → Core → Type 0 where
+  starts : IsPlayedRun script [] [] (opened (config_of script))
+  turn : (actors : List Actor) (events : List Event) (before after : Core) (t : ℕ) (cmd : Cmd) (told : Told)
+      → IsPlayedRun script actors events before → IsTurnOf script events t cmd told before after
+      → IsPlayedRun script (actors ++ Mutator t ∷ []) (events ++ Answers t (cmd, told) ∷ []) after
+  collects : (actors : List Actor) (events told : List Event) (before after : Core)
+      → IsPlayedRun script actors events before → Tells (next_of before.collector) told → EndsTurn script (made_in events) before (turned before) after
+      → IsPlayedRun script (actors ++ Collector ∷ []) (events ++ told) after

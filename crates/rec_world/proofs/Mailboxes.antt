@@ -1,0 +1,94 @@
+-- A mailbox that is home holds a buffer, and where nobody holds it nothing is swapped.
+use Rattle.std.proofs.Common.{◌≡◌, false, true, Bool, Option, None, Some, refl, sym, ap, ◌∙◌}
+use Rattle.std.specs.Option.{IsSome}
+use Rattle.std.proofs.lemmas.Bool.{false≢true}
+use Rattle.rec_log.specs.declared.contents.Contents.{Contents}
+use Rattle.rec_mutator.specs.Private.{Private}
+use Rattle.rec_mutator.specs.Took.{swapped_of, left_of, left_at, IsSwapping, IsBetween}
+use Rattle.rec_mutator.specs.declared.phase.Phase as phases
+use Rattle.rec_mutator.specs.declared.phase.Phase.TheVariants as at
+use Rattle.rec_mutator.proofs.Steps.{unswapped}
+use Rattle.rec_collector.specs.Given as collector_given
+use Rattle.rec_collector.specs.Private as collectors
+use Rattle.rec_collector.specs.Took as collector_took
+use Rattle.rec_collector.specs.declared.phase.Phase.{Phase}
+use Rattle.rec_collector.specs.declared.phase.Phase.TheVariants.{Idle, Looking, Swapping, Returning, Releasing, Opening, Sweeping, Closing}
+use Rattle.rec_world.specs.Mailbox.{held, gathered_from}
+use Rattle.rec_world.proofs.CoreCrossings.{left_same}
+
+-- a mailbox that is home
+pub held_some : (x : Option Contents) → IsSome x → x ≡ Some (held x)
+held_some (Some b) is = refl
+held_some None is = absurd (false≢true is)
+
+-- a phase in which no mailbox waits
+pub between_if : (phase : phases.Phase) → (IsSwapping phase → ⊥) → IsBetween phase
+between_if at.Idle not = tt
+between_if (at.Begun work) not = tt
+between_if (at.Scanning reg label before slot) not = tt
+between_if (at.Scanned reg label before) not = tt
+between_if at.Crossing not = tt
+between_if at.Swapping not = not tt
+between_if at.Giving not = tt
+between_if (at.Finished work made) not = tt
+
+-- where the mutator holds its mailbox, its log is left there
+pub left_log : (p : Private) (b : Contents) → IsSwapping p.phase → left_of p b ≡ p.log
+unfolding left_of left_at
+left_log p b is = go p.phase is
+  where
+    go : (phase : phases.Phase) → IsSwapping phase → left_at p b phase ≡ p.log
+    go at.Idle is = absurd is
+    go (at.Begun work) is = absurd is
+    go (at.Scanning reg label before slot) is = absurd is
+    go (at.Scanned reg label before) is = absurd is
+    go at.Crossing is = absurd is
+    go at.Swapping is = refl
+    go at.Giving is = absurd is
+    go (at.Finished work made) is = absurd is
+
+-- where it doesn't, both stay
+pub machine_stays : (p : Private) (b : Contents) → (IsSwapping p.phase → ⊥) → p ≡ swapped_of p b
+machine_stays p b not = sym (unswapped p b (between_if p.phase not))
+
+pub mailbox_stays : (p : Private) (x : Option Contents) → IsSome x → (IsSwapping p.phase → ⊥) → x ≡ Some (left_of p (held x))
+mailbox_stays p x home not = held_some x home ∙ ap (λ b. Some b) (sym (left_same p (held x) (between_if p.phase not)))
+
+-- where the collector holds none, it stays
+pub collector_stays : (c : collectors.Private) (b : Contents) → (collector_given.IsSwapping c.phase → ⊥) → c ≡ collector_took.swapped_of c b
+unfolding collector_took.swapped_of collector_took.swapped_at
+collector_stays c b not = go c.phase not
+  where
+    go : (phase : Phase) → (collector_given.IsSwapping phase → ⊥) → c ≡ collector_took.swapped_at c b phase
+    go Idle none = refl
+    go (Looking t) none = refl
+    go (Swapping t) none = absurd (none tt)
+    go (Returning t) none = refl
+    go Releasing none = refl
+    go Opening none = refl
+    go (Sweeping n) none = refl
+    go (Closing n) none = refl
+
+-- what its mailbox holds then, where it holds one and where it doesn't
+pub gathered_spare : (c : collectors.Private) (b : Contents) (phase : Phase) → collector_given.IsSwapping phase → gathered_from c b phase ≡ collectors.spare c
+gathered_spare c b Idle is = absurd is
+gathered_spare c b (Looking t) is = absurd is
+gathered_spare c b (Swapping t) is = refl
+gathered_spare c b (Returning t) is = absurd is
+gathered_spare c b Releasing is = absurd is
+gathered_spare c b Opening is = absurd is
+gathered_spare c b (Sweeping n) is = absurd is
+gathered_spare c b (Closing n) is = absurd is
+
+gathered_same : (c : collectors.Private) (b : Contents) (phase : Phase) → (collector_given.IsSwapping phase → ⊥) → gathered_from c b phase ≡ b
+gathered_same c b Idle none = refl
+gathered_same c b (Looking t) none = refl
+gathered_same c b (Swapping t) none = absurd (none tt)
+gathered_same c b (Returning t) none = refl
+gathered_same c b Releasing none = refl
+gathered_same c b Opening none = refl
+gathered_same c b (Sweeping n) none = refl
+gathered_same c b (Closing n) none = refl
+
+pub gathered_stays : (c : collectors.Private) (x : Option Contents) → IsSome x → (collector_given.IsSwapping c.phase → ⊥) → x ≡ Some (gathered_from c (held x) c.phase)
+gathered_stays c x home not = held_some x home ∙ ap (λ b. Some b) (sym (gathered_same c (held x) c.phase not))

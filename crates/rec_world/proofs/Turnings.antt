@@ -1,0 +1,247 @@
+-- What the fields of a world become in a turn is what the definitions say.
+use Rattle.std.proofs.Common.{◌≡◌, ◌≢◌, ℕ, ◌+◌, ◌-◌, ◌^◌, ◌<◌, ◌≤◌, ◌==◌, if◌then◌else◌, List, [], ◌∷◌, Option, None, Some, Bool, true, false, slice_set, slice_index_or, length, map, refl, sym, ap, subst, ◌∙◌, arith}
+use Rattle.std.proofs.lemmas.Bool.{ne_eqb}
+use Rattle.std.proofs.lemmas.List.{map-set, set-get_or}
+use Rattle.rec_word.specs.Op.{written, crossing_word}
+use Rattle.rec_word.specs.declared.op.Op.{Op}
+use Rattle.rec_word.specs.declared.op.Op.TheVariants as ops
+use Rattle.rec_log.specs.declared.contents.Contents.{Contents}
+use Rattle.rec_release.specs.Release.{Work, op_at as release_op_at, next_of as release_next}
+use Rattle.rec_release.specs.Sweep.{next_of as sweep_next}
+use Rattle.rec_release.specs.declared.at.At.{At}
+use Rattle.rec_collector.specs.Causes.{HasCause}
+use Rattle.rec_collector.specs.Kept.{swept_at, under_way}
+use Rattle.rec_collector.specs.Next.{next_of, next_at, is_spent}
+use Rattle.rec_collector.specs.Private as collectors
+use Rattle.rec_collector.specs.Step.{IsBetween}
+use Rattle.rec_collector.specs.Took.{took_of, took_at, step_of, swapped_of, swapped_at, swept_phase, went_on, went_on_at, swept_next, with_work, dropped, begun, released, returned}
+use Rattle.rec_collector.specs.declared.phase.Phase.{Phase}
+use Rattle.rec_collector.specs.declared.phase.Phase.TheVariants.{Idle, Looking, Swapping, Returning, Releasing, Opening, Sweeping, Closing}
+use Rattle.rec_collector.specs.declared.turn.Turn.{Turn}
+use Rattle.rec_collector.specs.declared.turn.Turn.TheVariants as turns
+use Rattle.rec_world.specs.declared.config.Config.{Config}
+use Rattle.rec_world.specs.Core.{Core, cells_of, box, crossing_of}
+use Rattle.rec_world.specs.CoreKept.{IsKept}
+use Rattle.rec_world.specs.CoreMoves.{looked_at, left_by, collected, turned, turned_at, turned_by}
+use Rattle.rec_world.specs.Mailbox.{held, gathered_from, mailbox_at}
+use Rattle.rec_world.specs.Memory.{Cells, cell, with_cell}
+use Rattle.rec_world.specs.World.{TurnHasCause}
+use Rattle.rec_world.proofs.Calls.{box_read}
+use Rattle.rec_world.proofs.CoreTurning.{some_op}
+use Rattle.rec_world.proofs.CoreTurns.{same_boxes}
+
+-- the operation that comes next takes the mailbox that the collector looks at, by phase
+looks_at_phase : (c : collectors.Private) (op : Op) (phase : Phase) → ◌≡◌ {A = Option Op} (next_at c phase) (Some op) → mailbox_at op ≡ looked_at phase
+unfolding next_at release_next sweep_next
+looks_at_phase c op Idle named = stored (is_spent c) named
+  where
+    stored : (spent : Bool) → ◌≡◌ {A = Option Op} (if spent then None else Some (ops.StoreEpoch (c.epoch + 1))) (Some op) → mailbox_at op ≡ 1
+    stored true none = let not_so : ◌≡◌ {A = Option Op} (Some op) None = sym none in absurd (cc)
+    stored false some = ap mailbox_at (sym (some_op (ops.StoreEpoch (c.epoch + 1)) op some))
+looks_at_phase c op (Looking t) named = ap mailbox_at (sym (some_op (ops.LookBox t c.epoch) op named))
+looks_at_phase c op (Swapping t) named = ap mailbox_at (sym (some_op (ops.ReturnBox t c.epoch) op named))
+looks_at_phase c op (Returning t) named = ap mailbox_at (sym (some_op (ops.ReturnBox t c.epoch) op named))
+looks_at_phase c op Releasing named = go c.release.at named
+  where
+    go : (x : Option At) → ◌≡◌ {A = Option Op} (release_op_at c.release.fields x) (Some op) → mailbox_at op ≡ 1
+    go None none = let not_so : ◌≡◌ {A = Option Op} (Some op) None = sym none in absurd (cc)
+    go (Some a) some = ap mailbox_at (sym (some_op _ op some))
+looks_at_phase c op Opening named = ap mailbox_at (sym (some_op ops.AddFreed op named))
+looks_at_phase c op (Sweeping n) named = go c.due named
+  where
+    go : (x : Option ℕ) → ◌≡◌ {A = Option Op} (sweep_next x) (Some op) → mailbox_at op ≡ 1
+    go None none = let not_so : ◌≡◌ {A = Option Op} (Some op) None = sym none in absurd (cc)
+    go (Some x) some = ap mailbox_at (sym (some_op (ops.FreeHeader x) op some))
+looks_at_phase c op (Closing n) named = ap mailbox_at (sym (some_op ops.AddFreed op named))
+
+pub looks_at : (c : collectors.Private) (op : Op) → ◌≡◌ {A = Option Op} (next_of c) (Some op) → mailbox_at op ≡ looked_at c.phase
+unfolding next_of
+looks_at c op named = looks_at_phase c op c.phase named
+
+-- a release that came so far holds no mailbox
+went_between : (c : collectors.Private) (b : Contents) (w : Work) → gathered_from (went_on c w) b (went_on c w).phase ≡ b
+unfolding went_on
+went_between c b w = at w.machine.at
+  where
+    swept : (d : collectors.Private) (free : List ℕ) → gathered_from (swept_next d free) b (swept_next d free).phase ≡ b
+    swept d [] = refl
+    swept d (x ∷ free) = refl
+
+    at : (x : Option At) → gathered_from (went_on_at c w x) b (went_on_at c w x).phase ≡ b
+    at (Some a) = refl
+    at None = swept (with_work c (record w { counts = dropped w.counts })) (dropped w.counts).free
+
+-- what the mailbox that was looked at holds after the turn, by phase
+gathers : (c : collectors.Private) (word : ℕ) (b : Contents) (phase : Phase) → c.phase ≡ phase → IsBetween phase → gathered_from (took_at c word phase) b (took_at c word phase).phase ≡ left_by c word b phase
+unfolding took_at
+gathers c word b Idle is between = go (is_spent c)
+  where
+    go : (spent : Bool) → (let d : collectors.Private = (if spent then c else record c { epoch = c.epoch + 1; phase = Looking 1; turns = c.turns + 1 }) in gathered_from d b d.phase) ≡ b
+    go true = ap (gathered_from c b) is
+    go false = refl
+gathers c word b (Looking t) is between = go (word == crossing_word c.epoch 2)
+  where
+    go : (held_ : Bool) → (let d : collectors.Private = (if held_ then record c { phase = Swapping t; turns = c.turns + 1 } else c) in gathered_from d b d.phase) ≡ (if held_ then collectors.spare c else b)
+    go true = refl
+    go false = ap (gathered_from c b) is
+gathers c word b (Swapping t) is between = absurd between
+gathers c word b (Returning t) is between = go (t == length c.newer)
+  where
+    go : (last : Bool) → (let d : collectors.Private = (if last then went_on c (begun c) else record c { phase = Looking (t + 1); turns = c.turns + 1 }) in gathered_from d b d.phase) ≡ b
+    go true = went_between c b (begun c)
+    go false = refl
+gathers c word b Releasing is between = went_between c b (released c word)
+gathers c word b Opening is between = refl
+gathers c word b (Sweeping n) is between = go _
+  where
+    go : (x : Option ℕ) → gathered_from c b (swept_phase (n + 1) x) ≡ b
+    go None = refl
+    go (Some x) = refl
+gathers c word b (Closing n) is between = refl
+
+pub gathers_so : (c : collectors.Private) (word : ℕ) (b : Contents) → IsBetween c.phase → gathered_from (took_of c word) b (took_of c word).phase ≡ left_by c word b c.phase
+unfolding took_of
+gathers_so c word b between = gathers c word b c.phase refl between
+
+-- what a turn leaves
+pub turned_is : (w : Core) (boxes : List (Option Contents)) (op : Op) (found i : ℕ) (mailbox left : Option Contents) (taken new : collectors.Private) (cells : Cells)
+    → IsBetween w.collector.phase → w.boxes ≡ map held boxes → looked_at w.collector.phase - 1 < length boxes
+    → ◌≡◌ {A = Option Op} (next_of w.collector) (Some op) → i ≡ mailbox_at op → mailbox ≡ slice_index_or boxes (i - 1) mailbox
+    → found ≡ cell (cells_of w) op → cells ≡ with_cell (cells_of w) op (written op found)
+    → taken ≡ took_of w.collector found → new ≡ swapped_of taken (held mailbox) → left ≡ Some (gathered_from taken (held mailbox) taken.phase)
+    → ◌≡◌ {A = Core} (record w { headers = cells.headers; words = cells.words; epoch = cells.epoch; freed = cells.freed; crossing = cells.crossing; boxes = map held (slice_set boxes (i - 1) left); collector = new }) (turned w)
+unfolding next_of step_of
+turned_is w boxes op found i mailbox left taken new cells between same there named at its_box finds leaves learns swaps gives =
+    let c : collectors.Private = w.collector in
+    let t : ℕ = looked_at c.phase in
+    let make : ℕ → Cells → List Contents → collectors.Private → Core
+    = λ n x b y. record w { headers = x.headers; words = x.words; epoch = x.epoch; freed = x.freed; crossing = x.crossing; boxes = b; collector = y } in
+    let number : i ≡ t = at ∙ looks_at c op named in
+    let was : held mailbox ≡ box w t = box_read boxes t i mailbox number there its_box ∙ ap (λ (bs : List Contents). slice_index_or bs (t - 1) (collectors.blank 0 0)) (sym same) in
+    let its_new : new ≡ step_of c found (box w t) = swaps ∙ ap (λ x. swapped_of x (held mailbox)) learns ∙ ap (swapped_of (took_of c found)) was in
+    let its_left : left ≡ Some (left_by c found (box w t) c.phase)
+    = gives ∙ ap (λ (x : collectors.Private). Some (gathered_from x (held mailbox) x.phase)) learns ∙ ap (λ b. Some (gathered_from (took_of c found) b (took_of c found).phase)) was ∙ ap (λ b. Some b) (gathers_so c found (box w t) between) in
+    let boxed : map held (slice_set boxes (i - 1) left) ≡ slice_set w.boxes (t - 1) (left_by c found (box w t) c.phase)
+    = ap (λ n. map held (slice_set boxes (n - 1) left)) number ∙ ap (λ x. map held (slice_set boxes (t - 1) x)) its_left ∙ map-set held boxes (t - 1) (Some (left_by c found (box w t) c.phase))
+    ∙ ap (λ bs. slice_set bs (t - 1) (left_by c found (box w t) c.phase)) (sym same) in
+    ap (λ x. make 0 x (map held (slice_set boxes (i - 1) left)) new) leaves
+    ∙ ap (λ b. make 0 (with_cell (cells_of w) op (written op found)) b new) boxed
+    ∙ ap (λ y. make 0 (with_cell (cells_of w) op (written op found)) (slice_set w.boxes (t - 1) (left_by c found (box w t) c.phase)) y) its_new
+    ∙ ap (λ n. turned_by w op n) finds
+    ∙ ap (turned_at w) (sym named)
+
+-- the swap of a mailbox changes no number of the collector
+record KeepsNumbers (p q : collectors.Private) : Type 0 where
+  pub turns : q.turns ≡ p.turns
+  pub collections : q.collections ≡ p.collections
+  pub freed : q.freed ≡ p.freed
+  pub swept : swept_at q.phase ≡ swept_at p.phase
+
+swapped_keeps : (p : collectors.Private) (b : Contents) → KeepsNumbers p (swapped_of p b)
+unfolding swapped_of swapped_at
+swapped_keeps p b = go p.phase refl
+  where
+    same : KeepsNumbers p p
+    same = record { turns = refl; collections = refl; freed = refl; swept = refl }
+
+    go : (phase : Phase) → p.phase ≡ phase → KeepsNumbers p (swapped_at p b phase)
+    go Idle is = same
+    go (Looking t) is = same
+    go (Swapping t) is = record { turns = refl; collections = refl; freed = refl; swept = sym (ap swept_at is) }
+    go (Returning t) is = same
+    go Releasing is = same
+    go Opening is = same
+    go (Sweeping n) is = same
+    go (Closing n) is = same
+
+-- nor does it happen at rest
+swapped_idle : (p : collectors.Private) (b : Contents) → p.phase ≡ Idle → swapped_of p b ≡ p
+unfolding swapped_of swapped_at
+swapped_idle p b is = ap (swapped_at p b) is
+
+-- the word of a mailbox that is looked at
+looks : (w : Core) (t : ℕ) (op : Op) → w.collector.phase ≡ Looking t → ◌≡◌ {A = Option Op} (next_of w.collector) (Some op) → op ≡ ops.LookBox t w.collector.epoch
+unfolding next_of next_at
+looks w t op is named = sym (some_op (ops.LookBox t w.collector.epoch) op (sym (ap (next_at w.collector) is) ∙ named))
+
+pub looked_word : (w : Core) (t : ℕ) (op : Op) → w.collector.phase ≡ Looking t → ◌≡◌ {A = Option Op} (next_of w.collector) (Some op) → cell (cells_of w) op ≡ crossing_of w t
+looked_word w t op is named = ap (cell (cells_of w)) (looks w t op is named)
+
+-- a turn that waits changes nothing
+waits_same : (w : Core) (t : ℕ) (op : Op) → w.collector.phase ≡ Looking t → ◌≡◌ {A = Option Op} (next_of w.collector) (Some op) → crossing_of w t ≢ crossing_word w.collector.epoch 2 → turned w ≡ w
+unfolding step_of swapped_of swapped_at took_of took_at next_of next_at
+waits_same w t op is named other =
+    let c : collectors.Private = w.collector in
+    let word : ℕ = crossing_of w t in
+    let no : (word == crossing_word c.epoch 2) ≡ false = ne_eqb word (crossing_word c.epoch 2) other in
+    let named_so : ◌≡◌ {A = Option Op} (next_of c) (Some (ops.LookBox t c.epoch)) = ap (next_at c) is in
+    let kept_word : written (ops.LookBox t c.epoch) word ≡ word = ap (λ b. if b then crossing_word c.epoch 3 else word) no in
+    let same_words : slice_set w.crossing (t - 1) (written (ops.LookBox t c.epoch) word) ≡ w.crossing = ap (slice_set w.crossing (t - 1)) kept_word ∙ set-get_or w.crossing (t - 1) 0 in
+    let learnt : took_of c word ≡ c = ap (took_at c word) is ∙ ap (λ (b : Bool). let d : collectors.Private = (if b then record c { phase = Swapping t; turns = c.turns + 1 } else c) in d) no in
+    let stays : step_of c word (box w t) ≡ c = ap (λ x. swapped_of x (box w t)) learnt ∙ ap (swapped_at c (box w t)) is in
+    let left : left_by c word (box w t) (Looking t) ≡ box w t = ap (λ (b : Bool). if b then collectors.spare c else box w t) no in
+    let boxes : slice_set w.boxes (t - 1) (left_by c word (box w t) (Looking t)) ≡ w.boxes = ap (slice_set w.boxes (t - 1)) left ∙ same_boxes w t in
+    let make : List ℕ → List Contents → collectors.Private → Core = λ crossing bs d. record w { crossing = crossing; boxes = bs; collector = d } in
+    let looked : Phase → Core = λ phase. collected w (ops.LookBox t c.epoch) word (step_of c word (box w (looked_at phase))) (left_by c word (box w (looked_at phase)) phase) in
+    ap (turned_at w) named_so ∙ at_phase
+    ∙ ap (λ x. make x (slice_set w.boxes (t - 1) (left_by c word (box w t) (Looking t))) (step_of c word (box w t))) same_words ∙ ap (λ x. make w.crossing x (step_of c word (box w t))) boxes ∙ ap (λ x. make w.crossing w.boxes x) stays
+  where
+    at_phase : turned_at w (Some (ops.LookBox t w.collector.epoch)) ≡ record w {
+      crossing = slice_set w.crossing (t - 1) (written (ops.LookBox t w.collector.epoch) (crossing_of w t));
+      boxes = slice_set w.boxes (t - 1) (left_by w.collector (crossing_of w t) (box w t) (Looking t));
+      collector = step_of w.collector (crossing_of w t) (box w t);
+    }
+    at_phase = ap (λ (phase : Phase). let v : Core = record w {
+      crossing = slice_set w.crossing (t - 1) (written (ops.LookBox t w.collector.epoch) (crossing_of w t));
+      boxes = slice_set w.boxes (looked_at phase - 1) (left_by w.collector (crossing_of w t) (box w (looked_at phase)) phase);
+      collector = step_of w.collector (crossing_of w t) (box w (looked_at phase));
+    } in v) is
+
+-- the collector after its turn
+collector_left : (w : Core) (op : Op) → ◌≡◌ {A = Option Op} (next_of w.collector) (Some op) → (turned w).collector ≡ step_of w.collector (cell (cells_of w) op) (box w (looked_at w.collector.phase))
+collector_left w op named = ap (λ (x : Option Op). (turned_at w x).collector) named
+
+-- why a turn with an operation answers this
+pub turn_cause : (w : Core) (op : Op) (taken : collectors.Private) (turn : Turn) → IsKept w → ◌≡◌ {A = Option Op} (next_of w.collector) (Some op) → taken ≡ took_of w.collector (cell (cells_of w) op)
+    → HasCause w.collector (cell (cells_of w) op) taken turn → (turn ≡ turns.EpochsSpent → ⊥) → TurnHasCause w (turned w) turn
+unfolding step_of
+turn_cause w op taken turns.Moved kept named learns cause none =
+    let b : Contents = box w (looked_at w.collector.phase) in
+    let left : (turned w).collector ≡ swapped_of taken b = collector_left w op named ∙ ap (λ x. swapped_of x b) (sym learns) in
+    let keeps : KeepsNumbers taken (turned w).collector = subst (KeepsNumbers taken) (sym left) (swapped_keeps taken b) in
+    (keeps.turns ∙ cause.0, keeps.collections ∙ cause.1, ap (λ n. n + swept_at w.collector.phase) keeps.freed ∙ cause.2 ∙ ap (λ n. w.collector.freed + n) (sym keeps.swept))
+turn_cause w op taken (turns.Waiting t) kept named learns cause none =
+    let other : crossing_of w t ≢ crossing_word w.collector.epoch 2 = λ is. cause.1 (looked_word w t op cause.0 named ∙ is) in
+    (cause.0, λ is. other (is ∙ ap (λ n. crossing_word n 2) (sym kept.collector.epoch)), waits_same w t op cause.0 named other)
+turn_cause w op taken (turns.Collected epoch freed) kept named learns cause none =
+    let b : Contents = box w (looked_at w.collector.phase) in
+    let left : (turned w).collector ≡ taken = collector_left w op named ∙ ap (λ x. swapped_of x b) (sym learns) ∙ swapped_idle taken b cause.2 in
+    (cause.0 ∙ kept.collector.epoch, cause.1, ap (λ (c : collectors.Private). c.phase) left ∙ cause.2, ap (λ (c : collectors.Private). c.collections) left ∙ cause.3, ap (λ (c : collectors.Private). c.freed) left ∙ cause.4)
+turn_cause w op taken turns.EpochsSpent kept named learns cause none = absurd (none refl)
+
+one_at_most : (phase : Phase) → under_way phase ≤ 1
+one_at_most Idle = omega arith
+one_at_most (Looking t) = omega arith
+one_at_most (Swapping t) = omega arith
+one_at_most (Returning t) = omega arith
+one_at_most Releasing = omega arith
+one_at_most Opening = omega arith
+one_at_most (Sweeping n) = omega arith
+one_at_most (Closing n) = omega arith
+
+-- one epoch more is requested at most
+pub turn_requests : (w v : Core) (turn : Turn) → IsKept w → IsKept v → v.config ≡ w.config → TurnHasCause w v turn → v.epoch ≤ w.epoch + 1
+turn_requests w v turns.Moved kept later same cause =
+    let before : w.config.first_epoch + w.collector.collections + under_way w.collector.phase ≡ w.epoch = kept.collector.begun in
+    let after : v.config.first_epoch + v.collector.collections + under_way v.collector.phase ≡ v.epoch = later.collector.begun in
+    let first : v.config.first_epoch ≡ w.config.first_epoch = ap (λ (c : Config). c.first_epoch) same in
+    let one : under_way v.collector.phase ≤ 1 = one_at_most v.collector.phase in
+    omega (arith, cause.1)
+turn_requests w v (turns.Waiting t) kept later same cause = subst (λ n. n ≤ w.epoch + 1) (sym (ap (λ (x : Core). x.epoch) cause.2)) (omega arith)
+turn_requests w v (turns.Collected epoch freed) kept later same cause =
+    let before : w.config.first_epoch + w.collector.collections + under_way w.collector.phase ≡ w.epoch = kept.collector.begun in
+    let after : v.config.first_epoch + v.collector.collections + under_way v.collector.phase ≡ v.epoch = later.collector.begun in
+    let first : v.config.first_epoch ≡ w.config.first_epoch = ap (λ (c : Config). c.first_epoch) same in
+    let none : under_way v.collector.phase ≡ 0 = ap under_way cause.2 in
+    omega (arith, cause.3)
+turn_requests w v turns.EpochsSpent kept later same cause = subst (λ n. n ≤ w.epoch + 1) (sym (ap (λ (x : Core). x.epoch) cause.2)) (omega arith)

@@ -1,0 +1,8 @@
+-- The retired buffer and a spare change places where the mailbox is held.
+use Rattle.std.proofs.Common.{Some, refl, sym, ap, ◌∙◌}
+use Rattle.std.proofs.lemmas.Bool.{false≢true}
+use Rattle.rec_world.proofs.Mailboxes.{gathered_spare, gathered_stays, collector_stays}
+use Rattle.rec_world.proofs.mailbox.swap_gathered.Goals as goal
+
+pub returns-else-is_swapping-clause-collector : goal.returns-else-is_swapping-clause-collector
+returns-else-is_swapping-clause-collector c = collector_stays c.args.collector.now _ (λ is. false≢true (c.if-is_swapping.ensures.1 is))

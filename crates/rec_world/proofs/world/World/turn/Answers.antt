@@ -1,0 +1,195 @@
+-- The collector names an operation, the memory carries it out, the collector learns: the core is that of the definitions.
+use Rattle.std.proofs.Common.{◌≡◌, ◌≢◌, ℕ, ◌-◌, ◌+◌, ◌<◌, ◌≤◌, Option, Some, true, false, map, length, slice_index_or, slice_set, arith, refl, sym, ap, subst, ◌∙◌}
+use Rattle.std.specs.Option.{is_some, IfSome}
+use Rattle.std.proofs.lemmas.Bool.{false≢true}
+use Rattle.rec_word.specs.Op.{crossing_word}
+use Rattle.rec_word.specs.declared.op.Op.{Op}
+use Rattle.rec_model.specs.Heap.{Heap}
+use Rattle.rec_model.specs.Sight.{StandsBy}
+use Rattle.rec_log.specs.declared.contents.Contents.{Contents}
+use Rattle.rec_collector.specs.Causes.{HasCause}
+use Rattle.rec_collector.specs.Given.{IsGiven, IsSized}
+use Rattle.rec_collector.specs.Next.{next_of}
+use Rattle.rec_collector.specs.Took.{took_of}
+use Rattle.rec_collector.specs.declared.phase.Phase.TheVariants.{Idle, Looking}
+use Rattle.rec_collector.specs.declared.turn.Turn.{Turn}
+use Rattle.rec_collector.specs.declared.turn.Turn.TheVariants as turns
+use Rattle.rec_world.specs.Core.{Core, cells_of, sight, box, crossing_of}
+use Rattle.rec_world.specs.CoreMet.{MayTurn}
+use Rattle.rec_world.specs.CoreMoves.{Move, EndsRun, looked_at, turned}
+use Rattle.rec_world.specs.CoreReach.{KeepsReached}
+use Rattle.rec_world.specs.CoreSwept.{IsSweep}
+use Rattle.rec_world.specs.Inside.{core}
+use Rattle.rec_world.specs.Mailbox.{held, mailbox_at}
+use Rattle.rec_world.specs.Memory.{IsWithin, cell}
+use Rattle.rec_world.specs.World.{IsWorld, TurnHasCause}
+use Rattle.rec_world.proofs.Calls.{ReadyToTurn, ready_to_turn, box_read, box_home, home_again, moved_world, world_run}
+use Rattle.rec_world.proofs.CoreReach.{turned_keeps, keeps_stands_by}
+use Rattle.rec_world.proofs.CoreRuns.{move_kept, move_stays}
+use Rattle.rec_world.proofs.CoreSwept.{turned_sweeps}
+use Rattle.rec_world.proofs.CoreWords.{may_turn}
+use Rattle.rec_world.proofs.Turnings.{looks_at, looked_word, turned_is, turn_cause, turn_requests}
+use Rattle.rec_world.proofs.world.World.turn.Goals as goal
+use Rattle.rec_world.proofs.world.World.turn.Goals.{In_default, In-Some, After-perform-found, After-took-turn, After-from, After-swap_gathered}
+
+-- where no operation comes next, the epochs are spent
+pub returns-in_default-clause-cause : goal.returns-in_default-clause-cause
+returns-in_default-clause-cause c =
+    let now : ReadyToTurn c.self.inside = ready_to_turn c.self.inside c.args.self.now c.self.invariant c.self.view_is c.requires.unmarked in
+    let spent = c.next.ensures.none.0 (ap is_some c.in_default.is) in (
+      ap (λ (s : Core). s.collector.phase) (sym c.self.view_is) ∙ spent.0,
+      ap (λ (s : Core). s.epoch + 1) (sym c.self.view_is) ∙ ap (λ n. n + 1) (sym now.kept.collector.epoch) ∙ spent.1,
+      refl,
+    )
+
+pub returns-in_default-clause-run : goal.returns-in_default-clause-run
+returns-in_default-clause-run c = subst EndsRun c.self.view_is (world_run (core c.self.inside) c.self.invariant.world (ready_to_turn c.self.inside c.args.self.now c.self.invariant c.self.view_is c.requires.unmarked).unmarked)
+
+-- what is known as the operation is named
+begins : (c : In-Some) → ReadyToTurn c.self.inside
+begins c = ready_to_turn c.self.inside c.args.self.now c.self.invariant c.self.view_is c.requires.unmarked
+
+named : (c : In-Some) → ◌≡◌ {A = Option Op} (next_of c.self.inside.collector) (Some c.in-Some.op)
+named c = sym c.next.ensures.next ∙ c.in-Some.is
+
+may : (c : In-Some) → MayTurn (core c.self.inside) c.in-Some.op
+may c = subst (λ (x : Option Op). IfSome x (MayTurn (core c.self.inside))) (named c) (may_turn (core c.self.inside) (begins c).kept)
+
+pub perform-found-requires : goal.perform-found-requires
+perform-found-requires c = (may (goal.at.perform-found-requires c).In-Some).within
+
+pub took-turn-requires : goal.took-turn-requires
+took-turn-requires c = subst (IsGiven c.self.inside.collector) (sym c.perform-found.ensures.found) (may (goal.at.took-turn-requires c).In-Some).given
+
+-- whose mailbox is looked at
+number : (c : After-from) → c.from.result ≡ looked_at c.self.inside.collector.phase
+number c = c.from.ensures ∙ c.mailbox_of.ensures ∙ looks_at c.self.inside.collector c.in-Some.op (sym c.next.ensures.next ∙ c.in-Some.is)
+
+pub overflow_sub-from : goal.overflow_sub-from
+overflow_sub-from c = subst (λ n. 1 ≤ n) (sym (number (goal.at.overflow_sub-from c).After-from)) (begins (goal.at.overflow_sub-from c).In-Some).is.0
+
+-- its mailbox is there
+boxed : (c : After-from) → c.from.result - 1 < length c.self.inside.boxes.items
+boxed c =
+    subst (λ n. n - 1 < length c.self.inside.boxes.items) (sym (number c))
+    (ready_to_turn c.self.inside c.args.self.now c.self.invariant c.self.view_is c.requires.unmarked).boxed
+
+pub index_mut-mailbox-requires : goal.index_mut-mailbox-requires
+index_mut-mailbox-requires c = let there : c.from.result - 1 < length c.self.inside.boxes.items = boxed (goal.at.index_mut-mailbox-requires c).After-from in omega (arith, there)
+
+pub swap_gathered-requires-clause-home : goal.swap_gathered-requires-clause-home
+swap_gathered-requires-clause-home c = box_home c.self.inside.boxes.items (c.from.result - 1) c.index_mut-mailbox.result.now c.self.invariant.home (boxed (goal.at.swap_gathered-requires-clause-home c).After-from) c.index_mut-mailbox.ensures.value
+
+pub swap_gathered-requires-clause-sized : goal.swap_gathered-requires-clause-sized
+swap_gathered-requires-clause-sized c =
+    let now : ReadyToTurn c.self.inside = begins (goal.at.swap_gathered-requires-clause-sized c).In-Some in
+    let w : Core = core c.self.inside in
+    let at : ℕ = looked_at w.collector.phase in
+    let its : held c.index_mut-mailbox.result.now ≡ box w at
+    = box_read c.self.inside.boxes.items at c.from.result c.index_mut-mailbox.result.now (number (goal.at.swap_gathered-requires-clause-sized c).After-from) now.boxed c.index_mut-mailbox.ensures.value in
+    let sized : IsSized w.collector.registers w.collector.capacity (box w at) = (may (goal.at.swap_gathered-requires-clause-sized c).In-Some).sized in
+    let P : ℕ → ℕ → Contents → Type 0 = IsSized in
+    rw (c.took-turn.ensures.same.registers, c.took-turn.ensures.same.capacity, its) sized
+
+-- the core that is left
+abbrev after : After-swap_gathered → Core
+after c =
+    record (core c.self.inside) {
+      headers = c.perform-found.new.self.headers;
+      words = c.perform-found.new.self.words;
+      epoch = c.perform-found.new.self.epoch;
+      freed = c.perform-found.new.self.freed;
+      crossing = c.perform-found.new.self.crossing;
+      boxes = map held (slice_set c.self.inside.boxes.items (c.from.result - 1) c.swap_gathered.new.mailbox);
+      collector = c.swap_gathered.new.collector;
+    }
+
+-- what is known as the turn ends
+ends : (c : After-swap_gathered) → ReadyToTurn c.self.inside
+ends c = ready_to_turn c.self.inside c.args.self.now c.self.invariant c.self.view_is c.requires.unmarked
+
+its_op : (c : After-swap_gathered) → ◌≡◌ {A = Option Op} (next_of c.self.inside.collector) (Some c.in-Some.op)
+its_op c = sym c.next.ensures.next ∙ c.in-Some.is
+
+-- it is the one of the definitions
+left : (c : After-swap_gathered) → after c ≡ turned (core c.self.inside)
+left c =
+    turned_is (core c.self.inside) c.self.inside.boxes.items c.in-Some.op c.perform-found.result c.from.result c.index_mut-mailbox.result.now c.swap_gathered.new.mailbox c.took-turn.new.self c.swap_gathered.new.collector c.perform-found.new.self
+    (ends c).kept.collector.between refl (ends c).boxed (its_op c) (c.from.ensures ∙ c.mailbox_of.ensures) c.index_mut-mailbox.ensures.value c.perform-found.ensures.found c.perform-found.ensures.left c.took-turn.ensures.took c.swap_gathered.ensures.collector c.swap_gathered.ensures.mailbox
+
+world : (c : After-swap_gathered) → IsWorld (after c)
+world c = subst IsWorld (sym (left c)) (moved_world (core c.self.inside) Move.Turns c.self.invariant.world (ends c).unmarked tt)
+
+pub invariant_of-self : goal.invariant_of-self
+invariant_of-self c =
+    record {
+      world = world (goal.at.invariant_of-self c).After-swap_gathered;
+      home = home_again c.self.inside.boxes.items (c.from.result - 1) c.swap_gathered.new.mailbox (ap is_some c.swap_gathered.ensures.mailbox) c.self.invariant.home;
+      numbering = c.self.invariant.numbering;
+    }
+
+pub returns-clause-turned : goal.returns-clause-turned
+returns-clause-turned c = left (goal.at.returns-clause-turned c).After-swap_gathered ∙ ap turned c.self.view_is
+
+-- the epochs are not spent
+goes_on : (c : After-swap_gathered) → c.self.inside.collector.phase ≡ Idle → c.self.inside.collector.epoch + 1 ≡ 16777216 → ⊥
+goes_on c idle last = false≢true (sym (c.next.ensures.none.1 (idle, last)) ∙ ap is_some c.in-Some.is)
+
+-- why this is answered
+caused : (c : After-swap_gathered) → TurnHasCause (core c.self.inside) (turned (core c.self.inside)) c.took-turn.result
+caused c =
+    let w : Core = core c.self.inside in
+    let cause : HasCause w.collector (cell (cells_of w) c.in-Some.op) c.took-turn.new.self c.took-turn.result
+    = subst (λ n. HasCause w.collector n c.took-turn.new.self c.took-turn.result) c.perform-found.ensures.found c.took-turn.ensures.cause in
+    turn_cause w c.in-Some.op c.took-turn.new.self c.took-turn.result (ends c).kept (its_op c) (c.took-turn.ensures.took ∙ ap (took_of w.collector) c.perform-found.ensures.found) cause
+    (λ is. let spent = subst (HasCause w.collector (cell (cells_of w) c.in-Some.op) c.took-turn.new.self) is cause in goes_on c spent.0 spent.1)
+
+pub returns-clause-cause : goal.returns-clause-cause
+returns-clause-cause c =
+    let at : After-swap_gathered = (goal.at.returns-clause-cause c).After-swap_gathered in
+    subst (λ (s : Core). TurnHasCause s (after at) c.took-turn.result) c.self.view_is (subst (λ (s : Core). TurnHasCause (core c.self.inside) s c.took-turn.result) (sym (left at)) (caused at))
+
+pub returns-clause-waiting : goal.returns-clause-waiting
+returns-clause-waiting c = λ t looks other.
+    let at : After-swap_gathered = (goal.at.returns-clause-waiting c).After-swap_gathered in
+    let w : Core = core c.self.inside in
+    let looks_so : w.collector.phase ≡ Looking t = ap (λ (s : Core). s.collector.phase) c.self.view_is ∙ looks in
+    let word : c.perform-found.result ≡ crossing_of c.args.self.now t = c.perform-found.ensures.found ∙ looked_word w t c.in-Some.op looks_so (its_op at) ∙ ap (λ (s : Core). crossing_of s t) c.self.view_is in
+    let epoch : w.collector.epoch ≡ c.args.self.now.epoch = (ends at).kept.collector.epoch ∙ ap (λ (s : Core). s.epoch) c.self.view_is in
+    c.took-turn.ensures.waiting t looks_so (λ is. other (sym word ∙ is ∙ ap (λ n. crossing_word n 2) epoch))
+
+pub returns-clause-spent : goal.returns-clause-spent
+returns-clause-spent c = λ idle last.
+    let at : After-swap_gathered = (goal.at.returns-clause-spent c).After-swap_gathered in
+    absurd (goes_on at (ap (λ (s : Core). s.collector.phase) c.self.view_is ∙ idle) (ap (λ n. n + 1) ((ends at).kept.collector.epoch ∙ ap (λ (s : Core). s.epoch) c.self.view_is) ∙ last))
+
+pub returns-clause-reached : goal.returns-clause-reached
+returns-clause-reached c =
+    let at : After-swap_gathered = (goal.at.returns-clause-reached c).After-swap_gathered in
+    subst (λ (s : Core). KeepsReached (sight s) (sight (after at))) c.self.view_is (subst (λ (s : Core). KeepsReached (sight (core c.self.inside)) (sight s)) (sym (left at)) (turned_keeps (core c.self.inside) (ends at).kept))
+
+pub returns-clause-stands : goal.returns-clause-stands
+returns-clause-stands c = λ heap number stood.
+    let at : After-swap_gathered = (goal.at.returns-clause-stands c).After-swap_gathered in
+    subst (λ (s : Core). StandsBy heap (sight s) number) (sym (left at))
+    (keeps_stands_by heap (sight (core c.self.inside)) (sight (turned (core c.self.inside))) number (turned_keeps (core c.self.inside) (ends at).kept) (subst (λ (s : Core). StandsBy heap (sight s) number) (sym c.self.view_is) stood))
+
+pub returns-clause-sweep : goal.returns-clause-sweep
+returns-clause-sweep c =
+    let at : After-swap_gathered = (goal.at.returns-clause-sweep c).After-swap_gathered in
+    subst (λ (s : Core). IsSweep s (after at)) c.self.view_is (subst (IsSweep (core c.self.inside)) (sym (left at)) (turned_sweeps (core c.self.inside) (ends at).kept))
+
+pub returns-clause-requested : goal.returns-clause-requested
+returns-clause-requested c =
+    let at : After-swap_gathered = (goal.at.returns-clause-requested c).After-swap_gathered in
+    let w : Core = core c.self.inside in
+    let few : (turned w).epoch ≤ w.epoch + 1 = turn_requests w (turned w) c.took-turn.result (ends at).kept (move_kept w Move.Turns (ends at).kept tt) (move_stays w Move.Turns).0 (caused at) in
+    subst (λ (s : Core). (after at).epoch ≤ s.epoch + 1) c.self.view_is (subst (λ (s : Core). s.epoch ≤ w.epoch + 1) (sym (left at)) few)
+
+pub returns-clause-run : goal.returns-clause-run
+returns-clause-run c =
+    let at : After-swap_gathered = (goal.at.returns-clause-run c).After-swap_gathered in
+    world_run (after at) (world at) (ends at).unmarked
+
+pub returns-clause-kept : goal.returns-clause-kept
+returns-clause-kept c = world (goal.at.returns-clause-kept c).After-swap_gathered

@@ -1,0 +1,69 @@
+//! The mailboxes: each is home between two steps, with a buffer that one step swaps for another.
+
+ghost use Rattle.std.specs.Prelude.{◌≡◌, Some, All, length, replicate, IsSome, IfOk};
+ghost use Rattle.rec_mutator.specs.Took.{spare, swapped_of, left_of, IsSwapping};
+ghost use Rattle.rec_collector.specs.Given.{IsSized};
+ghost use Rattle.rec_collector.specs.Took.{swapped_of as gathered_of};
+ghost use Rattle.rec_world.specs.Config.{IsConfig};
+ghost use Rattle.rec_world.specs.Core.{spare_of};
+ghost use Rattle.rec_world.specs.Mailbox.{held, gathered_from, mailbox_at};
+
+use crate::Config;
+use rec_collector::Machine as Collector;
+use rec_log::Buffer;
+use rec_mutator::Machine;
+use rec_word::Op;
+use std::alloc::{AllocError as NoMemory, Global};
+
+/// A mailbox with a spare buffer for each mutator.
+pub fn open_boxes(alloc: Global, config: &Config) -> Result<Vec<Option<Buffer>>, NoMemory>
+    requires { IsConfig config.now }
+    ensures { IfOk result (λ boxes. boxes.items ≡ replicate config.now.mutators (Some (spare_of config.now))) }
+{
+    let mut boxes = Vec::with_capacity(alloc, config.mutators as usize)?;
+    for _ in 0..config.mutators as u8 {
+        boxes.push_reserved(Some(Buffer::open(alloc, config.log_entries, config.registers as u8)?));
+    }
+    Ok(boxes)
+}
+
+/// Whose mailbox the operation takes; the first mutator's where it takes none.
+pub fn mailbox_of(op: Op) -> u8
+    ensures { result ≡ mailbox_at op }
+{
+    match op {
+        Op::LookBox(t, _) => t,
+        _ => 1,
+    }
+}
+
+/// Where the mutator holds its mailbox, swaps the buffer in it for the retired log.
+#[inline(always)]
+pub fn swap_own(machine: &mut Machine, mailbox: &mut Option<Buffer>)
+    requires home { IsSome mailbox.old }
+    requires spare { IsSwapping machine.old.phase → held mailbox.old ≡ spare machine.old }
+
+    ensures machine { machine.new ≡ swapped_of machine.old (held mailbox.old) }
+    ensures mailbox { mailbox.new ≡ Some (left_of machine.old (held mailbox.old)) }
+{
+    if machine.is_swapping() {
+        if let Some(buffer) = mailbox.take() {
+            *mailbox = Some(machine.swap_box(buffer));
+        }
+    }
+}
+
+/// Where the collector holds the mailbox, swaps the retired buffer in it for a spare.
+pub fn swap_gathered(collector: &mut Collector, mailbox: &mut Option<Buffer>)
+    requires home { IsSome mailbox.old }
+    requires sized { IsSized collector.old.registers collector.old.capacity (held mailbox.old) }
+
+    ensures collector { collector.new ≡ gathered_of collector.old (held mailbox.old) }
+    ensures mailbox { mailbox.new ≡ Some (gathered_from collector.old (held mailbox.old) collector.old.phase) }
+{
+    if collector.is_swapping() {
+        if let Some(buffer) = mailbox.take() {
+            *mailbox = Some(collector.swap_box(buffer));
+        }
+    }
+}
