@@ -5,29 +5,42 @@ use Rattle.rec_word.specs.Op.{crossing_word}
 use Rattle.rec_word.specs.declared.op.Op.{Op}
 use Rattle.rec_word.specs.declared.op.Op.TheVariants.{StoreEpoch}
 use Rattle.rec_release.specs.declared.at.At.{At}
-use Rattle.rec_release.specs.Release.{Work, next_of as release_next}
+use Rattle.rec_counts.specs.Counts.{State}
+use Rattle.rec_release.specs.Release.{Machine, Work, next_of as release_next}
 use Rattle.rec_release.specs.Sweep.{next_of as sweep_next}
+use Rattle.rec_trial.specs.Trial.{next_of as trial_next}
+use Rattle.rec_trial.specs.Trial as trials
+use Rattle.rec_collector.specs.GivenUp.{given_up}
 use Rattle.rec_collector.specs.Causes.{HasCause}
 use Rattle.rec_collector.specs.Kept.{IsMachine, swept_at}
 use Rattle.rec_collector.specs.Next.{is_spent, next_at, next_of}
 use Rattle.rec_collector.specs.Private.{Private}
-use Rattle.rec_collector.specs.Took.{begun, dropped, moved, released, swept_next, swept_phase, swept_turn, took_at, took_of, turn_at, turn_of, went_on, went_on_at, with_work, work_turn, work_turn_at}
+use Rattle.rec_collector.specs.Took.{begun, moved, released, swept_next, swept_phase, swept_turn, took_at, took_of, trial_started, trial_took, trial_turn, trial_turn_at, tried, tried_at, turn_at, turn_of, went_on, went_on_at, with_trial, work_turn, work_turn_at}
 use Rattle.rec_collector.specs.declared.phase.Phase.{Phase}
-use Rattle.rec_collector.specs.declared.phase.Phase.TheVariants.{Idle, Looking, Swapping, Returning, Releasing, Opening, Sweeping, Closing}
+use Rattle.rec_collector.specs.declared.phase.Phase.TheVariants.{Idle, Looking, Swapping, Returning, Releasing, Trying, Opening, Sweeping, Closing}
 use Rattle.rec_collector.specs.declared.turn.Turn.TheVariants.{Moved, Waiting, EpochsSpent}
 use Rattle.rec_collector.proofs.Releasing.{some_next}
 use Rattle.rec_collector.proofs.Sweeping.{due_slot, now_at, under_way_at}
 
--- a release that came so far, in a phase that has swept nothing
-work_cause_at : (p : Private) (word : ℕ) (w : Work) (at : Option At) → p.collections + 1 ≤ p.epoch → swept_at p.phase ≡ 0 → HasCause p word (went_on_at p w at) (work_turn_at p.epoch w at)
-work_cause_at p word w (Some a) u z = (refl, refl, ap (λ n. p.freed + n) z)
-work_cause_at p word w None u z = go (dropped w.counts).free
+-- a trial that came so far, in a phase that has swept nothing
+tried_cause_at : (p : Private) (word : ℕ) (s : State) (r : Machine) (w : trials.Work) (op : Option Op) → p.collections + 1 ≤ p.epoch → swept_at p.phase ≡ 0 → HasCause p word (tried_at (record p { counts = s; release = r }) w op) (trial_turn_at p.epoch w op)
+tried_cause_at p word s r w (Some o) u z = (refl, refl, ap (λ n. p.freed + n) z)
+tried_cause_at p word s r w None u z = go w.counts.free
   where
-    go : (free : List ℕ) → HasCause p word (swept_next (with_work p (record w { counts = dropped w.counts })) free) (swept_turn p.epoch free)
+    go : (free : List ℕ) → HasCause p word (swept_next (with_trial (record p { counts = s; release = r }) (record w { counts = given_up w.counts })) free) (swept_turn p.epoch free)
     go [] = (omega (arith, u), sym z, refl, refl, refl, refl)
     go (x ∷ free) = (refl, refl, ap (λ n. p.freed + n) z)
 
-work_cause : (p : Private) (word : ℕ) (w : Work) → p.collections + 1 ≤ p.epoch → swept_at p.phase ≡ 0 → HasCause p word (went_on p w) (work_turn p.epoch w)
+tried_cause : (p : Private) (word : ℕ) (s : State) (r : Machine) (w : trials.Work) → p.collections + 1 ≤ p.epoch → swept_at p.phase ≡ 0 → HasCause p word (tried (record p { counts = s; release = r }) w) (trial_turn p.epoch w)
+unfolding tried trial_turn
+tried_cause p word s r w u z = tried_cause_at p word s r w (trial_next w.machine) u z
+
+-- a release that came so far
+work_cause_at : (p : Private) (word : ℕ) (w : Work) (at : Option At) → p.collections + 1 ≤ p.epoch → swept_at p.phase ≡ 0 → HasCause p word (went_on_at p w at) (work_turn_at p w at)
+work_cause_at p word w (Some a) u z = (refl, refl, ap (λ n. p.freed + n) z)
+work_cause_at p word w None u z = tried_cause p word w.counts w.machine (trial_started p w.counts) u z
+
+work_cause : (p : Private) (word : ℕ) (w : Work) → p.collections + 1 ≤ p.epoch → swept_at p.phase ≡ 0 → HasCause p word (went_on p w) (work_turn p w)
 unfolding went_on work_turn
 work_cause p word w u z = work_cause_at p word w w.machine.at u z
 
@@ -39,7 +52,7 @@ look_cause : (p : Private) (word t : ℕ) (b : Bool) → (word == crossing_word 
 look_cause p word t true e is = (refl, refl, ap (λ f. p.freed + swept_at f) is)
 look_cause p word t false e is = (is, (λ q. false≢true (sym e ∙ eq-eqb word (crossing_word p.epoch 2) q)), refl)
 
-return_cause : (p : Private) (word t : ℕ) (b : Bool) → p.collections + 1 ≤ p.epoch → p.phase ≡ Returning t → HasCause p word (cond b (went_on p (begun p)) (moved p (Looking (t + 1)))) (cond b (work_turn p.epoch (begun p)) Moved)
+return_cause : (p : Private) (word t : ℕ) (b : Bool) → p.collections + 1 ≤ p.epoch → p.phase ≡ Returning t → HasCause p word (cond b (went_on p (begun p)) (moved p (Looking (t + 1)))) (cond b (work_turn p (begun p)) Moved)
 return_cause p word t true u is = work_cause p word (begun p) u (ap swept_at is)
 return_cause p word t false u is = (refl, refl, ap (λ f. p.freed + swept_at f) is)
 
@@ -54,6 +67,7 @@ cause_at p word (Looking t) is k = look_cause p word t (word == crossing_word p.
 cause_at p word (Swapping t) is k = (refl, refl, ap (λ f. p.freed + swept_at f) is)
 cause_at p word (Returning t) is k = return_cause p word t (t == length p.newer) (under_way_at p (Returning t) k is) is
 cause_at p word Releasing is k = work_cause p word (released p word) (under_way_at p Releasing k is) (ap swept_at is)
+cause_at p word Trying is k = tried_cause p word p.counts p.release (trial_took p word) (under_way_at p Trying k is) (ap swept_at is)
 cause_at p word Opening is k = (refl, refl, ap (λ f. p.freed + swept_at f) is)
 cause_at p word (Sweeping n) is k = (refl, refl, sweep_cause p n _ is)
 cause_at p word (Closing n) is k = (omega (arith, under_way_at p (Closing n) k is), sym (ap swept_at is), refl, refl, refl, refl)
@@ -82,6 +96,7 @@ spent_at p word (Looking t) is k n = absurd (false≢true (sym n))
 spent_at p word (Swapping t) is k n = absurd (false≢true (sym n))
 spent_at p word (Returning t) is k n = absurd (false≢true (sym n))
 spent_at p word Releasing is k n = absurd (is_none (release_next p.release) (some_next p.release (now_at p Releasing k is).busy) n)
+spent_at p word Trying is k n = absurd (is_none (trial_next p.trial) (now_at p Trying k is).busy n)
 spent_at p word Opening is k n = absurd (false≢true (sym n))
 spent_at p word (Sweeping m) is k n = absurd (is_none (sweep_next p.due) (due_slot p.counts.free p.due (now_at p (Sweeping m) k is).1 (now_at p (Sweeping m) k is).2) n)
 spent_at p word (Closing m) is k n = absurd (false≢true (sym n))

@@ -1,27 +1,24 @@
--- What always holds of the counts still does after a batch, a move of a release, the emptying of the root buffer, and a sweep.
-use Rattle.std.proofs.Common.{◌≡◌, ℕ, ◌+◌, ◌<◌, Bool, true, false, eqb, Option, None, Some, IfSome, List, [], ◌∷◌, length, refl, arith, sym, ◌∙◌, ap, inl, inr}
-use Rattle.std.specs.List.{filter, flat_map}
-use Rattle.std.proofs.lemmas.List.{length-map}
-use Rattle.std.proofs.lemmas.Bool.{cases_lt, false≢true}
+-- What always holds of the counts still does after a batch, a move of a release, and a sweep.
+use Rattle.std.proofs.Common.{◌≡◌, ℕ, ◌<◌, Bool, true, false, eqb, Option, None, Some, IfSome, List, [], ◌∷◌, length, refl, arith, sym, ap, inl, inr}
+use Rattle.std.specs.List.{flat_map}
+use Rattle.std.proofs.lemmas.Bool.{cases_lt}
 use Rattle.rec_log.specs.declared.contents.Contents.{Contents}
 use Rattle.rec_counts.specs.declared.slot.Slot.{Slot}
 use Rattle.rec_counts.specs.declared.slot.Due.{Due}
 use Rattle.rec_counts.specs.declared.slot.Due.TheVariants.{Nothing, Zero, Root}
 use Rattle.rec_counts.specs.Counts.{State, slot_at, with_slot, sent, decremented, IsKept}
-use Rattle.rec_counts.specs.Lists.{times, EachOnce}
+use Rattle.rec_counts.specs.Lists.{times}
 use Rattle.rec_counts.specs.Rest.{AreZeros}
-use Rattle.rec_counts.specs.Slot.{raised, lessened, due_of, due_if, unrooted, swept_clean}
+use Rattle.rec_counts.specs.Slot.{raised, lessened, due_of, due_if, swept_clean}
 use Rattle.rec_counts.proofs.Decrementing.{in_range_counted}
-use Rattle.rec_counts.proofs.Keeping.{keep_slot, keep_clear_roots, relisted, roots_once}
+use Rattle.rec_counts.proofs.Keeping.{keep_slot, relisted}
 use Rattle.rec_counts.proofs.Lessening.{to_zeros, to_roots, keep_zero, keep_root}
-use Rattle.rec_counts.proofs.Times.{once_push, once_rest, times-append, times-cons}
+use Rattle.rec_counts.proofs.Times.{once_push, once_rest, times-cons}
 use Rattle.rec_apply.specs.Batch.{CanFall, all_down, all_up, batch, counted_down, counted_up, down_targets, up_targets}
 use Rattle.rec_apply.proofs.Falling.{fall_first, fall_right}
 use Rattle.rec_release.specs.Release.{emptied, listed_if, taken_off, without_first}
 use Rattle.rec_release.specs.Sweep as sweeps
 use Rattle.rec_release.specs.Sweep.{AreUnbuffered, swept}
-use Rattle.rec_collector.specs.Took.{dropped}
-use Rattle.rec_collector.proofs.Dropping.{is_released, root_buffered, times_filtered}
 
 -- what is known of a slot that is due nowhere
 record ToNothing (v : Slot) : Type 0 where
@@ -91,23 +88,6 @@ first_kept [] s e k = k
 first_kept (z ∷ zs) s e k =
     let k' = keep_slot k z (record (slot_at s z) { released = true }) refl refl in
     relisted k' k'.marked_once k'.work_once (λ y. omega (arith, k'.zeros_once y, ap (times y) e, times-cons y z zs)) k'.free_once
-
--- the root buffer is emptied: no root is in the free list yet
-dropped_once : (s : State) → IsKept s → AreUnbuffered s → EachOnce (length s.slots) (dropped s).free
-dropped_once s k u = λ x.
-    let n : times x (dropped s).free ≡ times x s.free + times x (filter (is_released s) s.roots) = times-append x s.free (filter (is_released s) s.roots) in
-    elim (cases_lt 0 (times x s.free)) [
-      | inl h ↦ elim (cases_lt 0 (times x s.roots)) [
-        | inl r ↦ absurd (false≢true (sym (u x h) ∙ root_buffered s x k r))
-        | inr r ↦ omega (arith, n, r, times_filtered (is_released s) x s.roots, k.free_once x)
-      ]
-      | inr h ↦ omega (arith, n, h, times_filtered (is_released s) x s.roots, roots_once k x)
-    ]
-
-pub dropped_kept : (s : State) → IsKept s → AreUnbuffered s → IsKept (dropped s)
-dropped_kept s k u =
-    let k' = keep_clear_roots k in
-    relisted k' k'.marked_once k'.work_once k'.zeros_once (rw (length-map s.slots unrooted) (dropped_once s k u))
 
 -- a slot is swept
 pub sweep_kept : (s : State) (due : Option ℕ) → IsKept s → IsKept (sweeps.took_at (record { due = due; counts = s }) due).counts

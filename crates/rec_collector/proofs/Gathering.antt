@@ -1,13 +1,14 @@
 -- What every machine keeps holds while an epoch is requested and the buffers of the mutators are gathered.
-use Rattle.std.proofs.Common.{◌≡◌, ◌≢◌, ℕ, ◌+◌, ◌-◌, ◌*◌, ◌^◌, ◌<◌, ◌≤◌, ◌==◌, true, false, Bool, cond, inl, inr, length, set, refl, arith, sym, ◌∙◌, ap, subst}
+use Rattle.std.proofs.Common.{◌≡◌, ◌≢◌, ℕ, ◌+◌, ◌-◌, ◌*◌, ◌^◌, ◌<◌, ◌≤◌, ◌==◌, true, false, Bool, cond, inl, inr, IsNone, length, set, refl, arith, sym, ◌∙◌, ap, subst}
 use Rattle.std.proofs.lemmas.List.{length-set, get_or-set_same, get_or-set_other}
 use Rattle.std.proofs.lemmas.Bool.{cases_eq, cases_lt, eq-eqb, false≢true}
 use Rattle.rec_word.specs.Op.{crossing_word}
 use Rattle.rec_log.specs.declared.contents.Contents.{Contents}
 use Rattle.rec_counts.specs.Counts.{State}
 use Rattle.rec_release.specs.Release.{Machine}
+use Rattle.rec_trial.specs.Trial.{Machine as Trial, next_of}
 use Rattle.rec_collector.specs.Given.{IsSized}
-use Rattle.rec_collector.specs.Kept.{AreSized, AreSpare, IsAt, IsAtRest, IsMachine, NoneReleased, swept_at, under_way}
+use Rattle.rec_collector.specs.Kept.{AreSized, AreSpare, IsAt, IsAtRest, IsMachine, IsUntried, NoneReleased, swept_at, under_way}
 use Rattle.rec_collector.specs.Next.{is_spent}
 use Rattle.rec_collector.specs.Private.{Private, blank, buffer_at}
 use Rattle.rec_collector.specs.Took.{moved, swapped_at, took_at}
@@ -16,8 +17,10 @@ use Rattle.rec_collector.specs.declared.phase.Phase.TheVariants.{Idle, Looking, 
 use Rattle.rec_collector.proofs.Sweeping.{freed_at, now_at, under_way_at}
 
 -- what is at rest stays so with the same counts, release and sweep
-still_rests : (p q : Private) → q.counts ≡ p.counts → q.release ≡ p.release → q.due ≡ p.due → IsAtRest p → IsAtRest q
-still_rests p q counts release due a = record {
+still_rests : (p q : Private) → q.counts ≡ p.counts → q.release ≡ p.release → q.trial ≡ p.trial → q.due ≡ p.due → IsAtRest p → IsAtRest q
+still_rests p q counts release trial due a = record {
+  untried = subst IsUntried (sym counts) a.untried;
+  idle = subst (λ (t : Trial). IsNone (next_of t)) (sym trial) a.idle;
   none = subst NoneReleased (sym counts) a.none;
   zeros = ap (λ (s : State). s.zeros) counts ∙ a.zeros;
   roots = ap (λ (s : State). s.roots) counts ∙ a.roots;
@@ -34,13 +37,13 @@ moved_keeps p epoch phase k fits under freed now = record {
   collections = under;
   freed = freed;
   fields = k.fields;
+  same_fields = k.same_fields;
   few_fields = k.few_fields;
   mutators = k.mutators;
   few = k.few;
   both = k.both;
   newer = k.newer;
   older = k.older;
-  sets = k.sets;
   counts = k.counts;
   now = now;
 }
@@ -60,7 +63,7 @@ idle_keeps p word k e = go (is_spent p) refl
         let next : p.epoch + 1 ≢ 2 ^ 24 = λ q. false≢true (sym s ∙ eq-eqb (p.epoch + 1) (2 ^ 24) q) in
         let fits : p.epoch + 1 < 2 ^ 24 = elim (cases_lt (p.epoch + 1) (2 ^ 24)) [ inl l ↦ l | inr l ↦ absurd (next (omega (arith, l, k.epoch))) ] in
         moved_keeps p (p.epoch + 1) (Looking 1) k fits (omega (arith, under_way_at p Idle k e)) (freed_at p Idle k e)
-        (record { rest = still_rests p requested refl refl refl a.0; first = omega arith; there = omega (arith, k.mutators); spares = a.1; turns = omega (arith, a.2) })
+        (record { rest = still_rests p requested refl refl refl refl a.0; first = omega arith; there = omega (arith, k.mutators); spares = a.1; turns = omega (arith, a.2) })
 
 -- the mailbox of a mutator is held where it has crossed
 pub look_keeps : (p : Private) (word t : ℕ) → IsMachine p → p.phase ≡ Looking t → IsMachine (took_at p word (Looking t))
@@ -72,7 +75,7 @@ look_keeps p word t k e = go (word == crossing_word p.epoch 2)
     go true =
         let a : IsAt p (Looking t) = now_at p (Looking t) k e in
         moved_keeps p p.epoch (Swapping t) k k.epoch (under_way_at p (Looking t) k e) (freed_at p (Looking t) k e)
-        (record { rest = still_rests p (moved p (Swapping t)) refl refl refl a.rest; first = a.first; there = a.there; spares = a.spares; turns = omega (arith, a.turns, a.first) })
+        (record { rest = still_rests p (moved p (Swapping t)) refl refl refl refl a.rest; first = a.first; there = a.there; spares = a.spares; turns = omega (arith, a.turns, a.first) })
 
 -- the next mutator's mailbox follows
 pub next_keeps : (p : Private) (t : ℕ) → IsMachine p → p.phase ≡ Returning t → t ≢ length p.newer → IsMachine (moved p (Looking (t + 1)))
@@ -82,7 +85,7 @@ next_keeps p t k e other =
     let same : t + 1 - 1 ≡ t = omega arith in
     moved_keeps p p.epoch (Looking (t + 1)) k k.epoch (under_way_at p (Returning t) k e) (freed_at p (Returning t) k e)
     (record {
-      rest = still_rests p (moved p (Looking (t + 1))) refl refl refl a.rest;
+      rest = still_rests p (moved p (Looking (t + 1))) refl refl refl refl a.rest;
       first = omega arith;
       there = omega (arith, more);
       spares = subst (λ from. AreSpare p from) (sym same) a.spares;
@@ -108,16 +111,16 @@ swap_keeps p t box z k e =
       collections = under_way_at p (Swapping t) k e;
       freed = freed_at p (Swapping t) k e;
       fields = k.fields;
+      same_fields = k.same_fields;
       few_fields = k.few_fields;
       mutators = omega (arith, k.mutators, many);
       few = omega (arith, k.few, many);
       both = k.both ∙ sym many;
       newer = swap_sized p (t - 1) box z k.newer;
       older = k.older;
-      sets = k.sets;
       counts = k.counts;
       now = record {
-        rest = still_rests p (record p { phase = Returning t; newer = set p.newer (t - 1) box }) refl refl refl a.rest;
+        rest = still_rests p (record p { phase = Returning t; newer = set p.newer (t - 1) box }) refl refl refl refl a.rest;
         first = a.first;
         there = omega (arith, a.there, many);
         spares = λ j f l. get_or-set_other p.newer (t - 1) j box (blank 0 0) (λ q. absurd (omega (arith, a.first, f, q))) ∙ a.spares j (omega (arith, f)) (omega (arith, l, many));

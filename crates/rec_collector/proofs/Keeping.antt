@@ -4,6 +4,7 @@ use Rattle.std.specs.List.{flat_map}
 use Rattle.std.proofs.lemmas.Bool.{cases_lt, eq-eqb, eqb-true, false≢true}
 use Rattle.rec_word.specs.Op.{crossing_word}
 use Rattle.rec_word.specs.Word.{target_of}
+use Rattle.rec_word.specs.declared.op.Op.{Op}
 use Rattle.rec_log.specs.declared.contents.Contents.{Contents}
 use Rattle.rec_counts.specs.Counts.{State, slot_at, IsKept as IsKeptCounts}
 use Rattle.rec_counts.specs.Lists.{times}
@@ -19,26 +20,32 @@ use Rattle.rec_release.specs.Sweep as sweeps
 use Rattle.rec_release.specs.Sweep.{AreUnbuffered}
 use Rattle.rec_release.proofs.Keeping.{emptied_length, held_off, next_length, none_left, rest_off, took_last, took_on, work_last, work_next, work_on}
 use Rattle.rec_release.proofs.Runs.{at_work, begun_whole, more_whole}
-use Rattle.rec_collector.specs.After.{counts_after, ended_if}
+use Rattle.rec_trial.specs.Rules.{LeadsToUnreleased}
+use Rattle.rec_trial.specs.Trial.{next_of as trial_next}
+use Rattle.rec_trial.specs.Trial as trials
+use Rattle.rec_collector.specs.GivenUp.{given_up}
+use Rattle.rec_collector.specs.After.{ended_if}
 use Rattle.rec_collector.specs.Given.{IsCovered, IsGiven, IsGivenAt, IsSized}
 use Rattle.rec_collector.specs.Kept.{IsAt, IsMachine, IsReleasing, swept_at, under_way}
 use Rattle.rec_collector.specs.Next.{is_spent}
 use Rattle.rec_collector.specs.Private.{Private}
 use Rattle.rec_collector.specs.Step.{IsBetween}
-use Rattle.rec_collector.specs.Took.{begun, dropped, moved, released, step_of, swapped_at, swapped_of, swept_next, took_at, took_of, went_on, went_on_at, with_work}
+use Rattle.rec_collector.specs.Took.{begun, moved, released, step_of, swapped_at, swapped_of, swept_next, took_at, took_of, trial_started, trial_took, tried, tried_at, went_on, went_on_at, with_trial, with_work}
 use Rattle.rec_collector.specs.declared.phase.Phase.{Phase}
-use Rattle.rec_collector.specs.declared.phase.Phase.TheVariants.{Idle, Looking, Swapping, Returning, Releasing, Opening, Sweeping, Closing}
-use Rattle.rec_collector.proofs.Counting.{batch_kept, dropped_kept, emptied_kept, first_kept, off_kept, sweep_kept}
+use Rattle.rec_collector.specs.declared.phase.Phase.TheVariants.{Idle, Looking, Swapping, Returning, Releasing, Trying, Opening, Sweeping, Closing}
+use Rattle.rec_collector.proofs.Counting.{batch_kept, emptied_kept, first_kept, off_kept, sweep_kept}
 use Rattle.rec_collector.proofs.Gathering.{idle_keeps, look_keeps, next_keeps, swap_keeps}
-use Rattle.rec_collector.proofs.Releasing.{HasCome, began_comes, come_unbuffered, gone_comes, landed, landed_keeps, landed_went}
+use Rattle.rec_collector.proofs.Releasing.{HasCome, began_comes, gone_comes, landed, landed_keeps, landed_went}
 use Rattle.rec_collector.proofs.Sweeping.{ended_keeps, now_at, opening_keeps, sweeping_keeps}
+use Rattle.rec_collector.proofs.Trying.{took_tried, tried_landed, tried_landed_keeps, tried_went}
+use Rattle.rec_collector.proofs.Untried.{batch_untried}
 
 -- a collection that has come so far in its release, with its counts
-abbrev Comes : Private → Work → Type 0
+abbrev pub Comes : Private → Work → Type 0
 Comes p w = HasCome p w × IsKeptCounts w.counts
 
 -- the batch was applied, and its release has begun
-begun_come : (p : Private) (t : ℕ) → IsMachine p → p.phase ≡ Returning t → t ≡ length p.newer → IsCovered p.counts p.newer p.older → Comes p (begun p)
+pub begun_come : (p : Private) (t : ℕ) → IsMachine p → p.phase ≡ Returning t → t ≡ length p.newer → IsCovered p.counts p.newer p.older → Comes p (begun p)
 unfolding begun started_of
 begun_come p t k e last c =
     let a : IsAt p (Returning t) = now_at p (Returning t) k e in
@@ -51,7 +58,7 @@ begun_come p t k e last c =
       zeros = fall_zeros_all (all_up p.counts (flat_map up_targets p.newer)) (flat_map down_targets p.older) falls.zeros;
       free = λ x h. absurd (omega (arith, h, ap (times x) (rests.free ∙ a.rest.free), times-nil x));
     } in (
-      began_comes p t s (with_next f s).machine (with_next f s).counts k e last rests refl (work_next f s k.fields ready) (next_length s.zeros s) (none_left f s) (begun_whole f s k.fields ready),
+      began_comes p t s (with_next f s).machine (with_next f s).counts k e last rests (batch_untried p.counts p.newer p.older a.rest.untried) refl (work_next f s k.fields ready) (next_length s.zeros s) (none_left f s) (begun_whole f s k.fields ready),
       first_kept s.zeros s refl (batch_kept p.counts p.newer p.older falls k.counts),
     )
 
@@ -86,7 +93,7 @@ gone_on_come p word b k e m at c =
           (next_length v.zeros v ∙ emptied_length (taken_off s t) b.slot ∙ (rest_off s t).slots) (none_left f v) (first_kept v.zeros v refl (emptied_kept (taken_off s t) b.slot held.in_range held.unlisted off))
     ]
 
-gone_come : (p : Private) (word : ℕ) → IsMachine p → p.phase ≡ Releasing → IfSome (target_of word) (λ x. 0 < (slot_at p.counts x).count) → Comes p (released p word)
+pub gone_come : (p : Private) (word : ℕ) → IsMachine p → p.phase ≡ Releasing → IfSome (target_of word) (λ x. 0 < (slot_at p.counts x).count) → Comes p (released p word)
 gone_come p word k e c =
     let a : IsReleasing p = now_at p Releasing k e in
     go p.release.at refl a.busy a.kept
@@ -95,26 +102,27 @@ gone_come p word k e c =
     go None q b w = absurd (false≢true b)
     go (Some x) q b w = gone_on_come p word x k e (ap (λ (o : Option At). record { fields = p.release.fields; at = o }) q) w c
 
--- where nothing is left to release, the root buffer is emptied
-after_kept : (s : State) (at : Option At) → IsKeptCounts s → AreUnbuffered s → IsKeptCounts (counts_after s at)
-after_kept s (Some a) k u = k
-after_kept s None k u = dropped_kept s k u
-
--- and where nothing is to be swept, the collection is complete
+-- where nothing is to be swept, the collection is complete
 ended_if_keeps : (p : Private) (phase : Phase) → IsMachine p → p.phase ≡ phase → IsMachine (ended_if p phase)
 ended_if_keeps p Idle k e = k
 ended_if_keeps p (Looking t) k e = k
 ended_if_keeps p (Swapping t) k e = k
 ended_if_keeps p (Returning t) k e = k
 ended_if_keeps p Releasing k e = k
+ended_if_keeps p Trying k e = k
 ended_if_keeps p Opening k e = k
 ended_if_keeps p (Sweeping n) k e = k
 ended_if_keeps p (Closing n) k e = ended_keeps p n k e
 
 went_keeps : (p : Private) (w : Work) (phase : Phase) → IsMachine p → p.phase ≡ phase → under_way phase ≡ 1 → swept_at phase ≡ 0 → Comes p w → IsMachine (went_on p w)
-went_keeps p w phase k e under none h =
-    let k' : IsMachine (landed p w) = landed_keeps p w phase k e under none h.0 h.1 (after_kept w.counts w.machine.at h.1 (come_unbuffered p w h.0)) in
-    subst IsMachine (landed_went p w) (ended_if_keeps (landed p w) (landed p w).phase k' refl)
+went_keeps p w phase k e under none h = subst IsMachine (landed_went p w) (ended_if_keeps (landed p w) (landed p w).phase (landed_keeps p w phase k e under none h.0 h.1) refl)
+
+-- a field was loaded for the trial
+trial_keeps : (p : Private) (word : ℕ) → IsMachine p → p.phase ≡ Trying → LeadsToUnreleased p.counts word → IsMachine (tried p (trial_took p word))
+trial_keeps p word k e l =
+    let w : trials.Work = trial_took p word in
+    let k' : IsMachine (tried_landed p p.release w) = tried_landed_keeps p p.release w Trying k e refl refl (took_tried p word k e l) in
+    subst IsMachine (tried_went p p.counts p.release w) (ended_if_keeps (tried_landed p p.release w) (tried_landed p p.release w).phase k' refl)
 
 -- a mailbox was given back
 return_keeps : (p : Private) (word t : ℕ) → IsMachine p → p.phase ≡ Returning t → (t ≡ length p.newer → IsCovered p.counts p.newer p.older) → IsMachine (took_at p word (Returning t))
@@ -133,6 +141,7 @@ took_keeps_at p word (Looking t) k e g = look_keeps p word t k e
 took_keeps_at p word (Swapping t) k e g = absurd g
 took_keeps_at p word (Returning t) k e g = return_keeps p word t k e g
 took_keeps_at p word Releasing k e g = went_keeps p (released p word) Releasing k e refl refl (gone_come p word k e g)
+took_keeps_at p word Trying k e g = trial_keeps p word k e g
 took_keeps_at p word Opening k e g = opening_keeps p k e
 took_keeps_at p word (Sweeping n) k e g = sweeping_keeps p n word k e (sweep_kept p.counts p.due k.counts)
 took_keeps_at p word (Closing n) k e g = ended_keeps p n k e
@@ -142,25 +151,31 @@ unfolding took_of IsGiven
 took_keeps p word k g = took_keeps_at p word p.phase k refl g
 
 -- the registers and the room of the buffers stay
-went_sized : (p : Private) (w : Work) (box : Contents) (at : Option At) → IsSized p.registers p.capacity box → IsSized (went_on_at p w at).registers (went_on_at p w at).capacity box
-went_sized p w box (Some a) z = z
-went_sized p w box None z = go (dropped w.counts).free
+tried_sized : (p : Private) (w : trials.Work) (box : Contents) (op : Option Op) → IsSized p.registers p.capacity box → IsSized (tried_at p w op).registers (tried_at p w op).capacity box
+tried_sized p w box (Some o) z = z
+tried_sized p w box None z = go w.counts.free
   where
-    go : (free : List ℕ) → IsSized (swept_next (with_work p (record w { counts = dropped w.counts })) free).registers (swept_next (with_work p (record w { counts = dropped w.counts })) free).capacity box
+    go : (free : List ℕ) → IsSized (swept_next (with_trial p (record w { counts = given_up w.counts })) free).registers (swept_next (with_trial p (record w { counts = given_up w.counts })) free).capacity box
     go [] = z
     go (x ∷ free) = z
+
+went_sized : (p : Private) (w : Work) (box : Contents) (at : Option At) → IsSized p.registers p.capacity box → IsSized (went_on_at p w at).registers (went_on_at p w at).capacity box
+unfolding tried
+went_sized p w box (Some a) z = z
+went_sized p w box None z = tried_sized (with_work p w) (trial_started p w.counts) box (trial_next (trial_started p w.counts).machine) z
 
 either_sized : (p q : Private) (box : Contents) (b : Bool) → IsSized p.registers p.capacity box → IsSized q.registers q.capacity box → IsSized (cond b p q).registers (cond b p q).capacity box
 either_sized p q box true y z = y
 either_sized p q box false y z = z
 
 took_sized_at : (p : Private) (word : ℕ) (box : Contents) (phase : Phase) → IsSized p.registers p.capacity box → IsSized (took_at p word phase).registers (took_at p word phase).capacity box
-unfolding took_at went_on
+unfolding took_at went_on tried
 took_sized_at p word box Idle z = either_sized p (moved (record p { epoch = p.epoch + 1 }) (Looking 1)) box (is_spent p) z z
 took_sized_at p word box (Looking t) z = either_sized (moved p (Swapping t)) p box (word == crossing_word p.epoch 2) z z
 took_sized_at p word box (Swapping t) z = z
 took_sized_at p word box (Returning t) z = either_sized (went_on p (begun p)) (moved p (Looking (t + 1))) box (t == length p.newer) (went_sized p (begun p) box (begun p).machine.at z) z
 took_sized_at p word box Releasing z = went_sized p (released p word) box (released p word).machine.at z
+took_sized_at p word box Trying z = tried_sized p (trial_took p word) box (trial_next (trial_took p word).machine) z
 took_sized_at p word box Opening z = z
 took_sized_at p word box (Sweeping n) z = z
 took_sized_at p word box (Closing n) z = z
@@ -177,6 +192,7 @@ swapped_keeps p box (Looking t) z k e = k
 swapped_keeps p box (Swapping t) z k e = swap_keeps p t box z k e
 swapped_keeps p box (Returning t) z k e = k
 swapped_keeps p box Releasing z k e = k
+swapped_keeps p box Trying z k e = k
 swapped_keeps p box Opening z k e = k
 swapped_keeps p box (Sweeping n) z k e = k
 swapped_keeps p box (Closing n) z k e = k

@@ -1,7 +1,8 @@
 pub mod Causes
 pub mod Counting
-pub mod Dropping
+pub mod CycleDriven
 pub mod Gathering
+pub mod GivingUp
 pub mod HandDriven
 pub mod Keeping
 pub mod Limits
@@ -10,4 +11,6 @@ pub mod Releasing
 pub mod Rows
 pub mod Steps
 pub mod Sweeping
+pub mod Trying
+pub mod Untried
 pub mod Words

@@ -13,10 +13,11 @@ use Rattle.rec_counts.proofs.Times.{length-once, one-le}
 use Rattle.rec_word.specs.Place.{place_of}
 use Rattle.rec_release.specs.declared.at.At.{At}
 use Rattle.rec_release.specs.Released.{Released, places_from, places_left}
+use Rattle.rec_trial.proofs.Keeps.{at_work_few}
 use Rattle.rec_collector.specs.Private.{Private}
-use Rattle.rec_collector.specs.Kept.{all_fields, limit_of, IsAt, IsReleasing, IsMachine}
+use Rattle.rec_collector.specs.Kept.{all_fields, limit_of, IsAt, IsReleasing, IsTrying, IsMachine}
 use Rattle.rec_collector.specs.declared.phase.Phase.{Phase}
-use Rattle.rec_collector.specs.declared.phase.Phase.TheVariants.{Idle, Looking, Swapping, Returning, Releasing, Opening, Sweeping, Closing}
+use Rattle.rec_collector.specs.declared.phase.Phase.TheVariants.{Idle, Looking, Swapping, Returning, Releasing, Trying, Opening, Sweeping, Closing}
 
 -- all fields of these slots
 all_places : (fields : ℕ) (slots : List ℕ) → length (flat_map (λ slot. places_from fields slot 0) slots) ≡ length slots * fields
@@ -45,19 +46,26 @@ releasing_few p k =
     let e : length k.before.slots * p.release.fields ≡ all_fields p = ap (λ n. n * p.release.fields) k.many in
     omega (arith, e, k.turns, few_words p.release.fields k.before p.release.at p.counts k.words k.places k.slots k.released)
 
-within_at : (p : Private) (phase : Phase) → 0 < length p.newer → IsAt p phase → p.turns ≤ limit_of p
-within_at p Idle m k = omega (arith, k.2)
-within_at p (Looking t) m k = omega (arith, k.turns, k.there)
-within_at p (Swapping t) m k = omega (arith, k.turns, k.there)
-within_at p (Returning t) m k = omega (arith, k.turns, k.there)
-within_at p Releasing m k = omega (arith, releasing_few p k)
-within_at p Opening m k = omega (arith, k.0.turns)
-within_at p (Sweeping n) m k = omega (arith, k.0.turns, k.0.left)
-within_at p (Closing n) m k = omega (arith, k.0.turns, k.0.left)
+-- a trial takes in three words for each field at most
+trying_few : (p : Private) → p.trial.fields ≡ p.release.fields → IsTrying p → p.turns ≤ 1 + 2 * length p.newer + 4 * all_fields p
+trying_few p e k =
+    let all : length p.counts.slots * p.trial.fields ≡ all_fields p = ap (λ n. length p.counts.slots * n) e in
+    omega (arith, k.turns, at_work_few p.trial p.counts k.kept k.busy, all)
+
+within_at : (p : Private) (phase : Phase) → 0 < length p.newer → p.trial.fields ≡ p.release.fields → IsAt p phase → p.turns ≤ limit_of p
+within_at p Idle m f k = omega (arith, k.2)
+within_at p (Looking t) m f k = omega (arith, k.turns, k.there)
+within_at p (Swapping t) m f k = omega (arith, k.turns, k.there)
+within_at p (Returning t) m f k = omega (arith, k.turns, k.there)
+within_at p Releasing m f k = omega (arith, releasing_few p k)
+within_at p Trying m f k = omega (arith, trying_few p f k)
+within_at p Opening m f k = omega (arith, k.0.turns)
+within_at p (Sweeping n) m f k = omega (arith, k.0.turns, k.0.left)
+within_at p (Closing n) m f k = omega (arith, k.0.turns, k.0.left)
 
 -- in every state
 pub within_limit : (p : Private) → IsMachine p → p.turns ≤ limit_of p
-within_limit p k = within_at p p.phase k.mutators k.now
+within_limit p k = within_at p p.phase k.mutators k.same_fields k.now
 
 -- so they can be counted
 pub turns_fit : (p : Private) → IsMachine p → p.turns + 1 < 2 ^ 64

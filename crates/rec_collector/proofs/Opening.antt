@@ -1,11 +1,14 @@
 -- A machine as it is opened.
-use Rattle.std.proofs.Common.{◌≡◌, ℕ, ◌-◌, ◌^◌, ◌<◌, Option, None, length, replicate, refl, arith, sym, ap, ◌∙◌, inl, inr}
-use Rattle.std.proofs.lemmas.Bool.{cases_eq}
-use Rattle.std.proofs.lemmas.List.{get_or-replicate, get_or-set_same, get_or-set_other, length-replicate, length-set}
+use Rattle.std.proofs.Common.{◌≡◌, ℕ, ◌-◌, ◌^◌, ◌<◌, Bool, false, Option, None, IsNone, length, replicate, get_or, refl, arith, sym, ap, ◌∙◌, inl, inr}
+use Rattle.std.proofs.lemmas.Bool.{cases_eq, cases_lt}
+use Rattle.std.proofs.lemmas.List.{get_or-replicate, get_or_past, get_or-set_same, get_or-set_other, length-replicate, length-set}
 use Rattle.rec_counts.specs.declared.slot.Slot.{Slot}
 use Rattle.rec_counts.specs.Counts.{opened as opened_counts, slot_at, IsKept as IsKeptCounts}
 use Rattle.rec_counts.specs.Slot.{absent, fresh}
-use Rattle.rec_collector.specs.Kept.{AreSpare, IsMachine, NoneReleased}
+use Rattle.rec_counts.proofs.Keeping.{field_kept}
+use Rattle.rec_trial.specs.Moves.{is_gray, is_white}
+use Rattle.rec_trial.specs.Trial.{idle_of, next_of}
+use Rattle.rec_collector.specs.Kept.{AreSpare, IsMachine, IsUntried, NoneReleased}
 use Rattle.rec_collector.specs.Private.{Private, blank, first_registers, opened, retired}
 use Rattle.rec_collector.proofs.Rows.{row_sized}
 
@@ -18,6 +21,29 @@ opened_none slots first = λ x l.
       | inl q ↦ ap (λ z. (slot_at (opened_counts slots first) z).released) q ∙ ap (λ (v : Slot). v.released) (get_or-set_same (replicate slots fresh) 0 (record fresh { count = first }) absent (omega (arith, there, n)))
       | inr q ↦ ap (λ (v : Slot). v.released) (get_or-set_other (replicate slots fresh) 0 x (record fresh { count = first }) absent q ∙ get_or-replicate slots x fresh absent there)
     ]
+
+-- no slot is Gray or White, and no trial is at work
+opened_each : (slots first : ℕ) (f : Slot → Bool) → f fresh ≡ false → f absent ≡ false → f (record fresh { count = first }) ≡ false → (x : ℕ) → f (slot_at (opened_counts slots first) x) ≡ false
+opened_each slots first f a b c x = field_kept f (replicate slots fresh) 0 (record fresh { count = first }) (c ∙ sym (each 0)) x ∙ each x
+  where
+    each : (y : ℕ) → f (get_or (replicate slots fresh) y absent) ≡ false
+    each y = elim (cases_lt y slots) [
+      | inl l ↦ ap f (get_or-replicate slots y fresh absent l) ∙ a
+      | inr l ↦ ap f (get_or_past (replicate slots fresh) y absent (omega (arith, l, length-replicate slots fresh))) ∙ b
+    ]
+
+opened_untried : (slots first : ℕ) → IsUntried (opened_counts slots first)
+opened_untried slots first = record {
+  sets = refl;
+  marked = refl;
+  work = refl;
+  no_gray = opened_each slots first (λ (v : Slot). is_gray v.colour) refl refl refl;
+  no_white = opened_each slots first (λ (v : Slot). is_white v.colour) refl refl refl;
+}
+
+opened_idle : (fields : ℕ) → IsNone (next_of (idle_of fields))
+unfolding next_of
+opened_idle fields = refl
 
 -- the newer buffers are spares
 opened_spares : (slots fields registers mutators capacity epoch : ℕ) → AreSpare (opened slots fields registers mutators capacity epoch) 0
@@ -35,13 +61,13 @@ opened_keeps slots fields registers mutators capacity epoch f few r m small e k 
       collections = omega arith;
       freed = omega arith;
       fields = f;
+      same_fields = refl;
       few_fields = few;
       mutators = omega (arith, m, newer);
       few = omega (arith, small, newer);
       both = older ∙ sym newer;
       newer = row_sized p mutators (blank registers capacity) (length-replicate registers None, refl);
       older = row_sized p mutators (retired (first_registers registers) capacity) (omega (arith, r, length-replicate {A = Option ℕ} (registers - 1) None), refl);
-      sets = refl;
       counts = k;
-      now = (record { none = opened_none slots mutators; zeros = refl; roots = refl; free = refl; still = refl; due = refl }, opened_spares slots fields registers mutators capacity epoch, refl);
+      now = (record { untried = opened_untried slots mutators; idle = opened_idle fields; none = opened_none slots mutators; zeros = refl; roots = refl; free = refl; still = refl; due = refl }, opened_spares slots fields registers mutators capacity epoch, refl);
     }

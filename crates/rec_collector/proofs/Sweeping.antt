@@ -17,6 +17,7 @@ use Rattle.rec_collector.specs.Took.{cleared, ended, moved, swept_phase, swept_o
 use Rattle.rec_collector.specs.declared.phase.Phase.{Phase}
 use Rattle.rec_collector.specs.declared.phase.Phase.TheVariants.{Opening, Sweeping, Closing}
 use Rattle.rec_collector.proofs.Rows.{cleared_sized, cleared_spares}
+use Rattle.rec_collector.proofs.Untried.{swept_untried}
 
 -- what holds in the phase of a machine
 pub now_at : (p : Private) (phase : Phase) → IsMachine p → p.phase ≡ phase → IsAt p phase
@@ -39,15 +40,15 @@ opening_keeps p k e =
       collections = under_way_at p Opening k e;
       freed = freed_at p Opening k e;
       fields = k.fields;
+      same_fields = k.same_fields;
       few_fields = k.few_fields;
       mutators = k.mutators;
       few = k.few;
       both = k.both;
       newer = k.newer;
       older = k.older;
-      sets = k.sets;
       counts = k.counts;
-      now = (record { zeros = a.0.zeros; roots = a.0.roots; still = a.0.still; listed = a.0.listed; unbuffered = a.0.unbuffered; left = a.0.left; turns = omega (arith, a.0.turns) }, a.1, refl);
+      now = (record { untried = a.0.untried; idle = a.0.idle; zeros = a.0.zeros; roots = a.0.roots; still = a.0.still; listed = a.0.listed; unbuffered = a.0.unbuffered; left = a.0.left; turns = omega (arith, a.0.turns) }, a.1, refl);
     }
 
 first_gone : (free : List ℕ) (x y : ℕ) → slice_get free 0 ≡ Some x → times y free ≡ one (eqb y x) + times y (drop 1 free)
@@ -79,16 +80,18 @@ swept_keeps_on p n x [] k e first left len s =
       collections = under_way_at p (Sweeping n) k e;
       freed = omega (arith, d);
       fields = k.fields;
+      same_fields = k.same_fields;
       few_fields = k.few_fields;
       mutators = k.mutators;
       few = k.few;
       both = k.both;
       newer = k.newer;
       older = k.older;
-      sets = k.sets;
       counts = s;
       now = (
         record {
+          untried = swept_untried p.counts x a.0.untried;
+          idle = a.0.idle;
           zeros = a.0.zeros;
           roots = a.0.roots;
           still = a.0.still;
@@ -110,16 +113,18 @@ swept_keeps_on p n x (y ∷ ys) k e first left len s =
       collections = under_way_at p (Sweeping n) k e;
       freed = omega (arith, d);
       fields = k.fields;
+      same_fields = k.same_fields;
       few_fields = k.few_fields;
       mutators = k.mutators;
       few = k.few;
       both = k.both;
       newer = k.newer;
       older = k.older;
-      sets = k.sets;
       counts = s;
       now = (
         record {
+          untried = swept_untried p.counts x a.0.untried;
+          idle = a.0.idle;
           zeros = a.0.zeros;
           roots = a.0.roots;
           still = a.0.still;
@@ -179,15 +184,15 @@ ended_keeps p n k e =
       collections = omega (arith, under_way_at p (Closing n) k e);
       freed = omega (arith, d, a.0.left, k.counts.few_slots);
       fields = k.fields;
+      same_fields = k.same_fields;
       few_fields = k.few_fields;
       mutators = omega (arith, k.mutators, m);
       few = omega (arith, k.few, m);
       both = sym m;
       newer = cleared_sized p p.older k.older;
       older = k.newer;
-      sets = k.sets;
       counts = k.counts;
-      now = (record { zeros = a.0.zeros; roots = a.0.roots; none = none_left p.counts a.1 a.0.listed; free = a.1; still = a.0.still; due = a.2 }, cleared_spares p 0 k.older, refl);
+      now = (record { untried = a.0.untried; idle = a.0.idle; zeros = a.0.zeros; roots = a.0.roots; none = none_left p.counts a.1 a.0.listed; free = a.1; still = a.0.still; due = a.2 }, cleared_spares p 0 k.older, refl);
     }
 
 pub ended_sizes : (p : Private) → IsMachine p → KeepsSizes p (ended p)

@@ -1,22 +1,27 @@
 -- What comes next names a word of the heap.
-use Rattle.std.proofs.Common.{◌≡◌, ℕ, ◌+◌, ◌*◌, ◌^◌, ◌<◌, ◌≤◌, Option, None, Some, IfSome, length, slice_get, arith, refl, sym, subst, inl, inr}
+use Rattle.std.proofs.Common.{◌≡◌, ℕ, ◌+◌, ◌*◌, ◌^◌, ◌<◌, ◌≤◌, Option, None, Some, IfSome, length, slice_get, arith, refl, sym, ap, subst, inl, inr}
 use Rattle.std.proofs.Math.Nat.{mul-le-mul}
 use Rattle.std.proofs.lemmas.Bool.{cases_eq, cond-true, cond-false, eq-eqb, ne_eqb}
 use Rattle.rec_word.specs.Place.{place_of}
 use Rattle.rec_word.specs.declared.op.Op.{Op}
-use Rattle.rec_word.specs.declared.op.Op.TheVariants.{StoreEpoch}
+use Rattle.rec_word.specs.declared.op.Op.TheVariants.{StoreEpoch, LoadChild}
 use Rattle.rec_counts.specs.Counts.{State, IsKept}
 use Rattle.rec_counts.proofs.Times.{in_range_once}
 use Rattle.rec_release.specs.declared.at.At.{At}
 use Rattle.rec_release.specs.Release.{IsAtWork, IsHeld, Machine, next_of as release_next, op_at}
 use Rattle.rec_release.specs.Sweep.{next_of as sweep_next}
 use Rattle.rec_release.proofs.Sweeping.{first_in}
+use Rattle.rec_trial.specs.declared.phase.Phase as trial_phase
+use Rattle.rec_trial.specs.declared.phase.Phase.TheVariants as trial_at
+use Rattle.rec_trial.specs.Loaded as trials
+use Rattle.rec_trial.specs.Trial.{Machine as Trial, next_of as trial_next, op_at as trial_op_at}
+use Rattle.rec_trial.proofs.AtWork.{at_work_place}
 use Rattle.rec_collector.specs.Kept.{IsAt, IsMachine}
 use Rattle.rec_collector.specs.Next.{is_spent, next_at, next_of}
 use Rattle.rec_collector.specs.Private.{Private}
 use Rattle.rec_collector.specs.Step.{NamesWord}
 use Rattle.rec_collector.specs.declared.phase.Phase.{Phase}
-use Rattle.rec_collector.specs.declared.phase.Phase.TheVariants.{Idle, Looking, Swapping, Returning, Releasing, Opening, Sweeping, Closing}
+use Rattle.rec_collector.specs.declared.phase.Phase.TheVariants.{Idle, Looking, Swapping, Returning, Releasing, Trying, Opening, Sweeping, Closing}
 use Rattle.rec_collector.proofs.Sweeping.{now_at}
 
 -- a field of a slot that is there
@@ -32,6 +37,19 @@ release_names m s mutators k = go m.at k.field k.held
     go : (at : Option At) → IfSome at (λ (a : At). a.field < m.fields) → IfSome at (IsHeld s) → IfSome (op_at m.fields at) (NamesWord (length s.slots) m.fields mutators)
     go None f h = tt
     go (Some a) f h = place_there (length s.slots) m.fields a.slot a.field h.in_range f
+
+trial_names : (m : Trial) (s : State) (fields mutators : ℕ) → m.fields ≡ fields → trials.IsAtWork m s → IfSome (trial_next m) (NamesWord (length s.slots) fields mutators)
+unfolding trial_next
+trial_names m s fields mutators e k = go m.phase refl
+  where
+    named : (place : ℕ) → trial_next m ≡ Some (LoadChild place) → place < length s.slots * fields
+    named place q = rw (← e) (at_work_place m s k place q)
+
+    go : (p : trial_phase.Phase) → m.phase ≡ p → IfSome (trial_op_at p m) (NamesWord (length s.slots) fields mutators)
+    go trial_at.Idle q = tt
+    go trial_at.Marking q = named _ (ap (λ p. trial_op_at p m) q)
+    go trial_at.Scanning q = named _ (ap (λ p. trial_op_at p m) q)
+    go trial_at.Collecting q = named _ (ap (λ p. trial_op_at p m) q)
 
 sweep_names : (s : State) (due : Option ℕ) (fields mutators : ℕ) → IsKept s → due ≡ slice_get s.free 0 → IfSome (sweep_next due) (NamesWord (length s.slots) fields mutators)
 unfolding sweep_next
@@ -50,6 +68,7 @@ names_at p (Looking t) k e = let a : IsAt p (Looking t) = now_at p (Looking t) k
 names_at p (Swapping t) k e = let a : IsAt p (Swapping t) = now_at p (Swapping t) k e in (a.first, a.there, k.epoch)
 names_at p (Returning t) k e = let a : IsAt p (Returning t) = now_at p (Returning t) k e in (a.first, a.there, k.epoch)
 names_at p Releasing k e = release_names p.release p.counts (length p.newer) (now_at p Releasing k e).kept
+names_at p Trying k e = trial_names p.trial p.counts p.release.fields (length p.newer) k.same_fields (now_at p Trying k e).kept
 names_at p Opening k e = tt
 names_at p (Sweeping n) k e = sweep_names p.counts p.due p.release.fields (length p.newer) k.counts (now_at p (Sweeping n) k e).2
 names_at p (Closing n) k e = tt

@@ -18,6 +18,7 @@ private inside =
       newer = inside.newer.items;
       older = inside.older.items;
       release = inside.release;
+      trial = inside.trial;
       due = inside.sweep;
     }
 

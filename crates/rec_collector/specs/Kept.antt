@@ -1,15 +1,18 @@
 -- What every machine keeps, by phase.
-use Rattle.std.specs.Prelude.{◌≡◌, ℕ, ◌+◌, ◌-◌, ◌*◌, ◌^◌, ◌<◌, ◌≤◌, true, false, None, IsSome, List, [], length, slice_get}
+use Rattle.std.specs.Prelude.{◌≡◌, ℕ, ◌+◌, ◌-◌, ◌*◌, ◌^◌, ◌<◌, ◌≤◌, true, false, None, IsNone, IsSome, List, [], length, slice_get}
 use Rattle.rec_log.specs.declared.contents.Contents.{Contents}
 use Rattle.rec_counts.specs.Counts.{State, slot_at, IsKept as IsKeptCounts}
 use Rattle.rec_counts.specs.Lists.{times}
 use Rattle.rec_release.specs.Release.{IsAtWork}
 use Rattle.rec_release.specs.Released.{Released}
 use Rattle.rec_release.specs.Sweep.{AreUnbuffered}
+use Rattle.rec_trial.specs.Loaded as trials
+use Rattle.rec_trial.specs.Moves.{is_gray, is_white}
+use Rattle.rec_trial.specs.Trial.{next_of as trial_next}
 use Rattle.rec_collector.specs.Given.{IsSized}
 use Rattle.rec_collector.specs.Private.{Private, spare, buffer_at}
 use Rattle.rec_collector.specs.declared.phase.Phase.{Phase}
-use Rattle.rec_collector.specs.declared.phase.Phase.TheVariants.{Idle, Looking, Swapping, Returning, Releasing, Opening, Sweeping, Closing}
+use Rattle.rec_collector.specs.declared.phase.Phase.TheVariants.{Idle, Looking, Swapping, Returning, Releasing, Trying, Opening, Sweeping, Closing}
 
 -- how many fields there are in all
 abbrev pub all_fields : Private → ℕ
@@ -31,8 +34,18 @@ AreSpare p from = (place : ℕ) → from ≤ place → place < length p.newer �
 abbrev pub NoneReleased : State → Type 0
 NoneReleased s = (x : ℕ) → x < length s.slots → (slot_at s x).released ≡ false
 
--- nothing is to be released, dropped or swept
+-- no trial is at work on the counts, and the last one has left nothing behind
+pub record IsUntried (s : State) : Type 0 where
+  pub sets : s.sets ≡ []
+  pub marked : s.marked ≡ []
+  pub work : s.work ≡ []
+  pub no_gray : (x : ℕ) → is_gray (slot_at s x).colour ≡ false
+  pub no_white : (x : ℕ) → is_white (slot_at s x).colour ≡ false
+
+-- nothing is to be released, tried or swept
 pub record IsAtRest (p : Private) : Type 0 where
+  pub untried : IsUntried p.counts
+  pub idle : IsNone (trial_next p.trial)
   pub none : NoneReleased p.counts
   pub zeros : p.counts.zeros ≡ []
   pub roots : p.counts.roots ≡ []
@@ -61,19 +74,36 @@ pub record IsReleasing (p : Private) : Type 0 where
   pub many : length before.slots ≡ length p.counts.slots
   pub kept : IsAtWork p.release p.counts
   pub busy : IsSome p.release.at
+  pub untried : IsUntried p.counts
+  pub idle : IsNone (trial_next p.trial)
   pub turns : p.turns ≡ 1 + 2 * length p.newer + length words
   pub due : p.due ≡ None
 
--- Nothing is left to release or to drop. Every released slot is in the free list, and no slot of it is buffered; so many were
+-- A trial is at work, and nothing is left to release. Every released slot is in the free list or waits in the root buffer, and
+-- the free list has released slots alone, none of them buffered. Each turn since the release took in a word.
+pub record IsTrying (p : Private) : Type 0 where
+  pub kept : trials.IsAtWork p.trial p.counts
+  pub busy : IsSome (trial_next p.trial)
+  pub zeros : p.counts.zeros ≡ []
+  pub still : p.release.at ≡ None
+  pub due : p.due ≡ None
+  pub listed : (x : ℕ) → x < length p.counts.slots → (slot_at p.counts x).released ≡ true → 0 < times x p.counts.free + times x p.counts.roots
+  pub only : (x : ℕ) → 0 < times x p.counts.free → (slot_at p.counts x).released ≡ true
+  pub unbuffered : AreUnbuffered p.counts
+  pub turns : p.turns ≤ 1 + 2 * length p.newer + all_fields p + length kept.words
+
+-- Nothing is left to release or to try. Every released slot is in the free list, and no slot of it is buffered; so many were
 -- swept, and the others are left.
 pub record IsSweeping (p : Private) (swept made : ℕ) : Type 0 where
+  pub untried : IsUntried p.counts
+  pub idle : IsNone (trial_next p.trial)
   pub zeros : p.counts.zeros ≡ []
   pub roots : p.counts.roots ≡ []
   pub still : p.release.at ≡ None
   pub listed : (x : ℕ) → x < length p.counts.slots → (slot_at p.counts x).released ≡ true → 0 < times x p.counts.free
   pub unbuffered : AreUnbuffered p.counts
   pub left : swept + length p.counts.free ≤ length p.counts.slots
-  pub turns : p.turns ≤ 1 + 2 * length p.newer + all_fields p + made
+  pub turns : p.turns ≤ 2 + 2 * length p.newer + 4 * all_fields p + made
 
 -- what holds in each phase
 abbrev pub IsAt : Private → Phase → Type 0
@@ -82,6 +112,7 @@ IsAt p (Looking t) = IsGathering p t (t - 1) (2 * t - 1)
 IsAt p (Swapping t) = IsGathering p t (t - 1) (2 * t)
 IsAt p (Returning t) = IsGathering p t t (2 * t)
 IsAt p Releasing = IsReleasing p
+IsAt p Trying = IsTrying p
 IsAt p Opening = IsSweeping p 0 0 × (0 < length p.counts.free) × (p.due ≡ None)
 IsAt p (Sweeping swept) = IsSweeping p swept (swept + 1) × (0 < length p.counts.free) × (p.due ≡ slice_get p.counts.free 0)
 IsAt p (Closing swept) = IsSweeping p swept (swept + 1) × (p.counts.free ≡ []) × (p.due ≡ None)
@@ -103,13 +134,13 @@ pub record IsMachine (p : Private) : Type 0 where
   pub collections : p.collections + under_way p.phase ≤ p.epoch
   pub freed : p.freed ≤ 2 ^ 16 * p.collections + swept_at p.phase
   pub fields : 0 < p.release.fields
+  pub same_fields : p.trial.fields ≡ p.release.fields
   pub few_fields : p.release.fields < 2 ^ 8
   pub mutators : 0 < length p.newer
   pub few : length p.newer < 2 ^ 8
   pub both : length p.older ≡ length p.newer
   pub newer : AreSized p p.newer
   pub older : AreSized p p.older
-  pub sets : p.counts.sets ≡ []
   pub counts : IsKeptCounts p.counts
   pub now : IsAt p p.phase
 

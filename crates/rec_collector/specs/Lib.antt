@@ -1,6 +1,7 @@
 pub mod After
 pub mod Causes
 pub mod Given
+pub mod GivenUp
 pub mod Inside
 pub mod Kept
 pub mod Next

@@ -4,9 +4,10 @@ use Rattle.rec_word.specs.declared.op.Op.{Op}
 use Rattle.rec_word.specs.declared.op.Op.TheVariants.{StoreEpoch, LookBox, ReturnBox, AddFreed}
 use Rattle.rec_release.specs.Release.{next_of as next_of_release}
 use Rattle.rec_release.specs.Sweep.{next_of as next_of_sweep}
+use Rattle.rec_trial.specs.Trial.{next_of as next_of_trial}
 use Rattle.rec_collector.specs.Private.{Private}
 use Rattle.rec_collector.specs.declared.phase.Phase.{Phase}
-use Rattle.rec_collector.specs.declared.phase.Phase.TheVariants.{Idle, Looking, Swapping, Returning, Releasing, Opening, Sweeping, Closing}
+use Rattle.rec_collector.specs.declared.phase.Phase.TheVariants.{Idle, Looking, Swapping, Returning, Releasing, Trying, Opening, Sweeping, Closing}
 
 -- the next epoch would be one that no word can hold
 abbrev pub is_spent : Private → Bool
@@ -19,6 +20,7 @@ next_at p (Looking t) = Some (LookBox t p.epoch)
 next_at p (Swapping t) = Some (ReturnBox t p.epoch)
 next_at p (Returning t) = Some (ReturnBox t p.epoch)
 next_at p Releasing = next_of_release p.release
+next_at p Trying = next_of_trial p.trial
 next_at p Opening = Some AddFreed
 next_at p (Sweeping swept) = next_of_sweep p.due
 next_at p (Closing swept) = Some AddFreed

@@ -3,12 +3,14 @@ use Rattle.std.specs.Prelude.{ℕ, ◌-◌, Option, None, Some, List, [], ◌∷
 use Rattle.rec_log.specs.declared.contents.Contents.{Contents}
 use Rattle.rec_counts.specs.Counts.{State, opened as opened_counts}
 use Rattle.rec_release.specs.Release.{Machine}
+use Rattle.rec_trial.specs.Trial.{Machine as Trial, idle_of}
 use Rattle.rec_collector.specs.declared.phase.Phase.{Phase}
 use Rattle.rec_collector.specs.declared.phase.Phase.TheVariants.{Idle}
 
 -- the requested epoch, the collections completed and the slots swept since opening, and the turns since the last collection;
 -- how far the collection has come; the registers and the room of each buffer; the counts; for each mutator the newer
--- buffer, which is a spare until its mailbox was gathered, and the older one; the release; and the slot that is swept next
+-- buffer, which is a spare until its mailbox was gathered, and the older one; the release; the trial; and the slot that is
+-- swept next
 pub record Private : Type 0 where
   pub epoch : ℕ
   pub collections : ℕ
@@ -21,6 +23,7 @@ pub record Private : Type 0 where
   pub newer : List Contents
   pub older : List Contents
   pub release : Machine
+  pub trial : Trial
   pub due : Option ℕ
 
 -- a buffer without entries that has these registers as its snapshot
@@ -54,6 +57,7 @@ opened slots fields registers mutators capacity first_epoch =
       newer = replicate mutators (blank registers capacity);
       older = replicate mutators (retired (first_registers registers) capacity);
       release = record { fields = fields; at = None };
+      trial = idle_of fields;
       due = None;
     }
 

@@ -2,15 +2,18 @@
 use Rattle.std.specs.Prelude.{◌≡◌, ◌≢◌, ℕ, ◌+◌, ◌-◌, ◌*◌, ◌^◌, ◌<◌, ◌≤◌, Option, None, Some, [], length, map, slice_set}
 use Rattle.rec_word.specs.Op.{crossing_word}
 use Rattle.rec_word.specs.declared.op.Op.{Op}
-use Rattle.rec_word.specs.declared.op.Op.TheVariants.{StoreEpoch, LookBox, ReturnBox, ClearField, FreeHeader, AddFreed}
+use Rattle.rec_word.specs.declared.op.Op.TheVariants.{StoreEpoch, LookBox, ReturnBox, LoadChild, ClearField, FreeHeader, AddFreed}
 use Rattle.rec_log.specs.declared.contents.Contents.{Contents}
 use Rattle.rec_apply.specs.Batch.{batch}
 use Rattle.rec_release.specs.Release.{Work, next_of as release_next, started_of as release_started, took_of as release_took}
 use Rattle.rec_release.specs.Sweep as sweeps
+use Rattle.rec_trial.specs.Trial.{next_of as trial_next}
+use Rattle.rec_trial.specs.Trial as trials
+use Rattle.rec_collector.specs.GivenUp.{given_up}
 use Rattle.rec_collector.specs.Private.{Private}
-use Rattle.rec_collector.specs.Took.{cleared, dropped}
+use Rattle.rec_collector.specs.Took.{cleared, trial_started, trial_took}
 use Rattle.rec_collector.specs.declared.phase.Phase.{Phase}
-use Rattle.rec_collector.specs.declared.phase.Phase.TheVariants.{Idle, Looking, Swapping, Returning, Releasing, Opening, Sweeping, Closing}
+use Rattle.rec_collector.specs.declared.phase.Phase.TheVariants.{Idle, Looking, Swapping, Returning, Releasing, Trying, Opening, Sweeping, Closing}
 use Rattle.rec_collector.specs.declared.turn.Turn.{Turn}
 use Rattle.rec_collector.specs.declared.turn.Turn.TheVariants.{Moved, Waiting, Collected, EpochsSpent}
 
@@ -25,14 +28,19 @@ pub record Ends (r q : Private) (turn : Turn) (swept : ℕ) : Type 0 where
   pub after : q ≡ record r { phase = Idle; turns = 0; collections = r.collections + 1; newer = map cleared r.older; older = r.newer }
   pub answer : turn ≡ Collected (r.epoch - 1) swept
 
--- A release came so far. While a field is due it goes on. Then the root buffer is emptied, and a sweep begins, unless the free
+-- A trial came so far. While a field is to be loaded it goes on. Then each set is given up, and a sweep begins, unless the free
 -- list is empty: then the collection is complete.
+pub data TriesOn (p : Private) (w : trials.Work) (q : Private) (turn : Turn) : Type 0 where
+  more : trial_next w.machine ≢ None → GoesOn (record p { counts = w.counts; trial = w.machine }) q turn Trying → TriesOn p w q turn
+  sweeps_next : trial_next w.machine ≡ None → w.counts.free ≢ []
+      → GoesOn (record p { counts = given_up w.counts; trial = w.machine }) q turn Opening → TriesOn p w q turn
+  completes : trial_next w.machine ≡ None → w.counts.free ≡ []
+      → Ends (record p { counts = given_up w.counts; trial = w.machine }) q turn 0 → TriesOn p w q turn
+
+-- A release came so far. While a field is due it goes on. Then a trial begins.
 pub data ReleasesOn (p : Private) (w : Work) (q : Private) (turn : Turn) : Type 0 where
   more : w.machine.at ≢ None → GoesOn (record p { counts = w.counts; release = w.machine }) q turn Releasing → ReleasesOn p w q turn
-  sweeps_next : w.machine.at ≡ None → (dropped w.counts).free ≢ []
-      → GoesOn (record p { counts = dropped w.counts; release = w.machine }) q turn Opening → ReleasesOn p w q turn
-  completes : w.machine.at ≡ None → (dropped w.counts).free ≡ []
-      → Ends (record p { counts = dropped w.counts; release = w.machine }) q turn 0 → ReleasesOn p w q turn
+  tries : w.machine.at ≡ None → TriesOn (record p { counts = w.counts; release = w.machine }) (trial_started p w.counts) q turn → ReleasesOn p w q turn
 
 -- after one slot more was swept, the next one follows, or the end of the sweep
 pub data IsNext (swept : ℕ) (w : sweeps.Work) (next_phase : Phase) : Type 0 where
@@ -55,6 +63,7 @@ pub data Step (p : Private) (word : ℕ) (box : Contents) (op : Option Op) (q : 
       → ReleasesOn p (release_started p.release (batch p.counts p.newer p.older)) q turn → Step p word box op q turn
   release : p.phase ≡ Releasing → op ≡ release_next p.release
       → ReleasesOn p (release_took (record { machine = p.release; counts = p.counts }) word) q turn → Step p word box op q turn
+  trial : p.phase ≡ Trying → op ≡ trial_next p.trial → TriesOn p (trial_took p word) q turn → Step p word box op q turn
   begin_sweep : p.phase ≡ Opening → op ≡ Some AddFreed
       → GoesOn (record p { due = (sweeps.started_of p.counts).due; counts = (sweeps.started_of p.counts).counts }) q turn (Sweeping 0) → Step p word box op q turn
   sweep : (swept : ℕ) (w : sweeps.Work) (next_phase : Phase) → p.phase ≡ Sweeping swept → op ≡ sweeps.next_of p.due
@@ -73,6 +82,7 @@ abbrev pub NamesWord : (slots fields mutators : ℕ) → Op → Type 0
 NamesWord slots fields mutators (StoreEpoch e) = e < 2 ^ 24
 NamesWord slots fields mutators (LookBox t e) = (0 < t) × (t ≤ mutators) × (e < 2 ^ 24)
 NamesWord slots fields mutators (ReturnBox t e) = (0 < t) × (t ≤ mutators) × (e < 2 ^ 24)
+NamesWord slots fields mutators (LoadChild place) = place < slots * fields
 NamesWord slots fields mutators (ClearField place) = place < slots * fields
 NamesWord slots fields mutators (FreeHeader slot) = slot < slots
 NamesWord slots fields mutators AddFreed = Unit {0}

@@ -1,17 +1,20 @@
 -- What is learnt, and what a turn answers: functions of the private record and of the word found.
-use Rattle.std.specs.Prelude.{ℕ, ◌+◌, ◌-◌, ◌==◌, Option, None, Some, List, [], ◌∷◌, ◌++◌, if◌then◌else◌, length, map, filter, replicate, slice_set}
+use Rattle.std.specs.Prelude.{ℕ, ◌+◌, ◌-◌, ◌==◌, Option, None, Some, List, [], ◌∷◌, if◌then◌else◌, length, map, replicate, slice_set}
 use Rattle.rec_word.specs.Op.{crossing_word}
 use Rattle.rec_log.specs.declared.contents.Contents.{Contents}
-use Rattle.rec_counts.specs.Counts.{State, slot_at}
-use Rattle.rec_counts.specs.Slot.{unrooted}
+use Rattle.rec_word.specs.declared.op.Op.{Op}
+use Rattle.rec_counts.specs.Counts.{State}
 use Rattle.rec_apply.specs.Batch.{batch}
 use Rattle.rec_release.specs.declared.at.At.{At}
 use Rattle.rec_release.specs.Release.{Work, started_of as release_started, took_of as release_took}
 use Rattle.rec_release.specs.Sweep as sweeps
+use Rattle.rec_trial.specs.Trial.{next_of as trial_next, started_of as trial_started_of, took_of as trial_took_of}
+use Rattle.rec_trial.specs.Trial as trials
+use Rattle.rec_collector.specs.GivenUp.{given_up}
 use Rattle.rec_collector.specs.Next.{is_spent}
 use Rattle.rec_collector.specs.Private.{Private}
 use Rattle.rec_collector.specs.declared.phase.Phase.{Phase}
-use Rattle.rec_collector.specs.declared.phase.Phase.TheVariants.{Idle, Looking, Swapping, Returning, Releasing, Opening, Sweeping, Closing}
+use Rattle.rec_collector.specs.declared.phase.Phase.TheVariants.{Idle, Looking, Swapping, Returning, Releasing, Trying, Opening, Sweeping, Closing}
 use Rattle.rec_collector.specs.declared.turn.Turn.{Turn}
 use Rattle.rec_collector.specs.declared.turn.Turn.TheVariants.{Moved, Waiting, Collected, EpochsSpent}
 
@@ -22,10 +25,6 @@ moved p phase = record p { phase = phase; turns = p.turns + 1 }
 -- a buffer is emptied, and its snapshot made all null
 abbrev pub cleared : Contents → Contents
 cleared b = record b { entries = []; snapshot = replicate (length b.snapshot) None }
-
--- the root buffer is emptied: its slots are unbuffered, and those that are released go to the free list, in order
-abbrev pub dropped : State → State
-dropped s = record s { slots = map unrooted s.slots; roots = []; free = s.free ++ filter (λ x. (slot_at s x).released) s.roots }
 
 -- the collection is complete: the older buffers are cleared and become spares, and the newer ones become the older
 abbrev pub ended : Private → Private
@@ -40,10 +39,31 @@ abbrev pub swept_next : Private → List ℕ → Private
 swept_next p [] = ended p
 swept_next p (x ∷ free) = moved p Opening
 
--- where nothing is left to release, the root buffer is emptied and a sweep follows; else the release goes on
+-- the counts of a trial, and how far it has come
+abbrev pub with_trial : Private → trials.Work → Private
+with_trial p w = record p { counts = w.counts; trial = w.machine }
+
+-- while a field is to be loaded the trial goes on; then each set is given up, and a sweep follows
+abbrev pub tried_at : Private → trials.Work → Option Op → Private
+tried_at p w (Some op) = moved (with_trial p w) Trying
+tried_at p w None = swept_next (with_trial p (record w { counts = given_up w.counts })) w.counts.free
+
+-- a trial came so far
+unfoldable pub tried : Private → trials.Work → Private
+tried p w = tried_at p w (trial_next w.machine)
+
+-- a trial begins on these counts
+abbrev pub trial_started : Private → State → trials.Work
+trial_started p s = trial_started_of p.trial.fields s
+
+-- a trial learnt the word that was loaded
+abbrev pub trial_took : Private → (word : ℕ) → trials.Work
+trial_took p word = trial_took_of (record { machine = p.trial; counts = p.counts }) word
+
+-- while a field is to be emptied the release goes on; then the trial begins
 abbrev pub went_on_at : Private → Work → Option At → Private
 went_on_at p w (Some a) = moved (with_work p w) Releasing
-went_on_at p w None = swept_next (with_work p (record w { counts = dropped w.counts })) (dropped w.counts).free
+went_on_at p w None = tried (with_work p w) (trial_started p w.counts)
 
 -- a release came so far
 unfoldable pub went_on : Private → Work → Private
@@ -81,6 +101,7 @@ took_at p word (Looking t) = if word == crossing_word p.epoch 2 then moved p (Sw
 took_at p word (Swapping t) = moved p (Swapping t)
 took_at p word (Returning t) = returned p t
 took_at p word Releasing = went_on p (released p word)
+took_at p word Trying = tried p (trial_took p word)
 took_at p word Opening = moved (with_sweep p (sweeps.started_of p.counts)) (Sweeping 0)
 took_at p word (Sweeping swept) = swept_one p swept (sweeps.took_of (record { due = p.due; counts = p.counts }) word)
 took_at p word (Closing swept) = ended p
@@ -107,21 +128,30 @@ abbrev pub swept_turn : (epoch : ℕ) → List ℕ → Turn
 swept_turn epoch [] = Collected (epoch - 1) 0
 swept_turn epoch (x ∷ free) = Moved
 
--- what a turn of a release answers
-abbrev pub work_turn_at : (epoch : ℕ) → Work → Option At → Turn
-work_turn_at epoch w (Some a) = Moved
-work_turn_at epoch w None = swept_turn epoch (dropped w.counts).free
+-- what a turn of a trial answers
+abbrev pub trial_turn_at : (epoch : ℕ) → trials.Work → Option Op → Turn
+trial_turn_at epoch w (Some op) = Moved
+trial_turn_at epoch w None = swept_turn epoch w.counts.free
 
-unfoldable pub work_turn : (epoch : ℕ) → Work → Turn
-work_turn epoch w = work_turn_at epoch w w.machine.at
+unfoldable pub trial_turn : (epoch : ℕ) → trials.Work → Turn
+trial_turn epoch w = trial_turn_at epoch w (trial_next w.machine)
+
+-- what a turn of a release answers
+abbrev pub work_turn_at : Private → Work → Option At → Turn
+work_turn_at p w (Some a) = Moved
+work_turn_at p w None = trial_turn p.epoch (trial_started p w.counts)
+
+unfoldable pub work_turn : Private → Work → Turn
+work_turn p w = work_turn_at p w w.machine.at
 
 -- what a turn answers, by phase
 unfoldable pub turn_at : Private → (word : ℕ) → Phase → Turn
 turn_at p word Idle = if is_spent p then EpochsSpent else Moved
 turn_at p word (Looking t) = if word == crossing_word p.epoch 2 then Moved else Waiting t
 turn_at p word (Swapping t) = Moved
-turn_at p word (Returning t) = if t == length p.newer then work_turn p.epoch (begun p) else Moved
-turn_at p word Releasing = work_turn p.epoch (released p word)
+turn_at p word (Returning t) = if t == length p.newer then work_turn p (begun p) else Moved
+turn_at p word Releasing = work_turn p (released p word)
+turn_at p word Trying = trial_turn p.epoch (trial_took p word)
 turn_at p word Opening = Moved
 turn_at p word (Sweeping swept) = Moved
 turn_at p word (Closing swept) = Collected (p.epoch - 1) swept

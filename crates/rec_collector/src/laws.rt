@@ -15,7 +15,7 @@ pub fn machine_makes_steps()
     ensures { (p : Private) (word : ℕ) (box : Contents) → IsBetween p.phase → Step p word box (next_of p) (step_of p word box) (turn_of p word) }
 {}
 
-/// The operation that comes next names a word of the heap, and is one of the collector's six.
+/// The operation that comes next names a word of the heap, and is one of the collector's seven.
 pub fn machine_names_words()
     ensures { (p : Private) → IsMachine p → IfSome (next_of p) (NamesWord (length p.counts.slots) p.release.fields (length p.newer)) }
 {}

@@ -2,8 +2,9 @@
 //! found.
 //!
 //! A collection requests the next epoch, and gathers from each mutator the buffer that it retired on crossing. With the last
-//! buffer the batch is applied; then the zeros are released, and what is free is swept. The machine never sees the words:
-//! `next` names one operation, whoever has the words carries it out, and `took` learns what was found.
+//! buffer the batch is applied; then the zeros are released, a trial is made from the roots, and what is free is swept. The
+//! machine never sees the words: `next` names one operation, whoever has the words carries it out, and `took` learns what was
+//! found.
 //! The rule that this crate keeps: what comes next and what is learnt are functions of the machine's private record and of
 //! the word found alone; an epoch is requested only after the last collection is complete, a batch is applied only once all
 //! mutators have crossed, and no collection takes more than a bounded number of turns, beside those in which it waits.
@@ -11,14 +12,15 @@
 //! and the laws, which are the contracts of the functions in `laws`.
 //! That mutators cross into an epoch one by one, and the collector counts an epoch behind them, is the idea of the paper "Java
 //! without the Coffee Breaks" (2001); the handshake by crossing words and mailboxes is this project's profile
-//! (`docs/PROFILE.md`). Trial deletion is not here yet: candidate roots are dropped.
+//! (`docs/PROFILE.md`). Sets are not tested yet: each one that a trial finds is given up at once, and its members are Black and
+//! in no buffer.
 #![tactic(auto)]
 
 mod buffers;
+mod giving_up;
 mod laws;
 mod machine;
 mod phase;
-mod roots;
 #[cfg(test)]
 mod tests;
 mod turn;

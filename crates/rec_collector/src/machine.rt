@@ -2,8 +2,10 @@ ghost use Rattle.std.specs.Prelude.{◌≡◌, ◌≢◌, ◌+◌, ◌*◌, ◌^
 ghost use Rattle.rec_word.specs.Op.{crossing_word};
 ghost use Rattle.rec_word.specs.Word.{target_of};
 ghost use Rattle.rec_counts.specs.Counts.{slot_at};
-ghost use Rattle.rec_release.specs.Sweep.{AreUnbuffered};
-ghost use Rattle.rec_collector.specs.After.{counts_after, ended_if, phase_after, turn_if};
+ghost use Rattle.rec_trial.specs.Loaded.{IsAtWork};
+ghost use Rattle.rec_trial.specs.Rules.{IsReady, LeadsToUnreleased};
+ghost use Rattle.rec_trial.specs.Trial.{next_of as trial_next};
+ghost use Rattle.rec_collector.specs.After.{ended_if, release_phase, sets_after, trial_after, trial_phase, turn_if};
 ghost use Rattle.rec_collector.specs.Causes.{HasCause};
 ghost use Rattle.rec_collector.specs.Given.{IsCovered, IsGiven, IsSized, IsSwapping};
 ghost use Rattle.rec_collector.specs.Kept.{IsMachine, KeepsSizes, limit_of};
@@ -12,14 +14,15 @@ ghost use Rattle.rec_collector.specs.Private.{Private, opened, spare};
 ghost use Rattle.rec_collector.specs.Took.{ended, swapped_of, swept_phase, took_at, took_of, turn_at, turn_of};
 
 use crate::buffers::{clear_all, open_row};
+use crate::giving_up::give_up;
 use crate::phase::Phase;
-use crate::roots::drop_roots;
 use crate::turn::Turn;
 use rec_apply::apply;
 use rec_counts::Counts;
 use rec_frame::Frame;
 use rec_log::Buffer;
 use rec_release::{Release, Sweep};
+use rec_trial::Trial;
 use rec_word::{Op, crossing};
 use std::alloc::{AllocError as NoMemory, Global};
 use std::marker::Model;
@@ -43,6 +46,7 @@ pub struct Machine {
     newer: Vec<Buffer>,
     older: Vec<Buffer>,
     release: Release,
+    trial: Trial,
     sweep: Sweep,
 }
 
@@ -98,6 +102,7 @@ impl Machine {
             newer,
             older,
             release: Release::idle(fields),
+            trial: Trial::idle(fields),
             sweep: Sweep::idle(fields),
         })
     }
@@ -121,6 +126,7 @@ impl Machine {
                 Some(Op::ReturnBox(mutator, self.epoch))
             }
             Phase::Releasing => self.release.next(),
+            Phase::Trying => self.trial.next(),
             Phase::Opening | Phase::Closing { .. } => Some(Op::AddFreed),
             Phase::Sweeping { .. } => self.sweep.next(),
         }
@@ -180,6 +186,14 @@ impl Machine {
         let _phase = &self.phase;
     }
 
+    /// The counts.
+    #[cfg(test)]
+    pub(crate) fn counts(&self) -> &Counts
+        ensures { result.now ≡ self.now.counts }
+    {
+        &self.counts
+    }
+
     /// The true count of a slot: one for a free slot, else how many references to it were counted.
     pub fn count(&self, slot: u16) -> u64
         requires { slot < length self.now.counts.slots }
@@ -234,6 +248,7 @@ impl Machine {
             Phase::Swapping { .. } => Turn::Moved,
             Phase::Returning { mutator } => self.took_return(mutator),
             Phase::Releasing => self.took_release(word),
+            Phase::Trying => self.took_trial(word),
             Phase::Opening => self.took_opening(),
             Phase::Sweeping { swept } => self.took_sweep(swept, word),
             Phase::Closing { swept } => self.end(swept),
@@ -297,8 +312,7 @@ impl Machine {
         apply(&mut self.counts, &self.newer, &self.older);
         self.release.start(&mut self.counts);
         self.counts.rules();
-        self.phase = after_release(&mut self.counts, &self.release);
-        self.counts.rules();
+        self.phase = after_release(&mut self.counts, &self.release, &mut self.trial);
         self.turns += 1;
         self.end_if_nothing_is_free()
     }
@@ -315,8 +329,23 @@ impl Machine {
     {
         self.release.took(&mut self.counts, word);
         self.counts.rules();
-        self.phase = after_release(&mut self.counts, &self.release);
-        self.counts.rules();
+        self.phase = after_release(&mut self.counts, &self.release, &mut self.trial);
+        self.turns += 1;
+        self.end_if_nothing_is_free()
+    }
+
+    // A field was loaded for the trial.
+    fn took_trial(&mut self, word: u64) -> Turn
+        requires phase { self.old.phase ≡ Phase.Trying }
+        requires unreleased { LeadsToUnreleased self.old.counts word }
+
+        ensures took { self.new ≡ took_at self.old word Phase.Trying }
+        ensures turn { result ≡ turn_at self.old word Phase.Trying }
+        ensures same { KeepsSizes self.old self.new }
+        ensures kept { IsMachine self.new }
+    {
+        self.trial.took(&mut self.counts, word);
+        self.phase = after_trial(&mut self.counts, &self.trial);
         self.turns += 1;
         self.end_if_nothing_is_free()
     }
@@ -390,18 +419,31 @@ impl Machine {
     }
 }
 
-// What follows once a word came out: the release goes on while it has work. Then the root buffer is emptied, and a sweep
-// begins, which has ended already where the free list is empty.
-fn after_release(counts: &mut Counts, release: &Release) -> Phase
-    requires { AreUnbuffered counts.old }
-    ensures counts { counts.new ≡ counts_after counts.old release.now.at }
-    ensures phase { result ≡ phase_after counts.new.free release.now.at }
+// What follows once a word came out: the release goes on while it has work. Then a trial begins.
+fn after_release(counts: &mut Counts, release: &Release, trial: &mut Trial) -> Phase
+    requires idle { IsNone (trial_next trial.old) }
+    requires ready { IsReady counts.old }
+    ensures work { record { machine = trial.new; counts = counts.new } ≡ trial_after (record { machine = trial.old; counts = counts.old }) release.now.at }
+    ensures phase { result ≡ release_phase counts.new.free (trial_next trial.new) release.now.at }
 {
     if release.next().is_some() {
         return Phase::Releasing;
     }
-    counts.rules();
-    drop_roots(counts);
+    trial.start(counts);
+    after_trial(counts, trial)
+}
+
+// What follows once a field was loaded: the trial goes on while it has work. Then each set is given up, and a sweep begins,
+// which has ended already where the free list is empty.
+fn after_trial(counts: &mut Counts, trial: &Trial) -> Phase
+    requires { IsAtWork trial.now counts.old }
+    ensures counts { counts.new ≡ sets_after counts.old (trial_next trial.now) }
+    ensures phase { result ≡ trial_phase counts.new.free (trial_next trial.now) }
+{
+    if trial.next().is_some() {
+        return Phase::Trying;
+    }
+    give_up(counts);
     if counts.free_list().is_empty() {
         Phase::Closing { swept: 0 }
     } else {

@@ -11,6 +11,8 @@ pub enum Phase {
     Returning { mutator: u8 },
     /// The zeros are released, a field at a time.
     Releasing,
+    /// A trial is at work, and a field is loaded next.
+    Trying,
     /// A sweep begins next.
     Opening,
     /// The free list is swept, a slot at a time; so many were.

@@ -88,7 +88,7 @@ small_done m s k a b = go m.phase refl (at_work_due m s a)
     go Scanning e d = omega (arith, ltb_yes m.done (length s.work) d, length-once (length s.slots) s.work k.work_once, k.few_slots)
     go Collecting e d = omega (arith, ltb_yes m.done (length (last_set s.sets)) d, length-once (length s.slots) (concat s.sets) (members_once k), ap length (concat_last s.sets), length-append (concat (earlier_sets s.sets)) (last_set s.sets), k.few_slots)
 
-run_none : (fields : ℕ) (before : State) → (run_of fields before []).work ≡ started_of fields before
+pub run_none : (fields : ℕ) (before : State) → (run_of fields before []).work ≡ started_of fields before
 unfolding run_of
 run_none fields before = refl
 
@@ -99,11 +99,14 @@ started_at_work fields before m s f k r e =
     let q : m.fields ≡ fields = ap (λ (w : Work). w.machine.fields) e ∙ t.course.same.fields in
     record { wide = rw q f; before = before; words = []; kept = k; ready = r; named = tt; is = e ∙ sym (run_none fields before) ∙ ap (λ n. (run_of n before []).work) (sym q) }
 
+pub started_fields : (fields : ℕ) (before : State) → 0 < fields → IsReady before → (started_of fields before).machine.fields ≡ fields
+started_fields fields before f r = (begun_told fields before f r).course.same.fields
+
 pub started_slots : (fields : ℕ) (before : State) (m : Machine) (s : State) → 0 < fields → IsReady before → ◌≡◌ {A = Work} (record { machine = m; counts = s }) (started_of fields before) → length s.slots ≡ length before.slots
 started_slots fields before m s f r e = ap (λ (w : Work). length w.counts.slots) e ∙ (begun_told fields before f r).course.rest.slots
 
 -- a trial that learnt a word
-noted_work : (r : Run) (word : ℕ) → (noted r word).work ≡ took_of r.work word
+pub noted_work : (r : Run) (word : ℕ) → (noted r word).work ≡ took_of r.work word
 unfolding took_of
 noted_work r word = go r.work.machine.phase refl
   where
@@ -117,12 +120,12 @@ pub run_more : (fields : ℕ) (before : State) (words : List ℕ) (word : ℕ) �
 unfolding run_of
 run_more fields before words word = fold-append noted (begun fields before) words (word ∷ [])
 
-all_lead_more : (s : State) (words : List ℕ) (word : ℕ) → AllLeadToUnreleased s words → LeadsToUnreleased s word → AllLeadToUnreleased s (words ++ word ∷ [])
+pub all_lead_more : (s : State) (words : List ℕ) (word : ℕ) → AllLeadToUnreleased s words → LeadsToUnreleased s word → AllLeadToUnreleased s (words ++ word ∷ [])
 all_lead_more s [] word a l = (l, tt)
 all_lead_more s (w ∷ words) word a l = (a.0, all_lead_more s words word a.1 l)
 
 -- the counts of fields stay
-took_fields : (m : Machine) (s : State) (a : IsAtWork m s) (word : ℕ) → LeadsToUnreleased s word → (took_of (record { machine = m; counts = s }) word).machine.fields ≡ m.fields
+pub took_fields : (m : Machine) (s : State) (a : IsAtWork m s) (word : ℕ) → LeadsToUnreleased s word → (took_of (record { machine = m; counts = s }) word).machine.fields ≡ m.fields
 took_fields m s a word l =
     let r : Run = run_of m.fields a.before a.words in
     let e : took_of (record { machine = m; counts = s }) word ≡ (noted r word).work = ap (λ (w : Work). took_of w word) a.is ∙ sym (noted_work r word) in
@@ -143,6 +146,19 @@ took_at_work m s a word l n u e =
       named = all_lead_more a.before a.words word a.named first;
       is = e ∙ ap (λ (w : Work). took_of w word) a.is ∙ sym (noted_work r word) ∙ ap (λ (v : Run). v.work) (sym (run_more m.fields a.before a.words word)) ∙ ap (λ n. (run_of n a.before (a.words ++ word ∷ [])).work) (sym q);
     }
+
+-- it began on the same counts, and learnt one word more
+pub took_before : (m : Machine) (s : State) (a : IsAtWork m s) (word : ℕ) (l : LeadsToUnreleased s word) (n : Machine) (u : State) (e : ◌≡◌ {A = Work} (record { machine = n; counts = u }) (took_of (record { machine = m; counts = s }) word)) → (took_at_work m s a word l n u e).before ≡ a.before
+unfolding took_at_work
+took_before m s a word l n u e = refl
+
+pub took_words : (m : Machine) (s : State) (a : IsAtWork m s) (word : ℕ) (l : LeadsToUnreleased s word) (n : Machine) (u : State) (e : ◌≡◌ {A = Work} (record { machine = n; counts = u }) (took_of (record { machine = m; counts = s }) word)) → (took_at_work m s a word l n u e).words ≡ a.words ++ word ∷ []
+unfolding took_at_work
+took_words m s a word l n u e = refl
+
+pub started_words : (fields : ℕ) (before : State) (m : Machine) (s : State) (f : 0 < fields) (k : IsKept before) (r : IsReady before) (e : ◌≡◌ {A = Work} (record { machine = m; counts = s }) (started_of fields before)) → (started_at_work fields before m s f k r e).words ≡ []
+unfolding started_at_work
+started_words fields before m s f k r e = refl
 
 pub took_slots : (m : Machine) (s : State) (a : IsAtWork m s) (word : ℕ) → LeadsToUnreleased s word → (n : Machine) (u : State) → ◌≡◌ {A = Work} (record { machine = n; counts = u }) (took_of (record { machine = m; counts = s }) word) → length u.slots ≡ length s.slots
 unfolding took_at_work

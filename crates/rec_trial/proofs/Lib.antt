@@ -3,10 +3,12 @@ pub mod Finds
 pub mod Deletion
 pub mod Done
 pub mod Holding
+pub mod Keeps
 pub mod Marks
 pub mod Moving
 pub mod Orders
 pub mod Places
+pub mod Promised
 pub mod Scans
 pub mod Stills
 pub mod Totals
@@ -18,6 +20,7 @@ pub mod Course
 pub mod Settling
 pub mod Runs
 pub mod Conditions
+pub mod Counted
 pub mod Midway
 pub mod AtWork
 pub mod Readings

@@ -61,7 +61,7 @@ going_midway (learns {m} {s} a busy word lead) =
     }
 
 -- the released ones of some slots
-times_released : (x : ℕ) (s : State) (xs : List ℕ) → in_counts.times x (released_among s xs) ≡ cond (slot_at s x).released (in_counts.times x xs) 0
+pub times_released : (x : ℕ) (s : State) (xs : List ℕ) → in_counts.times x (released_among s xs) ≡ cond (slot_at s x).released (in_counts.times x xs) 0
 times_released x s [] = go (slot_at s x).released
   where
     go : (b : Bool) → in_counts.times x [] ≡ cond b (in_counts.times x []) 0

@@ -14,7 +14,7 @@ use Rattle.rec_trial.specs.Moves.{is_gray, is_white}
 use Rattle.rec_trial.specs.Rules.{IsReady}
 
 -- what every slot has, every slot has after one that has it is written
-kept_by_all : (f : Slot → Bool) (s : State) (x : ℕ) (v : Slot) → f v ≡ false → ((y : ℕ) → f (slot_at s y) ≡ false) → (y : ℕ) → f (slot_at (with_slot s x v) y) ≡ false
+pub kept_by_all : (f : Slot → Bool) (s : State) (x : ℕ) (v : Slot) → f v ≡ false → ((y : ℕ) → f (slot_at s y) ≡ false) → (y : ℕ) → f (slot_at (with_slot s x v) y) ≡ false
 kept_by_all f s x v e h y = elim (eqb_tells y x) [
   | inl q ↦ elim (cases_lt x (length s.slots)) [
     | inl l ↦ rw q.1 (ap f (get_or-set_same s.slots x v absent l) ∙ e)
@@ -37,7 +37,7 @@ written_ready s x v e r g w = record {
   unlisted = λ y h o. none_listed s e y;
 }
 
-lessened_colour : (v : Slot) (f : Slot → Bool) → f v ≡ false → f (lessened_if false true v) ≡ false → f (lessened_if false false v) ≡ false → f (lessened_if true true v) ≡ false → f (lessened_if true false v) ≡ false → f (lessened v) ≡ false
+pub lessened_colour : (v : Slot) (f : Slot → Bool) → f v ≡ false → f (lessened_if false true v) ≡ false → f (lessened_if false false v) ≡ false → f (lessened_if true true v) ≡ false → f (lessened_if true false v) ≡ false → f (lessened v) ≡ false
 lessened_colour v f h a b c d = go v.released (eqb v.count 1)
   where
     go : (r l : Bool) → f (lessened_if r l v) ≡ false

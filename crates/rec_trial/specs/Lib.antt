@@ -5,3 +5,4 @@ pub mod Trial
 pub mod Still
 pub mod Tried
 pub mod Witnessed
+pub mod Promised

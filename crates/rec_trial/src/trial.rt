@@ -1,6 +1,8 @@
-ghost use Rattle.std.specs.Prelude.{◌≡◌, ◌<◌, ◌+◌, ◌^◌, ◌↔◌, ℕ, true, false, None, List, length, IfSome, IsNone, IsSome};
+ghost use Rattle.std.specs.Prelude.{◌≡◌, ◌<◌, ◌+◌, ◌^◌, ◌↔◌, ℕ, true, false, None, List, [], ◌∷◌, ◌++◌, length, IfSome, IsNone, IsSome};
 ghost use Rattle.rec_word.specs.Word.{target_of};
-ghost use Rattle.rec_trial.specs.Loaded.{GoesOn, IsAtWork};
+ghost use Rattle.rec_counts.specs.Counts.{State};
+ghost use Rattle.rec_trial.specs.Loaded.{GoesOn, IsAtWork, Run, noted};
+ghost use Rattle.rec_trial.specs.Promised.{IsTrial, unloaded};
 ghost use Rattle.rec_trial.specs.declared.phase.Phase.TheVariants.{Collecting, Scanning};
 ghost use Rattle.rec_trial.specs.Rules.{CanCollect, CanMark, CanScan, IsReady, LeadsToUnreleased, RulesAt};
 ghost use Rattle.rec_trial.specs.Trial.{NamesPlace, advanced, begun_at, collect_moved, idle_of, is_due, is_due_at, learnt_at, list_of, moved_at, next_of, pointed, roots_moved, scan_moved, settled, started_of, took_of};
@@ -65,6 +67,9 @@ impl Trial {
         ensures kept { IsAtWork self.new counts.new }
         ensures place { NamesPlace (length counts.new.slots) self.new }
         ensures slots { length counts.new.slots ≡ length counts.old.slots }
+
+        // The promises of a trial, with nothing loaded yet.
+        ensures promised { IsTrial self.old.fields counts.old [] (unloaded (record { machine = self.new; counts = counts.new })) }
     {
         counts.rules();
         self.begin_phase(Phase::Marking);
@@ -93,6 +98,10 @@ impl Trial {
         ensures kept { IsAtWork self.new counts.new }
         ensures place { NamesPlace (length counts.new.slots) self.new }
         ensures slots { length counts.new.slots ≡ length counts.old.slots }
+
+        // The promises of the same trial go on, with one load more in its record.
+        ensures promised { (fields : ℕ) (before : State) (words : List ℕ) (r : Run) → r.work ≡ record { machine = self.old; counts = counts.old } → IsTrial fields before words r → IsTrial fields before (words ++ word ∷ []) (noted r word) }
+        ensures recorded { (r : Run) → r.work ≡ record { machine = self.old; counts = counts.old } → (noted r word).work ≡ record { machine = self.new; counts = counts.new } }
     {
         counts.rules();
         self.learn(counts, target(word));

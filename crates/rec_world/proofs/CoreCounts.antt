@@ -1,9 +1,8 @@
 -- What the collector does to the counts, as moves of the accounts of its heap.
 use Rattle.std.proofs.Common.{◌≡◌, ◌≢◌, inl, inr, ℕ, ◌+◌, ◌-◌, ◌*◌, ◌/◌, ◌%◌, ◌<◌, ◌≤◌, ◌==◌, nat_lt, suc, Bool, true, false, List, [], ◌∷◌, Option, None, Some, length, slice_index_or, slice_set, refl, sym, ap, ◌∙◌, arith}
-use Rattle.std.proofs.Math.ListN.{get_or-map}
 use Rattle.std.proofs.Math.Nat.{mod-lt, div-add-mod, mul_comm}
 use Rattle.std.proofs.lemmas.Bool.{cases_eq, cases_lt, eq-eqb, ne_eqb, cond-true, cond-false}
-use Rattle.std.proofs.lemmas.List.{length-map, get_or-set_same, get_or-set_other, get_or_past, get_or_default}
+use Rattle.std.proofs.lemmas.List.{get_or-set_same, get_or-set_other, get_or_past, get_or_default}
 use Rattle.rec_word.specs.Place.{place_of}
 use Rattle.rec_word.specs.Word.{target_of}
 use Rattle.rec_model.specs.Moves.{Move, with_answer, leads_out_of}
@@ -14,12 +13,11 @@ use Rattle.rec_model.proofs.Sums.{sum_at-set}
 use Rattle.rec_model.proofs.Weights.{one_if_self, none_if_differs}
 use Rattle.rec_counts.specs.Counts.{State, slot_at, with_slot, decremented}
 use Rattle.rec_counts.specs.Lists.{one}
-use Rattle.rec_counts.specs.Slot.{absent, fresh, swept_clean, unrooted, unrooted_if}
+use Rattle.rec_counts.specs.Slot.{absent, fresh, swept_clean}
 use Rattle.rec_counts.specs.declared.slot.Slot.{Slot}
 use Rattle.rec_counts.proofs.Decrementing.{decremented_count, in_range_counted, rest_decremented}
 use Rattle.rec_release.specs.Release.{taken_off, emptied, listed_if, without_first}
 use Rattle.rec_release.specs.Sweep.{swept}
-use Rattle.rec_collector.specs.Took.{dropped}
 use Rattle.rec_world.specs.CorePending.{code}
 use Rattle.rec_world.proofs.CoreMoves.{code_target}
 
@@ -163,25 +161,13 @@ release_move p words s z zs done there none =
       released = λ x pos. (flagged s z there x pos).0;
     })
 
--- what goes to the free list or out of the root buffer counts as before
+-- what goes to the free list counts as before
 pub emptied_alike : (s : State) (x : ℕ) → (emptied s x).slots ≡ s.slots
 emptied_alike s x = go (slot_at s x).buffered
   where
     go : (b : Bool) → (listed_if b s x).slots ≡ s.slots
     go true = refl
     go false = refl
-
-pub dropped_alike : (s : State) (node : ℕ) → ((slot_in (dropped s) node).count ≡ (slot_in s node).count) × ((slot_in (dropped s) node).released ≡ (slot_in s node).released)
-dropped_alike s = alike_slots s (dropped s) (length-map s.slots unrooted) (λ x. (same x).0) (λ x. (same x).1)
-  where
-    parts : (v : Slot) (set : Option ℕ) → ((unrooted_if set v).count ≡ v.count) × ((unrooted_if set v).released ≡ v.released)
-    parts v None = (refl, refl)
-    parts v (Some n) = (refl, refl)
-
-    same : (x : ℕ) → ((slot_at (dropped s) x).count ≡ (slot_at s x).count) × ((slot_at (dropped s) x).released ≡ (slot_at s x).released)
-    same x =
-        let is : slot_at (dropped s) x ≡ unrooted (slot_at s x) = get_or-map unrooted s.slots x absent in
-        (ap (λ (v : Slot). v.count) is ∙ (parts (slot_at s x) (slot_at s x).set).0, ap (λ (v : Slot). v.released) is ∙ (parts (slot_at s x) (slot_at s x).set).1)
 
 -- a sum in which nothing counts, place by place
 pub none_at : {X : Type 0} (f : ℕ → X → ℕ) (xs : List X) (d : X) → ((i : ℕ) → i < length xs → f i (slice_index_or xs i d) ≡ 0) → sum_at f xs ≡ 0

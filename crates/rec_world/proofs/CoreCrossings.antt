@@ -29,7 +29,7 @@ use Rattle.rec_mutator.proofs.Found.{finds_fitting}
 use Rattle.rec_collector.specs.Kept.{under_way}
 use Rattle.rec_collector.specs.Private.{blank}
 use Rattle.rec_collector.specs.declared.phase.Phase.{Phase}
-use Rattle.rec_collector.specs.declared.phase.Phase.TheVariants.{Idle, Looking, Swapping, Returning, Releasing, Opening, Sweeping, Closing}
+use Rattle.rec_collector.specs.declared.phase.Phase.TheVariants.{Idle, Looking, Swapping, Returning, Releasing, Trying, Opening, Sweeping, Closing}
 use Rattle.rec_world.specs.Config.{IsMutator, HasLabel}
 use Rattle.rec_world.specs.Core.{Core, cells_of, sight, mutator, box, crossing_of, spare_of, with_mutator}
 use Rattle.rec_world.specs.CoreKept.{IsSettledIn, HasLabelAt, IsOwn, IsBufferOf, Stand, stand_at, IsBehind, IsCrossing, IsHandshake, IsActor, IsScanning, entries_made, IsKept, HasMutators, IsMadeIn}
@@ -81,6 +81,7 @@ due_gathers requested t (Looking u) is = (refl, refl)
 due_gathers requested t (Swapping u) is = (refl, refl)
 due_gathers requested t (Returning u) is = (refl, refl)
 due_gathers requested t Releasing is = cc
+due_gathers requested t Trying is = cc
 due_gathers requested t Opening is = cc
 due_gathers requested t (Sweeping n) is = cc
 due_gathers requested t (Closing n) is = cc

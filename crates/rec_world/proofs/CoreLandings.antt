@@ -1,8 +1,9 @@
--- Where a release has come to, the collection goes on: to the next field, to a sweep, or to its end. Each keeps what every heap keeps.
+-- Where a release or a trial has come to, the collection goes on: to the next field, to a trial, to a sweep, or to its end. Each keeps
+-- what every heap keeps.
 use Rattle.std.proofs.Common.{◌≡◌, ◌⊎◌, inl, inr, ℕ, ◌+◌, ◌-◌, ◌<◌, ◌≤◌, if◌then◌else◌, Bool, true, List, [], ◌∷◌, Option, None, Some, length, map, slice_index_or, refl, sym, ap, subst, ◌∙◌, arith}
-use Rattle.std.specs.List.{All, sum_by, flat_map, filter}
+use Rattle.std.specs.List.{All, sum_by, flat_map}
 use Rattle.std.proofs.Math.ListN.{get_or-map}
-use Rattle.std.proofs.lemmas.Bool.{cases_Bool, cases_eq, ne_eqb}
+use Rattle.std.proofs.lemmas.Bool.{cases_Bool}
 use Rattle.std.proofs.lemmas.List.{length-map, length-replicate}
 use Rattle.std.proofs.lemmas.List.Elements.{All-head, All-tail, All-nil}
 use Rattle.std.proofs.lemmas.List.Sums.{sum_by-cons}
@@ -17,59 +18,32 @@ use Rattle.rec_log.specs.declared.contents.Contents.{Contents}
 use Rattle.rec_log.specs.declared.entry.Entry.{Entry}
 use Rattle.rec_log.specs.declared.entry.Entry.TheVariants as entries
 use Rattle.rec_counts.specs.Counts.{State, slot_at}
-use Rattle.rec_counts.specs.Lists.{one, times}
-use Rattle.rec_counts.specs.Slot.{absent, unrooted, unrooted_if}
-use Rattle.rec_counts.specs.declared.slot.Slot.{Slot}
-use Rattle.rec_counts.proofs.Times.{times-nil, times-cons, times-append}
-use Rattle.rec_release.specs.Release.{Work, IsAtWork}
+use Rattle.rec_counts.specs.Lists.{times}
+use Rattle.rec_counts.proofs.Times.{times-append}
+use Rattle.rec_release.specs.Release.{Work}
+use Rattle.rec_trial.specs.Rules.{IsReady, released_among}
+use Rattle.rec_trial.specs.Trial as trials
+use Rattle.rec_trial.specs.Trial.{Machine as Trial}
+use Rattle.rec_trial.proofs.Keeps.{KeepsCounts}
+use Rattle.rec_trial.proofs.Midway.{times_released}
+use Rattle.rec_collector.specs.GivenUp.{given_up}
 use Rattle.rec_collector.specs.Private as collectors
 use Rattle.rec_collector.specs.Kept as collector_kept
-use Rattle.rec_collector.specs.Step.{ReleasesOn}
-use Rattle.rec_collector.specs.Took.{cleared, dropped}
+use Rattle.rec_collector.specs.Step.{ReleasesOn, TriesOn, IsBetween}
+use Rattle.rec_collector.specs.Took.{cleared, trial_started}
 use Rattle.rec_collector.specs.declared.phase.Phase.{Phase}
-use Rattle.rec_collector.specs.declared.phase.Phase.TheVariants.{Idle, Releasing, Opening}
+use Rattle.rec_collector.specs.declared.phase.Phase.TheVariants.{Idle, Releasing, Trying, Opening}
 use Rattle.rec_collector.specs.declared.turn.Turn.{Turn}
+use Rattle.rec_collector.proofs.Trying.{given_up_count, given_up_released, given_up_slots, trial_begins}
 use Rattle.rec_world.specs.declared.config.Config.{Config}
 use Rattle.rec_world.specs.Config.{IsMutator}
 use Rattle.rec_world.specs.Core.{Core, sight}
-use Rattle.rec_world.specs.CoreKept.{IsMadeIn, IsBufferOf, HasMutators, IsLeft, one_if_sweeping, IsKept}
-use Rattle.rec_world.specs.CorePending.{Filed, writes_in, births_in, dated_names, older_at, buffers, pending}
+use Rattle.rec_world.specs.CoreKept.{IsMadeIn, IsBufferOf, Stand, stand_at, HasMutators, IsLeft, one_if_sweeping, IsSomeSwept, IsKept}
+use Rattle.rec_world.specs.CorePending.{Filed, writes_in, births_in, dated_names, applied_at, older_at, buffers, pending}
 use Rattle.rec_world.proofs.CoreBatches.{none_of}
-use Rattle.rec_world.proofs.CoreCounts.{slot_in, accounts_with, dropped_alike}
+use Rattle.rec_world.proofs.CoreCounts.{slot_in, accounts_with, alike_slots}
 use Rattle.rec_world.proofs.CoreSums.{share, buffers_sum, none_named}
 use Rattle.rec_world.proofs.CoreTurns.{phase_moves}
-
--- what a kept list has passed the test
-passed : (p : ℕ → Bool) (x : ℕ) (xs : List ℕ) → 0 < times x (filter p xs) → p x ≡ true
-passed p x [] some = absurd (omega (arith, times-nil x))
-passed p x (y ∷ ys) some = elim (cases_Bool (p y)) [
-  | inl is ↦
-      let kept : filter p (y ∷ ys) ≡ y ∷ filter p ys = ap (λ c. if c then y ∷ filter p ys else filter p ys) is in
-      elim (cases_eq x y) [
-        | inl same ↦ ap p same ∙ is
-        | inr other ↦ passed p x ys (omega (arith, some, ap (times x) kept, times-cons x y (filter p ys), ap one (ne_eqb x y other)))
-      ]
-  | inr is ↦
-      let kept : filter p (y ∷ ys) ≡ filter p ys = ap (λ c. if c then y ∷ filter p ys else filter p ys) is in
-      passed p x ys (omega (arith, some, ap (times x) kept))
-]
-
--- a slot that is released stays so, and no other is, as the root buffer is emptied
-pub dropped_released : (s : State) (x : ℕ) → (slot_at (dropped s) x).released ≡ (slot_at s x).released
-dropped_released s x = ap (λ (v : Slot). v.released) (get_or-map unrooted s.slots x absent) ∙ go (slot_at s x) (slot_at s x).set
-  where
-    go : (v : Slot) (set : Option ℕ) → (unrooted_if set v).released ≡ v.released
-    go v None = refl
-    go v (Some n) = refl
-
--- what the root buffer sends to the free list is released
-dropped_listed : (s : State) → ((x : ℕ) → 0 < times x s.free → (slot_at s x).released ≡ true) → (x : ℕ) → 0 < times x (dropped s).free → (slot_at (dropped s) x).released ≡ true
-dropped_listed s listed x some =
-    let roots : List ℕ = filter (λ y. (slot_at s y).released) s.roots in
-    dropped_released s x ∙ elim (cases_eq (times x s.free) 0) [
-      | inl none ↦ passed (λ y. (slot_at s y).released) x s.roots (omega (arith, some, none, times-append x s.free roots))
-      | inr there ↦ listed x (omega arith)
-    ]
 
 -- writes of an early epoch weigh nothing, if nothing early does
 early_writes : (weight : Write → ℕ) (epoch bound : ℕ) (es : List Entry) → epoch < bound → ((e : Write) → epoch_of e.new < bound → weight e ≡ 0) → All (IsMadeIn epoch) es → sum_by weight (writes_in es) ≡ 0
@@ -175,7 +149,8 @@ alike_move p words s t same = Move.dropping (record {
 pub cleared_buffer : (config : Config) (epoch e : ℕ) (b : Contents) → IsBufferOf config e b → IsBufferOf config epoch (cleared b)
 cleared_buffer config epoch e b is = record { snapshot = length-replicate (length b.snapshot) None ∙ is.snapshot; capacity = is.capacity; few = omega arith; made = All-nil (IsMadeIn epoch) }
 
--- What is known where a release has come to: with these field words and crossing words, `u` is the release and its counts.
+-- What is known where a release, or a trial after it, has come to: with these field words and crossing words, `u` is the release
+-- and the counts.
 pub record HasLanded (w : Core) (crossing words : List ℕ) (u : Work) : Type 0 where
   pub kept : IsKept w
   -- the collection is under way, and nothing is swept yet
@@ -190,43 +165,96 @@ pub record HasLanded (w : Core) (crossing words : List ℕ) (u : Work) : Type 0 
   pub sound : IsSound (sight (record w { words = words }))
   pub slots : length u.counts.slots ≡ w.config.slots
   pub fields : u.machine.fields ≡ w.config.fields
-  pub work : IsAtWork u.machine u.counts
+  -- what the free list has is released
+  pub listed : (x : ℕ) → 0 < times x u.counts.free → (slot_at u.counts x).released ≡ true
   pub emptied : (x f : ℕ) → x < w.config.slots → f < w.config.fields → (slot_at u.counts x).released ≡ true → IsLeft u.machine.at x f ⊎ (slice_index_or words (place_of x f w.config.fields) 0 ≡ 0)
 
-module _ (w : Core) (crossing words : List ℕ) (u : Work) (q : collectors.Private) (turn : Turn) (l : HasLanded w crossing words u) (machine : collector_kept.IsMachine q) where
+-- Counts with the same slots, as far as counting and releasing go; and what gets into the free list is released.
+pub record IsAlike (s t : State) : Type 0 where
+  pub slots : length t.slots ≡ length s.slots
+  pub count : (x : ℕ) → (slot_at t x).count ≡ (slot_at s x).count
+  pub released : (x : ℕ) → (slot_at t x).released ≡ (slot_at s x).released
+  pub free : (x : ℕ) → 0 < times x t.free → (0 < times x s.free) ⊎ ((slot_at s x).released ≡ true)
+
+-- a trial leaves such counts, and so does the giving up of its sets
+tried_alike : (s t : State) → KeepsCounts s t → IsAlike s t
+tried_alike s t k = record {
+  slots = k.slots;
+  count = k.counts;
+  released = k.released;
+  free = λ x some. elim (cases_Bool (slot_at s x).released) [
+    | inl is ↦ inr is
+    | inr is ↦
+        let none : times x (released_among s s.roots) ≡ 0 = times_released x s s.roots ∙ ap (λ b. if b then times x s.roots else 0) is in
+        inl (omega (arith, some, none, ap (times x) k.free, times-append x t.free (released_among s t.roots), times-append x s.free (released_among s s.roots)))
+  ];
+}
+
+given_up_alike : (s : State) → IsAlike s (given_up s)
+given_up_alike s = record { slots = given_up_slots s; count = given_up_count s; released = given_up_released s; free = λ x some. inl some }
+
+-- where a collection has come to, it has come to with them
+landed_alike : {w : Core} {crossing words : List ℕ} {u : Work} → HasLanded w crossing words u → (t : State) → IsAlike u.counts t → HasLanded w crossing words (record { machine = u.machine; counts = t })
+landed_alike {w} {crossing} {words} {u} l t same =
+    let move : Move (record (accounts_with (pending w) words u.counts) { applied = w.epoch - 1 }) (record (accounts_with (pending w) words t) { applied = w.epoch - 1 })
+    = alike_move (record (pending w) { applied = w.epoch - 1 }) words u.counts t (alike_slots u.counts t same.slots same.count same.released) in
+    record {
+      kept = l.kept;
+      way = l.way;
+      still = l.still;
+      older = l.older;
+      mutators = l.mutators;
+      accounted = move_accounted move l.accounted;
+      uncounted = move_uncounted move l.accounted l.uncounted;
+      sound = l.sound;
+      slots = same.slots ∙ l.slots;
+      fields = l.fields;
+      listed = λ x some. same.released x ∙ elim (same.free x some) [ inl there ↦ l.listed x there | inr is ↦ is ];
+      emptied = λ x f below within released. l.emptied x f below within (sym (same.released x) ∙ released);
+    }
+
+-- a phase of a collection that has applied its batch: every mailbox is home, and nothing is swept yet
+record IsUnswept (requested : ℕ) (phase : Phase) : Type 0 where
+  pub way : collector_kept.under_way phase ≡ 1
+  pub still : one_if_sweeping phase ≡ 0
+  pub applied : applied_at requested phase ≡ requested - 1
+  pub older : older_at requested phase ≡ requested - 2
+  pub stands : (s : ℕ) → stand_at phase s ≡ Stand.Done
+  pub between : IsBetween phase
+  pub some : IsSomeSwept phase
+
+module _ (w : Core) (crossing words : List ℕ) (q : collectors.Private) (machine : collector_kept.IsMachine q) where
   abbrev landed : Core
   landed = record w { crossing = crossing; words = words; collector = q }
 
-  some_epochs : 2 ≤ w.epoch
-  some_epochs = let first : 1 ≤ w.config.first_epoch = l.kept.config.some_epoch in omega (arith, l.kept.collector.begun, l.way)
-
-  -- the release goes on
-  goes_on : q ≡ record w.collector { counts = u.counts; release = u.machine; phase = Releasing; turns = w.collector.turns + 1 } → IsKept landed
-  goes_on is =
+  -- the collection goes on
+  goes_on : (u : Work) (trial : Trial) (next : Phase) → HasLanded w crossing words u → IsUnswept w.epoch next
+      → q ≡ record w.collector { counts = u.counts; release = u.machine; trial = trial; phase = next; turns = w.collector.turns + 1 } → IsKept landed
+  goes_on u trial next l on is =
       let k = l.kept.collector in
-      let v : collectors.Private = record w.collector { counts = u.counts; release = u.machine; phase = Releasing; turns = w.collector.turns + 1 } in
-      let same : pending (record w { crossing = crossing; words = words; collector = v }) ≡ record (accounts_with (pending w) words u.counts) { applied = w.epoch - 1 } = rw (l.older) refl in
+      let v : collectors.Private = record w.collector { counts = u.counts; release = u.machine; trial = trial; phase = next; turns = w.collector.turns + 1 } in
+      let same : pending (record w { crossing = crossing; words = words; collector = v }) ≡ record (accounts_with (pending w) words u.counts) { applied = w.epoch - 1 } = rw (on.applied, on.older, l.older) refl in
       let whole : IsKept (record w { crossing = crossing; words = words; collector = v }) = record {
         config = l.kept.config;
         headers = l.kept.headers;
         labels = l.kept.labels;
-        mutators = l.mutators;
+        mutators = phase_moves l.mutators (λ s there. on.stands s);
         collector = record {
           machine = subst collector_kept.IsMachine is machine;
-          between = tt;
+          between = on.between;
           slots = l.slots;
           fields = l.fields;
           registers = k.registers;
           capacity = k.capacity;
           mutators = k.mutators;
           epoch = k.epoch;
-          begun = omega (arith, k.begun, l.way);
+          begun = omega (arith, k.begun, l.way, on.way);
           newer = k.newer;
-          older = λ s there. subst (λ e. IsBufferOf w.config e (collectors.buffer_at w.collector.older (s - 1))) l.older (k.older s there);
-          listed = l.work.ready.free;
+          older = λ s there. subst (λ e. IsBufferOf w.config e (collectors.buffer_at w.collector.older (s - 1))) (l.older ∙ sym on.older) (k.older s there);
+          listed = l.listed;
           emptied = l.emptied;
         };
-        sweeps = record { odd = l.kept.sweeps.odd ∙ l.still; few = omega (arith, l.kept.sweeps.few, l.still); some = tt };
+        sweeps = record { odd = l.kept.sweeps.odd ∙ l.still ∙ sym on.still; few = omega (arith, l.kept.sweeps.few, l.still); some = on.some };
         scans = l.kept.scans;
         made = l.kept.made;
         sound = l.sound;
@@ -235,60 +263,18 @@ module _ (w : Core) (crossing words : List ℕ) (u : Work) (q : collectors.Priva
       } in
       subst (λ (x : collectors.Private). IsKept (record w { crossing = crossing; words = words; collector = x })) (sym is) whole
 
-  -- the emptying of the root buffer changes no accounts
-  dropped_move : Move (record (accounts_with (pending w) words u.counts) { applied = w.epoch - 1 }) (record (accounts_with (pending w) words (dropped u.counts)) { applied = w.epoch - 1 })
-  dropped_move = alike_move (record (pending w) { applied = w.epoch - 1 }) words u.counts (dropped u.counts) (dropped_alike u.counts)
-
-  dropped_emptied : (x f : ℕ) → x < w.config.slots → f < w.config.fields → (slot_at (dropped u.counts) x).released ≡ true → IsLeft u.machine.at x f ⊎ (slice_index_or words (place_of x f w.config.fields) 0 ≡ 0)
-  dropped_emptied x f below within released = l.emptied x f below within (sym (dropped_released u.counts x) ∙ released)
-
-  -- a sweep follows
-  sweeps_next : q ≡ record w.collector { counts = dropped u.counts; release = u.machine; phase = Opening; turns = w.collector.turns + 1 } → IsKept landed
-  sweeps_next is =
-      let k = l.kept.collector in
-      let v : collectors.Private = record w.collector { counts = dropped u.counts; release = u.machine; phase = Opening; turns = w.collector.turns + 1 } in
-      let same : pending (record w { crossing = crossing; words = words; collector = v }) ≡ record (accounts_with (pending w) words (dropped u.counts)) { applied = w.epoch - 1 } = rw (l.older) refl in
-      let whole : IsKept (record w { crossing = crossing; words = words; collector = v }) = record {
-        config = l.kept.config;
-        headers = l.kept.headers;
-        labels = l.kept.labels;
-        mutators = phase_moves l.mutators (λ s there. refl);
-        collector = record {
-          machine = subst collector_kept.IsMachine is machine;
-          between = tt;
-          slots = length-map u.counts.slots unrooted ∙ l.slots;
-          fields = l.fields;
-          registers = k.registers;
-          capacity = k.capacity;
-          mutators = k.mutators;
-          epoch = k.epoch;
-          begun = omega (arith, k.begun, l.way);
-          newer = k.newer;
-          older = λ s there. subst (λ e. IsBufferOf w.config e (collectors.buffer_at w.collector.older (s - 1))) l.older (k.older s there);
-          listed = dropped_listed u.counts l.work.ready.free;
-          emptied = dropped_emptied;
-        };
-        sweeps = record { odd = l.kept.sweeps.odd ∙ l.still; few = omega (arith, l.kept.sweeps.few, l.still); some = tt };
-        scans = l.kept.scans;
-        made = l.kept.made;
-        sound = l.sound;
-        accounted = subst IsAccounted (sym same) (move_accounted dropped_move l.accounted);
-        uncounted = subst HasUncountedReleased (sym same) (move_uncounted dropped_move l.accounted l.uncounted);
-      } in
-      subst (λ (x : collectors.Private). IsKept (record w { crossing = crossing; words = words; collector = x })) (sym is) whole
-
   -- the collection is complete
-  completes : (dropped u.counts).free ≡ []
-      → q ≡ record w.collector { counts = dropped u.counts; release = u.machine; phase = Idle; turns = 0; collections = w.collector.collections + 1; newer = map cleared w.collector.older; older = w.collector.newer } → IsKept landed
-  completes none is =
+  completes : (u : Work) (trial : Trial) → HasLanded w crossing words u
+      → q ≡ record w.collector { counts = u.counts; release = u.machine; trial = trial; phase = Idle; turns = 0; collections = w.collector.collections + 1; newer = map cleared w.collector.older; older = w.collector.newer } → IsKept landed
+  completes u trial l is =
       let k = l.kept.collector in
-      let v : collectors.Private = record w.collector { counts = dropped u.counts; release = u.machine; phase = Idle; turns = 0; collections = w.collector.collections + 1; newer = map cleared w.collector.older; older = w.collector.newer } in
+      let v : collectors.Private = record w.collector { counts = u.counts; release = u.machine; trial = trial; phase = Idle; turns = 0; collections = w.collector.collections + 1; newer = map cleared w.collector.older; older = w.collector.newer } in
       let both : length w.collector.older ≡ w.config.mutators = k.machine.both ∙ k.mutators in
       let older : (t : ℕ) → IsMutator w.config t → IsBufferOf w.config (w.epoch - 2) (collectors.buffer_at w.collector.older (t - 1))
       = λ s there. subst (λ e. IsBufferOf w.config e (collectors.buffer_at w.collector.older (s - 1))) l.older (k.older s there) in
-      let move : Move (record (accounts_with (pending w) words (dropped u.counts)) { applied = w.epoch - 1 }) (pending (record w { crossing = crossing; words = words; collector = v }))
-      = complete_move w w.collector w.collector.phase some_epochs l.older both older words (dropped u.counts) 0 (w.collector.collections + 1) in
-      let half : IsAccounted (record (accounts_with (pending w) words (dropped u.counts)) { applied = w.epoch - 1 }) = move_accounted dropped_move l.accounted in
+      let some_epochs : 2 ≤ w.epoch = (let first : 1 ≤ w.config.first_epoch = l.kept.config.some_epoch in omega (arith, k.begun, l.way)) in
+      let move : Move (record (accounts_with (pending w) words u.counts) { applied = w.epoch - 1 }) (pending (record w { crossing = crossing; words = words; collector = v }))
+      = complete_move w w.collector w.collector.phase some_epochs l.older both older words u.counts 0 (w.collector.collections + 1) in
       let whole : IsKept (record w { crossing = crossing; words = words; collector = v }) = record {
         config = l.kept.config;
         headers = l.kept.headers;
@@ -297,7 +283,7 @@ module _ (w : Core) (crossing words : List ℕ) (u : Work) (q : collectors.Priva
         collector = record {
           machine = subst collector_kept.IsMachine is machine;
           between = tt;
-          slots = length-map u.counts.slots unrooted ∙ l.slots;
+          slots = l.slots;
           fields = l.fields;
           registers = k.registers;
           capacity = k.capacity;
@@ -308,20 +294,34 @@ module _ (w : Core) (crossing words : List ℕ) (u : Work) (q : collectors.Priva
               let at : slice_index_or (map cleared w.collector.older) (s - 1) (cleared (collectors.blank 0 0)) ≡ cleared (collectors.buffer_at w.collector.older (s - 1)) = get_or-map cleared w.collector.older (s - 1) (collectors.blank 0 0) in
               subst (IsBufferOf w.config (w.epoch - 1)) (sym at) (cleared_buffer w.config (w.epoch - 1) (w.epoch - 2) (collectors.buffer_at w.collector.older (s - 1)) (older s there));
           older = k.newer;
-          listed = λ x some. absurd (omega (arith, some, ap (times x) none, times-nil x));
-          emptied = dropped_emptied;
+          listed = l.listed;
+          emptied = l.emptied;
         };
         sweeps = record { odd = l.kept.sweeps.odd ∙ l.still; few = omega (arith, l.kept.sweeps.few, l.still); some = tt };
         scans = l.kept.scans;
         made = l.kept.made;
         sound = l.sound;
-        accounted = move_accounted move half;
-        uncounted = move_uncounted move half (move_uncounted dropped_move l.accounted l.uncounted);
+        accounted = move_accounted move l.accounted;
+        uncounted = move_uncounted move l.accounted l.uncounted;
       } in
       subst (λ (x : collectors.Private). IsKept (record w { crossing = crossing; words = words; collector = x })) (sym is) whole
 
-  -- whatever follows
-  pub landed_kept : ReleasesOn w.collector u q turn → IsKept landed
-  landed_kept (ReleasesOn.more due g) = goes_on g.after
-  landed_kept (ReleasesOn.sweeps_next none some g) = sweeps_next g.after
-  landed_kept (ReleasesOn.completes none free e) = completes free e.after
+  -- what a trial has come to, with its sets or with all of them given up
+  with_sets : {u : Work} (v : State) → HasLanded w crossing words u → KeepsCounts u.counts v → HasLanded w crossing words (record { machine = u.machine; counts = v })
+  with_sets v l keeps = landed_alike l v (tried_alike _ v keeps)
+
+  without_sets : {u : Work} (v : State) → HasLanded w crossing words u → KeepsCounts u.counts v → HasLanded w crossing words (record { machine = u.machine; counts = given_up v })
+  without_sets v l keeps = landed_alike (with_sets v l keeps) (given_up v) (given_up_alike v)
+
+  -- whatever follows a trial
+  pub tried_kept : (u : Work) (v : trials.Work) (turn : Turn) → HasLanded w crossing words u → KeepsCounts u.counts v.counts → TriesOn (record w.collector { counts = u.counts; release = u.machine }) v q turn → IsKept landed
+  tried_kept u v turn l keeps (TriesOn.more some g) =
+      goes_on (record { machine = u.machine; counts = v.counts }) v.machine Trying (with_sets v.counts l keeps) (record { way = refl; still = refl; applied = refl; older = refl; stands = λ s. refl; between = tt; some = tt }) g.after
+  tried_kept u v turn l keeps (TriesOn.sweeps_next none some g) =
+      goes_on (record { machine = u.machine; counts = given_up v.counts }) v.machine Opening (without_sets v.counts l keeps) (record { way = refl; still = refl; applied = refl; older = refl; stands = λ s. refl; between = tt; some = tt }) g.after
+  tried_kept u v turn l keeps (TriesOn.completes none free e) = completes (record { machine = u.machine; counts = given_up v.counts }) v.machine (without_sets v.counts l keeps) e.after
+
+  -- whatever follows a release
+  pub landed_kept : (u : Work) (turn : Turn) → HasLanded w crossing words u → IsReady u.counts → ReleasesOn w.collector u q turn → IsKept landed
+  landed_kept u turn l ready (ReleasesOn.more due g) = goes_on u w.collector.trial Releasing l (record { way = refl; still = refl; applied = refl; older = refl; stands = λ s. refl; between = tt; some = tt }) g.after
+  landed_kept u turn l ready (ReleasesOn.tries none on) = tried_kept u (trial_started w.collector u.counts) turn l (trial_begins w.collector u.counts l.kept.collector.machine ready) on

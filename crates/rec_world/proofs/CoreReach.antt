@@ -33,7 +33,7 @@ use Rattle.rec_mutator.specs.Private.{Private}
 use Rattle.rec_collector.specs.Next.{is_spent, next_of, next_at}
 use Rattle.rec_collector.specs.Step.{IsBetween}
 use Rattle.rec_collector.specs.declared.phase.Phase.{Phase}
-use Rattle.rec_collector.specs.declared.phase.Phase.TheVariants.{Idle, Looking, Swapping, Returning, Releasing, Opening, Sweeping, Closing}
+use Rattle.rec_collector.specs.declared.phase.Phase.TheVariants.{Idle, Looking, Swapping, Returning, Releasing, Trying, Opening, Sweeping, Closing}
 use Rattle.rec_world.specs.Core.{Core, cells_of, sight, mutator}
 use Rattle.rec_world.specs.CoreKept.{IsKept}
 use Rattle.rec_world.specs.CoreMoves.{stepped, turned, turned_at}
@@ -43,6 +43,7 @@ use Rattle.rec_world.specs.Memory.{cell, with_cell}
 use Rattle.rec_world.proofs.CoreReleasing.{held_released}
 use Rattle.rec_world.proofs.CoreSteps.{slot_there}
 use Rattle.rec_world.proofs.CoreSweeping.{root_named, due_released}
+use Rattle.rec_world.proofs.CoreTrying.{loads_child}
 use Rattle.rec_world.proofs.CoreTurning.{some_op}
 use Rattle.rec_world.proofs.CoreWords.{IsOwnOp, own_next}
 
@@ -141,6 +142,9 @@ turned_at_keeps w op Releasing kept is named = go w.collector.release.at refl
         let its : op ≡ ops.ClearField (place_of a.slot a.field w.config.fields) = some_op op (ops.ClearField (place_of a.slot a.field w.config.fields)) (sym named ∙ ap (release_op_at w.collector.release.fields) at ∙ ap (λ n. Some (ops.ClearField (place_of a.slot a.field n))) kept.collector.fields) in
         let held = held_released w a kept is at in
         subst (λ o. KeepsReached (sight w) (sight (turned_at w (Some o)))) (sym its) (keeps_others_field w a.slot a.field kept held.0 held.1)
+turned_at_keeps w op Trying kept is named =
+    let (place, its) = loads_child w.collector.trial op (sym named) in
+    subst (λ o. KeepsReached (sight w) (sight (turned_at w (Some o)))) (sym its) (subst (λ ws. KeepsReached (sight w) (sight (record w { words = ws }))) (sym (set-get_or w.words place 0)) (keeps_all (sight w)))
 turned_at_keeps w op Opening kept is named = subst (λ o. KeepsReached (sight w) (sight (turned_at w (Some o)))) (sym (some_op op ops.AddFreed (sym named))) (keeps_all (sight w))
 turned_at_keeps w op (Sweeping n) kept is named = go w.collector.due refl
   where

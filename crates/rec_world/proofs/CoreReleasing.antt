@@ -1,5 +1,6 @@
--- A release begins with the batch, and goes on field by field. Where it has come to is as the landing of a turn wants it.
-use Rattle.std.proofs.Common.{◌≡◌, ◌⊎◌, inl, inr, ℕ, ◌+◌, ◌-◌, ◌<◌, ◌≤◌, ◌==◌, nat_lt, if◌then◌else◌, true, List, [], ◌∷◌, Option, None, Some, length, slice_index_or, slice_set, refl, sym, ap, subst, ◌∙◌, arith}
+-- A release begins with the batch, and goes on field by field. Where it has come to is as the landing of a turn wants it, and
+-- ready for a trial.
+use Rattle.std.proofs.Common.{◌≡◌, ◌⊎◌, inl, inr, ℕ, ◌+◌, ◌-◌, ◌<◌, ◌≤◌, ◌==◌, nat_lt, if◌then◌else◌, true, List, [], ◌∷◌, Option, None, Some, IfSome, length, slice_index_or, slice_set, refl, sym, ap, subst, ◌∙◌, arith}
 use Rattle.std.proofs.lemmas.Bool.{false≢true, cases_eq, cases_lt, eq-eqb, lt-ltb, cond-true}
 use Rattle.std.proofs.lemmas.List.{get_or-set_same, get_or-set_other, get_or_past, get_or_default}
 use Rattle.rec_word.specs.Op.{crossing_word}
@@ -24,14 +25,18 @@ use Rattle.rec_counts.proofs.Times.{times-nil, times-cons, one-same}
 use Rattle.rec_release.specs.declared.at.At.{At}
 use Rattle.rec_release.specs.Release.{Machine, IsReady, IsAtWork, emptied, first_of, started_of, taken_off, took_of, without_first}
 use Rattle.rec_release.proofs.Keeping.{rest_off, ready_off, ready_emptied, in_range_unreleased, released_same, work_next, took_on, took_last, work_on, work_last, emptied_length, next_length}
+use Rattle.rec_trial.specs.Rules as trials
 use Rattle.rec_collector.specs.Private as collectors
 use Rattle.rec_collector.specs.Kept as collector_kept
+use Rattle.rec_collector.specs.Took.{begun, released as released_by}
 use Rattle.rec_collector.specs.declared.phase.Phase.TheVariants.{Returning, Releasing}
+use Rattle.rec_collector.proofs.Keeping.{begun_come, gone_come}
+use Rattle.rec_collector.proofs.Releasing.{come_ready}
 use Rattle.rec_world.specs.Config.{IsMutator}
 use Rattle.rec_world.specs.Core.{Core, sight}
 use Rattle.rec_world.specs.CoreKept.{Stand, stand_at, HasMutators, IsLeft, one_if_sweeping, IsKept}
 use Rattle.rec_world.specs.CorePending.{code, applied_at, older_at, pending}
-use Rattle.rec_world.proofs.CoreApplying.{last_is, some_epochs, counted, counted_rest, counted_zeros, batch_move}
+use Rattle.rec_world.proofs.CoreApplying.{last_is, some_epochs, covered, counted, counted_rest, counted_zeros, batch_move}
 use Rattle.rec_world.proofs.CoreCounts.{slot_in, accounts_with, clearing_move, release_move, emptied_alike}
 use Rattle.rec_world.proofs.CoreLandings.{HasLanded}
 use Rattle.rec_world.proofs.CoreMoves.{code_target, home_of}
@@ -94,9 +99,16 @@ applied_lands w t kept phase last =
       sound = kept.sound;
       slots = next_length s.zeros s ∙ rest.slots ∙ slots;
       fields = kept.collector.fields;
-      work = work_next c.release.fields s kept.collector.machine.fields ready;
+      listed = (work_next c.release.fields s kept.collector.machine.fields ready).ready.free;
       emptied = next_left w.config.slots w.config.fields w.words s s.zeros empty;
     }
+
+-- its counts are ready for a trial
+pub applied_ready : (w : Core) (t : ℕ) (kept : IsKept w) (phase : w.collector.phase ≡ Returning t) (last : t ≡ length w.collector.newer) → trials.IsReady (started_of w.collector.release (counted w t kept phase last)).counts
+unfolding begun
+applied_ready w t kept phase last =
+    let come = begun_come w.collector t kept.collector.machine phase last (covered w t kept phase last) in
+    come_ready w.collector (begun w.collector) come.0 come.1
 
 -- A field of the released slot at work is emptied: its word came out, and its target is counted off.
 module _ (w : Core) (a : At) (kept : IsKept w) (phase : w.collector.phase ≡ Releasing) (at : w.collector.release.at ≡ Some a) where
@@ -149,7 +161,7 @@ module _ (w : Core) (a : At) (kept : IsKept w) (phase : w.collector.phase ≡ Re
   held_released = (within, work.held.released)
 
   -- what the word leads to is counted
-  pub counted_target : (slot : ℕ) → target_of word ≡ Some slot → 0 < (slot_at c.counts slot).count
+  counted_target : (slot : ℕ) → target_of word ≡ Some slot → 0 < (slot_at c.counts slot).count
   counted_target slot is =
       let node : node_of word ≡ slot + 1 = sym (code_target word) ∙ ap code is in
       let own : one_if_same (slot + 1) (node_of word) ≡ 1 = ap (one_if_same (slot + 1)) node ∙ one_if_self (slot + 1) in
@@ -163,6 +175,13 @@ module _ (w : Core) (a : At) (kept : IsKept w) (phase : w.collector.phase ≡ Re
             let free : (pending w).free (slot + 1) ≡ true = ap (λ n. n == 0) (get_or_past w.headers (slot + 1 - 1) 0 (omega (arith, headers))) ∙ eq-eqb 0 0 refl in
             absurd (omega (arith, free_unnamed (pending w) (slot + 1) kept.accounted (omega arith) free, get_or-le-sum_at (names (slot + 1)) w.words place 0 inside, own))
       ]
+
+  pub counted_word : IfSome (target_of word) (λ slot. 0 < (slot_at c.counts slot).count)
+  counted_word = go (target_of word) refl
+    where
+      go : (x : Option ℕ) → target_of word ≡ x → IfSome x (λ slot. 0 < (slot_at c.counts slot).count)
+      go None target = tt
+      go (Some slot) target = counted_target slot target
 
   -- the counts then
   abbrev off : State
@@ -244,7 +263,7 @@ module _ (w : Core) (a : At) (kept : IsKept w) (phase : w.collector.phase ≡ Re
     sound = sound;
     slots = (rest_off c.counts (target_of word)).slots ∙ slots;
     fields = refl;
-    work = work_on w.config.fields a c.counts (target_of word) work more;
+    listed = (work_on w.config.fields a c.counts (target_of word) work more).ready.free;
     emptied = off_left;
   })
 
@@ -276,9 +295,16 @@ module _ (w : Core) (a : At) (kept : IsKept w) (phase : w.collector.phase ≡ Re
         sound = sound;
         slots = next_length out.zeros out ∙ emptied_length off a.slot ∙ (rest_off c.counts (target_of word)).slots ∙ slots;
         fields = refl;
-        work = work_last w.config.fields a c.counts (target_of word) work;
+        listed = (work_last w.config.fields a c.counts (target_of word) work).ready.free;
         emptied = next_left w.config.slots w.config.fields words out out.zeros (empty last);
       })
+
+  -- its counts are ready for a trial
+  pub released_ready : trials.IsReady (took_of (record { machine = c.release; counts = c.counts }) word).counts
+  unfolding released_by
+  released_ready =
+      let come = gone_come c word kept.collector.machine phase counted_word in
+      come_ready c (released_by c word) come.0 come.1
 
   -- where the release comes to
   pub released_lands : HasLanded w w.crossing words (took_of (record { machine = c.release; counts = c.counts }) word)

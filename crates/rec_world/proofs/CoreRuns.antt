@@ -8,13 +8,14 @@ use Rattle.rec_log.specs.declared.contents.Contents.{Contents}
 use Rattle.rec_counts.specs.Counts.{slot_at}
 use Rattle.rec_release.specs.Release.{op_at as release_op_at, next_of as release_next}
 use Rattle.rec_release.specs.declared.at.At.{At}
+use Rattle.rec_trial.specs.Rules.{LeadsToUnreleased}
 use Rattle.rec_collector.specs.Given.{IsGivenAt, IsGiven, IsSized}
 use Rattle.rec_collector.specs.Kept as collector_kept
 use Rattle.rec_collector.specs.Next.{next_of, next_at}
 use Rattle.rec_collector.specs.Step.{Step, IsBetween}
 use Rattle.rec_collector.specs.Took.{step_of, turn_of}
 use Rattle.rec_collector.specs.declared.phase.Phase.{Phase}
-use Rattle.rec_collector.specs.declared.phase.Phase.TheVariants.{Idle, Looking, Swapping, Returning, Releasing, Opening, Sweeping, Closing}
+use Rattle.rec_collector.specs.declared.phase.Phase.TheVariants.{Idle, Looking, Swapping, Returning, Releasing, Trying, Opening, Sweeping, Closing}
 use Rattle.rec_collector.proofs.Keeping.{machine_kept}
 use Rattle.rec_collector.proofs.Steps.{step_made}
 use Rattle.rec_world.specs.declared.config.Config.{Config}
@@ -26,7 +27,8 @@ use Rattle.rec_world.specs.Memory.{cell}
 use Rattle.rec_world.proofs.CoreApplying.{covered}
 use Rattle.rec_world.proofs.CoreCrossings.{step_kept, begun_kept}
 use Rattle.rec_world.proofs.CoreOpening.{opened_kept}
-use Rattle.rec_world.proofs.CoreReleasing.{counted_target}
+use Rattle.rec_world.proofs.CoreReleasing.{counted_word}
+use Rattle.rec_world.proofs.CoreTrying.{loads_child, loaded_leads}
 use Rattle.rec_world.proofs.CoreTurning.{mutator_at, some_op, rule_kept}
 use Rattle.rec_world.proofs.CoreTurns.{now_at}
 
@@ -37,6 +39,7 @@ looked_is w Idle kept is = (omega arith, kept.config.some_mutators)
 looked_is w (Swapping t) kept is = (omega arith, kept.config.some_mutators)
 looked_is w (Returning t) kept is = (omega arith, kept.config.some_mutators)
 looked_is w Releasing kept is = (omega arith, kept.config.some_mutators)
+looked_is w Trying kept is = (omega arith, kept.config.some_mutators)
 looked_is w Opening kept is = (omega arith, kept.config.some_mutators)
 looked_is w (Sweeping n) kept is = (omega arith, kept.config.some_mutators)
 looked_is w (Closing n) kept is = (omega arith, kept.config.some_mutators)
@@ -56,17 +59,16 @@ given_at w op (Swapping t) kept is named = subst IsBetween is kept.collector.bet
 given_at w op (Returning t) kept is named = λ last. covered w t kept is last
 given_at w op Releasing kept is named = go w.collector.release.at refl
   where
-    counted : (place : ℕ) (a : At) (at : w.collector.release.at ≡ Some a) → place ≡ place_of a.slot a.field w.config.fields → (x : Option ℕ) → target_of (slice_index_or w.words place 0) ≡ x → IfSome x (λ slot. 0 < (slot_at w.collector.counts slot).count)
-    counted place a at here None target = tt
-    counted place a at here (Some slot) target = counted_target w a kept is at slot (ap (λ n. target_of (slice_index_or w.words n 0)) (sym here) ∙ target)
-
     go : (x : Option At) → w.collector.release.at ≡ x → IfSome (target_of (cell (cells_of w) op)) (λ slot. 0 < (slot_at w.collector.counts slot).count)
     go None at = let not_so : ◌≡◌ {A = Option Op} (Some op) None = sym named ∙ ap (release_op_at w.collector.release.fields) at in absurd (cc)
     go (Some a) at =
         let place : ℕ = place_of a.slot a.field w.config.fields in
         let its : op ≡ ops.ClearField place = some_op op (ops.ClearField place) (sym named ∙ ap (release_op_at w.collector.release.fields) at ∙ ap (λ n. Some (ops.ClearField (place_of a.slot a.field n))) kept.collector.fields) in
         let found : cell (cells_of w) op ≡ slice_index_or w.words place 0 = ap (cell (cells_of w)) its in
-        subst (λ n. IfSome (target_of n) (λ slot. 0 < (slot_at w.collector.counts slot).count)) (sym found) (counted place a at refl (target_of (slice_index_or w.words place 0)) refl)
+        subst (λ n. IfSome (target_of n) (λ slot. 0 < (slot_at w.collector.counts slot).count)) (sym found) (counted_word w a kept is at)
+given_at w op Trying kept is named =
+    let (place, its) = loads_child w.collector.trial op (sym named) in
+    subst (λ o. LeadsToUnreleased w.collector.counts (cell (cells_of w) o)) (sym its) (loaded_leads w kept is place (named ∙ ap (λ o. Some o) its))
 given_at w op Opening kept is named = tt
 given_at w op (Sweeping n) kept is named = tt
 given_at w op (Closing n) kept is named = tt

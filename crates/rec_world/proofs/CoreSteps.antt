@@ -102,6 +102,12 @@ slot_there w kept slot below =
     let at : slot + 1 - 1 ≡ slot = omega arith in
     ap (λ (n : ℕ). slice_index_or w.collector.counts.slots n fresh) at ∙ get_or_default w.collector.counts.slots slot fresh absent (omega arith)
 
+-- the words of all fields
+pub fields_many : (w : Core) (slots fields : ℕ) → IsKept w → slots ≡ w.config.slots → fields ≡ w.config.fields → slots * fields ≡ length w.words
+fields_many w slots fields kept s f =
+    let headers : length w.headers ≡ w.config.slots = kept.headers in
+    ap (λ n. n * fields) s ∙ ap (λ n. w.config.slots * n) f ∙ ap (λ n. n * w.config.fields) (sym headers) ∙ sym kept.sound.places
+
 -- what is held isn't given up
 pub held_stays : (w : Core) (t slot : ℕ) → IsKept w → slot < w.config.slots → Holds (pending w) (epoch_at (mutator w t)) (slot + 1) → (slot_at w.collector.counts slot).released ≡ false
 held_stays w t slot kept below holds =

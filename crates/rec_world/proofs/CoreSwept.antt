@@ -11,11 +11,12 @@ use Rattle.rec_counts.specs.Counts.{slot_at}
 use Rattle.rec_release.specs.declared.at.At.{At}
 use Rattle.rec_release.specs.Release.{Work, next_of as release_next, op_at as release_op_at}
 use Rattle.rec_release.specs.Sweep as sweeps
+use Rattle.rec_trial.specs.Trial as trials
 use Rattle.rec_collector.specs.Kept.{swept_at}
 use Rattle.rec_collector.specs.Next.{next_of}
 use Rattle.rec_collector.specs.Private.{Private}
-use Rattle.rec_collector.specs.Step.{Step, ReleasesOn}
-use Rattle.rec_collector.specs.Took.{step_of, turn_of}
+use Rattle.rec_collector.specs.Step.{Step, ReleasesOn, TriesOn}
+use Rattle.rec_collector.specs.Took.{step_of, trial_started, turn_of}
 use Rattle.rec_collector.specs.declared.turn.Turn.{Turn}
 use Rattle.rec_collector.proofs.Steps.{step_made}
 use Rattle.rec_world.specs.Core.{Core, cells_of, sight, box}
@@ -27,6 +28,7 @@ use Rattle.rec_world.specs.Memory.{cell, with_cell}
 use Rattle.rec_world.proofs.CoreReach.{released_unreached}
 use Rattle.rec_world.proofs.CoreSteps.{slot_there}
 use Rattle.rec_world.proofs.CoreSweeping.{swept_below, due_released}
+use Rattle.rec_world.proofs.CoreTrying.{loads_child}
 use Rattle.rec_world.proofs.CoreTurning.{some_op, freed_more}
 
 -- a slot that was given up holds an object
@@ -51,11 +53,15 @@ rests_by w op o word q left its headers freed more names nothing = IsSweep.rests
 none_told : (w : Core) (q : Private) → swept_at q.phase ≡ 0 → 0 < swept_at q.phase → 0 < swept_at w.collector.phase
 none_told w q none more = absurd (omega (arith, none, more))
 
--- a release tells none
+-- a trial tells none, and a release tells none
+trial_told : (p q : Private) (v : trials.Work) (turn : Turn) → TriesOn p v q turn → swept_at q.phase ≡ 0
+trial_told p q v turn (TriesOn.more some g) = ap (λ c. swept_at c.phase) g.after
+trial_told p q v turn (TriesOn.sweeps_next none some g) = ap (λ c. swept_at c.phase) g.after
+trial_told p q v turn (TriesOn.completes none empty e) = ap (λ c. swept_at c.phase) e.after
+
 release_told : (p q : Private) (u : Work) (turn : Turn) → ReleasesOn p u q turn → swept_at q.phase ≡ 0
 release_told p q u turn (ReleasesOn.more some g) = ap (λ c. swept_at c.phase) g.after
-release_told p q u turn (ReleasesOn.sweeps_next none some g) = ap (λ c. swept_at c.phase) g.after
-release_told p q u turn (ReleasesOn.completes none empty e) = ap (λ c. swept_at c.phase) e.after
+release_told p q u turn (ReleasesOn.tries none on) = trial_told (record p { counts = u.counts; release = u.machine }) q (trial_started p u.counts) turn on
 
 -- the freed word goes up by one
 freed_by : (w : Core) (op : Op) (word : ℕ) → IsKept w → word ≡ cell (cells_of w) op → op ≡ ops.AddFreed → (with_cell (cells_of w) op (written op word)).freed ≡ w.freed + 1
@@ -86,6 +92,9 @@ rule_sweeps w op word q turn left kept names found (Step.release releasing named
         let place : ℕ = place_of a.slot a.field w.collector.release.fields in
         let its : op ≡ ops.ClearField place = some_op op (ops.ClearField place) (named ∙ ap (release_op_at w.collector.release.fields) at) in
         rests_by w op (ops.ClearField place) word q left its refl refl (none_told w q (release_told w.collector q _ turn on)) names tt
+rule_sweeps w op word q turn left kept names found (Step.trial trying named on) =
+    let (place, its) = loads_child w.collector.trial op named in
+    rests_by w op (ops.LoadChild place) word q left its refl refl (none_told w q (trial_told w.collector q _ turn on)) names tt
 rule_sweeps w op word q turn left kept names found (Step.begin_sweep opening named g) =
     let its : op ≡ ops.AddFreed = some_op op ops.AddFreed named in
     let none : one_if_sweeping w.collector.phase ≡ 0 = ap one_if_sweeping opening in

@@ -26,7 +26,7 @@ use Rattle.rec_world.specs.CoreMoves.{found_by}
 use Rattle.rec_world.specs.Memory.{IsWithin}
 use Rattle.rec_world.proofs.CoreCrossings.{behind_of, next_found}
 use Rattle.rec_world.proofs.CoreRuns.{given_is, sized_is}
-use Rattle.rec_world.proofs.CoreSteps.{actor_of, register_taken, taken_slot}
+use Rattle.rec_world.proofs.CoreSteps.{actor_of, fields_many, register_taken, taken_slot}
 
 -- An operation of this mutator: if of a crossing word, of its own; and none of the collector's.
 abbrev pub IsOwnOp : Private → Op → Type 0
@@ -86,12 +86,6 @@ own_next p = by p.phase
     by at.Swapping = refl
     by at.Giving = refl
     by (at.Finished work made) = refl
-
--- the words of all fields
-fields_many : (w : Core) (slots fields : ℕ) → IsKept w → slots ≡ w.config.slots → fields ≡ w.config.fields → slots * fields ≡ length w.words
-fields_many w slots fields kept s f =
-    let headers : length w.headers ≡ w.config.slots = kept.headers in
-    ap (λ n. n * fields) s ∙ ap (λ n. w.config.slots * n) f ∙ ap (λ n. n * w.config.fields) (sym headers) ∙ sym kept.sound.places
 
 -- the own crossing word
 crossing_within : (w : Core) (t n : ℕ) → IsKept w → IsMutator w.config t → n ≡ t → (1 ≤ n) × (n ≤ length w.crossing)
@@ -173,6 +167,7 @@ collector_within : (w : Core) (op : Op) → IsKept w → collector_step.NamesWor
 collector_within w (ops.StoreEpoch e) kept names = tt
 collector_within w (ops.LookBox t e) kept names = (names.0, subst (λ n. t ≤ n) (kept.collector.mutators ∙ sym kept.mutators.words) names.1)
 collector_within w (ops.ReturnBox t e) kept names = (names.0, subst (λ n. t ≤ n) (kept.collector.mutators ∙ sym kept.mutators.words) names.1)
+collector_within w (ops.LoadChild place) kept names = subst (λ n. place < n) (fields_many w (length w.collector.counts.slots) w.collector.release.fields kept kept.collector.slots kept.collector.fields) names
 collector_within w (ops.ClearField place) kept names = subst (λ n. place < n) (fields_many w (length w.collector.counts.slots) w.collector.release.fields kept kept.collector.slots kept.collector.fields) names
 collector_within w (ops.FreeHeader slot) kept names = subst (λ n. slot < n) (kept.collector.slots ∙ sym kept.headers) names
 collector_within w ops.AddFreed kept names = tt
@@ -183,7 +178,6 @@ collector_within w ops.LoadEpoch kept names = absurd names
 collector_within w (ops.LoadCross t) kept names = absurd names
 collector_within w (ops.ClaimHeader slot label) kept names = absurd names
 collector_within w ops.LoadFreed kept names = absurd names
-collector_within w (ops.LoadChild place) kept names = absurd names
 collector_within w (ops.TakeBox t e) kept names = absurd names
 collector_within w (ops.GiveBox t e) kept names = absurd names
 

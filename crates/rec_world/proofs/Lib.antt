@@ -20,6 +20,7 @@ pub mod CoreSteps
 pub mod CoreSums
 pub mod CoreSweeping
 pub mod CoreSwept
+pub mod CoreTrying
 pub mod CoreTurning
 pub mod CoreTurns
 pub mod CoreWords

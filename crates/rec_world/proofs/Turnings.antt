@@ -9,14 +9,17 @@ use Rattle.rec_log.specs.declared.contents.Contents.{Contents}
 use Rattle.rec_release.specs.Release.{Work, op_at as release_op_at, next_of as release_next}
 use Rattle.rec_release.specs.Sweep.{next_of as sweep_next}
 use Rattle.rec_release.specs.declared.at.At.{At}
+use Rattle.rec_trial.specs.Trial.{next_of as trial_next}
+use Rattle.rec_trial.specs.Trial as trials
 use Rattle.rec_collector.specs.Causes.{HasCause}
+use Rattle.rec_collector.specs.GivenUp.{given_up}
 use Rattle.rec_collector.specs.Kept.{swept_at, under_way}
 use Rattle.rec_collector.specs.Next.{next_of, next_at, is_spent}
 use Rattle.rec_collector.specs.Private as collectors
 use Rattle.rec_collector.specs.Step.{IsBetween}
-use Rattle.rec_collector.specs.Took.{took_of, took_at, step_of, swapped_of, swapped_at, swept_phase, went_on, went_on_at, swept_next, with_work, dropped, begun, released, returned}
+use Rattle.rec_collector.specs.Took.{took_of, took_at, step_of, swapped_of, swapped_at, swept_phase, went_on, went_on_at, swept_next, tried, tried_at, trial_started, trial_took, with_trial, with_work, begun, released, returned}
 use Rattle.rec_collector.specs.declared.phase.Phase.{Phase}
-use Rattle.rec_collector.specs.declared.phase.Phase.TheVariants.{Idle, Looking, Swapping, Returning, Releasing, Opening, Sweeping, Closing}
+use Rattle.rec_collector.specs.declared.phase.Phase.TheVariants.{Idle, Looking, Swapping, Returning, Releasing, Trying, Opening, Sweeping, Closing}
 use Rattle.rec_collector.specs.declared.turn.Turn.{Turn}
 use Rattle.rec_collector.specs.declared.turn.Turn.TheVariants as turns
 use Rattle.rec_world.specs.declared.config.Config.{Config}
@@ -27,6 +30,7 @@ use Rattle.rec_world.specs.Mailbox.{held, gathered_from, mailbox_at}
 use Rattle.rec_world.specs.Memory.{Cells, cell, with_cell}
 use Rattle.rec_world.specs.World.{TurnHasCause}
 use Rattle.rec_world.proofs.Calls.{box_read}
+use Rattle.rec_world.proofs.CoreTrying.{loads_child}
 use Rattle.rec_world.proofs.CoreTurning.{some_op}
 use Rattle.rec_world.proofs.CoreTurns.{same_boxes}
 
@@ -46,6 +50,7 @@ looks_at_phase c op Releasing named = go c.release.at named
     go : (x : Option At) → ◌≡◌ {A = Option Op} (release_op_at c.release.fields x) (Some op) → mailbox_at op ≡ 1
     go None none = let not_so : ◌≡◌ {A = Option Op} (Some op) None = sym none in absurd (cc)
     go (Some a) some = ap mailbox_at (sym (some_op _ op some))
+looks_at_phase c op Trying named = ap mailbox_at (loads_child c.trial op (sym named)).1
 looks_at_phase c op Opening named = ap mailbox_at (sym (some_op ops.AddFreed op named))
 looks_at_phase c op (Sweeping n) named = go c.due named
   where
@@ -58,18 +63,26 @@ pub looks_at : (c : collectors.Private) (op : Op) → ◌≡◌ {A = Option Op} 
 unfolding next_of
 looks_at c op named = looks_at_phase c op c.phase named
 
--- a release that came so far holds no mailbox
-went_between : (c : collectors.Private) (b : Contents) (w : Work) → gathered_from (went_on c w) b (went_on c w).phase ≡ b
-unfolding went_on
-went_between c b w = at w.machine.at
+-- a trial that came so far holds no mailbox, and neither does a release
+tried_between : (c : collectors.Private) (b : Contents) (w : trials.Work) → gathered_from (tried c w) b (tried c w).phase ≡ b
+unfolding tried
+tried_between c b w = at (trial_next w.machine)
   where
     swept : (d : collectors.Private) (free : List ℕ) → gathered_from (swept_next d free) b (swept_next d free).phase ≡ b
     swept d [] = refl
     swept d (x ∷ free) = refl
 
+    at : (x : Option Op) → gathered_from (tried_at c w x) b (tried_at c w x).phase ≡ b
+    at (Some op) = refl
+    at None = swept (with_trial c (record w { counts = given_up w.counts })) w.counts.free
+
+went_between : (c : collectors.Private) (b : Contents) (w : Work) → gathered_from (went_on c w) b (went_on c w).phase ≡ b
+unfolding went_on
+went_between c b w = at w.machine.at
+  where
     at : (x : Option At) → gathered_from (went_on_at c w x) b (went_on_at c w x).phase ≡ b
     at (Some a) = refl
-    at None = swept (with_work c (record w { counts = dropped w.counts })) (dropped w.counts).free
+    at None = tried_between (with_work c w) b (trial_started c w.counts)
 
 -- what the mailbox that was looked at holds after the turn, by phase
 gathers : (c : collectors.Private) (word : ℕ) (b : Contents) (phase : Phase) → c.phase ≡ phase → IsBetween phase → gathered_from (took_at c word phase) b (took_at c word phase).phase ≡ left_by c word b phase
@@ -91,6 +104,7 @@ gathers c word b (Returning t) is between = go (t == length c.newer)
     go true = went_between c b (begun c)
     go false = refl
 gathers c word b Releasing is between = went_between c b (released c word)
+gathers c word b Trying is between = tried_between c b (trial_took c word)
 gathers c word b Opening is between = refl
 gathers c word b (Sweeping n) is between = go _
   where
@@ -150,6 +164,7 @@ swapped_keeps p b = go p.phase refl
     go (Swapping t) is = record { turns = refl; collections = refl; freed = refl; swept = sym (ap swept_at is) }
     go (Returning t) is = same
     go Releasing is = same
+    go Trying is = same
     go Opening is = same
     go (Sweeping n) is = same
     go (Closing n) is = same
@@ -225,6 +240,7 @@ one_at_most (Looking t) = omega arith
 one_at_most (Swapping t) = omega arith
 one_at_most (Returning t) = omega arith
 one_at_most Releasing = omega arith
+one_at_most Trying = omega arith
 one_at_most Opening = omega arith
 one_at_most (Sweeping n) = omega arith
 one_at_most (Closing n) = omega arith

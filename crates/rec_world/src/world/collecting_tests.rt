@@ -20,6 +20,9 @@ const TWO: Config = Config {
     first_epoch: 1,
 };
 
+// One mutator.
+const ONE: Config = Config { mutators: 1, ..TWO };
+
 // One mutator, which fills the heap by its first birth.
 const SMALL: Config = Config {
     slots: 2,
@@ -397,6 +400,71 @@ fn the_collector_waits(rt: HostRuntime) -> Result<(), Fail> {
     Ok(())
 }
 
+// Registers 1 and 2 name two objects that name each other, and a collection has counted it.
+fn make_ring(rt: &impl Abort, world: &mut World)
+    ensures { world.new.config ≡ world.old.config }
+{
+    let events = [
+        Asks(1, new(1, 10), Answer::Done),
+        Asks(1, new(2, 20), Answer::Done),
+        Asks(1, put(1, 0, 2), Answer::Done),
+        Asks(1, put(2, 0, 1), Answer::Done),
+        MOVED,
+        Polls(1, Some(2)),
+        Collects(1, 0),
+    ];
+    play(rt, world, &events);
+}
+
+// A ring that registers let go of is tried, and so is the first object. Marking loads the fields of all three, blackening that
+// of the first one, and collecting those of the ring, whose set is given up: it stays.
+#[test]
+fn a_ring_is_tried(rt: HostRuntime) -> Result<(), Fail> {
+    let mut world = World::open(rt.alloc(), ONE)?;
+    make_ring(&rt, &mut world);
+    let lets_go = [
+        Asks(1, null(1), Answer::Done),
+        Asks(1, null(2), Answer::Done),
+        MOVED,
+        Polls(1, Some(3)),
+    ];
+    play(&rt, &mut world, &lets_go);
+    // The mailbox is taken and given back, and five fields are loaded.
+    play(&rt, &mut world, &[MOVED; 7]);
+    let last = Turn::Collected { epoch: 2, freed: 0 };
+    play(&rt, &mut world, &[Turns(last)]);
+    assert_eq!(rt; standing(&world, 1), (true, 1));
+    assert_eq!(rt; standing(&world, 2), (true, 1));
+    Ok(())
+}
+
+// While a trial is at work on a ring, a mutator that still holds one of its objects reads the other, and cuts the ring. The
+// counts follow by the logs, two collections later.
+#[test]
+fn a_ring_is_cut_while_it_is_tried(rt: HostRuntime) -> Result<(), Fail> {
+    let mut world = World::open(rt.alloc(), ONE)?;
+    make_ring(&rt, &mut world);
+    let begins = [Asks(1, null(2), Answer::Done), MOVED, Polls(1, Some(3))];
+    play(&rt, &mut world, &begins);
+    // The mailbox is taken and given back, and one field is loaded.
+    play(&rt, &mut world, &[MOVED; 3]);
+    let cuts = [
+        Asks(1, get(2, 1, 0), Answer::Object),
+        Asks(1, put(2, 0, 0), Answer::Done),
+        MOVED,
+        Asks(1, put(1, 0, 3), Answer::Done),
+        Collects(2, 0),
+    ];
+    play(&rt, &mut world, &cuts);
+    assert_eq!(rt; world.register(1, 2), Some(2));
+    play(&rt, &mut world, &[MOVED, Polls(1, Some(4)), Collects(3, 0)]);
+    play(&rt, &mut world, &[MOVED, Polls(1, Some(5)), Collects(4, 0)]);
+    assert_eq!(rt; standing(&world, 0), (true, 2));
+    assert_eq!(rt; standing(&world, 1), (true, 1));
+    assert_eq!(rt; standing(&world, 2), (true, 1));
+    Ok(())
+}
+
 #[test]
 fn counts_of_an_opened_heap(rt: HostRuntime) -> Result<(), Fail> {
     let world = World::open(rt.alloc(), TWO)?;
@@ -429,6 +497,9 @@ fn mailboxes_leave_home(rt: HostRuntime) -> Result<(), Fail> {
         (Turns(Turn::Waiting { mutator: 2 }), true),
         (Polls(2, Some(2)), true),
         (MOVED, false),
+        // The other is given back too, and the trial loads the first object's field twice.
+        (MOVED, true),
+        (MOVED, true),
         (Turns(Turn::Collected { epoch: 1, freed: 0 }), true),
     ];
     for (event, home) in steps {

@@ -45,6 +45,18 @@ pub returns-in-Releasing-clause-turn : goal.returns-in-Releasing-clause-turn
 unfolding turn_of turn_at
 returns-in-Releasing-clause-turn c = c.took_release.ensures.turn ∙ sym (ap (turn_at c.args.self.now c.args.word) (ap (λ (p : Private). p.phase) (sym c.self.view_is) ∙ c.in-Releasing.is))
 
+pub took_trial-requires-clause-unreleased : goal.took_trial-requires-clause-unreleased
+unfolding IsGiven IsGivenAt
+took_trial-requires-clause-unreleased c = subst (λ (f : Phase). IsGivenAt c.args.self.now c.args.word f) (ap (λ (p : Private). p.phase) (sym c.self.view_is) ∙ c.in-Trying.is) c.requires
+
+pub returns-in-Trying-clause-took : goal.returns-in-Trying-clause-took
+unfolding took_of took_at
+returns-in-Trying-clause-took c = c.took_trial.ensures.took ∙ sym (ap (took_at c.args.self.now c.args.word) (ap (λ (p : Private). p.phase) (sym c.self.view_is) ∙ c.in-Trying.is))
+
+pub returns-in-Trying-clause-turn : goal.returns-in-Trying-clause-turn
+unfolding turn_of turn_at
+returns-in-Trying-clause-turn c = c.took_trial.ensures.turn ∙ sym (ap (turn_at c.args.self.now c.args.word) (ap (λ (p : Private). p.phase) (sym c.self.view_is) ∙ c.in-Trying.is))
+
 pub returns-in-Opening-clause-took : goal.returns-in-Opening-clause-took
 unfolding took_of took_at
 returns-in-Opening-clause-took c = c.took_opening.ensures.took ∙ sym (ap (took_at c.args.self.now c.args.word) (ap (λ (p : Private). p.phase) (sym c.self.view_is) ∙ c.in-Opening.is))

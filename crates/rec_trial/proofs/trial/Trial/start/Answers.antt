@@ -1,6 +1,7 @@
 use Rattle.std.proofs.Common.{◌≡◌, ◌<◌, ap, ◌∙◌}
 use Rattle.rec_trial.specs.Loaded.{begins}
 use Rattle.rec_trial.specs.Trial.{Work, opened_of, pointed, settled, started_of}
+use Rattle.rec_trial.proofs.Promised.{begun_promised}
 use Rattle.rec_trial.proofs.AtWork.{at_work_place, started_at_work, started_slots}
 use Rattle.rec_trial.proofs.trial.Trial.start.Goals as goal
 
@@ -25,3 +26,8 @@ pub returns-clause-slots : goal.returns-clause-slots
 returns-clause-slots c =
     let f : 0 < c.args.self.now.fields = rw c.begin_phase.ensures.begun at c.begin_phase.ensures.wide in
     started_slots c.args.self.now.fields c.args.counts.now c.point.new.self c.settle.new.counts f c.requires.ready (returns-clause-started c)
+
+pub returns-clause-promised : goal.returns-clause-promised
+returns-clause-promised c =
+    let f : 0 < c.args.self.now.fields = rw c.begin_phase.ensures.begun at c.begin_phase.ensures.wide in
+    begun_promised c.args.self.now.fields c.args.counts.now (record { machine = c.point.new.self; counts = c.settle.new.counts }) f c.requires.ready (returns-clause-started c)

@@ -4,6 +4,7 @@ use Rattle.rec_trial.specs.Loaded.{learns}
 use Rattle.rec_trial.specs.Trial.{Work, advanced, learnt_at, pointed, settled}
 use Rattle.rec_trial.proofs.AtWork.{at_work_place, small_done, took_at_work, took_slots}
 use Rattle.rec_trial.proofs.Midway.{at_work_due, at_work_midway, rules_midway}
+use Rattle.rec_trial.proofs.Promised.{took_promised, took_recorded}
 use Rattle.rec_trial.proofs.Runs.{took_busy}
 use Rattle.rec_trial.proofs.trial.Trial.took.Goals as goal
 
@@ -33,3 +34,9 @@ returns-clause-place c = at_work_place c.point.new.self c.settle.new.counts (ret
 
 pub returns-clause-slots : goal.returns-clause-slots
 returns-clause-slots c = took_slots c.args.self.now c.args.counts.now c.requires.kept c.args.word c.requires.named c.point.new.self c.settle.new.counts (returns-clause-took c)
+
+pub returns-clause-promised : goal.returns-clause-promised
+returns-clause-promised c = λ fields before words r e t. took_promised fields before words r c.args.self.now c.args.counts.now c.args.word c.requires.named e t
+
+pub returns-clause-recorded : goal.returns-clause-recorded
+returns-clause-recorded c = λ r e. took_recorded r c.args.self.now c.args.counts.now c.args.word c.point.new.self c.settle.new.counts e (returns-clause-took c)

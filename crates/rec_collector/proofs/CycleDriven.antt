@@ -1,0 +1,182 @@
+-- The states of a machine that is driven by hand to a trial of a cycle, and that each word is one which it may be given.
+use Rattle.std.proofs.Common.{◌≡◌, ℕ, suc, zero, ◌+◌, ◌<◌, ◌≤◌, ◌^◌, None, Some, [], ◌∷◌, ap, arith, refl}
+use Rattle.std.proofs.lemmas.Bool.{ne_eqb}
+use Rattle.rec_log.specs.declared.contents.Contents.{Contents}
+use Rattle.rec_apply.specs.Batch.{all_up, all_down}
+use Rattle.rec_apply.specs.Targets.{added, taken, is_slot, named}
+use Rattle.rec_counts.specs.Counts.{slot_at}
+use Rattle.rec_counts.specs.Lists.{one}
+use Rattle.rec_release.specs.Release.{started_of, took_of as release_took}
+use Rattle.rec_release.specs.Sweep.{started_of as sweep_started, took_of as sweep_took}
+use Rattle.rec_trial.specs.Trial.{next_of as trial_next, settled, started_of as trial_started_of, took_of as trial_took_of}
+use Rattle.rec_collector.specs.Given.{IsGiven, IsGivenAt, IsSwapping}
+use Rattle.rec_collector.specs.Private.{Private, opened}
+use Rattle.rec_collector.specs.Took.{begun, released, swapped_at, swapped_of, took_at, took_of, tried, went_on}
+
+-- the buffers that the mutator retired
+abbrev pub named_1 : Contents
+named_1 = record { entries = []; snapshot = Some 1 ∷ []; capacity = 1 }
+
+abbrev pub left_0 : Contents
+left_0 = record { entries = []; snapshot = Some 0 ∷ []; capacity = 1 }
+
+abbrev pub left_none : Contents
+left_none = record { entries = []; snapshot = None ∷ []; capacity = 1 }
+
+abbrev pub at_opening : Private
+at_opening = opened 4 1 1 1 1 1
+
+abbrev pub at_requested : Private
+at_requested = took_of at_opening 1
+
+abbrev pub at_looked : Private
+at_looked = took_of at_requested 10
+
+abbrev pub at_spare : Private
+at_spare = swapped_of at_looked named_1
+
+abbrev pub at_applied : Private
+at_applied = took_of at_spare 11
+
+abbrev pub at_released : Private
+at_released = took_of at_applied 0
+
+abbrev pub at_begun : Private
+at_begun = took_of at_released 0
+
+abbrev pub at_swept : Private
+at_swept = took_of at_begun 1
+
+abbrev pub at_first : Private
+at_first = took_of at_swept 1
+
+abbrev pub at_again : Private
+at_again = took_of at_first 2
+
+abbrev pub at_found : Private
+at_found = took_of at_again 14
+
+abbrev pub at_other : Private
+at_other = swapped_of at_found left_none
+
+abbrev pub at_tried : Private
+at_tried = took_of at_other 15
+
+abbrev pub at_marked_1 : Private
+at_marked_1 = took_of at_tried 3
+
+abbrev pub at_marked_2 : Private
+at_marked_2 = took_of at_marked_1 2
+
+abbrev pub at_collected_1 : Private
+at_collected_1 = took_of at_marked_2 3
+
+pub given_requested : IsGiven at_opening 1
+unfolding IsGiven IsGivenAt took_of took_at swapped_of swapped_at begun released went_on tried all_up all_down started_of release_took sweep_started sweep_took trial_started_of trial_took_of settled trial_next
+given_requested = tt
+
+pub given_looked : IsGiven at_requested 10
+unfolding IsGiven IsGivenAt took_of took_at swapped_of swapped_at begun released went_on tried all_up all_down started_of release_took sweep_started sweep_took trial_started_of trial_took_of settled trial_next
+given_looked = tt
+
+pub swapping_spare : IsSwapping at_looked.phase
+unfolding took_of took_at swapped_of swapped_at begun released went_on tried all_up all_down started_of release_took sweep_started sweep_took trial_started_of trial_took_of settled trial_next
+swapping_spare = tt
+
+pub given_applied : IsGiven at_spare 11
+unfolding IsGiven IsGivenAt took_of took_at swapped_of swapped_at begun released went_on tried all_up all_down started_of release_took sweep_started sweep_took trial_started_of trial_took_of settled trial_next named
+given_applied e = record { in_range = range; fits = fit; covered = cover }
+  where
+    range : (x : ℕ) → 4 ≤ x → added x (named_1 ∷ []) + taken x (left_0 ∷ []) ≡ 0
+    range x l = let n0 : one (is_slot x (Some 0)) ≡ 0 = ap one (ne_eqb x 0 (λ q. omega (arith, l, q))) in let n1 : one (is_slot x (Some 1)) ≡ 0 = ap one (ne_eqb x 1 (λ q. omega (arith, l, q))) in omega (arith, n0, n1)
+
+    few : (x : ℕ) → 4 ≤ x → added x (named_1 ∷ []) ≡ 0
+    few x l = let n1 : one (is_slot x (Some 1)) ≡ 0 = ap one (ne_eqb x 1 (λ q. omega (arith, l, q))) in omega (arith, n1)
+
+    none : (x : ℕ) → 4 ≤ x → taken x (left_0 ∷ []) ≡ 0
+    none x l = let n0 : one (is_slot x (Some 0)) ≡ 0 = ap one (ne_eqb x 0 (λ q. omega (arith, l, q))) in omega (arith, n0)
+
+    fit : (x : ℕ) → (slot_at at_spare.counts x).count + added x (named_1 ∷ []) < 2 ^ 64
+    fit zero = omega arith
+    fit (suc zero) = omega arith
+    fit (suc (suc zero)) = omega arith
+    fit (suc (suc (suc zero))) = omega arith
+    fit (suc (suc (suc (suc x)))) = omega (arith, few (suc (suc (suc (suc x)))) (omega arith))
+
+    cover : (x : ℕ) → taken x (left_0 ∷ []) ≤ (slot_at at_spare.counts x).count + added x (named_1 ∷ [])
+    cover zero = omega arith
+    cover (suc zero) = omega arith
+    cover (suc (suc zero)) = omega arith
+    cover (suc (suc (suc zero))) = omega arith
+    cover (suc (suc (suc (suc x)))) = omega (arith, none (suc (suc (suc (suc x)))) (omega arith))
+
+pub given_released : IsGiven at_applied 0
+unfolding IsGiven IsGivenAt took_of took_at swapped_of swapped_at begun released went_on tried all_up all_down started_of release_took sweep_started sweep_took trial_started_of trial_took_of settled trial_next
+given_released = tt
+
+pub given_begun : IsGiven at_released 0
+unfolding IsGiven IsGivenAt took_of took_at swapped_of swapped_at begun released went_on tried all_up all_down started_of release_took sweep_started sweep_took trial_started_of trial_took_of settled trial_next
+given_begun = tt
+
+pub given_swept : IsGiven at_begun 1
+unfolding IsGiven IsGivenAt took_of took_at swapped_of swapped_at begun released went_on tried all_up all_down started_of release_took sweep_started sweep_took trial_started_of trial_took_of settled trial_next
+given_swept = tt
+
+pub given_first : IsGiven at_swept 1
+unfolding IsGiven IsGivenAt took_of took_at swapped_of swapped_at begun released went_on tried all_up all_down started_of release_took sweep_started sweep_took trial_started_of trial_took_of settled trial_next
+given_first = tt
+
+pub given_again : IsGiven at_first 2
+unfolding IsGiven IsGivenAt took_of took_at swapped_of swapped_at begun released went_on tried all_up all_down started_of release_took sweep_started sweep_took trial_started_of trial_took_of settled trial_next
+given_again = tt
+
+pub given_found : IsGiven at_again 14
+unfolding IsGiven IsGivenAt took_of took_at swapped_of swapped_at begun released went_on tried all_up all_down started_of release_took sweep_started sweep_took trial_started_of trial_took_of settled trial_next
+given_found = tt
+
+pub swapping_other : IsSwapping at_found.phase
+unfolding took_of took_at swapped_of swapped_at begun released went_on tried all_up all_down started_of release_took sweep_started sweep_took trial_started_of trial_took_of settled trial_next
+swapping_other = tt
+
+pub given_tried : IsGiven at_other 15
+unfolding IsGiven IsGivenAt took_of took_at swapped_of swapped_at begun released went_on tried all_up all_down started_of release_took sweep_started sweep_took trial_started_of trial_took_of settled trial_next named
+given_tried e = record { in_range = range; fits = fit; covered = cover }
+  where
+    range : (x : ℕ) → 4 ≤ x → added x (left_none ∷ []) + taken x (named_1 ∷ []) ≡ 0
+    range x l = let n1 : one (is_slot x (Some 1)) ≡ 0 = ap one (ne_eqb x 1 (λ q. omega (arith, l, q))) in omega (arith, n1)
+
+    few : (x : ℕ) → 4 ≤ x → added x (left_none ∷ []) ≡ 0
+    few x l = omega arith
+
+    none : (x : ℕ) → 4 ≤ x → taken x (named_1 ∷ []) ≡ 0
+    none x l = let n1 : one (is_slot x (Some 1)) ≡ 0 = ap one (ne_eqb x 1 (λ q. omega (arith, l, q))) in omega (arith, n1)
+
+    fit : (x : ℕ) → (slot_at at_other.counts x).count + added x (left_none ∷ []) < 2 ^ 64
+    fit zero = omega arith
+    fit (suc zero) = omega arith
+    fit (suc (suc zero)) = omega arith
+    fit (suc (suc (suc zero))) = omega arith
+    fit (suc (suc (suc (suc x)))) = omega (arith, few (suc (suc (suc (suc x)))) (omega arith))
+
+    cover : (x : ℕ) → taken x (named_1 ∷ []) ≤ (slot_at at_other.counts x).count + added x (left_none ∷ [])
+    cover zero = omega arith
+    cover (suc zero) = omega arith
+    cover (suc (suc zero)) = omega arith
+    cover (suc (suc (suc zero))) = omega arith
+    cover (suc (suc (suc (suc x)))) = omega (arith, none (suc (suc (suc (suc x)))) (omega arith))
+
+pub given_marked_1 : IsGiven at_tried 3
+unfolding IsGiven IsGivenAt took_of took_at swapped_of swapped_at begun released went_on tried all_up all_down started_of release_took sweep_started sweep_took trial_started_of trial_took_of settled trial_next
+given_marked_1 = refl
+
+pub given_marked_2 : IsGiven at_marked_1 2
+unfolding IsGiven IsGivenAt took_of took_at swapped_of swapped_at begun released went_on tried all_up all_down started_of release_took sweep_started sweep_took trial_started_of trial_took_of settled trial_next
+given_marked_2 = refl
+
+pub given_collected_1 : IsGiven at_marked_2 3
+unfolding IsGiven IsGivenAt took_of took_at swapped_of swapped_at begun released went_on tried all_up all_down started_of release_took sweep_started sweep_took trial_started_of trial_took_of settled trial_next
+given_collected_1 = refl
+
+pub given_second : IsGiven at_collected_1 2
+unfolding IsGiven IsGivenAt took_of took_at swapped_of swapped_at begun released went_on tried all_up all_down started_of release_took sweep_started sweep_took trial_started_of trial_took_of settled trial_next
+given_second = refl

@@ -1,0 +1,187 @@
+-- What always holds of the counts still does after each move and each word of a trial.
+use Rattle.std.proofs.Common.{◌≡◌, ℕ, zero, suc, ◌<◌, ◌≤◌, Bool, true, false, ltb, cond, Option, None, Some, IfSome, IsSome, List, [], ◌∷◌, length, get_or, refl, sym, ap, subst, ◌∙◌, arith}
+use Rattle.std.proofs.Math.ListN.{get_or-map}
+use Rattle.std.proofs.lemmas.List.{length-set, length-map, length-append}
+use Rattle.rec_word.specs.Word.{target_of}
+use Rattle.rec_counts.specs.declared.colour.Colour.{Colour}
+use Rattle.rec_counts.specs.declared.colour.Colour.TheVariants.{Black, Purple, Gray, White, Orange}
+use Rattle.rec_counts.specs.declared.slot.Slot.{Slot}
+use Rattle.rec_counts.specs.Counts.{State, IsKept, slot_at, with_slot, without_root}
+use Rattle.rec_counts.specs.Groups.{last_set}
+use Rattle.rec_counts.specs.Lists.{one}
+use Rattle.rec_counts.specs.Lists as in_counts
+use Rattle.rec_counts.specs.Slot.{absent, is_in}
+use Rattle.rec_counts.proofs.Keeping.{field_kept, keep_slot, keep_pop_root, keep_begin, keep_join, relisted}
+use Rattle.rec_counts.proofs.Times.{once_none, once_push}
+use Rattle.rec_trial.specs.declared.phase.Phase.{Phase}
+use Rattle.rec_trial.specs.declared.phase.Phase.TheVariants.{Idle, Marking, Scanning, Collecting}
+use Rattle.rec_trial.specs.Loaded.{IsAtWork, begins, learns}
+use Rattle.rec_trial.specs.Moves.{is_black, is_gray, is_white, touched_if, marked_by, dropped_if, blackened_if, scanned_by, has_rest, whitened, whitened_if, all_whitened, joined_if, collected_by, with_new_set}
+use Rattle.rec_trial.specs.Rules.{CanMark, CanScan, CanCollect, IsReady, LeadsToUnreleased, RulesAt}
+use Rattle.rec_trial.specs.Trial.{Machine, Work, next_of, is_due_at, is_due, roots_moved, scan_moved, set_begun_if, collect_moved, moved_at, moves_left, settled_in, settled, learnt_at, opened_of, started_of, took_of, advanced}
+use Rattle.rec_trial.proofs.Conditions.{unbuffered_white, set_room, marked_in_range, root_range, root_unlisted}
+use Rattle.rec_trial.proofs.Midway.{Midway, at_work_due, at_work_midway, going_midway, moved_midway, rules_midway}
+use Rattle.rec_trial.proofs.Places.{ltb_yes}
+use Rattle.rec_trial.proofs.Runs.{took_busy}
+use Rattle.rec_trial.proofs.Steps.{in_range}
+
+-- a slot is marked that is not marked yet
+touched_counted : (s : State) (x : ℕ) (b : Bool) → x < length s.slots → (b ≡ false → in_counts.times x s.marked ≡ 0) → IsKept s → IsKept (touched_if b s x)
+touched_counted s x true l new k = k
+touched_counted s x false l new k =
+    let v : Slot = record (slot_at s x) { colour = Gray; cyclic = (slot_at s x).count } in
+    let k' = keep_slot k x v refl refl in
+    relisted k' (once_push _ s.marked x k'.marked_once (new refl) (omega (arith, l, length-set s.slots x v))) k'.work_once k'.zeros_once k'.free_once
+
+-- a marked slot is Gray
+unmarked : (s : State) → CanMark s → (x : ℕ) → is_gray (slot_at s x).colour ≡ false → in_counts.times x s.marked ≡ 0
+unmarked s c x e = c.gray x ∙ ap one e
+
+marked_counted : (s : State) (t : Option ℕ) → CanMark s → IfSome t (λ x. x < length s.slots) → IsKept s → IsKept (marked_by s t)
+marked_counted s None c l k = k
+marked_counted s (Some x) c l k = keep_slot (touched_counted s x (is_gray (slot_at s x).colour) l (unmarked s c x) k) x _ refl refl
+
+-- a slot becomes Black that is not in the work list yet
+blackened_counted : (s : State) (x : ℕ) (b : Bool) → x < length s.slots → (b ≡ true → in_counts.times x s.work ≡ 0) → IsKept s → IsKept (blackened_if b s x)
+blackened_counted s x false l new k = k
+blackened_counted s x true l new k =
+    let v : Slot = record (slot_at s x) { colour = Black } in
+    let k' = keep_slot k x v refl refl in
+    relisted k' k'.marked_once (once_push _ s.work x k'.work_once (new refl) (omega (arith, l, length-set s.slots x v))) k'.zeros_once k'.free_once
+
+gray_not_black : (c : Colour) (n : ℕ) → n ≤ one (is_black c) → is_gray c ≡ true → n ≡ 0
+gray_not_black c n h e = grind arith
+
+unworked : (s : State) → CanScan s → (x : ℕ) → is_gray (slot_at s x).colour ≡ true → in_counts.times x s.work ≡ 0
+unworked s c x e = gray_not_black (slot_at s x).colour (in_counts.times x s.work) (c.work x) e
+
+scanned_counted : (s : State) (t : Option ℕ) → CanScan s → IfSome t (λ x. x < length s.slots) → IsKept s → IsKept (scanned_by s t)
+scanned_counted s None c l k = k
+scanned_counted s (Some x) c l k = blackened_counted s x (is_gray (slot_at s x).colour) l (unworked s c x) k
+
+-- a slot joins the last set that is in no buffer yet
+joined_counted : (s : State) (x : ℕ) (b : Bool) → x < length s.slots → 0 < length s.sets → (b ≡ true → (slot_at s x).buffered ≡ false) → IsKept s → IsKept (joined_if b s x)
+joined_counted s x false l some new k = k
+joined_counted s x true l some new k =
+    let v : Slot = record (slot_at s x) { colour = Orange } in
+    let out : (slot_at (with_slot s x v) x).buffered ≡ false = field_kept (λ (u : Slot). u.buffered) s.slots x v refl x ∙ new refl in
+    keep_join (keep_slot k x v refl refl) x _ some (omega (arith, l, length-set s.slots x v)) out refl refl
+
+collected_counted : (s : State) (t : Option ℕ) → CanCollect s → 0 < length s.sets → IfSome t (λ x. x < length s.slots) → IsKept s → IsKept (collected_by s t)
+collected_counted s None c some l k = k
+collected_counted s (Some x) c some l k = joined_counted s x (is_white (slot_at s x).colour) l some (unbuffered_white s k c x) k
+
+-- a slot that left the root buffer
+dropped_counted : (s : State) (x : ℕ) (out : Bool) (c : Colour) → x < length s.slots → (out ≡ true → in_counts.times x s.free ≡ 0) → (c ≡ Purple → in_counts.times x s.marked ≡ 0) → IsKept s → IsKept (dropped_if out c s x)
+dropped_counted s x true c l new un k = relisted k k.marked_once k.work_once k.zeros_once (once_push _ s.free x k.free_once (new refl) l)
+dropped_counted s x false Purple l new un k = touched_counted s x false l (λ e. un refl) k
+dropped_counted s x false Black l new un k = k
+dropped_counted s x false Gray l new un k = k
+dropped_counted s x false White l new un k = k
+dropped_counted s x false Orange l new un k = k
+
+not_gray : (c : Colour) → c ≡ Purple → is_gray c ≡ false
+not_gray c e = ap is_gray e
+
+roots_counted : (w : Work) → CanMark w.counts → IsKept w.counts → (rs : List ℕ) → w.counts.roots ≡ rs → IsKept (roots_moved rs w).counts
+roots_counted w c k [] e = k
+roots_counted w c k (x ∷ xs) e =
+    let t : State = without_root (x ∷ xs) w.counts in
+    let v : Slot = record (slot_at w.counts x) { buffered = false } in
+    let colour : (slot_at t x).colour ≡ (slot_at w.counts x).colour = field_kept (λ (u : Slot). u.colour) w.counts.slots x v refl x in
+    dropped_counted t x (slot_at t x).released (slot_at t x).colour (root_range w.counts k (x ∷ xs) e x refl) (root_unlisted w.counts c (x ∷ xs) e x refl)
+    (λ p. unmarked w.counts c x (not_gray (slot_at w.counts x).colour (sym colour ∙ p)))
+    (keep_pop_root k x xs v e refl refl)
+
+-- the next marked slot is scanned
+rest_gray : (v : Slot) → has_rest v ≡ true → is_gray v.colour ≡ true
+rest_gray v e = go (is_gray v.colour) refl e
+  where
+    go : (b : Bool) → is_gray v.colour ≡ b → cond b (ltb 0 v.cyclic) false ≡ true → b ≡ true
+    go true g e = refl
+    go false g e = e
+
+-- whitening changes colours alone
+whitened_same : {A : Type 0} (f : Slot → A) → ((v : Slot) → f (record v { colour = White }) ≡ f v) → (s : State) (x : ℕ) → f (slot_at (all_whitened s) x) ≡ f (slot_at s x)
+whitened_same f h s x = ap f (get_or-map whitened s.slots x absent) ∙ go (is_gray (slot_at s x).colour)
+  where
+    go : (b : Bool) → f (whitened_if b (slot_at s x)) ≡ f (slot_at s x)
+    go true = h (slot_at s x)
+    go false = refl
+
+whitened_counted : (s : State) → IsKept s → IsKept (all_whitened s)
+whitened_counted s k = record {
+  buffers = λ x. k.buffers x ∙ ap one (sym (whitened_same (λ (v : Slot). v.buffered) (λ v. refl) s x));
+  numbers = λ i x. k.numbers i x ∙ ap (λ (o : Option ℕ). one (is_in i o)) (sym (whitened_same (λ (v : Slot). v.set) (λ v. refl) s x));
+  few_sets = rw (length-map s.slots whitened) k.few_sets;
+  marked_once = rw (length-map s.slots whitened) k.marked_once;
+  work_once = rw (length-map s.slots whitened) k.work_once;
+  zeros_once = rw (length-map s.slots whitened) k.zeros_once;
+  free_once = rw (length-map s.slots whitened) k.free_once;
+  few_slots = rw (length-map s.slots whitened) k.few_slots;
+}
+
+scan_counted : (w : Work) → CanScan w.counts → IsKept w.counts → (more : Bool) → ltb w.machine.tried (length w.counts.marked) ≡ more → IsKept (scan_moved more w).counts
+scan_counted w c k true e =
+    let x : ℕ = get_or w.counts.marked w.machine.tried 0 in
+    blackened_counted w.counts x (has_rest (slot_at w.counts x)) (marked_in_range w.counts k w.machine.tried (ltb_yes w.machine.tried (length w.counts.marked) e))
+    (λ r. unworked w.counts c x (rest_gray (slot_at w.counts x) r)) k
+scan_counted w c k false e = whitened_counted w.counts k
+
+-- the next marked slot is collected
+set_counted : (w : Work) (x : ℕ) → CanCollect w.counts → x < length w.counts.slots → IsKept w.counts → (b : Bool) → is_white (slot_at w.counts x).colour ≡ b → IsKept (set_begun_if b w x).counts
+set_counted w x c l k false e = k
+set_counted w x c l k true e =
+    joined_counted (with_new_set w.counts) x true l (omega (arith, length-append w.counts.sets ([] ∷ []))) (λ q. unbuffered_white w.counts k c x e) (keep_begin k (set_room w.counts k c x l e))
+
+collect_counted : (w : Work) → CanCollect w.counts → IsKept w.counts → (more : Bool) → ltb w.machine.tried (length w.counts.marked) ≡ more → IsKept (collect_moved more w).counts
+collect_counted w c k true e =
+    let x : ℕ = get_or w.counts.marked w.machine.tried 0 in
+    set_counted w x c (marked_in_range w.counts k w.machine.tried (ltb_yes w.machine.tried (length w.counts.marked) e)) k (is_white (slot_at w.counts x).colour) refl
+collect_counted w c k false e = relisted k (once_none _) (once_none _) k.zeros_once k.free_once
+
+moved_counted_at : (p : Phase) (w : Work) → RulesAt p w.counts → IsKept w.counts → IsKept (moved_at p w).counts
+moved_counted_at Idle w r k = k
+moved_counted_at Marking w r k = roots_counted w r k w.counts.roots refl
+moved_counted_at Scanning w r k = scan_counted w r k (ltb w.machine.tried (length w.counts.marked)) refl
+moved_counted_at Collecting w r k = collect_counted w r k (ltb w.machine.tried (length w.counts.marked)) refl
+
+-- so after the moves up to the next load
+settled_in_counted : (n : ℕ) (w : Work) → Midway w → IsKept w.counts → IsKept (settled_in n w).counts
+settled_in_counted zero w m k = k
+settled_in_counted (suc n) w m k = go (is_due w) refl (settled_in_counted n (moved_at w.machine.phase w))
+  where
+    go : (b : Bool) → is_due w ≡ b → (Midway (moved_at w.machine.phase w) → IsKept (moved_at w.machine.phase w).counts → IsKept (settled_in n (moved_at w.machine.phase w)).counts) → IsKept (cond b w (settled_in n (moved_at w.machine.phase w))).counts
+    go true e r = k
+    go false e r = r (moved_midway w m e) (moved_counted_at w.machine.phase w (rules_midway w m) k)
+
+settled_counted : (w : Work) → Midway w → IsKept w.counts → IsKept (settled w).counts
+unfolding settled
+settled_counted w m k = settled_in_counted (moves_left w.machine.phase w) w m k
+
+-- after its start
+pub started_counted : (fields : ℕ) (s : State) → 0 < fields → IsKept s → IsReady s → IsKept (started_of fields s).counts
+unfolding started_of
+started_counted fields s f k r = settled_counted (record { machine = opened_of fields; counts = s }) (going_midway (begins f k r)) k
+
+-- and after each word
+some_set : (sets : List (List ℕ)) → 0 < length (last_set sets) → 0 < length sets
+some_set [] h = absurd (omega arith)
+some_set (xs ∷ sets) h = omega arith
+
+there : (s : State) (t : Option ℕ) → IfSome t (λ x. (slot_at s x).released ≡ false) → IfSome t (λ x. x < length s.slots)
+there s None h = tt
+there s (Some x) h = in_range s x h
+
+learnt_counted : (p : Phase) (s : State) (done : ℕ) (t : Option ℕ) → RulesAt p s → is_due_at p done s ≡ true → IfSome t (λ x. x < length s.slots) → IsKept s → IsKept (learnt_at p s t)
+learnt_counted Idle s done t r d l k = k
+learnt_counted Marking s done t r d l k = marked_counted s t r l k
+learnt_counted Scanning s done t r d l k = scanned_counted s t r l k
+learnt_counted Collecting s done t r d l k = collected_counted s t r (some_set s.sets (omega (arith, ltb_yes done (length (last_set s.sets)) d))) l k
+
+pub took_counted : (m : Machine) (s : State) → IsAtWork m s → IsSome (next_of m) → (word : ℕ) → LeadsToUnreleased s word → IsKept s → IsKept (took_of (record { machine = m; counts = s }) word).counts
+took_counted m s a b word lead k =
+    let w : Work = record { machine = m; counts = s } in
+    let u : State = learnt_at m.phase s (target_of word) in
+    let k' : IsKept u = learnt_counted m.phase s m.done (target_of word) (rules_midway w (at_work_midway m s a)) (at_work_due m s a) (there s (target_of word) lead) k in
+    subst (λ (v : Work). IsKept v.counts) (sym (took_busy w word m.phase refl b)) (settled_counted (record { machine = advanced m; counts = u }) (going_midway (learns a b word lead)) k')
