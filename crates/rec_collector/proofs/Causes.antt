@@ -5,44 +5,77 @@ use Rattle.rec_word.specs.Op.{crossing_word}
 use Rattle.rec_word.specs.declared.op.Op.{Op}
 use Rattle.rec_word.specs.declared.op.Op.TheVariants.{StoreEpoch}
 use Rattle.rec_release.specs.declared.at.At.{At}
-use Rattle.rec_counts.specs.Counts.{State}
-use Rattle.rec_release.specs.Release.{Machine, Work, next_of as release_next}
+use Rattle.rec_release.specs.declared.member.Member.{Member}
+use Rattle.rec_release.specs.CycleFree as frees
+use Rattle.rec_release.specs.Release as releases
 use Rattle.rec_release.specs.Sweep.{next_of as sweep_next}
+use Rattle.rec_sigma.specs.Prepare as preps
+use Rattle.rec_sigma.specs.declared.at.At as loads
 use Rattle.rec_trial.specs.Trial.{next_of as trial_next}
-use Rattle.rec_trial.specs.Trial as trials
-use Rattle.rec_collector.specs.GivenUp.{given_up}
 use Rattle.rec_collector.specs.Causes.{HasCause}
+use Rattle.rec_collector.specs.Followed.{Next, followed, prep_started, prepared, prepared_at, relieved, sweep_phase, tested_next, tested_on, trial_started, tried, tried_at, with_freed, with_loaded, with_released, with_tried}
 use Rattle.rec_collector.specs.Kept.{IsMachine, swept_at}
 use Rattle.rec_collector.specs.Next.{is_spent, next_at, next_of}
-use Rattle.rec_collector.specs.Private.{Private}
-use Rattle.rec_collector.specs.Took.{begun, moved, released, swept_next, swept_phase, swept_turn, took_at, took_of, trial_started, trial_took, trial_turn, trial_turn_at, tried, tried_at, turn_at, turn_of, went_on, went_on_at, with_trial, work_turn, work_turn_at}
+use Rattle.rec_collector.specs.Parts.{Parts}
+use Rattle.rec_collector.specs.Private.{Private, parts_of}
+use Rattle.rec_collector.specs.Testing.{tested, zeros_released}
+use Rattle.rec_collector.specs.Took.{batched, came, came_turn, ended_if, moved, swept_phase, took_at, took_of, turn_at, turn_of}
 use Rattle.rec_collector.specs.declared.phase.Phase.{Phase}
-use Rattle.rec_collector.specs.declared.phase.Phase.TheVariants.{Idle, Looking, Swapping, Returning, Releasing, Trying, Opening, Sweeping, Closing}
+use Rattle.rec_collector.specs.declared.phase.Phase.TheVariants.{Idle, Looking, Swapping, Returning, Releasing, Freeing, Trying, Preparing, Opening, Sweeping, Closing}
 use Rattle.rec_collector.specs.declared.turn.Turn.TheVariants.{Moved, Waiting, EpochsSpent}
-use Rattle.rec_collector.proofs.Releasing.{some_next}
-use Rattle.rec_collector.proofs.Sweeping.{due_slot, now_at, under_way_at}
+use Rattle.rec_collector.proofs.Answering.{freeing_next, prep_next, release_next}
+use Rattle.rec_collector.proofs.Landing.{landed, now_at, under_way_at}
+use Rattle.rec_collector.proofs.Sweeping.{due_slot}
 
--- a trial that came so far, in a phase that has swept nothing
-tried_cause_at : (p : Private) (word : ℕ) (s : State) (r : Machine) (w : trials.Work) (op : Option Op) → p.collections + 1 ≤ p.epoch → swept_at p.phase ≡ 0 → HasCause p word (tried_at (record p { counts = s; release = r }) w op) (trial_turn_at p.epoch w op)
-tried_cause_at p word s r w (Some o) u z = (refl, refl, ap (λ n. p.freed + n) z)
-tried_cause_at p word s r w None u z = go w.counts.free
+-- nothing is swept yet where a trial, its preparation or a release came so far
+none_swept : (free : List ℕ) → swept_at (sweep_phase free) ≡ 0
+none_swept [] = refl
+none_swept (x ∷ free) = refl
+
+prepared_none : (w : Parts) → swept_at (prepared w).phase ≡ 0
+unfolding prepared
+prepared_none w = go w.prep.at
   where
-    go : (free : List ℕ) → HasCause p word (swept_next (with_trial (record p { counts = s; release = r }) (record w { counts = given_up w.counts })) free) (swept_turn p.epoch free)
-    go [] = (omega (arith, u), sym z, refl, refl, refl, refl)
-    go (x ∷ free) = (refl, refl, ap (λ n. p.freed + n) z)
+    go : (at : Option loads.At) → swept_at (prepared_at w at).phase ≡ 0
+    go None = none_swept w.counts.free
+    go (Some a) = refl
 
-tried_cause : (p : Private) (word : ℕ) (s : State) (r : Machine) (w : trials.Work) → p.collections + 1 ≤ p.epoch → swept_at p.phase ≡ 0 → HasCause p word (tried (record p { counts = s; release = r }) w) (trial_turn p.epoch w)
-unfolding tried trial_turn
-tried_cause p word s r w u z = tried_cause_at p word s r w (trial_next w.machine) u z
+tried_none : (w : Parts) → swept_at (tried w).phase ≡ 0
+unfolding tried
+tried_none w = go (trial_next w.trial)
+  where
+    go : (op : Option Op) → swept_at (tried_at w op).phase ≡ 0
+    go None = prepared_none (prep_started w)
+    go (Some o) = refl
 
--- a release that came so far
-work_cause_at : (p : Private) (word : ℕ) (w : Work) (at : Option At) → p.collections + 1 ≤ p.epoch → swept_at p.phase ≡ 0 → HasCause p word (went_on_at p w at) (work_turn_at p w at)
-work_cause_at p word w (Some a) u z = (refl, refl, ap (λ n. p.freed + n) z)
-work_cause_at p word w None u z = tried_cause p word w.counts w.machine (trial_started p w.counts) u z
+tested_none : (w : Parts) → swept_at (tested_next w).phase ≡ 0
+tested_none w = go w.release.at w.freeing.at
+  where
+    go : (at : Option At) (member : Option Member) → swept_at (tested_on w at member).phase ≡ 0
+    go at (Some m) = refl
+    go (Some a) None = refl
+    go None None = tried_none (trial_started w)
 
-work_cause : (p : Private) (word : ℕ) (w : Work) → p.collections + 1 ≤ p.epoch → swept_at p.phase ≡ 0 → HasCause p word (went_on p w) (work_turn p w)
-unfolding went_on work_turn
-work_cause p word w u z = work_cause_at p word w w.machine.at u z
+followed_none : (w : Parts) → swept_at (followed w).phase ≡ 0
+unfolding followed
+followed_none w = tested_none (tested (length w.counts.sets) w)
+
+-- a turn that came to these parts and this phase, from a phase that has swept nothing
+came_cause : (p : Private) (word : ℕ) (n : Next) → p.collections + 1 ≤ p.epoch → swept_at p.phase ≡ 0 → swept_at n.phase ≡ 0 → HasCause p word (came p n) (came_turn p.epoch n.phase)
+came_cause p word n u z none = go n.phase none
+  where
+    go : (phase : Phase) → swept_at phase ≡ 0 → HasCause p word (ended_if phase (landed p (record { parts = n.parts; phase = phase }))) (came_turn p.epoch phase)
+    go Idle none = (refl, refl, ap (λ m. p.freed + m) z)
+    go (Looking t) none = (refl, refl, ap (λ m. p.freed + m) z)
+    go (Swapping t) none = (refl, refl, ap (λ m. p.freed + m) z)
+    go (Returning t) none = (refl, refl, ap (λ m. p.freed + m) z)
+    go Releasing none = (refl, refl, ap (λ m. p.freed + m) z)
+    go Freeing none = (refl, refl, ap (λ m. p.freed + m) z)
+    go Trying none = (refl, refl, ap (λ m. p.freed + m) z)
+    go Preparing none = (refl, refl, ap (λ m. p.freed + m) z)
+    go Opening none = (refl, refl, ap (λ m. p.freed + m) z)
+    go (Sweeping m) none = (refl, refl, omega (arith, z, none))
+    go (Closing m) none = (omega (arith, u), omega (arith, z, none), refl, refl, refl, refl)
 
 idle_cause : (p : Private) (word : ℕ) (b : Bool) → is_spent p ≡ b → p.phase ≡ Idle → HasCause p word (cond b p (moved (record p { epoch = p.epoch + 1 }) (Looking 1))) (cond b EpochsSpent Moved)
 idle_cause p word true e is = (is, eqb-true (p.epoch + 1) (2 ^ 24) e, refl)
@@ -52,9 +85,9 @@ look_cause : (p : Private) (word t : ℕ) (b : Bool) → (word == crossing_word 
 look_cause p word t true e is = (refl, refl, ap (λ f. p.freed + swept_at f) is)
 look_cause p word t false e is = (is, (λ q. false≢true (sym e ∙ eq-eqb word (crossing_word p.epoch 2) q)), refl)
 
-return_cause : (p : Private) (word t : ℕ) (b : Bool) → p.collections + 1 ≤ p.epoch → p.phase ≡ Returning t → HasCause p word (cond b (went_on p (begun p)) (moved p (Looking (t + 1)))) (cond b (work_turn p (begun p)) Moved)
-return_cause p word t true u is = work_cause p word (begun p) u (ap swept_at is)
-return_cause p word t false u is = (refl, refl, ap (λ f. p.freed + swept_at f) is)
+return_cause : (p : Private) (word t : ℕ) (n : Next) (b : Bool) → p.collections + 1 ≤ p.epoch → p.phase ≡ Returning t → swept_at n.phase ≡ 0 → HasCause p word (cond b (came p n) (moved p (Looking (t + 1)))) (cond b (came_turn p.epoch n.phase) Moved)
+return_cause p word t n true u is none = came_cause p word n u (ap swept_at is) none
+return_cause p word t n false u is none = (refl, refl, ap (λ f. p.freed + swept_at f) is)
 
 sweep_cause : (p : Private) (n : ℕ) (due : Option ℕ) → p.phase ≡ Sweeping n → p.freed + 1 + swept_at p.phase ≡ p.freed + swept_at (swept_phase (n + 1) due)
 sweep_cause p n None is = omega (arith, ap swept_at is)
@@ -65,9 +98,11 @@ unfolding took_at turn_at
 cause_at p word Idle is k = idle_cause p word (is_spent p) refl is
 cause_at p word (Looking t) is k = look_cause p word t (word == crossing_word p.epoch 2) refl is
 cause_at p word (Swapping t) is k = (refl, refl, ap (λ f. p.freed + swept_at f) is)
-cause_at p word (Returning t) is k = return_cause p word t (t == length p.newer) (under_way_at p (Returning t) k is) is
-cause_at p word Releasing is k = work_cause p word (released p word) (under_way_at p Releasing k is) (ap swept_at is)
-cause_at p word Trying is k = tried_cause p word p.counts p.release (trial_took p word) (under_way_at p Trying k is) (ap swept_at is)
+cause_at p word (Returning t) is k = let w : Parts = zeros_released false (batched p) in return_cause p word t (followed w) (t == length p.newer) (under_way_at p (Returning t) k is) is (followed_none w)
+cause_at p word Releasing is k = let w : Parts = with_released (parts_of p) word in came_cause p word (followed w) (under_way_at p Releasing k is) (ap swept_at is) (followed_none w)
+cause_at p word Freeing is k = let w : Parts = relieved (with_freed (parts_of p) word) in came_cause p word (followed w) (under_way_at p Freeing k is) (ap swept_at is) (followed_none w)
+cause_at p word Trying is k = let w : Parts = with_tried (parts_of p) word in came_cause p word (tried w) (under_way_at p Trying k is) (ap swept_at is) (tried_none w)
+cause_at p word Preparing is k = let w : Parts = with_loaded (parts_of p) word in came_cause p word (prepared w) (under_way_at p Preparing k is) (ap swept_at is) (prepared_none w)
 cause_at p word Opening is k = (refl, refl, ap (λ f. p.freed + swept_at f) is)
 cause_at p word (Sweeping n) is k = (refl, refl, sweep_cause p n _ is)
 cause_at p word (Closing n) is k = (omega (arith, under_way_at p (Closing n) k is), sym (ap swept_at is), refl, refl, refl, refl)
@@ -95,8 +130,10 @@ spent_at p word Idle is k n = elim (cases_eq (p.epoch + 1) (2 ^ 24)) [
 spent_at p word (Looking t) is k n = absurd (false≢true (sym n))
 spent_at p word (Swapping t) is k n = absurd (false≢true (sym n))
 spent_at p word (Returning t) is k n = absurd (false≢true (sym n))
-spent_at p word Releasing is k n = absurd (is_none (release_next p.release) (some_next p.release (now_at p Releasing k is).busy) n)
+spent_at p word Releasing is k n = absurd (is_none (releases.next_of p.release) (release_next p.release ∙ (now_at p Releasing k is).1) n)
+spent_at p word Freeing is k n = absurd (is_none (frees.next_of p.freeing) (freeing_next p.freeing ∙ (now_at p Freeing k is).1) n)
 spent_at p word Trying is k n = absurd (is_none (trial_next p.trial) (now_at p Trying k is).busy n)
+spent_at p word Preparing is k n = absurd (is_none (preps.next_of p.prep) (prep_next p.prep ∙ (now_at p Preparing k is).busy) n)
 spent_at p word Opening is k n = absurd (false≢true (sym n))
 spent_at p word (Sweeping m) is k n = absurd (is_none (sweep_next p.due) (due_slot p.counts.free p.due (now_at p (Sweeping m) k is).1 (now_at p (Sweeping m) k is).2) n)
 spent_at p word (Closing m) is k n = absurd (false≢true (sym n))

@@ -4,40 +4,47 @@ use Rattle.std.proofs.lemmas.List.{length-set, get_or-set_same, get_or-set_other
 use Rattle.std.proofs.lemmas.Bool.{cases_eq, cases_lt, eq-eqb, false≢true}
 use Rattle.rec_word.specs.Op.{crossing_word}
 use Rattle.rec_log.specs.declared.contents.Contents.{Contents}
-use Rattle.rec_counts.specs.Counts.{State}
-use Rattle.rec_release.specs.Release.{Machine}
-use Rattle.rec_trial.specs.Trial.{Machine as Trial, next_of}
+use Rattle.rec_release.specs.TakenOff.{IsApart}
+use Rattle.rec_trial.specs.Trial.{next_of}
+use Rattle.rec_collector.specs.Clearing.{IsUntried}
 use Rattle.rec_collector.specs.Given.{IsSized}
-use Rattle.rec_collector.specs.Kept.{AreSized, AreSpare, IsAt, IsAtRest, IsMachine, IsUntried, NoneReleased, swept_at, under_way}
+use Rattle.rec_collector.specs.Kept.{AreSized, AreSpare, IsAt, IsAtRest, IsMachine, IsTold, NoneReleased, swept_at, under_way}
 use Rattle.rec_collector.specs.Next.{is_spent}
-use Rattle.rec_collector.specs.Private.{Private, blank, buffer_at}
+use Rattle.rec_collector.specs.Parts.{Parts}
+use Rattle.rec_collector.specs.Private.{Private, blank, buffer_at, parts_of}
 use Rattle.rec_collector.specs.Took.{moved, swapped_at, took_at}
 use Rattle.rec_collector.specs.declared.phase.Phase.{Phase}
 use Rattle.rec_collector.specs.declared.phase.Phase.TheVariants.{Idle, Looking, Swapping, Returning}
-use Rattle.rec_collector.proofs.Sweeping.{freed_at, now_at, under_way_at}
+use Rattle.rec_collector.proofs.Landing.{freed_at, now_at, told_at, under_way_at}
 
--- what is at rest stays so with the same counts, release and sweep
-still_rests : (p q : Private) → q.counts ≡ p.counts → q.release ≡ p.release → q.trial ≡ p.trial → q.due ≡ p.due → IsAtRest p → IsAtRest q
-still_rests p q counts release trial due a = record {
-  untried = subst IsUntried (sym counts) a.untried;
-  idle = subst (λ (t : Trial). IsNone (next_of t)) (sym trial) a.idle;
-  none = subst NoneReleased (sym counts) a.none;
-  zeros = ap (λ (s : State). s.zeros) counts ∙ a.zeros;
-  roots = ap (λ (s : State). s.roots) counts ∙ a.roots;
-  free = ap (λ (s : State). s.free) counts ∙ a.free;
-  still = ap (λ (m : Machine). m.at) release ∙ a.still;
+-- what is at rest stays so with the same parts and sweep
+still_rests : (p q : Private) → parts_of q ≡ parts_of p → q.due ≡ p.due → IsAtRest p → IsAtRest q
+still_rests p q e due a = record {
+  untried = subst (λ (w : Parts). IsUntried w.counts) (sym e) a.untried;
+  idle = subst (λ (w : Parts). IsNone (next_of w.trial)) (sym e) a.idle;
+  unprepared = ap (λ (w : Parts). w.prep.at) e ∙ a.unprepared;
+  apart = subst (λ (w : Parts). IsApart w.counts) (sym e) a.apart;
+  none = subst (λ (w : Parts). NoneReleased w.counts) (sym e) a.none;
+  zeros = ap (λ (w : Parts). w.counts.zeros) e ∙ a.zeros;
+  roots = ap (λ (w : Parts). w.counts.roots) e ∙ a.roots;
+  free = ap (λ (w : Parts). w.counts.free) e ∙ a.free;
+  work = ap (λ (w : Parts). w.counts.work) e ∙ a.work;
+  still = ap (λ (w : Parts). w.release.at) e ∙ a.still;
+  unfreed = ap (λ (w : Parts). w.freeing.at) e ∙ a.unfreed;
   due = due ∙ a.due;
 }
 
 -- a turn that changes the epoch and the phase alone
 moved_keeps : (p : Private) (epoch : ℕ) (phase : Phase) → IsMachine p → epoch < 2 ^ 24 → p.collections + under_way phase ≤ epoch → p.freed ≤ 2 ^ 16 * p.collections + swept_at phase
-    → IsAt (moved (record p { epoch = epoch }) phase) phase → IsMachine (moved (record p { epoch = epoch }) phase)
-moved_keeps p epoch phase k fits under freed now = record {
+    → IsTold p phase → IsAt (moved (record p { epoch = epoch }) phase) phase → IsMachine (moved (record p { epoch = epoch }) phase)
+moved_keeps p epoch phase k fits under freed told now = record {
   epoch = fits;
   collections = under;
   freed = freed;
   fields = k.fields;
-  same_fields = k.same_fields;
+  trial_fields = k.trial_fields;
+  freeing_fields = k.freeing_fields;
+  prep_fields = k.prep_fields;
   few_fields = k.few_fields;
   mutators = k.mutators;
   few = k.few;
@@ -45,6 +52,7 @@ moved_keeps p epoch phase k fits under freed now = record {
   newer = k.newer;
   older = k.older;
   counts = k.counts;
+  told = told;
   now = now;
 }
 
@@ -62,8 +70,8 @@ idle_keeps p word k e = go (is_spent p) refl
         let a : IsAt p Idle = now_at p Idle k e in
         let next : p.epoch + 1 ≢ 2 ^ 24 = λ q. false≢true (sym s ∙ eq-eqb (p.epoch + 1) (2 ^ 24) q) in
         let fits : p.epoch + 1 < 2 ^ 24 = elim (cases_lt (p.epoch + 1) (2 ^ 24)) [ inl l ↦ l | inr l ↦ absurd (next (omega (arith, l, k.epoch))) ] in
-        moved_keeps p (p.epoch + 1) (Looking 1) k fits (omega (arith, under_way_at p Idle k e)) (freed_at p Idle k e)
-        (record { rest = still_rests p requested refl refl refl refl a.0; first = omega arith; there = omega (arith, k.mutators); spares = a.1; turns = omega (arith, a.2) })
+        moved_keeps p (p.epoch + 1) (Looking 1) k fits (omega (arith, under_way_at p Idle k e)) (freed_at p Idle k e) (told_at p Idle k e)
+        (record { rest = still_rests p requested refl refl a.0; first = omega arith; there = omega (arith, k.mutators); spares = a.1; turns = omega (arith, a.2) })
 
 -- the mailbox of a mutator is held where it has crossed
 pub look_keeps : (p : Private) (word t : ℕ) → IsMachine p → p.phase ≡ Looking t → IsMachine (took_at p word (Looking t))
@@ -74,8 +82,8 @@ look_keeps p word t k e = go (word == crossing_word p.epoch 2)
     go false = k
     go true =
         let a : IsAt p (Looking t) = now_at p (Looking t) k e in
-        moved_keeps p p.epoch (Swapping t) k k.epoch (under_way_at p (Looking t) k e) (freed_at p (Looking t) k e)
-        (record { rest = still_rests p (moved p (Swapping t)) refl refl refl refl a.rest; first = a.first; there = a.there; spares = a.spares; turns = omega (arith, a.turns, a.first) })
+        moved_keeps p p.epoch (Swapping t) k k.epoch (under_way_at p (Looking t) k e) (freed_at p (Looking t) k e) (told_at p (Looking t) k e)
+        (record { rest = still_rests p (moved p (Swapping t)) refl refl a.rest; first = a.first; there = a.there; spares = a.spares; turns = omega (arith, a.turns, a.first) })
 
 -- the next mutator's mailbox follows
 pub next_keeps : (p : Private) (t : ℕ) → IsMachine p → p.phase ≡ Returning t → t ≢ length p.newer → IsMachine (moved p (Looking (t + 1)))
@@ -83,9 +91,9 @@ next_keeps p t k e other =
     let a : IsAt p (Returning t) = now_at p (Returning t) k e in
     let more : t < length p.newer = elim (cases_lt t (length p.newer)) [ inl l ↦ l | inr l ↦ absurd (other (omega (arith, l, a.there))) ] in
     let same : t + 1 - 1 ≡ t = omega arith in
-    moved_keeps p p.epoch (Looking (t + 1)) k k.epoch (under_way_at p (Returning t) k e) (freed_at p (Returning t) k e)
+    moved_keeps p p.epoch (Looking (t + 1)) k k.epoch (under_way_at p (Returning t) k e) (freed_at p (Returning t) k e) (told_at p (Returning t) k e)
     (record {
-      rest = still_rests p (moved p (Looking (t + 1))) refl refl refl refl a.rest;
+      rest = still_rests p (moved p (Looking (t + 1))) refl refl a.rest;
       first = omega arith;
       there = omega (arith, more);
       spares = subst (λ from. AreSpare p from) (sym same) a.spares;
@@ -111,7 +119,9 @@ swap_keeps p t box z k e =
       collections = under_way_at p (Swapping t) k e;
       freed = freed_at p (Swapping t) k e;
       fields = k.fields;
-      same_fields = k.same_fields;
+      trial_fields = k.trial_fields;
+      freeing_fields = k.freeing_fields;
+      prep_fields = k.prep_fields;
       few_fields = k.few_fields;
       mutators = omega (arith, k.mutators, many);
       few = omega (arith, k.few, many);
@@ -119,8 +129,9 @@ swap_keeps p t box z k e =
       newer = swap_sized p (t - 1) box z k.newer;
       older = k.older;
       counts = k.counts;
+      told = told_at p (Swapping t) k e;
       now = record {
-        rest = still_rests p (record p { phase = Returning t; newer = set p.newer (t - 1) box }) refl refl refl refl a.rest;
+        rest = still_rests p (record p { phase = Returning t; newer = set p.newer (t - 1) box }) refl refl a.rest;
         first = a.first;
         there = omega (arith, a.there, many);
         spares = λ j f l. get_or-set_other p.newer (t - 1) j box (blank 0 0) (λ q. absurd (omega (arith, a.first, f, q))) ∙ a.spares j (omega (arith, f)) (omega (arith, l, many));

@@ -10,9 +10,12 @@ use Rattle.rec_counts.specs.Lists.{one}
 use Rattle.rec_release.specs.Release.{started_of, took_of as release_took}
 use Rattle.rec_release.specs.Sweep.{started_of as sweep_started, took_of as sweep_took}
 use Rattle.rec_trial.specs.Trial.{next_of as trial_next, settled, started_of as trial_started_of, took_of as trial_took_of}
+use Rattle.rec_sigma.specs.Prepare.{started_of as prep_started_of}
+use Rattle.rec_collector.specs.Followed.{followed, prepared, tried}
 use Rattle.rec_collector.specs.Given.{IsGiven, IsGivenAt, IsSwapping}
 use Rattle.rec_collector.specs.Private.{Private, opened}
-use Rattle.rec_collector.specs.Took.{begun, released, swapped_at, swapped_of, took_at, took_of, tried, went_on}
+use Rattle.rec_collector.specs.Testing.{tested}
+use Rattle.rec_collector.specs.Took.{swapped_at, swapped_of, took_at, took_of}
 
 -- the buffers that the mutator retired
 abbrev pub born_1 : Contents
@@ -73,23 +76,23 @@ abbrev pub at_swept : Private
 at_swept = took_of at_begun 8
 
 pub given_requested : IsGiven at_opening 1
-unfolding IsGiven IsGivenAt took_of took_at swapped_of swapped_at begun released went_on tried all_up all_down started_of release_took sweep_started sweep_took trial_started_of trial_took_of settled trial_next
+unfolding IsGiven IsGivenAt took_of took_at swapped_of swapped_at followed tested tried prepared all_up all_down started_of release_took prep_started_of sweep_started sweep_took trial_started_of trial_took_of settled trial_next
 given_requested = tt
 
 pub given_waited : IsGiven at_requested 4
-unfolding IsGiven IsGivenAt took_of took_at swapped_of swapped_at begun released went_on tried all_up all_down started_of release_took sweep_started sweep_took trial_started_of trial_took_of settled trial_next
+unfolding IsGiven IsGivenAt took_of took_at swapped_of swapped_at followed tested tried prepared all_up all_down started_of release_took prep_started_of sweep_started sweep_took trial_started_of trial_took_of settled trial_next
 given_waited = tt
 
 pub given_looked : IsGiven at_waited 10
-unfolding IsGiven IsGivenAt took_of took_at swapped_of swapped_at begun released went_on tried all_up all_down started_of release_took sweep_started sweep_took trial_started_of trial_took_of settled trial_next
+unfolding IsGiven IsGivenAt took_of took_at swapped_of swapped_at followed tested tried prepared all_up all_down started_of release_took prep_started_of sweep_started sweep_took trial_started_of trial_took_of settled trial_next
 given_looked = tt
 
 pub swapping_spare : IsSwapping at_looked.phase
-unfolding took_of took_at swapped_of swapped_at begun released went_on tried all_up all_down started_of release_took sweep_started sweep_took trial_started_of trial_took_of settled trial_next
+unfolding took_of took_at swapped_of swapped_at followed tested tried prepared all_up all_down started_of release_took prep_started_of sweep_started sweep_took trial_started_of trial_took_of settled trial_next
 swapping_spare = tt
 
 pub given_tried : IsGiven at_spare 11
-unfolding IsGiven IsGivenAt took_of took_at swapped_of swapped_at begun released went_on tried all_up all_down started_of release_took sweep_started sweep_took trial_started_of trial_took_of settled trial_next named
+unfolding IsGiven IsGivenAt took_of took_at swapped_of swapped_at followed tested tried prepared all_up all_down started_of release_took prep_started_of sweep_started sweep_took trial_started_of trial_took_of settled trial_next named
 given_tried e = record { in_range = range; fits = fit; covered = cover }
   where
     range : (x : ℕ) → 2 ≤ x → added x (born_1 ∷ []) + taken x (left_0 ∷ []) ≡ 0
@@ -112,27 +115,27 @@ given_tried e = record { in_range = range; fits = fit; covered = cover }
     cover (suc (suc x)) = omega (arith, none (suc (suc x)) (omega arith))
 
 pub given_marked : IsGiven at_tried 0
-unfolding IsGiven IsGivenAt took_of took_at swapped_of swapped_at begun released went_on tried all_up all_down started_of release_took sweep_started sweep_took trial_started_of trial_took_of settled trial_next
+unfolding IsGiven IsGivenAt took_of took_at swapped_of swapped_at followed tested tried prepared all_up all_down started_of release_took prep_started_of sweep_started sweep_took trial_started_of trial_took_of settled trial_next
 given_marked = tt
 
 pub given_first : IsGiven at_marked 0
-unfolding IsGiven IsGivenAt took_of took_at swapped_of swapped_at begun released went_on tried all_up all_down started_of release_took sweep_started sweep_took trial_started_of trial_took_of settled trial_next
+unfolding IsGiven IsGivenAt took_of took_at swapped_of swapped_at followed tested tried prepared all_up all_down started_of release_took prep_started_of sweep_started sweep_took trial_started_of trial_took_of settled trial_next
 given_first = tt
 
 pub given_again : IsGiven at_first 2
-unfolding IsGiven IsGivenAt took_of took_at swapped_of swapped_at begun released went_on tried all_up all_down started_of release_took sweep_started sweep_took trial_started_of trial_took_of settled trial_next
+unfolding IsGiven IsGivenAt took_of took_at swapped_of swapped_at followed tested tried prepared all_up all_down started_of release_took prep_started_of sweep_started sweep_took trial_started_of trial_took_of settled trial_next
 given_again = tt
 
 pub given_found : IsGiven at_again 14
-unfolding IsGiven IsGivenAt took_of took_at swapped_of swapped_at begun released went_on tried all_up all_down started_of release_took sweep_started sweep_took trial_started_of trial_took_of settled trial_next
+unfolding IsGiven IsGivenAt took_of took_at swapped_of swapped_at followed tested tried prepared all_up all_down started_of release_took prep_started_of sweep_started sweep_took trial_started_of trial_took_of settled trial_next
 given_found = tt
 
 pub swapping_other : IsSwapping at_found.phase
-unfolding took_of took_at swapped_of swapped_at begun released went_on tried all_up all_down started_of release_took sweep_started sweep_took trial_started_of trial_took_of settled trial_next
+unfolding took_of took_at swapped_of swapped_at followed tested tried prepared all_up all_down started_of release_took prep_started_of sweep_started sweep_took trial_started_of trial_took_of settled trial_next
 swapping_other = tt
 
 pub given_applied : IsGiven at_other 15
-unfolding IsGiven IsGivenAt took_of took_at swapped_of swapped_at begun released went_on tried all_up all_down started_of release_took sweep_started sweep_took trial_started_of trial_took_of settled trial_next named
+unfolding IsGiven IsGivenAt took_of took_at swapped_of swapped_at followed tested tried prepared all_up all_down started_of release_took prep_started_of sweep_started sweep_took trial_started_of trial_took_of settled trial_next named
 given_applied e = record { in_range = range; fits = fit; covered = cover }
   where
     range : (x : ℕ) → 2 ≤ x → added x (left_0 ∷ []) + taken x (born_1 ∷ []) ≡ 0
@@ -155,25 +158,25 @@ given_applied e = record { in_range = range; fits = fit; covered = cover }
     cover (suc (suc x)) = omega (arith, none (suc (suc x)) (omega arith))
 
 pub given_released : IsGiven at_applied 0
-unfolding IsGiven IsGivenAt took_of took_at swapped_of swapped_at begun released went_on tried all_up all_down started_of release_took sweep_started sweep_took trial_started_of trial_took_of settled trial_next
+unfolding IsGiven IsGivenAt took_of took_at swapped_of swapped_at followed tested tried prepared all_up all_down started_of release_took prep_started_of sweep_started sweep_took trial_started_of trial_took_of settled trial_next
 given_released = tt
 
 pub given_retried : IsGiven at_released 0
-unfolding IsGiven IsGivenAt took_of took_at swapped_of swapped_at begun released went_on tried all_up all_down started_of release_took sweep_started sweep_took trial_started_of trial_took_of settled trial_next
+unfolding IsGiven IsGivenAt took_of took_at swapped_of swapped_at followed tested tried prepared all_up all_down started_of release_took prep_started_of sweep_started sweep_took trial_started_of trial_took_of settled trial_next
 given_retried = tt
 
 pub given_blackened : IsGiven at_retried 0
-unfolding IsGiven IsGivenAt took_of took_at swapped_of swapped_at begun released went_on tried all_up all_down started_of release_took sweep_started sweep_took trial_started_of trial_took_of settled trial_next
+unfolding IsGiven IsGivenAt took_of took_at swapped_of swapped_at followed tested tried prepared all_up all_down started_of release_took prep_started_of sweep_started sweep_took trial_started_of trial_took_of settled trial_next
 given_blackened = tt
 
 pub given_begun : IsGiven at_blackened 0
-unfolding IsGiven IsGivenAt took_of took_at swapped_of swapped_at begun released went_on tried all_up all_down started_of release_took sweep_started sweep_took trial_started_of trial_took_of settled trial_next
+unfolding IsGiven IsGivenAt took_of took_at swapped_of swapped_at followed tested tried prepared all_up all_down started_of release_took prep_started_of sweep_started sweep_took trial_started_of trial_took_of settled trial_next
 given_begun = tt
 
 pub given_swept : IsGiven at_begun 8
-unfolding IsGiven IsGivenAt took_of took_at swapped_of swapped_at begun released went_on tried all_up all_down started_of release_took sweep_started sweep_took trial_started_of trial_took_of settled trial_next
+unfolding IsGiven IsGivenAt took_of took_at swapped_of swapped_at followed tested tried prepared all_up all_down started_of release_took prep_started_of sweep_started sweep_took trial_started_of trial_took_of settled trial_next
 given_swept = tt
 
 pub given_second : IsGiven at_swept 1
-unfolding IsGiven IsGivenAt took_of took_at swapped_of swapped_at begun released went_on tried all_up all_down started_of release_took sweep_started sweep_took trial_started_of trial_took_of settled trial_next
+unfolding IsGiven IsGivenAt took_of took_at swapped_of swapped_at followed tested tried prepared all_up all_down started_of release_took prep_started_of sweep_started sweep_took trial_started_of trial_took_of settled trial_next
 given_second = tt

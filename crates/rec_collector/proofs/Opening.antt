@@ -1,14 +1,16 @@
 -- A machine as it is opened.
 use Rattle.std.proofs.Common.{◌≡◌, ℕ, ◌-◌, ◌^◌, ◌<◌, Bool, false, Option, None, IsNone, length, replicate, get_or, refl, arith, sym, ap, ◌∙◌, inl, inr}
-use Rattle.std.proofs.lemmas.Bool.{cases_eq, cases_lt}
+use Rattle.std.proofs.lemmas.Bool.{cases_eq, cases_lt, false≢true}
 use Rattle.std.proofs.lemmas.List.{get_or-replicate, get_or_past, get_or-set_same, get_or-set_other, length-replicate, length-set}
 use Rattle.rec_counts.specs.declared.slot.Slot.{Slot}
 use Rattle.rec_counts.specs.Counts.{opened as opened_counts, slot_at, IsKept as IsKeptCounts}
 use Rattle.rec_counts.specs.Slot.{absent, fresh}
 use Rattle.rec_counts.proofs.Keeping.{field_kept}
+use Rattle.rec_release.specs.TakenOff.{IsApart, is_orange}
 use Rattle.rec_trial.specs.Moves.{is_gray, is_white}
 use Rattle.rec_trial.specs.Trial.{idle_of, next_of}
-use Rattle.rec_collector.specs.Kept.{AreSpare, IsMachine, IsUntried, NoneReleased}
+use Rattle.rec_collector.specs.Clearing.{IsUntried}
+use Rattle.rec_collector.specs.Kept.{AreSpare, IsMachine, NoneReleased}
 use Rattle.rec_collector.specs.Private.{Private, blank, first_registers, opened, retired}
 use Rattle.rec_collector.proofs.Rows.{row_sized}
 
@@ -34,12 +36,13 @@ opened_each slots first f a b c x = field_kept f (replicate slots fresh) 0 (reco
 
 opened_untried : (slots first : ℕ) → IsUntried (opened_counts slots first)
 opened_untried slots first = record {
-  sets = refl;
   marked = refl;
-  work = refl;
   no_gray = opened_each slots first (λ (v : Slot). is_gray v.colour) refl refl refl;
   no_white = opened_each slots first (λ (v : Slot). is_white v.colour) refl refl refl;
 }
+
+opened_apart : (slots first : ℕ) → IsApart (opened_counts slots first)
+opened_apart slots first x e = absurd (false≢true (sym (opened_each slots first (λ (v : Slot). is_orange v.colour) refl refl refl x) ∙ ap is_orange e))
 
 opened_idle : (fields : ℕ) → IsNone (next_of (idle_of fields))
 unfolding next_of
@@ -61,7 +64,9 @@ opened_keeps slots fields registers mutators capacity epoch f few r m small e k 
       collections = omega arith;
       freed = omega arith;
       fields = f;
-      same_fields = refl;
+      trial_fields = refl;
+      freeing_fields = refl;
+      prep_fields = refl;
       few_fields = few;
       mutators = omega (arith, m, newer);
       few = omega (arith, small, newer);
@@ -69,5 +74,23 @@ opened_keeps slots fields registers mutators capacity epoch f few r m small e k 
       newer = row_sized p mutators (blank registers capacity) (length-replicate registers None, refl);
       older = row_sized p mutators (retired (first_registers registers) capacity) (omega (arith, r, length-replicate {A = Option ℕ} (registers - 1) None), refl);
       counts = k;
-      now = (record { untried = opened_untried slots mutators; idle = opened_idle fields; none = opened_none slots mutators; zeros = refl; roots = refl; free = refl; still = refl; due = refl }, opened_spares slots fields registers mutators capacity epoch, refl);
+      told = omega arith;
+      now = (
+        record {
+          untried = opened_untried slots mutators;
+          idle = opened_idle fields;
+          unprepared = refl;
+          apart = opened_apart slots mutators;
+          none = opened_none slots mutators;
+          zeros = refl;
+          roots = refl;
+          free = refl;
+          work = refl;
+          still = refl;
+          unfreed = refl;
+          due = refl;
+        },
+        opened_spares slots fields registers mutators capacity epoch,
+        refl,
+      );
     }

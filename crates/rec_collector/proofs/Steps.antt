@@ -1,22 +1,41 @@
 -- What comes next and what is learnt are a step, by the phase.
-use Rattle.std.proofs.Common.{◌≡◌, ◌≢◌, inl, inr, ℕ, ◌+◌, ◌^◌, ◌==◌, true, false, Option, None, Some, List, [], ◌∷◌, length, refl, sym, ap, ◌∙◌}
+use Rattle.std.proofs.Common.{◌≡◌, ◌≢◌, inl, inr, ℕ, zero, suc, ◌+◌, ◌-◌, ◌^◌, ◌<◌, ◌==◌, true, false, Bool, Option, None, Some, List, [], ◌∷◌, length, refl, arith, sym, ap, subst, ◌∙◌}
 use Rattle.std.proofs.lemmas.Bool.{cond-true, cond-false, eq-eqb, ne_eqb, cases_eq}
 use Rattle.rec_word.specs.Op.{crossing_word}
 use Rattle.rec_word.specs.declared.op.Op.{Op}
 use Rattle.rec_log.specs.declared.contents.Contents.{Contents}
-use Rattle.rec_release.specs.declared.at.At.{At}
-use Rattle.rec_release.specs.Release.{Work}
+use Rattle.rec_counts.specs.Counts.{IsKept as IsKeptCounts}
 use Rattle.rec_release.specs.Sweep as sweeps
+use Rattle.rec_release.specs.declared.at.At.{At}
+use Rattle.rec_release.specs.declared.member.Member.{Member}
+use Rattle.rec_sigma.specs.Refurbish.{LastRefurbished}
+use Rattle.rec_sigma.specs.Settling.{refurbished_of}
+use Rattle.rec_sigma.specs.declared.at.At as loads
+use Rattle.rec_sigma.proofs.Renewals.{refurbished_last}
 use Rattle.rec_trial.specs.Trial.{next_of as trial_next}
-use Rattle.rec_trial.specs.Trial as trials
-use Rattle.rec_collector.specs.GivenUp.{given_up}
+use Rattle.rec_collector.specs.Clearing.{IsClearing, IsDone}
+use Rattle.rec_collector.specs.Followed.{Next, followed, next_in, prep_started, prepared, prepared_at, relieved, sweep_phase, tested_next, tested_on, trial_started, tried, tried_at, with_freed, with_loaded, with_released, with_tried}
+use Rattle.rec_collector.specs.Given.{IsCovered, IsGiven, IsGivenAt}
+use Rattle.rec_collector.specs.Kept.{IsMachine}
 use Rattle.rec_collector.specs.Next.{is_spent, next_at, next_of}
-use Rattle.rec_collector.specs.Private.{Private}
-use Rattle.rec_collector.specs.Step.{Step, ReleasesOn, TriesOn, IsNext, IsBetween}
-use Rattle.rec_collector.specs.Took.{begun, moved, released, returned, step_of, swapped_of, swapped_at, swept_next, swept_phase, swept_turn, took_at, took_of, trial_started, trial_took, trial_turn, trial_turn_at, tried, tried_at, turn_at, turn_of, went_on, went_on_at, with_trial, with_work, work_turn, work_turn_at}
+use Rattle.rec_collector.specs.Parts.{Parts}
+use Rattle.rec_collector.specs.Private.{Private, parts_of}
+use Rattle.rec_collector.specs.Step.{Step, ClearsOn, IsTested, PreparesOn, TriesOn, IsNext, IsBetween}
+use Rattle.rec_collector.specs.Testing.{is_busy, is_busy_at, last_tested, tested, tested_as, verdict_of, zeros_released}
+use Rattle.rec_collector.specs.Took.{batched, came, came_turn, moved, returned, step_of, swapped_of, swapped_at, swept_phase, took_at, took_of, turn_at, turn_of}
 use Rattle.rec_collector.specs.declared.phase.Phase.{Phase}
-use Rattle.rec_collector.specs.declared.phase.Phase.TheVariants.{Idle, Looking, Swapping, Returning, Releasing, Trying, Opening, Sweeping, Closing}
+use Rattle.rec_collector.specs.declared.phase.Phase.TheVariants.{Idle, Looking, Swapping, Returning, Releasing, Freeing, Trying, Preparing, Opening, Sweeping, Closing}
 use Rattle.rec_collector.specs.declared.turn.Turn.TheVariants.{Moved}
+use Rattle.rec_collector.specs.declared.verdict.Verdict.{Verdict}
+use Rattle.rec_collector.specs.declared.verdict.Verdict.TheVariants.{Passed, Touched, Held}
+use Rattle.rec_collector.proofs.Clearing.{last_clear}
+use Rattle.rec_collector.proofs.Counting.{last_kept}
+use Rattle.rec_collector.proofs.Following.{HasCleared, begun_clears, cleared_wide, freed_clears, released_clears}
+use Rattle.rec_collector.proofs.Goings.{last_sets}
+use Rattle.rec_collector.proofs.Judging.{last_refusable, none_busy}
+use Rattle.rec_collector.proofs.Told.{last_same}
+use Rattle.rec_collector.proofs.UnderTest.{tested_busy, tested_next_on, tested_none, wide_on}
+use Rattle.rec_collector.proofs.Verdicts.{verdict_held, verdict_passed, verdict_touched}
 
 none_some : {A : Type 0} (x : A) → Some x ≢ None
 none_some x e = cc
@@ -24,35 +43,94 @@ none_some x e = cc
 cons_nil : (x : ℕ) (xs : List ℕ) → x ∷ xs ≢ []
 cons_nil x xs e = cc
 
--- a trial that came so far
-tried_on_at : (p : Private) (w : trials.Work) (box : Contents) (op : Option Op) → trial_next w.machine ≡ op → TriesOn p w (swapped_of (tried_at p w op) box) (trial_turn_at p.epoch w op)
-unfolding swapped_of swapped_at
-tried_on_at p w box (Some o) e = TriesOn.more (λ n. none_some o (sym e ∙ n)) (record { after = refl; answer = refl })
-tried_on_at p w box None e = go w.counts.free refl
+-- what a step makes of a machine that came to these parts and this phase, beside the buffer of a mailbox
+abbrev went : Private → Next → Contents → Private
+went p n box = swapped_of (came p n) box
+
+-- a preparation that came so far
+prepared_on : (p : Private) (w : Parts) (box : Contents) → PreparesOn p w (went p (prepared w) box) (came_turn p.epoch (prepared w).phase)
+unfolding prepared swapped_of swapped_at
+prepared_on p w box = go w.prep.at refl
   where
-    go : (xs : List ℕ) → w.counts.free ≡ xs → TriesOn p w (swapped_of (tried_at p w None) box) (trial_turn_at p.epoch w None)
-    go [] g = TriesOn.completes e g (record {
-      after = ap (λ ys. swapped_of (swept_next (with_trial p (record w { counts = given_up w.counts })) ys) box) g;
-      answer = ap (swept_turn p.epoch) g;
-    })
-    go (x ∷ xs) g = TriesOn.sweeps_next e (λ n. cons_nil x xs (sym g ∙ n)) (record {
-      after = ap (λ ys. swapped_of (swept_next (with_trial p (record w { counts = given_up w.counts })) ys) box) g;
-      answer = ap (swept_turn p.epoch) g;
-    })
+    swept : (free : List ℕ) → w.counts.free ≡ free → w.prep.at ≡ None → PreparesOn p w (went p (next_in (sweep_phase free) w) box) (came_turn p.epoch (sweep_phase free))
+    swept [] f e = PreparesOn.completes e f (record { after = refl; answer = refl })
+    swept (x ∷ xs) f e = PreparesOn.sweeps_next e (λ n. cons_nil x xs (sym f ∙ n)) (record { after = refl; answer = refl })
 
-tried_on : (p : Private) (w : trials.Work) (box : Contents) → TriesOn p w (swapped_of (tried p w) box) (trial_turn p.epoch w)
-unfolding tried trial_turn
-tried_on p w box = tried_on_at p w box (trial_next w.machine) refl
+    go : (at : Option loads.At) → w.prep.at ≡ at → PreparesOn p w (went p (prepared_at w at) box) (came_turn p.epoch (prepared_at w at).phase)
+    go None e = swept w.counts.free refl e
+    go (Some a) e = PreparesOn.more (λ n. none_some a (sym e ∙ n)) (record { after = refl; answer = refl })
 
--- a release that came so far
-released_on_at : (p : Private) (w : Work) (box : Contents) (at : Option At) → w.machine.at ≡ at → ReleasesOn p w (swapped_of (went_on_at p w at) box) (work_turn_at p w at)
+-- a trial that came so far
+tried_on : (p : Private) (w : Parts) (box : Contents) → TriesOn p w (went p (tried w) box) (came_turn p.epoch (tried w).phase)
+unfolding tried swapped_of swapped_at
+tried_on p w box = go (trial_next w.trial) refl
+  where
+    go : (op : Option Op) → trial_next w.trial ≡ op → TriesOn p w (went p (tried_at w op) box) (came_turn p.epoch (tried_at w op).phase)
+    go None e = TriesOn.prepares e (prepared_on p (prep_started w) box)
+    go (Some o) e = TriesOn.more (λ n. none_some o (sym e ∙ n)) (record { after = refl; answer = refl })
+
+-- the test of the last set
+last_test : (w : Parts) → LastRefurbished w.counts (refurbished_of w.counts) → IsTested w (last_tested w)
+unfolding last_tested
+last_test w r = go (verdict_of w.counts (length w.counts.sets - 1)) refl
+  where
+    go : (verdict : Verdict) → verdict_of w.counts (length w.counts.sets - 1) ≡ verdict → IsTested w (tested_as verdict w)
+    go Passed e = let v = verdict_passed w.counts (length w.counts.sets - 1) e in IsTested.passes v.0 v.1 refl
+    go Touched e = IsTested.fails_delta (refurbished_of w.counts) (verdict_touched w.counts (length w.counts.sets - 1) e) r refl
+    go Held e = let v = verdict_held w.counts (length w.counts.sets - 1) e in IsTested.fails_sigma (refurbished_of w.counts) v.0 v.1 r refl
+
+-- something is at work, or no set is left
+works_on : (p : Private) (w : Parts) (box : Contents) → (w.release.at ≡ None → w.freeing.at ≡ None → w.counts.sets ≡ []) → ClearsOn p (went p (tested_next w) box) (came_turn p.epoch (tested_next w).phase) w
 unfolding swapped_of swapped_at
-released_on_at p w box (Some a) e = ReleasesOn.more (λ n. none_some a (sym e ∙ n)) (record { after = refl; answer = refl })
-released_on_at p w box None e = ReleasesOn.tries e (tried_on (with_work p w) (trial_started p w.counts) box)
+works_on p w box none = go w.release.at w.freeing.at refl refl
+  where
+    go : (at : Option At) (member : Option Member) → w.release.at ≡ at → w.freeing.at ≡ member → ClearsOn p (went p (tested_on w at member) box) (came_turn p.epoch (tested_on w at member).phase) w
+    go at (Some m) e f = ClearsOn.frees_on (λ n. none_some m (sym f ∙ n)) (record { after = refl; answer = refl })
+    go (Some a) None e f = ClearsOn.releases_on f (λ n. none_some a (sym e ∙ n)) (record { after = refl; answer = refl })
+    go None None e f = ClearsOn.tries f e (none e f) (tried_on p (trial_started w) box)
 
-released_on : (p : Private) (w : Work) (box : Contents) → ReleasesOn p w (swapped_of (went_on p w) box) (work_turn p w)
-unfolding went_on work_turn
-released_on p w box = released_on_at p w box w.machine.at refl
+-- a release, or the freeing of a set, that came so far
+pub record CanTest (w : Parts) : Type 0 where
+  pub wide : (0 < w.release.fields) × (0 < w.freeing.fields)
+  pub counts : IsKeptCounts w.counts
+  pub clearing : IsClearing w
+  pub done : IsDone w
+
+last_can : (w : Parts) → 0 < length w.counts.sets → is_busy w ≡ false → CanTest w → CanTest (last_tested w)
+last_can w some idle c =
+    let clear = last_clear w c.wide.0 c.wide.1 some idle c.counts c.clearing c.done in
+    record { wide = wide_on (last_same w) c.wide; counts = last_kept w some idle c.clearing c.done c.counts; clearing = clear.0; done = clear.1 }
+
+busy_works : (w : Parts) → is_busy w ≡ true → w.release.at ≡ None → w.freeing.at ≡ None → w.counts.sets ≡ []
+busy_works w b e f = let q : true ≡ false = sym b ∙ ap (λ at. is_busy_at at w.freeing.at) e ∙ ap (is_busy_at None) f in cc
+
+no_sets : (sets : List (List ℕ)) → length sets ≡ 0 → sets ≡ []
+no_sets [] e = refl
+no_sets (x ∷ xs) e = absurd (omega (arith, e))
+
+tested_on_from : (n : ℕ) (p : Private) (w : Parts) (box : Contents) → length w.counts.sets ≡ n → CanTest w → ClearsOn p (went p (tested_next (tested n w)) box) (came_turn p.epoch (tested_next (tested n w)).phase) w
+tested_on_from zero p w box e c =
+    let same : tested zero w ≡ w = tested_none zero w refl in
+    subst (λ (v : Parts). ClearsOn p (went p (tested_next v) box) (came_turn p.epoch (tested_next v).phase) w) (sym same) (works_on p w box (λ still unfreed. no_sets w.counts.sets e))
+tested_on_from (suc n) p w box e c = go (is_busy w) refl (tested_on_from n p (last_tested w) box)
+  where
+    go : (b : Bool) → is_busy w ≡ b → (length (last_tested w).counts.sets ≡ n → CanTest (last_tested w) → ClearsOn p (went p (tested_next (tested n (last_tested w))) box) (came_turn p.epoch (tested_next (tested n (last_tested w))).phase) (last_tested w))
+        → ClearsOn p (went p (tested_next (tested (suc n) w)) box) (came_turn p.epoch (tested_next (tested (suc n) w)).phase) w
+    go true b more =
+        let same : tested (suc n) w ≡ w = tested_busy (suc n) w b in
+        subst (λ (v : Parts). ClearsOn p (went p (tested_next v) box) (came_turn p.epoch (tested_next v).phase) w) (sym same) (works_on p w box (busy_works w b))
+    go false b more =
+        let some : 0 < length w.counts.sets = omega (arith, e) in
+        let left : length (last_tested w).counts.sets ≡ n = omega (arith, e, last_sets w some) in
+        let same : tested (suc n) w ≡ tested n (last_tested w) = tested_next_on n w b in
+        let idle = none_busy w b in
+        let r : LastRefurbished w.counts (refurbished_of w.counts) = refurbished_last w.counts c.counts (last_refusable w some b c.counts c.clearing c.done) in
+        subst (λ (v : Parts). ClearsOn p (went p (tested_next v) box) (came_turn p.epoch (tested_next v).phase) w) (sym same)
+        (ClearsOn.tests (last_tested w) idle.1 idle.0 some (last_test w r) (more left (last_can w some b c)))
+
+cleared_on : (p : Private) (w : Parts) (box : Contents) → 0 < p.release.fields → HasCleared p w → ClearsOn p (went p (followed w) box) (came_turn p.epoch (followed w).phase) w
+unfolding followed
+cleared_on p w box f h = tested_on_from (length w.counts.sets) p w box refl (record { wide = cleared_wide p w f h.fits; counts = h.counts; clearing = h.clearing; done = h.done })
 
 -- the phase of a turn that changes nothing
 same_swapped : (p : Private) (box : Contents) (phase : Phase) → p.phase ≡ phase → IsBetween phase → swapped_of p box ≡ p
@@ -65,7 +143,9 @@ same_swapped p box phase e b = ap (swapped_at p box) e ∙ go phase b
     go (Swapping t) b = absurd b
     go (Returning t) b = refl
     go Releasing b = refl
+    go Freeing b = refl
     go Trying b = refl
+    go Preparing b = refl
     go Opening b = refl
     go (Sweeping n) b = refl
     go (Closing n) b = refl
@@ -98,13 +178,20 @@ look_step p word box t is = elim (cases_eq word (crossing_word p.epoch 2)) [
       Step.wait t is e refl (ap (λ (q : Private). swapped_of q box) (cond-false (word == crossing_word p.epoch 2) _ _ b) ∙ same_swapped p box (Looking t) is tt) (cond-false (word == crossing_word p.epoch 2) _ _ b)
 ]
 
-return_step : (p : Private) (word : ℕ) (box : Contents) (t : ℕ) → p.phase ≡ Returning t → Step p word box (next_at p (Returning t)) (swapped_of (took_at p word (Returning t)) box) (turn_at p word (Returning t))
-unfolding next_at took_at turn_at swapped_of swapped_at begun
-return_step p word box t is = elim (cases_eq t (length p.newer)) [
-  | inl e ↦
-      let b : (t == length p.newer) ≡ true = eq-eqb t (length p.newer) e in
-      let whole : ReleasesOn p (begun p) (swapped_of (returned p t) box) (turn_at p word (Returning t)) = rw (cond-true (t == length p.newer) (went_on p (begun p)) (moved p (Looking (t + 1))) b, cond-true (t == length p.newer) (work_turn p (begun p)) Moved b) (released_on p (begun p) box) in
-      applied whole e
+-- with the last mailbox the batch is applied
+applied_step : (p : Private) (word : ℕ) (box : Contents) (t : ℕ) → IsMachine p → p.phase ≡ Returning t → t ≡ length p.newer → IsCovered p.counts p.newer p.older → Step p word box (next_at p (Returning t)) (swapped_of (returned p t) box) (turn_at p word (Returning t))
+unfolding next_at turn_at
+applied_step p word box t k is e c =
+    let w : Parts = zeros_released false (batched p) in
+    let b : (t == length p.newer) ≡ true = eq-eqb t (length p.newer) e in
+    let whole : ClearsOn p (swapped_of (returned p t) box) (turn_at p word (Returning t)) w =
+    rw (cond-true (t == length p.newer) (came p (followed w)) (moved p (Looking (t + 1))) b, cond-true (t == length p.newer) (came_turn p.epoch (followed w).phase) Moved b) (cleared_on p w box k.fields (begun_clears p t k is e c)) in
+    Step.apply t is e refl whole
+
+return_step : (p : Private) (word : ℕ) (box : Contents) (t : ℕ) → IsMachine p → p.phase ≡ Returning t → (t ≡ length p.newer → IsCovered p.counts p.newer p.older) → Step p word box (next_at p (Returning t)) (swapped_of (took_at p word (Returning t)) box) (turn_at p word (Returning t))
+unfolding next_at took_at turn_at swapped_of swapped_at
+return_step p word box t k is c = elim (cases_eq t (length p.newer)) [
+  | inl e ↦ applied_step p word box t k is e (c e)
   | inr e ↦
       let b : (t == length p.newer) ≡ false = ne_eqb t (length p.newer) e in
       Step.give_back t is e refl (record {
@@ -112,13 +199,6 @@ return_step p word box t is = elim (cases_eq t (length p.newer)) [
         answer = cond-false (t == length p.newer) _ _ b;
       })
 ]
-  where
-    applied : ReleasesOn p (begun p) (swapped_of (returned p t) box) (turn_at p word (Returning t)) → t ≡ length p.newer → Step p word box (next_at p (Returning t)) (swapped_of (returned p t) box) (turn_at p word (Returning t))
-    applied w e = Step.apply t is e refl w
-
-release_step : (p : Private) (word : ℕ) (box : Contents) → p.phase ≡ Releasing → Step p word box (next_at p Releasing) (swapped_of (took_at p word Releasing) box) (turn_at p word Releasing)
-unfolding next_at took_at turn_at released
-release_step p word box is = Step.release is refl (released_on p (released p word) box)
 
 swept_step : (p : Private) (word : ℕ) (box : Contents) (n : ℕ) (w : sweeps.Work) → p.phase ≡ Sweeping n → w ≡ sweeps.took_of (record { due = p.due; counts = p.counts }) word → (due : Option ℕ) → w.due ≡ due
     → Step p word box (sweeps.next_of p.due) (swapped_of (moved (record p { counts = w.counts; due = w.due; freed = p.freed + 1 }) (swept_phase (n + 1) due)) box) Moved
@@ -127,19 +207,21 @@ swept_step p word box n w is e None d = Step.sweep n w (Closing (n + 1)) is refl
 swept_step p word box n w is e (Some x) d = Step.sweep n w (Sweeping (n + 1)) is refl e (IsNext.more (λ m. none_some x (sym d ∙ m)) refl) (record { after = refl; answer = refl })
 
 -- a step, by phase
-step_at : (p : Private) (word : ℕ) (box : Contents) (phase : Phase) → p.phase ≡ phase → IsBetween phase → Step p word box (next_at p phase) (swapped_of (took_at p word phase) box) (turn_at p word phase)
-unfolding next_at took_at turn_at swapped_of swapped_at
-step_at p word box Idle is b = idle_step p word box is
-step_at p word box (Looking t) is b = look_step p word box t is
-step_at p word box (Swapping t) is b = absurd b
-step_at p word box (Returning t) is b = return_step p word box t is
-step_at p word box Releasing is b = release_step p word box is
-step_at p word box Trying is b = Step.trial is refl (tried_on p (trial_took p word) box)
-step_at p word box Opening is b = Step.begin_sweep is refl (record { after = refl; answer = refl })
-step_at p word box (Sweeping n) is b = swept_step p word box n (sweeps.took_of (record { due = p.due; counts = p.counts }) word) is refl (sweeps.took_of (record { due = p.due; counts = p.counts }) word).due refl
-step_at p word box (Closing n) is b = Step.end_sweep n is refl (record { after = refl; answer = refl })
+step_at : (p : Private) (word : ℕ) (box : Contents) (phase : Phase) → IsMachine p → p.phase ≡ phase → IsBetween phase → IsGivenAt p word phase → Step p word box (next_at p phase) (swapped_of (took_at p word phase) box) (turn_at p word phase)
+unfolding next_at took_at turn_at swapped_of swapped_at IsGivenAt
+step_at p word box Idle k is b g = idle_step p word box is
+step_at p word box (Looking t) k is b g = look_step p word box t is
+step_at p word box (Swapping t) k is b g = absurd b
+step_at p word box (Returning t) k is b g = return_step p word box t k is g
+step_at p word box Releasing k is b g = let w : Parts = with_released (parts_of p) word in Step.release is refl (cleared_on p w box k.fields (released_clears p word k is g))
+step_at p word box Freeing k is b g = let w : Parts = relieved (with_freed (parts_of p) word) in Step.freeing is refl (cleared_on p w box k.fields (freed_clears p word k is g))
+step_at p word box Trying k is b g = Step.trial is refl (tried_on p (with_tried (parts_of p) word) box)
+step_at p word box Preparing k is b g = Step.preparation is refl (prepared_on p (with_loaded (parts_of p) word) box)
+step_at p word box Opening k is b g = Step.begin_sweep is refl (record { after = refl; answer = refl })
+step_at p word box (Sweeping n) k is b g = swept_step p word box n (sweeps.took_of (record { due = p.due; counts = p.counts }) word) is refl (sweeps.took_of (record { due = p.due; counts = p.counts }) word).due refl
+step_at p word box (Closing n) k is b g = Step.end_sweep n is refl (record { after = refl; answer = refl })
 
 -- what comes next, what is learnt and what is answered is a step
-pub step_made : (p : Private) (word : ℕ) (box : Contents) → IsBetween p.phase → Step p word box (next_of p) (step_of p word box) (turn_of p word)
-unfolding next_of step_of took_of turn_of
-step_made p word box b = step_at p word box p.phase refl b
+pub step_made : (p : Private) (word : ℕ) (box : Contents) → IsMachine p → IsBetween p.phase → IsGiven p word → Step p word box (next_of p) (step_of p word box) (turn_of p word)
+unfolding next_of step_of took_of turn_of IsGiven
+step_made p word box k b g = step_at p word box p.phase k refl b g

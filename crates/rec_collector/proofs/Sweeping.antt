@@ -1,8 +1,9 @@
 -- A sweep goes on, and a collection ends.
-use Rattle.std.proofs.Common.{◌≡◌, ℕ, ◌+◌, ◌*◌, ◌^◌, ◌<◌, ◌≤◌, true, eqb, inl, inr, Option, None, Some, IsSome, List, [], ◌∷◌, length, map, drop, slice_get, refl, arith, sym, ◌∙◌, ap, subst}
-use Rattle.std.proofs.lemmas.List.{length-set, length-map, get_or-set_same, get_or-set_other}
-use Rattle.std.proofs.lemmas.Bool.{cases_Bool, false≢true}
+use Rattle.std.proofs.Common.{◌≡◌, ◌≢◌, ◌⊎◌, ℕ, ◌+◌, ◌*◌, ◌^◌, ◌<◌, ◌≤◌, true, eqb, inl, inr, Option, None, Some, IsNone, IsSome, List, [], ◌∷◌, length, map, drop, slice_get, refl, arith, sym, ◌∙◌, ap, subst}
+use Rattle.std.proofs.lemmas.List.{length-set, length-map, get_or-set_same, get_or-set_other, get_or_past}
+use Rattle.std.proofs.lemmas.Bool.{cases_Bool, cases_lt, false≢true}
 use Rattle.std.proofs.lemmas.Bool.Decides.{eqb_tells}
+use Rattle.rec_counts.specs.declared.colour.Colour.TheVariants.{Black, Orange}
 use Rattle.rec_counts.specs.declared.slot.Slot.{Slot}
 use Rattle.rec_counts.specs.Lists.{one, times}
 use Rattle.rec_counts.specs.Counts.{State, slot_at, IsKept as IsKeptCounts}
@@ -10,25 +11,19 @@ use Rattle.rec_counts.specs.Slot.{absent, swept_clean}
 use Rattle.rec_counts.proofs.Times.{times-cons, times-nil}
 use Rattle.rec_release.specs.Sweep as sweeps
 use Rattle.rec_release.specs.Sweep.{AreUnbuffered, swept, took_of, started_of, next_of}
+use Rattle.rec_release.specs.TakenOff.{IsApart, IsMember}
 use Rattle.rec_release.proofs.Sweeping.{unbuffered_swept}
-use Rattle.rec_collector.specs.Private.{Private}
-use Rattle.rec_collector.specs.Kept.{IsAt, IsMachine, NoneReleased, KeepsSizes, swept_at, under_way}
-use Rattle.rec_collector.specs.Took.{cleared, ended, moved, swept_phase, swept_one, took_at}
+use Rattle.rec_trial.specs.Moves.{is_gray, is_white}
+use Rattle.rec_trial.proofs.Worked.{kept_by_all}
+use Rattle.rec_collector.specs.Clearing.{IsUntried}
+use Rattle.rec_collector.specs.Parts.{Parts}
+use Rattle.rec_collector.specs.Private.{Private, parts_of}
+use Rattle.rec_collector.specs.Kept.{IsAt, IsMachine, IsTried, NoneReleased, KeepsSizes}
+use Rattle.rec_collector.specs.Took.{cleared, ended, moved, swept_phase, swept_one, took_at, with_sweep}
 use Rattle.rec_collector.specs.declared.phase.Phase.{Phase}
 use Rattle.rec_collector.specs.declared.phase.Phase.TheVariants.{Opening, Sweeping, Closing}
+use Rattle.rec_collector.proofs.Landing.{freed_at, now_at, told_at, under_way_at}
 use Rattle.rec_collector.proofs.Rows.{cleared_sized, cleared_spares}
-use Rattle.rec_collector.proofs.Untried.{swept_untried}
-
--- what holds in the phase of a machine
-pub now_at : (p : Private) (phase : Phase) → IsMachine p → p.phase ≡ phase → IsAt p phase
-now_at p phase k e = subst (λ (f : Phase). IsAt p f) e k.now
-
--- the collections and the swept slots of a machine in this phase
-pub under_way_at : (p : Private) (phase : Phase) → IsMachine p → p.phase ≡ phase → p.collections + under_way phase ≤ p.epoch
-under_way_at p phase k e = subst (λ (f : Phase). p.collections + under_way f ≤ p.epoch) e k.collections
-
-pub freed_at : (p : Private) (phase : Phase) → IsMachine p → p.phase ≡ phase → p.freed ≤ 2 ^ 16 * p.collections + swept_at phase
-freed_at p phase k e = subst (λ (f : Phase). p.freed ≤ 2 ^ 16 * p.collections + swept_at f) e k.freed
 
 -- a sweep begins
 pub opening_keeps : (p : Private) → IsMachine p → p.phase ≡ Opening → IsMachine (took_at p 0 Opening)
@@ -40,7 +35,9 @@ opening_keeps p k e =
       collections = under_way_at p Opening k e;
       freed = freed_at p Opening k e;
       fields = k.fields;
-      same_fields = k.same_fields;
+      trial_fields = k.trial_fields;
+      freeing_fields = k.freeing_fields;
+      prep_fields = k.prep_fields;
       few_fields = k.few_fields;
       mutators = k.mutators;
       few = k.few;
@@ -48,7 +45,8 @@ opening_keeps p k e =
       newer = k.newer;
       older = k.older;
       counts = k.counts;
-      now = (record { untried = a.0.untried; idle = a.0.idle; zeros = a.0.zeros; roots = a.0.roots; still = a.0.still; listed = a.0.listed; unbuffered = a.0.unbuffered; left = a.0.left; turns = omega (arith, a.0.turns) }, a.1, refl);
+      told = told_at p Opening k e;
+      now = (record { tried = a.0.tried; unprepared = a.0.unprepared; left = a.0.left; turns = omega (arith, a.0.turns) }, a.1, refl);
     }
 
 first_gone : (free : List ℕ) (x y : ℕ) → slice_get free 0 ≡ Some x → times y free ≡ one (eqb y x) + times y (drop 1 free)
@@ -68,6 +66,44 @@ swept_listed s x first k y l t = elim (eqb_tells y x) [
       omega (arith, other, first_gone s.free x y first, k y (omega (arith, l, length-set s.slots x (swept_clean (slot_at s x)))) was)
 ]
 
+-- a swept slot is Black, and so it is of no trial
+swept_untried : (s : State) (x : ℕ) → IsUntried s → IsUntried (swept s x)
+swept_untried s x u = record {
+  marked = u.marked;
+  no_gray = kept_by_all (λ (v : Slot). is_gray v.colour) s x (swept_clean (slot_at s x)) refl u.no_gray;
+  no_white = kept_by_all (λ (v : Slot). is_white v.colour) s x (swept_clean (slot_at s x)) refl u.no_white;
+}
+
+black_orange : Black ≢ Orange
+black_orange e = cc
+
+swept_apart : (s : State) (x : ℕ) → IsApart s → IsApart (swept s x)
+swept_apart s x a = λ y e. elim (eqb_tells y x) [
+  | inl q ↦ absurd (black_orange (sym (swept_black (cases_lt x (length s.slots))) ∙ sym (ap (λ z. (slot_at (swept s x) z).colour) q.1) ∙ e))
+  | inr q ↦
+      let same : slot_at (swept s x) y ≡ slot_at s y = get_or-set_other s.slots x y (swept_clean (slot_at s x)) absent q.1 in
+      let m : IsMember s y = a y (sym (ap (λ (v : Slot). v.colour) same) ∙ e) in
+      record { member = m.member; no_zero = m.no_zero; unreleased = ap (λ (v : Slot). v.released) same ∙ m.unreleased }
+]
+  where
+    swept_black : (x < length s.slots) ⊎ (length s.slots ≤ x) → (slot_at (swept s x) x).colour ≡ Black
+    swept_black (inl l) = ap (λ (v : Slot). v.colour) (get_or-set_same s.slots x (swept_clean (slot_at s x)) absent l)
+    swept_black (inr l) = ap (λ (v : Slot). v.colour) (get_or_past (swept s x).slots x absent (omega (arith, l, length-set s.slots x (swept_clean (slot_at s x)))))
+
+swept_tried : (w : Parts) (x : ℕ) → slice_get w.counts.free 0 ≡ Some x → IsTried w → IsTried (record w { counts = swept w.counts x })
+swept_tried w x first t = record {
+  untried = swept_untried w.counts x t.untried;
+  idle = t.idle;
+  apart = swept_apart w.counts x t.apart;
+  zeros = t.zeros;
+  roots = t.roots;
+  work = t.work;
+  still = t.still;
+  unfreed = t.unfreed;
+  listed = swept_listed w.counts x first t.listed;
+  unbuffered = unbuffered_swept w.counts x t.unbuffered;
+}
+
 -- a slot more is swept
 swept_keeps_on : (p : Private) (n x : ℕ) (r : List ℕ) → IsMachine p → p.phase ≡ Sweeping n → slice_get p.counts.free 0 ≡ Some x → drop 1 p.counts.free ≡ r → length p.counts.free ≡ length r + 1
     → IsKeptCounts (swept p.counts x) → IsMachine (moved (record p { counts = swept p.counts x; due = slice_get r 0; freed = p.freed + 1 }) (swept_phase (n + 1) (slice_get r 0)))
@@ -80,7 +116,9 @@ swept_keeps_on p n x [] k e first left len s =
       collections = under_way_at p (Sweeping n) k e;
       freed = omega (arith, d);
       fields = k.fields;
-      same_fields = k.same_fields;
+      trial_fields = k.trial_fields;
+      freeing_fields = k.freeing_fields;
+      prep_fields = k.prep_fields;
       few_fields = k.few_fields;
       mutators = k.mutators;
       few = k.few;
@@ -88,15 +126,11 @@ swept_keeps_on p n x [] k e first left len s =
       newer = k.newer;
       older = k.older;
       counts = s;
+      told = told_at p (Sweeping n) k e;
       now = (
         record {
-          untried = swept_untried p.counts x a.0.untried;
-          idle = a.0.idle;
-          zeros = a.0.zeros;
-          roots = a.0.roots;
-          still = a.0.still;
-          listed = swept_listed p.counts x first a.0.listed;
-          unbuffered = unbuffered_swept p.counts x a.0.unbuffered;
+          tried = swept_tried (parts_of p) x first a.0.tried;
+          unprepared = a.0.unprepared;
           left = omega (arith, a.0.left, len, many, ap length left);
           turns = omega (arith, a.0.turns, ap (λ m. m * p.release.fields) many);
         },
@@ -113,7 +147,9 @@ swept_keeps_on p n x (y ∷ ys) k e first left len s =
       collections = under_way_at p (Sweeping n) k e;
       freed = omega (arith, d);
       fields = k.fields;
-      same_fields = k.same_fields;
+      trial_fields = k.trial_fields;
+      freeing_fields = k.freeing_fields;
+      prep_fields = k.prep_fields;
       few_fields = k.few_fields;
       mutators = k.mutators;
       few = k.few;
@@ -121,15 +157,11 @@ swept_keeps_on p n x (y ∷ ys) k e first left len s =
       newer = k.newer;
       older = k.older;
       counts = s;
+      told = told_at p (Sweeping n) k e;
       now = (
         record {
-          untried = swept_untried p.counts x a.0.untried;
-          idle = a.0.idle;
-          zeros = a.0.zeros;
-          roots = a.0.roots;
-          still = a.0.still;
-          listed = swept_listed p.counts x first a.0.listed;
-          unbuffered = unbuffered_swept p.counts x a.0.unbuffered;
+          tried = swept_tried (parts_of p) x first a.0.tried;
+          unprepared = a.0.unprepared;
           left = omega (arith, a.0.left, len, many, ap length left);
           turns = omega (arith, a.0.turns, ap (λ m. m * p.release.fields) many);
         },
@@ -143,6 +175,13 @@ pub due_slot : (free : List ℕ) (due : Option ℕ) → 0 < length free → due 
 unfolding next_of
 due_slot [] due l e = absurd (omega (arith, l))
 due_slot (x ∷ rest) due l e = rw e refl
+
+pub slot_due : (p : Private) (n : ℕ) → IsMachine p → p.phase ≡ Sweeping n → IsSome (next_of p.due)
+slot_due p n k e = due_slot p.counts.free p.due (now_at p (Sweeping n) k e).1 (now_at p (Sweeping n) k e).2
+
+pub none_due : (due : Option ℕ) → due ≡ None → IsNone (next_of due)
+unfolding next_of
+none_due due e = rw e refl
 
 pub sweeping_keeps : (p : Private) (n word : ℕ) → IsMachine p → p.phase ≡ Sweeping n → IsKeptCounts (took_of (record { due = p.due; counts = p.counts }) word).counts → IsMachine (took_at p word (Sweeping n))
 unfolding took_at took_of
@@ -184,7 +223,9 @@ ended_keeps p n k e =
       collections = omega (arith, under_way_at p (Closing n) k e);
       freed = omega (arith, d, a.0.left, k.counts.few_slots);
       fields = k.fields;
-      same_fields = k.same_fields;
+      trial_fields = k.trial_fields;
+      freeing_fields = k.freeing_fields;
+      prep_fields = k.prep_fields;
       few_fields = k.few_fields;
       mutators = omega (arith, k.mutators, m);
       few = omega (arith, k.few, m);
@@ -192,8 +233,38 @@ ended_keeps p n k e =
       newer = cleared_sized p p.older k.older;
       older = k.newer;
       counts = k.counts;
-      now = (record { untried = a.0.untried; idle = a.0.idle; zeros = a.0.zeros; roots = a.0.roots; none = none_left p.counts a.1 a.0.listed; free = a.1; still = a.0.still; due = a.2 }, cleared_spares p 0 k.older, refl);
+      told = told_at p (Closing n) k e;
+      now = (
+        record {
+          untried = a.0.tried.untried;
+          idle = a.0.tried.idle;
+          unprepared = a.0.unprepared;
+          apart = a.0.tried.apart;
+          none = none_left p.counts a.1 a.0.tried.listed;
+          zeros = a.0.tried.zeros;
+          roots = a.0.tried.roots;
+          free = a.1;
+          work = a.0.tried.work;
+          still = a.0.tried.still;
+          unfreed = a.0.tried.unfreed;
+          due = a.2;
+        },
+        cleared_spares p 0 k.older,
+        refl,
+      );
     }
 
 pub ended_sizes : (p : Private) → IsMachine p → KeepsSizes p (ended p)
 ended_sizes p k = record { slots = refl; fields = refl; registers = refl; capacity = refl; mutators = length-map p.older cleared ∙ k.both }
+
+-- a sweep that begins, and one that goes on, as their calls tell
+pub opening_on : (p : Private) (w : sweeps.Work) → IsMachine p → p.phase ≡ Opening → w ≡ started_of p.counts → IsMachine (moved (with_sweep p w) (Sweeping 0))
+unfolding took_at
+opening_on p w k e q = subst (λ (v : sweeps.Work). IsMachine (moved (with_sweep p v) (Sweeping 0))) (sym q) (opening_keeps p k e)
+
+pub sweeping_on : (p : Private) (n word : ℕ) (w : sweeps.Work) (phase : Phase) → IsMachine p → p.phase ≡ Sweeping n → w ≡ took_of (record { due = p.due; counts = p.counts }) word → IsKeptCounts w.counts → phase ≡ swept_phase (n + 1) w.due
+    → IsMachine (moved (record (with_sweep p w) { freed = p.freed + 1 }) phase)
+unfolding took_at
+sweeping_on p n word w phase k e q s f =
+    let kept : IsKeptCounts (took_of (record { due = p.due; counts = p.counts }) word).counts = subst (λ (v : sweeps.Work). IsKeptCounts v.counts) q s in
+    subst (λ (g : Phase). IsMachine (moved (record (with_sweep p w) { freed = p.freed + 1 }) g)) (sym f) (subst (λ (v : sweeps.Work). IsMachine (swept_one p n v)) (sym q) (sweeping_keeps p n word k e kept))

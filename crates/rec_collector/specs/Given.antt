@@ -7,7 +7,7 @@ use Rattle.rec_apply.specs.Targets.{added, taken}
 use Rattle.rec_trial.specs.Rules.{LeadsToUnreleased}
 use Rattle.rec_collector.specs.Private.{Private}
 use Rattle.rec_collector.specs.declared.phase.Phase.{Phase}
-use Rattle.rec_collector.specs.declared.phase.Phase.TheVariants.{Swapping, Returning, Releasing, Trying}
+use Rattle.rec_collector.specs.declared.phase.Phase.TheVariants.{Swapping, Returning, Releasing, Freeing, Trying, Preparing}
 
 -- these buffers name slots that are there, and no count passes the greatest or falls below zero
 pub record IsCovered (s : State) (newer older : List Contents) : Type 0 where
@@ -16,12 +16,15 @@ pub record IsCovered (s : State) (newer older : List Contents) : Type 0 where
   pub covered : (x : ℕ) → taken x older ≤ (slot_at s x).count + added x newer
 
 -- what the word found has to be, by phase: with the last mailbox given back the batch is covered; what comes out of a field
--- is counted; what is loaded for a trial leads to no released slot; a mailbox that is held was swapped
+-- is counted; what is loaded for a trial leads to no released slot, and for a preparation to a slot that is there; a mailbox that
+-- is held was swapped
 unfoldable pub IsGivenAt : Private → (word : ℕ) → Phase → Type 0
 IsGivenAt p word (Swapping t) = ⊥
 IsGivenAt p word (Returning t) = t ≡ length p.newer → IsCovered p.counts p.newer p.older
 IsGivenAt p word Releasing = IfSome (target_of word) (λ slot. 0 < (slot_at p.counts slot).count)
+IsGivenAt p word Freeing = IfSome (target_of word) (λ slot. 0 < (slot_at p.counts slot).count)
 IsGivenAt p word Trying = LeadsToUnreleased p.counts word
+IsGivenAt p word Preparing = IfSome (target_of word) (λ slot. slot < length p.counts.slots)
 IsGivenAt p word _ = Unit {0}
 
 -- what the word found has to be

@@ -14,11 +14,14 @@ private inside =
       phase = inside.phase;
       registers = inside.registers;
       capacity = inside.capacity;
-      counts = inside.counts;
+      counts = inside.parts.counts;
       newer = inside.newer.items;
       older = inside.older.items;
-      release = inside.release;
-      trial = inside.trial;
+      release = inside.parts.release;
+      freeing = inside.parts.freeing;
+      trial = inside.parts.trial;
+      prep = inside.parts.prep;
+      sets = inside.parts.sets;
       due = inside.sweep;
     }
 

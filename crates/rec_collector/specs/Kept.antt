@@ -1,18 +1,22 @@
 -- What every machine keeps, by phase.
-use Rattle.std.specs.Prelude.{◌≡◌, ℕ, ◌+◌, ◌-◌, ◌*◌, ◌^◌, ◌<◌, ◌≤◌, true, false, None, IsNone, IsSome, List, [], length, slice_get}
+use Rattle.std.specs.Prelude.{◌≡◌, ◌≢◌, ℕ, ◌+◌, ◌-◌, ◌*◌, ◌^◌, ◌<◌, ◌≤◌, true, false, None, IsNone, IsSome, List, [], length, slice_get}
 use Rattle.rec_log.specs.declared.contents.Contents.{Contents}
+use Rattle.rec_counts.specs.declared.colour.Colour.TheVariants.{Orange}
 use Rattle.rec_counts.specs.Counts.{State, slot_at, IsKept as IsKeptCounts}
 use Rattle.rec_counts.specs.Lists.{times}
-use Rattle.rec_release.specs.Release.{IsAtWork}
-use Rattle.rec_release.specs.Released.{Released}
 use Rattle.rec_release.specs.Sweep.{AreUnbuffered}
+use Rattle.rec_release.specs.TakenOff.{IsApart}
+use Rattle.rec_sigma.specs.Prepare as preps
+use Rattle.rec_sigma.specs.Prepared as prepared
 use Rattle.rec_trial.specs.Loaded as trials
-use Rattle.rec_trial.specs.Moves.{is_gray, is_white}
 use Rattle.rec_trial.specs.Trial.{next_of as trial_next}
+use Rattle.rec_collector.specs.Clearing.{IsUntried, IsClearing, HasExchanged}
 use Rattle.rec_collector.specs.Given.{IsSized}
-use Rattle.rec_collector.specs.Private.{Private, spare, buffer_at}
+use Rattle.rec_collector.specs.Parts.{Parts}
+use Rattle.rec_collector.specs.Private.{Private, parts_of, spare, buffer_at}
+use Rattle.rec_collector.specs.Testing.{told}
 use Rattle.rec_collector.specs.declared.phase.Phase.{Phase}
-use Rattle.rec_collector.specs.declared.phase.Phase.TheVariants.{Idle, Looking, Swapping, Returning, Releasing, Trying, Opening, Sweeping, Closing}
+use Rattle.rec_collector.specs.declared.phase.Phase.TheVariants.{Idle, Looking, Swapping, Returning, Releasing, Freeing, Trying, Preparing, Opening, Sweeping, Closing}
 
 -- how many fields there are in all
 abbrev pub all_fields : Private → ℕ
@@ -34,23 +38,19 @@ AreSpare p from = (place : ℕ) → from ≤ place → place < length p.newer �
 abbrev pub NoneReleased : State → Type 0
 NoneReleased s = (x : ℕ) → x < length s.slots → (slot_at s x).released ≡ false
 
--- no trial is at work on the counts, and the last one has left nothing behind
-pub record IsUntried (s : State) : Type 0 where
-  pub sets : s.sets ≡ []
-  pub marked : s.marked ≡ []
-  pub work : s.work ≡ []
-  pub no_gray : (x : ℕ) → is_gray (slot_at s x).colour ≡ false
-  pub no_white : (x : ℕ) → is_white (slot_at s x).colour ≡ false
-
 -- nothing is to be released, tried or swept
 pub record IsAtRest (p : Private) : Type 0 where
   pub untried : IsUntried p.counts
   pub idle : IsNone (trial_next p.trial)
+  pub unprepared : p.prep.at ≡ None
+  pub apart : IsApart p.counts
   pub none : NoneReleased p.counts
   pub zeros : p.counts.zeros ≡ []
   pub roots : p.counts.roots ≡ []
   pub free : p.counts.free ≡ []
+  pub work : p.counts.work ≡ []
   pub still : p.release.at ≡ None
+  pub unfreed : p.freeing.at ≡ None
   pub due : p.due ≡ None
 
 -- so many mailboxes were given back; the mutator at work is there, and so many turns were made
@@ -61,49 +61,61 @@ pub record IsGathering (p : Private) (t given_back made : ℕ) : Type 0 where
   pub spares : AreSpare p given_back
   pub turns : p.turns ≡ made
 
--- A release is at work. It began with an empty free list, and each turn since took in a word of another field: so many fields
--- are left that were not emptied.
-pub record IsReleasing (p : Private) : Type 0 where
-  pub before : State
-  pub words : List ℕ
-  pub places : List ℕ
-  pub slots : List ℕ
-  pub released : Released p.release.fields before p.release.at p.counts words places slots
-  pub before_free : before.free ≡ []
-  pub before_none : NoneReleased before
-  pub many : length before.slots ≡ length p.counts.slots
-  pub kept : IsAtWork p.release p.counts
-  pub busy : IsSome p.release.at
-  pub untried : IsUntried p.counts
-  pub idle : IsNone (trial_next p.trial)
-  pub turns : p.turns ≡ 1 + 2 * length p.newer + length words
+-- Slots are released, or a set is freed. Each turn since the batch exchanged another field.
+pub record IsTesting (p : Private) : Type 0 where
+  pub clearing : IsClearing (parts_of p)
+  pub exchanged : ℕ
+  pub exchanges : HasExchanged (parts_of p) exchanged
+  pub turns : p.turns ≤ 1 + 2 * length p.newer + exchanged
   pub due : p.due ≡ None
 
 -- A trial is at work, and nothing is left to release. Every released slot is in the free list or waits in the root buffer, and
--- the free list has released slots alone, none of them buffered. Each turn since the release took in a word.
+-- the free list has released slots alone, none of them buffered. No slot was Orange as it began. Each turn since took in a word.
 pub record IsTrying (p : Private) : Type 0 where
   pub kept : trials.IsAtWork p.trial p.counts
   pub busy : IsSome (trial_next p.trial)
+  pub uncoloured : (x : ℕ) → (slot_at kept.before x).colour ≢ Orange
   pub zeros : p.counts.zeros ≡ []
   pub still : p.release.at ≡ None
+  pub unfreed : p.freeing.at ≡ None
+  pub unprepared : p.prep.at ≡ None
   pub due : p.due ≡ None
   pub listed : (x : ℕ) → x < length p.counts.slots → (slot_at p.counts x).released ≡ true → 0 < times x p.counts.free + times x p.counts.roots
   pub only : (x : ℕ) → 0 < times x p.counts.free → (slot_at p.counts x).released ≡ true
   pub unbuffered : AreUnbuffered p.counts
   pub turns : p.turns ≤ 1 + 2 * length p.newer + all_fields p + length kept.words
 
--- Nothing is left to release or to try. Every released slot is in the free list, and no slot of it is buffered; so many were
--- swept, and the others are left.
+-- Nothing is left to release or to try. Every released slot is in the free list, and no slot of it is buffered.
+pub record IsTried (w : Parts) : Type 0 where
+  pub untried : IsUntried w.counts
+  pub idle : IsNone (trial_next w.trial)
+  pub apart : IsApart w.counts
+  pub zeros : w.counts.zeros ≡ []
+  pub roots : w.counts.roots ≡ []
+  pub work : w.counts.work ≡ []
+  pub still : w.release.at ≡ None
+  pub unfreed : w.freeing.at ≡ None
+  pub listed : (x : ℕ) → x < length w.counts.slots → (slot_at w.counts x).released ≡ true → 0 < times x w.counts.free
+  pub unbuffered : AreUnbuffered w.counts
+
+-- The sets that a trial found are prepared. Each turn since took in a word.
+pub record IsPreparing (p : Private) : Type 0 where
+  pub tried : IsTried (parts_of p)
+  pub kept : preps.IsAtWork p.prep p.counts
+  pub busy : IsSome p.prep.at
+  pub before : State
+  pub before_kept : IsKeptCounts before
+  pub loads : List prepared.Load
+  pub prepares : prepared.PreparedTo p.prep.fields before p.prep.at p.counts loads
+  pub due : p.due ≡ None
+  pub turns : p.turns ≤ 2 + 2 * length p.newer + 4 * all_fields p + length loads
+
+-- A sweep is at work, or about to begin or to end: so many were swept, and the others are left.
 pub record IsSweeping (p : Private) (swept made : ℕ) : Type 0 where
-  pub untried : IsUntried p.counts
-  pub idle : IsNone (trial_next p.trial)
-  pub zeros : p.counts.zeros ≡ []
-  pub roots : p.counts.roots ≡ []
-  pub still : p.release.at ≡ None
-  pub listed : (x : ℕ) → x < length p.counts.slots → (slot_at p.counts x).released ≡ true → 0 < times x p.counts.free
-  pub unbuffered : AreUnbuffered p.counts
+  pub tried : IsTried (parts_of p)
+  pub unprepared : p.prep.at ≡ None
   pub left : swept + length p.counts.free ≤ length p.counts.slots
-  pub turns : p.turns ≤ 2 + 2 * length p.newer + 4 * all_fields p + made
+  pub turns : p.turns ≤ 2 + 2 * length p.newer + 5 * all_fields p + made
 
 -- what holds in each phase
 abbrev pub IsAt : Private → Phase → Type 0
@@ -111,8 +123,10 @@ IsAt p Idle = IsAtRest p × AreSpare p 0 × (p.turns ≡ 0)
 IsAt p (Looking t) = IsGathering p t (t - 1) (2 * t - 1)
 IsAt p (Swapping t) = IsGathering p t (t - 1) (2 * t)
 IsAt p (Returning t) = IsGathering p t t (2 * t)
-IsAt p Releasing = IsReleasing p
+IsAt p Releasing = IsTesting p × IsSome p.release.at
+IsAt p Freeing = IsTesting p × IsSome p.freeing.at
 IsAt p Trying = IsTrying p
+IsAt p Preparing = IsPreparing p
 IsAt p Opening = IsSweeping p 0 0 × (0 < length p.counts.free) × (p.due ≡ None)
 IsAt p (Sweeping swept) = IsSweeping p swept (swept + 1) × (0 < length p.counts.free) × (p.due ≡ slice_get p.counts.free 0)
 IsAt p (Closing swept) = IsSweeping p swept (swept + 1) × (p.counts.free ≡ []) × (p.due ≡ None)
@@ -122,6 +136,16 @@ abbrev pub swept_at : Phase → ℕ
 swept_at (Sweeping swept) = swept
 swept_at (Closing swept) = swept
 swept_at _ = 0
+
+-- The sets that were tested, and those that wait, were found by the trials of the collections so far, not more in each than there
+-- can be slots.
+abbrev pub IsTold : Private → Phase → Type 0
+IsTold p Trying = told p.sets ≤ 2 ^ 16 * p.collections
+IsTold p Preparing = told p.sets + length p.counts.sets ≤ 2 ^ 16 * (p.collections + 1)
+IsTold p Opening = told p.sets + length p.counts.sets ≤ 2 ^ 16 * (p.collections + 1)
+IsTold p (Sweeping swept) = told p.sets + length p.counts.sets ≤ 2 ^ 16 * (p.collections + 1)
+IsTold p (Closing swept) = told p.sets + length p.counts.sets ≤ 2 ^ 16 * (p.collections + 1)
+IsTold p _ = told p.sets + length p.counts.sets ≤ 2 ^ 16 * p.collections
 
 -- whether a collection is under way
 abbrev pub under_way : Phase → ℕ
@@ -134,7 +158,9 @@ pub record IsMachine (p : Private) : Type 0 where
   pub collections : p.collections + under_way p.phase ≤ p.epoch
   pub freed : p.freed ≤ 2 ^ 16 * p.collections + swept_at p.phase
   pub fields : 0 < p.release.fields
-  pub same_fields : p.trial.fields ≡ p.release.fields
+  pub trial_fields : p.trial.fields ≡ p.release.fields
+  pub freeing_fields : p.freeing.fields ≡ p.release.fields
+  pub prep_fields : p.prep.fields ≡ p.release.fields
   pub few_fields : p.release.fields < 2 ^ 8
   pub mutators : 0 < length p.newer
   pub few : length p.newer < 2 ^ 8
@@ -142,6 +168,7 @@ pub record IsMachine (p : Private) : Type 0 where
   pub newer : AreSized p p.newer
   pub older : AreSized p p.older
   pub counts : IsKeptCounts p.counts
+  pub told : IsTold p p.phase
   pub now : IsAt p p.phase
 
 -- what no step changes: the numbers of slots, fields, registers and mutators, and what a buffer can hold

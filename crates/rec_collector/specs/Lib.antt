@@ -1,10 +1,12 @@
-pub mod After
 pub mod Causes
+pub mod Clearing
+pub mod Followed
 pub mod Given
-pub mod GivenUp
 pub mod Inside
 pub mod Kept
 pub mod Next
+pub mod Parts
 pub mod Private
 pub mod Step
+pub mod Testing
 pub mod Took

@@ -2,12 +2,14 @@
 use Rattle.std.specs.Prelude.{◌+◌, ◌^◌, ◌==◌, Bool, Option, None, Some, if◌then◌else◌}
 use Rattle.rec_word.specs.declared.op.Op.{Op}
 use Rattle.rec_word.specs.declared.op.Op.TheVariants.{StoreEpoch, LookBox, ReturnBox, AddFreed}
+use Rattle.rec_release.specs.CycleFree.{next_of as next_of_freeing}
 use Rattle.rec_release.specs.Release.{next_of as next_of_release}
 use Rattle.rec_release.specs.Sweep.{next_of as next_of_sweep}
+use Rattle.rec_sigma.specs.Prepare.{next_of as next_of_prep}
 use Rattle.rec_trial.specs.Trial.{next_of as next_of_trial}
 use Rattle.rec_collector.specs.Private.{Private}
 use Rattle.rec_collector.specs.declared.phase.Phase.{Phase}
-use Rattle.rec_collector.specs.declared.phase.Phase.TheVariants.{Idle, Looking, Swapping, Returning, Releasing, Trying, Opening, Sweeping, Closing}
+use Rattle.rec_collector.specs.declared.phase.Phase.TheVariants.{Idle, Looking, Swapping, Returning, Releasing, Freeing, Trying, Preparing, Opening, Sweeping, Closing}
 
 -- the next epoch would be one that no word can hold
 abbrev pub is_spent : Private → Bool
@@ -20,7 +22,9 @@ next_at p (Looking t) = Some (LookBox t p.epoch)
 next_at p (Swapping t) = Some (ReturnBox t p.epoch)
 next_at p (Returning t) = Some (ReturnBox t p.epoch)
 next_at p Releasing = next_of_release p.release
+next_at p Freeing = next_of_freeing p.freeing
 next_at p Trying = next_of_trial p.trial
+next_at p Preparing = next_of_prep p.prep
 next_at p Opening = Some AddFreed
 next_at p (Sweeping swept) = next_of_sweep p.due
 next_at p (Closing swept) = Some AddFreed

@@ -2,15 +2,19 @@
 use Rattle.std.specs.Prelude.{ℕ, ◌-◌, Option, None, Some, List, [], ◌∷◌, replicate, slice_index_or as item_at}
 use Rattle.rec_log.specs.declared.contents.Contents.{Contents}
 use Rattle.rec_counts.specs.Counts.{State, opened as opened_counts}
+use Rattle.rec_release.specs.CycleFree as frees
 use Rattle.rec_release.specs.Release.{Machine}
-use Rattle.rec_trial.specs.Trial.{Machine as Trial, idle_of}
+use Rattle.rec_sigma.specs.Prepare as preps
+use Rattle.rec_trial.specs.Trial.{Machine as Trial}
+use Rattle.rec_collector.specs.Parts.{Parts, idle_parts, no_sets}
+use Rattle.rec_collector.specs.declared.sets.Sets.{Sets}
 use Rattle.rec_collector.specs.declared.phase.Phase.{Phase}
 use Rattle.rec_collector.specs.declared.phase.Phase.TheVariants.{Idle}
 
 -- the requested epoch, the collections completed and the slots swept since opening, and the turns since the last collection;
 -- how far the collection has come; the registers and the room of each buffer; the counts; for each mutator the newer
--- buffer, which is a spare until its mailbox was gathered, and the older one; the release; the trial; and the slot that is
--- swept next
+-- buffer, which is a spare until its mailbox was gathered, and the older one; the release, the freeing of a set, the trial and the
+-- preparation; what became of the sets that were tested; and the slot that is swept next
 pub record Private : Type 0 where
   pub epoch : ℕ
   pub collections : ℕ
@@ -23,7 +27,10 @@ pub record Private : Type 0 where
   pub newer : List Contents
   pub older : List Contents
   pub release : Machine
+  pub freeing : frees.Machine
   pub trial : Trial
+  pub prep : preps.Machine
+  pub sets : Sets
   pub due : Option ℕ
 
 -- a buffer without entries that has these registers as its snapshot
@@ -56,11 +63,21 @@ opened slots fields registers mutators capacity first_epoch =
       counts = opened_counts slots mutators;
       newer = replicate mutators (blank registers capacity);
       older = replicate mutators (retired (first_registers registers) capacity);
-      release = record { fields = fields; at = None };
-      trial = idle_of fields;
+      release = (idle_parts (opened_counts slots mutators) fields).release;
+      freeing = (idle_parts (opened_counts slots mutators) fields).freeing;
+      trial = (idle_parts (opened_counts slots mutators) fields).trial;
+      prep = (idle_parts (opened_counts slots mutators) fields).prep;
+      sets = no_sets;
       due = None;
     }
 
 -- the buffer of the mutator of this number, which is one more than its place
 abbrev pub buffer_at : List Contents → (place : ℕ) → Contents
 buffer_at buffers place = item_at buffers place (blank 0 0)
+
+-- the parts that work between a batch and a sweep
+abbrev pub parts_of : Private → Parts
+parts_of p = record { counts = p.counts; release = p.release; freeing = p.freeing; trial = p.trial; prep = p.prep; sets = p.sets }
+
+abbrev pub with_parts : Private → Parts → Private
+with_parts p w = record p { counts = w.counts; release = w.release; freeing = w.freeing; trial = w.trial; prep = w.prep; sets = w.sets }

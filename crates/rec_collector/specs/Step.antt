@@ -1,19 +1,27 @@
 -- What a step of the collector may be: the rules of its phases.
-use Rattle.std.specs.Prelude.{◌≡◌, ◌≢◌, ℕ, ◌+◌, ◌-◌, ◌*◌, ◌^◌, ◌<◌, ◌≤◌, Option, None, Some, [], length, map, slice_set}
+use Rattle.std.specs.Prelude.{◌≡◌, ◌≢◌, ℕ, ◌+◌, ◌-◌, ◌*◌, ◌^◌, ◌<◌, ◌≤◌, false, true, Option, None, Some, [], length, map, slice_set}
 use Rattle.rec_word.specs.Op.{crossing_word}
 use Rattle.rec_word.specs.declared.op.Op.{Op}
 use Rattle.rec_word.specs.declared.op.Op.TheVariants.{StoreEpoch, LookBox, ReturnBox, LoadChild, ClearField, FreeHeader, AddFreed}
 use Rattle.rec_log.specs.declared.contents.Contents.{Contents}
 use Rattle.rec_apply.specs.Batch.{batch}
-use Rattle.rec_release.specs.Release.{Work, next_of as release_next, started_of as release_started, took_of as release_took}
+use Rattle.rec_counts.specs.Counts.{State}
+use Rattle.rec_release.specs.CycleFree as frees
+use Rattle.rec_release.specs.CycleFree.{next_of as freeing_next}
+use Rattle.rec_release.specs.Release.{next_of as release_next}
 use Rattle.rec_release.specs.Sweep as sweeps
+use Rattle.rec_sigma.specs.Judged.{AreOrange, cyclic_sum}
+use Rattle.rec_sigma.specs.Prepare.{next_of as prep_next}
+use Rattle.rec_sigma.specs.Refurbish.{LastRefurbished}
 use Rattle.rec_trial.specs.Trial.{next_of as trial_next}
-use Rattle.rec_trial.specs.Trial as trials
-use Rattle.rec_collector.specs.GivenUp.{given_up}
-use Rattle.rec_collector.specs.Private.{Private}
-use Rattle.rec_collector.specs.Took.{cleared, trial_started, trial_took}
+use Rattle.rec_collector.specs.Followed.{prep_started, relieved, trial_started, with_freed, with_loaded, with_released, with_tried}
+use Rattle.rec_collector.specs.Parts.{Parts}
+use Rattle.rec_collector.specs.Private.{Private, parts_of, with_parts}
+use Rattle.rec_collector.specs.Testing.{counted_by, with_freeing, zeros_released}
+use Rattle.rec_collector.specs.Took.{cleared}
+use Rattle.rec_collector.specs.declared.verdict.Verdict.TheVariants.{Passed, Touched, Held}
 use Rattle.rec_collector.specs.declared.phase.Phase.{Phase}
-use Rattle.rec_collector.specs.declared.phase.Phase.TheVariants.{Idle, Looking, Swapping, Returning, Releasing, Trying, Opening, Sweeping, Closing}
+use Rattle.rec_collector.specs.declared.phase.Phase.TheVariants.{Idle, Looking, Swapping, Returning, Releasing, Freeing, Trying, Preparing, Opening, Sweeping, Closing}
 use Rattle.rec_collector.specs.declared.turn.Turn.{Turn}
 use Rattle.rec_collector.specs.declared.turn.Turn.TheVariants.{Moved, Waiting, Collected, EpochsSpent}
 
@@ -28,19 +36,35 @@ pub record Ends (r q : Private) (turn : Turn) (swept : ℕ) : Type 0 where
   pub after : q ≡ record r { phase = Idle; turns = 0; collections = r.collections + 1; newer = map cleared r.older; older = r.newer }
   pub answer : turn ≡ Collected (r.epoch - 1) swept
 
--- A trial came so far. While a field is to be loaded it goes on. Then each set is given up, and a sweep begins, unless the free
--- list is empty: then the collection is complete.
-pub data TriesOn (p : Private) (w : trials.Work) (q : Private) (turn : Turn) : Type 0 where
-  more : trial_next w.machine ≢ None → GoesOn (record p { counts = w.counts; trial = w.machine }) q turn Trying → TriesOn p w q turn
-  sweeps_next : trial_next w.machine ≡ None → w.counts.free ≢ []
-      → GoesOn (record p { counts = given_up w.counts; trial = w.machine }) q turn Opening → TriesOn p w q turn
-  completes : trial_next w.machine ≡ None → w.counts.free ≡ []
-      → Ends (record p { counts = given_up w.counts; trial = w.machine }) q turn 0 → TriesOn p w q turn
+-- A preparation came so far. While a field is due it goes on. Then a sweep begins, unless the free list is empty: then the
+-- collection is complete.
+pub data PreparesOn (p : Private) (w : Parts) (q : Private) (turn : Turn) : Type 0 where
+  more : w.prep.at ≢ None → GoesOn (with_parts p w) q turn Preparing → PreparesOn p w q turn
+  sweeps_next : w.prep.at ≡ None → w.counts.free ≢ [] → GoesOn (with_parts p w) q turn Opening → PreparesOn p w q turn
+  completes : w.prep.at ≡ None → w.counts.free ≡ [] → Ends (with_parts p w) q turn 0 → PreparesOn p w q turn
 
--- A release came so far. While a field is due it goes on. Then a trial begins.
-pub data ReleasesOn (p : Private) (w : Work) (q : Private) (turn : Turn) : Type 0 where
-  more : w.machine.at ≢ None → GoesOn (record p { counts = w.counts; release = w.machine }) q turn Releasing → ReleasesOn p w q turn
-  tries : w.machine.at ≡ None → TriesOn (record p { counts = w.counts; release = w.machine }) (trial_started p w.counts) q turn → ReleasesOn p w q turn
+-- A trial came so far. While a field is to be loaded it goes on. Then the sets that it found are prepared.
+pub data TriesOn (p : Private) (w : Parts) (q : Private) (turn : Turn) : Type 0 where
+  more : trial_next w.trial ≢ None → GoesOn (with_parts p w) q turn Trying → TriesOn p w q turn
+  prepares : trial_next w.trial ≡ None → PreparesOn p (prep_started w) q turn → TriesOn p w q turn
+
+-- The last set was tested, which made `v` of `w`. It passes where each member is Orange and the members' outside counts sum to
+-- zero: then it is freed. Else it is counted under the first test that it fails, and refurbished, and its zeros are released.
+pub data IsTested (w v : Parts) : Type 0 where
+  passes : AreOrange w.counts (length w.counts.sets - 1) → cyclic_sum w.counts (length w.counts.sets - 1) ≡ 0
+      → v ≡ with_freeing (record w { sets = counted_by Passed w.sets }) (frees.started_of w.freeing w.counts) → IsTested w v
+  fails_delta : (s : State) → (AreOrange w.counts (length w.counts.sets - 1) → ⊥) → LastRefurbished w.counts s
+      → v ≡ zeros_released true (record w { counts = s; sets = counted_by Touched w.sets }) → IsTested w v
+  fails_sigma : (s : State) → AreOrange w.counts (length w.counts.sets - 1) → 0 < cyclic_sum w.counts (length w.counts.sets - 1) → LastRefurbished w.counts s
+      → v ≡ zeros_released true (record w { counts = s; sets = counted_by Held w.sets }) → IsTested w v
+
+-- A release, or the freeing of a set, came so far. While a field is due it goes on. Then the last set is tested, and once no set is
+-- left a trial begins.
+pub data ClearsOn (p q : Private) (turn : Turn) : Parts → Type 0 where
+  frees_on : {w : Parts} → w.freeing.at ≢ None → GoesOn (with_parts p w) q turn Freeing → ClearsOn p q turn w
+  releases_on : {w : Parts} → w.freeing.at ≡ None → w.release.at ≢ None → GoesOn (with_parts p w) q turn Releasing → ClearsOn p q turn w
+  tests : {w : Parts} (v : Parts) → w.freeing.at ≡ None → w.release.at ≡ None → 0 < length w.counts.sets → IsTested w v → ClearsOn p q turn v → ClearsOn p q turn w
+  tries : {w : Parts} → w.freeing.at ≡ None → w.release.at ≡ None → w.counts.sets ≡ [] → TriesOn p (trial_started w) q turn → ClearsOn p q turn w
 
 -- after one slot more was swept, the next one follows, or the end of the sweep
 pub data IsNext (swept : ℕ) (w : sweeps.Work) (next_phase : Phase) : Type 0 where
@@ -60,10 +84,11 @@ pub data Step (p : Private) (word : ℕ) (box : Contents) (op : Option Op) (q : 
   give_back : (t : ℕ) → p.phase ≡ Returning t → t ≢ length p.newer → op ≡ Some (ReturnBox t p.epoch)
       → GoesOn p q turn (Looking (t + 1)) → Step p word box op q turn
   apply : (t : ℕ) → p.phase ≡ Returning t → t ≡ length p.newer → op ≡ Some (ReturnBox t p.epoch)
-      → ReleasesOn p (release_started p.release (batch p.counts p.newer p.older)) q turn → Step p word box op q turn
-  release : p.phase ≡ Releasing → op ≡ release_next p.release
-      → ReleasesOn p (release_took (record { machine = p.release; counts = p.counts }) word) q turn → Step p word box op q turn
-  trial : p.phase ≡ Trying → op ≡ trial_next p.trial → TriesOn p (trial_took p word) q turn → Step p word box op q turn
+      → ClearsOn p q turn (zeros_released false (record (parts_of p) { counts = batch p.counts p.newer p.older })) → Step p word box op q turn
+  release : p.phase ≡ Releasing → op ≡ release_next p.release → ClearsOn p q turn (with_released (parts_of p) word) → Step p word box op q turn
+  freeing : p.phase ≡ Freeing → op ≡ freeing_next p.freeing → ClearsOn p q turn (relieved (with_freed (parts_of p) word)) → Step p word box op q turn
+  trial : p.phase ≡ Trying → op ≡ trial_next p.trial → TriesOn p (with_tried (parts_of p) word) q turn → Step p word box op q turn
+  preparation : p.phase ≡ Preparing → op ≡ prep_next p.prep → PreparesOn p (with_loaded (parts_of p) word) q turn → Step p word box op q turn
   begin_sweep : p.phase ≡ Opening → op ≡ Some AddFreed
       → GoesOn (record p { due = (sweeps.started_of p.counts).due; counts = (sweeps.started_of p.counts).counts }) q turn (Sweeping 0) → Step p word box op q turn
   sweep : (swept : ℕ) (w : sweeps.Work) (next_phase : Phase) → p.phase ≡ Sweeping swept → op ≡ sweeps.next_of p.due

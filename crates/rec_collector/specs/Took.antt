@@ -1,20 +1,16 @@
 -- What is learnt, and what a turn answers: functions of the private record and of the word found.
-use Rattle.std.specs.Prelude.{ℕ, ◌+◌, ◌-◌, ◌==◌, Option, None, Some, List, [], ◌∷◌, if◌then◌else◌, length, map, replicate, slice_set}
+use Rattle.std.specs.Prelude.{ℕ, ◌+◌, ◌-◌, ◌==◌, false, Option, None, Some, [], if◌then◌else◌, length, map, replicate, slice_set}
 use Rattle.rec_word.specs.Op.{crossing_word}
 use Rattle.rec_log.specs.declared.contents.Contents.{Contents}
-use Rattle.rec_word.specs.declared.op.Op.{Op}
-use Rattle.rec_counts.specs.Counts.{State}
 use Rattle.rec_apply.specs.Batch.{batch}
-use Rattle.rec_release.specs.declared.at.At.{At}
-use Rattle.rec_release.specs.Release.{Work, started_of as release_started, took_of as release_took}
 use Rattle.rec_release.specs.Sweep as sweeps
-use Rattle.rec_trial.specs.Trial.{next_of as trial_next, started_of as trial_started_of, took_of as trial_took_of}
-use Rattle.rec_trial.specs.Trial as trials
-use Rattle.rec_collector.specs.GivenUp.{given_up}
+use Rattle.rec_collector.specs.Followed.{Next, followed, prepared, relieved, tried, with_freed, with_loaded, with_released, with_tried}
 use Rattle.rec_collector.specs.Next.{is_spent}
-use Rattle.rec_collector.specs.Private.{Private}
+use Rattle.rec_collector.specs.Parts.{Parts}
+use Rattle.rec_collector.specs.Private.{Private, parts_of, with_parts}
+use Rattle.rec_collector.specs.Testing.{zeros_released}
 use Rattle.rec_collector.specs.declared.phase.Phase.{Phase}
-use Rattle.rec_collector.specs.declared.phase.Phase.TheVariants.{Idle, Looking, Swapping, Returning, Releasing, Trying, Opening, Sweeping, Closing}
+use Rattle.rec_collector.specs.declared.phase.Phase.TheVariants.{Idle, Looking, Swapping, Returning, Releasing, Freeing, Trying, Preparing, Opening, Sweeping, Closing}
 use Rattle.rec_collector.specs.declared.turn.Turn.{Turn}
 use Rattle.rec_collector.specs.declared.turn.Turn.TheVariants.{Moved, Waiting, Collected, EpochsSpent}
 
@@ -30,56 +26,22 @@ cleared b = record b { entries = []; snapshot = replicate (length b.snapshot) No
 abbrev pub ended : Private → Private
 ended p = record p { collections = p.collections + 1; turns = 0; phase = Idle; newer = map cleared p.older; older = p.newer }
 
--- the counts of a release, and how far it has come
-abbrev pub with_work : Private → Work → Private
-with_work p w = record p { counts = w.counts; release = w.machine }
+-- where a sweep of no slot would be closed, the collection is complete
+abbrev pub ended_if : Phase → Private → Private
+ended_if (Closing swept) p = ended p
+ended_if _ p = p
 
--- a sweep follows, unless there is nothing to sweep
-abbrev pub swept_next : Private → List ℕ → Private
-swept_next p [] = ended p
-swept_next p (x ∷ free) = moved p Opening
+-- the collection goes on with these parts, in this phase
+abbrev pub came : Private → Next → Private
+came p n = ended_if n.phase (moved (with_parts p n.parts) n.phase)
 
--- the counts of a trial, and how far it has come
-abbrev pub with_trial : Private → trials.Work → Private
-with_trial p w = record p { counts = w.counts; trial = w.machine }
+-- the batch is applied
+abbrev pub batched : Private → Parts
+batched p = record (parts_of p) { counts = batch p.counts p.newer p.older }
 
--- while a field is to be loaded the trial goes on; then each set is given up, and a sweep follows
-abbrev pub tried_at : Private → trials.Work → Option Op → Private
-tried_at p w (Some op) = moved (with_trial p w) Trying
-tried_at p w None = swept_next (with_trial p (record w { counts = given_up w.counts })) w.counts.free
-
--- a trial came so far
-unfoldable pub tried : Private → trials.Work → Private
-tried p w = tried_at p w (trial_next w.machine)
-
--- a trial begins on these counts
-abbrev pub trial_started : Private → State → trials.Work
-trial_started p s = trial_started_of p.trial.fields s
-
--- a trial learnt the word that was loaded
-abbrev pub trial_took : Private → (word : ℕ) → trials.Work
-trial_took p word = trial_took_of (record { machine = p.trial; counts = p.counts }) word
-
--- while a field is to be emptied the release goes on; then the trial begins
-abbrev pub went_on_at : Private → Work → Option At → Private
-went_on_at p w (Some a) = moved (with_work p w) Releasing
-went_on_at p w None = tried (with_work p w) (trial_started p w.counts)
-
--- a release came so far
-unfoldable pub went_on : Private → Work → Private
-went_on p w = went_on_at p w w.machine.at
-
--- the batch is applied, and its zeros are released
-unfoldable pub begun : Private → Work
-begun p = release_started p.release (batch p.counts p.newer p.older)
-
--- a release learnt the word that came out
-unfoldable pub released : Private → (word : ℕ) → Work
-released p word = release_took (record { machine = p.release; counts = p.counts }) word
-
--- a mailbox was given back: the next mutator's follows, or with the last one the batch is applied
+-- a mailbox was given back: the next mutator's follows, or with the last one the batch is applied, and its zeros are released
 abbrev pub returned : Private → (t : ℕ) → Private
-returned p t = if t == length p.newer then went_on p (begun p) else moved p (Looking (t + 1))
+returned p t = if t == length p.newer then came p (followed (zeros_released false (batched p))) else moved p (Looking (t + 1))
 
 -- after so many slots the sweep goes on, or ends
 abbrev pub swept_phase : (swept : ℕ) → Option ℕ → Phase
@@ -100,8 +62,10 @@ took_at p word Idle = if is_spent p then p else moved (record p { epoch = p.epoc
 took_at p word (Looking t) = if word == crossing_word p.epoch 2 then moved p (Swapping t) else p
 took_at p word (Swapping t) = moved p (Swapping t)
 took_at p word (Returning t) = returned p t
-took_at p word Releasing = went_on p (released p word)
-took_at p word Trying = tried p (trial_took p word)
+took_at p word Releasing = came p (followed (with_released (parts_of p) word))
+took_at p word Freeing = came p (followed (relieved (with_freed (parts_of p) word)))
+took_at p word Trying = came p (tried (with_tried (parts_of p) word))
+took_at p word Preparing = came p (prepared (with_loaded (parts_of p) word))
 took_at p word Opening = moved (with_sweep p (sweeps.started_of p.counts)) (Sweeping 0)
 took_at p word (Sweeping swept) = swept_one p swept (sweeps.took_of (record { due = p.due; counts = p.counts }) word)
 took_at p word (Closing swept) = ended p
@@ -123,35 +87,21 @@ swapped_of p buffer = swapped_at p buffer p.phase
 unfoldable pub step_of : Private → (word : ℕ) → (box : Contents) → Private
 step_of p word box = swapped_of (took_of p word) box
 
--- what a turn answers after which nothing is left to release: with an empty free list the collection is complete
-abbrev pub swept_turn : (epoch : ℕ) → List ℕ → Turn
-swept_turn epoch [] = Collected (epoch - 1) 0
-swept_turn epoch (x ∷ free) = Moved
-
--- what a turn of a trial answers
-abbrev pub trial_turn_at : (epoch : ℕ) → trials.Work → Option Op → Turn
-trial_turn_at epoch w (Some op) = Moved
-trial_turn_at epoch w None = swept_turn epoch w.counts.free
-
-unfoldable pub trial_turn : (epoch : ℕ) → trials.Work → Turn
-trial_turn epoch w = trial_turn_at epoch w (trial_next w.machine)
-
--- what a turn of a release answers
-abbrev pub work_turn_at : Private → Work → Option At → Turn
-work_turn_at p w (Some a) = Moved
-work_turn_at p w None = trial_turn p.epoch (trial_started p w.counts)
-
-unfoldable pub work_turn : Private → Work → Turn
-work_turn p w = work_turn_at p w w.machine.at
+-- what a turn answers that goes on to this phase: where it would close a sweep of no slot, the collection is complete
+abbrev pub came_turn : (epoch : ℕ) → Phase → Turn
+came_turn epoch (Closing swept) = Collected (epoch - 1) swept
+came_turn epoch phase = Moved
 
 -- what a turn answers, by phase
 unfoldable pub turn_at : Private → (word : ℕ) → Phase → Turn
 turn_at p word Idle = if is_spent p then EpochsSpent else Moved
 turn_at p word (Looking t) = if word == crossing_word p.epoch 2 then Moved else Waiting t
 turn_at p word (Swapping t) = Moved
-turn_at p word (Returning t) = if t == length p.newer then work_turn p (begun p) else Moved
-turn_at p word Releasing = work_turn p (released p word)
-turn_at p word Trying = trial_turn p.epoch (trial_took p word)
+turn_at p word (Returning t) = if t == length p.newer then came_turn p.epoch (followed (zeros_released false (batched p))).phase else Moved
+turn_at p word Releasing = came_turn p.epoch (followed (with_released (parts_of p) word)).phase
+turn_at p word Freeing = came_turn p.epoch (followed (relieved (with_freed (parts_of p) word))).phase
+turn_at p word Trying = came_turn p.epoch (tried (with_tried (parts_of p) word)).phase
+turn_at p word Preparing = came_turn p.epoch (prepared (with_loaded (parts_of p) word)).phase
 turn_at p word Opening = Moved
 turn_at p word (Sweeping swept) = Moved
 turn_at p word (Closing swept) = Collected (p.epoch - 1) swept

@@ -10,9 +10,9 @@ ghost use Rattle.rec_collector.specs.Step.{Step, IsBetween, NamesWord};
 ghost use Rattle.rec_collector.specs.Took.{step_of, turn_of};
 
 /// What comes next, what is learnt and what is answered is one of the steps of the collector, whatever the word found and
-/// whatever is in the mailbox.
+/// whatever is in the mailbox, as long as the word is what a machine may be given.
 pub fn machine_makes_steps()
-    ensures { (p : Private) (word : ℕ) (box : Contents) → IsBetween p.phase → Step p word box (next_of p) (step_of p word box) (turn_of p word) }
+    ensures { (p : Private) (word : ℕ) (box : Contents) → IsMachine p → IsBetween p.phase → IsGiven p word → Step p word box (next_of p) (step_of p word box) (turn_of p word) }
 {}
 
 /// The operation that comes next names a word of the heap, and is one of the collector's seven.

@@ -2,27 +2,23 @@ ghost use Rattle.std.specs.Prelude.{◌≡◌, ◌≢◌, ◌+◌, ◌*◌, ◌^
 ghost use Rattle.rec_word.specs.Op.{crossing_word};
 ghost use Rattle.rec_word.specs.Word.{target_of};
 ghost use Rattle.rec_counts.specs.Counts.{slot_at};
-ghost use Rattle.rec_trial.specs.Loaded.{IsAtWork};
-ghost use Rattle.rec_trial.specs.Rules.{IsReady, LeadsToUnreleased};
-ghost use Rattle.rec_trial.specs.Trial.{next_of as trial_next};
-ghost use Rattle.rec_collector.specs.After.{ended_if, release_phase, sets_after, trial_after, trial_phase, turn_if};
+ghost use Rattle.rec_trial.specs.Rules.{LeadsToUnreleased};
 ghost use Rattle.rec_collector.specs.Causes.{HasCause};
 ghost use Rattle.rec_collector.specs.Given.{IsCovered, IsGiven, IsSized, IsSwapping};
 ghost use Rattle.rec_collector.specs.Kept.{IsMachine, KeepsSizes, limit_of};
 ghost use Rattle.rec_collector.specs.Next.{next_of};
 ghost use Rattle.rec_collector.specs.Private.{Private, opened, spare};
-ghost use Rattle.rec_collector.specs.Took.{ended, swapped_of, swept_phase, took_at, took_of, turn_at, turn_of};
+ghost use Rattle.rec_collector.specs.Took.{came_turn, ended, ended_if, swapped_of, swept_phase, took_at, took_of, turn_at, turn_of};
 
 use crate::buffers::{clear_all, open_row};
-use crate::giving_up::give_up;
+use crate::parts::Parts;
 use crate::phase::Phase;
+use crate::sets::Sets;
 use crate::turn::Turn;
-use rec_apply::apply;
 use rec_counts::Counts;
 use rec_frame::Frame;
 use rec_log::Buffer;
-use rec_release::{Release, Sweep};
-use rec_trial::Trial;
+use rec_release::Sweep;
 use rec_word::{Op, crossing};
 use std::alloc::{AllocError as NoMemory, Global};
 use std::marker::Model;
@@ -42,11 +38,9 @@ pub struct Machine {
     phase: Phase,
     registers: u8,
     capacity: u32,
-    counts: Counts,
+    parts: Parts,
     newer: Vec<Buffer>,
     older: Vec<Buffer>,
-    release: Release,
-    trial: Trial,
     sweep: Sweep,
 }
 
@@ -98,11 +92,9 @@ impl Machine {
             phase: Phase::Idle,
             registers: regs,
             capacity: cap,
-            counts,
+            parts: Parts::idle(counts, fields),
             newer,
             older,
-            release: Release::idle(fields),
-            trial: Trial::idle(fields),
             sweep: Sweep::idle(fields),
         })
     }
@@ -125,8 +117,10 @@ impl Machine {
             Phase::Swapping { mutator } | Phase::Returning { mutator } => {
                 Some(Op::ReturnBox(mutator, self.epoch))
             }
-            Phase::Releasing => self.release.next(),
-            Phase::Trying => self.trial.next(),
+            Phase::Releasing => self.parts.release.next(),
+            Phase::Freeing => self.parts.freeing.next(),
+            Phase::Trying => self.parts.trial.next(),
+            Phase::Preparing => self.parts.prep.next(),
             Phase::Opening | Phase::Closing { .. } => Some(Op::AddFreed),
             Phase::Sweeping { .. } => self.sweep.next(),
         }
@@ -186,20 +180,12 @@ impl Machine {
         let _phase = &self.phase;
     }
 
-    /// The counts.
-    #[cfg(test)]
-    pub(crate) fn counts(&self) -> &Counts
-        ensures { result.now ≡ self.now.counts }
-    {
-        &self.counts
-    }
-
     /// The true count of a slot: one for a free slot, else how many references to it were counted.
     pub fn count(&self, slot: u16) -> u64
         requires { slot < length self.now.counts.slots }
         ensures { result ≡ (slot_at self.now.counts slot).count }
     {
-        self.counts.count(slot)
+        self.parts.counts.count(slot)
     }
 
     /// The requested epoch.
@@ -221,6 +207,13 @@ impl Machine {
         ensures { result ≡ self.now.freed }
     {
         self.freed
+    }
+
+    /// What became of the sets that were tested since the opening.
+    pub fn sets(&self) -> Sets
+        ensures { result ≡ self.now.sets }
+    {
+        self.parts.sets
     }
 
     /// How many turns were made since a collection was completed last, or since the opening, beside those in which the machine
@@ -248,7 +241,9 @@ impl Machine {
             Phase::Swapping { .. } => Turn::Moved,
             Phase::Returning { mutator } => self.took_return(mutator),
             Phase::Releasing => self.took_release(word),
+            Phase::Freeing => self.took_freeing(word),
             Phase::Trying => self.took_trial(word),
+            Phase::Preparing => self.took_preparation(word),
             Phase::Opening => self.took_opening(),
             Phase::Sweeping { swept } => self.took_sweep(swept, word),
             Phase::Closing { swept } => self.end(swept),
@@ -309,10 +304,7 @@ impl Machine {
             self.turns += 1;
             return Turn::Moved;
         }
-        apply(&mut self.counts, &self.newer, &self.older);
-        self.release.start(&mut self.counts);
-        self.counts.rules();
-        self.phase = after_release(&mut self.counts, &self.release, &mut self.trial);
+        self.phase = self.parts.apply_batch(&self.newer, &self.older);
         self.turns += 1;
         self.end_if_nothing_is_free()
     }
@@ -327,9 +319,22 @@ impl Machine {
         ensures same { KeepsSizes self.old self.new }
         ensures kept { IsMachine self.new }
     {
-        self.release.took(&mut self.counts, word);
-        self.counts.rules();
-        self.phase = after_release(&mut self.counts, &self.release, &mut self.trial);
+        self.phase = self.parts.took_release(word);
+        self.turns += 1;
+        self.end_if_nothing_is_free()
+    }
+
+    // A word came out of a field of a member of the set that is freed.
+    fn took_freeing(&mut self, word: u64) -> Turn
+        requires phase { self.old.phase ≡ Phase.Freeing }
+        requires counted { IfSome (target_of word) (λ slot. 0 < (slot_at self.old.counts slot).count) }
+
+        ensures took { self.new ≡ took_at self.old word Phase.Freeing }
+        ensures turn { result ≡ turn_at self.old word Phase.Freeing }
+        ensures same { KeepsSizes self.old self.new }
+        ensures kept { IsMachine self.new }
+    {
+        self.phase = self.parts.took_freeing(word);
         self.turns += 1;
         self.end_if_nothing_is_free()
     }
@@ -344,8 +349,22 @@ impl Machine {
         ensures same { KeepsSizes self.old self.new }
         ensures kept { IsMachine self.new }
     {
-        self.trial.took(&mut self.counts, word);
-        self.phase = after_trial(&mut self.counts, &self.trial);
+        self.phase = self.parts.took_trial(word);
+        self.turns += 1;
+        self.end_if_nothing_is_free()
+    }
+
+    // A field was loaded for the preparation of sets.
+    fn took_preparation(&mut self, word: u64) -> Turn
+        requires phase { self.old.phase ≡ Phase.Preparing }
+        requires in_range { IfSome (target_of word) (λ slot. slot < length self.old.counts.slots) }
+
+        ensures took { self.new ≡ took_at self.old word Phase.Preparing }
+        ensures turn { result ≡ turn_at self.old word Phase.Preparing }
+        ensures same { KeepsSizes self.old self.new }
+        ensures kept { IsMachine self.new }
+    {
+        self.phase = self.parts.took_preparation(word);
         self.turns += 1;
         self.end_if_nothing_is_free()
     }
@@ -360,7 +379,7 @@ impl Machine {
         ensures same { KeepsSizes self.old self.new }
         ensures kept { IsMachine self.new }
     {
-        self.sweep.start(&mut self.counts);
+        self.sweep.start(&mut self.parts.counts);
         self.phase = Phase::Sweeping { swept: 0 };
         self.turns += 1;
         Turn::Moved
@@ -376,8 +395,8 @@ impl Machine {
         ensures same { KeepsSizes self.old self.new }
         ensures kept { IsMachine self.new }
     {
-        self.sweep.took(&mut self.counts, word);
-        self.counts.rules();
+        self.sweep.took(&mut self.parts.counts, word);
+        self.parts.counts.rules();
         self.freed += 1;
         self.phase = after_slot(&self.sweep, swept + 1);
         self.turns += 1;
@@ -386,8 +405,8 @@ impl Machine {
 
     // Where nothing is to be swept, the collection is complete without a sweep.
     fn end_if_nothing_is_free(&mut self) -> Turn
-        ensures took { self.new ≡ ended_if self.old self.old.phase }
-        ensures turn { result ≡ turn_if self.old self.old.phase }
+        ensures took { self.new ≡ ended_if self.old.phase self.old }
+        ensures turn { result ≡ came_turn self.old.epoch self.old.phase }
         ensures same { KeepsSizes self.old self.new }
         ensures kept { IsMachine self.new }
     {
@@ -416,38 +435,6 @@ impl Machine {
             epoch: self.epoch - 1,
             freed: swept,
         }
-    }
-}
-
-// What follows once a word came out: the release goes on while it has work. Then a trial begins.
-fn after_release(counts: &mut Counts, release: &Release, trial: &mut Trial) -> Phase
-    requires idle { IsNone (trial_next trial.old) }
-    requires ready { IsReady counts.old }
-    ensures work { record { machine = trial.new; counts = counts.new } ≡ trial_after (record { machine = trial.old; counts = counts.old }) release.now.at }
-    ensures phase { result ≡ release_phase counts.new.free (trial_next trial.new) release.now.at }
-{
-    if release.next().is_some() {
-        return Phase::Releasing;
-    }
-    trial.start(counts);
-    after_trial(counts, trial)
-}
-
-// What follows once a field was loaded: the trial goes on while it has work. Then each set is given up, and a sweep begins,
-// which has ended already where the free list is empty.
-fn after_trial(counts: &mut Counts, trial: &Trial) -> Phase
-    requires { IsAtWork trial.now counts.old }
-    ensures counts { counts.new ≡ sets_after counts.old (trial_next trial.now) }
-    ensures phase { result ≡ trial_phase counts.new.free (trial_next trial.now) }
-{
-    if trial.next().is_some() {
-        return Phase::Trying;
-    }
-    give_up(counts);
-    if counts.free_list().is_empty() {
-        Phase::Closing { swept: 0 }
-    } else {
-        Phase::Opening
     }
 }
 

@@ -11,8 +11,12 @@ pub enum Phase {
     Returning { mutator: u8 },
     /// The zeros are released, a field at a time.
     Releasing,
+    /// A set that passed its tests is freed, a field at a time.
+    Freeing,
     /// A trial is at work, and a field is loaded next.
     Trying,
+    /// The sets that a trial found are prepared for their tests, and a field is loaded next.
+    Preparing,
     /// A sweep begins next.
     Opening,
     /// The free list is swept, a slot at a time; so many were.

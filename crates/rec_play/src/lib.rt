@@ -23,4 +23,6 @@ pub use opening::{config_for, journals_for, order_for};
 pub use playing::play;
 
 #[cfg(test)]
+mod cycle_tests;
+#[cfg(test)]
 mod tests;

@@ -93,7 +93,7 @@ fn opens_what_a_script_is_played_with(rt: HostRuntime) -> Result<(), Fail> {
 }
 
 // The heap of a script.
-fn open_world(alloc: Global, script: &Script) -> Result<World, Fail>
+pub(crate) fn open_world(alloc: Global, script: &Script) -> Result<World, Fail>
     ensures { IfOk result (λ world. world ≡ opened (config_of script.now)) }
 {
     let world = World::open(alloc, config_for(script))?;
@@ -229,7 +229,7 @@ fn are_told_again(order: &[u8], journals: &[Journal], again: &mut World) -> bool
 
 // The same of a heap with a slot for every birth, whose collector makes no turn. The words that its writes leave are all of the
 // first epoch.
-fn are_told_alike(
+pub(crate) fn are_told_alike(
     alloc: Global,
     script: &Script,
     order: &[u8],
@@ -247,7 +247,7 @@ fn is_played_alike(alloc: Global, text: &[u8], seed: u64) -> Result<bool, Fail> 
 }
 
 // A script in which each of these mutators makes its commands ten times over.
-fn repeated(alloc: Global, front: &str, mutators: &[&str]) -> Result<String, Fail> {
+pub(crate) fn repeated(alloc: Global, front: &str, mutators: &[&str]) -> Result<String, Fail> {
     let mut text = String::new(alloc);
     text.push_str(front)?;
     for commands in mutators {

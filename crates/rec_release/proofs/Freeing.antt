@@ -1,97 +1,22 @@
 -- The freeing of a set goes on move by move: a reference is taken off, the next member is at work, all are listed.
-use Rattle.std.proofs.Common.{◌≡◌, ℕ, ◌+◌, ◌-◌, ◌<◌, ◌≤◌, Bool, true, false, eqb, ltb, Option, Some, None, IfSome, List, [], ◌∷◌, ◌++◌, length, map, drop, get_or, slice_get, refl, arith, sym, ◌∙◌, ap, subst, inl, inr, append_assoc, drop-cons, add-one}
+use Rattle.std.proofs.Common.{◌≡◌, ℕ, ◌+◌, ◌-◌, ◌<◌, ◌≤◌, Bool, true, false, ltb, Option, Some, None, IfSome, List, [], ◌∷◌, ◌++◌, length, map, drop, get_or, slice_get, refl, arith, sym, ◌∙◌, ap, subst, inl, inr, append_assoc, drop-cons, add-one}
 use Rattle.std.proofs.Math.ListN.{drop_of_length-le}
-use Rattle.std.proofs.lemmas.List.{append-nil, length-set, length-map, get_or-set_same, get_or-set_other, get_or_past, set_past, map-append}
+use Rattle.std.proofs.lemmas.List.{append-nil, length-map, map-append}
 use Rattle.std.proofs.lemmas.Bool.{cases_lt, ltb-true, ltb-false, lt-ltb, le-ltb}
-use Rattle.std.proofs.lemmas.Bool.Decides.{eqb_tells}
 use Rattle.rec_word.specs.Place.{place_of}
 use Rattle.rec_word.specs.Word.{target_of}
-use Rattle.rec_counts.specs.declared.slot.Slot.{Slot}
-use Rattle.rec_counts.specs.Counts.{State, IsKept, slot_at, with_slot, decremented}
+use Rattle.rec_counts.specs.Counts.{State, IsKept}
 use Rattle.rec_counts.specs.Groups.{last_set}
 use Rattle.rec_counts.specs.Lists.{one, times}
-use Rattle.rec_counts.specs.Rest.{AreZeros, KeepsRest}
-use Rattle.rec_counts.specs.Slot.{absent, lowered}
-use Rattle.rec_counts.proofs.Decrementing.{decremented_less, rest_decremented, zeros_from, zeros_kept, ZerosFrom}
-use Rattle.rec_counts.proofs.Keeping.{field_kept}
 use Rattle.rec_counts.proofs.Times.{times-append, times-nil}
 use Rattle.rec_release.specs.declared.member.Member.{Member}
-use Rattle.rec_release.specs.CycleFree.{down_if, first_member, given_up, given_up_slot, is_orange, listed, next_field, next_field_if, next_member, next_member_if, taken_off, work_of, took_of, started_of, Next, Work, IsAtWork, IsFreeable, IsHeld}
+use Rattle.rec_release.specs.CycleFree.{first_member, given_up, given_up_slot, listed, next_field, next_field_if, next_member, next_member_if, work_of, took_of, started_of, Next, Work, IsAtWork, IsFreeable, IsHeld}
 use Rattle.rec_release.specs.Freed.{came_out, held_of, listed_of, out_at, places_behind, places_of, taken_in, Freed, FreedTo, HasFreed, Out}
-use Rattle.rec_release.specs.Release.{IsReady}
 use Rattle.rec_release.specs.Released.{leading, leads_to, places_from}
 use Rattle.rec_release.proofs.Giving.{given_count, given_is_work, given_released, given_work, first_and_rest, nothing_first}
+use Rattle.rec_release.specs.TakenOff.{taken_off}
+use Rattle.rec_release.proofs.TakenOff.{off_count, off_most, ready_off, KeepsMost}
 use Rattle.rec_release.proofs.Places.{leading-nil, leading_push, places_end, places_step}
-
-lowered_less : (s : State) (y x : ℕ) → (slot_at (with_slot s y (lowered (slot_at s y))) x).count ≡ (slot_at s x).count - one (eqb x y)
-lowered_less s y x = elim (eqb_tells x y) [
-  | inl q ↦ let n : one (eqb x y) ≡ 1 = ap one q.0 in elim (cases_lt y (length s.slots)) [
-    | inl l ↦ let e : (slot_at (with_slot s y (lowered (slot_at s y))) x).count ≡ (slot_at s x).count - 1 =
-        ap (λ z. (slot_at (with_slot s y (lowered (slot_at s y))) z).count) q.1 ∙ ap (λ (v : Slot). v.count) (get_or-set_same s.slots y (lowered (slot_at s y)) absent l) ∙ ap (λ z. (slot_at s z).count - 1) (sym q.1) in
-        omega (arith, e, n)
-    | inr l ↦ let e : (slot_at (with_slot s y (lowered (slot_at s y))) x).count ≡ (slot_at s x).count = ap (λ slots. (get_or slots x absent).count) (set_past s.slots y (lowered (slot_at s y)) l) in
-        let z : (slot_at s x).count ≡ 0 = ap (λ w. (slot_at s w).count) q.1 ∙ ap (λ (v : Slot). v.count) (get_or_past s.slots y absent l) in
-        omega (arith, e, z)
-  ]
-  | inr q ↦ let n : one (eqb x y) ≡ 0 = ap one q.0 in
-      let e : (slot_at (with_slot s y (lowered (slot_at s y))) x).count ≡ (slot_at s x).count = ap (λ (v : Slot). v.count) (get_or-set_other s.slots y x (lowered (slot_at s y)) absent q.1) in
-      omega (arith, e, n)
-]
-
--- what counting down leaves
-pub record KeepsMost (s t : State) : Type 0 where
-  pub slots : length t.slots ≡ length s.slots
-  pub sets : t.sets ≡ s.sets
-  pub marked : t.marked ≡ s.marked
-  pub work : t.work ≡ s.work
-  pub free : t.free ≡ s.free
-  pub released : (x : ℕ) → (slot_at t x).released ≡ (slot_at s x).released
-  pub zeros : (more : List ℕ) × (t.zeros ≡ s.zeros ++ more)
-  pub ready : AreZeros s → AreZeros t
-
-down_count : (b : Bool) (s : State) (y x : ℕ) → (slot_at (down_if b s y) x).count ≡ (slot_at s x).count - one (eqb x y)
-down_count true s y x = lowered_less s y x
-down_count false s y x = decremented_less s y x
-
-down_most : (b : Bool) (s : State) (y : ℕ) → KeepsMost s (down_if b s y)
-down_most true s y =
-    let now : State = with_slot s y (lowered (slot_at s y)) in
-    let released : (x : ℕ) → (slot_at now x).released ≡ (slot_at s x).released = λ x. field_kept (λ (v : Slot). v.released) s.slots y (lowered (slot_at s y)) refl x in
-    record {
-      slots = length-set s.slots y (lowered (slot_at s y));
-      sets = refl;
-      marked = refl;
-      work = refl;
-      free = refl;
-      released = released;
-      zeros = ([], sym (append-nil s.zeros));
-      ready = λ a. record { once = a.once; none = λ x h. omega (arith, lowered_less s y x, a.none x h); unreleased = λ x h. released x ∙ a.unreleased x h };
-    }
-down_most false s y =
-    let k : KeepsRest s (decremented s y) = rest_decremented s y in
-    let z : ZerosFrom s y = zeros_from s y in
-    record {
-      slots = k.slots;
-      sets = k.sets;
-      marked = k.marked;
-      work = k.work;
-      free = k.free;
-      released = k.released;
-      zeros = (z.more, z.zeros);
-      ready = zeros_kept s y;
-    }
-
--- so the lists are ready for the next
-ready_on : {s t : State} → KeepsMost s t → IsReady s → IsReady t
-ready_on k r = record { zeros = k.ready r.zeros; free = λ x h. k.released x ∙ r.free x (subst (λ xs. 0 < times x xs) k.free h) }
-
-off_count : (s : State) (t : Option ℕ) (x : ℕ) → (slot_at (taken_off s t) x).count ≡ (slot_at s x).count - one (leads_to x t)
-off_count s None x = omega arith
-off_count s (Some y) x = down_count (is_orange (slot_at s y).colour) s y x
-
-pub off_most : (s : State) (t : Option ℕ) → KeepsMost s (taken_off s t)
-off_most s None = record { slots = refl; sets = refl; marked = refl; work = refl; free = refl; released = λ x. refl; zeros = ([], sym (append-nil s.zeros)); ready = λ a. a }
-off_most s (Some y) = down_most (is_orange (slot_at s y).colour) s y
 
 -- the same freeing, with its parts told otherwise
 retold : {fields : ℕ} {before : State} {members left left' listed listed' held held' : List ℕ} {after : State} {outs : List Out} → left' ≡ left → listed' ≡ listed → held' ≡ held → Freed fields before members left listed held after outs → Freed fields before members left' listed' held' after outs
@@ -100,16 +25,16 @@ retold {fields = fields} {before = before} {members = members} {left = left} {le
 
 -- a reference that came out is taken off
 taken_on : (fields : ℕ) (before : State) (members : List ℕ) (place : ℕ) (left listed held : List ℕ) (after : State) (outs : List Out) (word : ℕ) → Freed fields before members (place ∷ left) listed held after outs →
-    Freed fields before members left listed held (taken_off after (target_of word)) (outs ++ record { place = place; word = word } ∷ [])
+    Freed fields before members left listed held (taken_off true after (target_of word)) (outs ++ record { place = place; word = word } ∷ [])
 taken_on fields before members place left listed held after outs word r =
     let t : Option ℕ = target_of word in
     let o : Out = record { place = place; word = word } in
-    let k : KeepsMost after (taken_off after t) = off_most after t in
+    let k : KeepsMost after (taken_off true after t) = off_most true after t in
     let ws : (x : ℕ) → leading x (map (λ (p : Out). p.word) (outs ++ o ∷ [])) ≡ leading x (map (λ (p : Out). p.word) outs) + one (leads_to x t) =
     λ x. ap (leading x) (map-append (λ (p : Out). p.word) outs (o ∷ [])) ∙ leading_push x (map (λ (p : Out). p.word) outs) word in
     record {
       places = ap (λ ps. ps ++ left) (map-append (λ (p : Out). p.place) outs (o ∷ [])) ∙ append_assoc (map (λ (p : Out). p.place) outs) (place ∷ []) left ∙ r.places;
-      counts = λ x. omega (arith, off_count after t x, r.counts x, ws x);
+      counts = λ x. omega (arith, off_count true after t x, r.counts x, ws x);
       released = λ x. ap one (k.released x) ∙ r.released x;
       free = k.free ∙ r.free;
       work = k.work ∙ r.work;
@@ -203,20 +128,20 @@ came_first fields before l k f = record {
 abbrev pub at_work : ℕ → Option Member → State → Work
 at_work fields at s = record { machine = record { fields = fields; at = at }; counts = s }
 
-off_held : (s : State) (t : Option ℕ) (a : Member) → IsHeld s a → IsHeld (taken_off s t) a
+off_held : (s : State) (t : Option ℕ) (a : Member) → IsHeld s a → IsHeld (taken_off true s t) a
 off_held s t a h =
-    let e : (taken_off s t).work ≡ s.work = (off_most s t).work in
+    let e : (taken_off true s t).work ≡ s.work = (off_most true s t).work in
     record { index = subst (λ ws. a.index < length ws) (sym e) h.index; slot = subst (λ ws. a.slot ≡ get_or ws a.index 0) (sym e) h.slot }
 
-pub off_work : (fields : ℕ) (s : State) (t : Option ℕ) (a : Member) → IsAtWork (record { fields = fields; at = Some a }) s → IsAtWork (record { fields = fields; at = Some a }) (taken_off s t)
+pub off_work : (fields : ℕ) (s : State) (t : Option ℕ) (a : Member) → IsAtWork (record { fields = fields; at = Some a }) s → IsAtWork (record { fields = fields; at = Some a }) (taken_off true s t)
 off_work fields s t a w =
-    let k : KeepsMost s (taken_off s t) = off_most s t in
+    let k : KeepsMost s (taken_off true s t) = off_most true s t in
     record {
       field = w.field;
       held = off_held s t a w.held;
       unlisted = λ x h. ap (times x) k.free ∙ w.unlisted x (subst (λ ws. 0 < times x ws) k.work h);
       released = λ x h. k.released x ∙ w.released x (subst (λ ws. 0 < times x ws) k.work h);
-      ready = ready_on k w.ready;
+      ready = ready_off true s t w.ready;
     }
 
 member_work : (b : Bool) (fields : ℕ) (s : State) (a : Member) → ltb (a.index + 1) (length s.work) ≡ b → IsAtWork (record { fields = fields; at = Some a }) s → IsAtWork (work_of fields (next_member_if b s a)).machine (next_member_if b s a).counts
@@ -256,10 +181,10 @@ next_field_work fields s a w = field_work (ltb (a.field + 1) fields) fields s a 
 
 -- one word more
 pub came_more : (fields : ℕ) (before : State) (a : Member) (after : State) (outs : List Out) (word : ℕ) → IsAtWork (record { fields = fields; at = Some a }) after → FreedTo fields before (Some a) after outs →
-    Came fields before (work_of fields (next_field fields (taken_off after (target_of word)) a)) (outs ++ out_at fields (Some a) word)
+    Came fields before (work_of fields (next_field fields (taken_off true after (target_of word)) a)) (outs ++ out_at fields (Some a) word)
 came_more fields before a after outs word w r =
     let ms : List ℕ = last_set before.sets in
-    let now : State = taken_off after (target_of word) in
+    let now : State = taken_off true after (target_of word) in
     let left : List ℕ = places_from fields a.slot (a.field + 1) ++ places_of fields (drop (a.index + 1) ms) in
     let q : Freed fields before ms left [] ms now (outs ++ out_at fields (Some a) word) =
     taken_on fields before ms (place_of a.slot a.field fields) left [] ms after outs word
@@ -314,14 +239,14 @@ unfolding started_of
 whole_freeing fields before words l k f = (came_by words fields before (work_of fields (begun_next before)) [] (came_first fields before l k f)).law
 
 -- what is learnt, where another field of the member is left
-pub took_on : (fields : ℕ) (a : Member) (s : State) (word : ℕ) → a.field + 1 < fields → took_of (at_work fields (Some a) s) word ≡ at_work fields (Some (record { index = a.index; slot = a.slot; field = a.field + 1 })) (taken_off s (target_of word))
+pub took_on : (fields : ℕ) (a : Member) (s : State) (word : ℕ) → a.field + 1 < fields → took_of (at_work fields (Some a) s) word ≡ at_work fields (Some (record { index = a.index; slot = a.slot; field = a.field + 1 })) (taken_off true s (target_of word))
 unfolding took_of
-took_on fields a s word l = ap (λ b. work_of fields (next_field_if b (taken_off s (target_of word)) a)) (lt-ltb (a.field + 1) fields l)
+took_on fields a s word l = ap (λ b. work_of fields (next_field_if b (taken_off true s (target_of word)) a)) (lt-ltb (a.field + 1) fields l)
 
 -- where it was the last
-pub took_last : (fields : ℕ) (a : Member) (s : State) (word : ℕ) → fields ≤ a.field + 1 → took_of (at_work fields (Some a) s) word ≡ work_of fields (next_member (taken_off s (target_of word)) a)
+pub took_last : (fields : ℕ) (a : Member) (s : State) (word : ℕ) → fields ≤ a.field + 1 → took_of (at_work fields (Some a) s) word ≡ work_of fields (next_member (taken_off true s (target_of word)) a)
 unfolding took_of
-took_last fields a s word l = ap (λ b. work_of fields (next_field_if b (taken_off s (target_of word)) a)) (le-ltb (a.field + 1) fields l)
+took_last fields a s word l = ap (λ b. work_of fields (next_field_if b (taken_off true s (target_of word)) a)) (le-ltb (a.field + 1) fields l)
 
 -- where the work is done
 pub took_none : (fields : ℕ) (s : State) (word : ℕ) → took_of (at_work fields None s) word ≡ at_work fields None s
@@ -332,7 +257,7 @@ took_none fields s word = refl
 pub more_kept : (fields : ℕ) (a : Member) (s : State) (word : ℕ) (v : Work) → v ≡ took_of (at_work fields (Some a) s) word → IsAtWork (record { fields = fields; at = Some a }) s → IsAtWork v.machine v.counts
 unfolding took_of
 more_kept fields a s word v e w =
-    subst (λ (u : Work). IsAtWork u.machine u.counts) (sym e) (next_field_work fields (taken_off s (target_of word)) a (off_work fields s (target_of word) a w))
+    subst (λ (u : Work). IsAtWork u.machine u.counts) (sym e) (next_field_work fields (taken_off true s (target_of word)) a (off_work fields s (target_of word) a w))
 
 pub more_whole : (fields : ℕ) (a : Member) (s : State) (word : ℕ) (v : Work) → v ≡ took_of (at_work fields (Some a) s) word → IsAtWork (record { fields = fields; at = Some a }) s → (before : State) (outs : List Out) → FreedTo fields before (Some a) s outs →
     FreedTo fields before v.machine.at v.counts (outs ++ out_at fields (Some a) word)
@@ -345,9 +270,9 @@ pub next_member_field : (fields : ℕ) (s : State) (a : Member) → IsAtWork (re
 next_member_field fields s a w = (member_work (ltb (a.index + 1) (length s.work)) fields s a refl w).field
 
 -- as is the work, with another field due
-pub more_field : (fields : ℕ) (s : State) (t : Option ℕ) (a : Member) → a.field + 1 < fields → IsAtWork (record { fields = fields; at = Some a }) s → IsAtWork (record { fields = fields; at = Some (record { index = a.index; slot = a.slot; field = a.field + 1 }) }) (taken_off s t)
+pub more_field : (fields : ℕ) (s : State) (t : Option ℕ) (a : Member) → a.field + 1 < fields → IsAtWork (record { fields = fields; at = Some a }) s → IsAtWork (record { fields = fields; at = Some (record { index = a.index; slot = a.slot; field = a.field + 1 }) }) (taken_off true s t)
 more_field fields s t a l w =
-    let v : IsAtWork (record { fields = fields; at = Some a }) (taken_off s t) = off_work fields s t a w in
+    let v : IsAtWork (record { fields = fields; at = Some a }) (taken_off true s t) = off_work fields s t a w in
     record { field = l; held = record { index = v.held.index; slot = v.held.slot }; unlisted = v.unlisted; released = v.released; ready = v.ready }
 
 -- the number of slots stays
@@ -357,3 +282,11 @@ member_many false s a = refl
 
 pub next_member_many : (s : State) (a : Member) → length (next_member s a).counts.slots ≡ length s.slots
 next_member_many s a = member_many (ltb (a.index + 1) (length s.work)) s a
+
+-- and so do the sets
+member_sets : (b : Bool) (s : State) (a : Member) → (next_member_if b s a).counts.sets ≡ s.sets
+member_sets true s a = refl
+member_sets false s a = refl
+
+pub next_member_sets : (s : State) (a : Member) → (next_member s a).counts.sets ≡ s.sets
+next_member_sets s a = member_sets (ltb (a.index + 1) (length s.work)) s a

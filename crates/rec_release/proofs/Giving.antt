@@ -47,7 +47,7 @@ test_of : (n : ℕ) (b : Bool) → n ≡ one b → ltb 0 n ≡ b
 test_of n true e = lt-ltb 0 n (omega arith)
 test_of n false e = rw e refl
 
-mapped : (f : Slot → Slot) (slots : List Slot) (x : ℕ) → f absent ≡ absent → get_or (map f slots) x absent ≡ f (get_or slots x absent)
+pub mapped : (f : Slot → Slot) (slots : List Slot) (x : ℕ) → f absent ≡ absent → get_or (map f slots) x absent ≡ f (get_or slots x absent)
 mapped f slots x a = elim (cases_lt x (length slots)) [
   | inl l ↦ get_or-map f slots x absent absent l
   | inr l ↦ get_or_past (map f slots) x absent (omega (arith, l, length-map slots f)) ∙ sym a ∙ ap f (sym (get_or_past slots x absent l))

@@ -1,5 +1,5 @@
 -- What a release keeps of the counts, move by move.
-use Rattle.std.proofs.Common.{◌≡◌, ◌≢◌, ℕ, ◌+◌, ◌<◌, ◌≤◌, Bool, true, false, eqb, ltb, Option, None, Some, IsNone, List, [], ◌∷◌, length, refl, arith, sym, ◌∙◌, ap, subst, inl, inr}
+use Rattle.std.proofs.Common.{◌≡◌, ◌≢◌, ℕ, ◌+◌, ◌<◌, ◌≤◌, Bool, true, false, eqb, ltb, Option, None, Some, IsNone, List, [], ◌∷◌, length, refl, arith, sym, ◌∙◌, ap, inl, inr}
 use Rattle.std.proofs.lemmas.List.{length-set, get_or-set_same, get_or-set_other, get_or_past}
 use Rattle.std.proofs.lemmas.Bool.{cases_lt, false≢true, cond-true, cond-false, lt-ltb, le-ltb}
 use Rattle.std.proofs.lemmas.Bool.Decides.{eqb_tells}
@@ -7,35 +7,23 @@ use Rattle.rec_word.specs.Word.{target_of}
 use Rattle.rec_counts.specs.declared.slot.Slot.{Slot}
 use Rattle.rec_counts.specs.Counts.{State, opened, slot_at, with_slot}
 use Rattle.rec_counts.specs.Lists.{one, times}
-use Rattle.rec_counts.specs.Rest.{KeepsRest, AreZeros, AllZeros}
+use Rattle.rec_counts.specs.Rest.{AreZeros, AllZeros}
 use Rattle.rec_counts.specs.Slot.{absent}
-use Rattle.rec_counts.proofs.Decrementing.{rest_same, rest_decremented, zeros_kept, all_zeros_kept}
 use Rattle.rec_counts.proofs.Keeping.{field_kept}
 use Rattle.rec_counts.proofs.Times.{times-nil, times-cons, times_push, one-same}
 use Rattle.rec_release.specs.declared.at.At.{At}
-use Rattle.rec_release.specs.Release.{taken_off, listed_if, emptied, first_of, without_first, with_next, op_at, next_of, took_of, IsReady, IsHeld, IsAtWork}
+use Rattle.rec_release.specs.Release.{listed_if, emptied, first_of, without_first, with_next, op_at, next_of, took_of, IsReady, IsHeld, IsAtWork}
+use Rattle.rec_release.specs.TakenOff.{taken_off}
+use Rattle.rec_release.proofs.TakenOff.{all_zeros_off, off_most, ready_off, KeepsMost}
 
-pub rest_off : (s : State) (t : Option ℕ) → KeepsRest s (taken_off s t)
-rest_off s None = rest_same s
-rest_off s (Some x) = rest_decremented s x
-
-zeros_off : (s : State) (t : Option ℕ) → AreZeros s → AreZeros (taken_off s t)
-zeros_off s None k = k
-zeros_off s (Some x) k = zeros_kept s x k
-
--- a reference is taken off
-pub ready_off : (s : State) (t : Option ℕ) → IsReady s → IsReady (taken_off s t)
-ready_off s t k = record {
-  zeros = zeros_off s t k.zeros;
-  free = λ x h. (rest_off s t).released x ∙ k.free x (subst (λ f. 0 < times x f) (rest_off s t).free h);
-}
-
-pub held_off : (s : State) (t : Option ℕ) (a : At) → IsHeld s a → IsHeld (taken_off s t) a
-held_off s t a h = record {
-  in_range = omega (arith, h.in_range, (rest_off s t).slots);
-  released = (rest_off s t).released a.slot ∙ h.released;
-  unlisted = ap (times a.slot) (rest_off s t).free ∙ h.unlisted;
-}
+pub held_off : (lowers : Bool) (s : State) (t : Option ℕ) (a : At) → IsHeld s a → IsHeld (taken_off lowers s t) a
+held_off lowers s t a h =
+    let k : KeepsMost s (taken_off lowers s t) = off_most lowers s t in
+    record {
+      in_range = omega (arith, h.in_range, k.slots);
+      released = k.released a.slot ∙ h.released;
+      unlisted = ap (times a.slot) k.free ∙ h.unlisted;
+    }
 
 pub listed_ready : (b : Bool) (s : State) (x : ℕ) → (slot_at s x).released ≡ true → IsReady s → IsReady (listed_if b s x)
 listed_ready true s x r k = k
@@ -89,9 +77,9 @@ released_same s z y ne = ap (λ (w : Slot). w.released) (get_or-set_other s.slot
 pub released_first : (s : State) (z : ℕ) → z < length s.slots → (slot_at (with_slot s z (record (slot_at s z) { released = true })) z).released ≡ true
 released_first s z l = ap (λ (w : Slot). w.released) (get_or-set_same s.slots z _ absent l)
 
-pub next_work : (fields : ℕ) (s : State) (zs : List ℕ) → s.zeros ≡ zs → 0 < fields → IsReady s → IsAtWork (record { fields = fields; at = first_of zs }) (without_first zs s)
-next_work fields s [] e f k = record { field = tt; held = tt; ready = k }
-next_work fields s (z ∷ zs) e f k =
+pub next_work : (fields : ℕ) (lowers : Bool) (s : State) (zs : List ℕ) → s.zeros ≡ zs → 0 < fields → IsReady s → IsAtWork (record { fields = fields; at = first_of zs; lowers = lowers }) (without_first zs s)
+next_work fields lowers s [] e f k = record { field = tt; held = tt; ready = k }
+next_work fields lowers s (z ∷ zs) e f k =
     let first : FirstZero s z zs = first_zero s z zs e k in
     let n : (y : ℕ) → times y s.zeros ≡ one (eqb y z) + times y zs = λ y. ap (times y) e ∙ times-cons y z zs in
     record {
@@ -118,44 +106,45 @@ next_work fields s (z ∷ zs) e f k =
     }
 
 -- the next zero is released
-pub work_next : (fields : ℕ) (s : State) → 0 < fields → IsReady s → IsAtWork (with_next fields s).machine (with_next fields s).counts
-work_next fields s f k = next_work fields s s.zeros refl f k
+pub work_next : (fields : ℕ) (lowers : Bool) (s : State) → 0 < fields → IsReady s → IsAtWork (with_next fields lowers s).machine (with_next fields lowers s).counts
+work_next fields lowers s f k = next_work fields lowers s s.zeros refl f k
 
 -- where nothing is due, no zero is left
 none_in : (fields : ℕ) (zs : List ℕ) (s : State) → s.zeros ≡ zs → IsNone (op_at fields (first_of zs)) → (without_first zs s).zeros ≡ []
 none_in fields [] s e n = e
 none_in fields (z ∷ zs) s e n = absurd (false≢true (sym n))
 
-pub none_left : (fields : ℕ) (s : State) → IsNone (next_of (with_next fields s).machine) → (with_next fields s).counts.zeros ≡ []
+pub none_left : (fields : ℕ) (lowers : Bool) (s : State) → IsNone (next_of (with_next fields lowers s).machine) → (with_next fields lowers s).counts.zeros ≡ []
 unfolding next_of
-none_left fields s n = none_in fields s.zeros s refl n
+none_left fields lowers s n = none_in fields s.zeros s refl n
 
 -- what is learnt, where another field of the slot is left
-pub took_on : (fields : ℕ) (a : At) (s : State) (word : ℕ) → a.field + 1 < fields → took_of (record { machine = record { fields = fields; at = Some a }; counts = s }) word ≡ record { machine = record { fields = fields; at = Some (record { slot = a.slot; field = a.field + 1 }) }; counts = taken_off s (target_of word) }
+pub took_on : (fields : ℕ) (lowers : Bool) (a : At) (s : State) (word : ℕ) → a.field + 1 < fields → took_of (record { machine = record { fields = fields; at = Some a; lowers = lowers }; counts = s }) word ≡ record { machine = record { fields = fields; at = Some (record { slot = a.slot; field = a.field + 1 }); lowers = lowers }; counts = taken_off lowers s (target_of word) }
 unfolding took_of
-took_on fields a s word l = cond-true (ltb (a.field + 1) fields) _ _ (lt-ltb (a.field + 1) fields l)
+took_on fields lowers a s word l = cond-true (ltb (a.field + 1) fields) _ _ (lt-ltb (a.field + 1) fields l)
 
 -- where it was the last
-pub took_last : (fields : ℕ) (a : At) (s : State) (word : ℕ) → fields ≤ a.field + 1 → took_of (record { machine = record { fields = fields; at = Some a }; counts = s }) word ≡ with_next fields (emptied (taken_off s (target_of word)) a.slot)
+pub took_last : (fields : ℕ) (lowers : Bool) (a : At) (s : State) (word : ℕ) → fields ≤ a.field + 1 → took_of (record { machine = record { fields = fields; at = Some a; lowers = lowers }; counts = s }) word ≡ with_next fields lowers (emptied (taken_off lowers s (target_of word)) a.slot)
 unfolding took_of
-took_last fields a s word l = cond-false (ltb (a.field + 1) fields) _ _ (le-ltb (a.field + 1) fields l)
+took_last fields lowers a s word l = cond-false (ltb (a.field + 1) fields) _ _ (le-ltb (a.field + 1) fields l)
 
 -- where the work is done
-pub took_none : (fields : ℕ) (s : State) (word : ℕ) → took_of (record { machine = record { fields = fields; at = None }; counts = s }) word ≡ record { machine = record { fields = fields; at = None }; counts = s }
+pub took_none : (fields : ℕ) (lowers : Bool) (s : State) (word : ℕ) → took_of (record { machine = record { fields = fields; at = None; lowers = lowers }; counts = s }) word ≡ record { machine = record { fields = fields; at = None; lowers = lowers }; counts = s }
 unfolding took_of
-took_none fields s word = refl
+took_none fields lowers s word = refl
 
 -- the counts are as the release left them, after each of these
-pub work_on : (fields : ℕ) (a : At) (s : State) (t : Option ℕ) → IsAtWork (record { fields = fields; at = Some a }) s → a.field + 1 < fields → IsAtWork (record { fields = fields; at = Some (record { slot = a.slot; field = a.field + 1 }) }) (taken_off s t)
-work_on fields a s t k l =
-    let h : IsHeld (taken_off s t) a = held_off s t a k.held in
-    record { field = l; held = record { in_range = h.in_range; released = h.released; unlisted = h.unlisted }; ready = ready_off s t k.ready }
+pub work_on : (fields : ℕ) (lowers : Bool) (a : At) (s : State) (t : Option ℕ) → IsAtWork (record { fields = fields; at = Some a; lowers = lowers }) s → a.field + 1 < fields → IsAtWork (record { fields = fields; at = Some (record { slot = a.slot; field = a.field + 1 }); lowers = lowers }) (taken_off lowers s t)
+work_on fields lowers a s t k l =
+    let h : IsHeld (taken_off lowers s t) a = held_off lowers s t a k.held in
+    record { field = l; held = record { in_range = h.in_range; released = h.released; unlisted = h.unlisted }; ready = ready_off lowers s t k.ready }
 
-pub work_last : (fields : ℕ) (a : At) (s : State) (t : Option ℕ) → IsAtWork (record { fields = fields; at = Some a }) s → IsAtWork (with_next fields (emptied (taken_off s t) a.slot)).machine (with_next fields (emptied (taken_off s t) a.slot)).counts
-work_last fields a s t k =
-    let h : IsHeld (taken_off s t) a = held_off s t a k.held in
+pub work_last : (fields : ℕ) (lowers : Bool) (a : At) (s : State) (t : Option ℕ) → IsAtWork (record { fields = fields; at = Some a; lowers = lowers }) s → IsAtWork (with_next fields lowers (emptied (taken_off lowers s t) a.slot)).machine (with_next fields lowers (emptied (taken_off lowers s t) a.slot)).counts
+work_last fields lowers a s t k =
+    let off : State = taken_off lowers s t in
+    let h : IsHeld off a = held_off lowers s t a k.held in
     let l : 0 < fields = omega (arith, k.field) in
-    work_next fields (emptied (taken_off s t) a.slot) l (ready_emptied (taken_off s t) a.slot h.released (ready_off s t k.ready))
+    work_next fields lowers (emptied off a.slot) l (ready_emptied off a.slot h.released (ready_off lowers s t k.ready))
 
 listed_length : (b : Bool) (s : State) (x : ℕ) → length (listed_if b s x).slots ≡ length s.slots
 listed_length true s x = refl
@@ -169,6 +158,18 @@ pub next_length : (zs : List ℕ) (s : State) → length (without_first zs s).sl
 next_length [] s = refl
 next_length (z ∷ zs) s = length-set s.slots z (record (slot_at s z) { released = true })
 
+-- and so do the sets
+listed_sets : (b : Bool) (s : State) (x : ℕ) → (listed_if b s x).sets ≡ s.sets
+listed_sets true s x = refl
+listed_sets false s x = refl
+
+pub emptied_sets : (s : State) (x : ℕ) → (emptied s x).sets ≡ s.sets
+emptied_sets s x = listed_sets (slot_at s x).buffered s x
+
+pub next_sets : (zs : List ℕ) (s : State) → (without_first zs s).sets ≡ s.sets
+next_sets [] s = refl
+next_sets (z ∷ zs) s = refl
+
 -- at opening there are no zeros, and nothing is in the free list
 pub ready_opened : (slots first : ℕ) → IsReady (opened slots first)
 ready_opened slots first = record {
@@ -180,29 +181,34 @@ ready_opened slots first = record {
   free = λ x h. absurd (omega (arith, h, times-nil x));
 }
 
--- what is learnt leaves all zeros in the zeros
-pub all_zeros_off : (s : State) (t : Option ℕ) → AllZeros s → AllZeros (taken_off s t)
-all_zeros_off s None k = k
-all_zeros_off s (Some x) k = all_zeros_kept s x k
-
 all_zeros_listed : (b : Bool) (s : State) (x : ℕ) → AllZeros s → AllZeros (listed_if b s x)
 all_zeros_listed true s x k = k
 all_zeros_listed false s x k = k
+
+-- a slot that is not released once the first of the zeros is: it was not, and is not that one
+pub record Unzeroed (s : State) (z : ℕ) (zs : List ℕ) (y : ℕ) : Type 0 where
+  pub unreleased : (slot_at s y).released ≡ false
+  pub found : 0 < times y s.zeros → 0 < times y zs
+
+pub still_zero : (z : ℕ) (zs : List ℕ) (s : State) → s.zeros ≡ z ∷ zs → AreZeros s → (y : ℕ) → (slot_at (without_first (z ∷ zs) s) y).released ≡ false → Unzeroed s z zs y
+still_zero z zs s e k y r =
+    let more : (x : ℕ) → times x s.zeros ≡ one (eqb x z) + times x zs = λ x. ap (times x) e ∙ times-cons x z zs in
+    let l : z < length s.slots = in_range_unreleased s z (k.unreleased z (omega (arith, more z, one-same z))) in
+    elim (eqb_tells y z) [
+      | inl q ↦ absurd (false≢true (sym r ∙ ap (λ w. (slot_at (with_slot s z (record (slot_at s z) { released = true })) w).released) q.1 ∙ released_first s z l))
+      | inr q ↦ let o : one (eqb y z) ≡ 0 = ap one q.0 in record { unreleased = sym (released_same s z y q.1) ∙ r; found = λ h. omega (arith, h, more y, o) }
+    ]
 
 -- the next zero is released: the others stay
 pub all_zeros_next : (zs : List ℕ) (s : State) → s.zeros ≡ zs → AreZeros s → AllZeros s → AllZeros (without_first zs s)
 all_zeros_next [] s e z k = k
 all_zeros_next (x ∷ zs) s e z k = λ y r n.
-    let more : times y s.zeros ≡ one (eqb y x) + times y zs = ap (times y) e ∙ times-cons y x zs in
-    let l : x < length s.slots = in_range_unreleased s x (z.unreleased x (omega (arith, ap (times x) e, times-cons x x zs, one-same x))) in
-    elim (eqb_tells y x) [
-      | inl q ↦ absurd (false≢true (sym r ∙ ap (λ w. (slot_at (with_slot s x (record (slot_at s x) { released = true })) w).released) q.1 ∙ released_first s x l))
-      | inr q ↦ let o : one (eqb y x) ≡ 0 = ap one q.0 in
-          omega (arith, k y (sym (released_same s x y q.1) ∙ r) (sym (field_kept (λ (w : Slot). w.count) s.slots x (record (slot_at s x) { released = true }) refl y) ∙ n), more, o)
-    ]
+    let u : Unzeroed s x zs y = still_zero x zs s e z y r in
+    u.found (k y u.unreleased (sym (field_kept (λ (w : Slot). w.count) s.slots x (record (slot_at s x) { released = true }) refl y) ∙ n))
 
--- so does the last field of a slot: the slot is emptied, and the next zero is taken out
-pub all_zeros_last : (s : State) (t : Option ℕ) (x : ℕ) → (slot_at s x).released ≡ true → IsReady s → AllZeros s → AllZeros (without_first (emptied (taken_off s t) x).zeros (emptied (taken_off s t) x))
+-- so does the last field of a slot, where no target is lowered: the slot is emptied, and the next zero is taken out
+pub all_zeros_last : (s : State) (t : Option ℕ) (x : ℕ) → (slot_at s x).released ≡ true → IsReady s → AllZeros s → AllZeros (without_first (emptied (taken_off false s t) x).zeros (emptied (taken_off false s t) x))
 all_zeros_last s t x r ready k =
-    let released : (slot_at (taken_off s t) x).released ≡ true = (rest_off s t).released x ∙ r in
-    all_zeros_next (emptied (taken_off s t) x).zeros (emptied (taken_off s t) x) refl (ready_emptied (taken_off s t) x released (ready_off s t ready)).zeros (all_zeros_listed (slot_at (taken_off s t) x).buffered (taken_off s t) x (all_zeros_off s t k))
+    let off : State = taken_off false s t in
+    let released : (slot_at off x).released ≡ true = (off_most false s t).released x ∙ r in
+    all_zeros_next (emptied off x).zeros (emptied off x) refl (ready_emptied off x released (ready_off false s t ready)).zeros (all_zeros_listed (slot_at off x).buffered off x (all_zeros_off s t k))

@@ -2,7 +2,9 @@ pub mod Freeing
 pub mod Giving
 pub mod Keeping
 pub mod Moves
+pub mod Orange
 pub mod Places
 pub mod Runs
 pub mod Sweeping
 pub mod Sweeps
+pub mod TakenOff

@@ -1,5 +1,5 @@
 -- A release goes on move by move: a reference is taken off, a slot is emptied, the next zero is released.
-use Rattle.std.proofs.Common.{◌≡◌, ℕ, ◌+◌, ◌-◌, ◌<◌, Bool, true, false, eqb, Option, None, Some, List, [], ◌∷◌, ◌++◌, refl, arith, sym, ◌∙◌, ap, inl, inr, append_assoc}
+use Rattle.std.proofs.Common.{◌≡◌, ℕ, ◌+◌, ◌<◌, Bool, true, false, eqb, Option, None, Some, List, [], ◌∷◌, ◌++◌, refl, arith, sym, ◌∙◌, ap, inl, inr, append_assoc}
 use Rattle.std.proofs.lemmas.List.{append-nil, length_push, flat_map_more}
 use Rattle.std.proofs.lemmas.Bool.{cases_Bool, false≢true}
 use Rattle.std.proofs.lemmas.Bool.Decides.{eqb_tells}
@@ -8,31 +8,15 @@ use Rattle.rec_word.specs.Word.{target_of}
 use Rattle.rec_counts.specs.declared.slot.Slot.{Slot}
 use Rattle.rec_counts.specs.Counts.{State, slot_at, with_slot}
 use Rattle.rec_counts.specs.Lists.{one, times}
-use Rattle.rec_counts.specs.Rest.{KeepsRest}
-use Rattle.rec_counts.proofs.Decrementing.{decremented_less, zeros_from, ZerosFrom, buffered_kept, unbuffered_before}
 use Rattle.rec_counts.proofs.Keeping.{field_kept}
 use Rattle.rec_counts.proofs.Times.{times_push}
 use Rattle.rec_release.specs.declared.at.At.{At}
-use Rattle.rec_release.specs.Release.{taken_off, listed_if, emptied, first_of, without_first, IsHeld}
-use Rattle.rec_release.specs.Released.{Released, places_from, leads_to}
-use Rattle.rec_release.proofs.Keeping.{FirstZero, first_zero, rest_off, ready_off, held_off, listed_ready, next_work, released_first, released_same}
+use Rattle.rec_release.specs.Release.{listed_if, emptied, first_of, without_first, IsHeld}
+use Rattle.rec_release.specs.Released.{Released, places_from}
+use Rattle.rec_release.proofs.Keeping.{FirstZero, first_zero, held_off, listed_ready, next_work, released_first, released_same}
+use Rattle.rec_release.specs.TakenOff.{taken_off}
 use Rattle.rec_release.proofs.Places.{places_step, places_end, leading_push}
-
-off_count : (s : State) (t : Option ℕ) (x : ℕ) → (slot_at (taken_off s t) x).count ≡ (slot_at s x).count - one (leads_to x t)
-off_count s None x = omega arith
-off_count s (Some y) x = decremented_less s y x
-
-off_buffered : (s : State) (t : Option ℕ) (x : ℕ) → (slot_at s x).released ≡ true → (slot_at (taken_off s t) x).buffered ≡ (slot_at s x).buffered
-off_buffered s None x r = refl
-off_buffered s (Some y) x r = buffered_kept s y x r
-
-off_unbuffered : (s : State) (t : Option ℕ) (x : ℕ) → (slot_at (taken_off s t) x).buffered ≡ false → (slot_at s x).buffered ≡ false
-off_unbuffered s None x b = b
-off_unbuffered s (Some y) x b = unbuffered_before s y x b
-
-off_zeros : (s : State) (t : Option ℕ) → (more : List ℕ) × ((taken_off s t).zeros ≡ s.zeros ++ more)
-off_zeros s None = ([], sym (append-nil s.zeros))
-off_zeros s (Some y) = let f : ZerosFrom s y = zeros_from s y in (f.more, f.zeros)
+use Rattle.rec_release.proofs.TakenOff.{off_count, off_most, ready_off, KeepsMost}
 
 -- a slot that is not released was not released by this release, and is not the one at work
 not_yet : {fields : ℕ} {before : State} {a : At} {after : State} {words from slots : List ℕ} → Released fields before (Some a) after words from slots → (x : ℕ) → (slot_at after x).released ≡ false → (times x slots ≡ 0) × (one (eqb x a.slot) ≡ 0)
@@ -46,30 +30,30 @@ not_yet {a = a} {after = after} r x u =
     )
 
 -- a field was exchanged, and what came out is taken off
-pub taken_on : (fields : ℕ) (before : State) (a : At) (after : State) (words from slots : List ℕ) (word : ℕ) → a.field < fields → Released fields before (Some a) after words from slots →
-    Released fields before (Some (record { slot = a.slot; field = a.field + 1 })) (taken_off after (target_of word)) (words ++ word ∷ []) (from ++ place_of a.slot a.field fields ∷ []) slots
-taken_on fields before a after words from slots word l r =
+pub taken_on : (lowers : Bool) (fields : ℕ) (before : State) (a : At) (after : State) (words from slots : List ℕ) (word : ℕ) → a.field < fields → Released fields before (Some a) after words from slots →
+    Released fields before (Some (record { slot = a.slot; field = a.field + 1 })) (taken_off lowers after (target_of word)) (words ++ word ∷ []) (from ++ place_of a.slot a.field fields ∷ []) slots
+taken_on lowers fields before a after words from slots word l r =
     let t : Option ℕ = target_of word in
-    let k : KeepsRest after (taken_off after t) = rest_off after t in
-    let h : IsHeld (taken_off after t) a = held_off after t a r.held in
-    let z = off_zeros after t in
+    let k : KeepsMost after (taken_off lowers after t) = off_most lowers after t in
+    let h : IsHeld (taken_off lowers after t) a = held_off lowers after t a r.held in
+    let z = k.zeros in
     record {
       places = append_assoc from (place_of a.slot a.field fields ∷ []) (places_from fields a.slot (a.field + 1)) ∙ ap (λ ps. from ++ ps) (sym (places_step fields a.slot a.field l)) ∙ r.places;
       each = omega (arith, length_push words word, length_push from (place_of a.slot a.field fields), r.each);
-      counts = λ x. omega (arith, off_count after t x, r.counts x, leading_push x words word);
+      counts = λ x. omega (arith, off_count lowers after t x, r.counts x, leading_push x words word);
       zeros = (r.zeros.0 ++ z.0, ap (λ zs. slots ++ zs) z.1 ∙ sym (append_assoc slots after.zeros z.0) ∙ ap (λ zs. zs ++ z.0) r.zeros.1 ∙ append_assoc before.zeros r.zeros.0 z.0);
       released = λ x. ap one (k.released x) ∙ r.released x;
-      none = λ x m. omega (arith, off_count after t x, r.none x m);
+      none = λ x m. omega (arith, off_count lowers after t x, r.none x m);
       waiting = λ x b. ap (times x) k.free ∙ elim (cases_Bool (slot_at after x).buffered) [
         | inl e ↦ r.waiting x e
         | inr e ↦ elim (cases_Bool (slot_at after x).released) [
-          | inl u ↦ absurd (false≢true (sym e ∙ sym (off_buffered after t x u) ∙ b))
+          | inl u ↦ absurd (false≢true (sym e ∙ sym (k.buffered x u) ∙ b))
           | inr u ↦ let n = not_yet r x u in omega (arith, r.free x e, n.0, n.1)
         ]
       ];
-      free = λ x b. ap (λ f. times x f + one (eqb x a.slot)) k.free ∙ r.free x (off_unbuffered after t x b);
+      free = λ x b. ap (λ f. times x f + one (eqb x a.slot)) k.free ∙ r.free x (k.unbuffered x b);
       held = record { in_range = h.in_range; released = h.released; unlisted = h.unlisted };
-      ready = ready_off after t r.ready;
+      ready = ready_off lowers after t r.ready;
     }
 
 emptied_if : (b : Bool) (fields : ℕ) (before : State) (a : At) (after : State) (words from slots : List ℕ) → (slot_at after a.slot).buffered ≡ b → a.field ≡ fields → Released fields before (Some a) after words from slots →
@@ -115,7 +99,7 @@ next_if : (zs : List ℕ) (fields : ℕ) (before after : State) (words from slot
 next_if [] fields before after words from slots e f r = (slots, r)
 next_if (z ∷ zs) fields before after words from slots e f r =
     let first : FirstZero after z zs = first_zero after z zs e r.ready in
-    let w = next_work fields after (z ∷ zs) e f r.ready in (
+    let w = next_work fields false after (z ∷ zs) e f r.ready in (
       slots ++ z ∷ [],
       record {
         places = ap (λ ps. ps ++ places_from fields z 0) (sym (append-nil from) ∙ r.places) ∙ flat_map_more (λ slot. places_from fields slot 0) [] slots z;

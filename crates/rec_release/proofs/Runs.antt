@@ -1,5 +1,5 @@
 -- Whole releases, word by word.
-use Rattle.std.proofs.Common.{◌≡◌, ℕ, ◌+◌, ◌<◌, Option, None, Some, IfSome, List, [], ◌∷◌, ◌++◌, length, take, refl, arith, sym, ◌∙◌, ap, subst, inl, inr, append_assoc}
+use Rattle.std.proofs.Common.{◌≡◌, ℕ, ◌+◌, ◌<◌, Bool, Option, None, Some, IfSome, List, [], ◌∷◌, ◌++◌, length, take, refl, arith, sym, ◌∙◌, ap, subst, inl, inr, append_assoc}
 use Rattle.std.proofs.lemmas.List.{append-nil}
 use Rattle.std.proofs.lemmas.Bool.{cases_lt}
 use Rattle.rec_word.specs.Place.{place_of}
@@ -7,21 +7,22 @@ use Rattle.rec_word.specs.Word.{target_of}
 use Rattle.rec_counts.specs.Counts.{State}
 use Rattle.rec_counts.proofs.Times.{times-nil}
 use Rattle.rec_release.specs.declared.at.At.{At}
-use Rattle.rec_release.specs.Release.{Work, taken_off, emptied, first_of, without_first, with_next, took_of, started_of, IsReady}
+use Rattle.rec_release.specs.Release.{Work, emptied, first_of, without_first, with_next, took_of, started_of, IsReady}
 use Rattle.rec_release.specs.Released.{Released, HasReleased, places_from, taken_in, exchanged}
+use Rattle.rec_release.specs.TakenOff.{taken_off}
 use Rattle.rec_release.proofs.Keeping.{took_on, took_last, took_none}
 use Rattle.rec_release.proofs.Moves.{taken_on, emptied_on, next_on}
 use Rattle.rec_release.proofs.Places.{places_step, leading-nil}
 
 -- a release with this field due
-abbrev pub at_work : ℕ → Option At → State → Work
-at_work fields at s = record { machine = record { fields = fields; at = at }; counts = s }
+abbrev pub at_work : (fields : ℕ) (lowers : Bool) → Option At → State → Work
+at_work fields lowers at s = record { machine = record { fields = fields; at = at; lowers = lowers }; counts = s }
 
 -- what a release came to, as its parts
-pub record Came (fields : ℕ) (before : State) (w : Work) (words from : List ℕ) : Type 0 where
+pub record Came (fields : ℕ) (lowers : Bool) (before : State) (w : Work) (words from : List ℕ) : Type 0 where
   pub at : Option At
   pub counts : State
-  pub is : w ≡ at_work fields at counts
+  pub is : w ≡ at_work fields lowers at counts
   pub due : IfSome at (λ (a : At). a.field < fields)
   pub slots : List ℕ
   pub law : Released fields before at counts words from slots
@@ -31,8 +32,8 @@ first_due [] fields f = tt
 first_due (z ∷ zs) fields f = f
 
 -- a release that has begun
-pub came_first : (fields : ℕ) (before : State) → 0 < fields → IsReady before → Came fields before (with_next fields before) [] []
-came_first fields before f k =
+pub came_first : (fields : ℕ) (lowers : Bool) (before : State) → 0 < fields → IsReady before → Came fields lowers before (with_next fields lowers before) [] []
+came_first fields lowers before f k =
     let r : Released fields before None before [] [] [] = record {
       places = refl;
       each = refl;
@@ -49,20 +50,20 @@ came_first fields before f k =
     record { at = first_of before.zeros; counts = without_first before.zeros before; is = refl; due = first_due before.zeros fields f; slots = n.0; law = n.1 }
 
 -- one word more
-pub came_more : (fields : ℕ) (before : State) (a : At) (after : State) (words from slots : List ℕ) (word : ℕ) → a.field < fields → Released fields before (Some a) after words from slots →
-    Came fields before (took_of (at_work fields (Some a) after) word) (words ++ word ∷ []) (from ++ place_of a.slot a.field fields ∷ [])
-came_more fields before a after words from slots word l r =
+pub came_more : (fields : ℕ) (lowers : Bool) (before : State) (a : At) (after : State) (words from slots : List ℕ) (word : ℕ) → a.field < fields → Released fields before (Some a) after words from slots →
+    Came fields lowers before (took_of (at_work fields lowers (Some a) after) word) (words ++ word ∷ []) (from ++ place_of a.slot a.field fields ∷ [])
+came_more fields lowers before a after words from slots word l r =
     let b : At = record { slot = a.slot; field = a.field + 1 } in
-    let s : State = taken_off after (target_of word) in
-    let t : Released fields before (Some b) s (words ++ word ∷ []) (from ++ place_of a.slot a.field fields ∷ []) slots = taken_on fields before a after words from slots word l r in
+    let s : State = taken_off lowers after (target_of word) in
+    let t : Released fields before (Some b) s (words ++ word ∷ []) (from ++ place_of a.slot a.field fields ∷ []) slots = taken_on lowers fields before a after words from slots word l r in
     elim (cases_lt (a.field + 1) fields) [
-      | inl more ↦ record { at = Some b; counts = s; is = took_on fields a after word more; due = more; slots = slots; law = t }
+      | inl more ↦ record { at = Some b; counts = s; is = took_on fields lowers a after word more; due = more; slots = slots; law = t }
       | inr last ↦ let e : Released fields before None (emptied s a.slot) (words ++ word ∷ []) (from ++ place_of a.slot a.field fields ∷ []) slots = emptied_on fields before b s _ _ slots (omega (arith, l, last)) t in
           let n = next_on fields before (emptied s a.slot) _ _ slots (omega (arith, l)) e in
           record {
             at = first_of (emptied s a.slot).zeros;
             counts = without_first (emptied s a.slot).zeros (emptied s a.slot);
-            is = took_last fields a after word last;
+            is = took_last fields lowers a after word last;
             due = first_due (emptied s a.slot).zeros fields (omega (arith, l));
             slots = n.0;
             law = n.1;
@@ -70,15 +71,15 @@ came_more fields before a after words from slots word l r =
     ]
 
 -- where the work is done, no word is taken in
-idle_exchanges : (fields : ℕ) (s : State) (words : List ℕ) → exchanged (at_work fields None s) words ≡ []
+idle_exchanges : (fields : ℕ) (lowers : Bool) (s : State) (words : List ℕ) → exchanged (at_work fields lowers None s) words ≡ []
 unfolding exchanged
-idle_exchanges fields s [] = refl
-idle_exchanges fields s (word ∷ words) = ap (λ w. exchanged w words) (took_none fields s word) ∙ idle_exchanges fields s words
+idle_exchanges fields lowers s [] = refl
+idle_exchanges fields lowers s (word ∷ words) = ap (λ w. exchanged w words) (took_none fields lowers s word) ∙ idle_exchanges fields lowers s words
 
-idle_stays : (fields : ℕ) (s : State) (words : List ℕ) → taken_in (at_work fields None s) words ≡ at_work fields None s
+idle_stays : (fields : ℕ) (lowers : Bool) (s : State) (words : List ℕ) → taken_in (at_work fields lowers None s) words ≡ at_work fields lowers None s
 unfolding taken_in
-idle_stays fields s [] = refl
-idle_stays fields s (word ∷ words) = ap (λ w. taken_in w words) (took_none fields s word) ∙ idle_stays fields s words
+idle_stays fields lowers s [] = refl
+idle_stays fields lowers s (word ∷ words) = ap (λ w. taken_in w words) (took_none fields lowers s word) ∙ idle_stays fields lowers s words
 
 taken_more : (w : Work) (word : ℕ) (words : List ℕ) → taken_in w (word ∷ words) ≡ taken_in (took_of w word) words
 unfolding taken_in
@@ -92,31 +93,31 @@ exchanged_none : (w : Work) → exchanged w [] ≡ []
 unfolding exchanged
 exchanged_none w = refl
 
-exchanged_more : (fields : ℕ) (a : At) (s : State) (word : ℕ) (words : List ℕ) → a.field < fields → exchanged (at_work fields (Some a) s) (word ∷ words) ≡ place_of a.slot a.field fields ∷ exchanged (took_of (at_work fields (Some a) s) word) words
+exchanged_more : (fields : ℕ) (lowers : Bool) (a : At) (s : State) (word : ℕ) (words : List ℕ) → a.field < fields → exchanged (at_work fields lowers (Some a) s) (word ∷ words) ≡ place_of a.slot a.field fields ∷ exchanged (took_of (at_work fields lowers (Some a) s) word) words
 unfolding exchanged
-exchanged_more fields a s word words l = ap (λ ps. take 1 ps ++ exchanged (took_of (at_work fields (Some a) s) word) words) (places_step fields a.slot a.field l)
+exchanged_more fields lowers a s word words l = ap (λ ps. take 1 ps ++ exchanged (took_of (at_work fields lowers (Some a) s) word) words) (places_step fields a.slot a.field l)
 
 -- the same history, told otherwise
-retold : {fields : ℕ} {before : State} {w v : Work} {words words' from from' : List ℕ} → v ≡ w → words' ≡ words → from' ≡ from → Came fields before w words from → Came fields before v words' from'
-retold {fields = fields} {before = before} {w = w} {v = v} {words = words} {words' = words'} {from = from} {from' = from'} e f g c =
-    subst (λ u. Came fields before u words' from') (sym e) (subst (λ ws. Came fields before w ws from') (sym f) (subst (λ ps. Came fields before w words ps) (sym g) c))
+retold : {fields : ℕ} {lowers : Bool} {before : State} {w v : Work} {words words' from from' : List ℕ} → v ≡ w → words' ≡ words → from' ≡ from → Came fields lowers before w words from → Came fields lowers before v words' from'
+retold {fields = fields} {lowers = lowers} {before = before} {w = w} {v = v} {words = words} {words' = words'} {from = from} {from' = from'} e f g c =
+    subst (λ u. Came fields lowers before u words' from') (sym e) (subst (λ ws. Came fields lowers before w ws from') (sym f) (subst (λ ps. Came fields lowers before w words ps) (sym g) c))
 
-pub came_by : (more : List ℕ) (fields : ℕ) (before : State) (w : Work) (words from : List ℕ) → Came fields before w words from → Came fields before (taken_in w more) (words ++ take (length (exchanged w more)) more) (from ++ exchanged w more)
-came_by [] fields before w words from c =
+pub came_by : (more : List ℕ) (fields : ℕ) (lowers : Bool) (before : State) (w : Work) (words from : List ℕ) → Came fields lowers before w words from → Came fields lowers before (taken_in w more) (words ++ take (length (exchanged w more)) more) (from ++ exchanged w more)
+came_by [] fields lowers before w words from c =
     retold (taken_none w) (ap (λ ps. words ++ take (length ps) []) (exchanged_none w) ∙ append-nil words) (ap (λ ps. from ++ ps) (exchanged_none w) ∙ append-nil from) c
-came_by (word ∷ more) fields before w words from c = at (came_by more fields before) c.at c.is c.due c.law
+came_by (word ∷ more) fields lowers before w words from c = at (came_by more fields lowers before) c.at c.is c.due c.law
   where
-    at : ((v : Work) (ws ps : List ℕ) → Came fields before v ws ps → Came fields before (taken_in v more) (ws ++ take (length (exchanged v more)) more) (ps ++ exchanged v more)) →
-        (x : Option At) → w ≡ at_work fields x c.counts → IfSome x (λ (a : At). a.field < fields) → Released fields before x c.counts words from c.slots →
-        Came fields before (taken_in w (word ∷ more)) (words ++ take (length (exchanged w (word ∷ more))) (word ∷ more)) (from ++ exchanged w (word ∷ more))
+    at : ((v : Work) (ws ps : List ℕ) → Came fields lowers before v ws ps → Came fields lowers before (taken_in v more) (ws ++ take (length (exchanged v more)) more) (ps ++ exchanged v more)) →
+        (x : Option At) → w ≡ at_work fields lowers x c.counts → IfSome x (λ (a : At). a.field < fields) → Released fields before x c.counts words from c.slots →
+        Came fields lowers before (taken_in w (word ∷ more)) (words ++ take (length (exchanged w (word ∷ more))) (word ∷ more)) (from ++ exchanged w (word ∷ more))
     at go None e d r =
-        let n : exchanged w (word ∷ more) ≡ [] = ap (λ v. exchanged v (word ∷ more)) e ∙ idle_exchanges fields c.counts (word ∷ more) in
-        retold (ap (λ v. taken_in v (word ∷ more)) e ∙ idle_stays fields c.counts (word ∷ more) ∙ sym e) (ap (λ ps. words ++ take (length ps) (word ∷ more)) n ∙ append-nil words) (ap (λ ps. from ++ ps) n ∙ append-nil from) c
+        let n : exchanged w (word ∷ more) ≡ [] = ap (λ v. exchanged v (word ∷ more)) e ∙ idle_exchanges fields lowers c.counts (word ∷ more) in
+        retold (ap (λ v. taken_in v (word ∷ more)) e ∙ idle_stays fields lowers c.counts (word ∷ more) ∙ sym e) (ap (λ ps. words ++ take (length ps) (word ∷ more)) n ∙ append-nil words) (ap (λ ps. from ++ ps) n ∙ append-nil from) c
     at go (Some a) e d r =
-        let v : Work = at_work fields (Some a) c.counts in
+        let v : Work = at_work fields lowers (Some a) c.counts in
         let p : ℕ = place_of a.slot a.field fields in
-        let x : exchanged w (word ∷ more) ≡ p ∷ exchanged (took_of v word) more = ap (λ u. exchanged u (word ∷ more)) e ∙ exchanged_more fields a c.counts word more d in
-        let i = go (took_of v word) (words ++ word ∷ []) (from ++ p ∷ []) (came_more fields before a c.counts words from c.slots word d r) in
+        let x : exchanged w (word ∷ more) ≡ p ∷ exchanged (took_of v word) more = ap (λ u. exchanged u (word ∷ more)) e ∙ exchanged_more fields lowers a c.counts word more d in
+        let i = go (took_of v word) (words ++ word ∷ []) (from ++ p ∷ []) (came_more fields lowers before a c.counts words from c.slots word d r) in
         retold
         (ap (λ u. taken_in u (word ∷ more)) e ∙ taken_more v word more)
         (ap (λ ps. words ++ take (length ps) (word ∷ more)) x ∙ sym (append_assoc words (word ∷ []) (take (length (exchanged (took_of v word) more)) more)))
@@ -124,21 +125,21 @@ came_by (word ∷ more) fields before w words from c = at (came_by more fields b
         i
 
 -- a whole release
-pub whole_release : (fields : ℕ) (before : State) (words : List ℕ) → 0 < fields → IsReady before → HasReleased fields before words
+pub whole_release : (fields : ℕ) (lowers : Bool) (before : State) (words : List ℕ) → 0 < fields → IsReady before → HasReleased fields lowers before words
 unfolding started_of
-whole_release fields before words f k =
-    let w : Work = with_next fields before in
-    let c : Came fields before (taken_in w words) (take (length (exchanged w words)) words) (exchanged w words) = came_by words fields before w [] [] (came_first fields before f k) in
+whole_release fields lowers before words f k =
+    let w : Work = with_next fields lowers before in
+    let c : Came fields lowers before (taken_in w words) (take (length (exchanged w words)) words) (exchanged w words) = came_by words fields lowers before w [] [] (came_first fields lowers before f k) in
     (c.slots, subst (λ (v : Work). Released fields before v.machine.at v.counts (take (length (exchanged w words)) words) (exchanged w words) c.slots) (sym c.is) c.law)
 
 -- a release that began, as its call tells
-pub begun_whole : (fields : ℕ) (before : State) → 0 < fields → IsReady before → (slots : List ℕ) × Released fields before (first_of before.zeros) (without_first before.zeros before) [] [] slots
-begun_whole fields before f k = let c = came_first fields before f k in (c.slots, subst (λ (v : Work). Released fields before v.machine.at v.counts [] [] c.slots) (sym c.is) c.law)
+pub begun_whole : (fields : ℕ) (lowers : Bool) (before : State) → 0 < fields → IsReady before → (slots : List ℕ) × Released fields before (first_of before.zeros) (without_first before.zeros before) [] [] slots
+begun_whole fields lowers before f k = let c = came_first fields lowers before f k in (c.slots, subst (λ (v : Work). Released fields before v.machine.at v.counts [] [] c.slots) (sym c.is) c.law)
 
 -- one word more, as its call tells
-pub more_whole : (fields : ℕ) (before : State) (a : At) (after : State) (words from slots : List ℕ) (word : ℕ) (v : Work) → a.field < fields → v ≡ took_of (at_work fields (Some a) after) word → Released fields before (Some a) after words from slots →
+pub more_whole : (fields : ℕ) (lowers : Bool) (before : State) (a : At) (after : State) (words from slots : List ℕ) (word : ℕ) (v : Work) → a.field < fields → v ≡ took_of (at_work fields lowers (Some a) after) word → Released fields before (Some a) after words from slots →
     (more : List ℕ) × Released fields before v.machine.at v.counts (words ++ word ∷ []) (from ++ take 1 (places_from fields a.slot a.field)) more
-more_whole fields before a after words from slots word v l e r =
-    let c = came_more fields before a after words from slots word l r in
+more_whole fields lowers before a after words from slots word v l e r =
+    let c = came_more fields lowers before a after words from slots word l r in
     let p : take 1 (places_from fields a.slot a.field) ≡ place_of a.slot a.field fields ∷ [] = ap (take 1) (places_step fields a.slot a.field l) in
     (c.slots, rw (p, e) (subst (λ (u : Work). Released fields before u.machine.at u.counts (words ++ word ∷ []) (from ++ place_of a.slot a.field fields ∷ []) c.slots) (sym c.is) c.law))

@@ -4,15 +4,15 @@ use Rattle.rec_word.specs.Place.{place_of}
 use Rattle.rec_word.specs.Word.{target_of}
 use Rattle.rec_word.specs.declared.op.Op.{Op}
 use Rattle.rec_word.specs.declared.op.Op.TheVariants.{ClearField}
-use Rattle.rec_counts.specs.declared.colour.Colour.{Colour}
-use Rattle.rec_counts.specs.declared.colour.Colour.TheVariants.{Black, Purple, Gray, White, Orange}
+use Rattle.rec_counts.specs.declared.colour.Colour.TheVariants.{Black, Orange}
 use Rattle.rec_counts.specs.declared.slot.Slot.{Slot}
-use Rattle.rec_counts.specs.Counts.{State, slot_at, with_slot, decremented}
+use Rattle.rec_counts.specs.Counts.{State, slot_at}
 use Rattle.rec_counts.specs.Groups.{last_set, earlier_sets}
 use Rattle.rec_counts.specs.Lists.{times}
-use Rattle.rec_counts.specs.Slot.{is_in, lowered, out_of_set}
+use Rattle.rec_counts.specs.Slot.{is_in, out_of_set}
 use Rattle.rec_release.specs.declared.member.Member.{Member}
 use Rattle.rec_release.specs.Release.{IsReady}
+use Rattle.rec_release.specs.TakenOff.{taken_off}
 
 -- how many fields a slot has, and the field that is exchanged next
 pub record Machine : Type 0 where
@@ -50,23 +50,6 @@ abbrev pub first_member : Option ℕ → Option Member
 first_member None = None
 first_member (Some x) = Some (record { index = 0; slot = x; field = 0 })
 
-abbrev pub is_orange : Colour → Bool
-is_orange Black = false
-is_orange Purple = false
-is_orange Gray = false
-is_orange White = false
-is_orange Orange = true
-
-abbrev pub down_if : (orange : Bool) → State → ℕ → State
-down_if true s x = with_slot s x (lowered (slot_at s x))
-down_if false s x = decremented s x
-
--- the reference that came out is counted no more: an orange target is lowered, any other is decremented; null counts for
--- nothing
-abbrev pub taken_off : State → Option ℕ → State
-taken_off s None = s
-taken_off s (Some x) = down_if (is_orange (slot_at s x).colour) s x
-
 -- the field that comes next, with the counts then
 pub record Next : Type 0 where
   pub at : Option Member
@@ -97,7 +80,7 @@ work_of fields n = record { machine = record { fields = fields; at = n.at }; cou
 
 abbrev pub took_at : Work → (word : ℕ) → Option Member → Work
 took_at w word None = w
-took_at w word (Some a) = work_of w.machine.fields (next_field w.machine.fields (taken_off w.counts (target_of word)) a)
+took_at w word (Some a) = work_of w.machine.fields (next_field w.machine.fields (taken_off true w.counts (target_of word)) a)
 
 -- what is learnt
 unfoldable pub took_of : Work → (word : ℕ) → Work

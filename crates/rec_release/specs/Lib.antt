@@ -3,3 +3,4 @@ pub mod Freed
 pub mod Release
 pub mod Released
 pub mod Sweep
+pub mod TakenOff

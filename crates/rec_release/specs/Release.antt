@@ -4,15 +4,17 @@ use Rattle.rec_word.specs.Place.{place_of}
 use Rattle.rec_word.specs.Word.{target_of}
 use Rattle.rec_word.specs.declared.op.Op.{Op}
 use Rattle.rec_word.specs.declared.op.Op.TheVariants.{ClearField}
-use Rattle.rec_counts.specs.Counts.{State, slot_at, with_slot, decremented}
+use Rattle.rec_counts.specs.Counts.{State, slot_at, with_slot}
 use Rattle.rec_counts.specs.Lists.{times}
 use Rattle.rec_counts.specs.Rest.{AreZeros}
 use Rattle.rec_release.specs.declared.at.At.{At}
+use Rattle.rec_release.specs.TakenOff.{taken_off}
 
--- how many fields a slot has, and the field that is exchanged next
+-- how many fields a slot has, the field that is exchanged next, and whether an orange target is lowered
 pub record Machine : Type 0 where
   pub fields : ℕ
   pub at : Option At
+  pub lowers : Bool
 
 -- a release, with the counts that it works on
 pub record Work : Type 0 where
@@ -26,11 +28,6 @@ op_at fields (Some a) = Some (ClearField (place_of a.slot a.field fields))
 
 unfoldable pub next_of : Machine → Option Op
 next_of m = op_at m.fields m.at
-
--- the reference that came out is counted no more; null counts for nothing
-abbrev pub taken_off : State → Option ℕ → State
-taken_off s None = s
-taken_off s (Some x) = decremented s x
 
 abbrev pub listed_if : Bool → State → ℕ → State
 listed_if true s x = s
@@ -49,25 +46,25 @@ without_first [] s = s
 without_first (z ∷ zs) s = record (with_slot s z (record (slot_at s z) { released = true })) { zeros = zs }
 
 -- the first of the zeros, if there is one, leaves them and is released, and its first field comes next
-abbrev pub with_next : ℕ → State → Work
-with_next fields s = record { machine = record { fields = fields; at = first_of s.zeros }; counts = without_first s.zeros s }
+abbrev pub with_next : (fields : ℕ) (lowers : Bool) → State → Work
+with_next fields lowers s = record { machine = record { fields = fields; at = first_of s.zeros; lowers = lowers }; counts = without_first s.zeros s }
 
 -- the next field of the same slot comes next; after its last one the slot is emptied, and the next zero is released
-abbrev pub gone_on : ℕ → At → State → Work
-gone_on fields a s =
-    if nat_lt (a.field + 1) fields then record { machine = record { fields = fields; at = Some (record { slot = a.slot; field = a.field + 1 }) }; counts = s } else with_next fields (emptied s a.slot)
+abbrev pub gone_on : (fields : ℕ) (lowers : Bool) → At → State → Work
+gone_on fields lowers a s =
+    if nat_lt (a.field + 1) fields then record { machine = record { fields = fields; at = Some (record { slot = a.slot; field = a.field + 1 }); lowers = lowers }; counts = s } else with_next fields lowers (emptied s a.slot)
 
 abbrev pub took_at : Work → (word : ℕ) → Option At → Work
 took_at w word None = w
-took_at w word (Some a) = gone_on w.machine.fields a (taken_off w.counts (target_of word))
+took_at w word (Some a) = gone_on w.machine.fields w.machine.lowers a (taken_off w.machine.lowers w.counts (target_of word))
 
 -- what is learnt
 unfoldable pub took_of : Work → (word : ℕ) → Work
 took_of w word = took_at w word w.machine.at
 
--- a release begins
-unfoldable pub started_of : Machine → State → Work
-started_of m s = with_next m.fields s
+-- a release begins, which lowers orange targets or decrements them
+unfoldable pub started_of : Machine → (lowers : Bool) → State → Work
+started_of m lowers s = with_next m.fields lowers s
 
 -- the zeros are zeros, and what the free list has is released
 pub record IsReady (s : State) : Type 0 where

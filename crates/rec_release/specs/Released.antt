@@ -62,8 +62,8 @@ pub record Released (fields : ℕ) (before : State) (at : Option At) (after : St
   pub ready : IsReady after
 
 -- what a release of so many fields a slot made of the counts, while it took in these words as long as there was work
-abbrev pub HasReleased : (fields : ℕ) (before : State) (words : List ℕ) → Type 0
-HasReleased fields before words =
-    let begun : Work = started_of (record { fields = fields; at = None }) before in
+abbrev pub HasReleased : (fields : ℕ) (lowers : Bool) (before : State) (words : List ℕ) → Type 0
+HasReleased fields lowers before words =
+    let begun : Work = started_of (record { fields = fields; at = None; lowers = false }) lowers before in
     let places : List ℕ = exchanged begun words in
     (slots : List ℕ) × Released fields before (taken_in begun words).machine.at (taken_in begun words).counts (take (length places) words) places slots

@@ -1,12 +1,14 @@
 ghost use Rattle.std.specs.Prelude.{◌≡◌, ◌+◌, ◌<◌, ◌↔◌, ◌++◌, ℕ, List, [], None, length, true, IfSome, IsNone, IsSome};
 ghost use Rattle.rec_word.specs.Word.{target_of};
 ghost use Rattle.rec_counts.specs.Counts.{State, slot_at, with_slot};
+ghost use Rattle.rec_counts.specs.Groups.{earlier_sets, last_set};
 ghost use Rattle.rec_counts.specs.Lists.{times};
-ghost use Rattle.rec_counts.specs.Rest.{AreZeros};
-ghost use Rattle.rec_release.specs.CycleFree.{IsAtWork, IsFreeable, IsHeld, dead_if, first_member, given_up, listed, next_member, next_of, started_of, taken_off, took_of};
+ghost use Rattle.rec_release.specs.CycleFree.{IsAtWork, IsFreeable, IsHeld, dead_if, first_member, given_up, listed, next_member, next_of, started_of, took_of};
 ghost use Rattle.rec_release.specs.Freed.{FreedTo, Out, out_at};
+ghost use Rattle.rec_release.specs.TakenOff.{AllZerosButOrange, IsApart, KeepsOrange};
 
 use crate::member::Member;
+use crate::take_off::take_off;
 use rec_counts::{Colour, Counts};
 use rec_word::{Op, place, target};
 use std::marker::Model;
@@ -50,6 +52,12 @@ impl CycleFree {
         ensures started { record { machine = self.new; counts = counts.new } ≡ started_of self.old counts.old }
         ensures kept { IsAtWork self.new counts.new }
         ensures slots { length counts.new.slots ≡ length counts.old.slots }
+        ensures sets { counts.new.sets ≡ earlier_sets counts.old.sets }
+        ensures all_but_orange { AllZerosButOrange counts.old → AllZerosButOrange counts.new }
+        ensures apart { IsApart counts.old → IsApart counts.new }
+
+        // The members are Black.
+        ensures orange { KeepsOrange (last_set counts.old.sets) counts.old counts.new }
 
         // Nothing is exchanged yet.
         ensures whole { FreedTo self.new.fields counts.old self.new.at counts.new [] }
@@ -75,12 +83,15 @@ impl CycleFree {
     pub fn took(&mut self, counts: &mut Counts, word: u64)
         requires busy { IsSome (next_of self.old) }
         requires kept { IsAtWork self.old counts.old }
-        requires in_range { IfSome (target_of word) (λ slot. slot < length counts.old.slots) }
         requires counted { IfSome (target_of word) (λ slot. 0 < (slot_at counts.old slot).count) }
 
         ensures took { record { machine = self.new; counts = counts.new } ≡ took_of (record { machine = self.old; counts = counts.old }) word }
         ensures kept { IsAtWork self.new counts.new }
         ensures slots { length counts.new.slots ≡ length counts.old.slots }
+        ensures sets { counts.new.sets ≡ counts.old.sets }
+        ensures all_but_orange { AllZerosButOrange counts.old → AllZerosButOrange counts.new }
+        ensures apart { IsApart counts.old → IsApart counts.new }
+        ensures orange { KeepsOrange [] counts.old counts.new }
 
         // One word more came out of one place more, whatever this freeing took in before.
         ensures whole { (before : State) (outs : List Out) → FreedTo self.old.fields before self.old.at counts.old outs → FreedTo self.new.fields before self.new.at counts.new (outs ++ out_at self.old.fields self.old.at word) }
@@ -88,7 +99,7 @@ impl CycleFree {
         let Some(at) = self.at else {
             return;
         };
-        count_down(counts, target(word));
+        take_off(counts, target(word), true);
         if at.field + 1 < self.fields {
             self.at = Some(Member {
                 index: at.index,
@@ -133,22 +144,6 @@ fn give_up_slot(counts: &mut Counts, slot: u16)
 {
     counts.release(slot);
     counts.set_colour(slot, Colour::Black);
-}
-
-// The reference that came out is counted no more.
-fn count_down(counts: &mut Counts, target: Option<u16>)
-    requires in_range { IfSome target (λ slot. slot < length counts.old.slots) }
-    requires counted { IfSome target (λ slot. 0 < (slot_at counts.old slot).count) }
-    requires zeros { AreZeros counts.old }
-    ensures { counts.new ≡ taken_off counts.old target }
-{
-    let Some(slot) = target else {
-        return;
-    };
-    match counts.colour(slot) {
-        Colour::Orange => counts.lower(slot),
-        _ => counts.decrement(slot),
-    }
 }
 
 // The member behind this one is at work; after the last one all go to the free list.

@@ -1,6 +1,6 @@
 //! What follows from the definitions alone, each law as the contract of a function that does nothing.
 
-ghost use Rattle.std.specs.Prelude.{ℕ, ◌<◌, List, length};
+ghost use Rattle.std.specs.Prelude.{ℕ, ◌<◌, Bool, List, length};
 ghost use Rattle.rec_counts.specs.Counts.{State, IsKept};
 ghost use Rattle.rec_release.specs.CycleFree.{IsFreeable};
 ghost use Rattle.rec_release.specs.Freed.{HasFreed};
@@ -9,11 +9,11 @@ ghost use Rattle.rec_release.specs.Released.{HasReleased};
 ghost use Rattle.rec_counts.specs.Lists.{EachOnce};
 ghost use Rattle.rec_release.specs.Sweep.{HasSwept};
 
-/// Whatever words it is given, a release exchanges each field of each slot that it releases once and in order, takes one
-/// off the count of each target that came out, releases none but zeros, and lists an emptied slot exactly where it is in
-/// no buffer.
+/// Whatever words it is given, and whether it lowers orange targets or not, a release exchanges each field of each slot that
+/// it releases once and in order, takes one off the count of each target that came out, releases none but zeros, and lists
+/// an emptied slot exactly where it is in no buffer.
 pub fn release_is_whole()
-    ensures { (fields : ℕ) (before : State) (words : List ℕ) → 0 < fields → IsReady before → HasReleased fields before words }
+    ensures { (fields : ℕ) (lowers : Bool) (before : State) (words : List ℕ) → 0 < fields → IsReady before → HasReleased fields lowers before words }
 {}
 
 /// A sweep frees the headers of the free list from its front, one for each word that it is given. Each swept slot has one

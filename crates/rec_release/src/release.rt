@@ -1,12 +1,14 @@
-ghost use Rattle.std.specs.Prelude.{◌≡◌, ◌<◌, ◌↔◌, ◌++◌, ◌∷◌, ℕ, List, [], None, length, IfSome, IsNone, IsSome};
+ghost use Rattle.std.specs.Prelude.{◌≡◌, ◌<◌, ◌↔◌, ◌++◌, ◌∷◌, ℕ, List, [], None, false, length, true, IfSome, IsNone, IsSome};
 ghost use Rattle.rec_word.specs.Word.{target_of};
 ghost use Rattle.rec_counts.specs.Counts.{State, slot_at};
 ghost use Rattle.rec_counts.specs.Lists.{times};
-ghost use Rattle.rec_counts.specs.Rest.{AllZeros, AreZeros};
-ghost use Rattle.rec_release.specs.Release.{IsAtWork, IsReady, emptied, first_of, next_of, started_of, taken_off, took_of, without_first};
+ghost use Rattle.rec_counts.specs.Rest.{AllZeros};
+ghost use Rattle.rec_release.specs.Release.{IsAtWork, IsReady, emptied, first_of, next_of, started_of, took_of, without_first};
 ghost use Rattle.rec_release.specs.Released.{Released, place_due};
+ghost use Rattle.rec_release.specs.TakenOff.{AllZerosButOrange, IsApart, KeepsOrange};
 
 use crate::at::At;
+use crate::take_off::take_off;
 use rec_counts::Counts;
 use rec_word::{Op, place, target};
 use std::marker::Model;
@@ -16,6 +18,7 @@ use std::marker::Model;
 pub struct Release {
     fields: u8,
     at: Option<At>,
+    lowers: bool,
 }
 
 impl Model for Release {
@@ -25,7 +28,7 @@ impl Model for Release {
 
     ghost Value = { Machine };
 
-    ghost view = { λ release. record { fields = release.fields; at = release.at } };
+    ghost view = { λ release. record { fields = release.fields; at = release.at; lowers = release.lowers } };
 
     ghost invariant = { λ release. (0 < release.fields) × IfSome release.at (λ (a : At). a.field < release.fields) };
 }
@@ -35,26 +38,36 @@ impl Release {
     #[tactic(auto, unfolding(crate::specs::Release::next_of))]
     pub fn idle(fields: u8) -> Release
         requires { 0 < fields }
-        ensures idle { result ≡ record { fields = fields; at = None } }
+        ensures idle { result ≡ record { fields = fields; at = None; lowers = false } }
         ensures none { IsNone (next_of result) }
     {
-        Release { fields, at: None }
+        Release {
+            fields,
+            at: None,
+            lowers: false,
+        }
     }
 
-    /// Begins to release the zeros: the first of them is released.
-    pub fn start(&mut self, counts: &mut Counts)
+    /// Begins to release the zeros: the first of them is released. This release lowers orange targets, or decrements them.
+    pub fn start(&mut self, counts: &mut Counts, lowers: bool)
         requires idle { IsNone (next_of self.old) }
         requires ready { IsReady counts.old }
 
-        ensures started { record { machine = self.new; counts = counts.new } ≡ started_of self.old counts.old }
+        ensures started { record { machine = self.new; counts = counts.new } ≡ started_of self.old lowers counts.old }
         ensures kept { IsAtWork self.new counts.new }
         ensures slots { length counts.new.slots ≡ length counts.old.slots }
+        ensures lowers { self.new.lowers ≡ lowers }
+        ensures sets { counts.new.sets ≡ counts.old.sets }
         ensures done { IsNone (next_of self.new) → counts.new.zeros ≡ [] }
         ensures all_zeros { AllZeros counts.old → AllZeros counts.new }
+        ensures all_but_orange { AllZerosButOrange counts.old → AllZerosButOrange counts.new }
+        ensures apart { IsApart counts.old → IsApart counts.new }
+        ensures orange { KeepsOrange [] counts.old counts.new }
 
         // Nothing is exchanged yet.
         ensures whole { (slots : List ℕ) × Released self.new.fields counts.old self.new.at counts.new [] [] slots }
     {
+        self.lowers = lowers;
         self.at = release_next(counts);
     }
 
@@ -68,7 +81,8 @@ impl Release {
         Some(Op::ClearField(place(at.slot, at.field, self.fields)))
     }
 
-    /// Learns the word that came out of the field: its target has one reference less.
+    /// Learns the word that came out of the field: its target has one reference less. Where this release lowers, an orange
+    /// target is lowered, and any other is decremented.
     pub fn took(&mut self, counts: &mut Counts, word: u64)
         requires busy { IsSome (next_of self.old) }
         requires kept { IsAtWork self.old counts.old }
@@ -77,8 +91,13 @@ impl Release {
         ensures took { record { machine = self.new; counts = counts.new } ≡ took_of (record { machine = self.old; counts = counts.old }) word }
         ensures kept { IsAtWork self.new counts.new }
         ensures slots { length counts.new.slots ≡ length counts.old.slots }
+        ensures lowers { self.new.lowers ≡ self.old.lowers }
+        ensures sets { counts.new.sets ≡ counts.old.sets }
         ensures done { IsNone (next_of self.new) → counts.new.zeros ≡ [] }
-        ensures all_zeros { AllZeros counts.old → AllZeros counts.new }
+        ensures all_zeros { self.new.lowers ≡ false → AllZeros counts.old → AllZeros counts.new }
+        ensures all_but_orange { AllZerosButOrange counts.old → AllZerosButOrange counts.new }
+        ensures apart { IsApart counts.old → IsApart counts.new }
+        ensures orange { self.new.lowers ≡ true → KeepsOrange [] counts.old counts.new }
 
         // One word more came out of one place more, whatever this release took in before.
         ensures whole { (before : State) (words from slots : List ℕ) → Released self.old.fields before self.old.at counts.old words from slots → (more : List ℕ) × Released self.new.fields before self.new.at counts.new (words ++ word ∷ []) (from ++ place_due self.old) more }
@@ -86,7 +105,7 @@ impl Release {
         let Some(at) = self.at else {
             return;
         };
-        take_off(counts, target(word));
+        take_off(counts, target(word), self.lowers);
         if at.field + 1 < self.fields {
             self.at = Some(At {
                 slot: at.slot,
@@ -96,17 +115,6 @@ impl Release {
             empty(counts, at.slot);
             self.at = release_next(counts);
         }
-    }
-}
-
-// The reference that came out is counted no more.
-pub(crate) fn take_off(counts: &mut Counts, target: Option<u16>)
-    requires counted { IfSome target (λ slot. 0 < (slot_at counts.old slot).count) }
-    requires zeros { AreZeros counts.old }
-    ensures { counts.new ≡ taken_off counts.old target }
-{
-    if let Some(slot) = target {
-        counts.decrement(slot);
     }
 }
 

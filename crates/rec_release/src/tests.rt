@@ -9,7 +9,7 @@ ghost use Rattle.rec_release.specs.CycleFree.{IsAtWork as IsFreeing, IsFreeable,
 ghost use Rattle.rec_release.specs.Release.{IsAtWork, IsReady};
 ghost use Rattle.rec_release.specs.Sweep.{AreUnbuffered};
 
-use crate::release::take_off;
+use crate::take_off::take_off;
 use crate::{CycleFree, Release, Sweep};
 use rec_counts::{Colour, Counts};
 use rec_word::{Op, target};
@@ -30,7 +30,7 @@ fn releases_a_chain(rt: HostRuntime) -> Result<(), Fail> {
     down(&rt, &mut counts, 0);
     let mut release = Release::idle(1);
     assert_eq!(rt; release.next(), None);
-    release.start(&mut counts);
+    release.start(&mut counts, false);
     assert_eq!(rt;
         step(&rt, &mut release, &mut counts, TO_1),
         Some(Op::ClearField(0))
@@ -56,7 +56,7 @@ fn a_buffered_slot_waits(rt: HostRuntime) -> Result<(), Fail> {
     down(&rt, &mut counts, 0);
     down(&rt, &mut counts, 0);
     let mut release = Release::idle(1);
-    release.start(&mut counts);
+    release.start(&mut counts, false);
     assert_eq!(rt;
         step(&rt, &mut release, &mut counts, 0),
         Some(Op::ClearField(0))
@@ -72,7 +72,7 @@ fn both_fields_name_one_slot(rt: HostRuntime) -> Result<(), Fail> {
     let mut counts = three_slots(rt.alloc(), 2)?;
     down(&rt, &mut counts, 1);
     let mut release = Release::idle(2);
-    release.start(&mut counts);
+    release.start(&mut counts, false);
     assert_eq!(rt;
         step(&rt, &mut release, &mut counts, TO_0),
         Some(Op::ClearField(2))
@@ -93,6 +93,27 @@ fn both_fields_name_one_slot(rt: HostRuntime) -> Result<(), Fail> {
     );
     assert_eq!(rt; release.next(), None);
     assert_eq!(rt; counts.free_list(), [1].as_slice());
+    Ok(())
+}
+
+#[test]
+fn lowers_an_orange_target(rt: HostRuntime) -> Result<(), Fail> {
+    let mut counts = three_slots(rt.alloc(), 1)?;
+    begin(&mut counts);
+    join(&rt, &mut counts, 1);
+    expect_ready(&rt, &counts);
+    down(&rt, &mut counts, 0);
+    let mut release = Release::idle(1);
+    release.start(&mut counts, true);
+    assert_eq!(rt;
+        step(&rt, &mut release, &mut counts, TO_1),
+        Some(Op::ClearField(0))
+    );
+    assert_eq!(rt; release.next(), None);
+    assert_eq!(rt; counts.count(1), 0);
+    assert_eq!(rt; counts.colour(1), Colour::Orange);
+    assert!(rt; counts.zeros().is_empty());
+    assert_eq!(rt; counts.free_list(), [0].as_slice());
     Ok(())
 }
 
@@ -177,7 +198,7 @@ fn down(rt: &impl Abort, counts: &mut Counts, slot: u16)
     ensures ready { IsReady counts.new }
 {
     assert!(rt; slot < 3 && counts.count(slot) > 0);
-    take_off(counts, Some(slot));
+    take_off(counts, Some(slot), false);
 }
 
 // A slot of three that is in no buffer is the only one in the free list.
@@ -295,6 +316,14 @@ fn is_freeable(counts: &Counts) -> bool
         return false;
     }
     are_orange(counts)
+}
+
+// The zeros are zeros, where the last set can be freed.
+fn expect_ready(rt: &impl Abort, counts: &Counts)
+    requires { 0 < length counts.now.sets }
+    ensures { IsReady counts.now }
+{
+    assert!(rt; is_freeable(counts));
 }
 
 // The freeing of the last set begins.

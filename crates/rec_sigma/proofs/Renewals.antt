@@ -14,8 +14,8 @@ use Rattle.rec_counts.specs.Slot.{absent, is_in, unbuffered, unbuffered_if, out_
 use Rattle.rec_counts.proofs.Times.{times-nil, times-cons, times-append, one-same, one-le, in_range_once}
 use Rattle.rec_sigma.specs.declared.fate.Fate.{Fate}
 use Rattle.rec_sigma.specs.declared.fate.Fate.TheVariants.{Free, Zero, Root, Plain}
-use Rattle.rec_sigma.specs.Refurbish.{coloured, fate_at, fate_of, is_first, fate_if, is_root, is_free, is_zero, is_rooted, IsRefusable, Refurbished}
-use Rattle.rec_sigma.specs.Settling.{settled, settled_all}
+use Rattle.rec_sigma.specs.Refurbish.{coloured, fate_at, fate_of, is_first, fate_if, is_root, is_free, is_zero, is_rooted, IsRefusable, LastRefurbished, Refurbished}
+use Rattle.rec_sigma.specs.Settling.{refurbished_of, settled, settled_all}
 use Rattle.rec_sigma.proofs.Members.{each_once}
 
 -- what one place more does
@@ -328,3 +328,15 @@ ends first s t k r e g =
     let n : t.work ≡ [] = nothing_first t.work e in
     let is : record t { work = drop 1 t.work } ≡ record t { work = [] } = ap {A = List ℕ} {B = State} (λ ws. record t { work = drop 1 ws }) n in
     all_refurbished s first k r (record t { work = drop 1 t.work }) (is ∙ ap (λ ws. settled_all first ws (record t { work = [] })) (sym n) ∙ g)
+
+-- what is left then is the last set refurbished
+pub ends_settled : (first : Option ℕ) (s t : State) → slice_get (last_set s.sets) 0 ≡ first → slice_get t.work 0 ≡ None → settled_all first t.work (record t { work = [] }) ≡ settled_all first (last_set s.sets) (dropped s) → record t { work = drop 1 t.work } ≡ refurbished_of s
+unfolding refurbished_of
+ends_settled first s t f e g =
+    let n : t.work ≡ [] = nothing_first t.work e in
+    ap {A = List ℕ} {B = State} (λ ws. record t { work = drop 1 ws }) n ∙ ap (λ ws. settled_all first ws (record t { work = [] })) (sym n) ∙ g ∙ ap (λ o. settled_all o (last_set s.sets) (dropped s)) (sym f)
+
+-- in the words of its places
+pub refurbished_last : (s : State) → IsKept s → IsRefusable s → LastRefurbished s (refurbished_of s)
+unfolding refurbished_of
+refurbished_last s k r = all_refurbished s (slice_get (last_set s.sets) 0) k r (settled_all (slice_get (last_set s.sets) 0) (last_set s.sets) (dropped s)) refl

@@ -3,7 +3,7 @@ ghost use Rattle.rec_counts.specs.Counts.{slot_at};
 ghost use Rattle.rec_counts.specs.Lists.{times};
 ghost use Rattle.rec_counts.specs.Rest.{AreZeros};
 ghost use Rattle.rec_sigma.specs.Refurbish.{AreReleased, IsRefusable, LastRefurbished, fate_of, is_first, is_free, is_zero};
-ghost use Rattle.rec_sigma.specs.Settling.{settled};
+ghost use Rattle.rec_sigma.specs.Settling.{refurbished_of, settled};
 
 use crate::fate::Fate;
 use rec_counts::{Colour, Counts};
@@ -17,6 +17,7 @@ pub fn refurbish(counts: &mut Counts, set: u16)
     requires refusable { IsRefusable counts.old }
 
     ensures refurbished { LastRefurbished counts.old counts.new }
+    ensures settled { counts.new ≡ refurbished_of counts.old }
 
     // The lists are as a release wants them.
     ensures zeros { AreZeros counts.old → AreZeros counts.new }

@@ -1,14 +1,14 @@
 -- What the fields of a world become in a call is what the definitions say of the core that they make up.
-use Rattle.std.proofs.Common.{◌≡◌, ◌≢◌, inl, inr, ℕ, ◌+◌, ◌-◌, ◌*◌, ◌^◌, ◌<◌, ◌≤◌, ◌==◌, if◌then◌else◌, All, List, ◌∷◌, Option, None, Some, Bool, true, false, slice_index_or, slice_set, length, map, replicate, zero, suc, [], refl, sym, ap, subst, ◌∙◌, arith}
+use Rattle.std.proofs.Common.{◌≡◌, inl, inr, ℕ, ◌+◌, ◌-◌, ◌*◌, ◌^◌, ◌<◌, ◌≤◌, ◌==◌, if◌then◌else◌, All, List, ◌∷◌, Option, None, Some, Bool, true, false, slice_index_or, slice_set, length, map, replicate, zero, suc, refl, sym, ap, subst, ◌∙◌, arith}
 use Rattle.std.specs.List.{sum_by}
 use Rattle.std.specs.Option.{IsSome}
-use Rattle.std.proofs.lemmas.Bool.{false≢true, eq-eqb, ne_eqb, cases_eq}
+use Rattle.std.proofs.lemmas.Bool.{false≢true, cases_eq}
 use Rattle.std.proofs.Math.ListN.{get_or-map}
 use Rattle.std.proofs.lemmas.List.{get_or_default, get_or-replicate, get_or-set_same, get_or-set_other, length-set, length-map, length-replicate, map-set}
 use Rattle.std.proofs.lemmas.List.Elements.{All-from_get_or}
 use Rattle.std.proofs.lemmas.List.Sums.{sum_by-le}
 use Rattle.std.proofs.Math.Nat.{mul-le-mul}
-use Rattle.rec_word.specs.Op.{written, crossing_word}
+use Rattle.rec_word.specs.Op.{written}
 use Rattle.rec_word.specs.declared.op.Op.{Op}
 use Rattle.rec_word.specs.declared.op.Op.TheVariants as ops
 use Rattle.rec_model.specs.declared.command.Cmd.{Cmd}
@@ -26,7 +26,7 @@ use Rattle.rec_collector.specs.Private as collectors
 use Rattle.rec_world.specs.declared.config.Config.{Config}
 use Rattle.rec_world.specs.declared.world.World.TheInside.{Inside}
 use Rattle.rec_world.specs.Config.{IsConfig, IsMutator, HasOperands, IsWork}
-use Rattle.rec_world.specs.Core.{Core, cells_of, sight, mutator, box, nobody, opened, opened_mutators, spare_of}
+use Rattle.rec_world.specs.Core.{Core, cells_of, mutator, box, nobody, opened, opened_mutators, spare_of}
 use Rattle.rec_world.specs.CoreKept.{IsKept, entries_made}
 use Rattle.rec_world.specs.CorePending.{epoch_at}
 use Rattle.rec_world.specs.CoreMoves.{Move, after_move, Fits, EndsRun, begun, stepped, found_by, looked_at}

@@ -7,7 +7,7 @@ use Rattle.std.proofs.lemmas.List.{get_or_past, get_or_default}
 use Rattle.std.proofs.lemmas.List.Concat.{length-flat_map}
 use Rattle.std.proofs.lemmas.List.Sums.{sum_by-cons, sum_by-append}
 use Rattle.rec_model.specs.Accounted.{is_dead}
-use Rattle.rec_model.specs.Moves.{Move, is_up_to, puts_in, replaces_in, added, taken}
+use Rattle.rec_model.specs.Moves.{Applies, is_up_to, puts_in, replaces_in, added, taken}
 use Rattle.rec_model.specs.Pending.{Write, Dated, dated, is_at}
 use Rattle.rec_model.proofs.Sums.{sum_by-flat_map, sum_by-map}
 use Rattle.rec_model.proofs.Consequences.{counts_bounded}
@@ -346,7 +346,7 @@ module _ (w : Core) (t : ℕ) (kept : IsKept w) (phase : w.collector.phase ≡ R
   zeros_before : c.counts.zeros ≡ []
   zeros_before = (now_at w (Returning t) kept phase).rest.zeros
 
-  falls : CanFall (all_up c.counts (flat_map up_targets c.newer)) (flat_map down_targets c.older)
+  pub falls : CanFall (all_up c.counts (flat_map up_targets c.newer)) (flat_map down_targets c.older)
   falls = batch_falls c.counts c.newer c.older zeros_before rises covered.covered
 
   pub counted_rest : KeepsRest c.counts counted
@@ -368,8 +368,8 @@ module _ (w : Core) (t : ℕ) (kept : IsKept w) (phase : w.collector.phase ≡ R
       ∙ none_late (w.epoch - 1) w.epoch (slice_index_or w.mutators i nobody).registers (omega (arith, some_epochs)))
 
   -- the batch is one of the accounts
-  pub batch_move : Move (pending w) (record (accounts_with (pending w) w.words counted) { applied = w.epoch - 1 })
-  batch_move = Move.batch (record {
+  pub applies : Applies (pending w) (record (accounts_with (pending w) w.words counted) { applied = w.epoch - 1 })
+  applies = record {
     asked = omega (arith, applied_is, some_epochs);
     crossed = all_crossed;
     counts = counts_move;
@@ -390,7 +390,7 @@ module _ (w : Core) (t : ℕ) (kept : IsKept w) (phase : w.collector.phase ≡ R
           let new : slot_in counted x ≡ fresh = get_or_past counted.slots (x - 1) fresh (omega (arith, past, slots_are, counted_rest.slots)) in
           ap (λ (v : Slot). v.released) (new ∙ sym old)
     ];
-  })
+  }
     where
       counts_move : (node : ℕ) → 0 < node → (slot_in counted node).count + taken (pending w) node ≡ (slot_in c.counts node).count + added (pending w) node
       counts_move node pos =

@@ -13,13 +13,11 @@ use Rattle.rec_mutator.specs.declared.made.Made.{Made}
 use Rattle.rec_mutator.specs.declared.made.Made.TheVariants as makes
 use Rattle.rec_mutator.specs.declared.work.Work.{Work}
 use Rattle.rec_mutator.specs.declared.work.Work.TheVariants as works
-use Rattle.rec_word.specs.declared.op.Op.{Op}
-use Rattle.rec_collector.specs.Next as collector_next
 use Rattle.rec_world.specs.Config.{IsConfig}
 use Rattle.rec_world.specs.Core.{Core, sight, mutator, opened}
 use Rattle.rec_world.specs.CoreAsked.{told_by, told_in, told_in_all, AreAsked}
 use Rattle.rec_world.specs.CoreKept.{IsKept}
-use Rattle.rec_world.specs.CoreMoves.{begun, stepped, turned, turned_at, Move, after_move, after_moves, Fits, AllFit, IsRun}
+use Rattle.rec_world.specs.CoreMoves.{begun, stepped, turned, Move, after_move, after_moves, Fits, AllFit, IsRun}
 use Rattle.rec_world.specs.CoreShown.{IsShown}
 use Rattle.rec_world.specs.declared.config.Config.{Config}
 use Rattle.rec_world.proofs.CoreOpening.{opened_kept}

@@ -1,24 +1,29 @@
 -- What the collector does to the counts, as moves of the accounts of its heap.
-use Rattle.std.proofs.Common.{◌≡◌, ◌≢◌, inl, inr, ℕ, ◌+◌, ◌-◌, ◌*◌, ◌/◌, ◌%◌, ◌<◌, ◌≤◌, ◌==◌, nat_lt, suc, Bool, true, false, List, [], ◌∷◌, Option, None, Some, length, slice_index_or, slice_set, refl, sym, ap, ◌∙◌, arith}
+use Rattle.std.proofs.Common.{◌≡◌, ◌≢◌, inl, inr, ℕ, ◌+◌, ◌-◌, ◌*◌, ◌/◌, ◌%◌, ◌<◌, ◌≤◌, ◌==◌, nat_lt, suc, Bool, true, false, if◌then◌else◌, List, [], ◌∷◌, Option, None, Some, length, slice_index_or, slice_set, refl, sym, ap, ◌∙◌, arith}
 use Rattle.std.proofs.Math.Nat.{mod-lt, div-add-mod, mul_comm}
 use Rattle.std.proofs.lemmas.Bool.{cases_eq, cases_lt, eq-eqb, ne_eqb, cond-true, cond-false}
 use Rattle.std.proofs.lemmas.List.{get_or-set_same, get_or-set_other, get_or_past, get_or_default}
 use Rattle.rec_word.specs.Place.{place_of}
 use Rattle.rec_word.specs.Word.{target_of}
-use Rattle.rec_model.specs.Moves.{Move, with_answer, leads_out_of}
+use Rattle.rec_model.specs.Moves.{Clears, Releases, with_answer, leads_out_of}
 use Rattle.rec_model.specs.Pending.{node_of, home, Pending, word_in}
+use Rattle.rec_model.specs.Sets.{ReleasesSet, with_members}
 use Rattle.rec_model.specs.Sums.{only_if, one_if_same, sum_at}
 use Rattle.rec_model.proofs.Ledgers.{node_of_null}
 use Rattle.rec_model.proofs.Sums.{sum_at-set}
 use Rattle.rec_model.proofs.Weights.{one_if_self, none_if_differs}
-use Rattle.rec_counts.specs.Counts.{State, slot_at, with_slot, decremented}
+use Rattle.rec_counts.specs.Counts.{State, slot_at, with_slot}
 use Rattle.rec_counts.specs.Lists.{one}
-use Rattle.rec_counts.specs.Slot.{absent, fresh, swept_clean}
+use Rattle.rec_counts.specs.Slot.{absent, fresh, is_in, unbuffered_if}
 use Rattle.rec_counts.specs.declared.slot.Slot.{Slot}
-use Rattle.rec_counts.proofs.Decrementing.{decremented_count, in_range_counted, rest_decremented}
-use Rattle.rec_release.specs.Release.{taken_off, emptied, listed_if, without_first}
-use Rattle.rec_release.specs.Sweep.{swept}
+use Rattle.rec_counts.proofs.Decrementing.{in_range_counted}
+use Rattle.rec_release.specs.CycleFree.{dead_if, given_up}
+use Rattle.rec_release.specs.Release.{emptied, listed_if, without_first}
+use Rattle.rec_release.specs.TakenOff.{taken_off}
+use Rattle.rec_release.proofs.Giving.{given_count, given_many, given_slot}
+use Rattle.rec_release.proofs.TakenOff.{KeepsMost, off_count, off_most}
 use Rattle.rec_world.specs.CorePending.{code}
+use Rattle.rec_world.specs.Cycles.{is_member_of}
 use Rattle.rec_world.proofs.CoreMoves.{code_target}
 
 -- what is kept of a node's slot; past the last slot, what is kept of a free one
@@ -36,6 +41,10 @@ slot_here s node below = get_or_default s.slots (node - 1) fresh absent below
 -- past the last slot there is a free one
 slot_past : (s : State) (node : ℕ) → length s.slots ≤ node - 1 → slot_in s node ≡ fresh
 slot_past s node past = get_or_past s.slots (node - 1) fresh past
+
+-- the counts of a node's slot, by its node, are those of the slot
+pub counted_slot : (s : State) (x : ℕ) → x < length s.slots → slot_in s (x + 1) ≡ slot_at s x
+counted_slot s x below = let one : x + 1 - 1 ≡ x = omega arith in slot_here s (x + 1) (omega arith) ∙ ap (slot_at s) one
 
 -- counts with the same slots, as far as counting and releasing go, are the same counts
 pub alike_slots : (s t : State) → length t.slots ≡ length s.slots → ((x : ℕ) → (slot_at t x).count ≡ (slot_at s x).count) → ((x : ℕ) → (slot_at t x).released ≡ (slot_at s x).released)
@@ -58,12 +67,12 @@ released_same s t many released node = elim (cases_lt (node - 1) (length s.slots
   | inr past ↦ ap (λ (v : Slot). v.released) (slot_past t node (omega arith) ∙ sym (slot_past s node past))
 ]
 
--- one reference less to what a word leads to
-taken_counts : (s : State) (word : ℕ) → ((slot : ℕ) → target_of word ≡ Some slot → 0 < (slot_at s slot).count) → (node : ℕ) → 0 < node
-    → (slot_in (taken_off s (target_of word)) node).count + one_if_same node (node_of word) ≡ (slot_in s node).count
-taken_counts s word counted node pos = go (target_of word) refl
+-- one reference less to what a word leads to, whether its count is lowered or decremented
+taken_counts : (lowers : Bool) (s : State) (word : ℕ) → ((slot : ℕ) → target_of word ≡ Some slot → 0 < (slot_at s slot).count) → (node : ℕ) → 0 < node
+    → (slot_in (taken_off lowers s (target_of word)) node).count + one_if_same node (node_of word) ≡ (slot_in s node).count
+taken_counts lowers s word counted node pos = go (target_of word) refl
   where
-    go : (x : Option ℕ) → target_of word ≡ x → (slot_in (taken_off s x) node).count + one_if_same node (node_of word) ≡ (slot_in s node).count
+    go : (x : Option ℕ) → target_of word ≡ x → (slot_in (taken_off lowers s x) node).count + one_if_same node (node_of word) ≡ (slot_in s node).count
     go None is =
         let null : node_of word ≡ 0 = sym (code_target word) ∙ ap code is in
         omega (arith, ap (one_if_same node) null, none_if_differs node 0 (λ e. omega arith))
@@ -71,54 +80,61 @@ taken_counts s word counted node pos = go (target_of word) refl
         let target : node_of word ≡ x + 1 = sym (code_target word) ∙ ap code is in
         let some : 0 < (slot_at s x).count = counted x is in
         let there : x < length s.slots = in_range_counted s x some in
-        let many : length (decremented s x).slots ≡ length s.slots = (rest_decremented s x).slots in
-        let less : (slot_at (decremented s x) (node - 1)).count + one (node - 1 == x) ≡ (slot_at s (node - 1)).count = decremented_count s x (node - 1) some in
-        let same : one (node - 1 == x) ≡ one_if_same node (x + 1) = elim (cases_eq (node - 1) x) [
-          | inl e ↦ let n : node ≡ x + 1 = omega arith in ap one (eq-eqb (node - 1) x e) ∙ sym (ap (λ y. one_if_same y (x + 1)) n ∙ one_if_self (x + 1))
-          | inr e ↦ ap one (ne_eqb (node - 1) x e) ∙ sym (none_if_differs node (x + 1) (λ n. e (omega arith)))
-        ] in
-        elim (cases_lt (node - 1) (length s.slots)) [
-          | inl below ↦ omega (
-            arith,
-            less,
-            same,
-            ap (one_if_same node) target,
-            ap (λ (v : Slot). v.count) (slot_here (decremented s x) node (omega arith)),
-            ap (λ (v : Slot). v.count) (slot_here s node below),
-          )
-          | inr past ↦ omega (
-            arith,
-            ap (one_if_same node) target,
-            none_if_differs node (x + 1) (λ n. omega arith),
-            ap (λ (v : Slot). v.count) (slot_past (decremented s x) node (omega arith)),
-            ap (λ (v : Slot). v.count) (slot_past s node past),
-          )
+        let off : State = taken_off lowers s (Some x) in
+        let many : length off.slots ≡ length s.slots = (off_most lowers s (Some x)).slots in
+        let less : (slot_at off (node - 1)).count ≡ (slot_at s (node - 1)).count - one (node - 1 == x) = off_count lowers s (Some x) (node - 1) in
+        elim (cases_eq (node - 1) x) [
+          | inl e ↦
+              let one_less : one (node - 1 == x) ≡ 1 = ap one (eq-eqb (node - 1) x e) in
+              let n : node ≡ x + 1 = omega arith in
+              omega (
+                arith,
+                less,
+                one_less,
+                some,
+                ap (λ y. (slot_at s y).count) e,
+                ap (one_if_same node) target,
+                ap (λ y. one_if_same y (x + 1)) n,
+                one_if_self (x + 1),
+                ap (λ (v : Slot). v.count) (slot_here off node (omega arith)),
+                ap (λ (v : Slot). v.count) (slot_here s node (omega arith)),
+              )
+          | inr e ↦
+              let same : one (node - 1 == x) ≡ 0 = ap one (ne_eqb (node - 1) x e) in
+              let none : one_if_same node (x + 1) ≡ 0 = none_if_differs node (x + 1) (λ n. e (omega arith)) in
+              elim (cases_lt (node - 1) (length s.slots)) [
+                | inl below ↦ omega (
+                  arith,
+                  less,
+                  same,
+                  none,
+                  ap (one_if_same node) target,
+                  ap (λ (v : Slot). v.count) (slot_here off node (omega arith)),
+                  ap (λ (v : Slot). v.count) (slot_here s node below),
+                )
+                | inr past ↦ omega (arith, none, ap (one_if_same node) target, ap (λ (v : Slot). v.count) (slot_past off node (omega arith)), ap (λ (v : Slot). v.count) (slot_past s node past))
+              ]
         ]
 
--- what counting off leaves of what is released
-taken_released : (s : State) (x : Option ℕ) → (length (taken_off s x).slots ≡ length s.slots) × ((y : ℕ) → (slot_at (taken_off s x) y).released ≡ (slot_at s y).released)
-taken_released s None = (refl, λ y. refl)
-taken_released s (Some x) = ((rest_decremented s x).slots, (rest_decremented s x).released)
-
 -- A word comes out of a field of a released node, and its target is counted off.
-pub clearing_move : (p : Pending) (s : State) (place : ℕ) → p.applied + 1 ≡ p.requested → place < length p.words → (slot_in s (home p.fields place)).released ≡ true
+pub clears : (lowers : Bool) (p : Pending) (s : State) (place : ℕ) → p.applied + 1 ≡ p.requested → place < length p.words → (slot_in s (home p.fields place)).released ≡ true
     → ((slot : ℕ) → target_of (word_in p place) ≡ Some slot → 0 < (slot_at s slot).count)
-    → Move (accounts_with p p.words s) (accounts_with p (slice_set p.words place 0) (taken_off s (target_of (word_in p place))))
-clearing_move p s place done inside released counted =
+    → Clears (accounts_with p p.words s) (accounts_with p (slice_set p.words place 0) (taken_off lowers s (target_of (word_in p place)))) place
+clears lowers p s place done inside released counted =
     let word : ℕ = word_in p place in
-    let rest = taken_released s (target_of word) in
-    Move.clearing (record {
+    let rest : KeepsMost s (taken_off lowers s (target_of word)) = off_most lowers s (target_of word) in
+    record {
       done = done;
       inside = inside;
       was_released = released;
       words = λ weight. sum_at-set weight p.words place 0 0 inside;
-      counts = taken_counts s word counted;
+      counts = taken_counts lowers s word counted;
       logs = record { writes = λ weight. refl; births = λ weight. refl; snapshots = λ weight. refl };
       registers = λ weight. refl;
       epochs = record { fields = refl; applied = refl; requested = refl };
       free = λ x _. refl;
-      released = λ x _. released_same s (taken_off s (target_of word)) rest.0 rest.1 x;
-    })
+      released = λ x _. released_same s (taken_off lowers s (target_of word)) rest.slots rest.released x;
+    }
 
 -- with its flag set, a slot is released, and every other is as it was
 flagged : (s : State) (z : ℕ) → z < length s.slots → (node : ℕ) → 0 < node
@@ -144,11 +160,11 @@ flagged s z there node pos =
     ]
 
 -- A node without a count is given up.
-pub release_move : (p : Pending) (words : List ℕ) (s : State) (z : ℕ) (zs : List ℕ) → p.applied + 1 ≡ p.requested → z < length s.slots → (slot_at s z).count ≡ 0
-    → Move (accounts_with p words s) (accounts_with p words (without_first (z ∷ zs) s))
-release_move p words s z zs done there none =
+pub releases : (p : Pending) (words : List ℕ) (s : State) (z : ℕ) (zs : List ℕ) → p.applied + 1 ≡ p.requested → z < length s.slots → (slot_at s z).count ≡ 0
+    → Releases (accounts_with p words s) (accounts_with p words (without_first (z ∷ zs) s)) (z + 1)
+releases p words s z zs done there none =
     let at : z + 1 - 1 ≡ z = omega arith in
-    Move.release {node = z + 1} (record {
+    record {
       done = done;
       is_node = omega arith;
       unnamed = ap (λ (n : ℕ). (slice_index_or s.slots n fresh).count) at ∙ ap (λ (v : Slot). v.count) (get_or_default s.slots z fresh absent there) ∙ none;
@@ -159,7 +175,61 @@ release_move p words s z zs done there none =
       count = λ x pos. (flagged s z there x pos).1;
       free = λ x _. refl;
       released = λ x pos. (flagged s z there x pos).0;
-    })
+    }
+
+-- The members of the last set are given up.
+pub set_release : (p : Pending) (words : List ℕ) (s : State) → ReleasesSet (accounts_with p words s) (accounts_with p words (given_up s)) (is_member_of s (length s.sets - 1))
+set_release p words s = record {
+  words = λ weight. refl;
+  logs = record { writes = λ weight. refl; births = λ weight. refl; snapshots = λ weight. refl };
+  registers = λ weight. refl;
+  epochs = record { fields = refl; applied = refl; requested = refl };
+  count = λ x _. (member_slot x).0;
+  free = λ x _. refl;
+  released = λ x _. (member_slot x).1;
+}
+  where
+    number : ℕ
+    number = length s.sets - 1
+
+    flag : (b : Bool) (v : Slot) → (dead_if b (unbuffered_if b v)).released ≡ (if b then true else v.released)
+    flag true v = refl
+    flag false v = refl
+
+    member_slot : (x : ℕ) → ((slot_in (given_up s) x).count ≡ (slot_in s x).count) × ((slot_in (given_up s) x).released ≡ with_members (λ y. (slot_in s y).released) (is_member_of s number) x)
+    member_slot x = elim (cases_lt (x - 1) (length s.slots)) [
+      | inl below ↦
+          let old : slot_in s x ≡ slot_at s (x - 1) = slot_here s x below in
+          let new : slot_in (given_up s) x ≡ slot_at (given_up s) (x - 1) = slot_here (given_up s) x (omega (arith, below, given_many s)) in (
+            ap (λ (v : Slot). v.count) new ∙ given_count s (x - 1) ∙ ap (λ (v : Slot). v.count) (sym old),
+            ap (λ (v : Slot). v.released) new ∙ ap (λ (v : Slot). v.released) (given_slot s (x - 1)) ∙ flag (is_in number (slot_at s (x - 1)).set) (slot_at s (x - 1))
+                ∙ ap (λ (v : Slot). if is_in number (slot_at s (x - 1)).set then true else v.released) (sym old),
+          )
+      | inr past ↦
+          let old : slot_in s x ≡ fresh = slot_past s x past in
+          let new : slot_in (given_up s) x ≡ fresh = slot_past (given_up s) x (omega (arith, past, given_many s)) in
+          let none : slot_at s (x - 1) ≡ absent = get_or_past s.slots (x - 1) absent past in (
+            ap (λ (v : Slot). v.count) (new ∙ sym old),
+            ap (λ (v : Slot). v.released) new ∙ ap (λ (v : Slot). v.released) (sym old) ∙ ap (λ (v : Slot). if is_in number v.set then true else (slot_in s x).released) (sym none),
+          )
+    ]
+
+-- Where the counts count and release alike, no member is given up.
+pub none_release : (p : Pending) (words : List ℕ) (s t : State) → ((node : ℕ) → ((slot_in t node).count ≡ (slot_in s node).count) × ((slot_in t node).released ≡ (slot_in s node).released))
+    → ReleasesSet (accounts_with p words s) (accounts_with p words t) (λ node. false)
+none_release p words s t same = record {
+  words = λ weight. refl;
+  logs = record { writes = λ weight. refl; births = λ weight. refl; snapshots = λ weight. refl };
+  registers = λ weight. refl;
+  epochs = record { fields = refl; applied = refl; requested = refl };
+  count = λ x _. (same x).0;
+  free = λ x _. refl;
+  released = λ x _. (same x).1;
+}
+
+-- counts with the same slots give the same accounts
+pub slots_accounts : (p : Pending) (words : List ℕ) (s t : State) → t.slots ≡ s.slots → accounts_with p words t ≡ accounts_with p words s
+slots_accounts p words s t same = ap (λ (slots : List Slot). let q : Pending = record p { words = words; count = λ node. (slice_index_or slots (node - 1) fresh).count; released = λ node. (slice_index_or slots (node - 1) fresh).released } in q) same
 
 -- what goes to the free list counts as before
 pub emptied_alike : (s : State) (x : ℕ) → (emptied s x).slots ≡ s.slots
@@ -194,51 +264,3 @@ emptied_leads words fields slot some none = none_at (leads_out_of fields (slot +
     both : (b : Bool) → only_if b (only_if (nat_lt 0 0) 1) ≡ 0
     both true = refl
     both false = refl
-
--- The slot of a node that was given up and emptied, and that has no count, is freed.
-pub freeing_move : (p : Pending) (headers : List ℕ) (s : State) (x : ℕ) → x < length s.slots → x < length headers → (slot_at s x).released ≡ true → (slot_at s x).count ≡ 0
-    → sum_at (leads_out_of p.fields (x + 1)) p.words ≡ 0
-    → Move (record (accounts_with p p.words s) { free = λ node. slice_index_or headers (node - 1) 0 == 0 })
-    (record (accounts_with p p.words (swept s x)) { free = λ node. slice_index_or (slice_set headers x 0) (node - 1) 0 == 0 })
-freeing_move p headers s x there header released none empty =
-    let v : Slot = swept_clean (slot_at s x) in
-    let old : slot_in s (x + 1) ≡ slot_at s x = (let at : x + 1 - 1 ≡ x = omega arith in ap (λ (n : ℕ). slice_index_or s.slots n fresh) at ∙ get_or_default s.slots x fresh absent there) in
-    Move.freeing {node = x + 1} (record {
-      is_node = omega arith;
-      was_released = ap (λ (y : Slot). y.released) old ∙ released;
-      empty = empty;
-      uncounted = ap (λ (y : Slot). y.count) old ∙ none;
-      counts = λ node pos. elim (cases_eq node (x + 1)) [
-        | inl is ↦
-            let at : node - 1 ≡ x = omega arith in
-            let new : slot_in (swept s x) node ≡ v = ap (λ (n : ℕ). slice_index_or (slice_set s.slots x v) n fresh) at ∙ get_or-set_same s.slots x v fresh there in
-            let was : slot_in s node ≡ slot_at s x = ap (λ (n : ℕ). slot_in s n) is ∙ old in
-            omega (arith, ap (λ (y : Slot). y.count) new, ap (λ (y : Slot). y.count) was, none, ap (λ n. one_if_same n (x + 1)) is, one_if_self (x + 1))
-        | inr other ↦
-            let apart : (node - 1) ≢ x = λ e. other (omega arith) in
-            omega (arith, ap (λ (y : Slot). y.count) (get_or-set_other s.slots x (node - 1) v fresh apart), none_if_differs node (x + 1) other)
-      ];
-      words = λ weight. refl;
-      logs = record { writes = λ weight. refl; births = λ weight. refl; snapshots = λ weight. refl };
-      registers = λ weight. refl;
-      epochs = record { fields = refl; applied = refl; requested = refl };
-      free = λ node pos. elim (cases_eq node (x + 1)) [
-        | inl is ↦
-            let at : node - 1 ≡ x = omega arith in
-            let test : ℕ → Bool = λ n. slice_index_or headers (n - 1) 0 == 0 in
-            ap (λ (n : ℕ). slice_index_or (slice_set headers x 0) n 0 == 0) at ∙ ap (λ (n : ℕ). n == 0) (get_or-set_same headers x 0 0 header) ∙ eq-eqb 0 0 refl ∙ sym (cond-true (node == x + 1) true (test node) (eq-eqb node (x + 1) is))
-        | inr other ↦
-            let apart : (node - 1) ≢ x = λ e. other (omega arith) in
-            let test : ℕ → Bool = λ n. slice_index_or headers (n - 1) 0 == 0 in
-            ap (λ (n : ℕ). n == 0) (get_or-set_other headers x (node - 1) 0 0 apart) ∙ sym (cond-false (node == x + 1) true (test node) (ne_eqb node (x + 1) other))
-      ];
-      released = λ node pos. elim (cases_eq node (x + 1)) [
-        | inl is ↦
-            let at : node - 1 ≡ x = omega arith in
-            let new : slot_in (swept s x) node ≡ v = ap (λ (n : ℕ). slice_index_or (slice_set s.slots x v) n fresh) at ∙ get_or-set_same s.slots x v fresh there in
-            ap (λ (y : Slot). y.released) new ∙ sym (cond-true (node == x + 1) false (slot_in s node).released (eq-eqb node (x + 1) is))
-        | inr other ↦
-            let apart : (node - 1) ≢ x = λ e. other (omega arith) in
-            ap (λ (y : Slot). y.released) (get_or-set_other s.slots x (node - 1) v fresh apart) ∙ sym (cond-false (node == x + 1) false (slot_in s node).released (ne_eqb node (x + 1) other))
-      ];
-    })

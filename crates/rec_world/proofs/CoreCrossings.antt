@@ -1,5 +1,5 @@
 -- The steps of a crossing keep what every heap with its collector keeps, and so does the begin of a work.
-use Rattle.std.proofs.Common.{◌≡◌, inl, inr, ℕ, ◌+◌, ◌-◌, ◌*◌, ◌^◌, ◌<◌, ◌≤◌, if◌then◌else◌, Bool, true, false, List, Option, Some, length, slice_index_or, slice_set, refl, sym, ap, subst, ◌∙◌, arith, add-zero}
+use Rattle.std.proofs.Common.{◌≡◌, inl, inr, ℕ, ◌+◌, ◌-◌, ◌*◌, ◌^◌, ◌<◌, ◌≤◌, if◌then◌else◌, Bool, true, false, List, Option, None, Some, length, slice_index_or, slice_set, refl, sym, ap, subst, ◌∙◌, arith, add-zero}
 use Rattle.std.specs.List.{sum_by, All}
 use Rattle.std.proofs.Math.Nat.{add-mul}
 use Rattle.std.proofs.lemmas.Bool.{false≢true, cases_Bool}
@@ -9,6 +9,7 @@ use Rattle.rec_word.specs.Op.{crossing_word}
 use Rattle.rec_word.specs.declared.op.Op.TheVariants as ops
 use Rattle.rec_model.specs.Accounted.{IsAccounted, HasUncountedReleased}
 use Rattle.rec_model.specs.Moves.{Move}
+use Rattle.rec_model.specs.Pending.{Pending}
 use Rattle.rec_model.specs.Reach.{named}
 use Rattle.rec_model.specs.Sight.{IsSound, IsTaken}
 use Rattle.rec_model.proofs.Consequences.{move_uncounted}
@@ -29,14 +30,16 @@ use Rattle.rec_mutator.proofs.Found.{finds_fitting}
 use Rattle.rec_collector.specs.Kept.{under_way}
 use Rattle.rec_collector.specs.Private.{blank}
 use Rattle.rec_collector.specs.declared.phase.Phase.{Phase}
-use Rattle.rec_collector.specs.declared.phase.Phase.TheVariants.{Idle, Looking, Swapping, Returning, Releasing, Trying, Opening, Sweeping, Closing}
+use Rattle.rec_collector.specs.declared.phase.Phase.TheVariants.{Idle, Looking, Swapping, Returning, Releasing, Freeing, Trying, Preparing, Opening, Sweeping, Closing}
 use Rattle.rec_world.specs.Config.{IsMutator, HasLabel}
 use Rattle.rec_world.specs.Core.{Core, cells_of, sight, mutator, box, crossing_of, spare_of, with_mutator}
+use Rattle.rec_world.specs.CoreCycles.{HasCyclesAt}
 use Rattle.rec_world.specs.CoreKept.{IsSettledIn, HasLabelAt, IsOwn, IsBufferOf, Stand, stand_at, IsBehind, IsCrossing, IsHandshake, IsActor, IsScanning, entries_made, IsKept, HasMutators, IsMadeIn}
 use Rattle.rec_world.specs.CoreMoves.{performed, found_by, stepped, begun}
 use Rattle.rec_world.specs.CorePending.{epoch_at, applied_at, pending}
 use Rattle.rec_world.specs.Memory.{cell}
 use Rattle.rec_world.proofs.CoreActors.{own_stepped, epoch_here, handshake_stays, unsettled_due, spare_buffer, others_stay}
+use Rattle.rec_world.proofs.CoreCycling.{cycles_moved, machine_alive}
 use Rattle.rec_world.proofs.CoreMoves.{same_pending, crossing_amid, crossing_drops}
 use Rattle.rec_world.proofs.CoreShapes.{after_take, after_give}
 use Rattle.rec_world.proofs.CoreSums.{none_named}
@@ -81,7 +84,9 @@ due_gathers requested t (Looking u) is = (refl, refl)
 due_gathers requested t (Swapping u) is = (refl, refl)
 due_gathers requested t (Returning u) is = (refl, refl)
 due_gathers requested t Releasing is = cc
+due_gathers requested t Freeing is = cc
 due_gathers requested t Trying is = cc
+due_gathers requested t Preparing is = cc
 due_gathers requested t Opening is = cc
 due_gathers requested t (Sweeping n) is = cc
 due_gathers requested t (Closing n) is = cc
@@ -149,6 +154,7 @@ taken_kept w t kept is busy may phase =
     let amid = crossing_amid w t q b crossings (in_list w t kept is) (boxed w t kept is) p.epoch epoch unapplied at_p at_q q_registers behind.spare q_log left in
     let drops = crossing_drops w t q b crossings (in_list w t kept is) (boxed w t kept is) p.epoch last actor.unwritten behind.spare q_log left in
     let half : IsAccounted _ = move_accounted (Move.crossing amid) kept.accounted in
+    let alive = machine_alive w.collector w.collector.phase kept.collector.machine kept.collector.machine.now in
     let many : length p.log.entries ≤ p.log.capacity = actor.log.few in
     let capacity : p.log.capacity ≡ w.config.log_entries = actor.own.capacity in
     let more : entries_made w.config p + 0 ≤ entries_made w.config q = crossing_entries w.config.first_epoch w.config.log_entries p.epoch (length p.log.entries) (entries_made w.config p) (entries_made w.config q) (omega arith)
@@ -166,7 +172,9 @@ taken_kept w t kept is busy may phase =
       made = subst (λ (n : ℕ). n ≤ 1 + sum_by (entries_made w.config) (slice_set w.mutators (t - 1) q)) (add-zero w.made) (entries_stay w t 0 q kept is more);
       sound = subst (λ (rss : List (List (Option ℕ))). IsSound (record (sight w) { registers = rss })) (sym (registers_stay w t q q_registers)) kept.sound;
       accounted = move_accounted (Move.dropping drops) half;
-      uncounted = move_uncounted (Move.dropping drops) half (move_uncounted (Move.crossing amid) kept.accounted kept.uncounted);
+      uncounted = λ unfreed. move_uncounted (Move.dropping drops) half (move_uncounted (Move.crossing amid) kept.accounted (kept.uncounted unfreed));
+      cycles = cycles_moved w.collector w.collector.phase (Move.dropping drops) tt (λ done. absurd (omega (arith, unapplied, epoch, done))) half alive
+          (cycles_moved w.collector w.collector.phase (Move.crossing amid) tt (λ _. tt) kept.accounted alive kept.cycles);
     } in
     after_take IsKept w t p.number (p.epoch + 1) word q b (next_of p) c.operation whole
   where
@@ -223,7 +231,8 @@ given_kept w t kept is busy may phase same =
       made = subst (λ (n : ℕ). n ≤ 1 + sum_by (entries_made w.config) (slice_set w.mutators (t - 1) q)) (add-zero w.made) (entries_stay w t 0 q kept is (omega (arith, entries)));
       sound = subst (λ (rss : List (List (Option ℕ))). IsSound (record (sight w) { registers = rss })) (sym (registers_stay w t q q_registers)) kept.sound;
       accounted = subst IsAccounted (sym quiet) kept.accounted;
-      uncounted = subst HasUncountedReleased (sym quiet) kept.uncounted;
+      uncounted = subst (λ (x : Pending). w.collector.freeing.at ≡ None → HasUncountedReleased x) (sym quiet) kept.uncounted;
+      cycles = subst (λ (x : Pending). HasCyclesAt x w.collector w.collector.phase) (sym quiet) kept.cycles;
     } in
     subst (λ (b : Contents). IsKept (performed w t (next_of p) word q b)) (sym same) (after_give IsKept w t p.number (p.epoch + 1) word q (next_of p) c.operation whole)
 

@@ -1,49 +1,68 @@
--- Where a release or a trial has come to, the collection goes on: to the next field, to a trial, to a sweep, or to its end. Each keeps
--- what every heap keeps.
-use Rattle.std.proofs.Common.{◌≡◌, ◌⊎◌, inl, inr, ℕ, ◌+◌, ◌-◌, ◌<◌, ◌≤◌, if◌then◌else◌, Bool, true, List, [], ◌∷◌, Option, None, Some, length, map, slice_index_or, refl, sym, ap, subst, ◌∙◌, arith}
+-- Where a trial or a preparation has come to, the collection goes on: to the next field, to a preparation, to a sweep, or to its end.
+-- Each keeps what every heap keeps.
+use Rattle.std.proofs.Common.{◌≡◌, ◌⊎◌, inl, inr, ℕ, ◌+◌, ◌-◌, ◌*◌, ◌<◌, ◌≤◌, if◌then◌else◌, true, List, [], ◌∷◌, Option, None, Some, IsNone, length, map, slice_index_or, refl, sym, ap, subst, ◌∙◌, arith}
 use Rattle.std.specs.List.{All, sum_by, flat_map}
 use Rattle.std.proofs.Math.ListN.{get_or-map}
 use Rattle.std.proofs.lemmas.Bool.{cases_Bool}
-use Rattle.std.proofs.lemmas.List.{length-map, length-replicate}
+use Rattle.std.proofs.lemmas.List.{get_or_default, length-map, length-replicate}
 use Rattle.std.proofs.lemmas.List.Elements.{All-head, All-tail, All-nil}
 use Rattle.std.proofs.lemmas.List.Sums.{sum_by-cons}
-use Rattle.rec_word.specs.Place.{place_of}
 use Rattle.rec_model.specs.Accounted.{IsAccounted, HasUncountedReleased}
-use Rattle.rec_model.specs.Moves.{Move}
+use Rattle.rec_model.specs.Moves.{Move, Drops}
 use Rattle.rec_model.specs.Pending.{epoch_of, Write, Dated, dated, Pending}
-use Rattle.rec_model.specs.Sight.{IsSound}
+use Rattle.rec_model.specs.Sets.{IsMarked}
 use Rattle.rec_model.proofs.Consequences.{move_uncounted}
 use Rattle.rec_model.proofs.Moving.{move_accounted}
 use Rattle.rec_log.specs.declared.contents.Contents.{Contents}
 use Rattle.rec_log.specs.declared.entry.Entry.{Entry}
 use Rattle.rec_log.specs.declared.entry.Entry.TheVariants as entries
-use Rattle.rec_counts.specs.Counts.{State, slot_at}
+use Rattle.rec_counts.specs.Counts.{State, slot_at, IsKept as IsKeptCounts}
 use Rattle.rec_counts.specs.Lists.{times}
+use Rattle.rec_counts.specs.Slot.{absent, fresh}
+use Rattle.rec_counts.specs.declared.slot.Slot.{Slot}
 use Rattle.rec_counts.proofs.Times.{times-append}
-use Rattle.rec_release.specs.Release.{Work}
+use Rattle.rec_release.specs.declared.member.Member.{Member}
+use Rattle.rec_trial.specs.Promised.{unloaded}
 use Rattle.rec_trial.specs.Rules.{IsReady, released_among}
 use Rattle.rec_trial.specs.Trial as trials
-use Rattle.rec_trial.specs.Trial.{Machine as Trial}
-use Rattle.rec_trial.proofs.Keeps.{KeepsCounts}
+use Rattle.rec_trial.proofs.AtWork.{started_fields}
+use Rattle.rec_trial.proofs.Counted.{started_counted}
+use Rattle.rec_trial.proofs.Keeps.{KeepsCounts, started_keeps}
 use Rattle.rec_trial.proofs.Midway.{times_released}
-use Rattle.rec_collector.specs.GivenUp.{given_up}
+use Rattle.rec_trial.proofs.Promised.{begun_promised}
+use Rattle.rec_sigma.specs.Prepare as preps
+use Rattle.rec_sigma.specs.Prepared as prepared
+use Rattle.rec_sigma.specs.Prepared.{KeepsOthers}
+use Rattle.rec_sigma.proofs.Runs.{Came, came_first, next_set_others}
+use Rattle.rec_collector.specs.Followed.{prep_started, trial_started}
+use Rattle.rec_collector.specs.Parts.{Parts}
 use Rattle.rec_collector.specs.Private as collectors
+use Rattle.rec_collector.specs.Private.{parts_of, with_parts}
 use Rattle.rec_collector.specs.Kept as collector_kept
-use Rattle.rec_collector.specs.Step.{ReleasesOn, TriesOn, IsBetween}
-use Rattle.rec_collector.specs.Took.{cleared, trial_started}
+use Rattle.rec_collector.specs.Step.{PreparesOn, TriesOn, IsBetween}
+use Rattle.rec_collector.specs.Took.{cleared, ended, moved}
 use Rattle.rec_collector.specs.declared.phase.Phase.{Phase}
-use Rattle.rec_collector.specs.declared.phase.Phase.TheVariants.{Idle, Releasing, Trying, Opening}
+use Rattle.rec_collector.specs.declared.phase.Phase.TheVariants.{Idle, Looking, Swapping, Returning, Releasing, Freeing, Trying, Preparing, Opening, Sweeping, Closing}
 use Rattle.rec_collector.specs.declared.turn.Turn.{Turn}
-use Rattle.rec_collector.proofs.Trying.{given_up_count, given_up_released, given_up_slots, trial_begins}
+use Rattle.rec_collector.proofs.Dropping.{others_kept}
 use Rattle.rec_world.specs.declared.config.Config.{Config}
 use Rattle.rec_world.specs.Config.{IsMutator}
-use Rattle.rec_world.specs.Core.{Core, sight}
-use Rattle.rec_world.specs.CoreKept.{IsMadeIn, IsBufferOf, Stand, stand_at, HasMutators, IsLeft, one_if_sweeping, IsSomeSwept, IsKept}
+use Rattle.rec_world.specs.Core.{Core}
+use Rattle.rec_world.specs.CoreCycles.{IsLoading, AreSeen, HasCyclesAt}
+use Rattle.rec_world.specs.CoreKept.{IsMadeIn, IsBufferOf, Stand, stand_at, IsLeftOf, one_if_sweeping, IsSomeSwept, IsKept}
 use Rattle.rec_world.specs.CorePending.{Filed, writes_in, births_in, dated_names, applied_at, older_at, buffers, pending}
+use Rattle.rec_world.specs.Cycles.{is_member, word_loaded, SetsWait}
 use Rattle.rec_world.proofs.CoreBatches.{none_of}
 use Rattle.rec_world.proofs.CoreCounts.{slot_in, accounts_with, alike_slots}
+use Rattle.rec_world.proofs.CoreCycling.{none_alive}
+use Rattle.rec_world.proofs.CoreLanded.{landed_pending, HasLanded}
+use Rattle.rec_world.proofs.CoreSteps.{fields_many}
 use Rattle.rec_world.proofs.CoreSums.{share, buffers_sum, none_named}
 use Rattle.rec_world.proofs.CoreTurns.{phase_moves}
+use Rattle.rec_world.proofs.CyclesMarked.{trial_leaves_marked}
+use Rattle.rec_world.proofs.CyclesPrepared.{fields_begun, sets_wait_prepared}
+use Rattle.rec_world.proofs.CyclesTrial.{trial_stands_begun}
+use Rattle.rec_world.proofs.CyclesWait.{sets_stand_begun, sets_wait_moved}
 
 -- writes of an early epoch weigh nothing, if nothing early does
 early_writes : (weight : Write → ℕ) (epoch bound : ℕ) (es : List Entry) → epoch < bound → ((e : Write) → epoch_of e.new < bound → weight e ≡ 0) → All (IsMadeIn epoch) es → sum_by weight (writes_in es) ≡ 0
@@ -100,9 +119,9 @@ module _ (w : Core) (c : collectors.Private) (before : Phase) (some : 2 ≤ w.ep
   cleared_names : (g : Dated → ℕ) (e : ℕ) (b : Contents) → sum_by g (dated_names e (cleared b).snapshot) ≡ 0
   cleared_names g e b = ap (λ (ns : List ℕ). sum_by g (map (λ (slot : ℕ). dated e (slot + 1)) ns)) (none_named (length b.snapshot))
 
-  pub complete_move : (words : List ℕ) (s : State) (turns collections : ℕ)
-      → Move (record (accounts_with (pending amid) words s) { applied = w.epoch - 1 }) (accounts_with (pending (complete turns collections)) words s)
-  complete_move words s turns collections = Move.dropping (record {
+  pub complete_drops : (words : List ℕ) (s : State) (turns collections : ℕ)
+      → Drops (record (accounts_with (pending amid) words s) { applied = w.epoch - 1 }) (accounts_with (pending (complete turns collections)) words s)
+  complete_drops words s turns collections = record {
     writes = (
       λ weight. omega (arith, complete_sums weight (λ (b : Filed). writes_in b.buffer.entries) turns collections (λ b. refl)),
       λ weight none. omega (
@@ -131,11 +150,11 @@ module _ (w : Core) (c : collectors.Private) (before : Phase) (some : 2 ≤ w.ep
     registers = λ weight. refl;
     epochs = record { fields = refl; applied = refl; requested = refl };
     slots = record { count = λ x _. refl; free = λ x _. refl; released = λ x _. refl };
-  })
+  }
 
 -- counts that count and release alike give the same accounts
-pub alike_move : (p : Pending) (words : List ℕ) (s t : State) → ((node : ℕ) → ((slot_in t node).count ≡ (slot_in s node).count) × ((slot_in t node).released ≡ (slot_in s node).released)) → Move (accounts_with p words s) (accounts_with p words t)
-alike_move p words s t same = Move.dropping (record {
+pub alike_drops : (p : Pending) (words : List ℕ) (s t : State) → ((node : ℕ) → ((slot_in t node).count ≡ (slot_in s node).count) × ((slot_in t node).released ≡ (slot_in s node).released)) → Drops (accounts_with p words s) (accounts_with p words t)
+alike_drops p words s t same = record {
   writes = (λ weight. omega arith, λ weight _. refl);
   births = (λ weight. omega arith, λ weight _ _. refl);
   snapshots = (λ weight. omega arith, λ weight _ _. refl);
@@ -143,31 +162,11 @@ alike_move p words s t same = Move.dropping (record {
   registers = λ weight. refl;
   epochs = record { fields = refl; applied = refl; requested = refl };
   slots = record { count = λ x _. (same x).0; free = λ x _. refl; released = λ x _. (same x).1 };
-})
+}
 
 -- a row of cleared buffers is one of spares of this size
 pub cleared_buffer : (config : Config) (epoch e : ℕ) (b : Contents) → IsBufferOf config e b → IsBufferOf config epoch (cleared b)
 cleared_buffer config epoch e b is = record { snapshot = length-replicate (length b.snapshot) None ∙ is.snapshot; capacity = is.capacity; few = omega arith; made = All-nil (IsMadeIn epoch) }
-
--- What is known where a release, or a trial after it, has come to: with these field words and crossing words, `u` is the release
--- and the counts.
-pub record HasLanded (w : Core) (crossing words : List ℕ) (u : Work) : Type 0 where
-  pub kept : IsKept w
-  -- the collection is under way, and nothing is swept yet
-  pub way : collector_kept.under_way w.collector.phase ≡ 1
-  pub still : one_if_sweeping w.collector.phase ≡ 0
-  pub older : older_at w.epoch w.collector.phase ≡ w.epoch - 2
-  -- every mailbox is home
-  pub mutators : HasMutators w.config w.epoch Releasing w.mutators crossing w.boxes
-  -- the batch of the last epoch is applied
-  pub accounted : IsAccounted (record (accounts_with (pending w) words u.counts) { applied = w.epoch - 1 })
-  pub uncounted : HasUncountedReleased (record (accounts_with (pending w) words u.counts) { applied = w.epoch - 1 })
-  pub sound : IsSound (sight (record w { words = words }))
-  pub slots : length u.counts.slots ≡ w.config.slots
-  pub fields : u.machine.fields ≡ w.config.fields
-  -- what the free list has is released
-  pub listed : (x : ℕ) → 0 < times x u.counts.free → (slot_at u.counts x).released ≡ true
-  pub emptied : (x f : ℕ) → x < w.config.slots → f < w.config.fields → (slot_at u.counts x).released ≡ true → IsLeft u.machine.at x f ⊎ (slice_index_or words (place_of x f w.config.fields) 0 ≡ 0)
 
 -- Counts with the same slots, as far as counting and releasing go; and what gets into the free list is released.
 pub record IsAlike (s t : State) : Type 0 where
@@ -176,8 +175,8 @@ pub record IsAlike (s t : State) : Type 0 where
   pub released : (x : ℕ) → (slot_at t x).released ≡ (slot_at s x).released
   pub free : (x : ℕ) → 0 < times x t.free → (0 < times x s.free) ⊎ ((slot_at s x).released ≡ true)
 
--- a trial leaves such counts, and so does the giving up of its sets
-tried_alike : (s t : State) → KeepsCounts s t → IsAlike s t
+-- a trial leaves such counts,
+pub tried_alike : (s t : State) → KeepsCounts s t → IsAlike s t
 tried_alike s t k = record {
   slots = k.slots;
   count = k.counts;
@@ -190,14 +189,23 @@ tried_alike s t k = record {
   ];
 }
 
-given_up_alike : (s : State) → IsAlike s (given_up s)
-given_up_alike s = record { slots = given_up_slots s; count = given_up_count s; released = given_up_released s; free = λ x some. inl some }
+-- and so does a preparation
+pub prepared_alike : (s t : State) → KeepsOthers s t → IsAlike s t
+prepared_alike s t k = record {
+  slots = k.many;
+  count = λ x. ap (λ (v : Slot). v.count) (k.slots x);
+  released = λ x. ap (λ (v : Slot). v.released) (k.slots x);
+  free = λ x some. inl (subst (λ xs. 0 < times x xs) k.free some);
+}
 
--- where a collection has come to, it has come to with them
-landed_alike : {w : Core} {crossing words : List ℕ} {u : Work} → HasLanded w crossing words u → (t : State) → IsAlike u.counts t → HasLanded w crossing words (record { machine = u.machine; counts = t })
-landed_alike {w} {crossing} {words} {u} l t same =
-    let move : Move (record (accounts_with (pending w) words u.counts) { applied = w.epoch - 1 }) (record (accounts_with (pending w) words t) { applied = w.epoch - 1 })
-    = alike_move (record (pending w) { applied = w.epoch - 1 }) words u.counts t (alike_slots u.counts t same.slots same.count same.released) in
+pub landed_drops : (w : Core) (words : List ℕ) (s t : State) → IsAlike s t → Drops (landed_pending w words s) (landed_pending w words t)
+landed_drops w words s t same = alike_drops (record (pending w) { applied = w.epoch - 1 }) words s t (alike_slots s t same.slots same.count same.released)
+
+-- Where a collection has come to, it has come to with such counts, as long as no set is freed.
+pub landed_alike : {w : Core} {crossing words : List ℕ} {v : Parts} → HasLanded w crossing words v → v.freeing.at ≡ None → (t : State) (trial : trials.Machine) (prep : preps.Machine) → IsAlike v.counts t → IsKeptCounts t
+    → trial.fields ≡ w.config.fields → prep.fields ≡ w.config.fields → HasLanded w crossing words (record v { counts = t; trial = trial; prep = prep })
+landed_alike {w} {crossing} {words} {v} l unfreed t trial prep same counts trial_fields prep_fields =
+    let move : Move (landed_pending w words v.counts) (landed_pending w words t) = Move.dropping (landed_drops w words v.counts t same) in
     record {
       kept = l.kept;
       way = l.way;
@@ -205,16 +213,41 @@ landed_alike {w} {crossing} {words} {u} l t same =
       older = l.older;
       mutators = l.mutators;
       accounted = move_accounted move l.accounted;
-      uncounted = move_uncounted move l.accounted l.uncounted;
+      uncounted = λ none. move_uncounted move l.accounted (l.uncounted none);
       sound = l.sound;
+      many_words = l.many_words;
       slots = same.slots ∙ l.slots;
       fields = l.fields;
+      freeing_fields = l.freeing_fields;
+      trial_fields = trial_fields;
+      prep_fields = prep_fields;
+      counts = counts;
       listed = λ x some. same.released x ∙ elim (same.free x some) [ inl there ↦ l.listed x there | inr is ↦ is ];
-      emptied = λ x f below within released. l.emptied x f below within (sym (same.released x) ∙ released);
+      emptied = λ x f below within released. elim (l.emptied x f below within (sym (same.released x) ∙ released)) [
+        | inl left ↦ inl left
+        | inr rest ↦ elim rest [
+          | inl left ↦ absurd (subst (λ (m : Option Member). IsLeftOf v.counts.work m x f) unfreed left)
+          | inr none ↦ inr (inr none)
+        ]
+      ];
     }
 
+-- one turn more, and another phase, change nothing of what is known of the sets in that phase
+came_cycles : (p : Pending) (c : collectors.Private) (phase : Phase) → HasCyclesAt p c phase → HasCyclesAt p (moved c phase) phase
+came_cycles p c Idle h = h
+came_cycles p c (Looking t) h = h
+came_cycles p c (Swapping t) h = h
+came_cycles p c (Returning t) h = h
+came_cycles p c Releasing h = h
+came_cycles p c Freeing h = h
+came_cycles p c Trying h = record { before = h.before; words = h.words; run = h.run; trial = h.trial; at = h.at; stands = h.stands }
+came_cycles p c Preparing h = record { before = h.before; before_kept = h.before_kept; loads = h.loads; prepares = h.prepares; fields = h.fields; stands = h.stands }
+came_cycles p c Opening h = h
+came_cycles p c (Sweeping n) h = h
+came_cycles p c (Closing n) h = h
+
 -- a phase of a collection that has applied its batch: every mailbox is home, and nothing is swept yet
-record IsUnswept (requested : ℕ) (phase : Phase) : Type 0 where
+pub record IsUnswept (requested : ℕ) (phase : Phase) : Type 0 where
   pub way : collector_kept.under_way phase ≡ 1
   pub still : one_if_sweeping phase ≡ 0
   pub applied : applied_at requested phase ≡ requested - 1
@@ -223,18 +256,52 @@ record IsUnswept (requested : ℕ) (phase : Phase) : Type 0 where
   pub between : IsBetween phase
   pub some : IsSomeSwept phase
 
+-- in such a phase, the batch of the last epoch is applied
+pub here_pending : (w : Core) (phase : Phase) → w.collector.phase ≡ phase → IsUnswept w.epoch phase → pending w ≡ landed_pending w w.words w.collector.counts
+here_pending w phase is on = ap (λ (n : ℕ). let p : Pending = record (pending w) { applied = n } in p) (ap (applied_at w.epoch) is ∙ on.applied)
+
+-- the requested epoch is the next one
+pub here_done : (w : Core) → IsKept w → w.epoch - 1 + 1 ≡ w.epoch
+here_done w kept =
+    let first : 1 ≤ w.config.first_epoch = kept.config.some_epoch in
+    omega (arith, first, kept.collector.begun)
+
+-- in such a phase, a collection has come to where it is
+pub lands_here : (w : Core) (phase : Phase) → IsKept w → w.collector.phase ≡ phase → IsUnswept w.epoch phase → HasLanded w w.crossing w.words (parts_of w.collector)
+lands_here w phase kept is on =
+    let k = kept.collector in
+    let same : pending w ≡ landed_pending w w.words w.collector.counts = here_pending w phase is on in
+    record {
+      kept = kept;
+      way = ap collector_kept.under_way is ∙ on.way;
+      still = ap one_if_sweeping is ∙ on.still;
+      older = ap (older_at w.epoch) is ∙ on.older;
+      mutators = phase_moves kept.mutators (λ s there. sym (ap (λ f. stand_at f s) is ∙ on.stands s));
+      accounted = subst IsAccounted same kept.accounted;
+      uncounted = λ unfreed. subst HasUncountedReleased same (kept.uncounted unfreed);
+      sound = kept.sound;
+      many_words = refl;
+      slots = k.slots;
+      fields = k.fields;
+      freeing_fields = k.machine.freeing_fields ∙ k.fields;
+      trial_fields = k.machine.trial_fields ∙ k.fields;
+      prep_fields = k.machine.prep_fields ∙ k.fields;
+      counts = k.machine.counts;
+      listed = k.listed;
+      emptied = k.emptied;
+    }
+
 module _ (w : Core) (crossing words : List ℕ) (q : collectors.Private) (machine : collector_kept.IsMachine q) where
   abbrev landed : Core
   landed = record w { crossing = crossing; words = words; collector = q }
 
   -- the collection goes on
-  goes_on : (u : Work) (trial : Trial) (next : Phase) → HasLanded w crossing words u → IsUnswept w.epoch next
-      → q ≡ record w.collector { counts = u.counts; release = u.machine; trial = trial; phase = next; turns = w.collector.turns + 1 } → IsKept landed
-  goes_on u trial next l on is =
+  pub goes_on : (v : Parts) (next : Phase) → HasLanded w crossing words v → IsUnswept w.epoch next → HasCyclesAt (landed_pending w words v.counts) (with_parts w.collector v) next → q ≡ moved (with_parts w.collector v) next → IsKept landed
+  goes_on v next l on cycles is =
       let k = l.kept.collector in
-      let v : collectors.Private = record w.collector { counts = u.counts; release = u.machine; trial = trial; phase = next; turns = w.collector.turns + 1 } in
-      let same : pending (record w { crossing = crossing; words = words; collector = v }) ≡ record (accounts_with (pending w) words u.counts) { applied = w.epoch - 1 } = rw (on.applied, on.older, l.older) refl in
-      let whole : IsKept (record w { crossing = crossing; words = words; collector = v }) = record {
+      let c : collectors.Private = moved (with_parts w.collector v) next in
+      let same : pending (record w { crossing = crossing; words = words; collector = c }) ≡ landed_pending w words v.counts = rw (on.applied, on.older, l.older) refl in
+      let whole : IsKept (record w { crossing = crossing; words = words; collector = c }) = record {
         config = l.kept.config;
         headers = l.kept.headers;
         labels = l.kept.labels;
@@ -259,29 +326,30 @@ module _ (w : Core) (crossing words : List ℕ) (q : collectors.Private) (machin
         made = l.kept.made;
         sound = l.sound;
         accounted = subst IsAccounted (sym same) l.accounted;
-        uncounted = subst HasUncountedReleased (sym same) l.uncounted;
+        uncounted = λ none. subst HasUncountedReleased (sym same) (l.uncounted none);
+        cycles = subst (λ p. HasCyclesAt p c next) (sym same) (came_cycles (landed_pending w words v.counts) (with_parts w.collector v) next cycles);
       } in
       subst (λ (x : collectors.Private). IsKept (record w { crossing = crossing; words = words; collector = x })) (sym is) whole
 
   -- the collection is complete
-  completes : (u : Work) (trial : Trial) → HasLanded w crossing words u
-      → q ≡ record w.collector { counts = u.counts; release = u.machine; trial = trial; phase = Idle; turns = 0; collections = w.collector.collections + 1; newer = map cleared w.collector.older; older = w.collector.newer } → IsKept landed
-  completes u trial l is =
+  pub completes : (v : Parts) → HasLanded w crossing words v → v.freeing.at ≡ None → SetsWait (landed_pending w words v.counts) v.counts → q ≡ ended (with_parts w.collector v) → IsKept landed
+  completes v l unfreed waits is =
       let k = l.kept.collector in
-      let v : collectors.Private = record w.collector { counts = u.counts; release = u.machine; trial = trial; phase = Idle; turns = 0; collections = w.collector.collections + 1; newer = map cleared w.collector.older; older = w.collector.newer } in
+      let c : collectors.Private = ended (with_parts w.collector v) in
+      let its : collector_kept.IsMachine c = subst collector_kept.IsMachine is machine in
       let both : length w.collector.older ≡ w.config.mutators = k.machine.both ∙ k.mutators in
       let older : (t : ℕ) → IsMutator w.config t → IsBufferOf w.config (w.epoch - 2) (collectors.buffer_at w.collector.older (t - 1))
       = λ s there. subst (λ e. IsBufferOf w.config e (collectors.buffer_at w.collector.older (s - 1))) l.older (k.older s there) in
       let some_epochs : 2 ≤ w.epoch = (let first : 1 ≤ w.config.first_epoch = l.kept.config.some_epoch in omega (arith, k.begun, l.way)) in
-      let move : Move (record (accounts_with (pending w) words u.counts) { applied = w.epoch - 1 }) (pending (record w { crossing = crossing; words = words; collector = v }))
-      = complete_move w w.collector w.collector.phase some_epochs l.older both older words u.counts 0 (w.collector.collections + 1) in
-      let whole : IsKept (record w { crossing = crossing; words = words; collector = v }) = record {
+      let drops : Drops (landed_pending w words v.counts) (pending (record w { crossing = crossing; words = words; collector = c }))
+      = complete_drops w w.collector w.collector.phase some_epochs l.older both older words v.counts 0 (w.collector.collections + 1) in
+      let whole : IsKept (record w { crossing = crossing; words = words; collector = c }) = record {
         config = l.kept.config;
         headers = l.kept.headers;
         labels = l.kept.labels;
         mutators = phase_moves l.mutators (λ s there. refl);
         collector = record {
-          machine = subst collector_kept.IsMachine is machine;
+          machine = its;
           between = tt;
           slots = l.slots;
           fields = l.fields;
@@ -301,27 +369,93 @@ module _ (w : Core) (crossing words : List ℕ) (q : collectors.Private) (machin
         scans = l.kept.scans;
         made = l.kept.made;
         sound = l.sound;
-        accounted = move_accounted move l.accounted;
-        uncounted = move_uncounted move l.accounted l.uncounted;
+        accounted = move_accounted (Move.dropping drops) l.accounted;
+        uncounted = λ none. move_uncounted (Move.dropping drops) l.accounted (l.uncounted unfreed);
+        cycles = sets_wait_moved v.counts (Move.dropping drops) tt l.accounted (none_alive v.counts its.now.0.none) waits;
       } in
       subst (λ (x : collectors.Private). IsKept (record w { crossing = crossing; words = words; collector = x })) (sym is) whole
 
-  -- what a trial has come to, with its sets or with all of them given up
-  with_sets : {u : Work} (v : State) → HasLanded w crossing words u → KeepsCounts u.counts v → HasLanded w crossing words (record { machine = u.machine; counts = v })
-  with_sets v l keeps = landed_alike l v (tried_alike _ v keeps)
+  -- all fields, by the slots of the counts
+  places_landed : (v : Parts) → HasLanded w crossing words v → (slots : ℕ) → length v.counts.slots ≡ slots → length words ≡ slots * w.config.fields
+  places_landed v l slots many = l.many_words ∙ sym (fields_many w slots w.config.fields l.kept (sym many ∙ l.slots) refl)
 
-  without_sets : {u : Work} (v : State) → HasLanded w crossing words u → KeepsCounts u.counts v → HasLanded w crossing words (record { machine = u.machine; counts = given_up v })
-  without_sets v l keeps = landed_alike (with_sets v l keeps) (given_up v) (given_up_alike v)
+  -- whatever follows a preparation
+  pub prepares_kept : (v : Parts) (turn : Turn) → HasLanded w crossing words v → AreSeen (landed_pending w words v.counts) (with_parts w.collector v) → v.freeing.at ≡ None → PreparesOn w.collector v q turn → IsKept landed
+  prepares_kept v turn l seen unfreed on = go on
+    where
+      waits : v.prep.at ≡ None → SetsWait (landed_pending w words v.counts) v.counts
+      waits done =
+          let all : prepared.PreparedTo w.config.fields seen.before None v.counts seen.loads = subst (λ a. prepared.PreparedTo w.config.fields seen.before a v.counts seen.loads) done seen.prepares in
+          sets_wait_prepared (landed_pending w words v.counts) seen.before v.counts seen.loads seen.before_kept (places_landed v l (length seen.before.slots) all.others.many) seen.fields all seen.stands
+
+      go : PreparesOn w.collector v q turn → IsKept landed
+      go (PreparesOn.more some g) = goes_on v Preparing l (record { way = refl; still = refl; applied = refl; older = refl; stands = λ s. refl; between = tt; some = tt }) seen g.after
+      go (PreparesOn.sweeps_next none some g) = goes_on v Opening l (record { way = refl; still = refl; applied = refl; older = refl; stands = λ s. refl; between = tt; some = tt }) (waits none) g.after
+      go (PreparesOn.completes none free e) = completes v l unfreed (waits none) e.after
+
+  -- as a trial is over, the preparation of its sets begins
+  prep_is : (m : preps.Machine) (s : State) → preps.started_of m s ≡ preps.work_of m.fields (preps.next_set s 0)
+  unfolding preps.started_of
+  prep_is m s = refl
+
+  prep_others : (m : preps.Machine) (s : State) → KeepsOthers s (preps.started_of m s).counts
+  prep_others m s = subst (λ (x : preps.Work). KeepsOthers s x.counts) (sym (prep_is m s)) (next_set_others s 0)
+
+  prep_lands : (v : Parts) → HasLanded w crossing words v → v.freeing.at ≡ None → HasLanded w crossing words (prep_started v)
+  prep_lands v l unfreed =
+      let u : preps.Work = preps.started_of v.prep v.counts in
+      let others : KeepsOthers v.counts u.counts = prep_others v.prep v.counts in
+      landed_alike l unfreed u.counts v.trial u.machine (prepared_alike v.counts u.counts others) (others_kept v.counts u.counts others l.counts) l.trial_fields (ap (λ (x : preps.Work). x.machine.fields) (prep_is v.prep v.counts) ∙ l.prep_fields)
+
+  prep_seen : (v : Parts) → HasLanded w crossing words v → IsLoading (landed_pending w words v.counts) (with_parts w.collector v) → trials.next_of v.trial ≡ None
+      → AreSeen (landed_pending w words (prep_started v).counts) (with_parts w.collector (prep_started v))
+  prep_seen v l loading over =
+      let u : preps.Work = preps.started_of v.prep v.counts in
+      let others : KeepsOthers v.counts u.counts = prep_others v.prep v.counts in
+      let p : Pending = landed_pending w words u.counts in
+      let some : 1 ≤ w.config.fields = l.kept.config.some_fields in
+      let came : Came w.config.fields v.counts (preps.work_of w.config.fields (preps.next_set v.counts 0)) [] = came_first w.config.fields v.counts some l.counts.numbers in
+      let counts : loading.run.work.counts ≡ v.counts = ap (λ (x : trials.Work). x.counts) loading.at in
+      let done : IsNone (trials.next_of loading.run.work.machine) = subst (λ (x : trials.Work). IsNone (trials.next_of x.machine)) (sym loading.at) (subst (λ o. IsNone o) (sym over) refl) in
+      let many : length v.counts.slots ≡ length loading.before.slots = ap (λ (x : State). length x.slots) (sym counts) ∙ loading.trial.careful.slots in
+      let marked : IsMarked p (is_member loading.run.work.counts) (word_loaded w.config.fields loading.run.marking)
+      = trial_leaves_marked p w.config.fields loading.before loading.words loading.run loading.trial done refl (places_landed v l (length loading.before.slots) many)
+      (λ x below. slot_counted u.counts x (omega (arith, below, many, others.many)) ∙ ap (λ (y : Slot). y.count) (others.slots x) ∙ ap (λ (y : State). (slot_at y x).count) (sym counts) ∙ loading.trial.careful.counts x)
+      (record { marks = loading.stands.marks; blacks = loading.stands.blacks }) in
+      record {
+        before = v.counts;
+        before_kept = l.counts;
+        loads = [];
+        prepares = subst (λ (x : preps.Work). prepared.PreparedTo w.config.fields v.counts x.machine.at x.counts []) (sym (prep_is v.prep v.counts)) came.law;
+        fields = fields_begun w.config.fields;
+        stands = sets_stand_begun p v.counts u.counts (word_loaded w.config.fields loading.run.marking) others (subst (λ (y : State). IsMarked p (is_member y) (word_loaded w.config.fields loading.run.marking)) counts marked);
+      }
+    where
+      slot_counted : (s : State) (x : ℕ) → x < length s.slots → (slot_in s (x + 1)).count ≡ (slot_at s x).count
+      slot_counted s x below =
+          let at : x + 1 - 1 ≡ x = omega arith in
+          ap (λ n. (slice_index_or s.slots n fresh).count) at ∙ ap (λ (y : Slot). y.count) (get_or_default s.slots x fresh absent below)
 
   -- whatever follows a trial
-  pub tried_kept : (u : Work) (v : trials.Work) (turn : Turn) → HasLanded w crossing words u → KeepsCounts u.counts v.counts → TriesOn (record w.collector { counts = u.counts; release = u.machine }) v q turn → IsKept landed
-  tried_kept u v turn l keeps (TriesOn.more some g) =
-      goes_on (record { machine = u.machine; counts = v.counts }) v.machine Trying (with_sets v.counts l keeps) (record { way = refl; still = refl; applied = refl; older = refl; stands = λ s. refl; between = tt; some = tt }) g.after
-  tried_kept u v turn l keeps (TriesOn.sweeps_next none some g) =
-      goes_on (record { machine = u.machine; counts = given_up v.counts }) v.machine Opening (without_sets v.counts l keeps) (record { way = refl; still = refl; applied = refl; older = refl; stands = λ s. refl; between = tt; some = tt }) g.after
-  tried_kept u v turn l keeps (TriesOn.completes none free e) = completes (record { machine = u.machine; counts = given_up v.counts }) v.machine (without_sets v.counts l keeps) e.after
+  pub tries_kept : (v : Parts) (turn : Turn) → HasLanded w crossing words v → IsLoading (landed_pending w words v.counts) (with_parts w.collector v) → v.freeing.at ≡ None → TriesOn w.collector v q turn → IsKept landed
+  tries_kept v turn l loading unfreed (TriesOn.more some g) = goes_on v Trying l (record { way = refl; still = refl; applied = refl; older = refl; stands = λ s. refl; between = tt; some = tt }) loading g.after
+  tries_kept v turn l loading unfreed (TriesOn.prepares over on) = prepares_kept (prep_started v) turn (prep_lands v l unfreed) (prep_seen v l loading over) unfreed on
 
-  -- whatever follows a release
-  pub landed_kept : (u : Work) (turn : Turn) → HasLanded w crossing words u → IsReady u.counts → ReleasesOn w.collector u q turn → IsKept landed
-  landed_kept u turn l ready (ReleasesOn.more due g) = goes_on u w.collector.trial Releasing l (record { way = refl; still = refl; applied = refl; older = refl; stands = λ s. refl; between = tt; some = tt }) g.after
-  landed_kept u turn l ready (ReleasesOn.tries none on) = tried_kept u (trial_started w.collector u.counts) turn l (trial_begins w.collector u.counts l.kept.collector.machine ready) on
+  -- where nothing is left to release or to test, a trial begins
+  pub trial_begins : (v : Parts) (turn : Turn) → HasLanded w crossing words v → IsReady v.counts → v.freeing.at ≡ None → TriesOn w.collector (trial_started v) q turn → IsKept landed
+  trial_begins v turn l ready unfreed on =
+      let some : 1 ≤ w.config.fields = l.kept.config.some_fields in
+      let wide : 0 < v.trial.fields = omega (arith, some, l.trial_fields) in
+      let u : trials.Work = trials.started_of v.trial.fields v.counts in
+      let fields : u.machine.fields ≡ v.trial.fields = started_fields v.trial.fields v.counts wide ready in
+      tries_kept (trial_started v) turn
+      (landed_alike l unfreed u.counts u.machine v.prep (tried_alike v.counts u.counts (started_keeps v.trial.fields v.counts wide ready)) (started_counted v.trial.fields v.counts wide l.counts ready) (fields ∙ l.trial_fields) l.prep_fields)
+      (record {
+        before = v.counts;
+        words = [];
+        run = unloaded u;
+        trial = begun_promised w.config.fields v.counts u some ready (ap (λ n. trials.started_of n v.counts) l.trial_fields);
+        at = refl;
+        stands = trial_stands_begun (landed_pending w words u.counts) u;
+      })
+      unfreed on

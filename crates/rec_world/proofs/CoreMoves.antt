@@ -8,7 +8,7 @@ use Rattle.std.proofs.lemmas.List.Sums.{get_or-le-sum_by, sum_by-append, sum_by-
 use Rattle.std.proofs.lemmas.Nat.{div-mul-add}
 use Rattle.rec_word.specs.Place.{place_of}
 use Rattle.rec_word.specs.Word.{target_of}
-use Rattle.rec_model.specs.Moves.{KeepsEpochs, KeepsSlots, Crosses, Drops, Loads, Move, with_answer}
+use Rattle.rec_model.specs.Moves.{KeepsEpochs, KeepsSlots, Puts, Registers, Bears, Crosses, Drops, Loads, with_answer}
 use Rattle.rec_model.specs.Pending.{node_of, epoch_of, home, Write, Dated, dated, Pending, is_at, Holds}
 use Rattle.rec_model.specs.Reach.{named}
 use Rattle.rec_model.specs.Sums.{one_if_same}
@@ -72,14 +72,14 @@ stays : (w : Core) (t : ℕ) (q : Private) → KeepsEpochs (pending w) (pending 
 stays w t q = (record { fields = refl; applied = refl; requested = refl }, record { count = λ x _. refl; free = λ x _. refl; released = λ x _. refl })
 
 -- A register of mutator t changes: to null, to what it holds, or to what it finds in a field.
-pub register_move : (w : Core) (t r : ℕ) (x : Option ℕ) (q : Private) → t - 1 < length w.mutators → r < length (mutator w t).registers → q.registers ≡ slice_set (mutator w t).registers r x → q.log ≡ (mutator w t).log
-    → epoch_at q ≡ epoch_at (mutator w t) → (0 < code x → Holds (pending w) (epoch_at (mutator w t)) (code x) ⊎ Loads (pending w) (epoch_at (mutator w t)) (code x)) → Move (pending w) (pending (with_mutator w t q))
-register_move w t r x q there within registers log epoch value =
+pub register_moves : (w : Core) (t r : ℕ) (x : Option ℕ) (q : Private) → t - 1 < length w.mutators → r < length (mutator w t).registers → q.registers ≡ slice_set (mutator w t).registers r x → q.log ≡ (mutator w t).log
+    → epoch_at q ≡ epoch_at (mutator w t) → (0 < code x → Holds (pending w) (epoch_at (mutator w t)) (code x) ⊎ Loads (pending w) (epoch_at (mutator w t)) (code x)) → Registers (pending w) (pending (with_mutator w t q)) (epoch_at (mutator w t)) (code (register (mutator w t) r)) (code x)
+register_moves w t r x q there within registers log epoch value =
     let p : Private = mutator w t in
     let e : ℕ = epoch_at p in
     let same : buffers (with_mutator w t q) ≡ buffers w = same_buffers w t q log epoch in
     let own : dated_all (epoch_at q) q.registers ≡ dated_all e (slice_set p.registers r x) = ap (λ (n : ℕ). dated_all n q.registers) epoch ∙ ap (dated_all e) registers in
-    Move.register (record {
+    record {
       had = has_register w t r there within;
       value = value;
       registers = λ weight. omega (arith, registers_sum weight w.mutators (t - 1) q there, register_sum weight e p.registers r x within, ap (sum_by weight) own);
@@ -91,7 +91,7 @@ register_move w t r x q there within registers log epoch value =
       };
       epochs = (stays w t q).0;
       slots = (stays w t q).1;
-    })
+    }
 
 -- what one log less and another more do to a sum over all buffers
 log_sum : {Y : Type 0} (g : Y → ℕ) (f : Filed → List Y) (w : Core) (t : ℕ) (q : Private) → t - 1 < length w.mutators → sum_by g (flat_map f (buffers (with_mutator w t q))) + share g f (epoch_at (mutator w t)) (mutator w t).log ≡ sum_by g (flat_map f (buffers w)) + share g f (epoch_at q) q.log
@@ -104,17 +104,17 @@ same_registers w t q there registers epoch weight =
     omega (arith, registers_sum weight w.mutators (t - 1) q there, ap (sum_by weight) own)
 
 -- Mutator t exchanges the word in a field of a node that it holds, and logs it.
-pub put_move : (w : Core) (t place new slot val : ℕ) (q : Private) → t - 1 < length w.mutators → place < length w.words → home w.config.fields place ≡ slot + 1
+pub put_moves : (w : Core) (t place new slot val : ℕ) (q : Private) → t - 1 < length w.mutators → place < length w.words → home w.config.fields place ≡ slot + 1
     → Holds (pending w) (epoch_at (mutator w t)) (slot + 1) → (0 < node_of new → Holds (pending w) (epoch_at (mutator w t)) (node_of new)) → epoch_of new ≡ epoch_at (mutator w t)
     → q.registers ≡ (mutator w t).registers → epoch_at q ≡ epoch_at (mutator w t) → q.log ≡ record (mutator w t).log { entries = (mutator w t).log.entries ++ entries.Put place new (slice_index_or w.words place 0) ∷ [] }
-    → Move (pending w) (pending (record (with_mutator w t q) { words = slice_set w.words place new }))
-put_move w t place new slot val q there inside at source target stamp registers epoch log =
+    → Puts (pending w) (pending (record (with_mutator w t q) { words = slice_set w.words place new })) (epoch_at (mutator w t)) place new
+put_moves w t place new slot val q there inside at source target stamp registers epoch log =
     let p : Private = mutator w t in
     let old : ℕ = slice_index_or w.words place 0 in
     let e : ℕ = epoch_at p in
     let file : Filed = filed (epoch_at q) q.log in
     let own : file ≡ filed e (record p.log { entries = p.log.entries ++ entries.Put place new old ∷ [] }) = ap (λ (n : ℕ). filed n q.log) epoch ∙ ap (filed e) log in
-    Move.put (record {
+    record {
       inside = inside;
       source = subst (Holds (pending w) e) (sym at) source;
       target = target;
@@ -126,7 +126,7 @@ put_move w t place new slot val q there inside at source target stamp registers 
       registers = same_registers w t q there registers epoch;
       epochs = record { fields = refl; applied = refl; requested = refl };
       slots = record { count = λ x _. refl; free = λ x _. refl; released = λ x _. refl };
-    })
+    }
 
 -- a header that was set tells whether its slot is free, and each other is as it was
 header_set : (headers : List ℕ) (slot header : ℕ) → slot < length headers → (node : ℕ) → 0 < node
@@ -145,16 +145,16 @@ header_set headers slot header there node pos =
     ]
 
 -- Mutator t takes a free slot for a new object, lets a register name it, and logs it.
-pub birth_move : (w : Core) (t r slot label : ℕ) (q : Private) → t - 1 < length w.mutators → r < length (mutator w t).registers → slot < length w.headers → slice_index_or w.headers slot 0 ≡ 0
+pub birth_moves : (w : Core) (t r slot label : ℕ) (q : Private) → t - 1 < length w.mutators → r < length (mutator w t).registers → slot < length w.headers → slice_index_or w.headers slot 0 ≡ 0
     → q.registers ≡ slice_set (mutator w t).registers r (Some slot) → epoch_at q ≡ epoch_at (mutator w t) → q.log ≡ record (mutator w t).log { entries = (mutator w t).log.entries ++ entries.Born slot ∷ [] }
-    → Move (pending w) (pending (record (with_mutator w t q) { headers = slice_set w.headers slot (label + 1); made = w.made + 1 }))
-birth_move w t r slot label q there within inside free registers epoch log =
+    → Bears (pending w) (pending (record (with_mutator w t q) { headers = slice_set w.headers slot (label + 1); made = w.made + 1 })) (epoch_at (mutator w t)) (code (register (mutator w t) r)) (slot + 1)
+birth_moves w t r slot label q there within inside free registers epoch log =
     let p : Private = mutator w t in
     let e : ℕ = epoch_at p in
     let file : Filed = filed (epoch_at q) q.log in
     let own : file ≡ filed e (record p.log { entries = p.log.entries ++ entries.Born slot ∷ [] }) = ap (λ (n : ℕ). filed n q.log) epoch ∙ ap (filed e) log in
     let dates : dated_all (epoch_at q) q.registers ≡ dated_all e (slice_set p.registers r (Some slot)) = ap (λ (n : ℕ). dated_all n q.registers) epoch ∙ ap (dated_all e) registers in
-    Move.birth (record {
+    record {
       had = has_register w t r there within;
       is_node = omega arith;
       was_free = (let at : slot + 1 - 1 ≡ slot = omega arith in ap (λ (n : ℕ). slice_index_or w.headers n 0 == 0) at ∙ eq-eqb (slice_index_or w.headers slot 0) 0 free);
@@ -167,7 +167,7 @@ birth_move w t r slot label q there within inside free registers epoch log =
       count = λ x _. refl;
       free = header_set w.headers slot label inside;
       released = λ x _. refl;
-    })
+    }
 
 -- the spare buffer adds nothing to a sum
 spare_writes : (config : Config) (g : Write → ℕ) → sum_by g (writes_in (spare_of config).entries) ≡ 0

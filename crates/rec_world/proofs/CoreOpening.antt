@@ -1,5 +1,5 @@
 -- What every heap with its collector keeps holds as it is opened.
-use Rattle.std.proofs.Common.{◌≡◌, inl, inr, ℕ, ◌+◌, ◌-◌, ◌*◌, ◌^◌, ◌<◌, ◌≤◌, ◌==◌, zero, suc, false, List, [], ◌∷◌, Option, None, slice_index_or, length, map, flat_map, replicate, refl, sym, ap, subst, ◌∙◌, arith}
+use Rattle.std.proofs.Common.{◌≡◌, inl, inr, ℕ, ◌+◌, ◌-◌, ◌*◌, ◌^◌, ◌<◌, ◌≤◌, ◌==◌, zero, suc, false, List, [], ◌∷◌, Option, None, Some, slice_index_or, length, map, flat_map, replicate, refl, sym, ap, subst, ◌∙◌, arith}
 use Rattle.std.specs.List.{sum_by}
 use Rattle.std.proofs.lemmas.Bool.{cases_lt, false≢true}
 use Rattle.std.proofs.lemmas.Bool.Decides.{nat_tests}
@@ -15,10 +15,12 @@ use Rattle.rec_model.proofs.Consequences.{opening_uncounted}
 use Rattle.rec_model.proofs.Opened.{opening_sound}
 use Rattle.rec_model.proofs.Sums.{sum_at-replicate_none, sum_by-flat_map}
 use Rattle.rec_log.specs.declared.contents.Contents.{Contents}
-use Rattle.rec_counts.specs.Slot.{fresh}
+use Rattle.rec_counts.specs.Counts.{State, slot_at, IsKept as IsKeptCounts}
+use Rattle.rec_counts.specs.Lists.{one, times}
+use Rattle.rec_counts.specs.Slot.{fresh, is_in}
 use Rattle.rec_counts.specs.declared.slot.Slot.{Slot}
 use Rattle.rec_counts.proofs.Keeping.{keep_open}
-use Rattle.rec_counts.proofs.Times.{times-nil}
+use Rattle.rec_counts.proofs.Times.{one-same, times-nil}
 use Rattle.rec_mutator.specs.Private.{Private}
 use Rattle.rec_collector.specs.Kept as collector_kept
 use Rattle.rec_collector.specs.Private as collectors
@@ -33,6 +35,7 @@ use Rattle.rec_world.proofs.CoreActors.{spare_buffer}
 use Rattle.rec_world.proofs.CoreBatches.{none_of}
 use Rattle.rec_world.proofs.CoreSums.{share, log_share, buffers_sum, none_named}
 use Rattle.rec_world.proofs.CoreTurns.{AddsNothing, writes_nothing, births_nothing, snapshots_nothing}
+use Rattle.rec_world.proofs.CyclesWait.{sets_wait_none}
 use Rattle.rec_world.proofs.Openings.{free_at, small_header, registers_opened, length-opened, opened_at, registers_many, machine_opened as mutator_opened}
 
 -- a mutator as it is opened
@@ -249,6 +252,17 @@ module _ (config : Config) (is : IsConfig config) where
       unreleased (suc zero) pos = ap (λ (v : Slot). v.released) first_slot
       unreleased (suc (suc n)) pos = ap (λ (v : Slot). v.released) (other_slot (suc (suc n) - 1) (omega arith))
 
+-- where there are no sets, no slot is in one
+in_no_set : (s : State) → IsKeptCounts s → s.sets ≡ [] → (x : ℕ) → (slot_at s x).set ≡ None
+in_no_set s k none x = go (slot_at s x).set refl
+  where
+    go : (o : Option ℕ) → (slot_at s x).set ≡ o → (slot_at s x).set ≡ None
+    go None is = is
+    go (Some number) is =
+        let in_it : one (is_in number (slot_at s x).set) ≡ 1 = ap (λ (o : Option ℕ). one (is_in number o)) is ∙ one-same number in
+        let out : times x (slice_index_or s.sets number []) ≡ 0 = ap (λ (xss : List (List ℕ)). times x (slice_index_or xss number [])) none ∙ times-nil x in
+        absurd (omega (arith, k.numbers number x, in_it, out))
+
 -- The opened heap keeps it all.
 pub opened_kept : (config : Config) → IsConfig config → IsKept (opened config)
 opened_kept config is =
@@ -270,5 +284,6 @@ opened_kept config is =
       made = omega arith;
       sound = rw (registers_opened config config.mutators) (opening_sound config.slots config.fields config.registers config.mutators slots);
       accounted = opening_accounted (pending (opened config)) config.first_epoch config.mutators (pending_opens config is);
-      uncounted = opening_uncounted (pending (opened config)) config.first_epoch config.mutators (pending_opens config is);
+      uncounted = λ unfreed. opening_uncounted (pending (opened config)) config.first_epoch config.mutators (pending_opens config is);
+      cycles = sets_wait_none (pending (opened config)) (opened config).collector.counts refl (in_no_set (opened config).collector.counts (machine_opened config is).counts refl);
     }

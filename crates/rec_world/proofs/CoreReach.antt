@@ -26,6 +26,8 @@ use Rattle.rec_model.proofs.Within.{all_reached}
 use Rattle.rec_model.proofs.Words.{words_of-set_other}
 use Rattle.rec_counts.specs.Counts.{slot_at}
 use Rattle.rec_release.specs.declared.at.At.{At}
+use Rattle.rec_release.specs.declared.member.Member.{Member}
+use Rattle.rec_release.specs.CycleFree.{op_at as freeing_op_at, next_of as freeing_next}
 use Rattle.rec_release.specs.Release.{op_at as release_op_at, next_of as release_next}
 use Rattle.rec_release.specs.Sweep.{next_of as sweep_next}
 use Rattle.rec_mutator.specs.Next.{next_of as mutator_next}
@@ -33,14 +35,16 @@ use Rattle.rec_mutator.specs.Private.{Private}
 use Rattle.rec_collector.specs.Next.{is_spent, next_of, next_at}
 use Rattle.rec_collector.specs.Step.{IsBetween}
 use Rattle.rec_collector.specs.declared.phase.Phase.{Phase}
-use Rattle.rec_collector.specs.declared.phase.Phase.TheVariants.{Idle, Looking, Swapping, Returning, Releasing, Trying, Opening, Sweeping, Closing}
+use Rattle.rec_collector.specs.declared.phase.Phase.TheVariants.{Idle, Looking, Swapping, Returning, Releasing, Freeing, Trying, Preparing, Opening, Sweeping, Closing}
 use Rattle.rec_world.specs.Core.{Core, cells_of, sight, mutator}
 use Rattle.rec_world.specs.CoreKept.{IsKept}
 use Rattle.rec_world.specs.CoreMoves.{stepped, turned, turned_at}
 use Rattle.rec_world.specs.CorePending.{pending}
 use Rattle.rec_world.specs.CoreReach.{KeepsReached}
 use Rattle.rec_world.specs.Memory.{cell, with_cell}
-use Rattle.rec_world.proofs.CoreReleasing.{held_released}
+use Rattle.rec_world.proofs.CoreFreeing as freeing
+use Rattle.rec_world.proofs.CorePreparing.{loads_due}
+use Rattle.rec_world.proofs.CoreReleasing as releasing
 use Rattle.rec_world.proofs.CoreSteps.{slot_there}
 use Rattle.rec_world.proofs.CoreSweeping.{root_named, due_released}
 use Rattle.rec_world.proofs.CoreTrying.{loads_child}
@@ -123,9 +127,13 @@ keeps_others_header w x kept released =
       | inr past ↦ get_or_past (slice_set w.headers x 0) slot 0 (omega (arith, past, length-set w.headers x 0))
     ]
 
+-- a field that is loaded keeps its word
+load_keeps : (w : Core) (op : Op) (place : ℕ) → op ≡ ops.LoadChild place → KeepsReached (sight w) (sight (turned_at w (Some op)))
+load_keeps w op place its = subst (λ o. KeepsReached (sight w) (sight (turned_at w (Some o)))) (sym its) (subst (λ ws. KeepsReached (sight w) (sight (record w { words = ws }))) (sym (set-get_or w.words place 0)) (keeps_all (sight w)))
+
 -- What the collector's next operation does to what is seen, by phase.
 turned_at_keeps : (w : Core) (op : Op) (phase : Phase) → IsKept w → w.collector.phase ≡ phase → ◌≡◌ {A = Option Op} (next_at w.collector phase) (Some op) → KeepsReached (sight w) (sight (turned_at w (Some op)))
-unfolding next_at release_next sweep_next
+unfolding next_at release_next freeing_next sweep_next
 turned_at_keeps w op Idle kept is named = subst (λ o. KeepsReached (sight w) (sight (turned_at w (Some o)))) (sym (stored (is_spent w.collector) named)) (keeps_all (sight w))
   where
     stored : (spent : Bool) → ◌≡◌ {A = Option Op} (if spent then None else Some (ops.StoreEpoch (w.collector.epoch + 1))) (Some op) → op ≡ ops.StoreEpoch (w.collector.epoch + 1)
@@ -140,11 +148,17 @@ turned_at_keeps w op Releasing kept is named = go w.collector.release.at refl
     go None at = let not_so : ◌≡◌ {A = Option Op} (Some op) None = sym named ∙ ap (release_op_at w.collector.release.fields) at in absurd (cc)
     go (Some a) at =
         let its : op ≡ ops.ClearField (place_of a.slot a.field w.config.fields) = some_op op (ops.ClearField (place_of a.slot a.field w.config.fields)) (sym named ∙ ap (release_op_at w.collector.release.fields) at ∙ ap (λ n. Some (ops.ClearField (place_of a.slot a.field n))) kept.collector.fields) in
-        let held = held_released w a kept is at in
-        subst (λ o. KeepsReached (sight w) (sight (turned_at w (Some o)))) (sym its) (keeps_others_field w a.slot a.field kept held.0 held.1)
-turned_at_keeps w op Trying kept is named =
-    let (place, its) = loads_child w.collector.trial op (sym named) in
-    subst (λ o. KeepsReached (sight w) (sight (turned_at w (Some o)))) (sym its) (subst (λ ws. KeepsReached (sight w) (sight (record w { words = ws }))) (sym (set-get_or w.words place 0)) (keeps_all (sight w)))
+        subst (λ o. KeepsReached (sight w) (sight (turned_at w (Some o)))) (sym its) (keeps_others_field w a.slot a.field kept (releasing.within w a kept is at) (releasing.held w a kept is at).released)
+turned_at_keeps w op Freeing kept is named = go w.collector.freeing.at refl
+  where
+    go : (x : Option Member) → w.collector.freeing.at ≡ x → KeepsReached (sight w) (sight (turned_at w (Some op)))
+    go None at = let not_so : ◌≡◌ {A = Option Op} (Some op) None = sym named ∙ ap (freeing_op_at w.collector.freeing.fields) at in absurd (cc)
+    go (Some a) at =
+        let fields : w.collector.freeing.fields ≡ w.config.fields = kept.collector.machine.freeing_fields ∙ kept.collector.fields in
+        let its : op ≡ ops.ClearField (place_of a.slot a.field w.config.fields) = some_op op (ops.ClearField (place_of a.slot a.field w.config.fields)) (sym named ∙ ap (freeing_op_at w.collector.freeing.fields) at ∙ ap (λ n. Some (ops.ClearField (place_of a.slot a.field n))) fields) in
+        subst (λ o. KeepsReached (sight w) (sight (turned_at w (Some o)))) (sym its) (keeps_others_field w a.slot a.field kept (freeing.within w a kept is at) (freeing.released w a kept is at))
+turned_at_keeps w op Trying kept is named = let (place, its) = loads_child w.collector.trial op (sym named) in load_keeps w op place its
+turned_at_keeps w op Preparing kept is named = let (a, at, its) = loads_due w.collector.prep op named in load_keeps w op (place_of a.slot a.field w.collector.prep.fields) its
 turned_at_keeps w op Opening kept is named = subst (λ o. KeepsReached (sight w) (sight (turned_at w (Some o)))) (sym (some_op op ops.AddFreed (sym named))) (keeps_all (sight w))
 turned_at_keeps w op (Sweeping n) kept is named = go w.collector.due refl
   where

@@ -8,7 +8,7 @@ use Rattle.rec_word.specs.Word.{target_of, stamp_of}
 use Rattle.rec_word.specs.declared.stamps.Stamp.{Stamp}
 use Rattle.rec_word.specs.declared.op.Op.{Op}
 use Rattle.rec_word.specs.declared.op.Op.TheVariants as ops
-use Rattle.rec_model.specs.Moves.{Loads}
+use Rattle.rec_model.specs.Moves.{Loads, Move}
 use Rattle.rec_model.specs.Pending.{node_of, epoch_of, Holds}
 use Rattle.rec_model.specs.Sight.{Sight, IsTaken, IsSound, word_at, sight_with_header, sight_with_word}
 use Rattle.rec_model.specs.declared.answer.Answer.TheVariants as answers_
@@ -32,7 +32,7 @@ use Rattle.rec_world.specs.CoreMoves.{performed}
 use Rattle.rec_world.specs.CorePending.{code, epoch_at, pending}
 use Rattle.rec_world.specs.Memory.{cell}
 use Rattle.rec_world.proofs.CoreActors.{one_entry, epoch_here}
-use Rattle.rec_world.proofs.CoreMoves.{code_target, home_of, has_register, put_move, birth_move}
+use Rattle.rec_world.proofs.CoreMoves.{code_target, home_of, has_register, put_moves, birth_moves}
 use Rattle.rec_world.proofs.CoreShapes.{after_cross, after_field, after_header, after_epoch, after_freed, after_probe, after_swap, after_claim}
 use Rattle.rec_world.proofs.CoreSteps.{Makes, actor_of, in_list, register_taken, target_taken, taken_slot, held_stays, emptied_stays, changed_kept, moved_accounts, answers, answered_actor, unchanged, sets, goes_on, about_to_cross, registers_stay, registers_set, Answers}
 use Rattle.rec_world.proofs.LogStamps.{word_stamp}
@@ -115,8 +115,8 @@ module _ {w : Core} {t word : ℕ} {op : Op} {q : Private} (m : Makes w t word o
       (let more = entries_grow p.registers _ a in omega (arith, more))
       (subst (λ (rss : List (List (Option ℕ))). IsSound (record (sight_with_word (sight w) slot f left) { registers = rss })) (sym (registers_stay w t q a.registers_are))
       (write_sound (sight w) slot f left in_range taken (λ n is. register_taken w m.kept t val n (sym leads ∙ is)) m.kept.sound))
-      (moved_accounts w _ m.kept (put_move w t place left slot val q there (place_there w slot f m.kept below in_range) (home_of slot f w.config.fields in_range) holds
-      (λ some. subst (Holds (pending w) (epoch_at p)) (sym node) (has_register w t val there of)) in_epoch a.registers_are a.same a.log)))
+      (moved_accounts w _ m.kept (Move.put (put_moves w t place left slot val q there (place_there w slot f m.kept below in_range) (home_of slot f w.config.fields in_range) holds
+      (λ some. subst (Holds (pending w) (epoch_at p)) (sym node) (has_register w t val there of)) in_epoch a.registers_are a.same a.log)) tt tt))
     where
       decided_at : p.fields ≡ w.config.fields → word ≡ slice_index_or w.words (place_of slot f w.config.fields) 0
           → Decides p op q (commands.Put src f val) (at.Begun (works.Command (commands.Put src f val))) (ops.SwapField (place_of slot f p.fields) (word_for p val)) p.registers
@@ -146,7 +146,7 @@ module _ {w : Core} {t word : ℕ} {op : Op} {q : Private} (m : Makes w t word o
       (entries_grow (slice_set p.registers reg (Some slot)) (entries.Born slot ∷ []) a)
       (subst (λ (rss : List (List (Option ℕ))). IsSound (record seen { registers = rss })) (sym (registers_set w t reg (Some slot) q a.registers_are))
       (register_sound seen t reg (Some slot) (λ n is. subst (IsTaken seen) (some_same slot n is) taken) (birth_sound (sight w) slot (label + 1) inside empty m.kept.sound)))
-      (moved_accounts w _ m.kept (birth_move w t reg slot label q (in_list w t m.kept m.is) within inside empty a.registers_are a.same a.log))
+      (moved_accounts w _ m.kept (Move.birth (birth_moves w t reg slot label q (in_list w t m.kept m.is) within inside empty a.registers_are a.same a.log)) tt tt)
     where
       kept_headers : length w.headers ≡ w.config.slots
       kept_headers = m.kept.headers

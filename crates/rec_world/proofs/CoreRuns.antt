@@ -1,13 +1,15 @@
 -- Every move of a heap with its collector keeps what every such heap keeps, and so does every run.
-use Rattle.std.proofs.Common.{◌≡◌, ℕ, ◌<◌, Option, None, Some, IfSome, List, [], ◌∷◌, ◌++◌, slice_index_or, refl, sym, ap, subst, ◌∙◌, arith}
+use Rattle.std.proofs.Common.{◌≡◌, ℕ, ◌<◌, Option, None, Some, IfSome, List, [], ◌∷◌, ◌++◌, length, slice_index_or, refl, sym, ap, subst, ◌∙◌, arith}
 use Rattle.rec_word.specs.Place.{place_of}
 use Rattle.rec_word.specs.Word.{target_of}
 use Rattle.rec_word.specs.declared.op.Op.{Op}
 use Rattle.rec_word.specs.declared.op.Op.TheVariants as ops
 use Rattle.rec_log.specs.declared.contents.Contents.{Contents}
 use Rattle.rec_counts.specs.Counts.{slot_at}
+use Rattle.rec_release.specs.CycleFree.{op_at as freeing_op_at, next_of as freeing_next}
 use Rattle.rec_release.specs.Release.{op_at as release_op_at, next_of as release_next}
 use Rattle.rec_release.specs.declared.at.At.{At}
+use Rattle.rec_release.specs.declared.member.Member.{Member}
 use Rattle.rec_trial.specs.Rules.{LeadsToUnreleased}
 use Rattle.rec_collector.specs.Given.{IsGivenAt, IsGiven, IsSized}
 use Rattle.rec_collector.specs.Kept as collector_kept
@@ -15,7 +17,7 @@ use Rattle.rec_collector.specs.Next.{next_of, next_at}
 use Rattle.rec_collector.specs.Step.{Step, IsBetween}
 use Rattle.rec_collector.specs.Took.{step_of, turn_of}
 use Rattle.rec_collector.specs.declared.phase.Phase.{Phase}
-use Rattle.rec_collector.specs.declared.phase.Phase.TheVariants.{Idle, Looking, Swapping, Returning, Releasing, Trying, Opening, Sweeping, Closing}
+use Rattle.rec_collector.specs.declared.phase.Phase.TheVariants.{Idle, Looking, Swapping, Returning, Releasing, Freeing, Trying, Preparing, Opening, Sweeping, Closing}
 use Rattle.rec_collector.proofs.Keeping.{machine_kept}
 use Rattle.rec_collector.proofs.Steps.{step_made}
 use Rattle.rec_world.specs.declared.config.Config.{Config}
@@ -27,7 +29,9 @@ use Rattle.rec_world.specs.Memory.{cell}
 use Rattle.rec_world.proofs.CoreApplying.{covered}
 use Rattle.rec_world.proofs.CoreCrossings.{step_kept, begun_kept}
 use Rattle.rec_world.proofs.CoreOpening.{opened_kept}
-use Rattle.rec_world.proofs.CoreReleasing.{counted_word}
+use Rattle.rec_world.proofs.CoreFreeing as freeing
+use Rattle.rec_world.proofs.CorePreparing.{loads_due, seen_there}
+use Rattle.rec_world.proofs.CoreReleasing as releasing
 use Rattle.rec_world.proofs.CoreTrying.{loads_child, loaded_leads}
 use Rattle.rec_world.proofs.CoreTurning.{mutator_at, some_op, rule_kept}
 use Rattle.rec_world.proofs.CoreTurns.{now_at}
@@ -39,7 +43,9 @@ looked_is w Idle kept is = (omega arith, kept.config.some_mutators)
 looked_is w (Swapping t) kept is = (omega arith, kept.config.some_mutators)
 looked_is w (Returning t) kept is = (omega arith, kept.config.some_mutators)
 looked_is w Releasing kept is = (omega arith, kept.config.some_mutators)
+looked_is w Freeing kept is = (omega arith, kept.config.some_mutators)
 looked_is w Trying kept is = (omega arith, kept.config.some_mutators)
+looked_is w Preparing kept is = (omega arith, kept.config.some_mutators)
 looked_is w Opening kept is = (omega arith, kept.config.some_mutators)
 looked_is w (Sweeping n) kept is = (omega arith, kept.config.some_mutators)
 looked_is w (Closing n) kept is = (omega arith, kept.config.some_mutators)
@@ -52,7 +58,7 @@ sized_is w kept =
 
 -- the word that the collector finds is one that it may be given, by phase
 given_at : (w : Core) (op : Op) (phase : Phase) → IsKept w → w.collector.phase ≡ phase → ◌≡◌ {A = Option Op} (next_at w.collector phase) (Some op) → IsGivenAt w.collector (cell (cells_of w) op) phase
-unfolding IsGivenAt next_at release_next
+unfolding IsGivenAt next_at release_next freeing_next
 given_at w op Idle kept is named = tt
 given_at w op (Looking t) kept is named = tt
 given_at w op (Swapping t) kept is named = subst IsBetween is kept.collector.between
@@ -65,10 +71,27 @@ given_at w op Releasing kept is named = go w.collector.release.at refl
         let place : ℕ = place_of a.slot a.field w.config.fields in
         let its : op ≡ ops.ClearField place = some_op op (ops.ClearField place) (sym named ∙ ap (release_op_at w.collector.release.fields) at ∙ ap (λ n. Some (ops.ClearField (place_of a.slot a.field n))) kept.collector.fields) in
         let found : cell (cells_of w) op ≡ slice_index_or w.words place 0 = ap (cell (cells_of w)) its in
-        subst (λ n. IfSome (target_of n) (λ slot. 0 < (slot_at w.collector.counts slot).count)) (sym found) (counted_word w a kept is at)
+        subst (λ n. IfSome (target_of n) (λ slot. 0 < (slot_at w.collector.counts slot).count)) (sym found) (releasing.counted_word w a kept is at)
+given_at w op Freeing kept is named = go w.collector.freeing.at refl
+  where
+    go : (x : Option Member) → w.collector.freeing.at ≡ x → IfSome (target_of (cell (cells_of w) op)) (λ slot. 0 < (slot_at w.collector.counts slot).count)
+    go None at = let not_so : ◌≡◌ {A = Option Op} (Some op) None = sym named ∙ ap (freeing_op_at w.collector.freeing.fields) at in absurd (cc)
+    go (Some a) at =
+        let place : ℕ = place_of a.slot a.field w.config.fields in
+        let fields : w.collector.freeing.fields ≡ w.config.fields = kept.collector.machine.freeing_fields ∙ kept.collector.fields in
+        let its : op ≡ ops.ClearField place = some_op op (ops.ClearField place) (sym named ∙ ap (freeing_op_at w.collector.freeing.fields) at ∙ ap (λ n. Some (ops.ClearField (place_of a.slot a.field n))) fields) in
+        let found : cell (cells_of w) op ≡ slice_index_or w.words place 0 = ap (cell (cells_of w)) its in
+        subst (λ n. IfSome (target_of n) (λ slot. 0 < (slot_at w.collector.counts slot).count)) (sym found) (freeing.counted_word w a kept is at)
 given_at w op Trying kept is named =
     let (place, its) = loads_child w.collector.trial op (sym named) in
     subst (λ o. LeadsToUnreleased w.collector.counts (cell (cells_of w) o)) (sym its) (loaded_leads w kept is place (named ∙ ap (λ o. Some o) its))
+given_at w op Preparing kept is named =
+    let (a, at, due) = loads_due w.collector.prep op named in
+    let place : ℕ = place_of a.slot a.field w.config.fields in
+    let fields : w.collector.prep.fields ≡ w.config.fields = kept.collector.machine.prep_fields ∙ kept.collector.fields in
+    let its : op ≡ ops.LoadChild place = due ∙ ap (λ n. ops.LoadChild (place_of a.slot a.field n)) fields in
+    let found : cell (cells_of w) op ≡ slice_index_or w.words place 0 = ap (cell (cells_of w)) its in
+    subst (λ n. IfSome (target_of n) (λ slot. slot < length w.collector.counts.slots)) (sym found) (seen_there w kept is a at)
 given_at w op Opening kept is named = tt
 given_at w op (Sweeping n) kept is named = tt
 given_at w op (Closing n) kept is named = tt
@@ -86,9 +109,10 @@ turned_kept w kept = go (next_of w.collector) refl
     go (Some op) named =
         let word : ℕ = cell (cells_of w) op in
         let b : Contents = box w (looked_at w.collector.phase) in
-        let machine : collector_kept.IsMachine (step_of w.collector word b) = machine_kept w.collector word b kept.collector.machine kept.collector.between (given_is w op kept named) (sized_is w kept) in
+        let given : IsGiven w.collector word = given_is w op kept named in
+        let machine : collector_kept.IsMachine (step_of w.collector word b) = machine_kept w.collector word b kept.collector.machine kept.collector.between given (sized_is w kept) in
         let step : Step w.collector word b (Some op) (step_of w.collector word b) (turn_of w.collector word)
-        = subst (λ (x : Option Op). Step w.collector word b x (step_of w.collector word b) (turn_of w.collector word)) named (step_made w.collector word b kept.collector.between) in
+        = subst (λ (x : Option Op). Step w.collector word b x (step_of w.collector word b) (turn_of w.collector word)) named (step_made w.collector word b kept.collector.machine kept.collector.between given) in
         rule_kept w op word (step_of w.collector word b) (turn_of w.collector word) (record { kept = kept; found = refl; machine = machine }) step
 
 -- a move

@@ -17,6 +17,7 @@ use Rattle.rec_model.specs.Heap.{registers_of, register as register_in, set_regi
 use Rattle.rec_model.specs.Moves.{Move, Loads}
 use Rattle.rec_model.specs.Pending.{Pending, Holds}
 use Rattle.rec_model.specs.Reach.{named}
+use Rattle.rec_model.specs.Sets.{IsAfterLoads, IsAmongTests}
 use Rattle.rec_model.specs.Sight.{IsTaken, IsSound, word_at, words_of}
 use Rattle.rec_model.specs.declared.command.Cmd.{Cmd}
 use Rattle.rec_model.specs.declared.told.Told.{Told}
@@ -40,11 +41,13 @@ use Rattle.rec_mutator.proofs.Steps.{TakesNone}
 use Rattle.rec_world.specs.declared.config.Config.{Config}
 use Rattle.rec_world.specs.Config.{IsMutator}
 use Rattle.rec_world.specs.Core.{Core, cells_of, sight, mutator, box, crossing_of, nobody, with_mutator}
+use Rattle.rec_world.specs.CoreCycles.{HasCyclesAt}
 use Rattle.rec_world.specs.CoreKept.{IsSettledIn, HasLabelAt, IsHandshake, stand_at, IsOwn, IsBufferOf, IsActor, HasCollector, IsScanning, HasScans, entries_made, IsKept}
 use Rattle.rec_world.specs.CorePending.{code, epoch_at, slot_of, pending}
 use Rattle.rec_world.specs.Memory.{cell}
 use Rattle.rec_world.proofs.CoreActors.{own_stepped, settled_here, epoch_here, behind_due, actor_stays, mutator_changes}
-use Rattle.rec_world.proofs.CoreMoves.{same_pending, register_move}
+use Rattle.rec_world.proofs.CoreCycling.{cycles_moved, machine_alive}
+use Rattle.rec_world.proofs.CoreMoves.{same_pending, register_moves}
 use Rattle.rec_world.proofs.Machines.{IsBox}
 
 -- A step of mutator `t` that takes no mailbox, of a heap with its collector.
@@ -137,10 +140,11 @@ emptied_stays w slot f new kept in_range unreleased =
       listed = c.listed;
       emptied = λ x g below within released. elim (c.emptied x g below within released) [
         | inl left ↦ inl left
-        | inr none ↦
+        | inr (inl left) ↦ inr (inl left)
+        | inr (inr none) ↦
             let other : place_of x g w.config.fields ≢ place_of slot f w.config.fields
             = λ same. false≢true (sym unreleased ∙ ap (λ (n : ℕ). (slot_at w.collector.counts n).released) (sym (same_from_place x g slot f w.config.fields within in_range same).0) ∙ released) in
-            inr (get_or-set_other w.words (place_of slot f w.config.fields) (place_of x g w.config.fields) new 0 other ∙ none)
+            inr (inr (get_or-set_other w.words (place_of slot f w.config.fields) (place_of x g w.config.fields) new 0 other ∙ none))
       ];
     }
 
@@ -171,13 +175,19 @@ scans_stay w t q headers kept is scans more s there = elim (cases_eq s t) [
 pub entries_stay : (w : Core) (t births : ℕ) (q : Private) → IsKept w → IsMutator w.config t → entries_made w.config (mutator w t) + births ≤ entries_made w.config q → w.made + births ≤ 1 + sum_by (entries_made w.config) (slice_set w.mutators (t - 1) q)
 entries_stay w t births q kept is more = omega (arith, kept.made, more, sum_by-set (entries_made w.config) w.mutators (t - 1) q nobody (in_list w t kept is))
 
+-- what is to be accounted for after a step of a mutator
+pub record HasAccounts (w : Core) (v : Pending) : Type 0 where
+  pub accounted : IsAccounted v
+  pub uncounted : w.collector.freeing.at ≡ None → HasUncountedReleased v
+  pub cycles : HasCyclesAt v w.collector w.collector.phase
+
 -- A heap in which a mutator has moved, with headers, words and births, is kept where each part of it is.
 pub changed_kept : (w : Core) (t : ℕ) (q : Private) (headers words : List ℕ) (births : ℕ) → IsKept w → IsMutator w.config t → IsActor w.config w.epoch w.collector.phase t q (crossing_of w t) (box w t)
     → length headers ≡ length w.headers → All (λ header. header ≤ 2 ^ 32) headers → HasCollector w.config w.epoch words w.collector
     → IsScanning w.config.slots headers w.freed q.phase → ((s : ℕ) → 0 < slice_index_or w.headers s 0 → 0 < slice_index_or headers s 0)
     → entries_made w.config (mutator w t) + births ≤ entries_made w.config q
     → IsSound (sight (record (with_mutator w t q) { headers = headers; words = words }))
-    → (let v : Pending = pending (record (with_mutator w t q) { headers = headers; words = words; made = w.made + births }) in IsAccounted v × HasUncountedReleased v)
+    → HasAccounts w (pending (record (with_mutator w t q) { headers = headers; words = words; made = w.made + births }))
     → IsKept (record (with_mutator w t q) { headers = headers; words = words; made = w.made + births })
 changed_kept w t q headers words births kept is actor same labels collector scans more entries sound accounts =
     record {
@@ -190,8 +200,9 @@ changed_kept w t q headers words births kept is actor same labels collector scan
       scans = scans_stay w t q headers kept is scans more;
       made = entries_stay w t births q kept is entries;
       sound = sound;
-      accounted = accounts.0;
-      uncounted = accounts.1;
+      accounted = accounts.accounted;
+      uncounted = accounts.uncounted;
+      cycles = accounts.cycles;
     }
 
 -- the registers of all mutators stay, if those of the one do
@@ -206,12 +217,16 @@ registers_set w t r x q is =
     map-set (λ (p : Private). p.registers) w.mutators (t - 1) q ∙ ap set_own (is ∙ ap (λ rs. slice_set rs r x) (sym (own_registers w t)))
 
 -- the accounts after a move
-pub moved_accounts : (w : Core) (v : Pending) → IsKept w → Move (pending w) v → IsAccounted v × HasUncountedReleased v
-moved_accounts w v kept move = (move_accounted move kept.accounted, move_uncounted move kept.accounted kept.uncounted)
+pub moved_accounts : (w : Core) (v : Pending) → IsKept w → (move : Move (pending w) v) → IsAfterLoads move → IsAmongTests move → HasAccounts w v
+moved_accounts w v kept move after among = record {
+  accounted = move_accounted move kept.accounted;
+  uncounted = λ unfreed. move_uncounted move kept.accounted (kept.uncounted unfreed);
+  cycles = cycles_moved w.collector w.collector.phase move after (λ _. among) kept.accounted (machine_alive w.collector w.collector.phase kept.collector.machine kept.collector.machine.now) kept.cycles;
+}
 
 -- all that is pending stayed
-stayed_accounts : (w : Core) (v : Pending) → IsKept w → v ≡ pending w → IsAccounted v × HasUncountedReleased v
-stayed_accounts w v kept same = (subst IsAccounted (sym same) kept.accounted, subst HasUncountedReleased (sym same) kept.uncounted)
+pub stayed_accounts : (w : Core) (v : Pending) → IsKept w → v ≡ pending w → HasAccounts w v
+stayed_accounts w v kept same = subst (HasAccounts w) (sym same) (record { accounted = kept.accounted; uncounted = kept.uncounted; cycles = kept.cycles })
 
 -- no more entries where epoch and log stay
 same_entries : (config : Config) (p q : Private) → epoch_at q ≡ epoch_at p → q.log ≡ p.log → entries_made config p + 0 ≤ entries_made config q
@@ -301,7 +316,7 @@ sets {w = w} {t = t} {q = q} r x gives m within may value d =
     subst (λ (n : ℕ). IsKept (record (with_mutator w t q) { made = n })) (add-zero w.made)
     (changed_kept w t q w.headers w.words 0 m.kept m.is (answered_actor a actor.log) refl m.kept.labels m.kept.collector (a.scans w.config.slots w.freed w.headers) (λ s taken. taken) (same_entries w.config (mutator w t) q a.same a.log)
     (subst (λ (rss : List (List (Option ℕ))). IsSound (record (sight w) { registers = rss })) (sym (registers_set w t r x q a.registers_are)) (register_sound (sight w) t r x may m.kept.sound))
-    (moved_accounts w _ m.kept (register_move w t r x q (in_list w t m.kept m.is) within a.registers_are a.log a.same value)))
+    (moved_accounts w _ m.kept (Move.register (register_moves w t r x q (in_list w t m.kept m.is) within a.registers_are a.log a.same value)) tt tt))
 
 -- a step after which the work goes on, in a settled phase
 pub goes_on : {w : Core} {t word : ℕ} {op : Op} {q : Private} {at : phases.Phase} {its_op : Op} {next_phase : phases.Phase}

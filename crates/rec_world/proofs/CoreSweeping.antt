@@ -3,16 +3,17 @@ use Rattle.std.proofs.Common.{◌≡◌, ◌≢◌, inl, inr, ℕ, ◌+◌, ◌-
 use Rattle.std.specs.List.{sum_by, flat_map, slice_get}
 use Rattle.std.proofs.Math.ListN.{get_or-map}
 use Rattle.std.proofs.Math.Nat.{mul-le-mul, add-mul}
-use Rattle.std.proofs.lemmas.Bool.{false≢true, cases_eq}
+use Rattle.std.proofs.lemmas.Bool.{false≢true, cases_eq, cond-false, cond-true, eq-eqb, ne_eqb}
 use Rattle.std.proofs.lemmas.List.{length-set, length-map, get_or-set_same, get_or-set_other, get_or_default, get_or-replicate, length-replicate, length-take, length-drop, ext_get_or}
 use Rattle.std.proofs.lemmas.List.Sums.{sum_by-append, sum_by-cons}
 use Rattle.std.proofs.lemmas.List.Elements.{All-set}
 use Rattle.rec_word.specs.Place.{place_of}
 use Rattle.rec_model.specs.Accounted.{IsAccounted, HasUncountedReleased, is_dead, names, is_node}
 use Rattle.rec_model.specs.Heap.{roots}
+use Rattle.rec_model.specs.Moves.{Move, Frees, leads_out_of}
 use Rattle.rec_model.specs.Pending.{Dated, dated, Pending}
 use Rattle.rec_model.specs.Reach.{is_in, named}
-use Rattle.rec_model.specs.Sums.{one_if_same}
+use Rattle.rec_model.specs.Sums.{one_if_same, sum_at}
 use Rattle.rec_model.specs.Sight.{Sight, IsTaken, IsSound, words_of, targets_of, sight_with_header}
 use Rattle.rec_model.proofs.Consequences.{move_uncounted, released_count}
 use Rattle.rec_model.proofs.Moving.{move_accounted}
@@ -21,13 +22,15 @@ use Rattle.rec_model.proofs.Names.{is_in_cases}
 use Rattle.rec_model.proofs.Seen.{field_target}
 use Rattle.rec_model.proofs.Standing.{word_in}
 use Rattle.rec_model.proofs.Sums.{get_or-le-sum_at}
-use Rattle.rec_model.proofs.Weights.{one_if_self}
-use Rattle.rec_counts.specs.Counts.{slot_at}
+use Rattle.rec_model.proofs.Weights.{none_if_differs, one_if_self}
+use Rattle.rec_counts.specs.Counts.{State, slot_at}
 use Rattle.rec_counts.specs.Lists.{one, times}
 use Rattle.rec_counts.specs.Slot.{absent, fresh, swept_clean}
+use Rattle.rec_counts.specs.Slot.{is_in as is_in_set}
 use Rattle.rec_counts.specs.declared.slot.Slot.{Slot}
-use Rattle.rec_counts.proofs.Times.{times-nil, times-cons, times_rest, one-same, one-le, in_range_once}
+use Rattle.rec_counts.proofs.Times.{times-nil, times-cons, times_part, times_rest, one-same, one-le, in_range_once}
 use Rattle.rec_release.specs.declared.at.At.{At}
+use Rattle.rec_release.specs.declared.member.Member.{Member}
 use Rattle.rec_release.specs.Sweep.{swept}
 use Rattle.rec_release.proofs.Sweeping.{first_in}
 use Rattle.rec_mutator.specs.Private.{Private}
@@ -42,11 +45,14 @@ use Rattle.rec_collector.specs.Step.{IsBetween}
 use Rattle.rec_world.specs.declared.config.Config.{Config}
 use Rattle.rec_world.specs.Config.{IsMutator}
 use Rattle.rec_world.specs.Core.{Core, sight, nobody}
-use Rattle.rec_world.specs.CoreKept.{IsBufferOf, IsLeft, Stand, stand_at, HasPassed, IsScanning, HasScans, one_if_sweeping, IsSomeSwept, IsKept}
+use Rattle.rec_world.specs.CoreCycles.{HasCyclesAt}
+use Rattle.rec_world.specs.CoreKept.{IsBufferOf, IsLeft, IsLeftOf, Stand, stand_at, HasPassed, IsScanning, HasScans, one_if_sweeping, IsSomeSwept, IsKept}
 use Rattle.rec_world.specs.CorePending.{dated_all, epoch_at, older_at, applied_at, pending}
-use Rattle.rec_world.proofs.CoreCounts.{slot_in, accounts_with, emptied_leads, freeing_move}
-use Rattle.rec_world.proofs.CoreLandings.{complete_move, cleared_buffer}
-use Rattle.rec_world.proofs.CoreTurns.{now_at, phase_moves}
+use Rattle.rec_world.specs.Cycles.{SetsWait}
+use Rattle.rec_world.proofs.CoreCounts.{slot_in, accounts_with, emptied_leads}
+use Rattle.rec_world.proofs.CoreLandings.{complete_drops, cleared_buffer}
+use Rattle.rec_world.proofs.CoreTurns.{alive_in, cycles_in, now_at, phase_moves}
+use Rattle.rec_world.proofs.CyclesWait.{KeepsMembers, sets_wait_moved, sets_wait_swept, slot_keeps_members}
 use Rattle.rec_world.proofs.Places.{place_within}
 
 -- as a sweep begins or ends, a scan that has begun before knows nothing more
@@ -103,7 +109,8 @@ module _ (w : Core) (due : Option ℕ) (kept : IsKept w) (phase : w.collector.ph
         made = kept.made;
         sound = kept.sound;
         accounted = subst IsAccounted (sym same) kept.accounted;
-        uncounted = subst HasUncountedReleased (sym same) kept.uncounted;
+        uncounted = λ unfreed. subst HasUncountedReleased (sym same) (kept.uncounted unfreed);
+        cycles = subst (λ (p : Pending). SetsWait p w.collector.counts) (sym same) (cycles_in w Opening kept phase);
       }
     where
       odd_next : (n : ℕ) → n % 2 ≡ 0 → (n + 1) % 2 ≡ 1
@@ -125,7 +132,7 @@ module _ (w : Core) (swept_ : ℕ) (kept : IsKept w) (phase : w.collector.phase 
       let both : length w.collector.older ≡ w.config.mutators = k.machine.both ∙ k.mutators in
       let older : (t : ℕ) → IsMutator w.config t → IsBufferOf w.config (w.epoch - 2) (collectors.buffer_at w.collector.older (t - 1))
       = λ s there. subst (λ e. IsBufferOf w.config e (collectors.buffer_at w.collector.older (s - 1))) last (k.older s there) in
-      let move = complete_move w w.collector w.collector.phase some last both older w.words w.collector.counts 0 (w.collector.collections + 1) in
+      let drops = complete_drops w w.collector w.collector.phase some last both older w.words w.collector.counts 0 (w.collector.collections + 1) in
       let same : record (accounts_with (pending w) w.words w.collector.counts) { applied = w.epoch - 1 } ≡ pending w = ap (λ (n : ℕ). let q : Pending = record (pending w) { applied = n } in q) (sym applied) in
       let accounted : IsAccounted (record (accounts_with (pending w) w.words w.collector.counts) { applied = w.epoch - 1 }) = subst IsAccounted (sym same) kept.accounted in
       record {
@@ -154,8 +161,9 @@ module _ (w : Core) (swept_ : ℕ) (kept : IsKept w) (phase : w.collector.phase 
         scans = scans_change w.config w.headers w.headers w.freed (w.freed + 1) w.mutators (passed_more w.headers w.freed) kept.scans;
         made = kept.made;
         sound = kept.sound;
-        accounted = move_accounted move accounted;
-        uncounted = move_uncounted move accounted (subst HasUncountedReleased (sym same) kept.uncounted);
+        accounted = move_accounted (Move.dropping drops) accounted;
+        uncounted = λ unfreed. move_uncounted (Move.dropping drops) accounted (subst HasUncountedReleased (sym same) (kept.uncounted unfreed));
+        cycles = sets_wait_moved w.collector.counts (Move.dropping drops) tt accounted (alive_in w (Closing swept_) kept phase) (subst (λ (p : Pending). SetsWait p w.collector.counts) (sym same) (cycles_in w (Closing swept_) kept phase));
       }
     where
       even_next : (n : ℕ) → n % 2 ≡ 1 → (n + 1) % 2 ≡ 0
@@ -183,6 +191,54 @@ root_named n (p ∷ ps) there =
 -- one value in two options
 some_same : (a b : ℕ) → ◌≡◌ {A = Option ℕ} (Some a) (Some b) → a ≡ b
 some_same a b is = cc
+
+-- The slot of a node that was given up and emptied, and that has no count, is freed.
+slot_freed : (p : Pending) (headers : List ℕ) (s : State) (x : ℕ) → x < length s.slots → x < length headers → (slot_at s x).released ≡ true → (slot_at s x).count ≡ 0
+    → sum_at (leads_out_of p.fields (x + 1)) p.words ≡ 0
+    → Frees (record (accounts_with p p.words s) { free = λ node. slice_index_or headers (node - 1) 0 == 0 })
+    (record (accounts_with p p.words (swept s x)) { free = λ node. slice_index_or (slice_set headers x 0) (node - 1) 0 == 0 }) (x + 1)
+slot_freed p headers s x there header released none empty =
+    let v : Slot = swept_clean (slot_at s x) in
+    let old : slot_in s (x + 1) ≡ slot_at s x = (let at : x + 1 - 1 ≡ x = omega arith in ap (λ (n : ℕ). slice_index_or s.slots n fresh) at ∙ get_or_default s.slots x fresh absent there) in
+    record {
+      is_node = omega arith;
+      was_released = ap (λ (y : Slot). y.released) old ∙ released;
+      empty = empty;
+      uncounted = ap (λ (y : Slot). y.count) old ∙ none;
+      counts = λ node pos. elim (cases_eq node (x + 1)) [
+        | inl is ↦
+            let at : node - 1 ≡ x = omega arith in
+            let new : slot_in (swept s x) node ≡ v = ap (λ (n : ℕ). slice_index_or (slice_set s.slots x v) n fresh) at ∙ get_or-set_same s.slots x v fresh there in
+            let was : slot_in s node ≡ slot_at s x = ap (λ (n : ℕ). slot_in s n) is ∙ old in
+            omega (arith, ap (λ (y : Slot). y.count) new, ap (λ (y : Slot). y.count) was, none, ap (λ n. one_if_same n (x + 1)) is, one_if_self (x + 1))
+        | inr other ↦
+            let apart : (node - 1) ≢ x = λ e. other (omega arith) in
+            omega (arith, ap (λ (y : Slot). y.count) (get_or-set_other s.slots x (node - 1) v fresh apart), none_if_differs node (x + 1) other)
+      ];
+      words = λ weight. refl;
+      logs = record { writes = λ weight. refl; births = λ weight. refl; snapshots = λ weight. refl };
+      registers = λ weight. refl;
+      epochs = record { fields = refl; applied = refl; requested = refl };
+      free = λ node pos. elim (cases_eq node (x + 1)) [
+        | inl is ↦
+            let at : node - 1 ≡ x = omega arith in
+            let test : ℕ → Bool = λ n. slice_index_or headers (n - 1) 0 == 0 in
+            ap (λ (n : ℕ). slice_index_or (slice_set headers x 0) n 0 == 0) at ∙ ap (λ (n : ℕ). n == 0) (get_or-set_same headers x 0 0 header) ∙ eq-eqb 0 0 refl ∙ sym (cond-true (node == x + 1) true (test node) (eq-eqb node (x + 1) is))
+        | inr other ↦
+            let apart : (node - 1) ≢ x = λ e. other (omega arith) in
+            let test : ℕ → Bool = λ n. slice_index_or headers (n - 1) 0 == 0 in
+            ap (λ (n : ℕ). n == 0) (get_or-set_other headers x (node - 1) 0 0 apart) ∙ sym (cond-false (node == x + 1) true (test node) (ne_eqb node (x + 1) other))
+      ];
+      released = λ node pos. elim (cases_eq node (x + 1)) [
+        | inl is ↦
+            let at : node - 1 ≡ x = omega arith in
+            let new : slot_in (swept s x) node ≡ v = ap (λ (n : ℕ). slice_index_or (slice_set s.slots x v) n fresh) at ∙ get_or-set_same s.slots x v fresh there in
+            ap (λ (y : Slot). y.released) new ∙ sym (cond-true (node == x + 1) false (slot_in s node).released (eq-eqb node (x + 1) is))
+        | inr other ↦
+            let apart : (node - 1) ≢ x = λ e. other (omega arith) in
+            ap (λ (y : Slot). y.released) (get_or-set_other s.slots x (node - 1) v fresh apart) ∙ sym (cond-false (node == x + 1) false (slot_in s node).released (ne_eqb node (x + 1) other))
+      ];
+    }
 
 -- A slot of the free list is swept: its header is 0 and its count one.
 module _ (w : Core) (done : ℕ) (x : ℕ) (kept : IsKept w) (phase : w.collector.phase ≡ Sweeping done) (first : w.collector.due ≡ Some x) where
@@ -212,13 +268,16 @@ module _ (w : Core) (done : ℕ) (x : ℕ) (kept : IsKept w) (phase : w.collecto
   in_accounts = let one_ : x + 1 - 1 ≡ x = omega arith in ap (λ (n : ℕ). slice_index_or c.counts.slots n fresh) one_ ∙ get_or_default c.counts.slots x fresh absent (omega (arith, swept_below, slots))
 
   uncounted : (slot_at c.counts x).count ≡ 0
-  uncounted = ap (λ (v : Slot). v.count) (sym in_accounts) ∙ kept.uncounted (x + 1) (omega arith) (ap (λ (v : Slot). v.released) in_accounts ∙ due_released)
+  uncounted = ap (λ (v : Slot). v.count) (sym in_accounts) ∙ kept.uncounted sweeping.0.tried.unfreed (x + 1) (omega arith) (ap (λ (v : Slot). v.released) in_accounts ∙ due_released)
 
   -- its fields are empty
   empty : (f : ℕ) → f < w.config.fields → slice_index_or w.words (place_of x f w.config.fields) 0 ≡ 0
   empty f within = elim (kept.collector.emptied x f swept_below within due_released) [
-    | inl left ↦ absurd (subst (λ (o : Option At). IsLeft o x f) sweeping.0.still left)
-    | inr none ↦ none
+    | inl left ↦ absurd (subst (λ (o : Option At). IsLeft o x f) sweeping.0.tried.still left)
+    | inr rest ↦ elim rest [
+      | inl left ↦ absurd (subst (λ (o : Option Member). IsLeftOf c.counts.work o x f) sweeping.0.tried.unfreed left)
+      | inr none ↦ none
+    ]
   ]
 
   dead : is_dead (pending w) (x + 1) ≡ true
@@ -314,6 +373,7 @@ module _ (w : Core) (done : ℕ) (x : ℕ) (kept : IsKept w) (phase : w.collecto
     pub stands : (s : ℕ) → stand_at next s ≡ Stand.Done
     pub between : IsBetween next
     pub some : IsSomeSwept next
+    pub waits : (p : Pending) (d : collectors.Private) → SetsWait p d.counts → HasCyclesAt p d next
 
   released_else : (y : ℕ) → y ≢ x → slot_at (swept c.counts x) y ≡ slot_at c.counts y
   released_else y other = get_or-set_other c.counts.slots x y (swept_clean (slot_at c.counts x)) absent other
@@ -331,6 +391,23 @@ module _ (w : Core) (done : ℕ) (x : ℕ) (kept : IsKept w) (phase : w.collecto
           let head : z ≡ x = some_same z x is in
           omega (arith, few, there_, times-cons y z zs, ap (λ n. one (y == n)) head, ap (λ n. one (n == x)) same, one-same x, one-le (nat_lt y (length c.counts.slots)))
 
+  -- it is in no set: what is in the free list is in no buffer
+  in_no_set : (slot_at c.counts x).set ≡ None
+  in_no_set = go (slot_at c.counts x).set refl
+    where
+      unbuffered : one (slot_at c.counts x).buffered ≡ 0
+      unbuffered = ap one (sweeping.0.tried.unbuffered x listed)
+
+      go : (o : Option ℕ) → (slot_at c.counts x).set ≡ o → (slot_at c.counts x).set ≡ None
+      go None is = is
+      go (Some number) is =
+          let k = kept.collector.machine.counts in
+          let in_it : one (is_in_set number (slot_at c.counts x).set) ≡ 1 = ap (λ (o : Option ℕ). one (is_in_set number o)) is ∙ one-same number in
+          absurd (omega (arith, k.buffers x, unbuffered, k.numbers number x, in_it, times_part x c.counts.sets number))
+
+  still_members : KeepsMembers c.counts (swept c.counts x)
+  still_members = slot_keeps_members c.counts (swept c.counts x) x (swept_clean (slot_at c.counts x)) refl refl in_no_set in_no_set
+
   pub swept_kept : (due : Option ℕ) (next : Phase) → IsStillSweeping next → collector_kept.IsMachine (swept_by due next) → IsKept (after_sweep due next)
   swept_kept due next on machine =
       let k = kept.collector in
@@ -339,7 +416,7 @@ module _ (w : Core) (done : ℕ) (x : ℕ) (kept : IsKept w) (phase : w.collecto
       let older : older_at w.epoch c.phase ≡ older_at w.epoch next = ap (older_at w.epoch) phase ∙ sym (on.older w.epoch) in
       let applied : applied_at w.epoch c.phase ≡ applied_at w.epoch next = ap (applied_at w.epoch) phase ∙ sym (on.applied w.epoch) in
       let leads = emptied_leads w.words w.config.fields x (let some : 1 ≤ w.config.fields = kept.config.some_fields in some) empty in
-      let move = freeing_move (pending w) w.headers c.counts x (omega (arith, swept_below, slots)) (omega (arith, swept_below, headers)) due_released uncounted leads in
+      let freed = slot_freed (pending w) w.headers c.counts x (omega (arith, swept_below, slots)) (omega (arith, swept_below, headers)) due_released uncounted leads in
       let same : pending (after_sweep due next) ≡ record (accounts_with (pending w) w.words (swept c.counts x)) { free = λ node. slice_index_or (slice_set w.headers x 0) (node - 1) 0 == 0 } = rw (sym applied, sym older) refl in
       record {
         config = kept.config;
@@ -368,6 +445,8 @@ module _ (w : Core) (done : ℕ) (x : ℕ) (kept : IsKept w) (phase : w.collecto
         scans = scans_change w.config w.headers (slice_set w.headers x 0) w.freed w.freed w.mutators (λ before slot is. (is.0, λ now even. absurd (omega (arith, odd, kept.sweeps.odd, ap (λ n. n % 2) now, even)))) kept.scans;
         made = kept.made;
         sound = sound;
-        accounted = subst IsAccounted (sym same) (move_accounted move kept.accounted);
-        uncounted = subst HasUncountedReleased (sym same) (move_uncounted move kept.accounted kept.uncounted);
+        accounted = subst IsAccounted (sym same) (move_accounted (Move.freeing freed) kept.accounted);
+        uncounted = λ unfreed. subst HasUncountedReleased (sym same) (move_uncounted (Move.freeing freed) kept.accounted (kept.uncounted unfreed));
+        cycles = on.waits (pending (after_sweep due next)) (swept_by due next) (subst (λ (p : Pending). SetsWait p (swept c.counts x)) (sym same)
+            (sets_wait_swept c.counts (swept c.counts x) (Move.freeing freed) tt kept.accounted (alive_in w (Sweeping done) kept phase) still_members (cycles_in w (Sweeping done) kept phase)));
       }

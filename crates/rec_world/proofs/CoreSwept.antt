@@ -1,5 +1,5 @@
 -- What a turn of the collector shows of its sweep.
-use Rattle.std.proofs.Common.{◌≡◌, ℕ, zero, suc, ◌+◌, ◌-◌, ◌%◌, ◌^◌, ◌<◌, true, false, Option, None, Some, length, slice_index_or, refl, sym, ap, subst, ◌∙◌, arith}
+use Rattle.std.proofs.Common.{◌≡◌, ℕ, zero, suc, ◌+◌, ◌-◌, ◌%◌, ◌^◌, ◌<◌, true, Option, None, Some, length, slice_index_or, refl, sym, ap, subst, ◌∙◌, arith}
 use Rattle.std.proofs.lemmas.Bool.{eq-eqb, true≢false}
 use Rattle.rec_word.specs.Op.{written}
 use Rattle.rec_word.specs.Place.{place_of}
@@ -9,14 +9,17 @@ use Rattle.rec_log.specs.declared.contents.Contents.{Contents}
 use Rattle.rec_model.specs.Sight.{IsTaken}
 use Rattle.rec_counts.specs.Counts.{slot_at}
 use Rattle.rec_release.specs.declared.at.At.{At}
-use Rattle.rec_release.specs.Release.{Work, next_of as release_next, op_at as release_op_at}
+use Rattle.rec_release.specs.declared.member.Member.{Member}
+use Rattle.rec_release.specs.CycleFree.{next_of as freeing_next, op_at as freeing_op_at}
+use Rattle.rec_release.specs.Release.{next_of as release_next, op_at as release_op_at}
 use Rattle.rec_release.specs.Sweep as sweeps
-use Rattle.rec_trial.specs.Trial as trials
+use Rattle.rec_collector.specs.Followed.{prep_started, trial_started}
 use Rattle.rec_collector.specs.Kept.{swept_at}
 use Rattle.rec_collector.specs.Next.{next_of}
+use Rattle.rec_collector.specs.Parts.{Parts}
 use Rattle.rec_collector.specs.Private.{Private}
-use Rattle.rec_collector.specs.Step.{Step, ReleasesOn, TriesOn}
-use Rattle.rec_collector.specs.Took.{step_of, trial_started, turn_of}
+use Rattle.rec_collector.specs.Step.{Step, ClearsOn, TriesOn, PreparesOn}
+use Rattle.rec_collector.specs.Took.{step_of, turn_of}
 use Rattle.rec_collector.specs.declared.turn.Turn.{Turn}
 use Rattle.rec_collector.proofs.Steps.{step_made}
 use Rattle.rec_world.specs.Core.{Core, cells_of, sight, box}
@@ -25,7 +28,9 @@ use Rattle.rec_world.specs.CoreMoves.{looked_at, collected, turned, turned_at}
 use Rattle.rec_world.specs.CorePending.{pending}
 use Rattle.rec_world.specs.CoreSwept.{SweepsNothing, IsSweep}
 use Rattle.rec_world.specs.Memory.{cell, with_cell}
+use Rattle.rec_world.proofs.CorePreparing.{loads_due}
 use Rattle.rec_world.proofs.CoreReach.{released_unreached}
+use Rattle.rec_world.proofs.CoreRuns.{given_is}
 use Rattle.rec_world.proofs.CoreSteps.{slot_there}
 use Rattle.rec_world.proofs.CoreSweeping.{swept_below, due_released}
 use Rattle.rec_world.proofs.CoreTrying.{loads_child}
@@ -53,15 +58,21 @@ rests_by w op o word q left its headers freed more names nothing = IsSweep.rests
 none_told : (w : Core) (q : Private) → swept_at q.phase ≡ 0 → 0 < swept_at q.phase → 0 < swept_at w.collector.phase
 none_told w q none more = absurd (omega (arith, none, more))
 
--- a trial tells none, and a release tells none
-trial_told : (p q : Private) (v : trials.Work) (turn : Turn) → TriesOn p v q turn → swept_at q.phase ≡ 0
-trial_told p q v turn (TriesOn.more some g) = ap (λ c. swept_at c.phase) g.after
-trial_told p q v turn (TriesOn.sweeps_next none some g) = ap (λ c. swept_at c.phase) g.after
-trial_told p q v turn (TriesOn.completes none empty e) = ap (λ c. swept_at c.phase) e.after
+-- a preparation tells none, a trial tells none, and no test tells one
+preparation_told : (p : Private) (w : Parts) (q : Private) (turn : Turn) → PreparesOn p w q turn → swept_at q.phase ≡ 0
+preparation_told p w q turn (PreparesOn.more some g) = ap (λ c. swept_at c.phase) g.after
+preparation_told p w q turn (PreparesOn.sweeps_next none some g) = ap (λ c. swept_at c.phase) g.after
+preparation_told p w q turn (PreparesOn.completes none empty e) = ap (λ c. swept_at c.phase) e.after
 
-release_told : (p q : Private) (u : Work) (turn : Turn) → ReleasesOn p u q turn → swept_at q.phase ≡ 0
-release_told p q u turn (ReleasesOn.more some g) = ap (λ c. swept_at c.phase) g.after
-release_told p q u turn (ReleasesOn.tries none on) = trial_told (record p { counts = u.counts; release = u.machine }) q (trial_started p u.counts) turn on
+trial_told : (p : Private) (w : Parts) (q : Private) (turn : Turn) → TriesOn p w q turn → swept_at q.phase ≡ 0
+trial_told p w q turn (TriesOn.more some g) = ap (λ c. swept_at c.phase) g.after
+trial_told p w q turn (TriesOn.prepares none on) = preparation_told p (prep_started w) q turn on
+
+test_told : (p q : Private) (turn : Turn) (w : Parts) → ClearsOn p q turn w → swept_at q.phase ≡ 0
+test_told p q turn w (ClearsOn.frees_on some g) = ap (λ c. swept_at c.phase) g.after
+test_told p q turn w (ClearsOn.releases_on none some g) = ap (λ c. swept_at c.phase) g.after
+test_told p q turn w (ClearsOn.tests v none still some tested on) = test_told p q turn v on
+test_told p q turn w (ClearsOn.tries none still empty on) = trial_told p (trial_started w) q turn on
 
 -- the freed word goes up by one
 freed_by : (w : Core) (op : Op) (word : ℕ) → IsKept w → word ≡ cell (cells_of w) op → op ≡ ops.AddFreed → (with_cell (cells_of w) op (written op word)).freed ≡ w.freed + 1
@@ -72,7 +83,7 @@ freed_by w op word kept found its =
 -- each rule
 rule_sweeps : (w : Core) (op : Op) (word : ℕ) (q : Private) (turn : Turn) (left : Contents) → IsKept w → next_of w.collector ≡ Some op → word ≡ cell (cells_of w) op → Step w.collector word (box w (looked_at w.collector.phase)) (Some op) q turn
     → IsSweep w (collected w op word q left)
-unfolding release_next sweeps.next_of
+unfolding release_next freeing_next sweeps.next_of
 rule_sweeps w op word q turn left kept names found (Step.spent idle last none same answer) = let not_so : ◌≡◌ {A = Option Op} (Some op) None = none in absurd (cc)
 rule_sweeps w op word q turn left kept names found (Step.request idle more named g) =
     rests_by w op (ops.StoreEpoch (w.collector.epoch + 1)) word q left (some_op op (ops.StoreEpoch (w.collector.epoch + 1)) named) refl refl (none_told w q (ap (λ c. swept_at c.phase) g.after)) names tt
@@ -83,7 +94,7 @@ rule_sweeps w op word q turn left kept names found (Step.gather t looking crosse
 rule_sweeps w op word q turn left kept names found (Step.give_back t returning more named g) =
     rests_by w op (ops.ReturnBox t w.collector.epoch) word q left (some_op op (ops.ReturnBox t w.collector.epoch) named) refl refl (none_told w q (ap (λ c. swept_at c.phase) g.after)) names tt
 rule_sweeps w op word q turn left kept names found (Step.apply t returning last named on) =
-    rests_by w op (ops.ReturnBox t w.collector.epoch) word q left (some_op op (ops.ReturnBox t w.collector.epoch) named) refl refl (none_told w q (release_told w.collector q _ turn on)) names tt
+    rests_by w op (ops.ReturnBox t w.collector.epoch) word q left (some_op op (ops.ReturnBox t w.collector.epoch) named) refl refl (none_told w q (test_told w.collector q turn _ on)) names tt
 rule_sweeps w op word q turn left kept names found (Step.release releasing named on) = go w.collector.release.at refl
   where
     go : (x : Option At) → w.collector.release.at ≡ x → IsSweep w (collected w op word q left)
@@ -91,10 +102,21 @@ rule_sweeps w op word q turn left kept names found (Step.release releasing named
     go (Some a) at =
         let place : ℕ = place_of a.slot a.field w.collector.release.fields in
         let its : op ≡ ops.ClearField place = some_op op (ops.ClearField place) (named ∙ ap (release_op_at w.collector.release.fields) at) in
-        rests_by w op (ops.ClearField place) word q left its refl refl (none_told w q (release_told w.collector q _ turn on)) names tt
+        rests_by w op (ops.ClearField place) word q left its refl refl (none_told w q (test_told w.collector q turn _ on)) names tt
+rule_sweeps w op word q turn left kept names found (Step.freeing freeing named on) = go w.collector.freeing.at refl
+  where
+    go : (x : Option Member) → w.collector.freeing.at ≡ x → IsSweep w (collected w op word q left)
+    go None at = let not_so : ◌≡◌ {A = Option Op} (Some op) None = named ∙ ap (freeing_op_at w.collector.freeing.fields) at in absurd (cc)
+    go (Some a) at =
+        let place : ℕ = place_of a.slot a.field w.collector.freeing.fields in
+        let its : op ≡ ops.ClearField place = some_op op (ops.ClearField place) (named ∙ ap (freeing_op_at w.collector.freeing.fields) at) in
+        rests_by w op (ops.ClearField place) word q left its refl refl (none_told w q (test_told w.collector q turn _ on)) names tt
 rule_sweeps w op word q turn left kept names found (Step.trial trying named on) =
     let (place, its) = loads_child w.collector.trial op named in
-    rests_by w op (ops.LoadChild place) word q left its refl refl (none_told w q (trial_told w.collector q _ turn on)) names tt
+    rests_by w op (ops.LoadChild place) word q left its refl refl (none_told w q (trial_told w.collector _ q turn on)) names tt
+rule_sweeps w op word q turn left kept names found (Step.preparation preparing named on) =
+    let (a, at, its) = loads_due w.collector.prep op (sym named) in
+    rests_by w op (ops.LoadChild (place_of a.slot a.field w.collector.prep.fields)) word q left its refl refl (none_told w q (preparation_told w.collector _ q turn on)) names tt
 rule_sweeps w op word q turn left kept names found (Step.begin_sweep opening named g) =
     let its : op ≡ ops.AddFreed = some_op op ops.AddFreed named in
     let none : one_if_sweeping w.collector.phase ≡ 0 = ap one_if_sweeping opening in
@@ -127,5 +149,5 @@ turned_sweeps w kept = go (next_of w.collector) refl
         let word : ℕ = cell (cells_of w) op in
         let b : Contents = box w (looked_at w.collector.phase) in
         let step : Step w.collector word b (Some op) (step_of w.collector word b) (turn_of w.collector word)
-        = subst (λ (x : Option Op). Step w.collector word b x (step_of w.collector word b) (turn_of w.collector word)) named (step_made w.collector word b kept.collector.between) in
+        = subst (λ (x : Option Op). Step w.collector word b x (step_of w.collector word b) (turn_of w.collector word)) named (step_made w.collector word b kept.collector.machine kept.collector.between (given_is w op kept named)) in
         rule_sweeps w op word (step_of w.collector word b) (turn_of w.collector word) _ kept named refl step

@@ -9,26 +9,30 @@ use Rattle.rec_word.specs.declared.op.Op.{Op}
 use Rattle.rec_word.specs.declared.op.Op.TheVariants as ops
 use Rattle.rec_log.specs.declared.contents.Contents.{Contents}
 use Rattle.rec_release.specs.declared.at.At.{At}
-use Rattle.rec_release.specs.Release.{next_of as release_next, op_at as release_op_at, took_of as release_took}
+use Rattle.rec_release.specs.declared.member.Member.{Member}
+use Rattle.rec_release.specs.CycleFree.{next_of as freeing_next, op_at as freeing_op_at}
+use Rattle.rec_release.specs.Release.{next_of as release_next, op_at as release_op_at}
 use Rattle.rec_release.specs.Sweep as sweeps
-use Rattle.rec_trial.specs.Rules.{LeadsToUnreleased}
+use Rattle.rec_collector.specs.Followed.{relieved, with_freed, with_loaded, with_released, with_tried}
 use Rattle.rec_collector.specs.Kept as collector_kept
 use Rattle.rec_collector.specs.Private as collectors
-use Rattle.rec_collector.specs.Step.{Step, ReleasesOn, IsNext}
-use Rattle.rec_collector.specs.Took.{begun, trial_took}
+use Rattle.rec_collector.specs.Private.{parts_of}
+use Rattle.rec_collector.specs.Step.{Step, ClearsOn, TriesOn, PreparesOn, IsNext}
 use Rattle.rec_collector.specs.declared.phase.Phase.{Phase}
-use Rattle.rec_collector.specs.declared.phase.Phase.TheVariants.{Idle, Looking, Swapping, Returning, Releasing, Trying, Opening, Sweeping, Closing}
+use Rattle.rec_collector.specs.declared.phase.Phase.TheVariants.{Idle, Looking, Swapping, Returning, Releasing, Freeing, Trying, Preparing, Opening, Sweeping, Closing}
 use Rattle.rec_collector.specs.declared.turn.Turn.{Turn}
-use Rattle.rec_collector.proofs.Trying.{trial_learns}
 use Rattle.rec_world.specs.Config.{IsMutator}
 use Rattle.rec_world.specs.Core.{Core, cells_of, box, crossing_of}
 use Rattle.rec_world.specs.CoreKept.{one_if_sweeping, IsKept}
 use Rattle.rec_world.specs.CoreMoves.{looked_at, left_by, collected}
 use Rattle.rec_world.specs.Memory.{cell}
-use Rattle.rec_world.proofs.CoreLandings.{landed_kept, tried_kept}
-use Rattle.rec_world.proofs.CoreReleasing.{applied_lands, applied_ready, released_lands, released_ready}
+use Rattle.rec_world.proofs.CoreBegun.{applied_lands}
+use Rattle.rec_world.proofs.CoreFreeing.{freed_lands}
+use Rattle.rec_world.proofs.CorePreparing.{loads_due, preparing_kept}
+use Rattle.rec_world.proofs.CoreReleasing.{released_lands}
 use Rattle.rec_world.proofs.CoreSweeping.{began_kept, ended_kept, swept_kept, IsStillSweeping}
-use Rattle.rec_world.proofs.CoreTrying.{loads_child, loaded_leads, trying_lands}
+use Rattle.rec_world.proofs.CoreTests.{clears_kept}
+use Rattle.rec_world.proofs.CoreTrying.{loads_child, trying_kept}
 use Rattle.rec_world.proofs.CoreTurns.{now_at, same_boxes, requested_kept, gathered_kept, returned_kept}
 
 -- one operation in two options
@@ -53,7 +57,9 @@ freed_more w kept =
     one_at_most (Swapping t) = omega arith
     one_at_most (Returning t) = omega arith
     one_at_most Releasing = omega arith
+    one_at_most Freeing = omega arith
     one_at_most Trying = omega arith
+    one_at_most Preparing = omega arith
     one_at_most Opening = omega arith
     one_at_most (Sweeping n) = omega arith
     one_at_most (Closing n) = omega arith
@@ -78,7 +84,7 @@ plain_left w op word q phase is same =
 -- each rule
 pub rule_kept : (w : Core) (op : Op) (word : ℕ) (q : collectors.Private) (turn : Turn) → Turns w op word q → Step w.collector word (box w (looked_at w.collector.phase)) (Some op) q turn
     → IsKept (collected w op word q (left_by w.collector word (box w (looked_at w.collector.phase)) w.collector.phase))
-unfolding release_next sweeps.started_of sweeps.next_of sweeps.took_of begun
+unfolding release_next freeing_next sweeps.started_of sweeps.next_of sweeps.took_of
 rule_kept w op word q turn m (Step.spent idle last none same answer) = let not_so : ◌≡◌ {A = Option Op} (Some op) None = none in absurd (cc)
 rule_kept w op word q turn m (Step.request idle more named g) =
     let its : op ≡ ops.StoreEpoch (w.collector.epoch + 1) = some_op op (ops.StoreEpoch (w.collector.epoch + 1)) named in
@@ -128,7 +134,7 @@ rule_kept w op word q turn m (Step.give_back t returning more named g) =
 rule_kept w op word q turn m (Step.apply t returning last named on) =
     let its : op ≡ ops.ReturnBox t w.collector.epoch = some_op op (ops.ReturnBox t w.collector.epoch) named in
     let epoch : w.collector.epoch ≡ w.epoch = m.kept.collector.epoch in
-    let whole = landed_kept w (slice_set w.crossing (t - 1) (crossing_word w.epoch 0)) w.words q m.machine _ turn (applied_lands w t m.kept returning last) (applied_ready w t m.kept returning last) on in
+    let whole = clears_kept w (slice_set w.crossing (t - 1) (crossing_word w.epoch 0)) w.words q m.machine turn (applied_lands w t m.kept returning last) on in
     subst IsKept (sym (plain_left w op word q (Returning t) returning refl))
     (subst (λ o. IsKept (record (collected w o word q (box w 1)) { boxes = w.boxes })) (sym its)
     (subst (λ n. IsKept (record w { crossing = slice_set w.crossing (t - 1) (crossing_word n 0); collector = q })) (sym epoch) whole))
@@ -140,15 +146,35 @@ rule_kept w op word q turn m (Step.release releasing named on) = go w.collector.
         let place : ℕ = place_of a.slot a.field w.config.fields in
         let its : op ≡ ops.ClearField place = some_op op (ops.ClearField place) (named ∙ ap (release_op_at w.collector.release.fields) at ∙ ap (λ n. Some (ops.ClearField (place_of a.slot a.field n))) m.kept.collector.fields) in
         let found : word ≡ slice_index_or w.words place 0 = m.found ∙ ap (cell (cells_of w)) its in
-        let whole = landed_kept w w.crossing (slice_set w.words place 0) q m.machine _ turn (released_lands w a m.kept releasing at) (released_ready w a m.kept releasing at) (subst (λ n. ReleasesOn w.collector (release_took (record { machine = w.collector.release; counts = w.collector.counts }) n) q turn) found on) in
+        let whole = clears_kept w w.crossing (slice_set w.words place 0) q m.machine turn (released_lands w a m.kept releasing at) (subst (λ n. ClearsOn w.collector q turn (with_released (parts_of w.collector) n)) found on) in
         subst IsKept (sym (plain_left w op word q Releasing releasing refl)) (subst (λ o. IsKept (record (collected w o word q (box w 1)) { boxes = w.boxes })) (sym its) whole)
+rule_kept w op word q turn m (Step.freeing freeing named on) = go w.collector.freeing.at refl
+  where
+    go : (x : Option Member) → w.collector.freeing.at ≡ x → IsKept (collected w op word q (left_by w.collector word (box w (looked_at w.collector.phase)) w.collector.phase))
+    go None at = let not_so : ◌≡◌ {A = Option Op} (Some op) None = named ∙ ap (freeing_op_at w.collector.freeing.fields) at in absurd (cc)
+    go (Some a) at =
+        let place : ℕ = place_of a.slot a.field w.config.fields in
+        let fields : w.collector.freeing.fields ≡ w.config.fields = m.kept.collector.machine.freeing_fields ∙ m.kept.collector.fields in
+        let its : op ≡ ops.ClearField place = some_op op (ops.ClearField place) (named ∙ ap (freeing_op_at w.collector.freeing.fields) at ∙ ap (λ n. Some (ops.ClearField (place_of a.slot a.field n))) fields) in
+        let found : word ≡ slice_index_or w.words place 0 = m.found ∙ ap (cell (cells_of w)) its in
+        let whole = clears_kept w w.crossing (slice_set w.words place 0) q m.machine turn (freed_lands w a m.kept freeing at) (subst (λ n. ClearsOn w.collector q turn (relieved (with_freed (parts_of w.collector) n))) found on) in
+        subst IsKept (sym (plain_left w op word q Freeing freeing refl)) (subst (λ o. IsKept (record (collected w o word q (box w 1)) { boxes = w.boxes })) (sym its) whole)
 rule_kept w op word q turn m (Step.trial trying named on) =
     let (place, its) = loads_child w.collector.trial op named in
     let found : word ≡ slice_index_or w.words place 0 = m.found ∙ ap (cell (cells_of w)) its in
     let stays : slice_set w.words place word ≡ w.words = ap (slice_set w.words place) found ∙ set-get_or w.words place 0 in
-    let leads : LeadsToUnreleased w.collector.counts word = subst (LeadsToUnreleased w.collector.counts) (sym found) (loaded_leads w m.kept trying place (sym named ∙ ap (λ o. Some o) its)) in
-    let whole = tried_kept w w.crossing w.words q m.machine _ (trial_took w.collector word) turn (trying_lands w m.kept trying) (trial_learns w.collector word m.kept.collector.machine trying leads) on in
+    let whole = trying_kept w m.kept trying place (sym named ∙ ap (λ o. Some o) its) q turn m.machine (subst (λ n. TriesOn w.collector (with_tried (parts_of w.collector) n) q turn) found on) in
     subst IsKept (sym (plain_left w op word q Trying trying refl))
+    (subst (λ o. IsKept (record (collected w o word q (box w 1)) { boxes = w.boxes })) (sym its) (subst (λ ws. IsKept (record w { words = ws; collector = q })) (sym stays) whole))
+rule_kept w op word q turn m (Step.preparation preparing named on) =
+    let (a, at, due) = loads_due w.collector.prep op (sym named) in
+    let place : ℕ = place_of a.slot a.field w.config.fields in
+    let fields : w.collector.prep.fields ≡ w.config.fields = m.kept.collector.machine.prep_fields ∙ m.kept.collector.fields in
+    let its : op ≡ ops.LoadChild place = due ∙ ap (λ n. ops.LoadChild (place_of a.slot a.field n)) fields in
+    let found : word ≡ slice_index_or w.words place 0 = m.found ∙ ap (cell (cells_of w)) its in
+    let stays : slice_set w.words place word ≡ w.words = ap (slice_set w.words place) found ∙ set-get_or w.words place 0 in
+    let whole = preparing_kept w m.kept preparing a at q turn m.machine (subst (λ n. PreparesOn w.collector (with_loaded (parts_of w.collector) n) q turn) found on) in
+    subst IsKept (sym (plain_left w op word q Preparing preparing refl))
     (subst (λ o. IsKept (record (collected w o word q (box w 1)) { boxes = w.boxes })) (sym its) (subst (λ ws. IsKept (record w { words = ws; collector = q })) (sym stays) whole))
 rule_kept w op word q turn m (Step.begin_sweep opening named g) =
     let its : op ≡ ops.AddFreed = some_op op ops.AddFreed named in
@@ -165,8 +191,8 @@ rule_kept w op word q turn m (Step.begin_sweep opening named g) =
 rule_kept w op word q turn m (Step.sweep swept u next sweeping named took follows g) = go w.collector.due refl
   where
     still : (n : Phase) → IsNext swept u n → (x : ℕ) (due : w.collector.due ≡ Some x) → IsStillSweeping w swept x m.kept sweeping due n
-    still n (IsNext.more some is) x due = subst (IsStillSweeping w swept x m.kept sweeping due) (sym is) (record { sweeping = refl; way = refl; applied = λ e. refl; older = λ e. refl; stands = λ s. refl; between = tt; some = tt })
-    still n (IsNext.last none is) x due = subst (IsStillSweeping w swept x m.kept sweeping due) (sym is) (record { sweeping = refl; way = refl; applied = λ e. refl; older = λ e. refl; stands = λ s. refl; between = tt; some = omega arith })
+    still n (IsNext.more some is) x due = subst (IsStillSweeping w swept x m.kept sweeping due) (sym is) (record { sweeping = refl; way = refl; applied = λ e. refl; older = λ e. refl; stands = λ s. refl; between = tt; some = tt; waits = λ p d h. h })
+    still n (IsNext.last none is) x due = subst (IsStillSweeping w swept x m.kept sweeping due) (sym is) (record { sweeping = refl; way = refl; applied = λ e. refl; older = λ e. refl; stands = λ s. refl; between = tt; some = omega arith; waits = λ p d h. h })
 
     go : (x : Option ℕ) → w.collector.due ≡ x → IsKept (collected w op word q (left_by w.collector word (box w (looked_at w.collector.phase)) w.collector.phase))
     go None due = let not_so : ◌≡◌ {A = Option Op} (Some op) None = named ∙ ap sweeps.next_of due in absurd (cc)

@@ -7,7 +7,7 @@ use Rattle.std.proofs.lemmas.List.{set-get_or, length-set, get_or-set_same, get_
 use Rattle.std.proofs.lemmas.List.Sums.{sum_by-set}
 use Rattle.rec_word.specs.Op.{crossing_word}
 use Rattle.rec_model.specs.Accounted.{IsAccounted, HasUncountedReleased}
-use Rattle.rec_model.specs.Moves.{Move}
+use Rattle.rec_model.specs.Moves.{Move, Drops, Requests}
 use Rattle.rec_model.specs.Pending.{Write, Dated, Pending}
 use Rattle.rec_model.proofs.Consequences.{move_uncounted}
 use Rattle.rec_model.proofs.Moving.{move_accounted}
@@ -20,12 +20,16 @@ use Rattle.rec_collector.specs.declared.phase.Phase.TheVariants.{Idle, Looking, 
 use Rattle.rec_world.specs.declared.config.Config.{Config}
 use Rattle.rec_world.specs.Config.{IsMutator}
 use Rattle.rec_world.specs.Core.{Core, mutator, box, crossing_of, spare_of, nobody}
+use Rattle.rec_world.specs.CoreCycles.{HasCyclesAt}
 use Rattle.rec_world.specs.CoreKept.{IsBufferOf, Stand, stand_at, HasCrossed, IsHandshake, IsActor, HasMutators, HasCollector, IsKept, one_if_sweeping}
-use Rattle.rec_world.specs.CorePending.{Filed, writes_in, births_in, dated_names, older_at, buffers, pending, applied_at}
+use Rattle.rec_world.specs.CorePending.{Filed, writes_in, births_in, dated_names, older_at, buffers, pending, applied_at, slot_of}
+use Rattle.rec_world.specs.Cycles.{SetsWait}
 use Rattle.rec_world.proofs.CoreActors.{spare_buffer, settled_here}
 use Rattle.rec_world.proofs.CoreBatches.{none_of}
+use Rattle.rec_world.proofs.CoreCycling.{AreAliveAt, machine_alive}
 use Rattle.rec_world.proofs.CoreMoves.{spare_names}
 use Rattle.rec_world.proofs.CoreSums.{share, buffers_sum}
+use Rattle.rec_world.proofs.CyclesWait.{sets_wait_moved}
 
 -- the mailbox that nobody takes is as it was
 pub same_boxes : (w : Core) (t : ℕ) → slice_set w.boxes (t - 1) (box w t) ≡ w.boxes
@@ -55,6 +59,14 @@ spare_row g f config epoch row nothing spares = none_of (share g f epoch) row (c
 -- the collector's machine in its phase
 pub now_at : (w : Core) (phase : Phase) → IsKept w → w.collector.phase ≡ phase → collector_kept.IsAt w.collector phase
 now_at w phase kept is = subst (collector_kept.IsAt w.collector) is kept.collector.machine.now
+
+-- what is known of the sets in that phase
+pub cycles_in : (w : Core) (phase : Phase) → IsKept w → w.collector.phase ≡ phase → HasCyclesAt (pending w) w.collector phase
+cycles_in w phase kept is = subst (HasCyclesAt (pending w) w.collector) is kept.cycles
+
+-- and that no member of theirs is given up before the next batch
+pub alive_in : (w : Core) (phase : Phase) → IsKept w → w.collector.phase ≡ phase → AreAliveAt (λ node. (slot_of w node).released) w.collector.counts phase
+alive_in w phase kept is = machine_alive w.collector phase kept.collector.machine (now_at w phase kept is)
 
 -- a mutator's number, by its place
 pub numbered : (w : Core) (i : ℕ) → IsKept w → i < w.config.mutators → IsMutator w.config (i + 1)
@@ -101,12 +113,12 @@ module _ (w : Core) (c : collectors.Private) (kept : IsKept w) (idle : w.collect
         ap (λ e. sum_by (share g f e) w.collector.older) older,
       )
 
-  request_move : Move (pending w) (pending requested)
-  request_move =
+  requests : Requests (pending w) (pending requested)
+  requests =
       let some : 1 ≤ w.config.first_epoch = kept.config.some_epoch in
       let begun : w.config.first_epoch + w.collector.collections + collector_kept.under_way w.collector.phase ≡ w.epoch = kept.collector.begun in
       let now : applied_at w.epoch w.collector.phase ≡ w.epoch - 1 = ap (applied_at w.epoch) idle in
-      Move.request (record {
+      record {
         done = omega (arith, now);
         fields = refl;
         applied = (let same : w.epoch + 1 - 2 ≡ w.epoch - 1 = omega arith in same ∙ sym now);
@@ -119,7 +131,7 @@ module _ (w : Core) (c : collectors.Private) (kept : IsKept w) (idle : w.collect
         };
         registers = λ weight. refl;
         slots = record { count = λ x _. refl; free = λ x _. refl; released = λ x _. refl };
-      })
+      }
 
   pub requested_kept : IsKept requested
   requested_kept =
@@ -173,14 +185,15 @@ module _ (w : Core) (c : collectors.Private) (kept : IsKept w) (idle : w.collect
         scans = kept.scans;
         made = kept.made;
         sound = kept.sound;
-        accounted = move_accounted request_move kept.accounted;
-        uncounted = move_uncounted request_move kept.accounted kept.uncounted;
+        accounted = move_accounted (Move.request requests) kept.accounted;
+        uncounted = λ unfreed. move_uncounted (Move.request requests) kept.accounted (kept.uncounted unfreed);
+        cycles = sets_wait_moved w.collector.counts (Move.request requests) tt kept.accounted (alive_in w Idle kept idle) (cycles_in w Idle kept idle);
       }
 
 -- a turn that moves what is pending and loses nothing
-pub same_move : (p q : Pending) → ((weight : Write → ℕ) → sum_by weight q.writes ≡ sum_by weight p.writes) → ((weight : Dated → ℕ) → sum_by weight q.births ≡ sum_by weight p.births) → ((weight : Dated → ℕ) → sum_by weight q.snapshots ≡ sum_by weight p.snapshots)
-    → Move p (record p { writes = q.writes; births = q.births; snapshots = q.snapshots })
-same_move p q writes births snapshots = Move.dropping (record {
+pub same_drops : (p q : Pending) → ((weight : Write → ℕ) → sum_by weight q.writes ≡ sum_by weight p.writes) → ((weight : Dated → ℕ) → sum_by weight q.births ≡ sum_by weight p.births) → ((weight : Dated → ℕ) → sum_by weight q.snapshots ≡ sum_by weight p.snapshots)
+    → Drops p (record p { writes = q.writes; births = q.births; snapshots = q.snapshots })
+same_drops p q writes births snapshots = record {
   writes = (λ weight. omega (arith, writes weight), λ weight _. writes weight);
   births = (λ weight. omega (arith, births weight), λ weight _ _. births weight);
   snapshots = (λ weight. omega (arith, snapshots weight), λ weight _ _. snapshots weight);
@@ -188,7 +201,7 @@ same_move p q writes births snapshots = Move.dropping (record {
   registers = λ weight. refl;
   epochs = record { fields = refl; applied = refl; requested = refl };
   slots = record { count = λ x _. refl; free = λ x _. refl; released = λ x _. refl };
-})
+}
 
 -- in a gathering, each other mutator stands where it stood as the mailbox of one is taken, and where it is given back
 stand_looked : (t s : ℕ) → s ≢ t → stand_at (Returning t) s ≡ stand_at (Looking t) s
@@ -320,7 +333,7 @@ module _ (w : Core) (t : ℕ) (kept : IsKept w) (phase : w.collector.phase ≡ L
       let older : older_at w.epoch w.collector.phase ≡ w.epoch - 2 = ap (older_at w.epoch) phase in
       let none : one_if_sweeping w.collector.phase ≡ 0 = ap one_if_sweeping phase in
       let applied : applied_at w.epoch w.collector.phase ≡ w.epoch - 2 = ap (applied_at w.epoch) phase in
-      let move : Move (pending w) (record (pending gathered) { applied = (pending w).applied }) = same_move (pending w) (pending gathered)
+      let drops : Drops (pending w) (record (pending gathered) { applied = (pending w).applied }) = same_drops (pending w) (pending gathered)
       (λ weight. gather_sums weight (λ (b : Filed). writes_in b.buffer.entries) (writes_nothing w.config weight))
       (λ weight. gather_sums weight (λ (b : Filed). births_in b.epoch b.buffer.entries) (births_nothing w.config weight))
       (λ weight. gather_sums weight (λ (b : Filed). dated_names b.epoch b.buffer.snapshot) (snapshots_nothing w.config weight)) in
@@ -366,8 +379,10 @@ module _ (w : Core) (t : ℕ) (kept : IsKept w) (phase : w.collector.phase ≡ L
         scans = kept.scans;
         made = kept.made;
         sound = kept.sound;
-        accounted = subst (λ n. IsAccounted (record (pending gathered) { applied = n })) applied (move_accounted move kept.accounted);
-        uncounted = move_uncounted move kept.accounted kept.uncounted;
+        accounted = subst (λ n. IsAccounted (record (pending gathered) { applied = n })) applied (move_accounted (Move.dropping drops) kept.accounted);
+        uncounted = λ unfreed. move_uncounted (Move.dropping drops) kept.accounted (kept.uncounted unfreed);
+        cycles = subst (λ n. SetsWait (record (pending gathered) { applied = n }) w.collector.counts) applied
+            (sets_wait_moved w.collector.counts (Move.dropping drops) tt kept.accounted (alive_in w (Looking t) kept phase) (cycles_in w (Looking t) kept phase));
       }
 
 -- A mailbox is given back, and the next mutator's is looked at.
@@ -432,5 +447,6 @@ module _ (w : Core) (t : ℕ) (kept : IsKept w) (phase : w.collector.phase ≡ R
         made = kept.made;
         sound = kept.sound;
         accounted = subst IsAccounted (sym same) kept.accounted;
-        uncounted = subst HasUncountedReleased (sym same) kept.uncounted;
+        uncounted = λ unfreed. subst HasUncountedReleased (sym same) (kept.uncounted unfreed);
+        cycles = subst (λ x. SetsWait x w.collector.counts) (sym same) (cycles_in w (Returning t) kept phase);
       }

@@ -1,5 +1,5 @@
 -- A mailbox that is home holds a buffer, and where nobody holds it nothing is swapped.
-use Rattle.std.proofs.Common.{◌≡◌, false, true, Bool, Option, None, Some, refl, sym, ap, ◌∙◌}
+use Rattle.std.proofs.Common.{◌≡◌, Option, None, Some, refl, sym, ap, ◌∙◌}
 use Rattle.std.specs.Option.{IsSome}
 use Rattle.std.proofs.lemmas.Bool.{false≢true}
 use Rattle.rec_log.specs.declared.contents.Contents.{Contents}
@@ -12,7 +12,7 @@ use Rattle.rec_collector.specs.Given as collector_given
 use Rattle.rec_collector.specs.Private as collectors
 use Rattle.rec_collector.specs.Took as collector_took
 use Rattle.rec_collector.specs.declared.phase.Phase.{Phase}
-use Rattle.rec_collector.specs.declared.phase.Phase.TheVariants.{Idle, Looking, Swapping, Returning, Releasing, Trying, Opening, Sweeping, Closing}
+use Rattle.rec_collector.specs.declared.phase.Phase.TheVariants.{Idle, Looking, Swapping, Returning, Releasing, Freeing, Trying, Preparing, Opening, Sweeping, Closing}
 use Rattle.rec_world.specs.Mailbox.{held, gathered_from}
 use Rattle.rec_world.proofs.CoreCrossings.{left_same}
 
@@ -65,7 +65,9 @@ collector_stays c b not = go c.phase not
     go (Swapping t) none = absurd (none tt)
     go (Returning t) none = refl
     go Releasing none = refl
+    go Freeing none = refl
     go Trying none = refl
+    go Preparing none = refl
     go Opening none = refl
     go (Sweeping n) none = refl
     go (Closing n) none = refl
@@ -77,7 +79,9 @@ gathered_spare c b (Looking t) is = absurd is
 gathered_spare c b (Swapping t) is = refl
 gathered_spare c b (Returning t) is = absurd is
 gathered_spare c b Releasing is = absurd is
+gathered_spare c b Freeing is = absurd is
 gathered_spare c b Trying is = absurd is
+gathered_spare c b Preparing is = absurd is
 gathered_spare c b Opening is = absurd is
 gathered_spare c b (Sweeping n) is = absurd is
 gathered_spare c b (Closing n) is = absurd is
@@ -88,7 +92,9 @@ gathered_same c b (Looking t) none = refl
 gathered_same c b (Swapping t) none = absurd (none tt)
 gathered_same c b (Returning t) none = refl
 gathered_same c b Releasing none = refl
+gathered_same c b Freeing none = refl
 gathered_same c b Trying none = refl
+gathered_same c b Preparing none = refl
 gathered_same c b Opening none = refl
 gathered_same c b (Sweeping n) none = refl
 gathered_same c b (Closing n) none = refl

@@ -1,12 +1,12 @@
 -- What every heap keeps holds as it is opened.
-use Rattle.std.proofs.Common.{◌≡◌, inl, inr, ℕ, ◌+◌, ◌-◌, ◌^◌, ◌<◌, ◌≤◌, ◌↔◌, zero, suc, List, [], ◌∷◌, ◌++◌, Option, None, Some, slice_index_or, length, map, replicate, refl, sym, ap, subst, ◌∙◌, arith, lit<, lit≤, add-one}
+use Rattle.std.proofs.Common.{◌≡◌, inl, inr, ℕ, ◌+◌, ◌-◌, ◌^◌, ◌<◌, ◌≤◌, zero, suc, List, [], ◌∷◌, ◌++◌, Option, None, Some, slice_index_or, length, map, replicate, refl, sym, ap, subst, ◌∙◌, arith, lit≤, add-one}
 use Rattle.std.proofs.lemmas.Bool.{cases_lt}
 use Rattle.std.proofs.lemmas.List.{get_or_past, get_or-replicate, get_or_append_left, get_or-append_right, length-replicate, length_push, map_push}
-use Rattle.std.proofs.lemmas.List.Elements.{All-cons, All-from_get_or, All-replicate}
+use Rattle.std.proofs.lemmas.List.Elements.{All-cons, All-replicate}
 use Rattle.rec_word.specs.Word.{IsTarget}
 use Rattle.rec_model.specs.Heap.{opening}
-use Rattle.rec_model.specs.Sight.{StandsFor, IsSound, opening_sight}
-use Rattle.rec_model.proofs.Opened.{opening_sound, opening_stands}
+use Rattle.rec_model.specs.Sight.{StandsFor, opening_sight}
+use Rattle.rec_model.proofs.Opened.{opening_stands}
 use Rattle.rec_mutator.specs.Private.{Private, IsMachine}
 use Rattle.rec_world.specs.Config.{IsConfig, IsMutator}
 use Rattle.rec_world.specs.declared.config.Config.{Config}

@@ -1,25 +1,31 @@
 -- What the fields of a world become in a turn is what the definitions say.
-use Rattle.std.proofs.Common.{◌≡◌, ◌≢◌, ℕ, ◌+◌, ◌-◌, ◌^◌, ◌<◌, ◌≤◌, ◌==◌, if◌then◌else◌, List, [], ◌∷◌, Option, None, Some, Bool, true, false, slice_set, slice_index_or, length, map, refl, sym, ap, subst, ◌∙◌, arith}
+use Rattle.std.proofs.Common.{◌≡◌, ◌≢◌, ℕ, ◌+◌, ◌-◌, ◌<◌, ◌≤◌, ◌==◌, if◌then◌else◌, List, [], ◌∷◌, Option, None, Some, Bool, true, false, slice_set, slice_index_or, length, map, refl, sym, ap, subst, ◌∙◌, arith}
 use Rattle.std.proofs.lemmas.Bool.{ne_eqb}
 use Rattle.std.proofs.lemmas.List.{map-set, set-get_or}
 use Rattle.rec_word.specs.Op.{written, crossing_word}
 use Rattle.rec_word.specs.declared.op.Op.{Op}
 use Rattle.rec_word.specs.declared.op.Op.TheVariants as ops
 use Rattle.rec_log.specs.declared.contents.Contents.{Contents}
-use Rattle.rec_release.specs.Release.{Work, op_at as release_op_at, next_of as release_next}
+use Rattle.rec_release.specs.CycleFree.{op_at as freeing_op_at, next_of as freeing_next}
+use Rattle.rec_release.specs.Release.{op_at as release_op_at, next_of as release_next}
 use Rattle.rec_release.specs.Sweep.{next_of as sweep_next}
 use Rattle.rec_release.specs.declared.at.At.{At}
+use Rattle.rec_release.specs.declared.member.Member.{Member}
+use Rattle.rec_sigma.specs.Prepare.{op_at as prep_op_at, next_of as prep_next}
+use Rattle.rec_sigma.specs.declared.at.At as loads
 use Rattle.rec_trial.specs.Trial.{next_of as trial_next}
-use Rattle.rec_trial.specs.Trial as trials
 use Rattle.rec_collector.specs.Causes.{HasCause}
-use Rattle.rec_collector.specs.GivenUp.{given_up}
+use Rattle.rec_collector.specs.Followed.{Next, followed, prep_started, prepared, prepared_at, relieved, sweep_phase, tested_on, trial_started, tried, tried_at, with_freed, with_loaded, with_released, with_tried}
 use Rattle.rec_collector.specs.Kept.{swept_at, under_way}
 use Rattle.rec_collector.specs.Next.{next_of, next_at, is_spent}
+use Rattle.rec_collector.specs.Parts.{Parts}
 use Rattle.rec_collector.specs.Private as collectors
+use Rattle.rec_collector.specs.Private.{parts_of, with_parts}
 use Rattle.rec_collector.specs.Step.{IsBetween}
-use Rattle.rec_collector.specs.Took.{took_of, took_at, step_of, swapped_of, swapped_at, swept_phase, went_on, went_on_at, swept_next, tried, tried_at, trial_started, trial_took, with_trial, with_work, begun, released, returned}
+use Rattle.rec_collector.specs.Testing.{tested, zeros_released}
+use Rattle.rec_collector.specs.Took.{batched, came, ended_if, moved, took_of, took_at, step_of, swapped_of, swapped_at, swept_phase}
 use Rattle.rec_collector.specs.declared.phase.Phase.{Phase}
-use Rattle.rec_collector.specs.declared.phase.Phase.TheVariants.{Idle, Looking, Swapping, Returning, Releasing, Trying, Opening, Sweeping, Closing}
+use Rattle.rec_collector.specs.declared.phase.Phase.TheVariants.{Idle, Looking, Swapping, Returning, Releasing, Freeing, Trying, Preparing, Opening, Sweeping, Closing}
 use Rattle.rec_collector.specs.declared.turn.Turn.{Turn}
 use Rattle.rec_collector.specs.declared.turn.Turn.TheVariants as turns
 use Rattle.rec_world.specs.declared.config.Config.{Config}
@@ -36,7 +42,7 @@ use Rattle.rec_world.proofs.CoreTurns.{same_boxes}
 
 -- the operation that comes next takes the mailbox that the collector looks at, by phase
 looks_at_phase : (c : collectors.Private) (op : Op) (phase : Phase) → ◌≡◌ {A = Option Op} (next_at c phase) (Some op) → mailbox_at op ≡ looked_at phase
-unfolding next_at release_next sweep_next
+unfolding next_at release_next freeing_next prep_next sweep_next
 looks_at_phase c op Idle named = stored (is_spent c) named
   where
     stored : (spent : Bool) → ◌≡◌ {A = Option Op} (if spent then None else Some (ops.StoreEpoch (c.epoch + 1))) (Some op) → mailbox_at op ≡ 1
@@ -50,7 +56,17 @@ looks_at_phase c op Releasing named = go c.release.at named
     go : (x : Option At) → ◌≡◌ {A = Option Op} (release_op_at c.release.fields x) (Some op) → mailbox_at op ≡ 1
     go None none = let not_so : ◌≡◌ {A = Option Op} (Some op) None = sym none in absurd (cc)
     go (Some a) some = ap mailbox_at (sym (some_op _ op some))
+looks_at_phase c op Freeing named = go c.freeing.at named
+  where
+    go : (x : Option Member) → ◌≡◌ {A = Option Op} (freeing_op_at c.freeing.fields x) (Some op) → mailbox_at op ≡ 1
+    go None none = let not_so : ◌≡◌ {A = Option Op} (Some op) None = sym none in absurd (cc)
+    go (Some a) some = ap mailbox_at (sym (some_op _ op some))
 looks_at_phase c op Trying named = ap mailbox_at (loads_child c.trial op (sym named)).1
+looks_at_phase c op Preparing named = go c.prep.at named
+  where
+    go : (x : Option loads.At) → ◌≡◌ {A = Option Op} (prep_op_at c.prep.fields x) (Some op) → mailbox_at op ≡ 1
+    go None none = let not_so : ◌≡◌ {A = Option Op} (Some op) None = sym none in absurd (cc)
+    go (Some a) some = ap mailbox_at (sym (some_op _ op some))
 looks_at_phase c op Opening named = ap mailbox_at (sym (some_op ops.AddFreed op named))
 looks_at_phase c op (Sweeping n) named = go c.due named
   where
@@ -63,26 +79,51 @@ pub looks_at : (c : collectors.Private) (op : Op) → ◌≡◌ {A = Option Op} 
 unfolding next_of
 looks_at c op named = looks_at_phase c op c.phase named
 
--- a trial that came so far holds no mailbox, and neither does a release
-tried_between : (c : collectors.Private) (b : Contents) (w : trials.Work) → gathered_from (tried c w) b (tried c w).phase ≡ b
+-- what follows a word in the middle of a collection holds no mailbox
+prepared_between : (w : Parts) → IsBetween (prepared w).phase
+unfolding prepared
+prepared_between w = at w.prep.at
+  where
+    swept : (free : List ℕ) → IsBetween (sweep_phase free)
+    swept [] = tt
+    swept (x ∷ free) = tt
+
+    at : (x : Option loads.At) → IsBetween (prepared_at w x).phase
+    at (Some a) = tt
+    at None = swept w.counts.free
+
+tried_between : (w : Parts) → IsBetween (tried w).phase
 unfolding tried
-tried_between c b w = at (trial_next w.machine)
+tried_between w = at (trial_next w.trial)
   where
-    swept : (d : collectors.Private) (free : List ℕ) → gathered_from (swept_next d free) b (swept_next d free).phase ≡ b
-    swept d [] = refl
-    swept d (x ∷ free) = refl
+    at : (x : Option Op) → IsBetween (tried_at w x).phase
+    at (Some op) = tt
+    at None = prepared_between (prep_started w)
 
-    at : (x : Option Op) → gathered_from (tried_at c w x) b (tried_at c w x).phase ≡ b
-    at (Some op) = refl
-    at None = swept (with_trial c (record w { counts = given_up w.counts })) w.counts.free
-
-went_between : (c : collectors.Private) (b : Contents) (w : Work) → gathered_from (went_on c w) b (went_on c w).phase ≡ b
-unfolding went_on
-went_between c b w = at w.machine.at
+followed_between : (w : Parts) → IsBetween (followed w).phase
+unfolding followed
+followed_between w = at (tested (length w.counts.sets) w).release.at (tested (length w.counts.sets) w).freeing.at
   where
-    at : (x : Option At) → gathered_from (went_on_at c w x) b (went_on_at c w x).phase ≡ b
-    at (Some a) = refl
-    at None = tried_between (with_work c w) b (trial_started c w.counts)
+    at : (x : Option At) (m : Option Member) → IsBetween (tested_on (tested (length w.counts.sets) w) x m).phase
+    at x (Some m) = tt
+    at (Some a) None = tt
+    at None None = tried_between (trial_started (tested (length w.counts.sets) w))
+
+came_between : (c : collectors.Private) (b : Contents) (n : Next) → IsBetween n.phase → gathered_from (came c n) b (came c n).phase ≡ b
+came_between c b n between = at n.phase between
+  where
+    at : (phase : Phase) → IsBetween phase → (let d : collectors.Private = ended_if phase (moved (with_parts c n.parts) phase) in gathered_from d b d.phase) ≡ b
+    at Idle between = refl
+    at (Looking t) between = refl
+    at (Swapping t) between = absurd between
+    at (Returning t) between = refl
+    at Releasing between = refl
+    at Freeing between = refl
+    at Trying between = refl
+    at Preparing between = refl
+    at Opening between = refl
+    at (Sweeping n) between = refl
+    at (Closing n) between = refl
 
 -- what the mailbox that was looked at holds after the turn, by phase
 gathers : (c : collectors.Private) (word : ℕ) (b : Contents) (phase : Phase) → c.phase ≡ phase → IsBetween phase → gathered_from (took_at c word phase) b (took_at c word phase).phase ≡ left_by c word b phase
@@ -100,11 +141,16 @@ gathers c word b (Looking t) is between = go (word == crossing_word c.epoch 2)
 gathers c word b (Swapping t) is between = absurd between
 gathers c word b (Returning t) is between = go (t == length c.newer)
   where
-    go : (last : Bool) → (let d : collectors.Private = (if last then went_on c (begun c) else record c { phase = Looking (t + 1); turns = c.turns + 1 }) in gathered_from d b d.phase) ≡ b
-    go true = went_between c b (begun c)
+    next : Next
+    next = followed (zeros_released false (batched c))
+
+    go : (last : Bool) → (let d : collectors.Private = (if last then came c next else record c { phase = Looking (t + 1); turns = c.turns + 1 }) in gathered_from d b d.phase) ≡ b
+    go true = came_between c b next (followed_between (zeros_released false (batched c)))
     go false = refl
-gathers c word b Releasing is between = went_between c b (released c word)
-gathers c word b Trying is between = tried_between c b (trial_took c word)
+gathers c word b Releasing is between = came_between c b (followed (with_released (parts_of c) word)) (followed_between (with_released (parts_of c) word))
+gathers c word b Freeing is between = came_between c b (followed (relieved (with_freed (parts_of c) word))) (followed_between (relieved (with_freed (parts_of c) word)))
+gathers c word b Trying is between = came_between c b (tried (with_tried (parts_of c) word)) (tried_between (with_tried (parts_of c) word))
+gathers c word b Preparing is between = came_between c b (prepared (with_loaded (parts_of c) word)) (prepared_between (with_loaded (parts_of c) word))
 gathers c word b Opening is between = refl
 gathers c word b (Sweeping n) is between = go _
   where
@@ -164,7 +210,9 @@ swapped_keeps p b = go p.phase refl
     go (Swapping t) is = record { turns = refl; collections = refl; freed = refl; swept = sym (ap swept_at is) }
     go (Returning t) is = same
     go Releasing is = same
+    go Freeing is = same
     go Trying is = same
+    go Preparing is = same
     go Opening is = same
     go (Sweeping n) is = same
     go (Closing n) is = same
@@ -240,7 +288,9 @@ one_at_most (Looking t) = omega arith
 one_at_most (Swapping t) = omega arith
 one_at_most (Returning t) = omega arith
 one_at_most Releasing = omega arith
+one_at_most Freeing = omega arith
 one_at_most Trying = omega arith
+one_at_most Preparing = omega arith
 one_at_most Opening = omega arith
 one_at_most (Sweeping n) = omega arith
 one_at_most (Closing n) = omega arith

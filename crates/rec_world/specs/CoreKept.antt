@@ -13,6 +13,7 @@ use Rattle.rec_log.specs.declared.entry.Entry.TheVariants as entries
 use Rattle.rec_counts.specs.Counts.{slot_at}
 use Rattle.rec_counts.specs.Lists.{times}
 use Rattle.rec_release.specs.declared.at.At.{At}
+use Rattle.rec_release.specs.declared.member.Member.{Member}
 use Rattle.rec_mutator.specs.Causes.{is_giving}
 use Rattle.rec_mutator.specs.Private.{Private, IsMachine}
 use Rattle.rec_mutator.specs.Took.{IsBetween}
@@ -26,6 +27,7 @@ use Rattle.rec_collector.specs.declared.phase.Phase.TheVariants.{Looking, Swappi
 use Rattle.rec_world.specs.declared.config.Config.{Config}
 use Rattle.rec_world.specs.Config.{IsConfig, IsMutator, HasLabel}
 use Rattle.rec_world.specs.Core.{Core, sight, spare_of, nobody}
+use Rattle.rec_world.specs.CoreCycles.{HasCyclesAt}
 use Rattle.rec_world.specs.CorePending.{pending, older_at, epoch_at}
 
 -- a mutator that is neither crossing nor about to
@@ -124,6 +126,11 @@ abbrev pub IsLeft : Option At → (slot f : ℕ) → Type 0
 IsLeft None slot f = ⊥
 IsLeft (Some a) slot f = (slot ≡ a.slot) × (a.field ≤ f)
 
+-- a field of a member that is still to be emptied by the freeing of a set: of the member at work, or of one behind it
+abbrev pub IsLeftOf : (members : List ℕ) → Option Member → (slot f : ℕ) → Type 0
+IsLeftOf members None slot f = ⊥
+IsLeftOf members (Some a) slot f = (index : ℕ) × (a.index ≤ index) × (index < length members) × (slot ≡ slice_index_or members index 0) × (index ≡ a.index → a.field ≤ f)
+
 -- what is known of the collector: its machine is one, of the sizes of this heap; its buffers are of the last two epochs; its free
 -- list has released slots, and the fields of released slots are emptied, but for those that are still to be
 pub record HasCollector (config : Config) (requested : ℕ) (words : List ℕ) (c : collectors.Private) : Type 0 where
@@ -139,7 +146,7 @@ pub record HasCollector (config : Config) (requested : ℕ) (words : List ℕ) (
   pub newer : (t : ℕ) → IsMutator config t → IsBufferOf config (requested - 1) (collectors.buffer_at c.newer (t - 1))
   pub older : (t : ℕ) → IsMutator config t → IsBufferOf config (older_at requested c.phase) (collectors.buffer_at c.older (t - 1))
   pub listed : (x : ℕ) → 0 < times x c.counts.free → (slot_at c.counts x).released ≡ true
-  pub emptied : (x f : ℕ) → x < config.slots → f < config.fields → (slot_at c.counts x).released ≡ true → IsLeft c.release.at x f ⊎ (slice_index_or words (place_of x f config.fields) 0 ≡ 0)
+  pub emptied : (x f : ℕ) → x < config.slots → f < config.fields → (slot_at c.counts x).released ≡ true → IsLeft c.release.at x f ⊎ (IsLeftOf c.counts.work c.freeing.at x f ⊎ (slice_index_or words (place_of x f config.fields) 0 ≡ 0))
 
 -- a sweep runs
 abbrev pub is_sweeping : Phase → Bool
@@ -192,4 +199,6 @@ pub record IsKept (w : Core) : Type 0 where
   pub made : w.made ≤ 1 + sum_by (entries_made w.config) w.mutators
   pub sound : IsSound (sight w)
   pub accounted : IsAccounted (pending w)
-  pub uncounted : HasUncountedReleased (pending w)
+  -- what was given up has no count, but while a set is freed
+  pub uncounted : w.collector.freeing.at ≡ None → HasUncountedReleased (pending w)
+  pub cycles : HasCyclesAt (pending w) w.collector w.collector.phase

@@ -1,5 +1,5 @@
 -- The heap that the fields of a world make up.
-use Rattle.std.specs.Prelude.{◌≡◌, ℕ, ◌<◌, Option, None, IsSome, length, map, slice_index_or}
+use Rattle.std.specs.Prelude.{◌≡◌, ℕ, ◌<◌, None, IsSome, length, map, slice_index_or}
 use Rattle.rec_world.specs.Core.{Core}
 use Rattle.rec_world.specs.Mailbox.{held}
 use Rattle.rec_world.specs.World.{IsWorld}

@@ -1,6 +1,8 @@
 pub mod Config
 pub mod Core
 pub mod CoreAsked
+pub mod CoreCycles
+pub mod CoreFreed
 pub mod CoreKept
 pub mod CoreMet
 pub mod CoreMoves
@@ -8,6 +10,7 @@ pub mod CorePending
 pub mod CoreReach
 pub mod CoreShown
 pub mod CoreSwept
+pub mod Cycles
 pub mod Inside
 pub mod Journal
 pub mod Mailbox

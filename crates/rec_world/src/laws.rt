@@ -1,6 +1,6 @@
 //! What holds of every run, each law as the contract of a function that does nothing.
 
-ghost use Rattle.std.specs.Prelude.{◌≡◌, ℕ, ◌+◌, ◌<◌, List, IfSome, false, true, slice_index_or};
+ghost use Rattle.std.specs.Prelude.{◌≡◌, ℕ, ◌+◌, ◌<◌, List, Some, IfSome, false, true, slice_index_or};
 ghost use Rattle.rec_model.specs.Heap.{Heap, opening};
 ghost use Rattle.rec_model.specs.References.{count_formula};
 ghost use Rattle.rec_model.specs.Sight.{IsTaken, Reaches, StandsBy};
@@ -11,6 +11,8 @@ ghost use Rattle.rec_collector.specs.Next.{next_of as collector_next};
 ghost use Rattle.rec_world.specs.Config.{IsConfig, IsMutator};
 ghost use Rattle.rec_world.specs.Core.{Core, sight, mutator, opened};
 ghost use Rattle.rec_world.specs.CoreAsked.{AreAsked, told_in_all};
+ghost use Rattle.rec_word.specs.declared.op.Op.TheVariants.{FreeHeader};
+ghost use Rattle.rec_world.specs.CoreFreed.{AreGone, IsForgotten, IsProvenGarbage, Passes, TestsSets};
 ghost use Rattle.rec_world.specs.CoreKept.{IsKept};
 ghost use Rattle.rec_world.specs.CoreMet.{MayStep, MayTurn};
 ghost use Rattle.rec_world.specs.CoreMoves.{Move, Fits, after_move, IsRun, EndsRun, stepped, turned};
@@ -43,6 +45,21 @@ pub fn nothing_reached_is_freed()
     ensures turned { (w : Core) → IsConfig w.config → EndsRun w → KeepsReached (sight w) (sight (turned w)) }
     ensures stands { (w : Core) (heap : Heap) (number : ℕ → ℕ) → IsConfig w.config → EndsRun w → StandsBy heap (sight w) number → StandsBy heap (sight (turned w)) number }
     ensures claimed { (w : Core) (t slot : ℕ) → IsTaken (sight w) slot → slice_index_or (stepped w t).headers slot 0 ≡ slice_index_or w.headers slot 0 }
+{}
+
+/// While sets are tested, in any state of any run of a heap with its collector, a set that passes the Delta test and the Sigma
+/// test is garbage: no member is in the reach of the epoch whose batch was applied. And whatever was given up, as the members of
+/// such a set are at once, is in the reach of no epoch from that one on, and is named by no register, by no field of a slot that
+/// isn't given up and by nothing that is pending, until its slot is freed.
+pub fn sets_that_pass_are_garbage()
+    ensures passed { (w : Core) (number : ℕ) → IsConfig w.config → EndsRun w → TestsSets w.collector.phase → Passes w number → IsProvenGarbage w number }
+    ensures gone { (w : Core) → IsConfig w.config → EndsRun w → AreGone w }
+{}
+
+/// A header is set to 0, in any state of any run of a heap with its collector, only where no register, no field of any slot and
+/// nothing that is pending names the slot, and the slot stands in no list of the collector but the free list.
+pub fn freed_slots_are_forgotten()
+    ensures { (w : Core) (slot : ℕ) → IsConfig w.config → EndsRun w → collector_next w.collector ≡ Some (FreeHeader slot) → IsForgotten w slot }
 {}
 
 /// The true count of every slot is the count formula of its node at the epoch of the last batch, in every state of every run

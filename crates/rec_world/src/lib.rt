@@ -33,8 +33,9 @@ mod world;
 pub use config::Config;
 pub use journal::Journal;
 pub use laws::{
-    answers_are_explained, conditions_are_met, nothing_reached_is_freed, runs_answer_as_asked,
-    runs_go_on, runs_keep, true_counts_are_the_formula, worlds_end_runs,
+    answers_are_explained, conditions_are_met, freed_slots_are_forgotten, nothing_reached_is_freed,
+    runs_answer_as_asked, runs_go_on, runs_keep, sets_that_pass_are_garbage,
+    true_counts_are_the_formula, worlds_end_runs,
 };
 pub use numbering::Numbering;
 pub use open_error::OpenError;

@@ -1,5 +1,6 @@
 ghost use Rattle.std.specs.Prelude.{◌≡◌, ◌≢◌, ℕ, ◌+◌, ◌*◌, ◌%◌, ◌^◌, ◌<◌, ◌≤◌, ◌↔◌, if◌then◌else◌, true, false, Some, All, is_none, length, map, slice_index_or, IsTrue, IsNone, IsSome, IfOk, IfErr, IfSome};
 ghost use Rattle.rec_word.specs.Op.{crossing_word};
+ghost use Rattle.rec_word.specs.declared.op.Op.TheVariants.{FreeHeader};
 ghost use Rattle.rec_word.specs.Word.{stamp_of};
 ghost use Rattle.rec_counts.specs.Counts.{slot_at};
 ghost use Rattle.rec_model.specs.declared.answer.Answer.TheVariants as answers;
@@ -11,10 +12,12 @@ ghost use Rattle.rec_mutator.specs.Causes.{is_refusal, LacksObject};
 ghost use Rattle.rec_mutator.specs.Private.{is_busy, answer_of, limit_of, work_of};
 ghost use Rattle.rec_mutator.specs.declared.made.Made.TheVariants as makes;
 ghost use Rattle.rec_mutator.specs.declared.work.Work.TheVariants as works;
+ghost use Rattle.rec_collector.specs.Next.{next_of as collector_next};
 ghost use Rattle.rec_collector.specs.declared.phase.Phase as phases;
 ghost use Rattle.rec_collector.specs.declared.turn.Turn as turns;
 ghost use Rattle.rec_world.specs.Config.{IsConfig, IsMutator, IsRefused, IsValid, IsWork, HasLabel};
 ghost use Rattle.rec_world.specs.Core.{Core, sight, mutator, crossing_of, log_length, opened, opened_mutator, opened_mutators};
+ghost use Rattle.rec_world.specs.CoreFreed.{AreGone, IsForgotten};
 ghost use Rattle.rec_world.specs.CoreMoves.{begun, stepped, turned, EndsRun};
 ghost use Rattle.rec_world.specs.CoreReach.{KeepsReached};
 ghost use Rattle.rec_world.specs.CoreShown.{IsShown, entries_of, sight_told};
@@ -26,7 +29,7 @@ ghost use Rattle.rec_world.specs.Worked.{IsWorked};
 use crate::mailbox::{mailbox_of, open_boxes, swap_gathered, swap_own};
 use crate::memory::Memory;
 use crate::{Config, Numbering, OpenError};
-use rec_collector::{Machine as Collector, Turn};
+use rec_collector::{Machine as Collector, Sets, Turn};
 use rec_log::Buffer;
 use rec_model::{Cmd, Told};
 use rec_mutator::{Machine, Made, Work};
@@ -165,6 +168,11 @@ impl World {
         ensures reached { KeepsReached (sight self.old) (sight self.new) }
         ensures stands { (heap : Heap) (number : ℕ → ℕ) → StandsBy heap (sight self.old) number → StandsBy heap (sight self.new) number }
         ensures sweep { IsSweep self.old self.new }
+
+        // What was given up, the members of a set that passed both tests among it, is in no reach, and nothing names it. A header
+        // is set to 0 only where nothing at all names the slot.
+        ensures gone { AreGone self.new }
+        ensures forgotten { (slot : ℕ) → collector_next self.old.collector ≡ Some (FreeHeader slot) → IsForgotten self.old slot }
 
         // One epoch more is requested at most, and no mutator changes.
         ensures requested { self.new.epoch ≤ self.old.epoch + 1 }
@@ -399,6 +407,15 @@ impl World {
         self.collector.collections()
     }
 
+    /// What became of the sets of possible garbage cycles that were tested since the opening: how many were freed, and how many
+    /// the Delta test and the Sigma test refused.
+    pub fn sets(&self) -> Sets
+        ensures sets { result ≡ self.now.collector.sets }
+        ensures kept { IsWorld self.now }
+    {
+        self.collector.sets()
+    }
+
     /// Whether every mailbox is home: no mutator holds its own, and the collector none.
     pub fn boxes_home(&self) -> bool
         ensures { IsTrue result ↔ All (λ word. word % 2 ≡ 0) self.now.crossing }
@@ -540,5 +557,7 @@ fn births(op: Op, found: u64) -> u64
 
 #[cfg(test)]
 mod collecting_tests;
+#[cfg(test)]
+mod cycle_tests;
 #[cfg(test)]
 mod tests;

@@ -21,10 +21,10 @@ const TWO: Config = Config {
 };
 
 // One mutator.
-const ONE: Config = Config { mutators: 1, ..TWO };
+pub(super) const ONE: Config = Config { mutators: 1, ..TWO };
 
 // One mutator, which fills the heap by its first birth.
-const SMALL: Config = Config {
+pub(super) const SMALL: Config = Config {
     slots: 2,
     fields: 1,
     registers: 2,
@@ -38,7 +38,7 @@ const TURNS: u32 = 2000;
 
 // What happens on a heap, and what is told of it.
 #[derive(Clone, Copy, Debug)]
-enum Event {
+pub(super) enum Event {
     // This mutator asks, and is answered so.
     Asks(u8, Cmd, Answer),
     // This mutator begins a work.
@@ -55,28 +55,28 @@ enum Event {
     Frees(u64),
 }
 
-use Event::{Asks, Begins, Collects, Frees, Polls, Steps, Turns};
+pub(super) use Event::{Asks, Begins, Collects, Frees, Polls, Steps, Turns};
 
-const MOVED: Event = Turns(Turn::Moved);
+pub(super) const MOVED: Event = Turns(Turn::Moved);
 
-fn new(reg: u8, label: u32) -> Cmd {
+pub(super) fn new(reg: u8, label: u32) -> Cmd {
     Cmd::New { reg, label }
 }
 
-fn null(reg: u8) -> Cmd {
+pub(super) fn null(reg: u8) -> Cmd {
     Cmd::Null { reg }
 }
 
-fn put(src: u8, field: u8, val: u8) -> Cmd {
+pub(super) fn put(src: u8, field: u8, val: u8) -> Cmd {
     Cmd::Put { src, field, val }
 }
 
-fn get(dst: u8, src: u8, field: u8) -> Cmd {
+pub(super) fn get(dst: u8, src: u8, field: u8) -> Cmd {
     Cmd::Get { dst, src, field }
 }
 
 // Lets these events happen, each of which has to be told as its row says.
-fn play(rt: &impl Abort, world: &mut World, events: &[Event])
+pub(super) fn play(rt: &impl Abort, world: &mut World, events: &[Event])
     ensures { world.new.config ≡ world.old.config }
 {
     for event in events {
@@ -84,7 +84,7 @@ fn play(rt: &impl Abort, world: &mut World, events: &[Event])
     }
 }
 
-fn happen(rt: &impl Abort, world: &mut World, event: Event)
+pub(super) fn happen(rt: &impl Abort, world: &mut World, event: Event)
     ensures { world.new.config ≡ world.old.config }
 {
     match event {
@@ -172,7 +172,7 @@ fn turn_until(rt: &impl Abort, world: &mut World, word: u64)
 }
 
 // Whether the slot holds an object, and its count.
-fn standing(world: &World, slot: u16) -> (bool, u64)
+pub(super) fn standing(world: &World, slot: u16) -> (bool, u64)
     requires { slot < world.now.config.slots }
 {
     (world.taken(slot), world.count(slot))
@@ -397,71 +397,6 @@ fn the_collector_waits(rt: HostRuntime) -> Result<(), Fail> {
         ],
     );
     assert_eq!(rt; (world.collections(), world.freed()), (2, 0));
-    Ok(())
-}
-
-// Registers 1 and 2 name two objects that name each other, and a collection has counted it.
-fn make_ring(rt: &impl Abort, world: &mut World)
-    ensures { world.new.config ≡ world.old.config }
-{
-    let events = [
-        Asks(1, new(1, 10), Answer::Done),
-        Asks(1, new(2, 20), Answer::Done),
-        Asks(1, put(1, 0, 2), Answer::Done),
-        Asks(1, put(2, 0, 1), Answer::Done),
-        MOVED,
-        Polls(1, Some(2)),
-        Collects(1, 0),
-    ];
-    play(rt, world, &events);
-}
-
-// A ring that registers let go of is tried, and so is the first object. Marking loads the fields of all three, blackening that
-// of the first one, and collecting those of the ring, whose set is given up: it stays.
-#[test]
-fn a_ring_is_tried(rt: HostRuntime) -> Result<(), Fail> {
-    let mut world = World::open(rt.alloc(), ONE)?;
-    make_ring(&rt, &mut world);
-    let lets_go = [
-        Asks(1, null(1), Answer::Done),
-        Asks(1, null(2), Answer::Done),
-        MOVED,
-        Polls(1, Some(3)),
-    ];
-    play(&rt, &mut world, &lets_go);
-    // The mailbox is taken and given back, and five fields are loaded.
-    play(&rt, &mut world, &[MOVED; 7]);
-    let last = Turn::Collected { epoch: 2, freed: 0 };
-    play(&rt, &mut world, &[Turns(last)]);
-    assert_eq!(rt; standing(&world, 1), (true, 1));
-    assert_eq!(rt; standing(&world, 2), (true, 1));
-    Ok(())
-}
-
-// While a trial is at work on a ring, a mutator that still holds one of its objects reads the other, and cuts the ring. The
-// counts follow by the logs, two collections later.
-#[test]
-fn a_ring_is_cut_while_it_is_tried(rt: HostRuntime) -> Result<(), Fail> {
-    let mut world = World::open(rt.alloc(), ONE)?;
-    make_ring(&rt, &mut world);
-    let begins = [Asks(1, null(2), Answer::Done), MOVED, Polls(1, Some(3))];
-    play(&rt, &mut world, &begins);
-    // The mailbox is taken and given back, and one field is loaded.
-    play(&rt, &mut world, &[MOVED; 3]);
-    let cuts = [
-        Asks(1, get(2, 1, 0), Answer::Object),
-        Asks(1, put(2, 0, 0), Answer::Done),
-        MOVED,
-        Asks(1, put(1, 0, 3), Answer::Done),
-        Collects(2, 0),
-    ];
-    play(&rt, &mut world, &cuts);
-    assert_eq!(rt; world.register(1, 2), Some(2));
-    play(&rt, &mut world, &[MOVED, Polls(1, Some(4)), Collects(3, 0)]);
-    play(&rt, &mut world, &[MOVED, Polls(1, Some(5)), Collects(4, 0)]);
-    assert_eq!(rt; standing(&world, 0), (true, 2));
-    assert_eq!(rt; standing(&world, 1), (true, 1));
-    assert_eq!(rt; standing(&world, 2), (true, 1));
     Ok(())
 }
 

@@ -7,7 +7,7 @@ use Rattle.rec_sigma.specs.Refurbish.{fate_at, fate_of, LastRefurbished, Refurbi
 use Rattle.rec_sigma.specs.Settling.{settled}
 use Rattle.rec_sigma.proofs.Members.{each_once}
 use Rattle.rec_sigma.proofs.Refused.{released_after, zeros_after}
-use Rattle.rec_sigma.proofs.Renewals.{due, ends, free_unlisted, goes_on, zero_unlisted, Goes, IsDue}
+use Rattle.rec_sigma.proofs.Renewals.{due, ends, ends_settled, free_unlisted, goes_on, zero_unlisted, Goes, IsDue}
 use Rattle.rec_sigma.proofs.renewal.refurbish.Goals as goal
 
 pub drop_set-requires-clause-new : goal.drop_set-requires-clause-new
@@ -69,6 +69,7 @@ returns c =
     let f : LastRefurbished s c.pop_work.new.self = subst (λ x. Refurbished s (last_set s.sets) x c.pop_work.new.self) first (subst (Refurbished s (last_set s.sets) c.copied-first.result) (sym c.pop_work.ensures.rest) r) in
     record {
       refurbished = f;
+      settled = c.pop_work.ensures.rest ∙ ends_settled c.copied-first.result s t (sym first) (sym c.pop_work.ensures.first ∙ c.in_default.is) c.loop-slot.invariant.going;
       zeros = zeros_after s (last_set s.sets) (slice_get (last_set s.sets) 0) c.pop_work.new.self f c.rules-2.ensures.zeros_once;
       free = released_after s (last_set s.sets) (slice_get (last_set s.sets) 0) c.pop_work.new.self f;
     }

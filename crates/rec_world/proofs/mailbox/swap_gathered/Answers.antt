@@ -1,7 +1,6 @@
 -- The retired buffer and a spare change places where the mailbox is held.
-use Rattle.std.proofs.Common.{Some, refl, sym, ap, ◌∙◌}
 use Rattle.std.proofs.lemmas.Bool.{false≢true}
-use Rattle.rec_world.proofs.Mailboxes.{gathered_spare, gathered_stays, collector_stays}
+use Rattle.rec_world.proofs.Mailboxes.{collector_stays}
 use Rattle.rec_world.proofs.mailbox.swap_gathered.Goals as goal
 
 pub returns-else-is_swapping-clause-collector : goal.returns-else-is_swapping-clause-collector

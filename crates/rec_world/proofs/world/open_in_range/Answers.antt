@@ -1,5 +1,5 @@
 -- The parts make up the heap as it is opened.
-use Rattle.std.proofs.Common.{◌≡◌, false, map, refl, sym, ap, subst, ◌∙◌}
+use Rattle.std.proofs.Common.{◌≡◌, false, map, sym, subst}
 use Rattle.rec_world.specs.Core.{Core, opened}
 use Rattle.rec_world.specs.Mailbox.{held}
 use Rattle.rec_world.specs.World.{IsWorld}

@@ -88,3 +88,27 @@ returns-in-Swapping-clause-took c = absurd (subst (λ (f : Phase). IsGivenAt c.a
 pub returns-in-Swapping-clause-turn : goal.returns-in-Swapping-clause-turn
 unfolding IsGiven IsGivenAt
 returns-in-Swapping-clause-turn c = absurd (subst (λ (f : Phase). IsGivenAt c.args.self.now c.args.word f) (ap (λ (p : Private). p.phase) (sym c.self.view_is) ∙ c.in-Swapping.is) c.requires)
+
+pub took_freeing-requires-clause-counted : goal.took_freeing-requires-clause-counted
+unfolding IsGiven IsGivenAt
+took_freeing-requires-clause-counted c = subst (λ (f : Phase). IsGivenAt c.args.self.now c.args.word f) (ap (λ (p : Private). p.phase) (sym c.self.view_is) ∙ c.in-Freeing.is) c.requires
+
+pub returns-in-Freeing-clause-took : goal.returns-in-Freeing-clause-took
+unfolding took_of took_at
+returns-in-Freeing-clause-took c = c.took_freeing.ensures.took ∙ sym (ap (took_at c.args.self.now c.args.word) (ap (λ (p : Private). p.phase) (sym c.self.view_is) ∙ c.in-Freeing.is))
+
+pub returns-in-Freeing-clause-turn : goal.returns-in-Freeing-clause-turn
+unfolding turn_of turn_at
+returns-in-Freeing-clause-turn c = c.took_freeing.ensures.turn ∙ sym (ap (turn_at c.args.self.now c.args.word) (ap (λ (p : Private). p.phase) (sym c.self.view_is) ∙ c.in-Freeing.is))
+
+pub took_preparation-requires-clause-in_range : goal.took_preparation-requires-clause-in_range
+unfolding IsGiven IsGivenAt
+took_preparation-requires-clause-in_range c = subst (λ (f : Phase). IsGivenAt c.args.self.now c.args.word f) (ap (λ (p : Private). p.phase) (sym c.self.view_is) ∙ c.in-Preparing.is) c.requires
+
+pub returns-in-Preparing-clause-took : goal.returns-in-Preparing-clause-took
+unfolding took_of took_at
+returns-in-Preparing-clause-took c = c.took_preparation.ensures.took ∙ sym (ap (took_at c.args.self.now c.args.word) (ap (λ (p : Private). p.phase) (sym c.self.view_is) ∙ c.in-Preparing.is))
+
+pub returns-in-Preparing-clause-turn : goal.returns-in-Preparing-clause-turn
+unfolding turn_of turn_at
+returns-in-Preparing-clause-turn c = c.took_preparation.ensures.turn ∙ sym (ap (turn_at c.args.self.now c.args.word) (ap (λ (p : Private). p.phase) (sym c.self.view_is) ∙ c.in-Preparing.is))

@@ -6,6 +6,7 @@ use Rattle.rec_release.specs.CycleFree.{Next, first_member, work_of, started_of,
 use Rattle.rec_release.specs.Freed.{FreedTo}
 use Rattle.rec_release.proofs.Giving.{given_many}
 use Rattle.rec_release.proofs.Freeing.{begun_next, came_first, Came}
+use Rattle.rec_release.proofs.Orange.{given_apart, given_orange, given_zeros}
 use Rattle.rec_release.proofs.cycle_free.CycleFree.start.Goals as goal
 
 pub invariant_of-self : goal.invariant_of-self
@@ -48,3 +49,15 @@ returns-clause-whole c =
 
 pub returns-clause-slots : goal.returns-clause-slots
 returns-clause-slots c = ap (λ (u : State). length u.slots) c.give_up.ensures ∙ given_many c.args.counts.now
+
+pub returns-clause-sets : goal.returns-clause-sets
+returns-clause-sets c = ap (λ (u : State). u.sets) c.give_up.ensures
+
+pub returns-clause-all_but_orange : goal.returns-clause-all_but_orange
+returns-clause-all_but_orange c = rw c.give_up.ensures (given_zeros c.args.counts.now)
+
+pub returns-clause-apart : goal.returns-clause-apart
+returns-clause-apart c = rw c.give_up.ensures (given_apart c.args.counts.now c.rules.ensures c.requires.freeable)
+
+pub returns-clause-orange : goal.returns-clause-orange
+returns-clause-orange c = rw c.give_up.ensures (given_orange c.args.counts.now c.rules.ensures)

@@ -1,9 +1,7 @@
 -- The last step of the command says all.
-use Rattle.std.proofs.Common.{◌≡◌, false, sym, ap, subst, ◌∙◌}
+use Rattle.std.proofs.Common.{sym, subst, ◌∙◌}
 use Rattle.rec_world.specs.Core.{Core, mutator}
-use Rattle.rec_world.specs.CoreKept.{IsKept}
-use Rattle.rec_world.specs.World.{HasFound, IsFinished, IsWorld}
-use Rattle.rec_mutator.specs.declared.made.Made.{Made}
+use Rattle.rec_world.specs.World.{HasFound, IsWorld}
 use Rattle.rec_world.proofs.Calls.{world_kept, finished_kept, begun_found, worked}
 use Rattle.rec_world.proofs.Commands.{IsAnswered, command_said, command_crosses}
 use Rattle.rec_world.proofs.world.World.command.Goals as goal

@@ -1,5 +1,5 @@
 -- A step that answers nothing leaves all as it was but the work, and the next one follows.
-use Rattle.std.proofs.Common.{◌≡◌, None, false, refl, sym, ap, ◌∙◌}
+use Rattle.std.proofs.Common.{◌≡◌, None, refl, sym, ap, ◌∙◌}
 use Rattle.std.specs.Option.{is_none}
 use Rattle.rec_mutator.specs.Private.{answer_of}
 use Rattle.rec_world.specs.Config.{IsMutator}

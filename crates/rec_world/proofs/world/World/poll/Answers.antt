@@ -1,5 +1,5 @@
 -- The last step of the poll says all.
-use Rattle.std.proofs.Common.{◌≡◌, false, sym, ap, subst, ◌∙◌}
+use Rattle.std.proofs.Common.{sym, subst}
 use Rattle.rec_world.specs.Core.{Core, mutator}
 use Rattle.rec_world.specs.World.{HasFound, IsWorld}
 use Rattle.rec_world.proofs.Calls.{world_kept, finished_kept, begun_found, worked}

@@ -1,12 +1,12 @@
 -- The machine names an operation, the memory carries it out, the machine learns: the core is that of the definitions.
-use Rattle.std.proofs.Common.{◌≡◌, ◌-◌, ◌+◌, ◌<◌, ◌≤◌, ◌^◌, true, false, map, length, slice_index_or, slice_set, arith, refl, sym, ap, subst, ◌∙◌}
+use Rattle.std.proofs.Common.{◌≡◌, ◌-◌, ◌+◌, ◌<◌, ◌≤◌, ◌^◌, true, map, length, slice_set, arith, refl, sym, ap, subst, ◌∙◌}
 use Rattle.std.specs.Option.{is_none, is_some, IfSome}
 use Rattle.rec_mutator.specs.Next.{next_of}
 use Rattle.rec_mutator.specs.Private.{Private, is_busy, work_of, answer_of, limit_of}
 use Rattle.rec_mutator.specs.Took.{IsFound, IsBetween, IsSwapping, spare, took_of}
-use Rattle.rec_world.specs.Core.{Core, cells_of, mutator, box}
+use Rattle.rec_world.specs.Core.{Core, cells_of, mutator}
 use Rattle.rec_world.specs.CoreMet.{MayStep}
-use Rattle.rec_world.specs.CoreMoves.{Move, EndsRun, stepped, found_by}
+use Rattle.rec_world.specs.CoreMoves.{Move, stepped, found_by}
 use Rattle.rec_world.specs.CoreShown.{IsShown}
 use Rattle.rec_world.specs.Inside.{core}
 use Rattle.rec_world.specs.Mailbox.{held}

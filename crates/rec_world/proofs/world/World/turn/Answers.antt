@@ -1,10 +1,10 @@
 -- The collector names an operation, the memory carries it out, the collector learns: the core is that of the definitions.
-use Rattle.std.proofs.Common.{◌≡◌, ◌≢◌, ℕ, ◌-◌, ◌+◌, ◌<◌, ◌≤◌, Option, Some, true, false, map, length, slice_index_or, slice_set, arith, refl, sym, ap, subst, ◌∙◌}
+use Rattle.std.proofs.Common.{◌≡◌, ℕ, ◌-◌, ◌+◌, ◌<◌, ◌≤◌, Option, Some, map, length, slice_set, arith, refl, sym, ap, subst, ◌∙◌}
 use Rattle.std.specs.Option.{is_some, IfSome}
 use Rattle.std.proofs.lemmas.Bool.{false≢true}
 use Rattle.rec_word.specs.Op.{crossing_word}
 use Rattle.rec_word.specs.declared.op.Op.{Op}
-use Rattle.rec_model.specs.Heap.{Heap}
+use Rattle.rec_word.specs.declared.op.Op.TheVariants.{FreeHeader}
 use Rattle.rec_model.specs.Sight.{StandsBy}
 use Rattle.rec_log.specs.declared.contents.Contents.{Contents}
 use Rattle.rec_collector.specs.Causes.{HasCause}
@@ -12,18 +12,18 @@ use Rattle.rec_collector.specs.Given.{IsGiven, IsSized}
 use Rattle.rec_collector.specs.Next.{next_of}
 use Rattle.rec_collector.specs.Took.{took_of}
 use Rattle.rec_collector.specs.declared.phase.Phase.TheVariants.{Idle, Looking}
-use Rattle.rec_collector.specs.declared.turn.Turn.{Turn}
-use Rattle.rec_collector.specs.declared.turn.Turn.TheVariants as turns
 use Rattle.rec_world.specs.Core.{Core, cells_of, sight, box, crossing_of}
+use Rattle.rec_world.specs.CoreFreed.{AreGone, IsForgotten}
 use Rattle.rec_world.specs.CoreMet.{MayTurn}
 use Rattle.rec_world.specs.CoreMoves.{Move, EndsRun, looked_at, turned}
 use Rattle.rec_world.specs.CoreReach.{KeepsReached}
 use Rattle.rec_world.specs.CoreSwept.{IsSweep}
 use Rattle.rec_world.specs.Inside.{core}
-use Rattle.rec_world.specs.Mailbox.{held, mailbox_at}
-use Rattle.rec_world.specs.Memory.{IsWithin, cell}
+use Rattle.rec_world.specs.Mailbox.{held}
+use Rattle.rec_world.specs.Memory.{cell}
 use Rattle.rec_world.specs.World.{IsWorld, TurnHasCause}
 use Rattle.rec_world.proofs.Calls.{ReadyToTurn, ready_to_turn, box_read, box_home, home_again, moved_world, world_run}
+use Rattle.rec_world.proofs.CoreFreed.{freed_is_forgotten, given_up_are_gone}
 use Rattle.rec_world.proofs.CoreReach.{turned_keeps, keeps_stands_by}
 use Rattle.rec_world.proofs.CoreRuns.{move_kept, move_stays}
 use Rattle.rec_world.proofs.CoreSwept.{turned_sweeps}
@@ -178,6 +178,24 @@ pub returns-clause-sweep : goal.returns-clause-sweep
 returns-clause-sweep c =
     let at : After-swap_gathered = (goal.at.returns-clause-sweep c).After-swap_gathered in
     subst (λ (s : Core). IsSweep s (after at)) c.self.view_is (subst (IsSweep (core c.self.inside)) (sym (left at)) (turned_sweeps (core c.self.inside) (ends at).kept))
+
+pub returns-in_default-clause-gone : goal.returns-in_default-clause-gone
+returns-in_default-clause-gone c = subst AreGone c.self.view_is (given_up_are_gone (core c.self.inside) (ready_to_turn c.self.inside c.args.self.now c.self.invariant c.self.view_is c.requires.unmarked).kept)
+
+pub returns-in_default-clause-forgotten : goal.returns-in_default-clause-forgotten
+returns-in_default-clause-forgotten c = λ slot.
+    let now : ReadyToTurn c.self.inside = ready_to_turn c.self.inside c.args.self.now c.self.invariant c.self.view_is c.requires.unmarked in
+    subst (λ (s : Core). ◌≡◌ {A = Option Op} (next_of s.collector) (Some (FreeHeader slot)) → IsForgotten s slot) c.self.view_is (freed_is_forgotten (core c.self.inside) slot now.kept)
+
+pub returns-clause-gone : goal.returns-clause-gone
+returns-clause-gone c =
+    let at : After-swap_gathered = (goal.at.returns-clause-gone c).After-swap_gathered in
+    subst AreGone (sym (left at)) (given_up_are_gone (turned (core c.self.inside)) (move_kept (core c.self.inside) Move.Turns (ends at).kept tt))
+
+pub returns-clause-forgotten : goal.returns-clause-forgotten
+returns-clause-forgotten c = λ slot.
+    let at : After-swap_gathered = (goal.at.returns-clause-forgotten c).After-swap_gathered in
+    subst (λ (s : Core). ◌≡◌ {A = Option Op} (next_of s.collector) (Some (FreeHeader slot)) → IsForgotten s slot) c.self.view_is (freed_is_forgotten (core c.self.inside) slot (ends at).kept)
 
 pub returns-clause-requested : goal.returns-clause-requested
 returns-clause-requested c =

@@ -1,0 +1,168 @@
+-- What follows, as the tests of the code find it: each of them asks a machine for what comes next.
+use Rattle.std.proofs.Common.{◌≡◌, ◌≢◌, ℕ, ◌-◌, true, false, Option, None, Some, IsNone, List, [], ◌∷◌, length, is_some, refl, arith, sym, ap, ◌∙◌}
+use Rattle.std.proofs.lemmas.Bool.{false≢true}
+use Rattle.rec_word.specs.declared.op.Op.{Op}
+use Rattle.rec_counts.specs.Counts.{State}
+use Rattle.rec_counts.specs.Rest.{AreZeros}
+use Rattle.rec_release.specs.CycleFree as frees
+use Rattle.rec_release.specs.Release as releases
+use Rattle.rec_release.specs.Release.{IsReady}
+use Rattle.rec_release.specs.declared.at.At.{At}
+use Rattle.rec_release.specs.declared.member.Member.{Member}
+use Rattle.rec_sigma.specs.Prepare as preps
+use Rattle.rec_sigma.specs.declared.at.At as loads
+use Rattle.rec_sigma.specs.Refurbish.{AreReleased}
+use Rattle.rec_sigma.specs.Settling.{refurbished_of}
+use Rattle.rec_trial.specs.Trial as trials
+use Rattle.rec_collector.specs.Followed.{Next, followed, next_in, prep_started, prepared, prepared_at, relieved, relieved_at, sweep_phase, tested_next, tested_on, tried, tried_at, with_prep, with_trial}
+use Rattle.rec_collector.specs.Parts.{Parts}
+use Rattle.rec_collector.specs.Testing.{counted_by, last_tested, tested, tested_as, verdict_of, with_freeing, with_release, zeros_released}
+use Rattle.rec_collector.specs.declared.sets.Sets.{Sets}
+use Rattle.rec_collector.specs.declared.verdict.Verdict.{Verdict}
+use Rattle.rec_collector.specs.declared.verdict.Verdict.TheVariants.{Passed, Touched, Held}
+use Rattle.rec_collector.specs.declared.phase.Phase.TheVariants.{Releasing, Freeing, Trying, Preparing, Opening, Closing}
+
+-- nothing comes next where nothing is due, and something where it is
+pub release_next : (m : releases.Machine) → is_some (releases.next_of m) ≡ is_some m.at
+unfolding releases.next_of
+release_next m = go m.at
+  where
+    go : (at : Option At) → is_some (releases.op_at m.fields at) ≡ is_some at
+    go None = refl
+    go (Some a) = refl
+
+pub freeing_next : (m : frees.Machine) → is_some (frees.next_of m) ≡ is_some m.at
+unfolding frees.next_of
+freeing_next m = go m.at
+  where
+    go : (at : Option Member) → is_some (frees.op_at m.fields at) ≡ is_some at
+    go None = refl
+    go (Some a) = refl
+
+pub prep_next : (m : preps.Machine) → is_some (preps.next_of m) ≡ is_some m.at
+unfolding preps.next_of
+prep_next m = go m.at
+  where
+    go : (at : Option loads.At) → is_some (preps.op_at m.fields at) ≡ is_some at
+    go None = refl
+    go (Some a) = refl
+
+pub none_of : {A : Type 0} (o : Option A) → is_some o ≡ false → o ≡ None
+none_of None e = refl
+none_of (Some x) e = absurd (false≢true (sym e))
+
+pub no_release : (m : releases.Machine) → m.at ≡ None → IsNone (releases.next_of m)
+no_release m e = release_next m ∙ ap (λ (o : Option At). is_some o) e
+
+pub no_freeing : (m : frees.Machine) → m.at ≡ None → IsNone (frees.next_of m)
+no_freeing m e = freeing_next m ∙ ap (λ (o : Option Member). is_some o) e
+
+pub no_load : (m : preps.Machine) → m.at ≡ None → IsNone (preps.next_of m)
+no_load m e = prep_next m ∙ ap (λ (o : Option loads.At). is_some o) e
+
+-- after a preparation
+pub prepares_on : (w : Parts) → is_some (preps.next_of w.prep) ≡ true → next_in Preparing w ≡ prepared w
+unfolding prepared
+prepares_on w e = go w.prep.at (sym (prep_next w.prep) ∙ e)
+  where
+    go : (at : Option loads.At) → is_some at ≡ true → next_in Preparing w ≡ prepared_at w at
+    go None e = absurd (false≢true e)
+    go (Some a) e = refl
+
+prepares_no_more : (w : Parts) → is_some (preps.next_of w.prep) ≡ false → next_in (sweep_phase w.counts.free) w ≡ prepared w
+unfolding prepared
+prepares_no_more w e = sym (ap (prepared_at w) (none_of w.prep.at (sym (prep_next w.prep) ∙ e)))
+
+nothing_free : (free : List ℕ) → length free ≡ 0 → Closing 0 ≡ sweep_phase free
+nothing_free [] e = refl
+nothing_free (x ∷ free) e = absurd (omega (arith, e))
+
+something_free : (free : List ℕ) → length free ≢ 0 → Opening ≡ sweep_phase free
+something_free [] e = absurd (e (omega arith))
+something_free (x ∷ free) e = refl
+
+pub closes : (w : Parts) → is_some (preps.next_of w.prep) ≡ false → length w.counts.free ≡ 0 → next_in (Closing 0) w ≡ prepared w
+closes w e n = ap (λ phase. next_in phase w) (nothing_free w.counts.free n) ∙ prepares_no_more w e
+
+pub opens : (w : Parts) → is_some (preps.next_of w.prep) ≡ false → length w.counts.free ≢ 0 → next_in Opening w ≡ prepared w
+opens w e n = ap (λ phase. next_in phase w) (something_free w.counts.free n) ∙ prepares_no_more w e
+
+-- after a trial
+pub tries_on : (w : Parts) → is_some (trials.next_of w.trial) ≡ true → next_in Trying w ≡ tried w
+unfolding tried
+tries_on w e = go (trials.next_of w.trial) e
+  where
+    go : (op : Option Op) → is_some op ≡ true → next_in Trying w ≡ tried_at w op
+    go None e = absurd (false≢true e)
+    go (Some o) e = refl
+
+pub tries_no_more : (w : Parts) → is_some (trials.next_of w.trial) ≡ false → prepared (prep_started w) ≡ tried w
+unfolding tried
+tries_no_more w e = sym (ap (tried_at w) (none_of (trials.next_of w.trial) e))
+
+-- the sets of a trial are to be prepared
+pub tried_ends : (w : Parts) (u : preps.Work) (n : Next) → n ≡ prepared (with_prep w u) → u ≡ preps.started_of w.prep w.counts → is_some (trials.next_of w.trial) ≡ false → n ≡ tried w
+tried_ends w u n e s none = e ∙ ap (λ (v : preps.Work). prepared (with_prep w v)) s ∙ tries_no_more w none
+
+-- the last set passed both tests, and is to be freed
+pub passed_last : (w : Parts) (verdict : Verdict) (v : frees.Work) (sets : Sets) → verdict ≡ verdict_of w.counts (length w.counts.sets - 1) → verdict ≡ Passed → v ≡ frees.started_of w.freeing w.counts → sets ≡ counted_by verdict w.sets
+    → record w { counts = v.counts; freeing = v.machine; sets = sets } ≡ last_tested w
+unfolding last_tested
+passed_last w verdict v sets is passed s n =
+    ap (λ (u : frees.Work). record w { counts = u.counts; freeing = u.machine; sets = sets }) s
+    ∙ ap (λ (m : Sets). with_freeing (record w { sets = m }) (frees.started_of w.freeing w.counts)) (n ∙ ap (λ (b : Verdict). counted_by b w.sets) passed)
+    ∙ ap (λ (b : Verdict). tested_as b w) (sym passed ∙ is)
+
+-- it was refused and refurbished, and its zeros are to be released
+pub refused_last : (w : Parts) (verdict : Verdict) (s : State) (v : releases.Work) (sets : Sets) → verdict ≡ verdict_of w.counts (length w.counts.sets - 1) → verdict ≢ Passed → s ≡ refurbished_of w.counts → v ≡ releases.started_of w.release true s
+    → sets ≡ counted_by verdict w.sets → record w { counts = v.counts; release = v.machine; sets = sets } ≡ last_tested w
+unfolding last_tested
+refused_last w verdict s v sets is refused r e n =
+    ap (λ (u : releases.Work). record w { counts = u.counts; release = u.machine; sets = sets }) (e ∙ ap (releases.started_of w.release true) r)
+    ∙ ap (λ (m : Sets). zeros_released true (record w { counts = refurbished_of w.counts; sets = m })) n ∙ go verdict refused
+    ∙ ap (λ (b : Verdict). tested_as b w) is
+  where
+    go : (b : Verdict) → b ≢ Passed → zeros_released true (record w { counts = refurbished_of w.counts; sets = counted_by b w.sets }) ≡ tested_as b w
+    go Passed other = absurd (other refl)
+    go Touched other = refl
+    go Held other = refl
+
+-- what a refused set leaves can be released
+pub refused_ready : (s t : State) → IsReady s → (AreZeros s → AreZeros t) → (AreReleased s → AreReleased t) → IsReady t
+refused_ready s t r zeros free = record { zeros = zeros r.zeros; free = free r.free }
+
+-- after the freeing of a set came so far
+pub frees_on : (w : Parts) → is_some (frees.next_of w.freeing) ≡ true → w ≡ relieved w
+frees_on w e = go w.freeing.at (sym (freeing_next w.freeing) ∙ e)
+  where
+    go : (member : Option Member) → is_some member ≡ true → w ≡ relieved_at w member
+    go None e = absurd (false≢true e)
+    go (Some m) e = refl
+
+pub frees_no_more : (w : Parts) (v : releases.Work) → is_some (frees.next_of w.freeing) ≡ false → v ≡ releases.started_of w.release true w.counts → record w { counts = v.counts; release = v.machine } ≡ relieved w
+frees_no_more w v e s = ap (with_release w) s ∙ sym (ap (relieved_at w) (none_of w.freeing.at (sym (freeing_next w.freeing) ∙ e)))
+
+-- after the tests of sets
+pub tests_free : (w : Parts) → is_some (frees.next_of w.freeing) ≡ true → next_in Freeing w ≡ tested_next w
+tests_free w e = go w.freeing.at (sym (freeing_next w.freeing) ∙ e)
+  where
+    go : (member : Option Member) → is_some member ≡ true → next_in Freeing w ≡ tested_on w w.release.at member
+    go None e = absurd (false≢true e)
+    go (Some m) e = refl
+
+pub tests_release : (w : Parts) → is_some (frees.next_of w.freeing) ≡ false → is_some (releases.next_of w.release) ≡ true → next_in Releasing w ≡ tested_next w
+tests_release w e b = go w.release.at (sym (release_next w.release) ∙ b) ∙ sym (ap (tested_on w w.release.at) (none_of w.freeing.at (sym (freeing_next w.freeing) ∙ e)))
+  where
+    go : (at : Option At) → is_some at ≡ true → next_in Releasing w ≡ tested_on w at None
+    go None e = absurd (false≢true e)
+    go (Some a) e = refl
+
+pub tests_try : (w : Parts) (v : trials.Work) (n : Next) → is_some (frees.next_of w.freeing) ≡ false → is_some (releases.next_of w.release) ≡ false → n ≡ tried (with_trial w v) → v ≡ trials.started_of w.trial.fields w.counts → n ≡ tested_next w
+tests_try w v n e b is s =
+    is ∙ ap (λ (u : trials.Work). tried (with_trial w u)) s ∙ sym (ap (λ (at : Option At). tested_on w at None) (none_of w.release.at (sym (release_next w.release) ∙ b)))
+    ∙ sym (ap (tested_on w w.release.at) (none_of w.freeing.at (sym (freeing_next w.freeing) ∙ e)))
+
+-- the sets were tested
+pub follows : (from w : Parts) (n : Next) → w ≡ tested (length from.counts.sets) from → n ≡ tested_next w → n ≡ followed from
+unfolding followed
+follows from w n e is = is ∙ ap (λ (v : Parts). tested_next v) e

@@ -1,0 +1,155 @@
+-- A batch leaves the counts tidy, and so a collection begins with parts that are clear.
+use Rattle.std.proofs.Common.{◌≡◌, ℕ, ◌<◌, true, false, Option, None, Some, IsNone, List, [], ◌∷◌, length, refl, arith, sym, ◌∙◌, ap, subst, inl, inr}
+use Rattle.std.specs.List.{flat_map}
+use Rattle.std.proofs.lemmas.List.{length-set}
+use Rattle.std.proofs.lemmas.Bool.{false≢true}
+use Rattle.rec_log.specs.declared.contents.Contents.{Contents}
+use Rattle.rec_counts.specs.declared.colour.Colour.TheVariants.{Black, Orange}
+use Rattle.rec_counts.specs.declared.slot.Slot.{Slot}
+use Rattle.rec_counts.specs.Counts.{State, slot_at, with_slot}
+use Rattle.rec_counts.specs.Lists.{times}
+use Rattle.rec_counts.specs.Rest.{KeepsRest}
+use Rattle.rec_counts.specs.Slot.{raised}
+use Rattle.rec_counts.proofs.Decrementing.{rest_decremented}
+use Rattle.rec_counts.proofs.Keeping.{field_kept}
+use Rattle.rec_counts.proofs.Times.{times-nil}
+use Rattle.rec_apply.specs.Batch.{CanFall, all_down, all_up, batch, counted_down, counted_up, down_targets, up_targets}
+use Rattle.rec_apply.proofs.Falling.{fall_first, fall_right, fall_zeros_all}
+use Rattle.rec_apply.proofs.Resting.{rest_all_up}
+use Rattle.rec_apply.proofs.Whole.{batch_rests}
+use Rattle.rec_release.specs.Release.{IsReady}
+use Rattle.rec_release.specs.TakenOff.{IsApart, IsMember}
+use Rattle.rec_release.specs.declared.at.At.{At}
+use Rattle.rec_release.proofs.Orange.{off_keeps}
+use Rattle.rec_release.proofs.TakenOff.{written}
+use Rattle.rec_trial.specs.Moves.{is_gray, is_white}
+use Rattle.rec_trial.specs.Trial.{next_of as trial_next}
+use Rattle.rec_trial.proofs.Worked.{kept_by_all}
+use Rattle.rec_collector.specs.Clearing.{IsClearing, IsUntried}
+use Rattle.rec_collector.specs.Parts.{Parts}
+use Rattle.rec_collector.proofs.Clearing.{clearing, freeing_idle, release_idle, tidy_of}
+use Rattle.rec_collector.proofs.Tidy.{tidy_off, IsTidy}
+
+-- a slot that was incremented is Black
+raised_apart : (s : State) (x : ℕ) → IsApart s → IsApart (with_slot s x (raised (slot_at s x)))
+raised_apart s x a y o = elim (written s x (raised (slot_at s x)) y) [
+  | inl q ↦ let b : Black ≡ Orange = ap (λ (v : Slot). v.colour) (sym q.1) ∙ o in cc
+  | inr q ↦
+      let m : IsMember s y = a y (ap (λ (v : Slot). v.colour) (sym q) ∙ o) in
+      record { member = m.member; no_zero = m.no_zero; unreleased = ap (λ (v : Slot). v.released) q ∙ m.unreleased }
+]
+
+-- the increments
+up_apart : (s : State) (t : Option ℕ) → IsApart s → IsApart (counted_up s t)
+up_apart s None a = a
+up_apart s (Some x) a = raised_apart s x a
+
+all_up_apart : (s : State) (ts : List (Option ℕ)) → IsApart s → IsApart (all_up s ts)
+unfolding all_up
+all_up_apart s [] a = a
+all_up_apart s (t ∷ ts) a = all_up_apart (counted_up s t) ts (up_apart s t a)
+
+tidy_up : (s : State) (t : Option ℕ) (at : Option At) → IsTidy s at → IsTidy (counted_up s t) at
+tidy_up s None at i = i
+tidy_up s (Some x) at i =
+    let v : Slot = raised (slot_at s x) in
+    let buffered : (y : ℕ) → (slot_at (with_slot s x v) y).buffered ≡ (slot_at s y).buffered = field_kept (λ (w : Slot). w.buffered) s.slots x v refl in
+    let released : (y : ℕ) → (slot_at (with_slot s x v) y).released ≡ (slot_at s y).released = field_kept (λ (w : Slot). w.released) s.slots x v refl in
+    record {
+      untried = record {
+        marked = i.untried.marked;
+        no_gray = kept_by_all (λ (w : Slot). is_gray w.colour) s x v refl i.untried.no_gray;
+        no_white = kept_by_all (λ (w : Slot). is_white w.colour) s x v refl i.untried.no_white;
+      };
+      apart = raised_apart s x i.apart;
+      listed = λ y l r b. i.listed y (omega (arith, l, length-set s.slots x v)) (sym (released y) ∙ r) (sym (buffered y) ∙ b);
+      unbuffered = λ y l. buffered y ∙ i.unbuffered y l;
+      held = λ y l. buffered y ∙ i.held y l;
+    }
+
+tidy_all_up : (s : State) (ts : List (Option ℕ)) (at : Option At) → IsTidy s at → IsTidy (all_up s ts) at
+unfolding all_up
+tidy_all_up s [] at i = i
+tidy_all_up s (t ∷ ts) at i = tidy_all_up (counted_up s t) ts at (tidy_up s t at i)
+
+-- the decrements
+down_apart : (s : State) (t : Option ℕ) (ts : List (Option ℕ)) → CanFall s (t ∷ ts) → IsApart s → IsApart (counted_down s t)
+down_apart s None ts c a = a
+down_apart s (Some x) ts c a = (off_keeps false s (Some x) (fall_first s (Some x) ts c).0).apart a
+
+all_down_apart : (s : State) (ts : List (Option ℕ)) → CanFall s ts → IsApart s → IsApart (all_down s ts)
+unfolding all_down
+all_down_apart s [] c a = a
+all_down_apart s (t ∷ ts) c a = all_down_apart (counted_down s t) ts (fall_right s (t ∷ []) ts c) (down_apart s t ts c a)
+
+-- what is in the free list, or in the work list, is released
+record AreReleased (s : State) : Type 0 where
+  pub free : (x : ℕ) → 0 < times x s.free → (slot_at s x).released ≡ true
+  pub work : (x : ℕ) → 0 < times x s.work → (slot_at s x).released ≡ true
+
+released_rests : (s t : State) → KeepsRest s t → AreReleased s → AreReleased t
+released_rests s t k r = record {
+  free = λ x h. k.released x ∙ r.free x (subst (λ xs. 0 < times x xs) k.free h);
+  work = λ x h. k.released x ∙ r.work x (subst (λ xs. 0 < times x xs) k.work h);
+}
+
+tidy_down : (s : State) (t : Option ℕ) (ts : List (Option ℕ)) (at : Option At) → CanFall s (t ∷ ts) → AreReleased s → IsTidy s at → IsTidy (counted_down s t) at
+tidy_down s None ts at c r i = i
+tidy_down s (Some x) ts at c r i = tidy_off false s (Some x) at (fall_first s (Some x) ts c).0 (record { zeros = c.zeros; free = r.free }) r.work i
+
+released_down : (s : State) (t : Option ℕ) → AreReleased s → AreReleased (counted_down s t)
+released_down s None r = r
+released_down s (Some x) r = released_rests s (counted_down s (Some x)) (rest_decremented s x) r
+
+tidy_all_down : (s : State) (ts : List (Option ℕ)) (at : Option At) → CanFall s ts → AreReleased s → IsTidy s at → IsTidy (all_down s ts) at
+unfolding all_down
+tidy_all_down s [] at c r i = i
+tidy_all_down s (t ∷ ts) at c r i = tidy_all_down (counted_down s t) ts at (fall_right s (t ∷ []) ts c) (released_down s t r) (tidy_down s t ts at c r i)
+
+module _ (s : State) (newer older : List Contents) (c : CanFall (all_up s (flat_map up_targets newer)) (flat_map down_targets older)) where
+  abbrev up : State
+  up = all_up s (flat_map up_targets newer)
+
+  -- the orange slots stay apart from the zeros and from what is released
+  pub batch_apart : IsApart s → IsApart (batch s newer older)
+  batch_apart a = all_down_apart up (flat_map down_targets older) c (all_up_apart s (flat_map up_targets newer) a)
+
+  tidy_batch : (at : Option At) → AreReleased s → IsTidy s at → IsTidy (batch s newer older) at
+  tidy_batch at r i = tidy_all_down up (flat_map down_targets older) at c (released_rests s up (rest_all_up s (flat_map up_targets newer)) r) (tidy_all_up s (flat_map up_targets newer) at i)
+
+-- parts that are clear stay so, where nothing is at work
+pub batched_clear : (w : Parts) (newer older : List Contents) → CanFall (all_up w.counts (flat_map up_targets newer)) (flat_map down_targets older) → w.release.at ≡ None → w.freeing.at ≡ None → IsClearing w →
+    IsClearing (record w { counts = batch w.counts newer older })
+batched_clear w newer older c still unfreed i =
+    let s : State = w.counts in
+    let t : State = batch s newer older in
+    let k : KeepsRest s t = batch_rests s newer older in
+    let released : AreReleased s = record { free = i.release.ready.free; work = i.freeing.released } in
+    let ready : IsReady t = record {
+      zeros = fall_zeros_all (all_up s (flat_map up_targets newer)) (flat_map down_targets older) c.zeros;
+      free = (released_rests s t k released).free;
+    } in
+    let work : t.work ≡ [] = k.work ∙ i.work unfreed in
+    clearing (record w { counts = t }) i.idle i.unprepared (tidy_batch s newer older c w.release.at released (tidy_of i)) (release_idle w.release t still ready) (freeing_idle w.freeing t unfreed work ready) (inl still) (λ e. work)
+
+-- nothing stands in an empty list
+nowhere : {P : Type 0} (xs : List ℕ) (x : ℕ) → xs ≡ [] → 0 < times x xs → P
+nowhere xs x e h = absurd (omega (arith, h, ap (times x) e, times-nil x))
+
+-- parts are clear where no slot is released and nothing is to be done
+pub resting_clear : (w : Parts) → IsUntried w.counts → IsNone (trial_next w.trial) → w.prep.at ≡ None → IsApart w.counts → ((x : ℕ) → x < length w.counts.slots → (slot_at w.counts x).released ≡ false) →
+    w.counts.zeros ≡ [] → w.counts.free ≡ [] → w.counts.work ≡ [] → w.release.at ≡ None → w.freeing.at ≡ None → IsClearing w
+resting_clear w untried idle unprepared apart none zeros free work still unfreed =
+    let s : State = w.counts in
+    let ready : IsReady s = record {
+      zeros = record { once = λ x. omega (arith, ap (times x) zeros, times-nil x); none = λ x h. nowhere s.zeros x zeros h; unreleased = λ x h. nowhere s.zeros x zeros h };
+      free = λ x h. nowhere s.free x free h;
+    } in
+    let tidy : IsTidy s w.release.at = record {
+      untried = untried;
+      apart = apart;
+      listed = λ x l r b. absurd (false≢true (sym (none x l) ∙ r));
+      unbuffered = λ x h. nowhere s.free x free h;
+      held = λ x h. nowhere s.work x work h;
+    } in
+    clearing w idle unprepared tidy (release_idle w.release s still ready) (freeing_idle w.freeing s unfreed work ready) (inl still) (λ e. work)

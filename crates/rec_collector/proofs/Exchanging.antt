@@ -1,0 +1,243 @@
+-- Each word that comes out is a field of a released slot, and each is exchanged once: so there are no more of them than fields.
+use Rattle.std.proofs.Common.{◌≡◌, ℕ, ◌+◌, ◌-◌, ◌*◌, ◌<◌, ◌≤◌, Bool, true, false, eqb, leb, ltb, Option, None, Some, IsSome, List, [], ◌∷◌, ◌++◌, length, slice_get, refl, arith, sym, ◌∙◌, ap, subst, inl, inr}
+use Rattle.std.proofs.Math.Nat.{mul-le-mul_left}
+use Rattle.std.proofs.lemmas.List.{get_or_past, length-append}
+use Rattle.std.proofs.lemmas.Bool.{cases_lt, le-leb, lt-leb, lt-ltb}
+use Rattle.std.proofs.lemmas.Bool.Decides.{eqb_tells}
+use Rattle.rec_word.specs.Word.{target_of}
+use Rattle.rec_counts.specs.declared.slot.Slot.{Slot}
+use Rattle.rec_counts.specs.Counts.{State, IsKept, slot_at, with_slot}
+use Rattle.rec_counts.specs.Groups.{last_set}
+use Rattle.rec_counts.specs.Lists.{one, times, EachOnce}
+use Rattle.rec_counts.specs.Slot.{absent}
+use Rattle.rec_counts.proofs.Times.{length-once, one-le, times-append, times-cons, times-nil}
+use Rattle.rec_release.specs.CycleFree as frees
+use Rattle.rec_release.specs.CycleFree.{first_member, given_up}
+use Rattle.rec_release.specs.Release as releases
+use Rattle.rec_release.specs.Release.{started_of as zeros_started, emptied, first_of, with_next, without_first, IsReady}
+use Rattle.rec_release.specs.declared.at.At.{At}
+use Rattle.rec_release.specs.declared.member.Member.{Member}
+use Rattle.rec_release.proofs.Giving.{first_and_rest, given_many, given_released}
+use Rattle.rec_release.proofs.Keeping.{emptied_length, first_zero, next_length, ready_emptied, released_first, released_same, FirstZero}
+use Rattle.rec_release.proofs.TakenOff.{off_most, ready_off, KeepsMost}
+use Rattle.rec_sigma.specs.Refurbish.{LastRefurbished}
+use Rattle.rec_sigma.specs.Settling.{refurbished_of}
+use Rattle.rec_sigma.proofs.Refused.{same_released}
+use Rattle.rec_sigma.proofs.Renewals.{refurbished_last}
+use Rattle.rec_collector.specs.Clearing.{freeing_left, release_left, HasExchanged, IsClearing, IsDone}
+use Rattle.rec_collector.specs.Followed.{relieved, with_freed, with_released}
+use Rattle.rec_collector.specs.Parts.{Parts}
+use Rattle.rec_collector.specs.Testing.{is_busy, last_tested, tested, with_release, zeros_released}
+use Rattle.rec_collector.specs.declared.verdict.Verdict.{Verdict}
+use Rattle.rec_collector.proofs.Clearing.{freed_clear, last_stays, refused_clear, StaysClear}
+use Rattle.rec_collector.proofs.Counting.{Counted}
+use Rattle.rec_collector.proofs.Goings.{freed_by, freed_last, freed_more, freed_next, freed_off, last_by, last_given, last_refused, none_some, released_by, released_emptied, released_last, released_more, released_off, relieved_by, some_none, tested_all}
+use Rattle.rec_collector.proofs.Told.{last_same}
+use Rattle.rec_collector.proofs.Judging.{last_freeable, last_refusable, none_busy}
+
+-- no more fields were exchanged than there are
+pub exchanged_few : (w : Parts) (n : ℕ) → IsKept w.counts → HasExchanged w n → n ≤ length w.counts.slots * w.release.fields
+exchanged_few w n k h =
+    let once : EachOnce (length w.counts.slots) h.gone = λ x. elim (cases_lt x (length w.counts.slots)) [
+      | inl l ↦ let t : one (ltb x (length w.counts.slots)) ≡ 1 = ap one (lt-ltb x (length w.counts.slots) l) in omega (arith, t, h.are x, one-le (slot_at w.counts x).released)
+      | inr l ↦
+          let past : one (leb (length w.counts.slots) x) ≡ 1 = ap one (le-leb (length w.counts.slots) x l) in
+          omega (arith, past, h.are x, one-le (slot_at w.counts x).released)
+    ] in
+    omega (arith, h.few, mul-le-mul_left w.release.fields (length-once (length w.counts.slots) h.gone once))
+
+-- the same slots are released, as many as there were, and no more fields are left
+exchanged_as : (w v : Parts) (n m : ℕ) → length v.counts.slots ≡ length w.counts.slots → ((x : ℕ) → (slot_at v.counts x).released ≡ (slot_at w.counts x).released) → v.release.fields ≡ w.release.fields →
+    m + release_left v.release.fields v.release.at + freeing_left v.freeing.fields v.counts.work v.freeing.at ≤ n + release_left w.release.fields w.release.at + freeing_left w.freeing.fields w.counts.work w.freeing.at →
+    HasExchanged w n → HasExchanged v m
+exchanged_as w v n m many released fields left h = record {
+  gone = h.gone;
+  are = λ x. omega (arith, h.are x, ap one (released x), ap (λ k. one (leb k x)) many);
+  few = omega (arith, left, h.few, ap (λ f. length h.gone * f) fields);
+}
+
+-- the next of the zeros is released
+first_are : (z : ℕ) (zs : List ℕ) (s : State) (gone : List ℕ) → s.zeros ≡ z ∷ zs → IsReady s → ((x : ℕ) → times x gone + one (leb (length s.slots) x) ≡ one (slot_at s x).released) →
+    (x : ℕ) → times x (z ∷ gone) + one (leb (length (without_first (z ∷ zs) s).slots) x) ≡ one (slot_at (without_first (z ∷ zs) s) x).released
+first_are z zs s gone e r are x =
+    let first : FirstZero s z zs = first_zero s z zs e r in
+    let v : Slot = record (slot_at s z) { released = true } in
+    let many : one (leb (length (without_first (z ∷ zs) s).slots) x) ≡ one (leb (length s.slots) x) = ap (λ k. one (leb k x)) (next_length (z ∷ zs) s) in
+    elim (eqb_tells x z) [
+      | inl q ↦
+          let n : one (eqb x z) ≡ 1 = ap one q.0 in
+          let then : one (slot_at s x).released ≡ 0 = ap (λ y. one (slot_at s y).released) q.1 ∙ ap one first.unreleased in
+          let now : one (slot_at (with_slot s z v) x).released ≡ 1 = ap (λ y. one (slot_at (with_slot s z v) y).released) q.1 ∙ ap one (released_first s z first.in_range) in
+          omega (arith, n, then, now, are x, many, times-cons x z gone)
+      | inr q ↦
+          let n : one (eqb x z) ≡ 0 = ap one q.0 in
+          omega (arith, n, ap one (released_same s z x q.1), are x, many, times-cons x z gone)
+    ]
+
+first_exchanged : (zs : List ℕ) (lowers : Bool) (w : Parts) (n : ℕ) → w.counts.zeros ≡ zs → w.release.at ≡ None → IsReady w.counts → HasExchanged w n →
+    HasExchanged (record w { counts = without_first zs w.counts; release = record { fields = w.release.fields; at = first_of zs; lowers = lowers } }) n
+first_exchanged [] lowers w n e still r h = record {
+  gone = h.gone;
+  are = h.are;
+  few = subst (λ o. n + release_left w.release.fields o + freeing_left w.freeing.fields w.counts.work w.freeing.at ≤ length h.gone * w.release.fields) still h.few;
+}
+first_exchanged (z ∷ zs) lowers w n e still r h =
+    let few : n + 0 + freeing_left w.freeing.fields w.counts.work w.freeing.at ≤ length h.gone * w.release.fields =
+    subst (λ o. n + release_left w.release.fields o + freeing_left w.freeing.fields w.counts.work w.freeing.at ≤ length h.gone * w.release.fields) still h.few in
+    record { gone = z ∷ h.gone; are = first_are z zs w.counts h.gone e r h.are; few = omega (arith, few) }
+
+next_exchanged : (lowers : Bool) (w : Parts) (n : ℕ) → w.release.at ≡ None → IsReady w.counts → HasExchanged w n → HasExchanged (with_release w (with_next w.release.fields lowers w.counts)) n
+next_exchanged lowers w n still r h = first_exchanged w.counts.zeros lowers w n refl still r h
+
+pub zeros_exchanged : (lowers : Bool) (w : Parts) (n : ℕ) → w.release.at ≡ None → IsClearing w → HasExchanged w n → HasExchanged (zeros_released lowers w) n
+unfolding zeros_started
+zeros_exchanged lowers w n still c h = next_exchanged lowers w n still c.release.ready h
+
+listed_at : (b : Bool) (s : State) (x y : ℕ) → slot_at (releases.listed_if b s x) y ≡ slot_at s y
+listed_at true s x y = refl
+listed_at false s x y = refl
+
+-- a word came out of a field of a released slot
+module _ (w : Parts) (word n : ℕ) (c : IsClearing w) (h : HasExchanged w n) (a : At) (e : w.release.at ≡ Some a) where
+  abbrev off : State
+  off = released_off w word
+
+  keeps : KeepsMost w.counts off
+  keeps = off_most w.release.lowers w.counts (target_of word)
+
+  unfreed : w.freeing.at ≡ None
+  unfreed = elim c.one [ inl f ↦ some_none w.release.at a e f | inr f ↦ f ]
+
+  at_work : releases.IsAtWork (record { fields = w.release.fields; at = Some a; lowers = w.release.lowers }) w.counts
+  at_work = subst (λ o. releases.IsAtWork (record { fields = w.release.fields; at = o; lowers = w.release.lowers }) w.counts) e c.release
+
+  -- nothing is left to free
+  none_left : (work : List ℕ) → freeing_left w.freeing.fields work w.freeing.at ≡ 0
+  none_left work = ap (freeing_left w.freeing.fields work) unfreed
+
+  left : release_left w.release.fields w.release.at ≡ w.release.fields - a.field
+  left = ap (release_left w.release.fields) e
+
+  more_exchanged : a.field + 1 < w.release.fields → HasExchanged (released_more w word a) (n + 1)
+  more_exchanged l = exchanged_as w (released_more w word a) n (n + 1) keeps.slots keeps.released refl (omega (arith, l, none_left off.work, none_left w.counts.work, left)) h
+
+  emptied_exchanged : HasExchanged (released_emptied w word a) (n + 1)
+  emptied_exchanged =
+      let field : a.field < w.release.fields = at_work.field in
+      exchanged_as w (released_emptied w word a) n (n + 1) (emptied_length off a.slot ∙ keeps.slots) (λ x. ap (λ (v : Slot). v.released) (listed_at (slot_at off a.slot).buffered off a.slot x) ∙ keeps.released x) refl
+      (omega (arith, field, none_left (emptied off a.slot).work, none_left w.counts.work, left)) h
+
+  last_exchanges : HasExchanged (released_last w word a) (n + 1)
+  last_exchanges =
+      let released : (slot_at off a.slot).released ≡ true = keeps.released a.slot ∙ at_work.held.released in
+      next_exchanged w.release.lowers (released_emptied w word a) (n + 1) refl (ready_emptied off a.slot released (ready_off w.release.lowers w.counts (target_of word) c.release.ready)) emptied_exchanged
+
+pub released_exchanged : (w : Parts) (word n : ℕ) → IsSome w.release.at → IsClearing w → HasExchanged w n → HasExchanged (with_released w word) (n + 1)
+released_exchanged w word n busy c h = released_by (λ v. HasExchanged v (n + 1)) w word (λ e. none_some w.release.at e busy) (λ a e l. more_exchanged w word n c h a e l) (λ a e l. last_exchanges w word n c h a e)
+
+-- a word came out of a field of a member of the set that is freed
+module _ (w : Parts) (word n : ℕ) (c : IsClearing w) (h : HasExchanged w n) (a : Member) (e : w.freeing.at ≡ Some a) where
+  abbrev after : State
+  after = freed_off w word
+
+  keeps_all : KeepsMost w.counts after
+  keeps_all = off_most true w.counts (target_of word)
+
+  freeing_now : frees.IsAtWork (record { fields = w.freeing.fields; at = Some a }) w.counts
+  freeing_now = subst (λ o. frees.IsAtWork (record { fields = w.freeing.fields; at = o }) w.counts) e c.freeing
+
+  many_left : freeing_left w.freeing.fields w.counts.work w.freeing.at ≡ (length w.counts.work - (a.index + 1)) * w.freeing.fields + (w.freeing.fields - a.field)
+  many_left = ap (freeing_left w.freeing.fields w.counts.work) e
+
+  same_work : length after.work ≡ length w.counts.work
+  same_work = ap length keeps_all.work
+
+  freed_more_exchanged : a.field + 1 < w.freeing.fields → HasExchanged (freed_more w word a) (n + 1)
+  freed_more_exchanged l =
+      exchanged_as w (freed_more w word a) n (n + 1) keeps_all.slots keeps_all.released refl (omega (arith, l, many_left, ap (λ k. (k - (a.index + 1)) * w.freeing.fields) same_work)) h
+
+  freed_next_exchanged : a.index + 1 < length after.work → HasExchanged (freed_next w word a) (n + 1)
+  freed_next_exchanged l =
+      let field : a.field < w.freeing.fields = freeing_now.field in
+      let step : length w.counts.work - (a.index + 1) ≡ length after.work - (a.index + 1 + 1) + 1 = omega (arith, l, same_work) in
+      exchanged_as w (freed_next w word a) n (n + 1) keeps_all.slots keeps_all.released refl (omega (arith, field, many_left, ap (λ k. k * w.freeing.fields) step)) h
+
+  freed_last_exchanged : HasExchanged (freed_last w word) (n + 1)
+  freed_last_exchanged =
+      let field : a.field < w.freeing.fields = freeing_now.field in
+      exchanged_as w (freed_last w word) n (n + 1) keeps_all.slots keeps_all.released refl (omega (arith, field, many_left)) h
+
+pub freed_exchanged : (w : Parts) (word n : ℕ) → IsSome w.freeing.at → IsClearing w → HasExchanged w n → HasExchanged (with_freed w word) (n + 1)
+freed_exchanged w word n busy c h = freed_by (λ v. HasExchanged v (n + 1)) w word (λ e. none_some w.freeing.at e busy)
+    (λ a e l. freed_more_exchanged w word n c h a e l) (λ a e l m. freed_next_exchanged w word n c h a e m) (λ a e l m. freed_last_exchanged w word n c h a e)
+
+-- once the set is freed the zeros are released
+pub relieved_exchanged : (w : Parts) (word n : ℕ) → IsSome w.freeing.at → Counted w.counts word → IsKept w.counts → IsClearing w → HasExchanged w n → HasExchanged (relieved (with_freed w word)) (n + 1)
+relieved_exchanged w word n busy counted k c h =
+    let still : w.release.at ≡ None = elim c.one [ inl f ↦ f | inr f ↦ none_some w.freeing.at f busy ] in
+    let v : HasExchanged (with_freed w word) (n + 1) = freed_exchanged w word n busy c h in
+    relieved_by (λ u. HasExchanged u (n + 1)) (with_freed w word) (λ e. zeros_exchanged true (with_freed w word) (n + 1) still (freed_clear w word busy counted k c) v) (λ m e. v)
+
+-- as a set is given up, all fields of its members are left
+members_left : (fields : ℕ) (members work : List ℕ) (first : Option ℕ) → slice_get members 0 ≡ first → work ≡ members → freeing_left fields work (first_member first) ≤ length members * fields
+members_left fields members work None e f = omega arith
+members_left fields members work (Some x) e f =
+    let n : length members ≡ length work - 1 + 1 = omega (arith, ap length (first_and_rest members x e), ap length f) in
+    omega (arith, ap (λ k. k * fields) n)
+
+given_exchanged : (w : Parts) (n : ℕ) → w.freeing.fields ≡ w.release.fields → w.release.at ≡ None → IsKept w.counts → frees.IsFreeable w.counts → HasExchanged w n → HasExchanged (last_given w) n
+given_exchanged w n same still k f h =
+    let s : State = w.counts in
+    let ms : List ℕ = last_set s.sets in
+    let left : freeing_left w.freeing.fields (given_up s).work (last_given w).freeing.at ≤ length ms * w.freeing.fields =
+    members_left w.freeing.fields ms (given_up s).work (slice_get ms 0) refl (ap (λ ws. ws ++ ms) f.work) in
+    let gone : length (ms ++ h.gone) * w.release.fields ≡ length ms * w.freeing.fields + length h.gone * w.release.fields =
+    ap (λ k. k * w.release.fields) (length-append ms h.gone) ∙ omega (arith, ap (λ f. length ms * f) same) in
+    record {
+      gone = ms ++ h.gone;
+      are = λ x. omega (arith, given_released s x k f, h.are x, times-append x ms h.gone, ap (λ m. one (leb m x)) (given_many s));
+      few = omega (arith, left, gone, h.few, ap (release_left w.release.fields) still);
+    }
+
+refused_exchanged : (verdict : Verdict) (w : Parts) (n : ℕ) → 0 < length w.counts.sets → is_busy w ≡ false → IsKept w.counts → IsClearing w → IsDone w → HasExchanged w n → HasExchanged (last_refused verdict w) n
+refused_exchanged verdict w n some idle k c d h =
+    let s : State = w.counts in
+    let e = none_busy w idle in
+    let r : LastRefurbished s (refurbished_of s) = refurbished_last s k (last_refusable w some idle k c d) in
+    exchanged_as w (last_refused verdict w) n n r.many (same_released r) refl
+    (omega (arith, ap (freeing_left w.freeing.fields (refurbished_of s).work) e.1, ap (freeing_left w.freeing.fields s.work) e.1)) h
+
+-- the last set is tested
+pub last_exchanged : (w : Parts) (n : ℕ) → w.freeing.fields ≡ w.release.fields → 0 < length w.counts.sets → is_busy w ≡ false → IsKept w.counts → IsClearing w → IsDone w → HasExchanged w n → HasExchanged (last_tested w) n
+last_exchanged w n same some idle k c d h = last_by (λ v. HasExchanged v n) w
+    (λ e. given_exchanged w n same (none_busy w idle).0 k (last_freeable w some idle e k c d) h)
+    (λ verdict. zeros_exchanged true (last_refused verdict w) n (none_busy w idle).0 (refused_clear verdict w some idle k c d) (refused_exchanged verdict w n some idle k c d h))
+
+-- sets are tested
+record HasTested (n : ℕ) (v : Parts) : Type 0 where
+  pub stays : StaysClear v
+  pub same : v.freeing.fields ≡ v.release.fields
+  pub exchanged : HasExchanged v n
+
+last_has : (n : ℕ) (w : Parts) → 0 < length w.counts.sets → is_busy w ≡ false → HasTested n w → HasTested n (last_tested w)
+last_has n w some idle i = record {
+  stays = last_stays w some idle i.stays;
+  same = (last_same w).freeing_fields ∙ i.same ∙ sym (last_same w).release_fields;
+  exchanged = last_exchanged w n i.same some idle i.stays.kept i.stays.clear i.stays.done i.exchanged;
+}
+
+pub tested_exchanged : (count : ℕ) (w : Parts) (n : ℕ) → 0 < w.release.fields → w.freeing.fields ≡ w.release.fields → count ≤ length w.counts.sets → IsKept w.counts → IsClearing w → IsDone w → HasExchanged w n → HasExchanged (tested count w) n
+tested_exchanged count w n wide same l k c d h =
+    let stays : StaysClear w = record { wide = wide; freed = omega (arith, wide, same); kept = k; clear = c; done = d } in
+    (tested_all (HasTested n) (last_has n) count w l (record { stays = stays; same = same; exchanged = h })).exchanged
+
+-- where no slot is released, none was exchanged
+pub none_exchanged : (w : Parts) → ((x : ℕ) → x < length w.counts.slots → (slot_at w.counts x).released ≡ false) → w.release.at ≡ None → w.freeing.at ≡ None → HasExchanged w 0
+none_exchanged w none still unfreed = record {
+  gone = [];
+  are = λ x. elim (cases_lt x (length w.counts.slots)) [
+    | inl l ↦ omega (arith, times-nil x, ap one (none x l), ap one (lt-leb (length w.counts.slots) x l))
+    | inr l ↦ omega (arith, times-nil x, ap one (le-leb (length w.counts.slots) x l), ap (λ (v : Slot). one v.released) (get_or_past w.counts.slots x absent l))
+  ];
+  few = omega (arith, ap (release_left w.release.fields) still, ap (freeing_left w.freeing.fields w.counts.work) unfreed);
+}

@@ -1,0 +1,50 @@
+use Rattle.std.proofs.Common.{◌≡◌, ◌-◌, ◌<◌, false, length, ap, arith, sym, subst, ◌∙◌}
+use Rattle.rec_collector.specs.Clearing.{IsClearing, IsDone}
+use Rattle.rec_collector.specs.Parts.{Parts}
+use Rattle.rec_collector.specs.Testing.{is_busy, last_tested, verdict_of}
+use Rattle.rec_collector.specs.declared.verdict.Verdict.TheVariants.{Passed}
+use Rattle.rec_collector.proofs.Answering.{no_freeing, no_release, passed_last, refused_last, refused_ready}
+use Rattle.rec_collector.proofs.Judging.{last_freeable, last_refusable, none_busy}
+use Rattle.rec_collector.proofs.parts.Parts.test_last.Goals as goal
+
+pub start-requires-clause-idle : goal.start-requires-clause-idle
+start-requires-clause-idle c = no_freeing c.self.inside.freeing (ap (λ (w : Parts). w.freeing.at) c.self.view_is ∙ (none_busy c.args.self.now c.requires.idle).1)
+
+pub start-requires-clause-freeable : goal.start-requires-clause-freeable
+start-requires-clause-freeable c =
+    let w : Parts = record { counts = c.self.inside.counts; release = c.self.inside.release; freeing = c.self.inside.freeing; trial = c.self.inside.trial; prep = c.self.inside.prep; sets = c.self.inside.sets } in
+    let some : 0 < length w.counts.sets = subst (λ (v : Parts). 0 < length v.counts.sets) (sym c.self.view_is) c.requires.some in
+    let idle : is_busy w ≡ false = ap (λ (v : Parts). is_busy v) c.self.view_is ∙ c.requires.idle in
+    let clearing : IsClearing w = subst IsClearing (sym c.self.view_is) c.requires.clearing in
+    let done : IsDone w = subst IsDone (sym c.self.view_is) c.requires.done in
+    let passed : verdict_of w.counts (length w.counts.sets - 1) ≡ Passed = ap (λ n. verdict_of w.counts (n - 1)) (sym c.sets-set.ensures) ∙ sym c.judge-verdict.ensures ∙ c.in-Passed.is in
+    last_freeable w some idle passed c.rules.ensures clearing done
+
+pub refurbish-requires : goal.refurbish-requires
+refurbish-requires c =
+    let w : Parts = record { counts = c.self.inside.counts; release = c.self.inside.release; freeing = c.self.inside.freeing; trial = c.self.inside.trial; prep = c.self.inside.prep; sets = c.self.inside.sets } in
+    let some : 0 < length w.counts.sets = subst (λ (v : Parts). 0 < length v.counts.sets) (sym c.self.view_is) c.requires.some in
+    let idle : is_busy w ≡ false = ap (λ (v : Parts). is_busy v) c.self.view_is ∙ c.requires.idle in
+    let clearing : IsClearing w = subst IsClearing (sym c.self.view_is) c.requires.clearing in
+    let done : IsDone w = subst IsDone (sym c.self.view_is) c.requires.done in
+    record { last = omega (arith, c.sets-set.ensures, some); refusable = last_refusable w some idle c.rules.ensures clearing done }
+
+pub start-requires-in_default : goal.start-requires-in_default
+start-requires-in_default c =
+    let clearing : IsClearing _ = subst IsClearing (sym c.self.view_is) c.requires.clearing in
+    record {
+      idle = no_release c.self.inside.release (ap (λ (w : Parts). w.release.at) c.self.view_is ∙ (none_busy c.args.self.now c.requires.idle).0);
+      ready = refused_ready c.self.inside.counts _ clearing.release.ready c.refurbish.ensures.zeros c.refurbish.ensures.free;
+    }
+
+pub returns-in-Passed : goal.returns-in-Passed
+returns-in-Passed c =
+    let w : Parts = record { counts = c.self.inside.counts; release = c.self.inside.release; freeing = c.self.inside.freeing; trial = c.self.inside.trial; prep = c.self.inside.prep; sets = c.self.inside.sets } in
+    let verdict : c.judge-verdict.result ≡ verdict_of w.counts (length w.counts.sets - 1) = c.judge-verdict.ensures ∙ ap (λ n. verdict_of w.counts (n - 1)) c.sets-set.ensures in
+    passed_last w c.judge-verdict.result _ _ verdict c.in-Passed.is c.start.ensures.started c.count.ensures ∙ ap last_tested c.self.view_is
+
+pub returns-in_default : goal.returns-in_default
+returns-in_default c =
+    let w : Parts = record { counts = c.self.inside.counts; release = c.self.inside.release; freeing = c.self.inside.freeing; trial = c.self.inside.trial; prep = c.self.inside.prep; sets = c.self.inside.sets } in
+    let verdict : c.judge-verdict.result ≡ verdict_of w.counts (length w.counts.sets - 1) = c.judge-verdict.ensures ∙ ap (λ n. verdict_of w.counts (n - 1)) c.sets-set.ensures in
+    refused_last w c.judge-verdict.result _ _ _ verdict c.in_default.not-Passed c.refurbish.ensures.settled c.start-in_default.ensures.started c.count.ensures ∙ ap last_tested c.self.view_is

@@ -1,0 +1,299 @@
+-- What the moves of a release and of a freeing keep of the orange slots, and of the zeros that are not orange.
+use Rattle.std.proofs.Common.{◌≡◌, ◌≢◌, ℕ, ◌+◌, ◌-◌, ◌<◌, ◌⊎◌, Bool, true, false, eqb, ltb, Option, Some, None, IfSome, List, [], ◌∷◌, ◌++◌, length, map, get_or, refl, arith, sym, ◌∙◌, ap, subst, inl, inr}
+use Rattle.std.specs.List.{concat}
+use Rattle.std.proofs.lemmas.Bool.{cases_lt, eq-eqb, false≢true}
+use Rattle.rec_counts.specs.declared.colour.Colour.{Colour}
+use Rattle.rec_counts.specs.declared.colour.Colour.TheVariants.{Black, Purple, Gray, White, Orange}
+use Rattle.rec_counts.specs.declared.slot.Slot.{Slot}
+use Rattle.rec_counts.specs.declared.slot.Due.{Due}
+use Rattle.rec_counts.specs.declared.slot.Due.TheVariants.{Nothing, Zero, Root}
+use Rattle.rec_counts.specs.Counts.{State, IsKept, slot_at, with_slot, sent, decremented}
+use Rattle.rec_counts.specs.Groups.{last_set, earlier_sets}
+use Rattle.rec_counts.specs.Lists.{one, times}
+use Rattle.rec_counts.specs.Rest.{AreZeros, AllZeros}
+use Rattle.rec_counts.specs.Slot.{absent, is_in, lessened, lessened_if, lowered, due_of, due_if, out_of_set, unbuffered_if}
+use Rattle.rec_counts.proofs.Decrementing.{rest_decremented, zeros_from, ZerosFrom}
+use Rattle.rec_counts.proofs.Keeping.{field_kept, keep_drop}
+use Rattle.rec_counts.proofs.Times.{times-nil, times-append, times-cons, times_push, one-le, one-same}
+use Rattle.rec_release.specs.declared.member.Member.{Member}
+use Rattle.rec_release.specs.CycleFree.{dead_if, given_up, next_member, next_member_if, IsFreeable}
+use Rattle.rec_release.specs.Release.{emptied, listed_if, without_first, IsReady}
+use Rattle.rec_release.specs.TakenOff.{down_if, is_lowered, is_orange, taken_off, AllZerosButOrange, IsApart, IsMember, KeepsOrange}
+use Rattle.rec_release.proofs.Giving.{given_slot, last_once, mapped}
+use Rattle.rec_release.proofs.Keeping.{Unzeroed, ready_emptied, still_zero}
+use Rattle.rec_release.proofs.TakenOff.{off_most, ready_off, written}
+
+-- where no set is left, the zeros are all of the slots that have no count and are not released
+pub all_zeros_without_sets : (s : State) → s.sets ≡ [] → IsApart s → AllZerosButOrange s → AllZeros s
+all_zeros_without_sets s e a k = λ x r n. k x r n (λ o. absurd (omega (arith, (a x o).member, ap (λ sets. times x (concat sets)) e, times-nil x)))
+
+-- what each move keeps
+pub record Keeps (s t : State) : Type 0 where
+  pub zeros : AllZerosButOrange s → AllZerosButOrange t
+  pub apart : IsApart s → IsApart t
+  pub before : (x : ℕ) → (slot_at t x).colour ≡ Orange → (slot_at s x).colour ≡ Orange
+
+pub keeps_on : {s t u : State} → Keeps s t → Keeps t u → Keeps s u
+keeps_on k l = record { zeros = λ z. l.zeros (k.zeros z); apart = λ a. l.apart (k.apart a); before = λ x o. k.before x (l.before x o) }
+
+-- and one that leaves the orange slots as they are
+pub record KeepsAll (s t : State) : Type 0 where
+  pub keeps : Keeps s t
+  pub kept : (x : ℕ) → (slot_at s x).colour ≡ Orange → (slot_at t x).colour ≡ Orange
+
+pub all_on : {s t u : State} → KeepsAll s t → KeepsAll t u → KeepsAll s u
+all_on k l = record { keeps = keeps_on k.keeps l.keeps; kept = λ x o. l.kept x (k.kept x o) }
+
+pub keeps_orange : {s t : State} → KeepsAll s t → KeepsOrange [] s t
+keeps_orange k = record { kept = λ x n o. k.kept x o; before = λ x o. (times-nil x, k.keeps.before x o) }
+
+-- a slot stays a member
+member_on : (s t : State) (x : ℕ) → t.sets ≡ s.sets → times x t.zeros ≡ 0 → (slot_at t x).released ≡ (slot_at s x).released → IsMember s x → IsMember t x
+member_on s t x e z r m = record { member = subst (λ sets. 0 < times x (concat sets)) (sym e) m.member; no_zero = z; unreleased = r ∙ m.unreleased }
+
+-- other lists for work and for what is free
+pub lists_keep : (s : State) (work free : List ℕ) → KeepsAll s (record s { work = work; free = free })
+lists_keep s work free = record {
+  keeps = record {
+    zeros = λ z. z;
+    apart = λ a x o. member_on s (record s { work = work; free = free }) x refl (a x o).no_zero refl (a x o);
+    before = λ x o. o;
+  };
+  kept = λ x o. o;
+}
+
+listed_keeps : (b : Bool) (s : State) (x : ℕ) → KeepsAll s (listed_if b s x)
+listed_keeps true s x = lists_keep s s.work s.free
+listed_keeps false s x = lists_keep s s.work (s.free ++ x ∷ [])
+
+pub same_keeps : (s : State) → KeepsAll s s
+same_keeps s = lists_keep s s.work s.free
+
+-- a slot is emptied
+pub emptied_keeps : (s : State) (x : ℕ) → KeepsAll s (emptied s x)
+emptied_keeps s x = listed_keeps (slot_at s x).buffered s x
+
+-- the next zero is released
+first_keeps : (zs : List ℕ) (s : State) → s.zeros ≡ zs → AreZeros s → KeepsAll s (without_first zs s)
+first_keeps [] s e k = lists_keep s s.work s.free
+first_keeps (z ∷ zs) s e k =
+    let v : Slot = record (slot_at s z) { released = true } in
+    let colour : (x : ℕ) → (slot_at (with_slot s z v) x).colour ≡ (slot_at s x).colour = λ x. field_kept (λ (w : Slot). w.colour) s.slots z v refl x in
+    let count : (x : ℕ) → (slot_at (with_slot s z v) x).count ≡ (slot_at s x).count = λ x. field_kept (λ (w : Slot). w.count) s.slots z v refl x in
+    let n : (x : ℕ) → times x s.zeros ≡ one (eqb x z) + times x zs = λ x. ap (times x) e ∙ times-cons x z zs in
+    record {
+      keeps = record {
+        zeros = λ a x r c o. let u : Unzeroed s z zs x = still_zero z zs s e k x r in u.found (a x u.unreleased (sym (count x) ∙ c) (λ q. o (colour x ∙ q)));
+        apart = λ a x o. let m : IsMember s x = a x (sym (colour x) ∙ o) in
+            record {
+              member = m.member;
+              no_zero = omega (arith, n x, m.no_zero);
+              unreleased = elim (written s z v x) [
+                | inl q ↦ absurd (omega (arith, n x, m.no_zero, ap (λ y. one (eqb y z)) q.0, one-same z))
+                | inr q ↦ ap (λ (w : Slot). w.released) q ∙ m.unreleased
+              ];
+            };
+        before = λ x o. sym (colour x) ∙ o;
+      };
+      kept = λ x o. colour x ∙ o;
+    }
+
+pub next_keeps : (s : State) → AreZeros s → KeepsAll s (without_first s.zeros s)
+next_keeps s k = first_keeps s.zeros s refl k
+
+-- the colour of a target that is lowered
+orange_from : (c : Colour) → is_orange c ≡ true → c ≡ Orange
+orange_from Black e = absurd (false≢true e)
+orange_from Purple e = absurd (false≢true e)
+orange_from Gray e = absurd (false≢true e)
+orange_from White e = absurd (false≢true e)
+orange_from Orange e = refl
+
+lowered_orange : (lowers : Bool) (c : Colour) → is_lowered lowers c ≡ true → c ≡ Orange
+lowered_orange true c e = orange_from c e
+lowered_orange false c e = absurd (false≢true e)
+
+-- no decrement makes a slot orange
+lessened_orange : (r l : Bool) (v : Slot) → (lessened_if r l v).colour ≡ Orange → v.colour ≡ Orange
+lessened_orange true l v e = e
+lessened_orange false true v e = cc
+lessened_orange false false v e = cc
+
+sent_slot : (d : Due) (s : State) (y x : ℕ) → slot_at (sent d s y) x ≡ slot_at s x
+sent_slot Nothing s y x = refl
+sent_slot Zero s y x = refl
+sent_slot Root s y x = refl
+
+-- a slot after a decrement: it was decremented, or it is as it was
+decremented_at : (s : State) (y x : ℕ) → ((x ≡ y) × (slot_at (decremented s y) x ≡ lessened (slot_at s y))) ⊎ (slot_at (decremented s y) x ≡ slot_at s x)
+decremented_at s y x =
+    let v : Slot = lessened (slot_at s y) in
+    let e : slot_at (decremented s y) x ≡ slot_at (with_slot s y v) x = sent_slot (due_of (slot_at s y)) (with_slot s y v) y x in
+    elim (written s y v x) [ inl q ↦ inl (q.0, e ∙ q.1) | inr q ↦ inr (e ∙ q) ]
+
+-- a slot whose last reference goes is Black, and stands in the zeros
+last_black : (v : Slot) → v.released ≡ false → v.count ≡ 1 → (lessened v).colour ≡ Black
+last_black v r n = ap (λ b. (lessened_if b (eqb v.count 1) v).colour) r ∙ ap (λ b. (lessened_if false b v).colour) (eq-eqb v.count 1 n)
+
+last_found : (s : State) (y : ℕ) → (slot_at s y).released ≡ false → (slot_at s y).count ≡ 1 → 0 < times y (decremented s y).zeros
+last_found s y r n =
+    let v : Slot = slot_at s y in
+    let due : due_of v ≡ Zero = ap (λ b. due_if b (eqb v.count 1) v.buffered) r ∙ ap (λ b. due_if false b v.buffered) (eq-eqb v.count 1 n) in
+    omega (arith, ap (λ d. times y (sent d (with_slot s y (lessened v)) y).zeros) due, times_push y s.zeros y, one-same y)
+
+-- where it is orange, it does not join the zeros
+unjoined : (s : State) (y x : ℕ) → (slot_at s x).released ≡ false → (slot_at (decremented s y) x).colour ≡ Orange → times x (zeros_from s y).more ≡ 0
+unjoined s y x r o =
+    let f : ZerosFrom s y = zeros_from s y in
+    elim (cases_lt 0 (times x f.more)) [
+      | inl l ↦ elim (decremented_at s y x) [
+        | inl q ↦ let b : (lessened (slot_at s y)).colour ≡ Black = last_black (slot_at s y) (ap (λ z. (slot_at s z).released) (sym q.0) ∙ r) (ap (λ z. (slot_at s z).count) (sym q.0) ∙ f.last x l) in
+            let c : Black ≡ Orange = sym b ∙ ap (λ (w : Slot). w.colour) (sym q.1) ∙ o in cc
+        | inr q ↦ absurd (omega (arith, ap (λ (w : Slot). w.count) q, f.last x l, f.count x l))
+      ]
+      | inr l ↦ omega (arith, l)
+    ]
+
+orange_before : (s : State) (y x : ℕ) → (slot_at (decremented s y) x).colour ≡ Orange → (slot_at s x).colour ≡ Orange
+orange_before s y x o = elim (decremented_at s y x) [
+  | inl q ↦ ap (λ z. (slot_at s z).colour) q.0 ∙ lessened_orange (slot_at s y).released (eqb (slot_at s y).count 1) (slot_at s y) (ap (λ (w : Slot). w.colour) (sym q.1) ∙ o)
+  | inr q ↦ ap (λ (w : Slot). w.colour) (sym q) ∙ o
+]
+
+-- a reference is taken off by a decrement
+decrement_keeps : (s : State) (y : ℕ) → 0 < (slot_at s y).count → Keeps s (decremented s y)
+decrement_keeps s y h =
+    let f : ZerosFrom s y = zeros_from s y in
+    let n : (x : ℕ) → times x (decremented s y).zeros ≡ times x s.zeros + times x f.more = λ x. ap (times x) f.zeros ∙ times-append x s.zeros f.more in
+    let k = rest_decremented s y in
+    record {
+      zeros = λ a x r c o. elim (decremented_at s y x) [
+        | inl q ↦ let last : (slot_at s y).count ≡ 1 = omega (arith, h, c, ap (λ (w : Slot). w.count) q.1, lessened_count s y) in
+            subst (λ z. 0 < times z (decremented s y).zeros) (sym q.0) (last_found s y (ap (λ z. (slot_at s z).released) (sym q.0) ∙ sym (k.released x) ∙ r) last)
+        | inr q ↦ let old : 0 < times x s.zeros = a x (ap (λ (w : Slot). w.released) (sym q) ∙ r) (ap (λ (w : Slot). w.count) (sym q) ∙ c) (λ p. o (ap (λ (w : Slot). w.colour) q ∙ p)) in omega (arith, n x, old)
+      ];
+      apart = λ a x o. let m : IsMember s x = a x (orange_before s y x o) in member_on s (decremented s y) x k.sets (omega (arith, n x, m.no_zero, unjoined s y x m.unreleased o)) (k.released x) m;
+      before = orange_before s y;
+    }
+  where
+    lessened_count_if : (r l : Bool) (v : Slot) → (lessened_if r l v).count ≡ v.count - 1
+    lessened_count_if true l v = refl
+    lessened_count_if false true v = refl
+    lessened_count_if false false v = refl
+
+    lessened_count : (t : State) (z : ℕ) → (lessened (slot_at t z)).count ≡ (slot_at t z).count - 1
+    lessened_count t z = lessened_count_if (slot_at t z).released (eqb (slot_at t z).count 1) (slot_at t z)
+
+-- a reference to an orange slot is taken off by lowering it
+lower_keeps : (s : State) (y : ℕ) → (slot_at s y).colour ≡ Orange → KeepsAll s (with_slot s y (lowered (slot_at s y)))
+lower_keeps s y e =
+    let v : Slot = lowered (slot_at s y) in
+    let colour : (x : ℕ) → (slot_at (with_slot s y v) x).colour ≡ (slot_at s x).colour = λ x. field_kept (λ (w : Slot). w.colour) s.slots y v refl x in
+    let released : (x : ℕ) → (slot_at (with_slot s y v) x).released ≡ (slot_at s x).released = λ x. field_kept (λ (w : Slot). w.released) s.slots y v refl x in
+    record {
+      keeps = record {
+        zeros = λ a x r c o. elim (written s y v x) [
+          | inl q ↦ absurd (o (colour x ∙ ap (λ z. (slot_at s z).colour) q.0 ∙ e))
+          | inr q ↦ a x (sym (released x) ∙ r) (ap (λ (w : Slot). w.count) (sym q) ∙ c) (λ p. o (colour x ∙ p))
+        ];
+        apart = λ a x o. let m : IsMember s x = a x (sym (colour x) ∙ o) in member_on s (with_slot s y v) x refl m.no_zero (released x) m;
+        before = λ x o. sym (colour x) ∙ o;
+      };
+      kept = λ x o. colour x ∙ o;
+    }
+
+down_keeps : (b : Bool) (s : State) (y : ℕ) → (b ≡ true → (slot_at s y).colour ≡ Orange) → 0 < (slot_at s y).count → Keeps s (down_if b s y)
+down_keeps true s y e h = (lower_keeps s y (e refl)).keeps
+down_keeps false s y e h = decrement_keeps s y h
+
+-- a reference is taken off
+pub off_keeps : (lowers : Bool) (s : State) (t : Option ℕ) → IfSome t (λ x. 0 < (slot_at s x).count) → Keeps s (taken_off lowers s t)
+off_keeps lowers s None h = (lists_keep s s.work s.free).keeps
+off_keeps lowers s (Some y) h = down_keeps (is_lowered lowers (slot_at s y).colour) s y (lowered_orange lowers (slot_at s y).colour) h
+
+-- a decrement of another slot leaves a slot orange
+unlike : (s : State) (y : ℕ) (c : Colour) → (slot_at s y).colour ≡ c → c ≢ Orange → (x : ℕ) → (slot_at s x).colour ≡ Orange → (slot_at (decremented s y) x).colour ≡ Orange
+unlike s y c e n x o = elim (decremented_at s y x) [
+  | inl q ↦ absurd (n (sym e ∙ ap (λ z. (slot_at s z).colour) (sym q.0) ∙ o))
+  | inr q ↦ ap (λ (w : Slot). w.colour) q ∙ o
+]
+
+down_all : (c : Colour) (s : State) (y : ℕ) → (slot_at s y).colour ≡ c → (x : ℕ) → (slot_at s x).colour ≡ Orange → (slot_at (down_if (is_orange c) s y) x).colour ≡ Orange
+down_all Orange s y e x o = (lower_keeps s y e).kept x o
+down_all Black s y e x o = unlike s y Black e (λ q. cc) x o
+down_all Purple s y e x o = unlike s y Purple e (λ q. cc) x o
+down_all Gray s y e x o = unlike s y Gray e (λ q. cc) x o
+down_all White s y e x o = unlike s y White e (λ q. cc) x o
+
+-- where orange targets are lowered, they stay orange
+pub off_keeps_all : (s : State) (t : Option ℕ) → IfSome t (λ x. 0 < (slot_at s x).count) → KeepsAll s (taken_off true s t)
+off_keeps_all s None h = lists_keep s s.work s.free
+off_keeps_all s (Some y) h = record { keeps = off_keeps true s (Some y) h; kept = down_all (slot_at s y).colour s y refl }
+
+-- the last field of a slot: the slot is emptied, and the next zero is released
+end_keeps : (lowers : Bool) (s : State) (t : Option ℕ) (x : ℕ) → (slot_at s x).released ≡ true → IsReady s → (let u : State = emptied (taken_off lowers s t) x in KeepsAll (taken_off lowers s t) (without_first u.zeros u))
+end_keeps lowers s t x r ready =
+    let off : State = taken_off lowers s t in
+    let released : (slot_at off x).released ≡ true = (off_most lowers s t).released x ∙ r in
+    all_on (emptied_keeps off x) (next_keeps (emptied off x) (ready_emptied off x released (ready_off lowers s t ready)).zeros)
+
+pub last_keeps : (lowers : Bool) (s : State) (t : Option ℕ) (x : ℕ) → (slot_at s x).released ≡ true → IsReady s → IfSome t (λ y. 0 < (slot_at s y).count) → (let u : State = emptied (taken_off lowers s t) x in Keeps s (without_first u.zeros u))
+last_keeps lowers s t x r ready h = keeps_on (off_keeps lowers s t h) (end_keeps lowers s t x r ready).keeps
+
+pub last_keeps_all : (s : State) (t : Option ℕ) (x : ℕ) → (slot_at s x).released ≡ true → IsReady s → IfSome t (λ y. 0 < (slot_at s y).count) → (let u : State = emptied (taken_off true s t) x in KeepsAll s (without_first u.zeros u))
+last_keeps_all s t x r ready h = all_on (off_keeps_all s t h) (end_keeps true s t x r ready)
+
+-- the last set is given up: its members are Black
+given_orange_if : (b : Bool) (v : Slot) → (dead_if b (unbuffered_if b v)).colour ≡ Orange → (b ≡ false) × (v.colour ≡ Orange)
+given_orange_if true v o = cc
+given_orange_if false v o = (refl, o)
+
+given_same : (s : State) (x : ℕ) → is_in (length s.sets - 1) (slot_at s x).set ≡ false → slot_at (given_up s) x ≡ slot_at s x
+given_same s x e = given_slot s x ∙ ap (λ b. dead_if b (unbuffered_if b (slot_at s x))) e
+
+given_before : (s : State) (x : ℕ) → (slot_at (given_up s) x).colour ≡ Orange → (is_in (length s.sets - 1) (slot_at s x).set ≡ false) × ((slot_at s x).colour ≡ Orange)
+given_before s x o = given_orange_if (is_in (length s.sets - 1) (slot_at s x).set) (slot_at s x) (ap (λ (v : Slot). v.colour) (sym (given_slot s x)) ∙ o)
+
+outside : (b : Bool) (n : ℕ) → n ≡ one b → n ≡ 0 → b ≡ false
+outside true n e z = absurd (omega (arith, e, z))
+outside false n e z = refl
+
+pub given_orange : (s : State) → IsKept s → KeepsOrange (last_set s.sets) s (given_up s)
+given_orange s k = record {
+  kept = λ x n o. ap (λ (v : Slot). v.colour) (given_same s x (outside (is_in (length s.sets - 1) (slot_at s x).set) (times x (last_set s.sets)) (k.numbers (length s.sets - 1) x) n)) ∙ o;
+  before = λ x o. let g = given_before s x o in (k.numbers (length s.sets - 1) x ∙ ap one g.0, g.1);
+}
+
+-- other members of sets stay there
+other_member : (s : State) (x : ℕ) → IsKept s → IsFreeable s → is_in (length s.sets - 1) (slot_at s x).set ≡ false → times x (concat (earlier_sets s.sets)) ≡ times x (concat s.sets)
+other_member s x k f e =
+    let k' = keep_drop k f.some (λ y. omega (arith, ap (times y) f.work, times-nil y, last_once s k y, one-le (ltb y (length s.slots)))) in
+    let same : get_or (map (out_of_set (length s.sets - 1)) s.slots) x absent ≡ slot_at s x = mapped (out_of_set (length s.sets - 1)) s.slots x refl ∙ ap (λ b. unbuffered_if b (slot_at s x)) e in
+    omega (arith, k'.buffers x, k.buffers x, ap (λ (v : Slot). one v.buffered) same)
+
+given_unreleased_if : (b : Bool) (v : Slot) → (dead_if b (unbuffered_if b v)).released ≡ false → b ≡ false
+given_unreleased_if true v r = absurd (false≢true (sym r))
+given_unreleased_if false v r = refl
+
+pub given_apart : (s : State) → IsKept s → IsFreeable s → IsApart s → IsApart (given_up s)
+given_apart s k f a = λ x o.
+    let g = given_before s x o in
+    let m : IsMember s x = a x g.1 in
+    record {
+      member = omega (arith, other_member s x k f g.0, m.member);
+      no_zero = m.no_zero;
+      unreleased = ap (λ (v : Slot). v.released) (given_same s x g.0) ∙ m.unreleased;
+    }
+
+pub given_zeros : (s : State) → AllZerosButOrange s → AllZerosButOrange (given_up s)
+given_zeros s a = λ x r c o.
+    let same : slot_at (given_up s) x ≡ slot_at s x = given_same s x (given_unreleased_if (is_in (length s.sets - 1) (slot_at s x).set) (slot_at s x) (ap (λ (v : Slot). v.released) (sym (given_slot s x)) ∙ r)) in
+    a x (ap (λ (v : Slot). v.released) (sym same) ∙ r) (ap (λ (v : Slot). v.count) (sym same) ∙ c) (λ q. o (ap (λ (v : Slot). v.colour) same ∙ q))
+
+-- the next member is at work, or all members go to the free list
+member_keeps : (b : Bool) (s : State) (a : Member) → KeepsAll s (next_member_if b s a).counts
+member_keeps true s a = lists_keep s s.work s.free
+member_keeps false s a = lists_keep s [] (s.free ++ s.work)
+
+pub next_member_keeps : (s : State) (a : Member) → KeepsAll s (next_member s a).counts
+next_member_keeps s a = member_keeps (ltb (a.index + 1) (length s.work)) s a

@@ -1,0 +1,201 @@
+-- From one state of the counts to another: where less is left to be tested of the sets.
+use Rattle.std.proofs.Common.{◌≡◌, ℕ, suc, zero, ◌-◌, ◌<◌, ◌≤◌, Bool, true, false, eqb, Option, None, Some, List, [], ◌∷◌, length, map, take, get_or, refl, sym, ◌∙◌, ap, subst, arith, inl, inr, slice_get}
+use Rattle.std.specs.List.{concat}
+use Rattle.std.proofs.lemmas.List.{get_or-set_same, get_or-set_other, set_past}
+use Rattle.std.proofs.lemmas.Bool.{cases_lt, eq-eqb, ne_eqb, false≢true, cases_Bool}
+use Rattle.std.proofs.lemmas.Bool.Decides.{eqb_tells}
+use Rattle.rec_counts.specs.declared.colour.Colour.TheVariants.{Orange}
+use Rattle.rec_counts.specs.declared.slot.Slot.{Slot}
+use Rattle.rec_counts.specs.declared.slot.Due.{Due}
+use Rattle.rec_counts.specs.declared.slot.Due.TheVariants.{Nothing, Zero, Root}
+use Rattle.rec_counts.specs.Counts.{State, IsKept, slot_at, with_slot, sent, decremented}
+use Rattle.rec_counts.specs.Groups.{last_set}
+use Rattle.rec_counts.specs.Lists.{one, times}
+use Rattle.rec_counts.specs.Slot.{absent, is_in, lessened, lessened_if, lowered, due_of}
+use Rattle.rec_counts.proofs.Keeping.{field_kept}
+use Rattle.rec_counts.proofs.Times.{times-nil, times-append}
+use Rattle.rec_sigma.specs.declared.fate.Fate.{Fate}
+use Rattle.rec_sigma.specs.declared.fate.Fate.TheVariants as fates
+use Rattle.rec_sigma.specs.Refurbish.{refurbished, fate_at, LastRefurbished}
+use Rattle.rec_sigma.proofs.Cyclics.{in_set, own_set}
+use Rattle.rec_release.specs.CycleFree.{given_up, given_up_slot}
+use Rattle.rec_release.specs.TakenOff.{down_if, is_lowered, taken_off}
+use Rattle.rec_release.specs.Release.{emptied, listed_if, without_first}
+
+-- No slot joins a set, and a set loses no member but with all others. No slot becomes Orange, and the counts of one that is
+-- Orange, less its outside count, haven't grown.
+pub record TestsLess (s t : State) : Type 0 where
+  pub among : (x : ℕ) → 0 < times x (concat t.sets) → 0 < times x (concat s.sets)
+  pub members : (number x y : ℕ) → (slot_at t x).set ≡ Some number → is_in number (slot_at t y).set ≡ is_in number (slot_at s y).set
+  pub orange : (x : ℕ) → (slot_at t x).colour ≡ Orange → (slot_at s x).colour ≡ Orange
+  pub eased : (x : ℕ) → (slot_at t x).colour ≡ Orange → (slot_at t x).count - (slot_at t x).cyclic ≤ (slot_at s x).count - (slot_at s x).cyclic
+
+-- a member was a member of the same set
+pub member_before : {s t : State} → TestsLess s t → (number x : ℕ) → (slot_at t x).set ≡ Some number → (slot_at s x).set ≡ Some number
+member_before {s} {t} l number x e = in_set number (slot_at s x).set (sym (l.members number x x e) ∙ ap (is_in number) e ∙ own_set number)
+
+pub less_same : (s : State) → TestsLess s s
+less_same s = record { among = λ x h. h; members = λ number x y e. refl; orange = λ x o. o; eased = λ x o. omega arith }
+
+pub less_on : {s t u : State} → TestsLess s t → TestsLess t u → TestsLess s u
+less_on {s} {t} {u} a b = record {
+  among = λ x h. a.among x (b.among x h);
+  members = λ number x y e. b.members number x y e ∙ a.members number x y (member_before b number x e);
+  orange = λ x o. a.orange x (b.orange x o);
+  eased = λ x o. omega (arith, b.eased x o, a.eased x (b.orange x o));
+}
+
+-- where the slots and the sets stay
+pub less_listed : (s t : State) → t.slots ≡ s.slots → t.sets ≡ s.sets → TestsLess s t
+less_listed s t slots sets = record {
+  among = λ x h. subst (λ xss. 0 < times x (concat xss)) sets h;
+  members = λ number x y e. ap (λ ss. is_in number (get_or ss y absent).set) slots;
+  orange = λ x o. subst (λ ss. (get_or ss x absent).colour ≡ Orange) slots o;
+  eased = λ x o. omega (arith, ap (λ ss. (get_or ss x absent).count - (get_or ss x absent).cyclic) slots);
+}
+
+-- what holds of what is written, and of what was there, holds of each slot afterwards
+each_slot : (P : ℕ → Slot → Type 0) (s : State) (x : ℕ) (v : Slot) → P x v → ((y : ℕ) → P y (slot_at s y)) → (y : ℕ) → P y (slot_at (with_slot s x v) y)
+each_slot P s x v here there y =
+    elim (eqb_tells y x) [
+      | inl q ↦ elim (cases_lt x (length s.slots)) [
+        | inl l ↦ subst (λ z. P z (slot_at (with_slot s x v) z)) (sym q.1) (subst (P x) (sym (get_or-set_same s.slots x v absent l)) here)
+        | inr l ↦ subst (λ ss. P y (get_or ss y absent)) (sym (set_past s.slots x v l)) (there y)
+      ]
+      | inr q ↦ subst (P y) (sym (get_or-set_other s.slots x y v absent q.1)) (there y)
+    ]
+
+-- what is written in place of a slot stays in its set, isn't Orange anew, and where it is Orange, its counts haven't grown
+pub record EasesSlot (u v : Slot) : Type 0 where
+  pub set : v.set ≡ u.set
+  pub orange : v.colour ≡ Orange → u.colour ≡ Orange
+  pub eased : v.colour ≡ Orange → v.count - v.cyclic ≤ u.count - u.cyclic
+
+pub less_slot : (s : State) (x : ℕ) (v : Slot) → EasesSlot (slot_at s x) v → TestsLess s (with_slot s x v)
+less_slot s x v e = record {
+  among = λ y h. h;
+  members = λ number z y _. ap (is_in number) (field_kept (λ (w : Slot). w.set) s.slots x v e.set y);
+  orange = each_slot (λ y w. w.colour ≡ Orange → (slot_at s y).colour ≡ Orange) s x v e.orange (λ y o. o);
+  eased = each_slot (λ y w. w.colour ≡ Orange → w.count - w.cyclic ≤ (slot_at s y).count - (slot_at s y).cyclic) s x v e.eased (λ y o. omega arith);
+}
+
+-- a slot is flagged released
+pub less_released : (s : State) (x : ℕ) → TestsLess s (with_slot s x (record (slot_at s x) { released = true }))
+less_released s x = less_slot s x (record (slot_at s x) { released = true }) (record { set = refl; orange = λ o. o; eased = λ o. omega arith })
+
+-- a count is lowered together with the outside count
+pub less_lowered : (s : State) (x : ℕ) → TestsLess s (with_slot s x (lowered (slot_at s x)))
+less_lowered s x = less_slot s x (lowered (slot_at s x)) (record { set = refl; orange = λ o. o; eased = λ o. omega arith })
+
+lessened_eases : (r l : Bool) (v : Slot) → EasesSlot v (lessened_if r l v)
+lessened_eases true l v = record { set = refl; orange = λ o. o; eased = λ o. omega arith }
+lessened_eases false true v = record { set = refl; orange = λ o. cc; eased = λ o. cc }
+lessened_eases false false v = record { set = refl; orange = λ o. cc; eased = λ o. cc }
+
+less_sent : (d : Due) (s t : State) (x : ℕ) → TestsLess s t → TestsLess s (sent d t x)
+less_sent Nothing s t x l = l
+less_sent Zero s t x l = record { among = l.among; members = l.members; orange = l.orange; eased = l.eased }
+less_sent Root s t x l = record { among = l.among; members = l.members; orange = l.orange; eased = l.eased }
+
+-- a slot is decremented
+pub less_decremented : (s : State) (x : ℕ) → TestsLess s (decremented s x)
+less_decremented s x =
+    let v : Slot = slot_at s x in
+    less_sent (due_of v) s (with_slot s x (lessened v)) x (less_slot s x (lessened v) (lessened_eases v.released (eqb v.count 1) v))
+
+-- what the earlier sets have, all of them have
+times_taken : (x n : ℕ) (xss : List (List ℕ)) → times x (concat (take n xss)) ≤ times x (concat xss)
+times_taken x zero xss = omega (arith, times-nil x)
+times_taken x (suc n) [] = omega arith
+times_taken x (suc n) (xs ∷ xss) = omega (arith, times-append x xs (concat (take n xss)), times-append x xs (concat xss), times_taken x n xss)
+
+-- all members of the set of a number leave it, and no other slot leaves its set
+members_left : (s t : State) (n : ℕ) → ((x : ℕ) → is_in n (slot_at s x).set ≡ true → (slot_at t x).set ≡ None) → ((x : ℕ) → is_in n (slot_at s x).set ≡ false → (slot_at t x).set ≡ (slot_at s x).set) →
+    (number x y : ℕ) → (slot_at t x).set ≡ Some number → is_in number (slot_at t y).set ≡ is_in number (slot_at s y).set
+members_left s t n gone stay number x y e = go (is_in n (slot_at s x).set) (is_in n (slot_at s y).set) refl refl
+  where
+    go : (b c : Bool) → is_in n (slot_at s x).set ≡ b → is_in n (slot_at s y).set ≡ c → is_in number (slot_at t y).set ≡ is_in number (slot_at s y).set
+    go true c f g = let h : None ≡ Some number = sym (gone x f) ∙ e in cc
+    go false false f g = ap (is_in number) (stay y g)
+    go false true f g =
+        let other : eqb number n ≡ false = ap (is_in n) (sym e ∙ stay x f) ∙ f in
+        let last : (slot_at s y).set ≡ Some n = in_set n (slot_at s y).set g in
+        ap (is_in number) (gone y g) ∙ sym (ap (is_in number) last ∙ ne_eqb n number (λ q. false≢true (sym other ∙ eq-eqb number n (sym q))))
+
+-- a map of the slots, at one of them
+map_at : (f : Slot → Slot) → f absent ≡ absent → (slots : List Slot) (y : ℕ) → get_or (map f slots) y absent ≡ f (get_or slots y absent)
+map_at f e [] y = sym e
+map_at f e (v ∷ slots) zero = refl
+map_at f e (v ∷ slots) (suc y) = map_at f e slots y
+
+-- what is given up is in no set and not Orange, and what isn't stays
+given_eases : (n : ℕ) (v : Slot) (b : Bool) → is_in n v.set ≡ b → ((given_up_slot n v).colour ≡ Orange → v.colour ≡ Orange) × ((given_up_slot n v).colour ≡ Orange → (given_up_slot n v).count - (given_up_slot n v).cyclic ≤ v.count - v.cyclic)
+given_eases n v true e = rw e ((λ o. cc), (λ o. cc))
+given_eases n v false e = rw e ((λ o. o), (λ o. omega arith))
+
+given_leaves : (n : ℕ) (v : Slot) → is_in n v.set ≡ true → (given_up_slot n v).set ≡ None
+given_leaves n v e = rw e refl
+
+given_stays : (n : ℕ) (v : Slot) → is_in n v.set ≡ false → (given_up_slot n v).set ≡ v.set
+given_stays n v e = rw e refl
+
+-- the members of the last set are given up
+pub less_given_up : (s : State) → TestsLess s (given_up s)
+less_given_up s =
+    let n : ℕ = length s.sets - 1 in
+    let at : (y : ℕ) → slot_at (given_up s) y ≡ given_up_slot n (slot_at s y) = map_at (given_up_slot n) refl s.slots in
+    record {
+      among = λ x h. omega (arith, h, times_taken x n s.sets);
+      members = members_left s (given_up s) n (λ x e. ap (λ (v : Slot). v.set) (at x) ∙ given_leaves n (slot_at s x) e) (λ x e. ap (λ (v : Slot). v.set) (at x) ∙ given_stays n (slot_at s x) e);
+      orange = λ x o. (given_eases n (slot_at s x) _ refl).0 (ap (λ (v : Slot). v.colour) (sym (at x)) ∙ o);
+      eased = λ x o. subst (λ (v : Slot). v.count - v.cyclic ≤ (slot_at s x).count - (slot_at s x).cyclic) (sym (at x)) ((given_eases n (slot_at s x) _ refl).1 (ap (λ (v : Slot). v.colour) (sym (at x)) ∙ o));
+    }
+
+-- a member that is refurbished is in no set, and Orange only where it was
+refurbished_eases : (f : Fate) (v : Slot) → ((refurbished f v).set ≡ None) × ((refurbished f v).colour ≡ Orange → v.colour ≡ Orange) × ((refurbished f v).colour ≡ Orange → (refurbished f v).count - (refurbished f v).cyclic ≤ v.count - v.cyclic)
+refurbished_eases fates.Free v = (refl, (λ o. o), (λ o. omega arith))
+refurbished_eases fates.Zero v = (refl, (λ o. cc), (λ o. cc))
+refurbished_eases fates.Root v = (refl, (λ o. cc), (λ o. cc))
+refurbished_eases fates.Plain v = (refl, (λ o. cc), (λ o. cc))
+
+-- the members of the last set are refurbished
+pub less_refurbished : (s t : State) → IsKept s → LastRefurbished s t → TestsLess s t
+less_refurbished s t k r =
+    let n : ℕ = length s.sets - 1 in
+    let first : Option ℕ = slice_get (last_set s.sets) 0 in
+    let inside : (x : ℕ) → is_in n (slot_at s x).set ≡ true → slot_at t x ≡ refurbished (fate_at s first x) (slot_at s x) = λ x e. r.inside x (omega (arith, k.numbers n x, ap one e)) in
+    let others : (x : ℕ) → is_in n (slot_at s x).set ≡ false → slot_at t x ≡ slot_at s x = λ x e. r.others x (omega (arith, k.numbers n x, ap one e)) in
+    record {
+      among = λ x h. omega (arith, h, ap (λ xss. times x (concat xss)) r.sets, times_taken x n s.sets);
+      members = members_left s t n (λ x e. ap (λ (v : Slot). v.set) (inside x e) ∙ (refurbished_eases (fate_at s first x) (slot_at s x)).0) (λ x e. ap (λ (v : Slot). v.set) (others x e));
+      orange = λ x o. elim (cases_Bool (is_in n (slot_at s x).set)) [
+        | inl e ↦ (refurbished_eases (fate_at s first x) (slot_at s x)).1 (ap (λ (v : Slot). v.colour) (sym (inside x e)) ∙ o)
+        | inr e ↦ ap (λ (v : Slot). v.colour) (sym (others x e)) ∙ o
+      ];
+      eased = λ x o. elim (cases_Bool (is_in n (slot_at s x).set)) [
+        | inl e ↦ subst (λ (v : Slot). v.count - v.cyclic ≤ (slot_at s x).count - (slot_at s x).cyclic) (sym (inside x e)) ((refurbished_eases (fate_at s first x) (slot_at s x)).2 (ap (λ (v : Slot). v.colour) (sym (inside x e)) ∙ o))
+        | inr e ↦ subst (λ (v : Slot). v.count - v.cyclic ≤ (slot_at s x).count - (slot_at s x).cyclic) (sym (others x e)) (omega arith)
+      ];
+    }
+
+-- the reference that came out is counted no more
+pub less_down_if : (lowers : Bool) (s : State) (x : ℕ) → TestsLess s (down_if lowers s x)
+less_down_if true s x = less_lowered s x
+less_down_if false s x = less_decremented s x
+
+pub less_taken_off : (lowers : Bool) (s : State) (target : Option ℕ) → TestsLess s (taken_off lowers s target)
+less_taken_off lowers s None = less_same s
+less_taken_off lowers s (Some x) = less_down_if (is_lowered lowers (slot_at s x).colour) s x
+
+-- the first of the zeros is released
+pub less_without_first : (zs : List ℕ) (s : State) → TestsLess s (without_first zs s)
+less_without_first [] s = less_same s
+less_without_first (z ∷ zs) s = less_on (less_released s z) (less_listed (with_slot s z (record (slot_at s z) { released = true })) (without_first (z ∷ zs) s) refl refl)
+
+-- an emptied slot goes to the free list
+pub less_emptied : (s : State) (x : ℕ) → TestsLess s (emptied s x)
+less_emptied s x = go (slot_at s x).buffered
+  where
+    go : (b : Bool) → TestsLess s (listed_if b s x)
+    go true = less_same s
+    go false = less_listed s (listed_if false s x) refl refl
