@@ -12,3 +12,5 @@ pub mod Endings
 pub mod Uniqueness
 pub mod Plainness
 pub mod Spacing
+pub mod Written
+pub mod Draws

@@ -89,7 +89,7 @@ plain_body : (registers fields : ℕ) → AreSmall registers fields → (line : 
 plain_body registers fields h line (inl e) = subst ArePlain (sym e) plain_mutator
 plain_body registers fields h line (inr is) = subst ArePlain (sym is.2) (plain_command registers fields is.0 h is.1)
 
-plain_script : (contents : Contents) → IsScript contents → All ArePlain (spelled contents)
+pub plain_script : (contents : Contents) → IsScript contents → All ArePlain (spelled contents)
 plain_script contents script =
     All-cons ArePlain header (heap_line contents.slots contents.fields contents.registers ∷ flat_map mutator_lines contents.commands) plain_header
     (All-cons ArePlain (heap_line contents.slots contents.fields contents.registers) (flat_map mutator_lines contents.commands) (plain_heap contents.slots contents.fields contents.registers script.heap)

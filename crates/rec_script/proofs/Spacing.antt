@@ -88,12 +88,12 @@ past_less [] past = tt
 past_less (x ∷ xs) past = (omega (arith, past.0), past_less xs past.1)
 
 -- the line of the words, without its LF
-abbrev joined : List (List ℕ) → List ℕ
+abbrev pub joined : List (List ℕ) → List ℕ
 joined [] = []
 joined (word ∷ []) = word
 joined (word ∷ next ∷ more) = word ++ 32 ∷ joined (next ∷ more)
 
-as_joined : (ws : List (List ℕ)) (rest : List ℕ) → spaced ws rest ≡ joined ws ++ 10 ∷ rest
+pub as_joined : (ws : List (List ℕ)) (rest : List ℕ) → spaced ws rest ≡ joined ws ++ 10 ∷ rest
 as_joined [] rest = refl
 as_joined (word ∷ []) rest = refl
 as_joined (word ∷ next ∷ more) rest =
@@ -119,7 +119,7 @@ cut_behind cuts b none (c ∷ cs) end more past at =
     ∙ ap (in_front c) (cut_behind cuts b none cs end more past.1 at)
 
 -- the words are on the first line
-first_line : (ws : List (List ℕ)) (rest : List ℕ) → AreWords ws → lines (spaced ws rest) ≡ joined ws ∷ lines rest
+pub first_line : (ws : List (List ℕ)) (rest : List ℕ) → AreWords ws → lines (spaced ws rest) ≡ joined ws ∷ lines rest
 first_line ws rest are =
     let past : ArePast 31 (joined ws) = past_joined ws are in
     ap lines (as_joined ws rest)
@@ -127,7 +127,7 @@ first_line ws rest are =
     ∙ ap (λ (t : List ℕ). t ∷ lines rest) (no_cr (joined ws) (λ some e. omega (arith, past_at 31 (joined ws) (length (joined ws) - 1) past (omega arith))))
 
 -- and they are its words
-words_joined : (ws : List (List ℕ)) → AreWords ws → words (joined ws) ≡ ws
+pub words_joined : (ws : List (List ℕ)) → AreWords ws → words (joined ws) ≡ ws
 words_joined [] are = refl
 words_joined (word ∷ []) are =
     ap (filter is_some_word) (cut_none is_blank word are.0.0 (λ k lt. no_blank (get_or word k 0) (past_at 32 word k are.0.1 lt)))
@@ -139,14 +139,14 @@ words_joined (word ∷ next ∷ more) are =
 
 -- ---- commands
 
-numeral_word : (n : ℕ) → n < 2 ^ 64 → IsWord (decimal n)
+pub numeral_word : (n : ℕ) → n < 2 ^ 64 → IsWord (decimal n)
 numeral_word n fits = (decimal_nonempty n fits, from (decimal n) (digits_of n fits))
   where
     from : (ds : List ℕ) → ((i : ℕ) → i < length ds → IsInRange 48 57 (get_or ds i 0)) → ArePast 32 ds
     from [] digits = tt
     from (d ∷ ds) digits = (omega (arith, (digits 0 (omega arith)).0), from ds (λ i lt. digits (suc i) (omega arith)))
 
-command_words : (registers fields : ℕ) (cmd : Cmd) → AreSmall registers fields → IsCommand registers fields cmd → AreWords (command_line cmd)
+pub command_words : (registers fields : ℕ) (cmd : Cmd) → AreSmall registers fields → IsCommand registers fields cmd → AreWords (command_line cmd)
 command_words registers fields (New reg label) h is = ((omega arith, (omega arith, (omega arith, (omega arith, tt)))), (numeral_word reg (omega (arith, h.registers_fit, is.0)), (numeral_word label (omega (arith, is.1)), tt)))
 command_words registers fields (Null reg) h is = ((omega arith, (omega arith, (omega arith, (omega arith, (omega arith, tt))))), (numeral_word reg (omega (arith, h.registers_fit, is)), tt))
 command_words registers fields (Copy dst src) h is = ((omega arith, (omega arith, (omega arith, (omega arith, (omega arith, tt))))), (numeral_word dst (omega (arith, h.registers_fit, is.0)), (numeral_word src (omega (arith, h.registers_fit, is.1)), tt)))

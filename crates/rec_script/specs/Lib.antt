@@ -1,5 +1,6 @@
 pub mod Drafts
 pub mod Fields
 pub mod Lines
+pub mod Made
 pub mod Operands
 pub mod Script

@@ -3,6 +3,7 @@
 //! The rule that this crate keeps: a script is read exactly from the texts that spell it. `specs/Script.antt` says which
 //! these are, apart from the reader, and of any other text which line is the first that no script continues, and what is
 //! wrong with it; `read` answers just that. Most lines are read in one pass (`spaced`), and every other one by its words.
+//! `make` writes a script whose commands are drawn from a seed; `specs/Made.antt` says which.
 //! The layer above may use that a `Script` is within its limits, and the laws, which are the contracts of the functions
 //! in `laws`.
 //! The grammar is this project's profile (`docs/PROFILE.md`); the papers run on programs of Java.
@@ -14,6 +15,7 @@ mod error;
 mod heap;
 mod laws;
 mod line;
+mod making;
 mod operand;
 mod reading;
 mod script;
@@ -23,5 +25,6 @@ mod tests;
 
 pub use error::{Kind, ScriptError};
 pub use laws::{refusals_are_unique, refused_texts_spell_nothing, texts_spell_one_script};
+pub use making::make;
 pub use reading::read;
 pub use script::Script;

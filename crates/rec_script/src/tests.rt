@@ -172,3 +172,35 @@ fn says_what_is_wrong(rt: HostRuntime) -> Result<(), Fail> {
     assert_eq!(rt; said.as_str(), "not a script; out of memory; NotUtf8");
     Ok(())
 }
+
+// The second script is from outside: another implementation of the generator gave its words.
+#[test]
+fn makes_scripts(rt: HostRuntime) -> Result<(), Fail> {
+    let empty = make(rt.alloc(), 0, 1, 0)?;
+    assert_eq!(rt;
+        empty.as_slice(),
+        b"recycler 1\nheap 1024 2 8\nmutator\n".as_slice()
+    );
+    let made = make(rt.alloc(), u64::MAX, 2, 8)?;
+    assert_eq!(rt;
+        made.as_slice(),
+        b"recycler 1\nheap 1024 2 8\nmutator\nnew 2 559\nsame 3 2\nget 5 7 1\nnew 3 778\nnew 2 984\nput 1 0 0\nsame 0 1\nget 4 5 1\nmutator\nnew 7 538\nsame 6 7\nvalue 2\nnew 6 114\nnew 3 258\ncopy 5 1\ncopy 4 4\nnull 7\n".as_slice()
+    );
+    Ok(())
+}
+
+#[test]
+fn reads_made_scripts(rt: HostRuntime) -> Result<(), Fail> {
+    let made = make(rt.alloc(), 7, 3, 1000)?;
+    let script = read(rt.alloc(), &made)?;
+    assert_eq!(rt;
+        (script.slots(), script.fields(), script.registers()),
+        (1024, 2, 8)
+    );
+    assert_eq!(rt; (script.mutators(), script.longest()), (3, 1000));
+    prove!(script.mutators() == 3);
+    for t in 1..=3 {
+        assert_eq!(rt; script.commands(t).len(), 1000);
+    }
+    Ok(())
+}
