@@ -14,7 +14,7 @@ use Rattle.rec_sigma.specs.declared.at.At as loads
 use Rattle.rec_sigma.specs.Refurbish.{AreReleased}
 use Rattle.rec_sigma.specs.Settling.{refurbished_of}
 use Rattle.rec_trial.specs.Trial as trials
-use Rattle.rec_collector.specs.Followed.{Next, followed, next_in, prep_started, prepared, prepared_at, relieved, relieved_at, sweep_phase, tested_next, tested_on, tried, tried_at, with_prep, with_trial}
+use Rattle.rec_collector.specs.Followed.{Next, followed, next_in, prep_started, prepared, prepared_at, relieved, relieved_at, sweep_phase, tested_next, tested_on, trial_started, tried, tried_at, with_prep}
 use Rattle.rec_collector.specs.Parts.{Parts}
 use Rattle.rec_collector.specs.Testing.{counted_by, last_tested, tested, tested_as, verdict_of, with_freeing, with_release, zeros_released}
 use Rattle.rec_collector.specs.declared.sets.Sets.{Sets}
@@ -157,9 +157,9 @@ tests_release w e b = go w.release.at (sym (release_next w.release) ∙ b) ∙ s
     go None e = absurd (false≢true e)
     go (Some a) e = refl
 
-pub tests_try : (w : Parts) (v : trials.Work) (n : Next) → is_some (frees.next_of w.freeing) ≡ false → is_some (releases.next_of w.release) ≡ false → n ≡ tried (with_trial w v) → v ≡ trials.started_of w.trial.fields w.counts → n ≡ tested_next w
+pub tests_try : (w v : Parts) (n : Next) → is_some (frees.next_of w.freeing) ≡ false → is_some (releases.next_of w.release) ≡ false → n ≡ tried v → v ≡ trial_started w → n ≡ tested_next w
 tests_try w v n e b is s =
-    is ∙ ap (λ (u : trials.Work). tried (with_trial w u)) s ∙ sym (ap (λ (at : Option At). tested_on w at None) (none_of w.release.at (sym (release_next w.release) ∙ b)))
+    is ∙ ap tried s ∙ sym (ap (λ (at : Option At). tested_on w at None) (none_of w.release.at (sym (release_next w.release) ∙ b)))
     ∙ sym (ap (tested_on w w.release.at) (none_of w.freeing.at (sym (freeing_next w.freeing) ∙ e)))
 
 -- the sets were tested

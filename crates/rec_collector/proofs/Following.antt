@@ -10,9 +10,10 @@ use Rattle.rec_apply.proofs.Whole.{batch_falls, batch_rests, batch_rises}
 use Rattle.rec_release.specs.declared.at.At.{At}
 use Rattle.rec_release.specs.declared.member.Member.{Member}
 use Rattle.rec_collector.specs.Clearing.{HasExchanged, IsClearing, IsDone, IsFewTold, IsWide}
-use Rattle.rec_collector.specs.Followed.{followed, next_in, relieved, tested_on, trial_started, with_freed, with_released}
+use Rattle.rec_collector.specs.Followed.{followed, next_in, relieved, tested_on, trial_started, with_freed, with_offers, with_released}
 use Rattle.rec_collector.specs.Given.{IsCovered}
 use Rattle.rec_collector.specs.Kept.{IsAt, IsAtRest, IsMachine, IsTesting}
+use Rattle.rec_collector.specs.Offered.{KeepsOffered}
 use Rattle.rec_collector.specs.Parts.{Parts}
 use Rattle.rec_collector.specs.Private.{Private, parts_of}
 use Rattle.rec_collector.specs.Testing.{is_busy_at, tested, told, zeros_released}
@@ -25,6 +26,7 @@ use Rattle.rec_collector.proofs.Counting.{batch_kept, freed_kept, released_kept,
 use Rattle.rec_collector.proofs.Exchanging.{exchanged_few, none_exchanged, released_exchanged, relieved_exchanged, tested_exchanged, zeros_exchanged}
 use Rattle.rec_collector.proofs.Landing.{Fits, Lands, fits_all, landed, now_at, told_at}
 use Rattle.rec_collector.proofs.Listing.{clear_listed}
+use Rattle.rec_collector.proofs.Offering.{where_keeps, where_kept, where_listed, where_ready, where_uncoloured}
 use Rattle.rec_collector.proofs.Told.{KeepsNumbers, freed_same, freed_told, numbers_on, released_same, released_told, relieved_same, relieved_told, tested_same, tested_told, told_and_left, zeros_same, zeros_told}
 use Rattle.rec_collector.proofs.Trying.{started_tried, tried_lands}
 
@@ -39,6 +41,15 @@ fits_on f k = record {
   freeing_fields = k.freeing_fields ∙ f.freeing_fields;
   trial_fields = ap (λ m. m.fields) k.trial ∙ f.trial_fields;
   prep_fields = ap (λ m. m.fields) k.prep ∙ f.prep_fields;
+}
+
+offers_fits : {p : Private} {w : Parts} → Fits p w → Fits p (with_offers w)
+offers_fits {p} {w} f = record {
+  slots = (where_keeps w.offers w.counts).rest.slots ∙ f.slots;
+  release_fields = f.release_fields;
+  freeing_fields = f.freeing_fields;
+  trial_fields = f.trial_fields;
+  prep_fields = f.prep_fields;
 }
 
 -- A collection has come to `w`, and the next set may be tested where nothing is at work.
@@ -79,9 +90,12 @@ tested_clears p w f h =
 tries_next : (p : Private) (v : Parts) → 0 < p.release.fields → HasCleared p v → v.release.at ≡ None → v.freeing.at ≡ None → v.counts.sets ≡ [] → Lands p (tested_on v None None)
 tries_next p v f h still unfreed none =
     let few : h.exchanged ≤ length v.counts.slots * v.release.fields = exchanged_few v h.exchanged h.counts h.exchanges in
+    let w : Parts = with_offers v in
+    let keeps : KeepsOffered v.counts w.counts = where_keeps v.offers v.counts in
     tried_lands p (trial_started v) f (
-    started_tried p v (omega (arith, f, h.fits.trial_fields)) (clear_ready v h.counts h.clearing h.done still unfreed none) h.counts (clear_listed v h.counts h.clearing h.done still unfreed none)
-    (clear_uncoloured v h.counts h.clearing h.done still unfreed none) (h.done still unfreed) still unfreed h.clearing.unprepared h.fits h.due (omega (arith, h.turns, few, fits_all p v h.fits)) (omega (arith, h.told, ap length none))
+    started_tried p w (omega (arith, f, h.fits.trial_fields)) (where_ready v.offers v.counts (clear_ready v h.counts h.clearing h.done still unfreed none)) (where_kept v.offers v.counts h.counts)
+    (where_listed v.offers v.counts (clear_listed v h.counts h.clearing h.done still unfreed none)) (where_uncoloured v.offers v.counts (clear_uncoloured v h.counts h.clearing h.done still unfreed none))
+    (keeps.zeros ∙ h.done still unfreed) still unfreed h.clearing.unprepared (offers_fits h.fits) h.due (omega (arith, h.turns, few, fits_all p v h.fits)) (omega (arith, h.told, ap length none))
     )
 
 -- what follows
@@ -158,7 +172,7 @@ batched_clears p t k e c =
     covered_clears (parts_of p) p.newer p.older a.rest.zeros c a.rest.still a.rest.unfreed (rest_clears p a.rest)
 
 batched_same : (p : Private) → KeepsNumbers (parts_of p) (batched p)
-batched_same p = record { release_fields = refl; freeing_fields = refl; trial = refl; prep = refl; slots = (batch_rests p.counts p.newer p.older).slots }
+batched_same p = record { release_fields = refl; freeing_fields = refl; trial = refl; prep = refl; offers = refl; slots = (batch_rests p.counts p.newer p.older).slots }
 
 batched_told : (p : Private) → told_and_left (batched p) ≡ told_and_left (parts_of p)
 batched_told p = ap (λ (sets : List (List ℕ)). told p.sets + length sets) (batch_rests p.counts p.newer p.older).sets

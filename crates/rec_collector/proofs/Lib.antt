@@ -15,6 +15,9 @@ pub mod Keeping
 pub mod Landing
 pub mod Limits
 pub mod Listing
+pub mod Offers
+pub mod OfferedTo
+pub mod Offering
 pub mod Opening
 pub mod Preparing
 pub mod Rows

@@ -1,5 +1,5 @@
--- Each test of a set is counted, nothing else counts one, and the numbers of slots and fields stay, as do the trial and the
--- preparation.
+-- Each test of a set is counted, nothing else counts one, and the numbers of slots and fields stay, as do the trial, the
+-- preparation and whether every slot is to be offered.
 use Rattle.std.proofs.Common.{◌≡◌, ℕ, ◌+◌, ◌<◌, ◌≤◌, Bool, true, length, refl, arith, ◌∙◌, ap}
 use Rattle.rec_word.specs.Word.{target_of}
 use Rattle.rec_counts.specs.Counts.{State}
@@ -69,6 +69,7 @@ pub record KeepsNumbers (w v : Parts) : Type 0 where
   pub freeing_fields : v.freeing.fields ≡ w.freeing.fields
   pub trial : v.trial ≡ w.trial
   pub prep : v.prep ≡ w.prep
+  pub offers : v.offers ≡ w.offers
   pub slots : length v.counts.slots ≡ length w.counts.slots
 
 pub numbers_on : {w v u : Parts} → KeepsNumbers w v → KeepsNumbers v u → KeepsNumbers w u
@@ -77,31 +78,32 @@ numbers_on k l = record {
   freeing_fields = l.freeing_fields ∙ k.freeing_fields;
   trial = l.trial ∙ k.trial;
   prep = l.prep ∙ k.prep;
+  offers = l.offers ∙ k.offers;
   slots = l.slots ∙ k.slots;
 }
 
 pub numbers_same : (w : Parts) → KeepsNumbers w w
-numbers_same w = record { release_fields = refl; freeing_fields = refl; trial = refl; prep = refl; slots = refl }
+numbers_same w = record { release_fields = refl; freeing_fields = refl; trial = refl; prep = refl; offers = refl; slots = refl }
 
 pub zeros_same : (lowers : Bool) (w : Parts) → KeepsNumbers w (zeros_released lowers w)
 unfolding zeros_started
-zeros_same lowers w = record { release_fields = refl; freeing_fields = refl; trial = refl; prep = refl; slots = next_length w.counts.zeros w.counts }
+zeros_same lowers w = record { release_fields = refl; freeing_fields = refl; trial = refl; prep = refl; offers = refl; slots = next_length w.counts.zeros w.counts }
 
 pub released_same : (w : Parts) (word : ℕ) → KeepsNumbers w (with_released w word)
 released_same w word = released_by (KeepsNumbers w) w word (λ e. numbers_same w)
-    (λ a e l. record { release_fields = refl; freeing_fields = refl; trial = refl; prep = refl; slots = off })
+    (λ a e l. record { release_fields = refl; freeing_fields = refl; trial = refl; prep = refl; offers = refl; slots = off })
     (λ a e l.
     let u : State = emptied (released_off w word) a.slot in
-    record { release_fields = refl; freeing_fields = refl; trial = refl; prep = refl; slots = next_length u.zeros u ∙ emptied_length (released_off w word) a.slot ∙ off })
+    record { release_fields = refl; freeing_fields = refl; trial = refl; prep = refl; offers = refl; slots = next_length u.zeros u ∙ emptied_length (released_off w word) a.slot ∙ off })
   where
     off : length (released_off w word).slots ≡ length w.counts.slots
     off = (off_most w.release.lowers w.counts (target_of word)).slots
 
 pub freed_same : (w : Parts) (word : ℕ) → KeepsNumbers w (with_freed w word)
 freed_same w word = freed_by (KeepsNumbers w) w word (λ e. numbers_same w)
-    (λ a e l. record { release_fields = refl; freeing_fields = refl; trial = refl; prep = refl; slots = off })
-    (λ a e l m. record { release_fields = refl; freeing_fields = refl; trial = refl; prep = refl; slots = off })
-    (λ a e l m. record { release_fields = refl; freeing_fields = refl; trial = refl; prep = refl; slots = off })
+    (λ a e l. record { release_fields = refl; freeing_fields = refl; trial = refl; prep = refl; offers = refl; slots = off })
+    (λ a e l m. record { release_fields = refl; freeing_fields = refl; trial = refl; prep = refl; offers = refl; slots = off })
+    (λ a e l m. record { release_fields = refl; freeing_fields = refl; trial = refl; prep = refl; offers = refl; slots = off })
   where
     off : length (freed_off w word).slots ≡ length w.counts.slots
     off = (off_most true w.counts (target_of word)).slots
@@ -111,9 +113,9 @@ relieved_same w = relieved_by (KeepsNumbers w) w (λ e. zeros_same true w) (λ m
 
 pub last_same : (w : Parts) → KeepsNumbers w (last_tested w)
 last_same w = last_by (KeepsNumbers w) w
-    (λ e. record { release_fields = refl; freeing_fields = refl; trial = refl; prep = refl; slots = given_many w.counts })
+    (λ e. record { release_fields = refl; freeing_fields = refl; trial = refl; prep = refl; offers = refl; slots = given_many w.counts })
     (λ verdict. numbers_on
-    (record { release_fields = refl; freeing_fields = refl; trial = refl; prep = refl; slots = refurbished_many w.counts })
+    (record { release_fields = refl; freeing_fields = refl; trial = refl; prep = refl; offers = refl; slots = refurbished_many w.counts })
     (zeros_same true (last_refused verdict w)))
 
 pub tested_same : (n : ℕ) (w : Parts) → n ≤ length w.counts.sets → KeepsNumbers w (tested n w)

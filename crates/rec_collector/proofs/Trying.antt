@@ -20,7 +20,7 @@ use Rattle.rec_trial.proofs.Counted.{started_counted, took_counted}
 use Rattle.rec_trial.proofs.Keeps.{KeepsCounts, LeavesNothing, at_work_few, at_work_keeps, at_work_over, started_keeps, took_keeps}
 use Rattle.rec_trial.proofs.Midway.{times_released}
 use Rattle.rec_trial.proofs.Whole.{whole_over}
-use Rattle.rec_collector.specs.Followed.{prep_started, trial_started, tried, tried_at, with_tried}
+use Rattle.rec_collector.specs.Followed.{prep_started, trial_begun, tried, tried_at, with_tried}
 use Rattle.rec_collector.specs.Kept.{IsMachine, IsTried, IsTrying, all_fields}
 use Rattle.rec_collector.specs.Parts.{Parts}
 use Rattle.rec_collector.specs.Private.{Private, parts_of}
@@ -119,7 +119,7 @@ tried_fits p w v f slots fields = record {
 
 -- it has begun
 pub started_tried : (p : Private) (w : Parts) → 0 < w.trial.fields → IsReady w.counts → IsKeptCounts w.counts → IsListed w.counts → ((x : ℕ) → (slot_at w.counts x).colour ≢ Orange) → w.counts.zeros ≡ [] → w.release.at ≡ None → w.freeing.at ≡ None → w.prep.at ≡ None
-    → Fits p w → p.due ≡ None → p.turns ≤ 2 * length p.newer + all_fields p → told w.sets ≤ 2 ^ 16 * p.collections → HasTried p (trial_started w)
+    → Fits p w → p.due ≡ None → p.turns ≤ 2 * length p.newer + all_fields p → told w.sets ≤ 2 ^ 16 * p.collections → HasTried p (trial_begun w)
 started_tried p w f ready k listed none zeros still unfreed unprepared fits due turns told =
     let v : Work = started_of w.trial.fields w.counts in
     let keeps : KeepsCounts w.counts v.counts = started_keeps w.trial.fields w.counts f ready in

@@ -1,5 +1,5 @@
 -- What follows a word that came out of a field or was loaded from one: up to the next operation, and the phase that it is in.
-use Rattle.std.specs.Prelude.{ℕ, true, Option, None, Some, List, [], ◌∷◌, length}
+use Rattle.std.specs.Prelude.{ℕ, true, false, Option, None, Some, List, [], ◌∷◌, length}
 use Rattle.rec_word.specs.declared.op.Op.{Op}
 use Rattle.rec_release.specs.CycleFree as frees
 use Rattle.rec_release.specs.Release as releases
@@ -8,6 +8,7 @@ use Rattle.rec_release.specs.declared.member.Member.{Member}
 use Rattle.rec_sigma.specs.Prepare as preps
 use Rattle.rec_sigma.specs.declared.at.At as loads
 use Rattle.rec_trial.specs.Trial as trials
+use Rattle.rec_collector.specs.Offered.{offered_where}
 use Rattle.rec_collector.specs.Parts.{Parts}
 use Rattle.rec_collector.specs.Testing.{tested, with_freeing, with_release, zeros_released}
 use Rattle.rec_collector.specs.declared.phase.Phase.{Phase}
@@ -52,9 +53,17 @@ tried w = tried_at w (trials.next_of w.trial)
 abbrev pub with_trial : Parts → trials.Work → Parts
 with_trial w v = record w { counts = v.counts; trial = v.machine }
 
--- a trial begins
+-- every slot is offered where that was asked for
+abbrev pub with_offers : Parts → Parts
+with_offers w = record w { counts = offered_where w.offers w.counts; offers = false }
+
+-- a trial begins on these counts
+abbrev pub trial_begun : Parts → Parts
+trial_begun w = with_trial w (trials.started_of w.trial.fields w.counts)
+
+-- a trial begins, once every slot was offered where that was asked for
 abbrev pub trial_started : Parts → Parts
-trial_started w = with_trial w (trials.started_of w.trial.fields w.counts)
+trial_started w = trial_begun (with_offers w)
 
 -- the freeing of a set, or the release of a slot, goes on while a field is due; then a trial begins
 abbrev pub tested_on : Parts → Option At → Option Member → Next

@@ -22,6 +22,7 @@ private inside =
       trial = inside.parts.trial;
       prep = inside.parts.prep;
       sets = inside.parts.sets;
+      offers = inside.parts.offers;
       due = inside.sweep;
     }
 

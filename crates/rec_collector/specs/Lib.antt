@@ -5,6 +5,7 @@ pub mod Given
 pub mod Inside
 pub mod Kept
 pub mod Next
+pub mod Offered
 pub mod Parts
 pub mod Private
 pub mod Step

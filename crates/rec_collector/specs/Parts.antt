@@ -1,5 +1,5 @@
 -- The parts of the machine that work between a batch and a sweep.
-use Rattle.std.specs.Prelude.{ℕ, None, false}
+use Rattle.std.specs.Prelude.{ℕ, Bool, None, false}
 use Rattle.rec_counts.specs.Counts.{State}
 use Rattle.rec_release.specs.CycleFree as frees
 use Rattle.rec_release.specs.Release as releases
@@ -7,8 +7,8 @@ use Rattle.rec_sigma.specs.Prepare as preps
 use Rattle.rec_trial.specs.Trial as trials
 use Rattle.rec_collector.specs.declared.sets.Sets.{Sets}
 
--- the counts; the release, the freeing of a set, the trial and the preparation, each as far as it has come; and what became of the
--- sets that were tested
+-- the counts; the release, the freeing of a set, the trial and the preparation, each as far as it has come; what became of the
+-- sets that were tested; and whether every slot is to be offered to the next trial
 pub record Parts : Type 0 where
   pub counts : State
   pub release : releases.Machine
@@ -16,6 +16,7 @@ pub record Parts : Type 0 where
   pub trial : trials.Machine
   pub prep : preps.Machine
   pub sets : Sets
+  pub offers : Bool
 
 -- no set was tested
 abbrev pub no_sets : Sets
@@ -31,4 +32,5 @@ idle_parts counts fields =
       trial = trials.idle_of fields;
       prep = record { fields = fields; at = None };
       sets = no_sets;
+      offers = false;
     }

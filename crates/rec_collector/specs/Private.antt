@@ -1,5 +1,5 @@
 -- The collector's machine as a whole: plain data.
-use Rattle.std.specs.Prelude.{ℕ, ◌-◌, Option, None, Some, List, [], ◌∷◌, replicate, slice_index_or as item_at}
+use Rattle.std.specs.Prelude.{ℕ, ◌-◌, Bool, false, Option, None, Some, List, [], ◌∷◌, replicate, slice_index_or as item_at}
 use Rattle.rec_log.specs.declared.contents.Contents.{Contents}
 use Rattle.rec_counts.specs.Counts.{State, opened as opened_counts}
 use Rattle.rec_release.specs.CycleFree as frees
@@ -14,7 +14,8 @@ use Rattle.rec_collector.specs.declared.phase.Phase.TheVariants.{Idle}
 -- the requested epoch, the collections completed and the slots swept since opening, and the turns since the last collection;
 -- how far the collection has come; the registers and the room of each buffer; the counts; for each mutator the newer
 -- buffer, which is a spare until its mailbox was gathered, and the older one; the release, the freeing of a set, the trial and the
--- preparation; what became of the sets that were tested; and the slot that is swept next
+-- preparation; what became of the sets that were tested; whether every slot is to be offered to the next trial; and the slot that is
+-- swept next
 pub record Private : Type 0 where
   pub epoch : ℕ
   pub collections : ℕ
@@ -31,6 +32,7 @@ pub record Private : Type 0 where
   pub trial : Trial
   pub prep : preps.Machine
   pub sets : Sets
+  pub offers : Bool
   pub due : Option ℕ
 
 -- a buffer without entries that has these registers as its snapshot
@@ -68,6 +70,7 @@ opened slots fields registers mutators capacity first_epoch =
       trial = (idle_parts (opened_counts slots mutators) fields).trial;
       prep = (idle_parts (opened_counts slots mutators) fields).prep;
       sets = no_sets;
+      offers = false;
       due = None;
     }
 
@@ -77,7 +80,7 @@ buffer_at buffers place = item_at buffers place (blank 0 0)
 
 -- the parts that work between a batch and a sweep
 abbrev pub parts_of : Private → Parts
-parts_of p = record { counts = p.counts; release = p.release; freeing = p.freeing; trial = p.trial; prep = p.prep; sets = p.sets }
+parts_of p = record { counts = p.counts; release = p.release; freeing = p.freeing; trial = p.trial; prep = p.prep; sets = p.sets; offers = p.offers }
 
 abbrev pub with_parts : Private → Parts → Private
-with_parts p w = record p { counts = w.counts; release = w.release; freeing = w.freeing; trial = w.trial; prep = w.prep; sets = w.sets }
+with_parts p w = record p { counts = w.counts; release = w.release; freeing = w.freeing; trial = w.trial; prep = w.prep; sets = w.sets; offers = w.offers }

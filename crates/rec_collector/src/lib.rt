@@ -4,13 +4,15 @@
 //! A collection requests the next epoch, and gathers from each mutator the buffer that it retired on crossing. With the last
 //! buffer the batch is applied, and its zeros are released. Then the sets that the last collection found are tested, the last one
 //! first, and freed or refurbished; a trial is made from the roots, the sets that it finds are prepared for their tests, and what is
-//! free is swept. The machine never sees the words: `next` names one operation, whoever has the words carries it out, and `took`
+//! free is swept. Where `offer_all` has asked for that, the next trial begins by offering every slot: each that isn't released is then
+//! one of its roots. The machine never sees the words: `next` names one operation, whoever has the words carries it out, and `took`
 //! learns what was found.
 //! The rule that this crate keeps: what comes next and what is learnt are functions of the machine's private record and of
 //! the word found alone; an epoch is requested only after the last collection is complete, a batch is applied only once all
 //! mutators have crossed, and no collection takes more than a bounded number of turns, beside those in which it waits.
-//! The layer above may use that `next`, `took` and `swap_box` are exactly `next_of`, `took_of` and `swapped_of` of `specs/`,
-//! and the laws, which are the contracts of the functions in `laws`.
+//! The layer above may use that `next`, `took` and `swap_box` are exactly `next_of`, `took_of` and `swapped_of` of `specs/`, that
+//! `offer_all` changes nothing but whether every slot is offered to the next trial, and the laws, which are the contracts of the
+//! functions in `laws`.
 //! That mutators cross into an epoch one by one, and the collector counts an epoch behind them, is the idea of the paper "Java
 //! without the Coffee Breaks" (2001); the handshake by crossing words and mailboxes is this project's profile
 //! (`docs/PROFILE.md`). The two tests have their names from "Concurrent Cycle Collection in Reference Counted Systems" (2001).
@@ -19,6 +21,7 @@
 mod buffers;
 mod laws;
 mod machine;
+mod offer;
 mod parts;
 mod phase;
 mod sets;
@@ -27,7 +30,9 @@ mod tests;
 mod turn;
 mod verdict;
 
-pub use laws::{machine_makes_steps, machine_names_words, machines_stay_machines};
+pub use laws::{
+    machine_makes_steps, machine_names_words, machines_stay_machines, offers_are_whole,
+};
 pub use machine::Machine;
 pub use sets::Sets;
 pub use turn::Turn;

@@ -1,4 +1,4 @@
-ghost use Rattle.std.specs.Prelude.{◌≡◌, ◌≢◌, ◌+◌, ◌*◌, ◌^◌, ◌<◌, ◌≤◌, ◌↔◌, ℕ, None, [], length, IfOk, IfSome, IsNone, IsTrue};
+ghost use Rattle.std.specs.Prelude.{◌≡◌, ◌≢◌, ◌+◌, ◌*◌, ◌^◌, ◌<◌, ◌≤◌, ◌↔◌, ℕ, None, [], length, IfOk, IfSome, IsNone, IsTrue, true};
 ghost use Rattle.rec_word.specs.Op.{crossing_word};
 ghost use Rattle.rec_word.specs.Word.{target_of};
 ghost use Rattle.rec_counts.specs.Counts.{slot_at};
@@ -164,6 +164,15 @@ impl Machine {
         };
         self.phase = Phase::Returning { mutator };
         mem::replace(&mut self.newer[usize::from(mutator) - 1], buffer)
+    }
+
+    /// Makes the next trial begin by offering every slot: each that isn't released is then a candidate root.
+    pub fn offer_all(&mut self)
+        ensures offered { self.new ≡ record self.old { offers = true } }
+        ensures same { KeepsSizes self.old self.new }
+        ensures kept { IsMachine self.new }
+    {
+        self.parts.offer_all();
     }
 
     /// Whether a mailbox is held and its buffer waits to be swapped: then `swap_box` comes next.

@@ -1,4 +1,4 @@
-ghost use Rattle.std.specs.Prelude.{◌≡◌, ◌+◌, ◌<◌, ◌^◌, ℕ, None, [], length, IfSome, IsNone, IsSome, false};
+ghost use Rattle.std.specs.Prelude.{◌≡◌, ◌+◌, ◌<◌, ◌^◌, ℕ, None, [], length, IfSome, IsNone, IsSome, false, true};
 ghost use Rattle.rec_word.specs.Word.{target_of};
 ghost use Rattle.rec_counts.specs.Counts.{slot_at};
 ghost use Rattle.rec_apply.specs.Batch.{batch};
@@ -13,6 +13,7 @@ ghost use Rattle.rec_collector.specs.Given.{IsCovered};
 ghost use Rattle.rec_collector.specs.Parts.{idle_parts};
 ghost use Rattle.rec_collector.specs.Testing.{is_busy, last_tested, tested, zeros_released};
 
+use crate::offer::offer_slots;
 use crate::phase::Phase;
 use crate::sets::Sets;
 use crate::verdict::{Verdict, judge};
@@ -24,7 +25,8 @@ use rec_sigma::{Prep, refurbish};
 use rec_trial::Trial;
 use std::marker::Model;
 
-/// What works between a batch and a sweep: the counts, the four machines that work on them, and what became of the sets.
+/// What works between a batch and a sweep: the counts, the four machines that work on them, what became of the sets, and whether
+/// the next trial is offered every slot.
 #[derive(Debug, Drop)]
 pub(crate) struct Parts {
     pub(crate) counts: Counts,
@@ -33,6 +35,8 @@ pub(crate) struct Parts {
     pub(crate) trial: Trial,
     pub(crate) prep: Prep,
     pub(crate) sets: Sets,
+    // Whether every slot is to be offered to the next trial.
+    pub(crate) offers: bool,
 }
 
 impl Model for Parts {
@@ -40,7 +44,7 @@ impl Model for Parts {
 
     ghost Value = { Whole };
 
-    ghost view = { λ parts. record { counts = parts.counts; release = parts.release; freeing = parts.freeing; trial = parts.trial; prep = parts.prep; sets = parts.sets } };
+    ghost view = { λ parts. record { counts = parts.counts; release = parts.release; freeing = parts.freeing; trial = parts.trial; prep = parts.prep; sets = parts.sets; offers = parts.offers } };
 }
 
 impl Parts {
@@ -60,6 +64,7 @@ impl Parts {
                 delta: 0,
                 sigma: 0,
             },
+            offers: false,
         }
     }
 
@@ -130,6 +135,13 @@ impl Parts {
         self.after_preparation()
     }
 
+    /// Every slot is to be offered to the next trial.
+    pub(crate) fn offer_all(&mut self)
+        ensures { self.new ≡ record self.old { offers = true } }
+    {
+        self.offers = true;
+    }
+
     // The zeros of a batch are to be released. The answer is the phase that follows.
     fn release_zeros(&mut self) -> Phase
         requires clearing { IsClearing self.old }
@@ -171,7 +183,7 @@ impl Parts {
         if self.release.next().is_some() {
             return Phase::Releasing;
         }
-        self.trial.start(&mut self.counts);
+        self.start_trial();
         self.after_trial()
     }
 
@@ -215,6 +227,19 @@ impl Parts {
             refurbish(&mut self.counts, set);
             self.release.start(&mut self.counts, true);
         }
+    }
+
+    // A trial begins. Where that was asked for, every slot is offered to it.
+    fn start_trial(&mut self)
+        requires idle { IsNone (trial_next self.old.trial) }
+        requires ready { IsReadyForTrial self.old.counts }
+        ensures { self.new ≡ trial_started self.old }
+    {
+        if self.offers {
+            offer_slots(&mut self.counts);
+            self.offers = false;
+        }
+        self.trial.start(&mut self.counts);
     }
 
     // What follows once a trial has come so far: it goes on while it has work; then the sets that it found are prepared.

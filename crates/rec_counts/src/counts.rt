@@ -77,6 +77,13 @@ impl Counts {
         })
     }
 
+    /// How many slots there are.
+    pub fn slots(&self) -> u16
+        ensures { result ≡ length self.now.slots }
+    {
+        self.slots.len() as u16
+    }
+
     /// The true count of `slot`: how many references to it were counted.
     pub fn count(&self, slot: u16) -> u64
         requires { slot < length self.now.slots }

@@ -17,6 +17,6 @@ start-requires c = record { idle = no_load c.self.inside.prep (ap (λ (w : Parts
 
 pub returns : goal.returns
 returns c =
-    let w : Parts = record { counts = c.self.inside.counts; release = c.self.inside.release; freeing = c.self.inside.freeing; trial = c.self.inside.trial; prep = c.self.inside.prep; sets = c.self.inside.sets } in
+    let w : Parts = record { counts = c.self.inside.counts; release = c.self.inside.release; freeing = c.self.inside.freeing; trial = c.self.inside.trial; prep = c.self.inside.prep; sets = c.self.inside.sets; offers = c.self.inside.offers } in
     let e : is_some (trials.next_of w.trial) ≡ false = sym (ap (λ (o : Option Op). is_some o) c.next.ensures) ∙ sym c.is_some.ensures ∙ c.if-is_some.false in
     tried_ends w _ _ c.after_preparation.ensures c.start.ensures.started e ∙ ap tried c.self.view_is

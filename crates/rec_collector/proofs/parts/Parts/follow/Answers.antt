@@ -21,30 +21,28 @@ returns-then-is_some-2 c =
     let b : is_some (releases.next_of c.self-2.inside.release) ≡ true = sym (ap (λ (o : Option Op). is_some o) c.next-2.ensures.next) ∙ sym c.is_some-2.ensures ∙ c.if-is_some-2.true in
     follows c.args.self.now c.test_sets.new.self _ c.test_sets.ensures (subst (λ (w : Parts). next_in Releasing w ≡ tested_next w) c.self-2.view_is (tests_release _ e b))
 
-pub start-requires-clause-idle : goal.start-requires-clause-idle
-start-requires-clause-idle c =
-    let w : Parts = record { counts = c.self-2.inside.counts; release = c.self-2.inside.release; freeing = c.self-2.inside.freeing; trial = c.self-2.inside.trial; prep = c.self-2.inside.prep; sets = c.self-2.inside.sets } in
+pub start_trial-requires-clause-idle : goal.start_trial-requires-clause-idle
+start_trial-requires-clause-idle c =
     let kept : IsKeptCounts c.args.self.now.counts = subst (λ (v : Parts). IsKeptCounts v.counts) c.self.view_is c.rules.ensures in
-    (tested_still c.args.self.now w (c.self-2.view_is ∙ c.test_sets.ensures) kept c.requires.clearing c.requires.done c.requires.wide).idle
+    (tested_still c.args.self.now c.test_sets.new.self c.test_sets.ensures kept c.requires.clearing c.requires.done c.requires.wide).idle
 
-pub start-requires-clause-ready : goal.start-requires-clause-ready
-start-requires-clause-ready c =
-    let w : Parts = record { counts = c.self-2.inside.counts; release = c.self-2.inside.release; freeing = c.self-2.inside.freeing; trial = c.self-2.inside.trial; prep = c.self-2.inside.prep; sets = c.self-2.inside.sets } in
+pub start_trial-requires-clause-ready : goal.start_trial-requires-clause-ready
+start_trial-requires-clause-ready c =
+    let w : Parts = c.test_sets.new.self in
     let kept : IsKeptCounts c.args.self.now.counts = subst (λ (v : Parts). IsKeptCounts v.counts) c.self.view_is c.rules.ensures in
-    let e : is_some (frees.next_of w.freeing) ≡ false = sym (ap (λ (o : Option Op). is_some o) c.next.ensures.next) ∙ sym c.is_some.ensures ∙ c.if-is_some.false in
-    let b : is_some (releases.next_of w.release) ≡ false = sym (ap (λ (o : Option Op). is_some o) c.next-2.ensures.next) ∙ sym c.is_some-2.ensures ∙ c.if-is_some-2.false in
-    tested_ready c.args.self.now w (c.self-2.view_is ∙ c.test_sets.ensures) kept c.requires.clearing c.requires.done c.requires.wide
+    let e : is_some (frees.next_of w.freeing) ≡ false = ap (λ (v : Parts). is_some (frees.next_of v.freeing)) (sym c.self-2.view_is) ∙ sym (ap (λ (o : Option Op). is_some o) c.next.ensures.next) ∙ sym c.is_some.ensures ∙ c.if-is_some.false in
+    let b : is_some (releases.next_of w.release) ≡ false = ap (λ (v : Parts). is_some (releases.next_of v.release)) (sym c.self-2.view_is) ∙ sym (ap (λ (o : Option Op). is_some o) c.next-2.ensures.next) ∙ sym c.is_some-2.ensures ∙ c.if-is_some-2.false in
+    tested_ready c.args.self.now w c.test_sets.ensures kept c.requires.clearing c.requires.done c.requires.wide
     (none_of w.release.at (sym (release_next w.release) ∙ b)) (none_of w.freeing.at (sym (freeing_next w.freeing) ∙ e))
 
 pub after_trial-requires : goal.after_trial-requires
 after_trial-requires c =
-    let w : Parts = record { counts = c.self-2.inside.counts; release = c.self-2.inside.release; freeing = c.self-2.inside.freeing; trial = c.self-2.inside.trial; prep = c.self-2.inside.prep; sets = c.self-2.inside.sets } in
     let kept : IsKeptCounts c.args.self.now.counts = subst (λ (v : Parts). IsKeptCounts v.counts) c.self.view_is c.rules.ensures in
-    (tested_still c.args.self.now w (c.self-2.view_is ∙ c.test_sets.ensures) kept c.requires.clearing c.requires.done c.requires.wide).unprepared
+    ap (λ (v : Parts). v.prep.at) c.start_trial.ensures ∙ (tested_still c.args.self.now c.test_sets.new.self c.test_sets.ensures kept c.requires.clearing c.requires.done c.requires.wide).unprepared
 
 pub returns : goal.returns
 returns c =
-    let w : Parts = record { counts = c.self-2.inside.counts; release = c.self-2.inside.release; freeing = c.self-2.inside.freeing; trial = c.self-2.inside.trial; prep = c.self-2.inside.prep; sets = c.self-2.inside.sets } in
-    let e : is_some (frees.next_of w.freeing) ≡ false = sym (ap (λ (o : Option Op). is_some o) c.next.ensures.next) ∙ sym c.is_some.ensures ∙ c.if-is_some.false in
-    let b : is_some (releases.next_of w.release) ≡ false = sym (ap (λ (o : Option Op). is_some o) c.next-2.ensures.next) ∙ sym c.is_some-2.ensures ∙ c.if-is_some-2.false in
-    follows c.args.self.now w _ (c.self-2.view_is ∙ c.test_sets.ensures) (tests_try w _ _ e b c.after_trial.ensures c.start.ensures.started)
+    let w : Parts = c.test_sets.new.self in
+    let e : is_some (frees.next_of w.freeing) ≡ false = ap (λ (v : Parts). is_some (frees.next_of v.freeing)) (sym c.self-2.view_is) ∙ sym (ap (λ (o : Option Op). is_some o) c.next.ensures.next) ∙ sym c.is_some.ensures ∙ c.if-is_some.false in
+    let b : is_some (releases.next_of w.release) ≡ false = ap (λ (v : Parts). is_some (releases.next_of v.release)) (sym c.self-2.view_is) ∙ sym (ap (λ (o : Option Op). is_some o) c.next-2.ensures.next) ∙ sym c.is_some-2.ensures ∙ c.if-is_some-2.false in
+    follows c.args.self.now w _ c.test_sets.ensures (tests_try w c.start_trial.new.self _ e b c.after_trial.ensures c.start_trial.ensures)

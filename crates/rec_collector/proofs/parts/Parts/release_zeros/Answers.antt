@@ -11,18 +11,18 @@ start-requires-clause-idle c = no_release c.self.inside.release (ap (λ (w : Par
 
 pub follow-requires-clause-clearing : goal.follow-requires-clause-clearing
 follow-requires-clause-clearing c =
-    let w : Parts = record { counts = c.self.inside.counts; release = c.self.inside.release; freeing = c.self.inside.freeing; trial = c.self.inside.trial; prep = c.self.inside.prep; sets = c.self.inside.sets } in
+    let w : Parts = record { counts = c.self.inside.counts; release = c.self.inside.release; freeing = c.self.inside.freeing; trial = c.self.inside.trial; prep = c.self.inside.prep; sets = c.self.inside.sets; offers = c.self.inside.offers } in
     let e : with_release w (record { machine = c.start.new.self; counts = c.start.new.counts }) ≡ zeros_released false c.args.self.now = ap (λ (u : releases.Work). with_release w u) c.start.ensures.started ∙ ap (λ (v : Parts). zeros_released false v) c.self.view_is in
     (subst MayFollow (sym e) (zeros_follow c.args.self.now c.requires.clearing c.requires.still c.requires.unfreed c.requires.told c.requires.wide)).clearing
 
 pub follow-requires-clause-done : goal.follow-requires-clause-done
 follow-requires-clause-done c =
-    let w : Parts = record { counts = c.self.inside.counts; release = c.self.inside.release; freeing = c.self.inside.freeing; trial = c.self.inside.trial; prep = c.self.inside.prep; sets = c.self.inside.sets } in
+    let w : Parts = record { counts = c.self.inside.counts; release = c.self.inside.release; freeing = c.self.inside.freeing; trial = c.self.inside.trial; prep = c.self.inside.prep; sets = c.self.inside.sets; offers = c.self.inside.offers } in
     let e : with_release w (record { machine = c.start.new.self; counts = c.start.new.counts }) ≡ zeros_released false c.args.self.now = ap (λ (u : releases.Work). with_release w u) c.start.ensures.started ∙ ap (λ (v : Parts). zeros_released false v) c.self.view_is in
     (subst MayFollow (sym e) (zeros_follow c.args.self.now c.requires.clearing c.requires.still c.requires.unfreed c.requires.told c.requires.wide)).done
 
 pub follow-requires-clause-wide : goal.follow-requires-clause-wide
 follow-requires-clause-wide c =
-    let w : Parts = record { counts = c.self.inside.counts; release = c.self.inside.release; freeing = c.self.inside.freeing; trial = c.self.inside.trial; prep = c.self.inside.prep; sets = c.self.inside.sets } in
+    let w : Parts = record { counts = c.self.inside.counts; release = c.self.inside.release; freeing = c.self.inside.freeing; trial = c.self.inside.trial; prep = c.self.inside.prep; sets = c.self.inside.sets; offers = c.self.inside.offers } in
     let e : with_release w (record { machine = c.start.new.self; counts = c.start.new.counts }) ≡ zeros_released false c.args.self.now = ap (λ (u : releases.Work). with_release w u) c.start.ensures.started ∙ ap (λ (v : Parts). zeros_released false v) c.self.view_is in
     (subst MayFollow (sym e) (zeros_follow c.args.self.now c.requires.clearing c.requires.still c.requires.unfreed c.requires.told c.requires.wide)).wide

@@ -12,7 +12,7 @@ start-requires-clause-idle c = no_freeing c.self.inside.freeing (ap (λ (w : Par
 
 pub start-requires-clause-freeable : goal.start-requires-clause-freeable
 start-requires-clause-freeable c =
-    let w : Parts = record { counts = c.self.inside.counts; release = c.self.inside.release; freeing = c.self.inside.freeing; trial = c.self.inside.trial; prep = c.self.inside.prep; sets = c.self.inside.sets } in
+    let w : Parts = record { counts = c.self.inside.counts; release = c.self.inside.release; freeing = c.self.inside.freeing; trial = c.self.inside.trial; prep = c.self.inside.prep; sets = c.self.inside.sets; offers = c.self.inside.offers } in
     let some : 0 < length w.counts.sets = subst (λ (v : Parts). 0 < length v.counts.sets) (sym c.self.view_is) c.requires.some in
     let idle : is_busy w ≡ false = ap (λ (v : Parts). is_busy v) c.self.view_is ∙ c.requires.idle in
     let clearing : IsClearing w = subst IsClearing (sym c.self.view_is) c.requires.clearing in
@@ -22,7 +22,7 @@ start-requires-clause-freeable c =
 
 pub refurbish-requires : goal.refurbish-requires
 refurbish-requires c =
-    let w : Parts = record { counts = c.self.inside.counts; release = c.self.inside.release; freeing = c.self.inside.freeing; trial = c.self.inside.trial; prep = c.self.inside.prep; sets = c.self.inside.sets } in
+    let w : Parts = record { counts = c.self.inside.counts; release = c.self.inside.release; freeing = c.self.inside.freeing; trial = c.self.inside.trial; prep = c.self.inside.prep; sets = c.self.inside.sets; offers = c.self.inside.offers } in
     let some : 0 < length w.counts.sets = subst (λ (v : Parts). 0 < length v.counts.sets) (sym c.self.view_is) c.requires.some in
     let idle : is_busy w ≡ false = ap (λ (v : Parts). is_busy v) c.self.view_is ∙ c.requires.idle in
     let clearing : IsClearing w = subst IsClearing (sym c.self.view_is) c.requires.clearing in
@@ -39,12 +39,12 @@ start-requires-in_default c =
 
 pub returns-in-Passed : goal.returns-in-Passed
 returns-in-Passed c =
-    let w : Parts = record { counts = c.self.inside.counts; release = c.self.inside.release; freeing = c.self.inside.freeing; trial = c.self.inside.trial; prep = c.self.inside.prep; sets = c.self.inside.sets } in
+    let w : Parts = record { counts = c.self.inside.counts; release = c.self.inside.release; freeing = c.self.inside.freeing; trial = c.self.inside.trial; prep = c.self.inside.prep; sets = c.self.inside.sets; offers = c.self.inside.offers } in
     let verdict : c.judge-verdict.result ≡ verdict_of w.counts (length w.counts.sets - 1) = c.judge-verdict.ensures ∙ ap (λ n. verdict_of w.counts (n - 1)) c.sets-set.ensures in
     passed_last w c.judge-verdict.result _ _ verdict c.in-Passed.is c.start.ensures.started c.count.ensures ∙ ap last_tested c.self.view_is
 
 pub returns-in_default : goal.returns-in_default
 returns-in_default c =
-    let w : Parts = record { counts = c.self.inside.counts; release = c.self.inside.release; freeing = c.self.inside.freeing; trial = c.self.inside.trial; prep = c.self.inside.prep; sets = c.self.inside.sets } in
+    let w : Parts = record { counts = c.self.inside.counts; release = c.self.inside.release; freeing = c.self.inside.freeing; trial = c.self.inside.trial; prep = c.self.inside.prep; sets = c.self.inside.sets; offers = c.self.inside.offers } in
     let verdict : c.judge-verdict.result ≡ verdict_of w.counts (length w.counts.sets - 1) = c.judge-verdict.ensures ∙ ap (λ n. verdict_of w.counts (n - 1)) c.sets-set.ensures in
     refused_last w c.judge-verdict.result _ _ _ verdict c.in_default.not-Passed c.refurbish.ensures.settled c.start-in_default.ensures.started c.count.ensures ∙ ap last_tested c.self.view_is

@@ -1,0 +1,220 @@
+-- Every slot is offered to a trial: what that leaves of the counts, and that a trial may begin.
+use Rattle.std.proofs.Common.{◌≡◌, ◌≢◌, ℕ, zero, suc, ◌+◌, ◌<◌, ◌≤◌, Bool, true, false, eqb, cond, List, [], ◌∷◌, length, filter, refl, arith, sym, ◌∙◌, ap, subst, inl, inr}
+use Rattle.std.specs.List.{concat, range_with_len}
+use Rattle.std.proofs.lemmas.Bool.{cases_Bool, cases_eq, cases_lt, eq-eqb, ne_eqb}
+use Rattle.std.proofs.lemmas.List.{get_or_past, length-map}
+use Rattle.rec_counts.specs.declared.colour.Colour.{Colour}
+use Rattle.rec_counts.specs.declared.colour.Colour.TheVariants.{Purple, Orange}
+use Rattle.rec_counts.specs.declared.slot.Slot.{Slot}
+use Rattle.rec_counts.specs.Counts.{State, IsKept, slot_at}
+use Rattle.rec_counts.specs.Lists.{one, times}
+use Rattle.rec_counts.specs.Slot.{absent, is_in}
+use Rattle.rec_counts.proofs.Times.{times-append, times-cons, times-nil}
+use Rattle.rec_release.proofs.Giving.{mapped}
+use Rattle.rec_trial.specs.Moves.{is_gray, is_white}
+use Rattle.rec_trial.specs.Rules.{IsReady}
+use Rattle.rec_trial.specs.Still.{IsSeed}
+use Rattle.rec_collector.specs.Followed.{with_offers}
+use Rattle.rec_collector.specs.Offered.{offered, offered_if, offered_slot, offered_where, is_missing, is_missing_if, missing, AreOffered, KeepsOffered}
+use Rattle.rec_collector.specs.Parts.{Parts}
+use Rattle.rec_collector.proofs.Apart.{times_filter}
+use Rattle.rec_collector.proofs.Listing.{IsListed}
+
+-- a slot that is offered
+pub offered_at : (s : State) (x : ℕ) → slot_at (offered s) x ≡ offered_slot (slot_at s x)
+unfolding offered
+offered_at s x = mapped offered_slot s.slots x refl
+
+offered_true : (v : Slot) → v.released ≡ true → offered_slot v ≡ v
+offered_true v r = ap (λ b. offered_if b v) r
+
+offered_false : (v : Slot) → v.released ≡ false → offered_slot v ≡ record v { colour = Purple; buffered = true }
+offered_false v r = ap (λ b. offered_if b v) r
+
+-- it has a new colour and a new place at most
+stays : {A : Type 0} (f : Slot → A) → ((v : Slot) → f (record v { colour = Purple; buffered = true }) ≡ f v) → (s : State) (x : ℕ) → f (slot_at (offered s) x) ≡ f (slot_at s x)
+stays f h s x = ap f (offered_at s x) ∙ go (slot_at s x).released
+  where
+    go : (b : Bool) → f (offered_if b (slot_at s x)) ≡ f (slot_at s x)
+    go true = refl
+    go false = h (slot_at s x)
+
+pub offered_keeps : (s : State) → KeepsOffered s (offered s)
+unfolding offered
+offered_keeps s = record {
+  rest = record {
+    slots = length-map s.slots offered_slot;
+    sets = refl;
+    marked = refl;
+    work = refl;
+    free = refl;
+    released = stays (λ (v : Slot). v.released) (λ v. refl) s;
+    cyclic = stays (λ (v : Slot). v.cyclic) (λ v. refl) s;
+    set = stays (λ (v : Slot). v.set) (λ v. refl) s;
+  };
+  counts = stays (λ (v : Slot). v.count) (λ v. refl) s;
+  zeros = refl;
+}
+
+pub where_keeps : (offers : Bool) (s : State) → KeepsOffered s (offered_where offers s)
+where_keeps true s = offered_keeps s
+where_keeps false s = record {
+  rest = record { slots = refl; sets = refl; marked = refl; work = refl; free = refl; released = λ x. refl; cyclic = λ x. refl; set = λ x. refl };
+  counts = λ x. refl;
+  zeros = refl;
+}
+
+-- a number stands in a range once, where it is in it
+before_range : (x a n : ℕ) → x < a → times x (range_with_len a n) ≡ 0
+before_range x a zero l = times-nil x
+before_range x a (suc n) l =
+    let other : one (eqb x a) ≡ 0 = ap one (ne_eqb x a (λ e. omega (arith, e, l))) in
+    omega (arith, times-cons x a (range_with_len (a + 1) n), other, before_range x (a + 1) n (omega (arith, l)))
+
+past_range : (x a n : ℕ) → a + n ≤ x → times x (range_with_len a n) ≡ 0
+past_range x a zero l = times-nil x
+past_range x a (suc n) l =
+    let other : one (eqb x a) ≡ 0 = ap one (ne_eqb x a (λ e. omega (arith, e, l))) in
+    omega (arith, times-cons x a (range_with_len (a + 1) n), other, past_range x (a + 1) n (omega (arith, l)))
+
+-- so it stands once among those of a range that pass a test, where it passes
+once_passed : (p : ℕ → Bool) (x a n : ℕ) → a ≤ x → x < a + n → times x (filter p (range_with_len a n)) ≡ one (p x)
+once_passed p x a zero l h = absurd (omega (arith, l, h))
+once_passed p x a (suc n) l h = elim (cases_eq x a) [
+  | inl e ↦
+      let none : times x (filter p (range_with_len (a + 1) n)) ≡ 0 = omega (arith, times_filter p x (range_with_len (a + 1) n), before_range x (a + 1) n (omega (arith, e))) in
+      here (p a) (omega (arith, ap one (eq-eqb x a e))) none ∙ ap (λ y. one (p y)) (sym e)
+  | inr e ↦ there (p a) (omega (arith, ap one (ne_eqb x a e))) (once_passed p x (a + 1) n (first e) (omega (arith, h)))
+]
+  where
+    first : x ≢ a → a + 1 ≤ x
+    first e = omega (arith, e, l)
+
+    here : (b : Bool) → one (eqb x a) ≡ 1 → times x (filter p (range_with_len (a + 1) n)) ≡ 0 → times x (cond b (a ∷ filter p (range_with_len (a + 1) n)) (filter p (range_with_len (a + 1) n))) ≡ one b
+    here true e none = omega (arith, e, none, times-cons x a (filter p (range_with_len (a + 1) n)))
+    here false e none = none
+
+    there : (b : Bool) → one (eqb x a) ≡ 0 → times x (filter p (range_with_len (a + 1) n)) ≡ one (p x) → times x (cond b (a ∷ filter p (range_with_len (a + 1) n)) (filter p (range_with_len (a + 1) n))) ≡ one (p x)
+    there true e i = omega (arith, e, i, times-cons x a (filter p (range_with_len (a + 1) n)))
+    there false e i = i
+
+-- each slot that is missing from the buffers is added to the roots once
+pub missing_once : (s : State) (x : ℕ) → times x (missing s) ≡ one (is_missing (slot_at s x))
+missing_once s x = elim (cases_lt x (length s.slots)) [
+  | inl l ↦ once_passed (λ y. is_missing (slot_at s y)) x 0 (length s.slots) (omega arith) (omega (arith, l))
+  | inr l ↦
+      let none : one (is_missing (slot_at s x)) ≡ 0 = ap (λ (v : Slot). one (is_missing v)) (get_or_past s.slots x absent l) in
+      omega (arith, none, times_filter (λ y. is_missing (slot_at s y)) x (range_with_len 0 (length s.slots)), past_range x 0 (length s.slots) (omega (arith, l)))
+]
+
+offered_roots : (s : State) (x : ℕ) → times x (offered s).roots ≡ times x s.roots + one (is_missing (slot_at s x))
+unfolding offered
+offered_roots s x = omega (arith, times-append x s.roots (missing s), missing_once s x)
+
+buffered_now : (v : Slot) → one v.buffered + one (is_missing v) ≡ one (offered_slot v).buffered
+buffered_now v = go v.released v.buffered refl
+  where
+    go : (r b : Bool) → v.buffered ≡ b → one b + one (is_missing_if r b) ≡ one (offered_if r v).buffered
+    go true b e = omega (arith, ap one e)
+    go false true e = refl
+    go false false e = refl
+
+-- what always holds of the counts
+pub offered_kept : (s : State) → IsKept s → IsKept (offered s)
+unfolding offered
+offered_kept s k =
+    let keeps : KeepsOffered s (offered s) = offered_keeps s in
+    let many : length (offered s).slots ≡ length s.slots = keeps.rest.slots in
+    record {
+      buffers = λ x. omega (arith, k.buffers x, offered_roots s x, buffered_now (slot_at s x), ap (λ (v : Slot). one v.buffered) (offered_at s x));
+      numbers = λ i x. k.numbers i x ∙ ap (λ o. one (is_in i o)) (sym (keeps.rest.set x));
+      few_sets = omega (arith, k.few_sets, many);
+      marked_once = rw many k.marked_once;
+      work_once = rw many k.work_once;
+      zeros_once = rw many k.zeros_once;
+      free_once = rw many k.free_once;
+      few_slots = omega (arith, k.few_slots, many);
+    }
+
+-- a colour that a slot that isn't offered lacks, and which isn't Purple
+no_colour : (f : Colour → Bool) → f Purple ≡ false → (s : State) → ((x : ℕ) → f (slot_at s x).colour ≡ false) → (x : ℕ) → f (slot_at (offered s) x).colour ≡ false
+no_colour f p s h x = ap (λ (v : Slot). f v.colour) (offered_at s x) ∙ go (slot_at s x).released
+  where
+    go : (b : Bool) → f (offered_if b (slot_at s x)).colour ≡ false
+    go true = h x
+    go false = p
+
+-- a released slot is in the root buffer only where it was
+same_roots : (s : State) (x : ℕ) → (slot_at s x).released ≡ true → times x (offered s).roots ≡ times x s.roots
+same_roots s x r = let none : one (is_missing (slot_at s x)) ≡ 0 = ap (λ b. one (is_missing_if b (slot_at s x).buffered)) r in omega (arith, none, offered_roots s x)
+
+-- a trial may begin
+pub offered_ready : (s : State) → IsReady s → IsReady (offered s)
+offered_ready s r =
+    let keeps : KeepsOffered s (offered s) = offered_keeps s in
+    record {
+      sets = keeps.rest.sets ∙ r.sets;
+      marked = keeps.rest.marked ∙ r.marked;
+      work = keeps.rest.work ∙ r.work;
+      no_gray = no_colour is_gray refl s r.no_gray;
+      no_white = no_colour is_white refl s r.no_white;
+      unlisted = λ x h t.
+          let q : (slot_at s x).released ≡ true = sym (keeps.rest.released x) ∙ t in
+          ap (times x) keeps.rest.free ∙ r.unlisted x (omega (arith, h, same_roots s x q)) q;
+    }
+
+pub where_ready : (offers : Bool) (s : State) → IsReady s → IsReady (offered_where offers s)
+where_ready true s r = offered_ready s r
+where_ready false s r = r
+
+pub where_kept : (offers : Bool) (s : State) → IsKept s → IsKept (offered_where offers s)
+where_kept true s k = offered_kept s k
+where_kept false s k = k
+
+-- the released slots are where they were
+pub offered_listed : (s : State) → IsListed s → IsListed (offered s)
+offered_listed s l =
+    let keeps : KeepsOffered s (offered s) = offered_keeps s in
+    record {
+      listed = λ x i t.
+          let q : (slot_at s x).released ≡ true = sym (keeps.rest.released x) ∙ t in
+          omega (arith, l.listed x (omega (arith, i, keeps.rest.slots)) q, same_roots s x q, ap (times x) keeps.rest.free);
+      only = λ x h. keeps.rest.released x ∙ l.only x (omega (arith, h, ap (times x) keeps.rest.free));
+      unbuffered = λ x h.
+          let there : 0 < times x s.free = omega (arith, h, ap (times x) keeps.rest.free) in
+          ap (λ (v : Slot). v.buffered) (offered_at s x ∙ offered_true (slot_at s x) (l.only x there)) ∙ l.unbuffered x there;
+    }
+
+pub where_listed : (offers : Bool) (s : State) → IsListed s → IsListed (offered_where offers s)
+where_listed true s l = offered_listed s l
+where_listed false s l = l
+
+-- no slot is Orange where none was
+pub where_uncoloured : (offers : Bool) (s : State) → ((x : ℕ) → (slot_at s x).colour ≢ Orange) → (x : ℕ) → (slot_at (offered_where offers s) x).colour ≢ Orange
+where_uncoloured false s h = h
+where_uncoloured true s h = λ x e. elim (cases_Bool (slot_at s x).released) [
+  | inl r ↦ h x (sym (ap (λ (v : Slot). v.colour) (offered_at s x ∙ offered_true (slot_at s x) r)) ∙ e)
+  | inr r ↦ other (sym (ap (λ (v : Slot). v.colour) (offered_at s x ∙ offered_false (slot_at s x) r)) ∙ e)
+]
+  where
+    other : Purple ≢ Orange
+    other e = cc
+
+-- where no set is left, each slot that isn't released is a candidate root
+all_offered : (s : State) → IsKept s → s.sets ≡ [] → AreOffered s (offered s)
+all_offered s k none = record { seeds = seed; keeps = offered_keeps s }
+  where
+    seed : (x : ℕ) → (slot_at s x).released ≡ false → IsSeed (offered s) x
+    seed x r =
+        let whole : slot_at (offered s) x ≡ record (slot_at s x) { colour = Purple; buffered = true } = offered_at s x ∙ offered_false (slot_at s x) r in
+        let in_sets : times x (concat s.sets) ≡ 0 = ap (λ (sets : List (List ℕ)). times x (concat sets)) none ∙ times-nil x in
+        let now : one (offered_slot (slot_at s x)).buffered ≡ 1 = ap (λ (v : Slot). one v.buffered) (offered_false (slot_at s x) r) in
+        record {
+          root = omega (arith, offered_roots s x, k.buffers x, in_sets, buffered_now (slot_at s x), now);
+          purple = ap (λ (v : Slot). v.colour) whole;
+          unreleased = ap (λ (v : Slot). v.released) whole ∙ r;
+        }
+
+-- where that was asked for they are offered, and once
+pub offers_whole : (w : Parts) → w.offers ≡ true → IsKept w.counts → w.counts.sets ≡ [] → AreOffered w.counts (with_offers w).counts × ((with_offers w).offers ≡ false)
+offers_whole w e k none = (subst (AreOffered w.counts) (ap (λ b. offered_where b w.counts) (sym e)) (all_offered w.counts k none), refl)
