@@ -43,11 +43,11 @@ crossed_by before after t None crossed = inl crossed
 crossed_by before after t (Some epoch) crossed = inr (crossed.1 ∙ crossed.0, crossed.2)
 
 -- A poll.
-pub polled_by : (before after : Core) (t : ℕ) (x : Option ℕ) → before.marked ≡ false → IsQuiet before after t → IsCrossedTo before after t x → is_busy (mutator after t) ≡ false → IsWorld after → IsWorked before t works.Poll after
+pub polled_by : (before after : Core) (t : ℕ) (x : Option ℕ) → IsQuiet before after t → IsCrossedTo before after t x → is_busy (mutator after t) ≡ false → IsWorld after → IsWorked before t works.Poll after
     → Polled before after t
-polled_by before after t x unmarked quiet crossed idle world worked =
+polled_by before after t x quiet crossed idle world worked =
     record {
-      stays = record { config = quiet.config; unmarked = quiet.marked ∙ unmarked; slots = ap (λ (s : Sight). length s.headers) quiet.seen; sound = world.shaped.sound };
+      stays = record { config = quiet.config; slots = ap (λ (s : Sight). length s.headers) quiet.seen; sound = world.shaped.sound };
       mutators = record { others = quiet.others; idle = idle };
       collector = quiet.collector;
       freed = quiet.freed;
@@ -65,12 +65,12 @@ sweep_slots before after (marks named headers freed freed_one none) = ap (length
 sweep_slots before after (frees slot named there taken out odd headers freed) = ap (length {A = ℕ}) headers ∙ length-set before.headers slot 0
 
 -- A turn of the collector.
-pub turned_by : (before after : Core) → after.config ≡ before.config → after.marked ≡ false → IsSweep before after → IsWorld after → after.mutators ≡ before.mutators
+pub turned_by : (before after : Core) → after.config ≡ before.config → IsSweep before after → IsWorld after → after.mutators ≡ before.mutators
     → ((heap : Heap) (number : ℕ → ℕ) → StandsBy heap (sight before) number → StandsBy heap (sight after) number) → after.made ≡ before.made → after.epoch ≤ before.epoch + 1 → after ≡ turned before → Turned before after
-turned_by before after config unmarked sweep world mutators stands made requested step =
+turned_by before after config sweep world mutators stands made requested step =
     record {
       step = step;
-      stays = record { config = config; unmarked = unmarked; slots = sweep_slots before after sweep; sound = world.shaped.sound };
+      stays = record { config = config; slots = sweep_slots before after sweep; sound = world.shaped.sound };
       mutators = mutators;
       stands = stands;
       sweep = sweep;

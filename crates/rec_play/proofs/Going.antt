@@ -52,7 +52,6 @@ pub record PlayedSo (script : Contents) (world : Core) (lines : List (List Line)
   pub logged : (t : ℕ) → 0 < t → t ≤ length script.commands → log_length world t ≤ length (own lines (t - 1))
   pub stamps : (i v : ℕ) (d : Event) → slice_get events i ≡ Some d → left_by d ≡ Some v → HasEntry script world (stamp_of v)
   pub config : world.config ≡ config_of script
-  pub unmarked : world.marked ≡ false
   pub idle : AreIdle world
 
 -- a mutator's commands fit its log
@@ -203,14 +202,12 @@ one_more script before after lines order events t cmd told next done so =
       logged = logged_more script before after lines order events t cmd told next done so;
       stamps = stamps_more script before after lines order events t cmd told next done so;
       config = done.stays.config ∙ so.config;
-      unmarked = done.stays.unmarked;
       idle = others_idle before after t done.stays.config done.mutators.others done.mutators.idle so.idle;
     }
 
 -- What a change that answers nothing leaves of the mutators.
 record IsUntold (before after : Core) : Type 0 where
   config : after.config ≡ before.config
-  unmarked : after.marked ≡ false
   idle : AreIdle before → AreIdle after
   advances : (t : ℕ) → 0 < t → Advances before after t
   logged : (t : ℕ) → 0 < t → log_length after t ≤ log_length before t
@@ -232,7 +229,6 @@ untold script before after lines order events done shows so =
           omega arith;
       stamps = λ i v d there left. entry_stays script before after (stamp_of v) done.advances (so.stamps i v d there left);
       config = done.config ∙ so.config;
-      unmarked = done.unmarked;
       idle = done.idle so.idle;
     }
 
@@ -257,7 +253,6 @@ untold_event script before after lines order events e no_actor no_word legal don
         | inr last ↦ absurd (let none : left_by d ≡ None = ap left_by (sym last.1) ∙ no_word in cc)
       ];
       config = done.config ∙ so.config;
-      unmarked = done.unmarked;
       idle = done.idle so.idle;
     }
 
@@ -271,7 +266,6 @@ polled_untold before after t done =
     let (advances, logged) = crossed_advances before after t done.crossed in
     record {
       config = done.stays.config;
-      unmarked = done.stays.unmarked;
       idle = others_idle before after t done.stays.config done.mutators.others done.mutators.idle;
       advances = all_advance before after t done.mutators.others advances;
       logged = λ s some. elim (cases_eq s t) [
@@ -292,7 +286,6 @@ turned_untold before after done =
     let same : (t : ℕ) → mutator after t ≡ mutator before t = λ t. ap (λ (ps : List Private). slice_index_or ps (t - 1) nobody) done.mutators in
     record {
       config = done.stays.config;
-      unmarked = done.stays.unmarked;
       idle = λ all t there. ap is_busy (same t) ∙ all t (subst (λ (c : Config). IsMutator c t) done.stays.config there);
       advances = λ t some. advances_same before after t (same t);
       logged = λ t some. let stays : log_length after t ≡ log_length before t = ap (λ (p : Private). length p.log.entries) (same t) in omega arith;
@@ -352,7 +345,6 @@ begun script lines is one_each empty =
       logged = λ t t_some most. let none : log_length (opened (config_of script)) t ≡ 0 = ap (λ (p : Private). length p.log.entries) (mutator_opened (config_of script) t (t_some, most)) in omega arith;
       stamps = λ i v d there left. cc;
       config = refl;
-      unmarked = refl;
       idle = λ t there. ap is_busy (mutator_opened (config_of script) t there);
     }
 

@@ -28,10 +28,9 @@ use Rattle.rec_play.specs.Run.{commands_of, WaitsFor}
 abbrev pub AreIdle : Core → Type 0
 AreIdle w = (t : ℕ) → IsMutator w.config t → is_busy (mutator w t) ≡ false
 
--- what a turn of any actor leaves of the heap as a whole: its numbers, and that it isn't marked; and it is sound
+-- what a turn of any actor leaves of the heap as a whole: its numbers, and that it is sound
 pub record Stays (before after : Core) : Type 0 where
   pub config : after.config ≡ before.config
-  pub unmarked : after.marked ≡ false
   pub slots : length after.headers ≡ length before.headers
   pub sound : IsSound (sight after)
 

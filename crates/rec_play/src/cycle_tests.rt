@@ -21,9 +21,6 @@ const COLLECTIONS: u32 = 5;
 
 // The collector makes a turn. Where it waits for a mutator, that mutator polls.
 fn turn(world: &mut World) {
-    if world.marked() {
-        return;
-    }
     if let Turn::Waiting { mutator } = world.turn() {
         poll(world, mutator);
     }
@@ -31,7 +28,7 @@ fn turn(world: &mut World) {
 
 fn poll(world: &mut World, t: u8) {
     let any = Cmd::Null { reg: 0 };
-    if world.valid(t, &any) && !world.busy(t) && !world.marked() {
+    if world.valid(t, &any) && !world.busy(t) {
         world.poll(t);
     }
 }

@@ -1,6 +1,6 @@
 //! The commands of a script, carried out in the order of the playing rule.
 
-ghost use Rattle.std.specs.Prelude.{◌≡◌, ◌⊎◌, ℕ, ◌+◌, ◌-◌, ◌<◌, ◌≤◌, List, [], ◌∷◌, ◌++◌, Some, false, length, take, slice_get, slice_index_or};
+ghost use Rattle.std.specs.Prelude.{◌≡◌, ◌⊎◌, ℕ, ◌+◌, ◌-◌, ◌<◌, ◌≤◌, List, [], ◌∷◌, ◌++◌, Some, length, take, slice_get, slice_index_or};
 ghost use Rattle.std.specs.List.{sum};
 ghost use Rattle.rec_model.specs.LegalOrder.{Event};
 ghost use Rattle.rec_model.specs.Sight.{StandsFor};
@@ -44,7 +44,7 @@ pub fn play(
         × (world.new.made ≡ length (last_moment script.now events).heap.objects) }
     ensures order { order.new.list ≡ order_of (lengths_of script.now) seed turns }
     ensures config { world.new.config ≡ config_of script.now }
-    ensures unmarked { world.new.marked ≡ false }
+    ensures idle { AreIdle world.new }
 
     // Each of the collector's turns requests one epoch more at most.
     ensures epochs { world.new.epoch ≤ 1 + turns }
@@ -79,7 +79,6 @@ fn give_turn(script: &Script, t: u8, world: &mut World, journal: &mut Journal, o
     requires some { 1 ≤ t }
     requires most { t ≤ length script.now.commands }
     requires config { world.old.config ≡ config_of script.now }
-    requires unmarked { world.old.marked ≡ false }
     requires idle { AreIdle world.old }
     requires next { length journal.old.lines < length (slice_index_or script.now.commands (t - 1) []) }
     requires journal_room { 0 < journal.old.room }
@@ -106,7 +105,6 @@ fn give_turn(script: &Script, t: u8, world: &mut World, journal: &mut Journal, o
 // comes in which it could cross.
 fn give_collector_turn(script: &Script, world: &mut World, journals: &[Journal])
     requires config { world.old.config ≡ config_of script.now }
-    requires unmarked { world.old.marked ≡ false }
     requires idle { AreIdle world.old }
     requires journals { length journals.now ≡ length script.now.commands }
     requires few { (t : ℕ) → noted journals.now t ≤ length (slice_index_or script.now.commands (t - 1) []) }

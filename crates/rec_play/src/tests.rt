@@ -200,7 +200,7 @@ fn open_wide(alloc: Global, script: &Script, slots: u32) -> Result<World, Fail> 
 
 // The answer to a command, where it may be asked.
 fn ask(world: &mut World, t: u8, cmd: Cmd) -> Option<Answer> {
-    if !world.valid(t, &cmd) || world.busy(t) || world.marked() {
+    if !world.valid(t, &cmd) || world.busy(t) {
         return None;
     }
     Some(world.command(t, cmd).answer)

@@ -1,5 +1,4 @@
-pub mod Counting
-pub mod Held
+pub mod Counted
 pub mod Lines
 pub mod Numbers
 pub mod Rows

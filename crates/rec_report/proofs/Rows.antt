@@ -1,5 +1,5 @@
--- The rows of a world's listing, one after another, and what a numbering of its slots is given.
-use Rattle.std.proofs.Common.{◌≡◌, inl, inr, ℕ, ◌+◌, ◌-◌, ◌*◌, ◌<◌, ◌++◌, true, List, [], ◌∷◌, Option, None, Some, map, take, length, get_or, refl, sym, ◌∙◌, ap, subst, arith, append_assoc}
+-- The rows of a settled world's listing, one after another.
+use Rattle.std.proofs.Common.{◌≡◌, inl, inr, ℕ, ◌+◌, ◌-◌, ◌*◌, ◌<◌, ◌≤◌, ◌++◌, true, List, [], ◌∷◌, Option, None, Some, map, take, length, get_or, refl, sym, ◌∙◌, ap, subst, arith, append_assoc}
 use Rattle.std.specs.Prelude.{option_map, slice_range, unwrap_or}
 use Rattle.std.proofs.lemmas.Bool.{cases_eq, ne_eqb}
 use Rattle.std.proofs.lemmas.List.{get_or-map, length-map, take-map}
@@ -13,10 +13,14 @@ use Rattle.rec_model.specs.Listing.{Row, number_in, slot_row, ListsSlots}
 use Rattle.rec_model.proofs.Members.{is_in-head, is_in-tail}
 use Rattle.rec_model.proofs.Numbered.{lists_reached}
 use Rattle.rec_world.specs.Numbering.{Numbered, number_of}
-use Rattle.rec_world.specs.World.{Core, sight, label_of}
-use Rattle.rec_report.specs.Report.{IsNumbered, AreHolders}
+use Rattle.rec_counts.specs.Counts.{slot_at}
+use Rattle.rec_world.specs.Settled.{IsSettled}
+use Rattle.rec_world.specs.World.{Core, sight, label_of, IsWorld}
+use Rattle.rec_world.proofs.Filled.{reached_below, fields_end}
+use Rattle.rec_world.proofs.Names.{names_sound}
+use Rattle.rec_report.specs.Report.{IsNumbered}
 use Rattle.rec_report.specs.Text.{field_number, live_line, row_line, row_lines}
-use Rattle.rec_report.proofs.Held.{own_words}
+use Rattle.rec_report.proofs.Counted.{counted_holders}
 use Rattle.rec_report.proofs.Lines.{added, next_numbered}
 
 -- what a listed object's fields lead to is listed
@@ -46,15 +50,35 @@ header_label header = elim (cases_eq header 0) [
   | inr apart ↦ rw (ne_eqb header 0 apart) refl
 ]
 
+-- a listed slot is one of the slots, and its words stand among all
+pub listed_below : (w : Core) (fields : ℕ) (n : Numbered) (i : ℕ) → IsWorld w → IsNumbered w fields n → i < length n.list → get_or n.list i 0 < w.config.slots
+listed_below w fields n i world numbered within =
+    let below : get_or n.list i 0 < length w.headers = reached_below (sight w) (length w.headers) (names_sound (sight w) world.shaped.sound) (get_or n.list i 0) (All-get_or (Reaches (sight w)) n.list i 0 within numbered.numbers.reached) in
+    let all : length w.headers ≡ w.config.slots = world.shaped.headers in
+    omega arith
+
+-- the words of a listed slot stand among all
+pub words_end : (w : Core) (fields : ℕ) (n : Numbered) (i slot wide again : ℕ) (words list : List ℕ) → IsWorld w → IsNumbered w fields n → list ≡ n.list → i < length list → slot ≡ get_or list i 0 → wide ≡ fields → again ≡ fields → words ≡ w.words → slot * wide + again ≤ length words
+words_end w fields n i slot wide again words list world numbered same within at e f all =
+    let below : slot < w.config.slots = rw (at, same) (listed_below w fields n i world numbered (rw same at within)) in
+    let end : slot * w.config.fields + w.config.fields ≤ w.config.slots * w.config.fields = fields_end slot w.config.slots w.config.fields below in
+    let size : length w.words ≡ w.config.slots * w.config.fields = world.shaped.sound.places ∙ ap (λ k. k * w.config.fields) world.shaped.headers in
+    rw (e, f, numbered.same_fields, all, size) end
+
+-- the words that were read are the slot's
+own_words : (w : Core) (fields slot wide again : ℕ) (words : List ℕ) → fields ≡ w.config.fields → wide ≡ fields → again ≡ fields → words ≡ w.words → slice_range words (slot * wide) (slot * wide + again) ≡ words_of (sight w) slot
+own_words w fields slot wide again words size e f all = rw (e, f, size, all) refl
+
 abbrev row_of : ℕ → ℕ → List (Option ℕ) → Row
 row_of label count fields = record { label = label; count = count; fields = fields }
 
--- the row that is read off a listed slot
-pub read_row : (w : Core) (fields : ℕ) (n : Numbered) (i slot wide again label count : ℕ) (found : Option ℕ) (words counts : List ℕ) → IsNumbered w fields n → AreHolders w n.list counts → i < length n.list → slot ≡ get_or n.list i 0 → wide ≡ fields → again ≡ fields → words ≡ w.words → found ≡ label_of (get_or w.headers slot 0) → label ≡ unwrap_or found 0 → count ≡ get_or counts slot 0 → row_of label count (map (λ word. field_number n.list (target_of word)) (slice_range words (slot * wide) (slot * wide + again))) ≡ slot_row (sight w) n.list (get_or n.list i 0)
-read_row w fields n i slot wide again label count found words counts numbered held within at e f all look opened counted =
+-- the row that is read off a listed slot, with its true count
+pub read_row : (w : Core) (fields : ℕ) (n : Numbered) (i slot wide again label count : ℕ) (found : Option ℕ) (words : List ℕ) → IsWorld w → IsSettled w → IsNumbered w fields n → i < length n.list → slot ≡ get_or n.list i 0 → wide ≡ fields → again ≡ fields → words ≡ w.words → found ≡ label_of (get_or w.headers slot 0) → label ≡ unwrap_or found 0 → count ≡ (slot_at w.collector.counts slot).count → row_of label count (map (λ word. field_number n.list (target_of word)) (slice_range words (slot * wide) (slot * wide + again))) ≡ slot_row (sight w) n.list (get_or n.list i 0)
+read_row w fields n i slot wide again label count found words world settled numbered within at e f all look opened counted =
     let reached : Reaches (sight w) slot = subst (Reaches (sight w)) (sym at) (All-get_or (Reaches (sight w)) n.list i 0 within numbered.numbers.reached) in
+    let listed : is_in slot n.list ≡ true = (lists_reached (roots (sight w).registers) (targets_of (sight w)) n.list numbered.numbers slot).0 reached in
     ap (λ k. row_of k count (map (λ word. field_number n.list (target_of word)) (slice_range words (slot * wide) (slot * wide + again)))) (opened ∙ ap (λ x. unwrap_or x 0) look ∙ header_label (get_or w.headers slot 0))
-    ∙ ap (λ k. row_of (get_or w.headers slot 0 - 1) k (map (λ word. field_number n.list (target_of word)) (slice_range words (slot * wide) (slot * wide + again)))) (counted ∙ held.each slot)
+    ∙ ap (λ k. row_of (get_or w.headers slot 0 - 1) k (map (λ word. field_number n.list (target_of word)) (slice_range words (slot * wide) (slot * wide + again)))) (counted ∙ counted_holders w n.list world settled numbered.numbers slot listed)
     ∙ ap (row_of (get_or w.headers slot 0 - 1) (holders_of (sight w) n.list slot)) (
     ap (map (λ word. field_number n.list (target_of word))) (own_words w fields slot wide again words numbered.same_fields e f all)
     ∙ slot_fields (sight w) n.list slot numbered.numbers reached)
@@ -76,10 +100,10 @@ row_step first so_far more line w list i row within e f is g =
     ∙ ap (λ l. row_lines (map (slot_row (sight w) list) (take i list)) ++ l ∷ []) (sym f))
 
 -- the same where the slot was read off the list
-pub row_read : (w : Core) (fields : ℕ) (n : Numbered) (i slot wide again label count : ℕ) (found : Option ℕ) (words counts now : List ℕ) → IsNumbered w fields n → AreHolders w n.list counts → now ≡ n.list → i < length n.list → slot ≡ get_or now i 0 → wide ≡ fields → again ≡ fields → words ≡ w.words → found ≡ label_of (get_or w.headers (get_or now i 0) 0) → label ≡ unwrap_or found 0 → count ≡ get_or counts (get_or now i 0) 0 → row_of label count (map (λ word. field_number n.list (target_of word)) (slice_range words (slot * wide) (slot * wide + again))) ≡ slot_row (sight w) n.list (get_or n.list i 0)
-row_read w fields n i slot wide again label count found words counts now numbered held same within at e f all look opened counted =
-    read_row w fields n i slot wide again label count found words counts numbered held within (at ∙ ap (λ ns. get_or ns i 0) same) e f all
-    (look ∙ ap (λ s. label_of (get_or w.headers s 0)) (sym at)) opened (counted ∙ ap (λ s. get_or counts s 0) (sym at))
+pub row_read : (w : Core) (fields : ℕ) (n : Numbered) (i slot wide again label count : ℕ) (found : Option ℕ) (words now : List ℕ) → IsWorld w → IsSettled w → IsNumbered w fields n → now ≡ n.list → i < length n.list → slot ≡ get_or now i 0 → wide ≡ fields → again ≡ fields → words ≡ w.words → found ≡ label_of (get_or w.headers (get_or now i 0) 0) → label ≡ unwrap_or found 0 → count ≡ (slot_at w.collector.counts (get_or now i 0)).count → row_of label count (map (λ word. field_number n.list (target_of word)) (slice_range words (slot * wide) (slot * wide + again))) ≡ slot_row (sight w) n.list (get_or n.list i 0)
+row_read w fields n i slot wide again label count found words now world settled numbered same within at e f all look opened counted =
+    read_row w fields n i slot wide again label count found words world settled numbered within (at ∙ ap (λ ns. get_or ns i 0) same) e f all
+    (look ∙ ap (λ s. label_of (get_or w.headers s 0)) (sym at)) opened (counted ∙ ap (λ s. (slot_at w.collector.counts s).count) (sym at))
 
 -- a listing behind the number of its rows
 pub listed : (w : Core) (n : Numbered) (list : List ℕ) (live : ℕ) (first line more : List (List ℕ)) (head : List ℕ) → NumbersSlots (sight w) n.list → list ≡ n.list → live ≡ length list → head ≡ live_line live → line ≡ first ++ head ∷ [] → more ≡ line ++ row_lines (map (slot_row (sight w) n.list) n.list) → (rows : List Row) × ListsSlots (sight w) rows × (live ≡ length rows) × (more ≡ first ++ live_line live ∷ row_lines rows)

@@ -1,3 +1,2 @@
-pub mod Holders
 pub mod Report
 pub mod Text

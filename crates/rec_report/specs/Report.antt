@@ -1,6 +1,6 @@
 -- What a report is made from.
-use Rattle.std.specs.Prelude.{◌≡◌, ℕ, List, length, slice_index_or}
-use Rattle.rec_model.specs.Sight.{NumbersSlots, holders_of}
+use Rattle.std.specs.Prelude.{◌≡◌, ℕ, length}
+use Rattle.rec_model.specs.Sight.{NumbersSlots}
 use Rattle.rec_world.specs.World.{Core, sight}
 use Rattle.rec_world.specs.Numbering.{Numbered}
 use Rattle.rec_script.specs.Script.{Contents}
@@ -14,11 +14,5 @@ pub record AreFor (script : Contents) (w : Core) : Type 0 where
 
 -- the numbering of a world's listing, and how many fields an object has
 pub record IsNumbered (w : Core) (fields : ℕ) (n : Numbered) : Type 0 where
-  pub slots : n.slots ≡ w.config.slots
   pub same_fields : fields ≡ w.config.fields
   pub numbers : NumbersSlots (sight w) n.list
-
--- for each slot how many registers and fields of listed slots hold it
-pub record AreHolders (w : Core) (list counts : List ℕ) : Type 0 where
-  pub slots : length counts ≡ w.config.slots
-  pub each : (slot : ℕ) → slice_index_or counts slot 0 ≡ holders_of (sight w) list slot

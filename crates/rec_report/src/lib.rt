@@ -8,13 +8,12 @@
 
 ghost use Rattle.std.specs.Prelude.{◌≡◌, ◌+◌, ◌<◌, ◌≤◌, ◌^◌, ◌++◌, ◌∷◌, [], List, map, count_by, length, option_map, slice_index_or, IfOk, IfSome, OnOk};
 ghost use Rattle.rec_model.specs.Listing.{Row, ListsSlots};
-ghost use Rattle.rec_model.specs.Sight.{IsCollected};
+ghost use Rattle.rec_world.specs.Settled.{IsSettled};
 ghost use Rattle.rec_world.specs.World.{sight};
 ghost use Rattle.rec_report.specs.Report.{AreFor};
 ghost use Rattle.rec_report.specs.Text.{IsOrderOf, is_refused, refusals, play_lines};
 
 mod answer;
-mod holders;
 mod line;
 mod listing;
 mod page;
@@ -56,11 +55,11 @@ pub fn text(
     world: &World,
 ) -> Result<Text, NoMemory>
     // The script's numbers are the world's, there is one journal per mutator, an order names each mutator as often as its
-    // journal has lines and nobody else, and just what a register reaches is taken.
+    // journal has lines and nobody else, and the world is settled.
     requires script { AreFor script.now world.now }
     requires journals { length journals.now ≡ world.now.config.mutators }
     requires order { IfSome order (λ turns. IsOrderOf (map (λ journal. journal.lines) journals.now) turns.now.list) }
-    requires collected { IsCollected (sight world.now) }
+    requires settled { IsSettled world.now }
 
     // The rows are those read off the slots. Wherever a heap that never frees stands for the world, they are its listing.
     ensures lines { IfOk result (λ text. (rows : List Row) × ListsSlots (sight world.now) rows × (text ≡ play_lines (map (λ journal. journal.lines) journals.now) (option_map (λ turns. turns.now.list) order.entry) rows world.now.made)) }

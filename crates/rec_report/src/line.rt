@@ -72,12 +72,12 @@ impl Line {
         Ok(Line::of(format!(in alloc; "live {live}\n")?))
     }
 
-    /// The live object with this number: `words` are those of its fields.
+    /// The live object with this number and this true count: `words` are those of its fields.
     pub(super) fn row(
         alloc: Global,
         number: usize,
         label: u32,
-        count: u32,
+        count: u64,
         words: &[u64],
         numbering: &Numbering,
     ) -> Result<Line, NoMemory>
@@ -106,7 +106,7 @@ impl Line {
 }
 
 /// The line of a live object without its fields.
-fn row_head(alloc: Global, number: usize, label: u32, count: u32) -> Result<String, NoMemory>
+fn row_head(alloc: Global, number: usize, label: u32, count: u64) -> Result<String, NoMemory>
     ensures { IfOk result (λ text. string_bytes text ≡ head_of number label count) }
 {
     format!(in alloc; "#{number} label {label} count {count} fields")

@@ -2,11 +2,11 @@
 
 ghost use Rattle.std.specs.Prelude.{◌≡◌, ◌++◌, ◌∷◌, List, length, map, IfOk, OnOk};
 ghost use Rattle.rec_model.specs.Listing.{Row, slot_row, ListsSlots};
+ghost use Rattle.rec_world.specs.Settled.{IsSettled};
 ghost use Rattle.rec_world.specs.World.{sight};
-ghost use Rattle.rec_report.specs.Report.{AreFor, AreHolders, IsNumbered};
+ghost use Rattle.rec_report.specs.Report.{AreFor, IsNumbered};
 ghost use Rattle.rec_report.specs.Text.{live_line, row_lines};
 
-use crate::holders::Holders;
 use crate::{Line, Text};
 use rec_script::Script;
 use rec_world::{Numbering, World};
@@ -20,30 +20,30 @@ impl Text {
         script: &Script,
         world: &World,
     ) -> Result<usize, NoMemory>
-        requires { AreFor script.now world.now }
+        requires script { AreFor script.now world.now }
+        requires settled { IsSettled world.now }
+
         ensures { IfOk result (λ live. (rows : List Row) × ListsSlots (sight world.now) rows × (live ≡ length rows) × (self.new ≡ self.old ++ live_line live ∷ row_lines rows)) }
     {
         let fields = script.fields() as u8;
         let mut numbering = Numbering::open(alloc, script.slots() as u16)?;
         world.number(&mut numbering);
-        let holders = Holders::of(alloc, world, fields, &numbering)?;
         let live = numbering.list().len();
         self.add(Line::live(alloc, live)?)?;
-        self.add_rows(alloc, world, fields, &numbering, &holders)?;
+        self.add_rows(alloc, world, fields, &numbering)?;
         Ok(live)
     }
 
-    // The rows of the numbered slots.
+    // The rows of the numbered slots. In a settled world the true count of a slot is the number of its holders.
     fn add_rows(
         &mut self,
         alloc: Global,
         world: &World,
         fields: u8,
         numbering: &Numbering,
-        holders: &Holders,
     ) -> Result<(), NoMemory>
         requires numbers { IsNumbered world.now fields numbering.now }
-        requires counts { AreHolders world.now numbering.now.list holders.now }
+        requires settled { IsSettled world.now }
 
         ensures { OnOk result (self.new ≡ self.old ++ row_lines (map (slot_row (sight world.now) numbering.now.list) numbering.now.list)) }
     {
@@ -52,7 +52,7 @@ impl Text {
             let label = world.label(*slot).unwrap_or(0);
             let first = usize::from(*slot) * usize::from(fields);
             let own = &words[first..first + usize::from(fields)];
-            let count = holders.count(*slot);
+            let count = world.count(*slot);
             self.add(Line::row(alloc, i + 1, label, count, own, numbering)?)?;
         }
         Ok(())

@@ -2,7 +2,7 @@
 use Rattle.std.proofs.Common.{◌≡◌, inl, inr, ℕ, ◌+◌, ◌-◌, ◌*◌, ◌^◌, ◌<◌, ◌≤◌, ◌==◌, if◌then◌else◌, All, List, ◌∷◌, Option, None, Some, Bool, true, false, slice_index_or, slice_set, length, map, replicate, zero, suc, refl, sym, ap, subst, ◌∙◌, arith}
 use Rattle.std.specs.List.{sum_by}
 use Rattle.std.specs.Option.{IsSome}
-use Rattle.std.proofs.lemmas.Bool.{false≢true, cases_eq}
+use Rattle.std.proofs.lemmas.Bool.{cases_eq}
 use Rattle.std.proofs.Math.ListN.{get_or-map}
 use Rattle.std.proofs.lemmas.List.{get_or_default, get_or-replicate, get_or-set_same, get_or-set_other, length-set, length-map, length-replicate, map-set}
 use Rattle.std.proofs.lemmas.List.Elements.{All-from_get_or}
@@ -29,30 +29,21 @@ use Rattle.rec_world.specs.Config.{IsConfig, IsMutator, HasOperands, IsWork}
 use Rattle.rec_world.specs.Core.{Core, cells_of, mutator, box, nobody, opened, opened_mutators, spare_of}
 use Rattle.rec_world.specs.CoreKept.{IsKept, entries_made}
 use Rattle.rec_world.specs.CorePending.{epoch_at}
-use Rattle.rec_world.specs.CoreMoves.{Move, after_move, Fits, EndsRun, begun, stepped, found_by, looked_at}
+use Rattle.rec_world.specs.CoreMoves.{Move, after_move, Fits, begun, stepped, found_by, looked_at}
 use Rattle.rec_world.specs.Inside.{core, IsWhole}
 use Rattle.rec_world.specs.Mailbox.{held}
 use Rattle.rec_world.specs.Memory.{Cells, cell, with_cell, births_of}
-use Rattle.rec_world.specs.World.{IsShaped, HasRun, IsWorld, HasFound, IsFinished}
+use Rattle.rec_world.specs.World.{IsShaped, IsWorld, HasFound, IsFinished}
 use Rattle.rec_world.specs.Worked.{StepsTo, IsWorked}
-use Rattle.rec_world.proofs.Commands.{waits_marked}
 use Rattle.rec_world.proofs.CoreOpening.{opened_kept}
-use Rattle.rec_world.proofs.CoreRuns.{looked_is, move_kept, move_stays, end_kept, run_more, run_opened}
+use Rattle.rec_world.proofs.CoreRuns.{looked_is, move_kept, end_kept, run_more, run_opened}
 use Rattle.rec_world.proofs.CoreShowing.{mutator_left}
 use Rattle.rec_world.proofs.CoreSteps.{actor_of}
 use Rattle.rec_world.proofs.CoreTurns.{numbered}
 
--- a world that isn't marked is the end of a run
-ends_run : (w : Core) → HasRun w → w.marked ≡ false → EndsRun w
-ends_run w (HasRun.runs v is run) unmarked = run
-ends_run w (HasRun.marks before v run is) unmarked = absurd (false≢true (sym unmarked ∙ ap (λ (x : Core). x.marked) is.others))
-
-pub world_run : (w : Core) → IsWorld w → w.marked ≡ false → EndsRun w
-world_run w world unmarked = ends_run w world.run unmarked
-
--- so it keeps what every heap with its collector keeps
-pub world_kept : (w : Core) → IsWorld w → w.marked ≡ false → IsKept w
-world_kept w world unmarked = end_kept w world.shaped.config (world_run w world unmarked)
+-- a world keeps what every heap with its collector keeps
+pub world_kept : (w : Core) → IsWorld w → IsKept w
+world_kept w world = end_kept w world.shaped.config world.run
 
 -- what such a heap keeps tells of its words and registers
 pub shaped_of : (w : Core) → IsKept w → IsShaped w
@@ -69,12 +60,8 @@ shaped_of w kept =
     }
 
 -- every move leaves a world
-pub moved_world : (w : Core) (m : Move) → IsWorld w → w.marked ≡ false → Fits w m → IsWorld (after_move w m)
-moved_world w m world unmarked fits =
-    record {
-      shaped = shaped_of (after_move w m) (move_kept w m (world_kept w world unmarked) fits);
-      run = HasRun.runs (after_move w m) ((move_stays w m).1 ∙ unmarked) (run_more w m (world_run w world unmarked) fits);
-    }
+pub moved_world : (w : Core) (m : Move) → IsWorld w → Fits w m → IsWorld (after_move w m)
+moved_world w m world fits = record { shaped = shaped_of (after_move w m) (move_kept w m (world_kept w world) fits); run = run_more w m world.run fits }
 
 -- a mutator that was read from the list
 pub mutator_read : (w : Core) (t i : ℕ) (p : Private) → IsShaped w → IsMutator w.config t → i ≡ t → p ≡ slice_index_or w.mutators (i - 1) p → p ≡ mutator w t
@@ -218,7 +205,7 @@ map-replicate f (suc n) x = ap (λ ys. f x ∷ ys) (map-replicate f n x)
 
 -- the opened heap is a world
 pub opened_world : (config : Config) → IsConfig config → IsWorld (opened config)
-opened_world config is = record { shaped = shaped_of (opened config) (opened_kept config is); run = HasRun.runs (opened config) refl (run_opened config) }
+opened_world config is = record { shaped = shaped_of (opened config) (opened_kept config is); run = run_opened config }
 
 -- every mailbox is home
 pub opened_home : (config : Config) (boxes : List (Option Contents)) → boxes ≡ replicate config.mutators (Some (spare_of config)) → (i : ℕ) → i < length boxes → IsSome (slice_index_or boxes i None)
@@ -231,10 +218,10 @@ pub opened_parts : (config : Config) (cells : Cells) (boxes : List (Option Conte
     → cells ≡ record { headers = 1 ∷ replicate (config.slots - 1) 0; words = replicate (config.slots * config.fields) 0; epoch = config.first_epoch; freed = 0; crossing = replicate config.mutators (4 * config.first_epoch) }
     → boxes ≡ replicate config.mutators (Some (spare_of config)) → mutators ≡ opened_mutators config config.mutators
     → collector ≡ collectors.opened config.slots config.fields config.registers config.mutators config.log_entries config.first_epoch
-    → ◌≡◌ {A = Core} (record { config = config; headers = cells.headers; words = cells.words; epoch = cells.epoch; freed = cells.freed; crossing = cells.crossing; boxes = map held boxes; mutators = mutators; collector = collector; made = 1; marked = false }) (opened config)
+    → ◌≡◌ {A = Core} (record { config = config; headers = cells.headers; words = cells.words; epoch = cells.epoch; freed = cells.freed; crossing = cells.crossing; boxes = map held boxes; mutators = mutators; collector = collector; made = 1 }) (opened config)
 opened_parts config cells boxes mutators collector is are own counts =
     let make : Cells → List Contents → List Private → collectors.Private → Core
-    = λ x b m c. record { config = config; headers = x.headers; words = x.words; epoch = x.epoch; freed = x.freed; crossing = x.crossing; boxes = b; mutators = m; collector = c; made = 1; marked = false } in
+    = λ x b m c. record { config = config; headers = x.headers; words = x.words; epoch = x.epoch; freed = x.freed; crossing = x.crossing; boxes = b; mutators = m; collector = c; made = 1 } in
     let spares : map held boxes ≡ replicate config.mutators (spare_of config) = ap (map held) are ∙ map-replicate held config.mutators (Some (spare_of config)) in
     let first : Cells = record { headers = 1 ∷ replicate (config.slots - 1) 0; words = replicate (config.slots * config.fields) 0; epoch = config.first_epoch; freed = 0; crossing = replicate config.mutators (4 * config.first_epoch) } in
     ap (λ x. make x (map held boxes) mutators collector) is
@@ -248,8 +235,8 @@ unfolding begun_of
 begun_found w t work kept is = subst (λ (p : Private). HasFound (begun w t work) p.phase) (sym (mutator_left w t (begun_of (mutator w t) work) kept is)) tt
 
 -- what the last state before the end of a work keeps
-pub finished_kept : (w b v : Core) (t : ℕ) (work : Work) (made : Made) → w.marked ≡ false → b ≡ begun w t work → (f : IsFinished b t made v) → IsKept f.last
-finished_kept w b v t work made unmarked begins f = world_kept f.last f.world (waits_marked b f.last t f.waits ∙ ap (λ (x : Core). x.marked) begins ∙ unmarked)
+pub finished_kept : (w b v : Core) (t : ℕ) (work : Work) (made : Made) → b ≡ begun w t work → (f : IsFinished b t made v) → IsKept f.last
+finished_kept w b v t work made begins f = world_kept f.last f.world
 
 -- a work that was begun and finished was made to its end
 pub worked : (w b v : Core) (t : ℕ) (work : Work) (made : Made) → b ≡ begun w t work → IsFinished b t made v → is_busy (mutator v t) ≡ false → IsWorked w t work v
@@ -259,30 +246,26 @@ worked w b v t work made begins f idle = record { last = f.last; path = subst (�
 pub machine_left : (w : Core) (t i : ℕ) (q : Private) → IsKept w → IsMutator w.config t → i ≡ t → slice_index_or (slice_set w.mutators (i - 1) q) (t - 1) nobody ≡ q
 machine_left w t i q kept is at = ap (λ n. slice_index_or (slice_set w.mutators (n - 1) q) (t - 1) nobody) at ∙ mutator_left w t q kept is
 
--- what is known of a world that isn't marked, and of a mutator of it
+-- what is known of a world, and of a mutator of it
 pub record Ready (inside : Inside) (t : ℕ) : Type 0 where
   pub kept : IsKept (core inside)
   pub is : IsMutator (core inside).config t
-  pub unmarked : (core inside).marked ≡ false
   pub boxed : t - 1 < length inside.boxes.items
 
-pub ready : (inside : Inside) (old : Core) (t : ℕ) → IsWhole inside → core inside ≡ old → IsMutator old.config t → old.marked ≡ false → Ready inside t
-ready inside old t whole view is unmarked =
-    let its_unmarked : (core inside).marked ≡ false = ap (λ (x : Core). x.marked) view ∙ unmarked in
+pub ready : (inside : Inside) (old : Core) (t : ℕ) → IsWhole inside → core inside ≡ old → IsMutator old.config t → Ready inside t
+ready inside old t whole view is =
     let its : IsMutator (core inside).config t = subst (λ (x : Core). IsMutator x.config t) (sym view) is in
-    let kept : IsKept (core inside) = world_kept (core inside) whole.world its_unmarked in
-    record { kept = kept; is = its; unmarked = its_unmarked; boxed = boxes_many (core inside) t inside.boxes.items kept its refl }
+    let kept : IsKept (core inside) = world_kept (core inside) whole.world in
+    record { kept = kept; is = its; boxed = boxes_many (core inside) t inside.boxes.items kept its refl }
 
 -- the same of a world of which no mutator is asked
 pub record ReadyToTurn (inside : Inside) : Type 0 where
   pub kept : IsKept (core inside)
-  pub unmarked : (core inside).marked ≡ false
   pub is : IsMutator (core inside).config (looked_at (core inside).collector.phase)
   pub boxed : looked_at (core inside).collector.phase - 1 < length inside.boxes.items
 
-pub ready_to_turn : (inside : Inside) (old : Core) → IsWhole inside → core inside ≡ old → old.marked ≡ false → ReadyToTurn inside
-ready_to_turn inside old whole view unmarked =
-    let its_unmarked : (core inside).marked ≡ false = ap (λ (x : Core). x.marked) view ∙ unmarked in
-    let kept : IsKept (core inside) = world_kept (core inside) whole.world its_unmarked in
+pub ready_to_turn : (inside : Inside) → IsWhole inside → ReadyToTurn inside
+ready_to_turn inside whole =
+    let kept : IsKept (core inside) = world_kept (core inside) whole.world in
     let is : IsMutator (core inside).config (looked_at (core inside).collector.phase) = looked_is (core inside) (core inside).collector.phase kept refl in
-    record { kept = kept; unmarked = its_unmarked; is = is; boxed = boxes_many (core inside) (looked_at (core inside).collector.phase) inside.boxes.items kept is refl }
+    record { kept = kept; is = is; boxed = boxes_many (core inside) (looked_at (core inside).collector.phase) inside.boxes.items kept is refl }

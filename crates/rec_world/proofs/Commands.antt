@@ -65,7 +65,6 @@ works_quiet w v t first only =
       requested = ap (λ (x : Core). x.epoch) only.others;
       made = ap (λ (x : Core). x.made) only.others;
       config = ap (λ (x : Core). x.config) only.others;
-      marked = ap (λ (x : Core). x.marked) only.others;
     }
 
 -- first what is quiet here and then there
@@ -79,7 +78,6 @@ quiet_both w v u t first second =
       requested = second.requested ∙ first.requested;
       made = second.made ∙ first.made;
       config = second.config ∙ first.config;
-      marked = second.marked ∙ first.marked;
     }
 
 -- what a scan has found is said of headers and the freed word alone
@@ -108,13 +106,6 @@ begun_works w t work kept is =
 pub waits_none : (w : Core) (t : ℕ) → HasFound w (mutator w t).phase → Waits w w t
 waits_none w t found = Waits.works (works_none w t) found
 
--- nor of a work that begins
-pub begun_waits : (w : Core) (t : ℕ) (work : Work) → IsKept w → IsMutator w.config t → Waits (begun w t work) (begun w t work) t
-unfolding begun_of
-begun_waits w t work kept is =
-    let here : mutator (begun w t work) t ≡ begun_of (mutator w t) work = mutator_left w t (begun_of (mutator w t) work) kept is in
-    waits_none (begun w t work) t (subst (λ (p : Private). HasFound (begun w t work) p.phase) (sym here) tt)
-
 -- steps that finished nothing are quiet
 pub waits_quiet : (before w : Core) (t : ℕ) → 1 ≤ t → Waits before w t → IsQuiet before w t
 waits_quiet before w t first (Waits.works only found) = works_quiet before w t first only
@@ -128,11 +119,6 @@ waits_config before w t (Waits.holds phase still epoch) = still.config
 -- so the mutator is still there
 pub mutator_there : (before w : Core) (t : ℕ) → Waits before w t → IsMutator before.config t → IsMutator w.config t
 mutator_there before w t waits is = subst (λ (c : Config). IsMutator c t) (sym (waits_config before w t waits)) is
-
--- and a heap that isn't marked
-pub waits_marked : (before w : Core) (t : ℕ) → Waits before w t → w.marked ≡ before.marked
-waits_marked before w t (Waits.works only found) = ap (λ (x : Core). x.marked) only.others
-waits_marked before w t (Waits.holds phase still epoch) = still.marked
 
 -- the mutator is still in its epoch
 pub waits_epoch : (before w : Core) (t : ℕ) → Waits before w t → (mutator w t).epoch ≡ (mutator before t).epoch
@@ -426,7 +412,6 @@ pub record IsAnswered (w v : Core) (t : ℕ) (cmd : Cmd) (told : Told) : Type 0 
   pub freed : v.freed ≡ w.freed
   pub collector : v.collector ≡ w.collector
   pub config : v.config ≡ w.config
-  pub marked : v.marked ≡ w.marked
 
 -- what an allocation finds, in another heap with the same headers and freed word, and as many entries of this mutator
 finds_along : (w v : Core) (t : ℕ) (cmd : Cmd) → log_length v t ≡ log_length w t → v.config ≡ w.config → v.headers ≡ w.headers → FindsNone w t cmd → FindsNone v t cmd
@@ -525,7 +510,6 @@ answers_all w last v t cmd told kept is only steps answer a =
       freed = a.said.freed ∙ freed;
       collector = ap (λ (x : Core). x.collector) steps ∙ quiet.collector;
       config = ap (λ (x : Core). x.config) steps ∙ config;
-      marked = ap (λ (x : Core). x.marked) steps ∙ quiet.marked;
     }
 
 -- what was said of the command that was answered

@@ -58,7 +58,7 @@ moves_asked : (fields : ℕ) (heap : Heap) (w : Core) (ms : List Move) → field
 moves_asked fields heap w [] same kept fit stands = stands
 moves_asked fields heap w (m ∷ ms) same kept fit stands =
     let later : (next : Heap) → StandsFor next (sight (after_move w m)) → AreAsked fields next (told_in_all (after_move w m) ms) (sight (after_moves (after_move w m) ms))
-    = λ next stood. moves_asked fields next (after_move w m) ms (same ∙ sym (ap (λ (c : Config). c.fields) (move_stays w m).0)) (move_kept w m kept fit.0) fit.1 stood in
+    = λ next stood. moves_asked fields next (after_move w m) ms (same ∙ sym (ap (λ (c : Config). c.fields) (move_stays w m))) (move_kept w m kept fit.0) fit.1 stood in
     by m fit.0 later
   where
     by : (n : Move) → Fits w n → ((next : Heap) → StandsFor next (sight (after_move w n)) → AreAsked fields next (told_in_all (after_move w n) ms) (sight (after_moves (after_move w n) ms)))
@@ -67,6 +67,7 @@ moves_asked fields heap w (m ∷ ms) same kept fit stands =
     by (Move.Steps t) fits later =
         after_step fields heap w (stepped w t) t (told_in_all (stepped w t) ms) (sight (after_moves (stepped w t) ms)) (work_of (mutator w t)) (answer_of (mutator (stepped w t) t)) same refl (step_shown w t kept fits.0 fits.1) stands later
     by Move.Turns fits later = later heap (keeps_stands heap (sight w) (sight (turned w)) (turned_keeps w kept) stands)
+    by Move.Offers fits later = later heap stands
 
 -- the heap that is opened stands at the opening
 opened_stands : (config : Config) → IsConfig config → StandsFor (opening config.fields config.registers config.mutators) (sight (opened config))

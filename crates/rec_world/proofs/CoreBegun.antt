@@ -72,7 +72,7 @@ module _ (w : Core) (t : ℕ) (kept : IsKept w) (phase : w.collector.phase ≡ R
       let there : x < length c.counts.slots = member_there c.counts x kept.collector.machine.counts member in
       ap (λ (v : Slot). v.released) (counted_slot c.counts x there) ∙ rest.none x there
 
-  batch_comes : HasCome w (slice_set w.crossing (t - 1) (crossing_word w.epoch 0)) w.words batched
+  pub batch_comes : HasCome w (slice_set w.crossing (t - 1) (crossing_word w.epoch 0)) w.words batched
   batch_comes =
       let is : IsMutator w.config t = last_is w t kept phase last in
       let move = Move.batch (applies w t kept phase last) in

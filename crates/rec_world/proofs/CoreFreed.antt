@@ -1,6 +1,5 @@
 -- The sets that pass both tests are out of reach, and a slot that is freed is named by nothing.
-use Rattle.std.proofs.Common.{◌≡◌, ℕ, ◌+◌, ◌-◌, ◌<◌, ◌≤◌, Bool, true, false, if◌then◌else◌, ltb, Option, None, Some, length, slice_get, slice_index_or, refl, sym, ap, subst, ◌∙◌, arith}
-use Rattle.std.proofs.lemmas.List.{get_or_default}
+use Rattle.std.proofs.Common.{◌≡◌, ℕ, ◌+◌, ◌-◌, ◌<◌, ◌≤◌, Bool, true, false, if◌then◌else◌, ltb, Option, None, Some, length, slice_get, refl, sym, ap, subst, ◌∙◌, arith}
 use Rattle.rec_word.specs.declared.op.Op.{Op}
 use Rattle.rec_word.specs.declared.op.Op.TheVariants as ops
 use Rattle.rec_model.specs.Accounted.{is_dead, HasUncountedReleased}
@@ -9,7 +8,6 @@ use Rattle.rec_model.proofs.Naming.{dead_out_of_reach}
 use Rattle.rec_model.proofs.Sets.{passed_out_of_reach}
 use Rattle.rec_counts.specs.Counts.{slot_at}
 use Rattle.rec_counts.specs.Lists.{one, times}
-use Rattle.rec_counts.specs.Slot.{fresh, absent}
 use Rattle.rec_counts.specs.declared.slot.Slot.{Slot}
 use Rattle.rec_counts.proofs.Times.{in_range_once, one-le, times-nil}
 use Rattle.rec_release.specs.CycleFree.{next_of as freeing_next, op_at as freeing_op_at}
@@ -24,30 +22,17 @@ use Rattle.rec_sigma.specs.declared.at.At as loads
 use Rattle.rec_trial.specs.Trial.{Machine as Trial, next_of as trial_next, op_at as trial_op_at}
 use Rattle.rec_trial.specs.declared.phase.Phase as trial_phases
 use Rattle.rec_trial.specs.declared.phase.Phase.TheVariants as trial_at
-use Rattle.rec_collector.specs.Kept.{IsAt}
 use Rattle.rec_collector.specs.Next.{is_spent, next_at, next_of}
 use Rattle.rec_collector.specs.declared.phase.Phase.{Phase}
 use Rattle.rec_collector.specs.declared.phase.Phase.TheVariants.{Idle, Looking, Swapping, Returning, Releasing, Freeing, Trying, Preparing, Opening, Sweeping, Closing}
 use Rattle.rec_world.specs.Core.{Core}
-use Rattle.rec_world.specs.CoreCycles.{HasCyclesAt}
 use Rattle.rec_world.specs.CoreFreed.{TestsSets, Passes, IsProvenGarbage, AreGone, IsForgotten}
 use Rattle.rec_world.specs.CoreKept.{IsKept}
 use Rattle.rec_world.specs.CorePending.{slot_of, pending, applied_at}
 use Rattle.rec_world.specs.Cycles.{is_member_of, SetsTest}
+use Rattle.rec_world.proofs.CoreSteps.{slot_there}
+use Rattle.rec_world.proofs.CoreTurns.{cycles_in, now_at}
 use Rattle.rec_world.proofs.CyclesTest.{IsJudged, set_is_tested}
-
--- what is kept of a slot, by its node
-slot_is : (w : Core) → IsKept w → (slot : ℕ) → slot < length w.collector.counts.slots → slot_of w (slot + 1) ≡ slot_at w.collector.counts slot
-slot_is w kept slot below =
-    let at : slot + 1 - 1 ≡ slot = omega arith in
-    ap (λ (n : ℕ). slice_index_or w.collector.counts.slots n fresh) at ∙ get_or_default w.collector.counts.slots slot fresh absent below
-
--- what holds in the phase of the collector
-collector_at : (w : Core) (phase : Phase) → IsKept w → w.collector.phase ≡ phase → IsAt w.collector phase
-collector_at w phase kept is = subst (λ (f : Phase). IsAt w.collector f) is kept.collector.machine.now
-
-cycles_at : (w : Core) (phase : Phase) → IsKept w → w.collector.phase ≡ phase → HasCyclesAt (pending w) w.collector phase
-cycles_at w phase kept is = subst (λ (f : Phase). HasCyclesAt (pending w) w.collector f) is kept.cycles
 
 -- A set that passes both tests.
 passes_with : (w : Core) (number : ℕ) → IsKept w → SetsTest (pending w) w.collector.counts → IsApart w.collector.counts → Passes w number → IsProvenGarbage w number
@@ -55,8 +40,8 @@ passes_with w number kept tests apart p =
     let judged : IsJudged (pending w) w.collector.counts number = record {
       kept = kept.collector.machine.counts;
       apart = apart;
-      released = λ x below. ap (λ (v : Slot). v.released) (slot_is w kept x below);
-      count = λ x below. ap (λ (v : Slot). v.count) (slot_is w kept x below);
+      released = λ x below. ap (λ (v : Slot). v.released) (slot_there w kept x (subst (λ n. x < n) kept.collector.slots below));
+      count = λ x below. ap (λ (v : Slot). v.count) (slot_there w kept x (subst (λ n. x < n) kept.collector.slots below));
       orange = p.orange;
       none = p.none;
     } in
@@ -71,8 +56,8 @@ pub passed_are_garbage : (w : Core) (number : ℕ) → IsKept w → TestsSets w.
 passed_are_garbage w number kept tests p = go w.collector.phase refl tests
   where
     go : (phase : Phase) → w.collector.phase ≡ phase → TestsSets phase → IsProvenGarbage w number
-    go Releasing is t = passes_with w number kept (cycles_at w Releasing kept is) (collector_at w Releasing kept is).0.clearing.apart p
-    go Freeing is t = passes_with w number kept (cycles_at w Freeing kept is) (collector_at w Freeing kept is).0.clearing.apart p
+    go Releasing is t = passes_with w number kept (cycles_in w Releasing kept is) (now_at w Releasing kept is).0.clearing.apart p
+    go Freeing is t = passes_with w number kept (cycles_in w Freeing kept is) (now_at w Freeing kept is).0.clearing.apart p
     go Idle is t = absurd t
     go (Looking n) is t = absurd t
     go (Swapping n) is t = absurd t
@@ -91,26 +76,25 @@ dead_is false released is = is
 pub given_up_are_gone : (w : Core) → IsKept w → AreGone w
 given_up_are_gone w kept = record {
   released = λ slot below is.
-      let many : length w.collector.counts.slots ≡ w.config.slots = kept.collector.slots in
-      let dead : is_dead (pending w) (slot + 1) ≡ true = dead_is ((pending w).free (slot + 1)) ((pending w).released (slot + 1)) (ap (λ (v : Slot). v.released) (slot_is w kept slot (omega (arith, below, many))) ∙ is) in
+      let dead : is_dead (pending w) (slot + 1) ≡ true = dead_is ((pending w).free (slot + 1)) ((pending w).released (slot + 1)) (ap (λ (v : Slot). v.released) (slot_there w kept slot below) ∙ is) in
       record {
         unreached = λ epoch from reached. dead_out_of_reach (pending w) epoch from kept.accounted.unnamed (slot + 1) reached dead;
         unnamed = kept.accounted.unnamed (slot + 1) (omega arith) dead;
       };
-  members = λ is slot some. (collector_at w Freeing kept is).0.clearing.freeing.released slot some;
+  members = λ is slot some. (now_at w Freeing kept is).0.clearing.freeing.released slot some;
 }
 
 -- A slot that is swept next.
 pub swept_is_forgotten : (w : Core) (n slot : ℕ) → IsKept w → w.collector.phase ≡ Sweeping n → w.collector.due ≡ Some slot → IsForgotten w slot
 swept_is_forgotten w n slot kept is due =
-    let now = collector_at w (Sweeping n) kept is in
+    let now = now_at w (Sweeping n) kept is in
     let c = w.collector.counts in
     let first : slice_get c.free 0 ≡ Some slot = sym now.2 ∙ due in
     let there : 0 < times slot c.free = first_in c.free slot first in
     let listed_released : (slot_at c slot).released ≡ true = kept.collector.listed slot there in
     let once = kept.collector.machine.counts.free_once slot in
     let below : slot < length c.slots = in_range_once (length c.slots) c.free slot kept.collector.machine.counts.free_once there in
-    let node : slot_of w (slot + 1) ≡ slot_at c slot = slot_is w kept slot below in
+    let node : slot_of w (slot + 1) ≡ slot_at c slot = slot_there w kept slot (subst (λ n. slot < n) kept.collector.slots below) in
     let uncounted : HasUncountedReleased (pending w) = kept.uncounted now.0.tried.unfreed in
     let none : (pending w).count (slot + 1) ≡ 0 = uncounted (slot + 1) (omega arith) (ap (λ (v : Slot). v.released) node ∙ listed_released) in
     let done : (pending w).applied + 1 ≡ (pending w).requested = ap (λ (f : Phase). applied_at w.epoch f + 1) is ∙ positive in

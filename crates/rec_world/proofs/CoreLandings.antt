@@ -1,6 +1,6 @@
 -- Where a trial or a preparation has come to, the collection goes on: to the next field, to a preparation, to a sweep, or to its end.
 -- Each keeps what every heap keeps.
-use Rattle.std.proofs.Common.{◌≡◌, ◌⊎◌, inl, inr, ℕ, ◌+◌, ◌-◌, ◌*◌, ◌<◌, ◌≤◌, if◌then◌else◌, true, List, [], ◌∷◌, Option, None, Some, IsNone, length, map, slice_index_or, refl, sym, ap, subst, ◌∙◌, arith}
+use Rattle.std.proofs.Common.{◌≡◌, ◌⊎◌, inl, inr, ℕ, ◌+◌, ◌-◌, ◌*◌, ◌<◌, ◌≤◌, if◌then◌else◌, Bool, true, false, List, [], ◌∷◌, Option, None, Some, IsNone, length, map, slice_index_or, refl, sym, ap, subst, ◌∙◌, arith}
 use Rattle.std.specs.List.{All, sum_by, flat_map}
 use Rattle.std.proofs.Math.ListN.{get_or-map}
 use Rattle.std.proofs.lemmas.Bool.{cases_Bool}
@@ -34,7 +34,8 @@ use Rattle.rec_sigma.specs.Prepare as preps
 use Rattle.rec_sigma.specs.Prepared as prepared
 use Rattle.rec_sigma.specs.Prepared.{KeepsOthers}
 use Rattle.rec_sigma.proofs.Runs.{Came, came_first, next_set_others}
-use Rattle.rec_collector.specs.Followed.{prep_started, trial_started}
+use Rattle.rec_collector.specs.Followed.{prep_started, trial_begun, trial_started, with_offers}
+use Rattle.rec_collector.specs.Offered.{KeepsOffered}
 use Rattle.rec_collector.specs.Parts.{Parts}
 use Rattle.rec_collector.specs.Private as collectors
 use Rattle.rec_collector.specs.Private.{parts_of, with_parts}
@@ -45,6 +46,7 @@ use Rattle.rec_collector.specs.declared.phase.Phase.{Phase}
 use Rattle.rec_collector.specs.declared.phase.Phase.TheVariants.{Idle, Looking, Swapping, Returning, Releasing, Freeing, Trying, Preparing, Opening, Sweeping, Closing}
 use Rattle.rec_collector.specs.declared.turn.Turn.{Turn}
 use Rattle.rec_collector.proofs.Dropping.{others_kept}
+use Rattle.rec_collector.proofs.Offering.{where_keeps, where_kept, where_ready}
 use Rattle.rec_world.specs.declared.config.Config.{Config}
 use Rattle.rec_world.specs.Config.{IsMutator}
 use Rattle.rec_world.specs.Core.{Core}
@@ -201,6 +203,15 @@ prepared_alike s t k = record {
 pub landed_drops : (w : Core) (words : List ℕ) (s t : State) → IsAlike s t → Drops (landed_pending w words s) (landed_pending w words t)
 landed_drops w words s t same = alike_drops (record (pending w) { applied = w.epoch - 1 }) words s t (alike_slots s t same.slots same.count same.released)
 
+-- and so does offering every slot to a trial
+offered_alike : (s t : State) → KeepsOffered s t → IsAlike s t
+offered_alike s t k = record {
+  slots = k.rest.slots;
+  count = k.counts;
+  released = k.rest.released;
+  free = λ x some. inl (subst (λ xs. 0 < times x xs) k.rest.free some);
+}
+
 -- Where a collection has come to, it has come to with such counts, as long as no set is freed.
 pub landed_alike : {w : Core} {crossing words : List ℕ} {v : Parts} → HasLanded w crossing words v → v.freeing.at ≡ None → (t : State) (trial : trials.Machine) (prep : preps.Machine) → IsAlike v.counts t → IsKeptCounts t
     → trial.fields ≡ w.config.fields → prep.fields ≡ w.config.fields → HasLanded w crossing words (record v { counts = t; trial = trial; prep = prep })
@@ -231,6 +242,34 @@ landed_alike {w} {crossing} {words} {v} l unfreed t trial prep same counts trial
         ]
       ];
     }
+
+-- whether every slot is to be offered to the next trial doesn't matter to it
+landed_asked : {w : Core} {crossing words : List ℕ} {v : Parts} → HasLanded w crossing words v → (offers : Bool) → HasLanded w crossing words (record v { offers = offers })
+landed_asked l offers = record {
+  kept = l.kept;
+  way = l.way;
+  still = l.still;
+  older = l.older;
+  mutators = l.mutators;
+  accounted = l.accounted;
+  uncounted = l.uncounted;
+  sound = l.sound;
+  many_words = l.many_words;
+  slots = l.slots;
+  fields = l.fields;
+  freeing_fields = l.freeing_fields;
+  trial_fields = l.trial_fields;
+  prep_fields = l.prep_fields;
+  counts = l.counts;
+  listed = l.listed;
+  emptied = l.emptied;
+}
+
+-- every slot is offered where that was asked for
+pub landed_offered : {w : Core} {crossing words : List ℕ} {v : Parts} → HasLanded w crossing words v → v.freeing.at ≡ None → HasLanded w crossing words (with_offers v)
+landed_offered {w} {crossing} {words} {v} l unfreed =
+    let s : State = (with_offers v).counts in
+    landed_asked (landed_alike l unfreed s v.trial v.prep (offered_alike v.counts s (where_keeps v.offers v.counts)) (where_kept v.offers v.counts l.counts) l.trial_fields l.prep_fields) false
 
 -- one turn more, and another phase, change nothing of what is known of the sets in that phase
 came_cycles : (p : Pending) (c : collectors.Private) (phase : Phase) → HasCyclesAt p c phase → HasCyclesAt p (moved c phase) phase
@@ -401,7 +440,7 @@ module _ (w : Core) (crossing words : List ℕ) (q : collectors.Private) (machin
   prep_others : (m : preps.Machine) (s : State) → KeepsOthers s (preps.started_of m s).counts
   prep_others m s = subst (λ (x : preps.Work). KeepsOthers s x.counts) (sym (prep_is m s)) (next_set_others s 0)
 
-  prep_lands : (v : Parts) → HasLanded w crossing words v → v.freeing.at ≡ None → HasLanded w crossing words (prep_started v)
+  pub prep_lands : (v : Parts) → HasLanded w crossing words v → v.freeing.at ≡ None → HasLanded w crossing words (prep_started v)
   prep_lands v l unfreed =
       let u : preps.Work = preps.started_of v.prep v.counts in
       let others : KeepsOthers v.counts u.counts = prep_others v.prep v.counts in
@@ -442,13 +481,13 @@ module _ (w : Core) (crossing words : List ℕ) (q : collectors.Private) (machin
   tries_kept v turn l loading unfreed (TriesOn.prepares over on) = prepares_kept (prep_started v) turn (prep_lands v l unfreed) (prep_seen v l loading over) unfreed on
 
   -- where nothing is left to release or to test, a trial begins
-  pub trial_begins : (v : Parts) (turn : Turn) → HasLanded w crossing words v → IsReady v.counts → v.freeing.at ≡ None → TriesOn w.collector (trial_started v) q turn → IsKept landed
-  trial_begins v turn l ready unfreed on =
+  trial_begins_on : (v : Parts) (turn : Turn) → HasLanded w crossing words v → IsReady v.counts → v.freeing.at ≡ None → TriesOn w.collector (trial_begun v) q turn → IsKept landed
+  trial_begins_on v turn l ready unfreed on =
       let some : 1 ≤ w.config.fields = l.kept.config.some_fields in
       let wide : 0 < v.trial.fields = omega (arith, some, l.trial_fields) in
       let u : trials.Work = trials.started_of v.trial.fields v.counts in
       let fields : u.machine.fields ≡ v.trial.fields = started_fields v.trial.fields v.counts wide ready in
-      tries_kept (trial_started v) turn
+      tries_kept (trial_begun v) turn
       (landed_alike l unfreed u.counts u.machine v.prep (tried_alike v.counts u.counts (started_keeps v.trial.fields v.counts wide ready)) (started_counted v.trial.fields v.counts wide l.counts ready) (fields ∙ l.trial_fields) l.prep_fields)
       (record {
         before = v.counts;
@@ -459,3 +498,7 @@ module _ (w : Core) (crossing words : List ℕ) (q : collectors.Private) (machin
         stands = trial_stands_begun (landed_pending w words u.counts) u;
       })
       unfreed on
+
+  -- once every slot was offered to it, where that was asked for
+  pub trial_begins : (v : Parts) (turn : Turn) → HasLanded w crossing words v → IsReady v.counts → v.freeing.at ≡ None → TriesOn w.collector (trial_started v) q turn → IsKept landed
+  trial_begins v turn l ready unfreed on = trial_begins_on (with_offers v) turn (landed_offered l unfreed) (where_ready v.offers v.counts ready) unfreed on

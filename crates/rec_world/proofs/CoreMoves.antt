@@ -9,7 +9,7 @@ use Rattle.std.proofs.lemmas.Nat.{div-mul-add}
 use Rattle.rec_word.specs.Place.{place_of}
 use Rattle.rec_word.specs.Word.{target_of}
 use Rattle.rec_model.specs.Moves.{KeepsEpochs, KeepsSlots, Puts, Registers, Bears, Crosses, Drops, Loads, with_answer}
-use Rattle.rec_model.specs.Pending.{node_of, epoch_of, home, Write, Dated, dated, Pending, is_at, Holds}
+use Rattle.rec_model.specs.Pending.{node_of, epoch_of, home, Dated, dated, Pending, is_at, Holds}
 use Rattle.rec_model.specs.Reach.{named}
 use Rattle.rec_model.specs.Sums.{one_if_same}
 use Rattle.rec_model.proofs.Sums.{sum_at-set, sum_by-map, sum_by-flat_map}
@@ -169,10 +169,7 @@ birth_moves w t r slot label q there within inside free registers epoch log =
       released = λ x _. refl;
     }
 
--- the spare buffer adds nothing to a sum
-spare_writes : (config : Config) (g : Write → ℕ) → sum_by g (writes_in (spare_of config).entries) ≡ 0
-spare_writes config g = refl
-
+-- the spare buffer names nothing
 pub spare_names : (config : Config) (epoch : ℕ) → dated_names epoch (spare_of config).snapshot ≡ []
 spare_names config epoch = ap (map (λ (slot : ℕ). dated epoch (slot + 1))) (none_named config.registers)
 

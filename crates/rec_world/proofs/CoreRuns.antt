@@ -28,6 +28,7 @@ use Rattle.rec_world.specs.CoreMoves.{looked_at, turned, turned_at, Move, after_
 use Rattle.rec_world.specs.Memory.{cell}
 use Rattle.rec_world.proofs.CoreApplying.{covered}
 use Rattle.rec_world.proofs.CoreCrossings.{step_kept, begun_kept}
+use Rattle.rec_world.proofs.CoreOffering.{offering_kept}
 use Rattle.rec_world.proofs.CoreOpening.{opened_kept}
 use Rattle.rec_world.proofs.CoreFreeing as freeing
 use Rattle.rec_world.proofs.CorePreparing.{loads_due, seen_there}
@@ -120,6 +121,7 @@ pub move_kept : (w : Core) (m : Move) → IsKept w → Fits w m → IsKept (afte
 move_kept w (Move.Begins t work) kept fits = begun_kept w t work kept fits.0 fits.1 fits.2 fits.3
 move_kept w (Move.Steps t) kept fits = step_kept w t kept fits.0 fits.1
 move_kept w Move.Turns kept fits = turned_kept w kept
+move_kept w Move.Offers kept fits = offering_kept w kept
 
 -- some moves
 moves_kept : (w : Core) (ms : List Move) → IsKept w → AllFit w ms → IsKept (after_moves w ms)
@@ -143,19 +145,20 @@ fit_more : (w : Core) (ms : List Move) (m : Move) → AllFit w ms → Fits (afte
 fit_more w [] m fit fits = (fits, tt)
 fit_more w (n ∷ ms) m fit fits = (fit.0, fit_more (after_move w n) ms m fit.1 fits)
 
--- a turn keeps the numbers of the heap, with or without an operation, and marks nothing
-turned_stays : (w : Core) → ((turned w).config ≡ w.config) × ((turned w).marked ≡ w.marked)
+-- a turn keeps the numbers of the heap, with or without an operation
+turned_stays : (w : Core) → (turned w).config ≡ w.config
 turned_stays w = go (next_of w.collector)
   where
-    go : (x : Option Op) → ((turned_at w x).config ≡ w.config) × ((turned_at w x).marked ≡ w.marked)
-    go None = (refl, refl)
-    go (Some op) = (refl, refl)
+    go : (x : Option Op) → (turned_at w x).config ≡ w.config
+    go None = refl
+    go (Some op) = refl
 
 -- so does every move
-pub move_stays : (w : Core) (m : Move) → ((after_move w m).config ≡ w.config) × ((after_move w m).marked ≡ w.marked)
-move_stays w (Move.Begins t work) = (refl, refl)
-move_stays w (Move.Steps t) = (refl, refl)
+pub move_stays : (w : Core) (m : Move) → (after_move w m).config ≡ w.config
+move_stays w (Move.Begins t work) = refl
+move_stays w (Move.Steps t) = refl
 move_stays w Move.Turns = turned_stays w
+move_stays w Move.Offers = refl
 
 -- a run that ends there goes on with a move that fits
 pub run_more : (w : Core) (m : Move) → EndsRun w → Fits w m → EndsRun (after_move w m)
@@ -164,7 +167,7 @@ run_more w m (moves, run) fits =
       fit = fit_more (opened w.config) moves m run.fit (subst (λ v. Fits v m) (sym run.ends) fits);
       ends = after_more (opened w.config) moves m ∙ ap (λ v. after_move v m) run.ends;
     } in
-    (moves ++ m ∷ [], subst (λ c. IsRun c (moves ++ m ∷ []) (after_move w m)) (sym (move_stays w m).0) longer)
+    (moves ++ m ∷ [], subst (λ c. IsRun c (moves ++ m ∷ []) (after_move w m)) (sym (move_stays w m)) longer)
 
 -- the opening is the end of the run without moves
 pub run_opened : (config : Config) → EndsRun (opened config)

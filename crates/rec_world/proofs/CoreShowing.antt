@@ -181,7 +181,7 @@ one_more w slot taken lower s below = elim (cases_eq s slot) [
 -- a crossing goes on with another buffer, crossing word and mailbox, which nobody sees
 quiet : (w : Core) (t : ℕ) (q : Private) (crossing : List ℕ) (boxes : List Contents) → 1 ≤ t → q.registers ≡ (mutator w t).registers → IsQuiet w (record (with_mutator w t q) { crossing = crossing; boxes = boxes }) t
 quiet w t q crossing boxes first stays =
-    record { seen = saw_same w t q stays; others = λ s other some. mutator_other w.mutators t s q first other some; collector = refl; freed = refl; requested = refl; made = refl; config = refl; marked = refl }
+    record { seen = saw_same w t q stays; others = λ s other some. mutator_other w.mutators t s q first other some; collector = refl; freed = refl; requested = refl; made = refl; config = refl }
 
 -- every step
 says : {w : Core} {t word : ℕ} {op : Op} {q : Private} → Finds w t word op → Step (mutator w t) word (box w t) op q → Says w t q (performed w t op word q (box w t))

@@ -74,7 +74,7 @@ pub record Turns (w : Core) (op : Op) (word : ℕ) (q : collectors.Private) : Ty
   pub machine : collector_kept.IsMachine q
 
 -- what a turn leaves where no mailbox is taken
-plain_left : (w : Core) (op : Op) (word : ℕ) (q : collectors.Private) (phase : Phase) → w.collector.phase ≡ phase → left_by w.collector word (box w (looked_at phase)) phase ≡ box w (looked_at phase)
+pub plain_left : (w : Core) (op : Op) (word : ℕ) (q : collectors.Private) (phase : Phase) → w.collector.phase ≡ phase → left_by w.collector word (box w (looked_at phase)) phase ≡ box w (looked_at phase)
     → collected w op word q (left_by w.collector word (box w (looked_at w.collector.phase)) w.collector.phase) ≡ record (collected w op word q (box w 1)) { boxes = w.boxes }
 plain_left w op word q phase is same =
     let leaves : Phase → Core = λ f. collected (record w { collector = record w.collector { phase = f } }) op word q (left_by w.collector word (box w (looked_at f)) f) in

@@ -1,8 +1,8 @@
 -- A batch begins the tests of the sets that waited for it.
-use Rattle.std.proofs.Common.{◌≡◌, ℕ, ◌+◌, ◌-◌, ◌<◌, ◌≤◌, Bool, true, false, eqb, ltb, Option, None, Some, List, [], ◌∷◌, length, get_or, flat_map, refl, sym, ◌∙◌, ap, subst, arith, inl, inr}
+use Rattle.std.proofs.Common.{◌≡◌, ℕ, ◌+◌, ◌-◌, ◌<◌, ◌≤◌, true, false, ltb, Option, None, Some, List, [], ◌∷◌, length, get_or, flat_map, refl, sym, ◌∙◌, ap, subst, arith, inl, inr}
 use Rattle.std.specs.List.{concat}
 use Rattle.std.proofs.lemmas.List.{get_or-set_same, get_or-set_other, set_past, get_or_past}
-use Rattle.std.proofs.lemmas.Bool.{cases_lt, lt-ltb, ltb-true, true≢false}
+use Rattle.std.proofs.lemmas.Bool.{cases_lt, lt-ltb, ltb-true}
 use Rattle.std.proofs.lemmas.Bool.Decides.{eqb_tells}
 use Rattle.rec_model.specs.Sums.{sum_at}
 use Rattle.rec_model.specs.Pending.{Pending}
@@ -12,18 +12,13 @@ use Rattle.rec_model.specs.Sets.{seen_in}
 use Rattle.rec_model.proofs.Testing.{batch_testing}
 use Rattle.rec_counts.specs.declared.colour.Colour.TheVariants.{Black, Orange}
 use Rattle.rec_counts.specs.declared.slot.Slot.{Slot}
-use Rattle.rec_counts.specs.declared.slot.Due.{Due}
-use Rattle.rec_counts.specs.declared.slot.Due.TheVariants.{Nothing, Zero, Root}
-use Rattle.rec_counts.specs.Counts.{State, slot_at, with_slot, sent, decremented}
+use Rattle.rec_counts.specs.Counts.{State, slot_at, with_slot}
 use Rattle.rec_counts.specs.Lists.{one, times}
-use Rattle.rec_counts.specs.Slot.{absent, raised, lessened, lessened_if, due_of}
-use Rattle.rec_counts.proofs.Decrementing.{rest_decremented, ZerosFrom, zeros_from}
-use Rattle.rec_counts.proofs.Times.{times-append}
+use Rattle.rec_counts.specs.Slot.{absent, raised}
 use Rattle.rec_log.specs.declared.contents.Contents.{Contents}
-use Rattle.rec_apply.specs.Targets.{added, taken, named, is_slot}
+use Rattle.rec_apply.specs.Targets.{added, named, is_slot}
 use Rattle.rec_apply.specs.Batch.{all_down, all_up, batch, counted_down, counted_up, down_targets, up_targets}
-use Rattle.rec_apply.proofs.Naming.{added_is, taken_is, named-nil, named-cons}
-use Rattle.rec_release.specs.TakenOff.{IsApart, IsMember}
+use Rattle.rec_apply.proofs.Naming.{added_is, named-nil, named-cons}
 use Rattle.rec_world.specs.Cycles.{is_member, is_member_of, SetsWait, SetsTest}
 use Rattle.rec_world.proofs.CyclesLess.{TestsLess, member_before, less_same, less_on, less_slot, less_decremented}
 use Rattle.rec_world.proofs.CyclesTest.{counted_less}
@@ -59,42 +54,6 @@ up_unnamed s (t ∷ ts) y o =
     let first : (is_slot y t ≡ false) × (slot_at (counted_up s t) y ≡ slot_at s y) = up_first s t y (ap (λ (w : Slot). w.colour) (sym rest.1) ∙ o) in
     (omega (arith, named-cons y t ts, rest.0, ap one first.0), rest.1 ∙ first.1)
 
-sent_slots : (d : Due) (s : State) (x : ℕ) → (sent d s x).slots ≡ s.slots
-sent_slots Nothing s x = refl
-sent_slots Zero s x = refl
-sent_slots Root s x = refl
-
-decremented_slot : (s : State) (x y : ℕ) → slot_at (decremented s x) y ≡ slot_at (with_slot s x (lessened (slot_at s x))) y
-decremented_slot s x y = ap (λ ss. get_or ss y absent) (sent_slots (due_of (slot_at s x)) (with_slot s x (lessened (slot_at s x))) x)
-
-lessened_uncoloured : (l : Bool) (v : Slot) (r : Bool) → r ≡ false → (lessened_if r l v).colour ≡ Orange → ⊥
-lessened_uncoloured l v true e o = true≢false e
-lessened_uncoloured true v false e o = cc
-lessened_uncoloured false v false e o = cc
-
--- a slot that isn't released and still Orange was not decremented
-down_first : (s : State) (t : Option ℕ) (y : ℕ) → (slot_at s y).released ≡ false → (slot_at (counted_down s t) y).colour ≡ Orange → (is_slot y t ≡ false) × (slot_at (counted_down s t) y ≡ slot_at s y)
-down_first s None y r o = (refl, refl)
-down_first s (Some x) y r o =
-    let v : Slot = slot_at s x in
-    elim (eqb_tells y x) [
-      | inl q ↦ absurd (not_orange_at s x (lessened v) (lessened_uncoloured (eqb v.count 1) v v.released (ap (λ z. (slot_at s z).released) (sym q.1) ∙ r))
-          (ap (λ (w : Slot). w.colour) (sym (decremented_slot s x x)) ∙ ap (λ z. (slot_at (decremented s x) z).colour) (sym q.1) ∙ o))
-      | inr q ↦ (q.0, decremented_slot s x y ∙ get_or-set_other s.slots x y (lessened v) absent q.1)
-    ]
-
-down_released : (s : State) (t : Option ℕ) (y : ℕ) → (slot_at (counted_down s t) y).released ≡ (slot_at s y).released
-down_released s None y = refl
-down_released s (Some x) y = (rest_decremented s x).released y
-
-down_unnamed : (s : State) (ts : List (Option ℕ)) (y : ℕ) → (slot_at s y).released ≡ false → (slot_at (all_down s ts) y).colour ≡ Orange → (named y ts ≡ 0) × (slot_at (all_down s ts) y ≡ slot_at s y)
-unfolding all_down
-down_unnamed s [] y r o = (named-nil y, refl)
-down_unnamed s (t ∷ ts) y r o =
-    let rest = down_unnamed (counted_down s t) ts y (down_released s t y ∙ r) o in
-    let first : (is_slot y t ≡ false) × (slot_at (counted_down s t) y ≡ slot_at s y) = down_first s t y r (ap (λ (w : Slot). w.colour) (sym rest.1) ∙ o) in
-    (omega (arith, named-cons y t ts, rest.0, ap one first.0), rest.1 ∙ first.1)
-
 up_eases : (s : State) (t : Option ℕ) → TestsLess s (counted_up s t)
 up_eases s None = less_same s
 up_eases s (Some x) = less_slot s x (raised (slot_at s x)) (record { set = refl; orange = λ o. cc; eased = λ o. cc })
@@ -122,50 +81,6 @@ batch_unadded s newer older x o =
     let ups : List (Option ℕ) = flat_map up_targets newer in
     let u : (named x ups ≡ 0) × (slot_at (all_up s ups) x ≡ slot_at s x) = up_unnamed s ups x ((less_down (all_up s ups) (flat_map down_targets older)).orange x o) in
     (sym (added_is x newer) ∙ u.0, u.1)
-
--- a batch doesn't name a slot that is Orange after it
-pub batch_uncolours : (s : State) (newer older : List Contents) (x : ℕ) → IsApart s → (slot_at (batch s newer older) x).colour ≡ Orange → (added x newer ≡ 0) × (taken x older ≡ 0) × (slot_at (batch s newer older) x ≡ slot_at s x)
-batch_uncolours s newer older x apart o =
-    let up : State = all_up s (flat_map up_targets newer) in
-    let u : (added x newer ≡ 0) × (slot_at up x ≡ slot_at s x) = batch_unadded s newer older x o in
-    let unreleased : (slot_at up x).released ≡ false = ap (λ (w : Slot). w.released) u.1 ∙ (apart x ((less_batch s newer older).orange x o)).unreleased in
-    let d : (named x (flat_map down_targets older) ≡ 0) × (slot_at (batch s newer older) x ≡ slot_at up x) = down_unnamed up (flat_map down_targets older) x unreleased o in
-    (u.0, sym (taken_is x older) ∙ d.0, d.1 ∙ u.1)
-
--- the orange slots stay apart
-apart_up : (s : State) (t : Option ℕ) → IsApart s → IsApart (counted_up s t)
-apart_up s None a = a
-apart_up s (Some x) a = λ y o.
-    let before : IsMember s y = a y ((up_eases s (Some x)).orange y o) in
-    record { member = before.member; no_zero = before.no_zero; unreleased = ap (λ (w : Slot). w.released) (up_first s (Some x) y o).1 ∙ before.unreleased }
-
-apart_down : (s : State) (t : Option ℕ) → IsApart s → IsApart (counted_down s t)
-apart_down s None a = a
-apart_down s (Some x) a = λ y o.
-    let before : IsMember s y = a y ((less_decremented s x).orange y o) in
-    let same : slot_at (decremented s x) y ≡ slot_at s y = (down_first s (Some x) y before.unreleased o).1 in
-    let z : ZerosFrom s x = zeros_from s x in
-    record {
-      member = subst (λ xss. 0 < times y (concat xss)) (sym (rest_decremented s x).sets) before.member;
-      no_zero = elim (cases_lt 0 (times y z.more)) [
-        | inl l ↦ absurd (omega (arith, z.last y l, z.count y l, ap (λ (w : Slot). w.count) same))
-        | inr l ↦ omega (arith, l, before.no_zero, ap (times y) z.zeros, times-append y s.zeros z.more)
-      ];
-      unreleased = ap (λ (w : Slot). w.released) same ∙ before.unreleased;
-    }
-
-apart_all_up : (s : State) (ts : List (Option ℕ)) → IsApart s → IsApart (all_up s ts)
-unfolding all_up
-apart_all_up s [] a = a
-apart_all_up s (t ∷ ts) a = apart_all_up (counted_up s t) ts (apart_up s t a)
-
-apart_all_down : (s : State) (ts : List (Option ℕ)) → IsApart s → IsApart (all_down s ts)
-unfolding all_down
-apart_all_down s [] a = a
-apart_all_down s (t ∷ ts) a = apart_all_down (counted_down s t) ts (apart_down s t a)
-
-pub apart_batch : (s : State) (newer older : List Contents) → IsApart s → IsApart (batch s newer older)
-apart_batch s newer older a = apart_all_down (all_up s (flat_map up_targets newer)) (flat_map down_targets older) (apart_all_up s (flat_map up_targets newer) a)
 
 -- What the next batch of `w` makes of the counts: less is left to be tested, and it adds nothing to a slot that is Orange after it.
 pub record IsBatchOf (w : Pending) (s t : State) : Type 0 where

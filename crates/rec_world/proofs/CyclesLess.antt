@@ -20,7 +20,7 @@ use Rattle.rec_sigma.specs.Refurbish.{refurbished, fate_at, LastRefurbished}
 use Rattle.rec_sigma.proofs.Cyclics.{in_set, own_set}
 use Rattle.rec_release.specs.CycleFree.{given_up, given_up_slot}
 use Rattle.rec_release.specs.TakenOff.{down_if, is_lowered, taken_off}
-use Rattle.rec_release.specs.Release.{emptied, listed_if, without_first}
+use Rattle.rec_release.specs.Release.{without_first}
 
 -- No slot joins a set, and a set loses no member but with all others. No slot becomes Orange, and the counts of one that is
 -- Orange, less its outside count, haven't grown.
@@ -191,11 +191,3 @@ less_taken_off lowers s (Some x) = less_down_if (is_lowered lowers (slot_at s x)
 pub less_without_first : (zs : List ℕ) (s : State) → TestsLess s (without_first zs s)
 less_without_first [] s = less_same s
 less_without_first (z ∷ zs) s = less_on (less_released s z) (less_listed (with_slot s z (record (slot_at s z) { released = true })) (without_first (z ∷ zs) s) refl refl)
-
--- an emptied slot goes to the free list
-pub less_emptied : (s : State) (x : ℕ) → TestsLess s (emptied s x)
-less_emptied s x = go (slot_at s x).buffered
-  where
-    go : (b : Bool) → TestsLess s (listed_if b s x)
-    go true = less_same s
-    go false = less_listed s (listed_if false s x) refl refl

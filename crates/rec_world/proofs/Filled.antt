@@ -3,7 +3,7 @@ use Rattle.std.proofs.Common.{inl, inr, ◌≡◌, ℕ, ◌+◌, ◌*◌, ◌<�
 use Rattle.std.specs.List.{flat_map}
 use Rattle.std.specs.Option.{IfSome}
 use Rattle.std.specs.Prelude.{slice_range}
-use Rattle.std.proofs.lemmas.List.{take_more, take-append-le, take_all, get_or-map, length-map, take-map, get_or_default}
+use Rattle.std.proofs.lemmas.List.{take_more, take-append-le, get_or-map, length-map, take-map, get_or_default}
 use Rattle.std.proofs.lemmas.List.Elements.{All-get_or}
 use Rattle.std.proofs.lemmas.Bool.{false≢true}
 use Rattle.std.proofs.lemmas.Grind.{flat_map-append}
@@ -14,7 +14,7 @@ use Rattle.rec_model.specs.Reach.{named, is_in}
 use Rattle.rec_model.specs.Reach.IsReached.{child, root}
 use Rattle.rec_model.specs.Numbering.{firsts, firsts_after, joined}
 use Rattle.rec_model.specs.Heap.{roots}
-use Rattle.rec_model.specs.Sight.{Sight, Reaches, targets_of, NumbersSlots}
+use Rattle.rec_model.specs.Sight.{Sight, Reaches, targets_of}
 use Rattle.rec_model.proofs.Firsts.{joined-append, joined-cases}
 use Rattle.rec_model.proofs.Members.{of_all, all_of}
 use Rattle.rec_model.proofs.Named.{joined-step, named-at}
@@ -73,13 +73,6 @@ filled_next w next slot list more filled in_list at_next joins =
         | inr named_here ↦ child slot n (subst (Reaches w) (sym at_next) (All-get_or (Reaches w) list next slot in_list filled.reached)) named_here
       ]);
     }
-
--- and with the last one's it is the numbering
-pub filled_last : (w : Sight) (next : ℕ) (list : List ℕ) → IsFilled w next list → length list ≤ next → NumbersSlots w list
-filled_last w next list filled done = record {
-  order = filled.order ∙ ap (λ ns. firsts (roots w.registers ++ flat_map (targets_of w) ns)) (take_all next list done);
-  reached = filled.reached;
-}
 
 -- the fields of a slot stand among the words
 pub fields_end : (slot slots fields : ℕ) → slot < slots → slot * fields + fields ≤ slots * fields

@@ -1,5 +1,4 @@
 pub mod Calls
-pub mod Clears
 pub mod Commands
 pub mod CoreActors
 pub mod CoreApplying
@@ -14,6 +13,7 @@ pub mod CoreFreeing
 pub mod CoreLanded
 pub mod CoreLandings
 pub mod CoreMoves
+pub mod CoreOffering
 pub mod CoreOpening
 pub mod CorePreparing
 pub mod CoreReach
@@ -33,7 +33,6 @@ pub mod CoreTurning
 pub mod CoreTurns
 pub mod CoreWords
 pub mod CoreZeros
-pub mod CyclesApart
 pub mod CyclesBatch
 pub mod CyclesLess
 pub mod CyclesMarked
@@ -42,11 +41,9 @@ pub mod CyclesTest
 pub mod CyclesTrial
 pub mod CyclesWait
 pub mod Filled
-pub mod Keeps
 pub mod LogStamps
 pub mod Machines
 pub mod Mailboxes
-pub mod Marks
 pub mod Names
 pub mod Numbers
 pub mod Openings

@@ -13,7 +13,7 @@ use Rattle.rec_collector.specs.Private as collectors
 use Rattle.rec_collector.specs.Took as collector_took
 use Rattle.rec_collector.specs.declared.phase.Phase.{Phase}
 use Rattle.rec_collector.specs.declared.phase.Phase.TheVariants.{Idle, Looking, Swapping, Returning, Releasing, Freeing, Trying, Preparing, Opening, Sweeping, Closing}
-use Rattle.rec_world.specs.Mailbox.{held, gathered_from}
+use Rattle.rec_world.specs.Mailbox.{held}
 use Rattle.rec_world.proofs.CoreCrossings.{left_same}
 
 -- a mailbox that is home
@@ -71,33 +71,3 @@ collector_stays c b not = go c.phase not
     go Opening none = refl
     go (Sweeping n) none = refl
     go (Closing n) none = refl
-
--- what its mailbox holds then, where it holds one and where it doesn't
-pub gathered_spare : (c : collectors.Private) (b : Contents) (phase : Phase) → collector_given.IsSwapping phase → gathered_from c b phase ≡ collectors.spare c
-gathered_spare c b Idle is = absurd is
-gathered_spare c b (Looking t) is = absurd is
-gathered_spare c b (Swapping t) is = refl
-gathered_spare c b (Returning t) is = absurd is
-gathered_spare c b Releasing is = absurd is
-gathered_spare c b Freeing is = absurd is
-gathered_spare c b Trying is = absurd is
-gathered_spare c b Preparing is = absurd is
-gathered_spare c b Opening is = absurd is
-gathered_spare c b (Sweeping n) is = absurd is
-gathered_spare c b (Closing n) is = absurd is
-
-gathered_same : (c : collectors.Private) (b : Contents) (phase : Phase) → (collector_given.IsSwapping phase → ⊥) → gathered_from c b phase ≡ b
-gathered_same c b Idle none = refl
-gathered_same c b (Looking t) none = refl
-gathered_same c b (Swapping t) none = absurd (none tt)
-gathered_same c b (Returning t) none = refl
-gathered_same c b Releasing none = refl
-gathered_same c b Freeing none = refl
-gathered_same c b Trying none = refl
-gathered_same c b Preparing none = refl
-gathered_same c b Opening none = refl
-gathered_same c b (Sweeping n) none = refl
-gathered_same c b (Closing n) none = refl
-
-pub gathered_stays : (c : collectors.Private) (x : Option Contents) → IsSome x → (collector_given.IsSwapping c.phase → ⊥) → x ≡ Some (gathered_from c (held x) c.phase)
-gathered_stays c x home not = held_some x home ∙ ap (λ b. Some b) (sym (gathered_same c (held x) c.phase not))

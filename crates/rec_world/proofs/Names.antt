@@ -11,7 +11,9 @@ use Rattle.rec_model.specs.Reach.{named, is_in}
 use Rattle.rec_model.specs.Heap.{roots}
 use Rattle.rec_model.specs.Sight.{Sight, targets_of, words_of, IsTaken, IsSound}
 use Rattle.rec_model.proofs.Members.{is_in-cons, is_in-cases}
-use Rattle.rec_world.specs.Numbering.{NamesBelow}
+use Rattle.rec_world.specs.Core.{Core, sight}
+use Rattle.rec_world.specs.Numbering.{NamesBelow, sight_of}
+use Rattle.rec_world.specs.World.{IsShaped}
 
 -- what each of them may name, they all do
 named_all : (P : ℕ → Type 0) (xs : List (Option ℕ)) → All (λ x. IfSome x P) xs → (n : ℕ) → is_in n (named xs) ≡ true → P n
@@ -69,3 +71,12 @@ names_sound w sound = record {
     ]
   ];
 }
+
+-- so do those of a heap
+pub names_below : (w : Core) → IsShaped w → NamesBelow (sight_of (sight w).registers w.words w.config.fields) w.config.slots
+names_below w shaped =
+    let names : NamesBelow (sight w) (length w.headers) = names_sound (sight w) shaped.sound in
+    record {
+      registers = λ slot there. subst (λ n. slot < n) shaped.headers (names.registers slot there);
+      fields = λ s slot there. subst (λ n. slot < n) shaped.headers (names.fields s slot there);
+    }

@@ -1,5 +1,5 @@
 -- The core of a heap with its collector: the shared words, the mailboxes, and the private record of each actor.
-use Rattle.std.specs.Prelude.{ℕ, ◌-◌, ◌*◌, zero, suc, Bool, false, List, [], ◌∷◌, ◌++◌, length, map, replicate, slice_index_or, slice_set}
+use Rattle.std.specs.Prelude.{ℕ, ◌-◌, ◌*◌, zero, suc, List, [], ◌∷◌, ◌++◌, length, map, replicate, slice_index_or, slice_set}
 use Rattle.rec_model.specs.Sight.{Sight, opening_sight}
 use Rattle.rec_log.specs.declared.contents.Contents.{Contents}
 use Rattle.rec_mutator.specs.Private.{Private, opened as opened_machine}
@@ -9,7 +9,7 @@ use Rattle.rec_world.specs.declared.config.Config.{Config}
 use Rattle.rec_world.specs.Memory.{Cells}
 
 -- the numbers; headers, field words by place, the epoch word, the freed word and the crossing words; what each mutator's mailbox
--- holds; the private records of the mutators and of the collector; the births with the opening one; and whether the heap was marked
+-- holds; the private records of the mutators and of the collector; and the births with the opening one
 pub record Core : Type 0 where
   pub config : Config
   pub headers : List ℕ
@@ -21,7 +21,6 @@ pub record Core : Type 0 where
   pub mutators : List Private
   pub collector : collectors.Private
   pub made : ℕ
-  pub marked : Bool
 
 -- the shared words
 abbrev pub cells_of : Core → Cells
@@ -86,5 +85,4 @@ opened config =
       mutators = opened_mutators config config.mutators;
       collector = collectors.opened config.slots config.fields config.registers config.mutators config.log_entries config.first_epoch;
       made = 1;
-      marked = false;
     }

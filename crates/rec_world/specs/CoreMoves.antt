@@ -72,23 +72,31 @@ turned_at w (Some op) = turned_by w op (cell (cells_of w) op)
 abbrev pub turned : Core → Core
 turned w = turned_at w (collector_next.next_of w.collector)
 
--- a mutator begins a work, or makes a step, or the collector makes a turn
+-- every slot that isn't released is to be offered to the next trial
+abbrev pub offering : Core → Core
+offering w = record w { collector = record w.collector { offers = true } }
+
+-- a mutator begins a work, or makes a step, or the collector makes a turn, or all slots are to be offered
 pub data Move : Type 0 where
   Begins : (t : ℕ) → Work → Move
   Steps : (t : ℕ) → Move
   Turns : Move
+  Offers : Move
 
 -- after a move
 abbrev pub after_move : Core → Move → Core
 after_move w (Move.Begins t work) = begun w t work
 after_move w (Move.Steps t) = stepped w t
 after_move w Move.Turns = turned w
+after_move w Move.Offers = offering w
 
--- a mutator may begin a work where it has none that isn't finished, and make a step where it has; the collector may always turn
+-- a mutator may begin a work where it has none that isn't finished, and make a step where it has; the collector may always turn, and
+-- the slots may always be offered
 abbrev pub Fits : Core → Move → Type 0
 Fits w (Move.Begins t work) = IsMutator w.config t × (is_busy (mutator w t) ≡ false) × IsValid (mutator w t) work × HasLabel work
 Fits w (Move.Steps t) = IsMutator w.config t × (is_busy (mutator w t) ≡ true)
 Fits w Move.Turns = Unit {0}
+Fits w Move.Offers = Unit {0}
 
 -- after some moves
 abbrev pub after_moves : Core → List Move → Core

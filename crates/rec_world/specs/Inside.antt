@@ -1,5 +1,5 @@
 -- The heap that the fields of a world make up.
-use Rattle.std.specs.Prelude.{◌≡◌, ℕ, ◌<◌, None, IsSome, length, map, slice_index_or}
+use Rattle.std.specs.Prelude.{ℕ, ◌<◌, None, IsSome, length, map, slice_index_or}
 use Rattle.rec_world.specs.Core.{Core}
 use Rattle.rec_world.specs.Mailbox.{held}
 use Rattle.rec_world.specs.World.{IsWorld}
@@ -19,11 +19,9 @@ core inside =
       mutators = inside.machines.items;
       collector = inside.collector;
       made = inside.made;
-      marked = inside.marked;
     }
 
--- what the fields of every world keep; every mailbox is home, and there is a number for each slot
+-- what the fields of every world keep; every mailbox is home
 pub record IsWhole (inside : Inside) : Type 0 where
   pub world : IsWorld (core inside)
   pub home : (i : ℕ) → i < length inside.boxes.items → IsSome (slice_index_or inside.boxes.items i None)
-  pub numbering : inside.numbering.slots ≡ inside.config.slots

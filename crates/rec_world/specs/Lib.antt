@@ -17,6 +17,7 @@ pub mod Mailbox
 pub mod Memory
 pub mod Numbering
 pub mod Order
+pub mod Settled
 pub mod Worked
 pub mod World
 pub use Rattle.rec_model.specs.Asking

@@ -1,7 +1,6 @@
 -- The words of a heap, and the one that an operation names.
-use Rattle.std.specs.Prelude.{◌≡◌, ◌≢◌, ℕ, ◌+◌, ◌-◌, ◌*◌, ◌<◌, ◌≤◌, ◌==◌, if◌then◌else◌, true, false, List, length, replicate, slice_index_or, slice_range, slice_set}
+use Rattle.std.specs.Prelude.{ℕ, ◌-◌, ◌<◌, ◌≤◌, ◌==◌, if◌then◌else◌, List, length, slice_index_or, slice_set}
 use Rattle.rec_word.specs.declared.op.Op.{Op}
-use Rattle.rec_model.specs.Reach.{is_in}
 use Rattle.rec_word.specs.declared.op.Op.TheVariants.{LoadField, SwapField, LoadChild, ClearField, LoadHeader, LoadEpoch, LoadCross, ClaimHeader, FreeHeader, LoadFreed, TakeBox, GiveBox, StoreEpoch, LookBox, ReturnBox, AddFreed}
 
 -- a header for each slot, a word for each field of each slot, the epoch word, the freed word, and a crossing word for each mutator
@@ -73,29 +72,3 @@ with_cell cells AddFreed x = record cells { freed = x }
 abbrev pub births_of : Op → ℕ → ℕ
 births_of (ClaimHeader slot label) found = if found == 0 then 1 else 0
 births_of _ found = 0
-
--- the words of a slot's fields, in order, where each slot has so many
-abbrev pub own_words : ℕ → Cells → ℕ → List ℕ
-own_words fields cells slot = slice_range cells.words (slot * fields) (slot * fields + fields)
-
--- the words that are no header and no field's stay
-pub record KeepsOthers (before after : Cells) : Type 0 where
-  pub epoch : after.epoch ≡ before.epoch
-  pub freed : after.freed ≡ before.freed
-  pub crossing : after.crossing ≡ before.crossing
-
--- a slot's header and words are 0, and all else is as it was
-pub record IsCleared (fields : ℕ) (before after : Cells) (slot : ℕ) : Type 0 where
-  pub headers : after.headers ≡ slice_set before.headers slot 0
-  pub places : length after.words ≡ length before.words
-  pub own : own_words fields after slot ≡ replicate fields 0
-  pub others : (s : ℕ) → s ≢ slot → own_words fields after s ≡ own_words fields before s
-  pub rest : KeepsOthers before after
-
--- the listed slots keep header and words, and every other slot's are 0
-pub record KeepsListed (fields : ℕ) (before after : Cells) (list : List ℕ) : Type 0 where
-  pub slots : length after.headers ≡ length before.headers
-  pub places : length after.words ≡ length before.words
-  pub kept : (s : ℕ) → is_in s list ≡ true → (slice_index_or after.headers s 0 ≡ slice_index_or before.headers s 0) × (own_words fields after s ≡ own_words fields before s)
-  pub freed : (s : ℕ) → s < length before.headers → is_in s list ≡ false → (slice_index_or after.headers s 0 ≡ 0) × (own_words fields after s ≡ replicate fields 0)
-  pub rest : KeepsOthers before after

@@ -1,9 +1,9 @@
--- What every world is, and what a command, a poll and a marking leave of it.
-use Rattle.std.specs.Prelude.{◌≡◌, ◌≢◌, ℕ, ◌+◌, ◌-◌, ◌%◌, ◌^◌, ◌<◌, ◌≤◌, ◌==◌, true, false, if◌then◌else◌, Option, None, Some, All, length, slice_index_or}
+-- What every world is, and what a command, a poll and a turn leave of it.
+use Rattle.std.specs.Prelude.{◌≡◌, ◌≢◌, ℕ, ◌+◌, ◌-◌, ◌%◌, ◌^◌, ◌<◌, ◌≤◌, ◌==◌, true, if◌then◌else◌, Option, None, Some, All, length, slice_index_or}
 use Rattle.rec_word.specs.Op.{crossing_word}
 use Rattle.rec_model.specs.declared.command.Cmd.{Cmd}
 use Rattle.rec_model.specs.LegalOrder.{is_new}
-use Rattle.rec_model.specs.Sight.{Sight, IsSound, IsTaken, Collects}
+use Rattle.rec_model.specs.Sight.{Sight, IsSound, IsTaken}
 use Rattle.rec_mutator.specs.Causes.{MakesEntry}
 use Rattle.rec_mutator.specs.Private.{is_busy, work_of, answer_of}
 use Rattle.rec_mutator.specs.declared.made.Made.{Made}
@@ -20,7 +20,7 @@ use Rattle.rec_world.specs.Worked.{StepsTo}
 pub use Rattle.rec_world.specs.Core.{Core, sight, mutator, with_mutator, crossing_of, log_length, opened}
 pub use Rattle.rec_world.specs.CoreShown.{entries_of}
 
--- what every world keeps of its words and registers, marked or not
+-- what every world keeps of its words and registers
 pub record IsShaped (w : Core) : Type 0 where
   pub config : IsConfig w.config
   pub headers : length w.headers ≡ w.config.slots
@@ -31,20 +31,10 @@ pub record IsShaped (w : Core) : Type 0 where
   pub epoch : w.epoch < 2 ^ 24
   pub sound : IsSound (sight w)
 
--- what marking makes of a heap: the slots that a register reaches keep header and words, and every other is cleared
-pub record IsMarked (before after : Core) : Type 0 where
-  pub collects : Collects (sight before) after.headers after.words
-  pub others : after ≡ record before { headers = after.headers; words = after.words; marked = true }
-
--- a heap that isn't marked is the end of a run from its opening; a marked one is what marking made of one
-pub data HasRun : Core → Type 0 where
-  runs : (w : Core) → w.marked ≡ false → EndsRun w → HasRun w
-  marks : (before w : Core) → HasRun before → IsMarked before w → HasRun w
-
--- what every world is
+-- what every world is: the end of a run from its opening
 pub record IsWorld (w : Core) : Type 0 where
   pub shaped : IsShaped w
-  pub run : HasRun w
+  pub run : EndsRun w
 
 -- the label in a header: none where the slot is free
 abbrev pub label_of : ℕ → Option ℕ
@@ -91,7 +81,6 @@ pub record IsQuiet (before after : Core) (t : ℕ) : Type 0 where
   pub requested : after.epoch ≡ before.epoch
   pub made : after.made ≡ before.made
   pub config : after.config ≡ before.config
-  pub marked : after.marked ≡ before.marked
 
 -- what a scan has found since its begin, where nothing else moved: each slot that it has passed holds an object
 abbrev pub HasFound : Core → Phase → Type 0

@@ -31,9 +31,9 @@ pub fn runs_go_on()
     ensures { (w : Core) (m : Move) → EndsRun w → Fits w m → EndsRun (after_move w m) }
 {}
 
-/// A world that isn't marked is the end of some run from its opening.
+/// A world is the end of some run from its opening.
 pub fn worlds_end_runs()
-    ensures { (w : Core) → IsWorld w → w.marked ≡ false → EndsRun w }
+    ensures { (w : Core) → IsWorld w → EndsRun w }
 {}
 
 /// Nothing that a register reaches is released, freed or handed out again, in any state of any run of a heap with its

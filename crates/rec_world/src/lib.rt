@@ -4,13 +4,12 @@
 //! A work of a mutator, which is a command or a poll, is begun and then goes on step by step: its machine names one
 //! operation, the memory carries it out, and the machine learns the word found; a step that takes the mutator's mailbox swaps
 //! the buffer in it. A turn of the collector is such a step of its machine. `command` and `poll` are a begin and steps to the
-//! end; a journal keeps what was told, an order who was told. At the end the heap is marked from the registers, and what no
-//! register reaches is cleared.
-//! The rules that it keeps: a heap that isn't marked is the end of a run from its opening, whoever made which step when; and
-//! whatever heap that never frees stood for it before a step, the heap that asking gives stands for it afterwards, and the
-//! answer is the one asked. What the collector frees no register reaches.
-//! A `Numbering` lists the slots that registers reach, in the order of a listing: the marking goes by it, and so does the
-//! text of a script. Its list is the one list of the reached slots in that order.
+//! end; a journal keeps what was told, an order who was told. At any time every slot may be offered to the next trial.
+//! The rules that it keeps: a heap is the end of a run from its opening, whoever made which step when; and whatever heap that
+//! never frees stood for it before a step, the heap that asking gives stands for it afterwards, and the answer is the one asked.
+//! What the collector frees no register reaches.
+//! A `Numbering` lists the slots that registers reach, in the order of a listing. Its list is the one list of the reached slots
+//! in that order.
 //! A world as plain data is its `Core`; that module and the others of the name under `specs/` say its moves and what it
 //! keeps.
 //! The layer above may use the contracts of `World`, `Journal`, `Order` and `Numbering`, the definitions of `specs/`, and

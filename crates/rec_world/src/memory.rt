@@ -1,9 +1,8 @@
-ghost use Rattle.std.specs.Prelude.{◌≡◌, ℕ, ◌-◌, ◌*◌, ◌<◌, ◌≤◌, length, ◌∷◌, replicate, slice_index_or, IfOk};
+ghost use Rattle.std.specs.Prelude.{◌≡◌, ℕ, ◌-◌, ◌*◌, ◌<◌, length, ◌∷◌, replicate, slice_index_or, IfOk};
 ghost use Rattle.rec_word.specs.Op.{written};
-ghost use Rattle.rec_world.specs.Memory.{IsWithin, cell, with_cell, IsCleared, KeepsListed};
+ghost use Rattle.rec_world.specs.Memory.{IsWithin, cell, with_cell};
 
-use crate::Numbering;
-use rec_word::{Op, place};
+use rec_word::Op;
 use std::alloc::{AllocError as NoMemory, Global};
 use std::marker::Model;
 
@@ -123,32 +122,5 @@ impl Memory {
         ensures { result ≡ slice_index_or self.now.headers slot 0 }
     {
         self.headers[usize::from(slot)]
-    }
-
-    /// Clears the header and the fields of every slot that isn't numbered.
-    pub fn keep(&mut self, numbering: &Numbering, fields: u8)
-        requires slots { length self.old.headers ≤ 65535 }
-        requires places { length self.old.words ≡ length self.old.headers * fields }
-
-        ensures { KeepsListed fields self.old self.new numbering.now.list }
-    {
-        let slots = self.headers.len() as u16;
-        for slot in 0..slots {
-            if numbering.number(slot).is_none() {
-                self.clear(slot, fields);
-            }
-        }
-    }
-
-    fn clear(&mut self, slot: u16, fields: u8)
-        requires slot { slot < length self.old.headers }
-        requires places { length self.old.words ≡ length self.old.headers * fields }
-
-        ensures { IsCleared fields self.old self.new slot }
-    {
-        for field in 0..fields {
-            self.perform(Op::SwapField(place(slot, field, fields), 0));
-        }
-        self.headers[usize::from(slot)] = 0;
     }
 }

@@ -7,7 +7,7 @@ ghost use Rattle.rec_model.specs.declared.answer.Answer.TheVariants as answers;
 ghost use Rattle.rec_model.specs.Heap.{Heap, opening, register, registers_of};
 ghost use Rattle.rec_model.specs.Explained.{IsExplained};
 ghost use Rattle.rec_model.specs.LegalOrder.{is_birth, word_left};
-ghost use Rattle.rec_model.specs.Sight.{IsTaken, IsCollected, Collects, StandsBy, StandsFor, NumbersSlots};
+ghost use Rattle.rec_model.specs.Sight.{IsTaken, StandsBy, StandsFor, NumbersSlots};
 ghost use Rattle.rec_mutator.specs.Causes.{is_refusal, LacksObject};
 ghost use Rattle.rec_mutator.specs.Private.{is_busy, answer_of, limit_of, work_of};
 ghost use Rattle.rec_mutator.specs.declared.made.Made.TheVariants as makes;
@@ -18,7 +18,7 @@ ghost use Rattle.rec_collector.specs.declared.turn.Turn as turns;
 ghost use Rattle.rec_world.specs.Config.{IsConfig, IsMutator, IsRefused, IsValid, IsWork, HasLabel};
 ghost use Rattle.rec_world.specs.Core.{Core, sight, mutator, crossing_of, log_length, opened, opened_mutator, opened_mutators};
 ghost use Rattle.rec_world.specs.CoreFreed.{AreGone, IsForgotten};
-ghost use Rattle.rec_world.specs.CoreMoves.{begun, stepped, turned, EndsRun};
+ghost use Rattle.rec_world.specs.CoreMoves.{begun, stepped, turned, offering, EndsRun};
 ghost use Rattle.rec_world.specs.CoreReach.{KeepsReached};
 ghost use Rattle.rec_world.specs.CoreShown.{IsShown, entries_of, sight_told};
 ghost use Rattle.rec_world.specs.CoreSwept.{IsSweep};
@@ -46,9 +46,7 @@ pub struct World {
     boxes: Vec<Option<Buffer>>,
     machines: Vec<Machine>,
     collector: Collector,
-    numbering: Numbering,
     made: u64,
-    marked: bool,
 }
 
 impl Model for World {
@@ -103,7 +101,6 @@ impl World {
     pub fn begin(&mut self, t: u8, work: Work)
         requires mutator { IsMutator self.old.config t }
         requires work { IsWork self.old.config work }
-        requires unmarked { self.old.marked ≡ false }
         requires idle { is_busy (mutator self.old t) ≡ false }
 
         ensures begun { self.new ≡ begun self.old t work }
@@ -122,7 +119,6 @@ impl World {
     #[inline(always)]
     pub fn step(&mut self, t: u8) -> Option<Made>
         requires mutator { IsMutator self.old.config t }
-        requires unmarked { self.old.marked ≡ false }
         requires busy { is_busy (mutator self.old t) ≡ true }
 
         ensures stepped { self.new ≡ stepped self.old t }
@@ -154,8 +150,6 @@ impl World {
     /// Makes one turn of the collector: one step of its collection, on the word that this names. It waits for a mutator that
     /// hasn't crossed into the requested epoch, and stops for good where the next request would be epoch 16,777,216.
     pub fn turn(&mut self) -> Turn
-        requires unmarked { self.old.marked ≡ false }
-
         ensures turned { self.new ≡ turned self.old }
 
         // Why each answer comes. A turn that waits, or that finds the epochs spent, changes nothing.
@@ -179,7 +173,6 @@ impl World {
         ensures mutators { self.new.mutators ≡ self.old.mutators }
         ensures config { self.new.config ≡ self.old.config }
         ensures made { self.new.made ≡ self.old.made }
-        ensures marked { self.new.marked ≡ false }
         ensures run { EndsRun self.new }
         ensures kept { IsWorld self.new }
     {
@@ -193,10 +186,19 @@ impl World {
         turn
     }
 
+    /// Every slot that isn't released is to be offered to the next trial as a candidate root. Nothing else changes, until that
+    /// trial starts.
+    pub fn offer_all(&mut self)
+        ensures offered { self.new ≡ offering self.old }
+        ensures run { EndsRun self.new }
+        ensures kept { IsWorld self.new }
+    {
+        self.collector.offer_all();
+    }
+
     /// Carries out a command of mutator `t`, and tells the answer with the field words that it saw and left.
     pub fn command(&mut self, t: u8, cmd: Cmd) -> Told
         requires valid { IsValid self.old.config t cmd }
-        requires unmarked { self.old.marked ≡ false }
         requires idle { is_busy (mutator self.old t) ≡ false }
 
         // The command is begun, its steps are made to the end, and the last one answers.
@@ -228,12 +230,10 @@ impl World {
         ensures others { (s : ℕ) → s ≢ t → 1 ≤ s → mutator self.new s ≡ mutator self.old s }
         ensures idle { is_busy (mutator self.new t) ≡ false }
         ensures config { self.new.config ≡ self.old.config }
-        ensures marked { self.new.marked ≡ false }
         ensures run { EndsRun self.new }
         ensures kept { IsWorld self.new }
     {
-        // A heap is asked until it is marked.
-        prove!(!self.marked);
+        self.rules();
         self.begin(t, Work::Command(cmd));
         match self.finish(t) {
             Made::Answered(told) => told,
@@ -245,7 +245,6 @@ impl World {
     /// that epoch, or `None` where the mutator is in it already.
     pub fn poll(&mut self, t: u8) -> Option<u32>
         requires mutator { IsMutator self.old.config t }
-        requires unmarked { self.old.marked ≡ false }
         requires idle { is_busy (mutator self.old t) ≡ false }
 
         // The poll is begun, its steps are made to the end, and the last one answers.
@@ -262,30 +261,12 @@ impl World {
         ensures run { EndsRun self.new }
         ensures kept { IsWorld self.new }
     {
-        prove!(!self.marked);
+        self.rules();
         self.begin(t, Work::Poll);
         match self.finish(t) {
             Made::Crossed(epoch) => epoch,
             Made::Answered(_) => unreachable!(),
         }
-    }
-
-    /// Marks from the registers, and clears the header and the fields of every slot that no register reaches.
-    pub fn mark(&mut self)
-        // The slots that a register reaches keep header and words, and every other is cleared. All else stays.
-        ensures collects { Collects (sight self.old) self.new.headers self.new.words }
-        ensures others { self.new ≡ record self.old { headers = self.new.headers; words = self.new.words; marked = true } }
-        ensures collected { IsCollected (sight self.new) }
-
-        // Whatever heap that never frees stood for the world still does.
-        ensures stands { (heap : Heap) → StandsFor heap (sight self.old) → StandsFor heap (sight self.new) }
-        ensures kept { IsWorld self.new }
-    {
-        let fields = self.config.fields as u8;
-        self.numbering
-            .fill(&self.machines, self.memory.words(), fields);
-        self.memory.keep(&self.numbering, fields);
-        self.marked = true;
     }
 
     /// Whether the slot holds an object.
@@ -423,6 +404,14 @@ impl World {
         self.memory.crossing.iter().all(|word| word % 2 == 0)
     }
 
+    /// How many slots there are.
+    pub fn slots(&self) -> u16
+        ensures slots { result ≡ self.now.config.slots }
+        ensures kept { IsWorld self.now }
+    {
+        self.config.slots as u16
+    }
+
     /// How many mutators there are.
     pub fn mutators(&self) -> u8
         ensures mutators { result ≡ self.now.config.mutators }
@@ -439,19 +428,17 @@ impl World {
         self.made
     }
 
-    /// Whether the heap was marked. Then it takes no command.
-    pub fn marked(&self) -> bool
-        ensures marked { result ≡ self.now.marked }
-        ensures kept { IsWorld self.now }
+    // What always holds of a heap. It does nothing: its contract is the fact.
+    fn rules(&self)
+        ensures { IsWorld self.now }
     {
-        self.marked
+        let _config = &self.config;
     }
 
     // Steps of mutator `t` until its work is finished, and what came of it.
     #[inline(always)]
     fn finish(&mut self, t: u8) -> Made
         requires mutator { IsMutator self.old.config t }
-        requires unmarked { self.old.marked ≡ false }
         requires begun { HasFound self.old (mutator self.old t).phase }
         requires busy { is_busy (mutator self.old t) ≡ true }
         requires world { IsWorld self.old }
@@ -494,16 +481,13 @@ fn open_in_range(alloc: Global, config: Config) -> Result<World, NoMemory>
         config.log_entries,
         config.first_epoch,
     )?;
-    let numbering = Numbering::open(alloc, config.slots as u16)?;
     Ok(World {
         config,
         memory,
         boxes,
         machines,
         collector,
-        numbering,
         made: 1,
-        marked: false,
     })
 }
 

@@ -1,5 +1,5 @@
 -- How a run ends, from what its parts tell.
-use Rattle.std.proofs.Common.{◌≡◌, ◌⊎◌, inl, inr, ℕ, ◌+◌, ◌<◌, ◌≤◌, List, [], ◌++◌, Option, None, Some, Result, Ok, Err, length, refl, sym, ap, subst, ◌∙◌, arith}
+use Rattle.std.proofs.Common.{◌≡◌, ◌⊎◌, inl, inr, ℕ, ◌+◌, ◌<◌, ◌≤◌, codes, List, [], ◌++◌, Option, None, Some, Result, Ok, Err, length, refl, sym, ap, subst, ◌∙◌, arith}
 use Rattle.std.specs.Result.{IfOk}
 use Rattle.std.proofs.lemmas.Bool.{cases_lt}
 use Rattle.std.proofs.lemmas.List.{append-nil, length-append}
@@ -8,14 +8,18 @@ use Rattle.rec_io.specs.Sink.{Appends}
 use Rattle.rec_io.specs.Source.{Passes}
 use Rattle.rec_model.specs.LegalOrder.{Line, Event, actors}
 use Rattle.rec_model.specs.Listing.{Row, ListsSlots}
-use Rattle.rec_model.specs.Sight.{StandsFor, IsCollected}
+use Rattle.rec_model.specs.Sight.{StandsFor}
 use Rattle.rec_model.proofs.Listed.{listing_carried}
 use Rattle.rec_world.specs.World.{Core, sight}
+use Rattle.rec_world.specs.Settled.{IsSettled}
+use Rattle.rec_settle.specs.Collecting.{IsSettling}
 use Rattle.recycler.specs.declared.status.Status.{Status}
 use Rattle.recycler.specs.declared.status.Status.TheVariants as statuses
 use Rattle.rec_script.specs.declared.error.Kind.{Kind}
 use Rattle.rec_script.specs.declared.error.ScriptError.{ScriptError}
 use Rattle.rec_script.specs.declared.error.ScriptError.TheVariants.{Bad}
+use Rattle.clap.specs.Words.{Row as Found, first_of, subcommand_of}
+use Rattle.recycler.specs.CommandLine.{recycler, Says, AsksBy, Asks, HasFewTurns}
 use Rattle.recycler.specs.Headline.{Are, IsAnswer, Answers, WroteAnswer, WroteFront, ReadNoScript}
 use Rattle.rec_play.specs.Played.{IsPlayed, last_moment}
 use Rattle.rec_script.proofs.Refusing.{refused_no_text}
@@ -158,6 +162,18 @@ refuses (statuses.BadScript l k) request rest left before after reads reads_afte
     let same = refused_once bytes l line k kind (subst (λ all. IsRefused all l k) (sym (found.read bytes told)) found.refused) refused in
     inl (ap (λ n. statuses.BadScript n k) same.0 ∙ ap (statuses.BadScript line) same.1)
 
+-- what a command line asks for is within its limit
+pub asked_turns : (words : List (List ℕ)) (request : Request) → Asks words request → HasFewTurns request
+asked_turns words request asks = go (subcommand_of recycler words) request asks.asked
+  where
+    said : (told : Option (List ℕ)) (n : ℕ) → Says told 1000000 10000000 n → n ≤ 10000000
+    said None n is = omega (arith, is)
+    said (Some text) n is = is.2
+
+    go : (told : Option (List ℕ × List Found)) (request : Request) → AsksBy told request → HasFewTurns request
+    go (Some (name, options)) (requests.Play seed turns) asked = said (first_of (codes "turns") options) turns asked.1.limited
+    go None request asked = absurd asked
+
 -- a fact of each value that was made
 pub if_ok : {T E : Type 0} (r : Result T E) (P Q : T → Type 0) → ((x : T) → P x → Q x) → IfOk r P → IfOk r Q
 if_ok (Ok x) P Q step held = step x held
@@ -165,10 +181,10 @@ if_ok (Err e) P Q step held = held
 
 -- what was played, settled and listed is the answer
 pub answers_script : (script : Contents) (seed turns : ℕ) (journals : List (List Line)) (events : List Event) (end world : Core) (rows : List Row) (text : List ℕ)
-    → IsPlayed script seed turns journals events end → StandsFor (last_moment script events).heap (sight world) → IsCollected (sight world)
+    → IsPlayed script seed turns journals events end → IsSettling end world → IsSettled world → StandsFor (last_moment script events).heap (sight world)
     → length world.headers ≡ script.slots → ListsSlots (sight world) rows
     → text ≡ play_text journals (Some (actors events)) rows (length (last_moment script events).heap.objects) → Answers script seed turns text
-answers_script script seed turns journals events end world rows text played stands collected room listed written =
+answers_script script seed turns journals events end world rows text played settles settled stands room listed written =
     record {
       journals = journals;
       events = events;
@@ -176,11 +192,12 @@ answers_script script seed turns journals events end world rows text played stan
       played = played;
       rows = rows;
       settled = record {
-        seen = sight world;
+        world = world;
+        settles = settles;
+        settled = settled;
         stands = stands;
-        collected = collected;
         room = room;
-        listing = listing_carried (last_moment script events).heap (sight world) rows stands collected listed;
+        listing = listing_carried (last_moment script events).heap (sight world) rows stands settled.collected listed;
       };
       written = written;
     }

@@ -49,6 +49,10 @@ pub record Asks (words : List Text) (request : Request) : Type 0 where
   pub taken : fault_of recycler words ≡ []
   pub asked : AsksBy (subcommand_of recycler words) request
 
+-- a request for at most ten million turns
+abbrev pub HasFewTurns : Request → Type 0
+HasFewTurns (requests.Play seed turns) = turns ≤ 10000000
+
 -- The command takes the words, and each number is in its range.
 abbrev pub IsCommandLine : List Text → Type 0
 IsCommandLine words = (request : Request) × Asks words request

@@ -4,8 +4,10 @@ use Rattle.std.specs.Option.{ForSome}
 use Rattle.rec_model.specs.Heap.{Heap}
 use Rattle.rec_model.specs.LegalOrder.{Line, Event, actors}
 use Rattle.rec_model.specs.Listing.{Row, IsListing}
-use Rattle.rec_model.specs.Sight.{Sight, StandsFor, IsCollected}
-use Rattle.rec_world.specs.Core.{Core}
+use Rattle.rec_model.specs.Sight.{StandsFor}
+use Rattle.rec_world.specs.Core.{Core, sight}
+use Rattle.rec_world.specs.Settled.{IsSettled}
+use Rattle.rec_settle.specs.Collecting.{IsSettling}
 use Rattle.rec_play.specs.Played.{IsPlayed, last_moment}
 use Rattle.rec_io.specs.Sink.{Appends}
 use Rattle.rec_script.specs.Lines.{lines}
@@ -16,12 +18,14 @@ use Rattle.rec_script.specs.declared.error.Kind.{Kind}
 use Rattle.rec_report.specs.Text.{play_text}
 use Rattle.recycler.specs.Whole.{IsAtEnd}
 
--- The heap is settled: just what registers reach holds slots, of which there are so many, and these are its rows.
-pub record IsSettledAs (heap : Heap) (slots : ℕ) (rows : List Row) : Type 0 where
-  pub seen : Sight
-  pub stands : StandsFor heap seen
-  pub collected : IsCollected seen
-  pub room : length seen.headers ≡ slots
+-- Settling came to this world: just what registers reach holds slots, of which there are so many, and the count of each is the number
+-- of fields and registers that hold it. The heap stands for it, and these are its rows.
+pub record IsSettledAs (end : Core) (heap : Heap) (slots : ℕ) (rows : List Row) : Type 0 where
+  pub world : Core
+  pub settles : IsSettling end world
+  pub settled : IsSettled world
+  pub stands : StandsFor heap (sight world)
+  pub room : length world.headers ≡ slots
   pub listing : IsListing heap rows
 
 -- The text answers the script: each printed answer is the one that the heap that never frees gives to the script's
@@ -34,7 +38,7 @@ pub record Answers (script : Contents) (seed turns : ℕ) (text : List ℕ) : Ty
   pub end : Core
   pub played : IsPlayed script seed turns journals events end
   pub rows : List Row
-  pub settled : IsSettledAs (last_moment script events).heap script.slots rows
+  pub settled : IsSettledAs end (last_moment script events).heap script.slots rows
   pub written : text ≡ play_text journals (Some (actors events)) rows (length (last_moment script events).heap.objects)
 
 -- The bytes are the text of a script within the limits, and the answer is the script's, in the order drawn from the seed.

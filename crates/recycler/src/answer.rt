@@ -8,6 +8,7 @@ ghost use Rattle.recycler.specs.Headline.{Answers};
 use rec_play::{config_for, journals_for, order_for, play};
 use rec_report::{Text, text};
 use rec_script::Script;
+use rec_settle::settle;
 use rec_world::{Journal, OpenError, Order, World};
 use std::alloc::{AllocError as NoMemory, Global};
 
@@ -18,6 +19,7 @@ pub fn answer_script(
     seed: u64,
     turns: u32,
 ) -> Result<Text, NoMemory>
+    requires { turns ≤ 10000000 }
     ensures { IfOk result (λ text. Answers script.now seed turns (flat_map (λ line. line) text)) }
 {
     let world = open_world(alloc, script)?;
@@ -40,11 +42,15 @@ fn text_of(
     requires journals { AreReady script.now.commands journals.old }
     requires order { order.list ≡ [] }
     requires room { sum (lengths_of script.now) ≤ order.room }
+    requires turns { turns ≤ 10000000 }
 
     ensures { IfOk result (λ text. Answers script.now seed turns (flat_map (λ line. line) text)) }
 {
     play(script, seed, turns, &mut world, journals, &mut order);
-    world.mark();
+    // Each turn requests one epoch more at most, so there are enough left to settle.
+    let Ok(_) = settle(&mut world) else {
+        unreachable!();
+    };
     text(alloc, script, journals, Some(&order), &world)
 }
 

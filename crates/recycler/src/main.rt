@@ -13,6 +13,8 @@ mod command_line;
 mod gate;
 mod reading;
 mod run;
+#[cfg(test)]
+mod settling_tests;
 mod status;
 mod writing;
 

@@ -4,7 +4,7 @@ ghost use Rattle.std.specs.List.{flat_map};
 ghost use Rattle.rec_io.specs.Faults.{Rose};
 ghost use Rattle.rec_script.specs.Script.{IsText, IsRefused};
 ghost use Rattle.rec_script.specs.declared.error.Kind.{Kind};
-ghost use Rattle.recycler.specs.CommandLine.{Asks, IsCommandLine};
+ghost use Rattle.recycler.specs.CommandLine.{Asks, HasFewTurns, IsCommandLine};
 ghost use Rattle.recycler.specs.Headline.{IsAnswer, WroteAnswer, WroteFront, ReadNoScript};
 ghost use Rattle.recycler.specs.Status.{may_write};
 ghost use Rattle.recycler.specs.declared.command_line.Request.{Request as Asked};
@@ -72,6 +72,7 @@ fn answer_source<S: Source, K: Sink>(
     source: &mut S,
     sink: &mut K,
 ) -> Status
+    requires { HasFewTurns request }
     ensures done { result ≡ Status.Done → WroteAnswer request (S.rest source.old) (S.rest source.new) (K.written sink.old) (K.written sink.new) }
     ensures not_usage { result ≡ Status.Usage → ⊥ }
     ensures bad_script { (line : ℕ) (kind : Kind) → result ≡ Status.BadScript line kind → ReadNoScript (S.rest source.old) (S.rest source.new) line kind }
@@ -98,6 +99,7 @@ fn answer_source<S: Source, K: Sink>(
 
 // The answer of the script in the bytes to a request.
 fn answer(alloc: Global, request: Request, bytes: Vec<u8>) -> Result<Text, ScriptError>
+    requires { HasFewTurns request }
     ensures answer { IfOk result (λ text. IsAnswer request bytes.items (flat_map (λ line. line) text)) }
     ensures refused { (line : ℕ) (kind : Kind) → result ≡ Err (ScriptError.Bad line kind) → IsRefused bytes.items line kind }
 {

@@ -95,7 +95,7 @@ pub(super) fn happen(rt: &impl Abort, world: &mut World, event: Event)
         Begins(t, work) => begin(rt, world, t, work),
         Steps(t, made) => assert_eq!(rt; step(rt, world, t), made),
         Polls(t, epoch) => assert_eq!(rt; poll(rt, world, t), epoch, "mutator {t}"),
-        Turns(expected) => assert_eq!(rt; turn(rt, world), expected),
+        Turns(expected) => assert_eq!(rt; world.turn(), expected),
         Collects(epoch, freed) => assert_eq!(rt; collect(rt, world, epoch), freed, "epoch {epoch}"),
         Frees(word) => turn_until(rt, world, word),
     }
@@ -104,12 +104,10 @@ pub(super) fn happen(rt: &impl Abort, world: &mut World, event: Event)
 // Mutator `t` is there, and is asked nothing at the moment.
 fn see_idle(rt: &impl Abort, world: &World, t: u8)
     ensures mutator { IsMutator world.now.config t }
-    ensures unmarked { world.now.marked ≡ false }
     ensures idle { is_busy (mutator world.now t) ≡ false }
 {
     assert!(rt; world.valid(t, &null(0)));
     assert!(rt; !world.busy(t));
-    assert!(rt; !world.marked());
 }
 
 fn begin(rt: &impl Abort, world: &mut World, t: u8, work: Work)
@@ -127,7 +125,6 @@ fn step(rt: &impl Abort, world: &mut World, t: u8) -> Option<Made>
 {
     assert!(rt; world.valid(t, &null(0)));
     assert!(rt; world.busy(t));
-    assert!(rt; !world.marked());
     world.step(t)
 }
 
@@ -138,19 +135,12 @@ fn poll(rt: &impl Abort, world: &mut World, t: u8) -> Option<u32>
     world.poll(t)
 }
 
-fn turn(rt: &impl Abort, world: &mut World) -> Turn
-    ensures { world.new.config ≡ world.old.config }
-{
-    assert!(rt; !world.marked());
-    world.turn()
-}
-
 // Turns to the end of the collection of this epoch; how many slots it swept.
 fn collect(rt: &impl Abort, world: &mut World, epoch: u32) -> u32
     ensures { world.new.config ≡ world.old.config }
 {
     for _ in 0..TURNS {
-        if let Turn::Collected { epoch: done, freed } = turn(rt, world) {
+        if let Turn::Collected { epoch: done, freed } = world.turn() {
             assert_eq!(rt; done, epoch);
             return freed;
         }
@@ -166,7 +156,7 @@ fn turn_until(rt: &impl Abort, world: &mut World, word: u64)
         if world.freed_word() == word {
             return;
         }
-        assert_eq!(rt; turn(rt, world), Turn::Moved);
+        assert_eq!(rt; world.turn(), Turn::Moved);
     }
     panic!(rt; "the freed word is never {word}")
 }

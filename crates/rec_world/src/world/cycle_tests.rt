@@ -194,3 +194,26 @@ fn a_later_set_holds_an_earlier_one(rt: HostRuntime) -> Result<(), Fail> {
     );
     Ok(())
 }
+
+// Only the first object is tried in the first collection: marking loads its field, and so does blackening. Where every slot is
+// offered, the fields of all eight are loaded so.
+#[test]
+fn offered_slots_are_tried(rt: HostRuntime) -> Result<(), Fail> {
+    for offers in [false, true] {
+        let mut world = World::open(rt.alloc(), ONE)?;
+        let begins = [Asks(1, new(1, 1), Answer::Done), MOVED, Polls(1, Some(2))];
+        play(&rt, &mut world, &begins);
+        if offers {
+            world.offer_all();
+        }
+        // The mailbox is taken and given back, and a field of the first object is loaded.
+        play(&rt, &mut world, &[MOVED; 3]);
+        if offers {
+            play(&rt, &mut world, &[MOVED; 14]);
+        }
+        let last = Turn::Collected { epoch: 1, freed: 0 };
+        play(&rt, &mut world, &[Turns(last)]);
+        assert_eq!(rt; standing(&world, 1), (true, 2));
+    }
+    Ok(())
+}

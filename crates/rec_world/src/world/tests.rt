@@ -3,7 +3,6 @@ ghost use Rattle.std.specs.Prelude.{◌≡◌};
 use super::*;
 use crate::Part;
 use rec_model::Answer;
-use rec_word::target;
 use std::process::Abort;
 use std::test::Fail;
 
@@ -29,7 +28,6 @@ pub(super) fn ask_of(rt: &impl Abort, world: &mut World, t: u8, cmd: Cmd) -> Tol
 {
     assert!(rt; world.valid(t, &cmd));
     assert!(rt; !world.busy(t));
-    assert!(rt; !world.marked());
     world.command(t, cmd)
 }
 
@@ -89,7 +87,6 @@ fn mutators_take_turns(rt: HostRuntime) -> Result<(), Fail> {
     let new = Cmd::New { reg: 1, label: 9 };
     assert!(rt; world.valid(1, &new));
     assert!(rt; !world.busy(1));
-    assert!(rt; !world.marked());
     world.begin(1, Work::Command(new));
     assert!(rt; world.busy(1));
     assert_eq!(rt; world.step(1), None);
@@ -100,10 +97,8 @@ fn mutators_take_turns(rt: HostRuntime) -> Result<(), Fail> {
     };
     assert_eq!(rt; ask_of(&rt, &mut world, 2, put).answer, Answer::Done);
     assert!(rt; !world.busy(2));
-    assert!(rt; !world.marked());
     assert_eq!(rt; world.poll(2), None);
     assert!(rt; world.busy(1));
-    assert!(rt; !world.marked());
     assert_eq!(rt; world.step(1), None);
     assert!(rt; world.busy(1));
     assert_eq!(rt; world.made(), 1);
@@ -112,7 +107,6 @@ fn mutators_take_turns(rt: HostRuntime) -> Result<(), Fail> {
         saw: 0,
         left: 0,
     };
-    assert!(rt; !world.marked());
     assert_eq!(rt; world.step(1), Some(Made::Answered(done)));
     assert!(rt; !world.busy(1));
     assert_eq!(rt; world.made(), 2);
@@ -134,7 +128,6 @@ fn opens_with_one_object(rt: HostRuntime) -> Result<(), Fail> {
     assert_eq!(rt; world.register(1, 0), Some(0));
     assert_eq!(rt; world.register(1, 1), None);
     assert_eq!(rt; world.made(), 1);
-    assert!(rt; !world.marked());
     assert!(rt;
         world.valid(
             1,
@@ -238,10 +231,8 @@ fn a_full_log_refuses_until_its_mutator_crosses(rt: HostRuntime) -> Result<(), F
     assert_eq!(rt; world.field(1), 0);
     let new = Cmd::New { reg: 0, label: 1 };
     assert_eq!(rt; ask(&rt, &mut world, new).answer, Answer::LogFull);
-    assert!(rt; !world.marked());
     assert_eq!(rt; world.turn(), Turn::Moved);
     assert!(rt; !world.busy(1));
-    assert!(rt; !world.marked());
     assert_eq!(rt; world.poll(1), Some(2));
     assert_eq!(rt; ask(&rt, &mut world, next).answer, Answer::Done);
     Ok(())
@@ -259,7 +250,7 @@ fn a_full_heap_refuses_births(rt: HostRuntime) -> Result<(), Fail> {
 
 // Slots 1 and 2 hold each other, and register 1 holds the second; slot 3 and, once register 0 is null, slot 0 are garbage.
 #[test]
-fn marking_keeps_a_cycle_in_reach(rt: HostRuntime) -> Result<(), Fail> {
+fn a_cycle_in_reach_is_numbered(rt: HostRuntime) -> Result<(), Fail> {
     let mut world = World::open(rt.alloc(), CONFIG)?;
     ask(&rt, &mut world, Cmd::New { reg: 0, label: 5 });
     ask(&rt, &mut world, Cmd::New { reg: 1, label: 6 });
@@ -298,14 +289,5 @@ fn marking_keeps_a_cycle_in_reach(rt: HostRuntime) -> Result<(), Fail> {
     assert_eq!(rt; numbering.list(), [2, 1].as_slice());
     assert_eq!(rt; numbering.number(1), Some(2));
     assert_eq!(rt; numbering.number(3), None);
-    world.mark();
-    assert!(rt; world.marked());
-    assert!(rt; !world.taken(0));
-    assert_eq!(rt; world.label(1), Some(5));
-    assert_eq!(rt; world.label(2), Some(6));
-    assert!(rt; !world.taken(3));
-    assert_eq!(rt; world.field(6), 0);
-    assert_eq!(rt; target(world.field(2)), Some(2));
-    assert_eq!(rt; world.made(), 4);
     Ok(())
 }

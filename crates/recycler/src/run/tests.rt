@@ -13,7 +13,7 @@ const SIX: &str =
 const EMPTY_HEAP: &str = "live 1\n#1 label 0 count 1 fields -\nmade 1 refused 0 freed 0\n";
 
 // A script of one mutator and its text, whatever the seed.
-const ROWS: [(&str, &str); 7] = [
+const ROWS: [(&str, &str); 8] = [
     (
         "recycler 1\nheap 4 1 2\nmutator\nnull 0\n",
         "1.1 done\nlive 0\nmade 1 refused 0 freed 1\n",
@@ -38,6 +38,10 @@ const ROWS: [(&str, &str); 7] = [
     (
         "recycler 1\nheap 2 1 4\nmutator\nnew 1 3\ncopy 2 1\ncopy 3 1\n",
         "1.1 done\n1.2 done\n1.3 done\nlive 2\n#1 label 0 count 1 fields -\n#2 label 3 count 3 fields -\nmade 2 refused 0 freed 0\n",
+    ),
+    (
+        "recycler 1\nheap 8 2 4\nmutator\nnew 1 1\nnew 2 2\nput 1 0 2\nput 2 0 1\nnull 1\nnull 2\n",
+        "1.1 done\n1.2 done\n1.3 done\n1.4 done\n1.5 done\n1.6 done\nlive 1\n#1 label 0 count 1 fields - -\nmade 3 refused 0 freed 2\n",
     ),
 ];
 

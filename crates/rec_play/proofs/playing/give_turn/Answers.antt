@@ -17,11 +17,10 @@ returns-clause-commanded c =
       _,
       c.command-told.result,
       ap (λ xs. slice_get xs (length c.args.journal.now.lines)) own ∙ ap (slice_get cmds) at ∙ slice_get-get_or cmds (length c.lines.result.now) _ next,
-      polled_by c.args.world.now c.poll.new.self c.args.t c.poll.result c.requires.unmarked c.poll.ensures.quiet c.poll.ensures.crossed c.poll.ensures.idle c.poll.ensures.kept c.poll.ensures.worked,
+      polled_by c.args.world.now c.poll.new.self c.args.t c.poll.result c.poll.ensures.quiet c.poll.ensures.crossed c.poll.ensures.idle c.poll.ensures.kept c.poll.ensures.worked,
       record {
         stays = record {
           config = c.command-told.ensures.config;
-          unmarked = c.command-told.ensures.marked;
           slots = c.command-told.ensures.kept.shaped.headers ∙ ap (λ (x : Config). x.slots) c.command-told.ensures.config ∙ sym c.poll.ensures.kept.shaped.headers;
           sound = c.command-told.ensures.kept.shaped.sound;
         };

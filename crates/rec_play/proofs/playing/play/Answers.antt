@@ -1,14 +1,13 @@
-use Rattle.std.proofs.Common.{◌≡◌, ℕ, ◌-◌, ◌<◌, ◌≤◌, List, [], ◌∷◌, ◌++◌, slice_index_or, slice_set, length, take, refl, sym, ap, subst, ◌∙◌, arith}
+use Rattle.std.proofs.Common.{◌≡◌, ℕ, ◌-◌, ◌<◌, List, [], ◌∷◌, ◌++◌, slice_index_or, slice_set, length, take, refl, sym, ap, subst, ◌∙◌, arith}
 use Rattle.std.specs.List.{slice_get}
 use Rattle.std.proofs.lemmas.List.{length-map}
-use Rattle.std.proofs.lemmas.Option.{slice_get-get_or, get_or_from_slice_get}
 use Rattle.rec_world.specs.Journal.{Notes}
 use Rattle.rec_world.specs.Order.{Turns}
 use Rattle.rec_world.specs.Core.{Core}
 use Rattle.rec_script.specs.Script.{Contents}
 use Rattle.rec_play.specs.declared.actor.Actor.{Actor}
 use Rattle.rec_play.specs.declared.actor.Actor.TheVariants.{Mutator, Collector}
-use Rattle.rec_play.specs.Played.{lengths_of, no_notes}
+use Rattle.rec_play.specs.Played.{lengths_of}
 use Rattle.rec_play.specs.Playing.{Rest, generator_of, to_come}
 use Rattle.rec_play.proofs.Going.{commands_at}
 use Rattle.rec_play.proofs.Rounds.{Between, IsTurnOf, notes_at, journal_is, start, turn_of, turn_made, turn_of_collector, few_noted, epochs_made, order_made, all_played}
@@ -87,6 +86,9 @@ returns-clause-played c =
       (so.so.shows.number, so.so.shows.stands),
       so.so.shows.made,
     )
+
+pub returns-clause-idle : goal.returns-clause-idle
+returns-clause-idle c = c.loop-actor.invariant.so.idle
 
 pub returns-clause-order : goal.returns-clause-order
 returns-clause-order c =

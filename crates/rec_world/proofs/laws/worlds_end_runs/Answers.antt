@@ -1,5 +1,4 @@
-use Rattle.rec_world.proofs.Calls.{world_run}
 use Rattle.rec_world.proofs.laws.worlds_end_runs.Goals as goal
 
 pub returns : goal.returns
-returns c = world_run
+returns c = λ w world. world.run

@@ -1,14 +1,14 @@
 -- The parts make up the heap as it is opened.
-use Rattle.std.proofs.Common.{◌≡◌, false, map, sym, subst}
+use Rattle.std.proofs.Common.{◌≡◌, map, sym, subst}
 use Rattle.rec_world.specs.Core.{Core, opened}
 use Rattle.rec_world.specs.Mailbox.{held}
 use Rattle.rec_world.specs.World.{IsWorld}
 use Rattle.rec_world.proofs.Calls.{opened_parts, opened_world, opened_home}
 use Rattle.rec_world.proofs.world.open_in_range.Goals as goal
-use Rattle.rec_world.proofs.world.open_in_range.Goals.{In_ok-numbering}
+use Rattle.rec_world.proofs.world.open_in_range.Goals.{In_ok-collector}
 
 -- the core that is made
-made : In_ok-numbering → Core
+made : In_ok-collector → Core
 made c =
     record {
       config = c.args.config;
@@ -21,17 +21,16 @@ made c =
       mutators = c.in_ok-machines.machines.items;
       collector = c.in_ok-collector.collector;
       made = 1;
-      marked = false;
     }
 
-is_opened : (c : In_ok-numbering) → made c ≡ opened c.args.config
+is_opened : (c : In_ok-collector) → made c ≡ opened c.args.config
 unfolding made
 is_opened c = opened_parts c.args.config c.in_ok-memory.memory c.in_ok-boxes.boxes.items c.in_ok-machines.machines.items c.in_ok-collector.collector c.in_ok-memory.ensures c.in_ok-boxes.ensures c.in_ok-machines.ensures c.in_ok-collector.ensures.opened
 
 pub invariant_of-result : goal.invariant_of-result
 unfolding made
 invariant_of-result c =
-    record { world = subst IsWorld (sym (is_opened c)) (opened_world c.args.config c.requires); home = opened_home c.args.config c.in_ok-boxes.boxes.items c.in_ok-boxes.ensures; numbering = c.in_ok-numbering.ensures.slots }
+    record { world = subst IsWorld (sym (is_opened c)) (opened_world c.args.config c.requires); home = opened_home c.args.config c.in_ok-boxes.boxes.items c.in_ok-boxes.ensures }
 
 pub returns-clause-opened : goal.returns-clause-opened
 unfolding made

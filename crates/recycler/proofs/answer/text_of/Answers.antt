@@ -1,5 +1,5 @@
 -- What was played, settled and listed is the answer.
-use Rattle.std.proofs.Common.{◌≡◌, ◌∙◌, ℕ, List, Some, sym, ap, subst}
+use Rattle.std.proofs.Common.{◌≡◌, ◌∙◌, ℕ, ◌+◌, ◌<◌, ◌≤◌, List, Some, sym, ap, subst, arith}
 use Rattle.std.specs.List.{flat_map}
 use Rattle.rec_model.specs.LegalOrder.{Line, actors}
 use Rattle.rec_world.specs.World.{Core}
@@ -23,13 +23,13 @@ returns c =
     let script : Contents = c.args.script.now in
     let (events, played, stands, made) = c.play.ensures.played in
     let journals : List (List Line) = lines_of c.play.new.journals in
-    let world : Core = c.mark.new.self in
+    let world : Core = c.settle.new.world in
     let in_order : c.play.new.order.list ≡ actors events = c.play.ensures.order ∙ sym played.in_order in
     if_ok c.text.result _ (λ text. Answers script c.args.seed c.args.turns (flat_map (λ line. line) text))
     (λ text (rows, listed, is). answers_script script c.args.seed c.args.turns journals events c.play.new.world world rows (flat_map (λ line. line) text) played
-    (c.mark.ensures.stands (last_moment script events).heap stands) c.mark.ensures.collected
-    (c.mark.ensures.kept.shaped.headers ∙ ap (λ (w : Core). w.config.slots) c.mark.ensures.others ∙ ap (λ (k : Config). k.slots) c.play.ensures.config)
+    c.in-Ok.ensures.settles c.in-Ok.ensures.settled (stands.0, c.settle.ensures.stands (last_moment script events).heap stands.0 stands.1)
+    (c.settle.ensures.kept.shaped.headers ∙ ap (λ (k : Config). k.slots) (c.settle.ensures.config ∙ c.play.ensures.config))
     listed
-    (ap joined is ∙ ap (λ (ts : List ℕ). play_text journals (Some ts) rows c.mark.new.self.made) in_order
-    ∙ ap (λ n. play_text journals (Some (actors events)) rows n) (ap (λ (w : Core). w.made) c.mark.ensures.others ∙ made)))
+    (ap joined is ∙ ap (λ (ts : List ℕ). play_text journals (Some ts) rows world.made) in_order
+    ∙ ap (λ n. play_text journals (Some (actors events)) rows n) (c.settle.ensures.made ∙ made)))
     c.text.ensures.lines

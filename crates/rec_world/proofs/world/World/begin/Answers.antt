@@ -7,7 +7,7 @@ use Rattle.rec_world.specs.CoreKept.{IsKept}
 use Rattle.rec_world.specs.CoreMoves.{Move, Fits, EndsRun, begun}
 use Rattle.rec_world.specs.Inside.{core}
 use Rattle.rec_world.specs.World.{IsWorld}
-use Rattle.rec_world.proofs.Calls.{Ready, ready, mutator_read, begun_is, moved_world, own_work, world_kept, world_run}
+use Rattle.rec_world.proofs.Calls.{Ready, ready, mutator_read, begun_is, moved_world, own_work, world_kept}
 use Rattle.rec_world.proofs.CoreAsked.{begun_sight}
 use Rattle.rec_world.proofs.world.World.begin.Goals as goal
 use Rattle.rec_world.proofs.world.World.begin.Goals.{After-begin}
@@ -16,12 +16,9 @@ use Rattle.rec_world.proofs.world.World.begin.Goals.{After-begin}
 abbrev before : After-begin → Core
 before c = core c.self.inside
 
-unmarked : (c : After-begin) → (before c).marked ≡ false
-unmarked c = ap (λ (s : Core). s.marked) c.self.view_is ∙ c.requires.unmarked
-
 -- what it keeps
 kept : (c : After-begin) → IsKept (before c)
-kept c = world_kept (before c) c.self.invariant.world (unmarked c)
+kept c = world_kept (before c) c.self.invariant.world
 
 -- its mutator
 mutator_is : (c : After-begin) → IsMutator (before c).config c.args.t
@@ -38,7 +35,7 @@ fits c = (
 
 pub begin-requires-clause-valid : goal.begin-requires-clause-valid
 begin-requires-clause-valid c =
-    let now : Ready c.self.inside c.args.t = ready c.self.inside c.args.self.now c.args.t c.self.invariant c.self.view_is c.requires.mutator c.requires.unmarked in
+    let now : Ready c.self.inside c.args.t = ready c.self.inside c.args.self.now c.args.t c.self.invariant c.self.view_is c.requires.mutator in
     subst (λ (p : Private). IsValid p c.args.work) (sym (mutator_read (core c.self.inside) c.args.t c.from.result c.index_mut.result.now c.self.invariant.world.shaped now.is c.from.ensures c.index_mut.ensures.value))
     (own_work (core c.self.inside) c.args.t c.args.work now.kept now.is (subst (λ (s : Core). IsWork s.config c.args.work) (sym c.self.view_is) c.requires.work))
 
@@ -48,17 +45,17 @@ left c = begun_is (before c) c.args.t c.from.result c.args.work c.index_mut.resu
 
 -- it is a world
 world : (c : After-begin) → IsWorld (begun (before c) c.args.t c.args.work)
-world c = moved_world (before c) (Move.Begins c.args.t c.args.work) c.self.invariant.world (unmarked c) (fits c)
+world c = moved_world (before c) (Move.Begins c.args.t c.args.work) c.self.invariant.world (fits c)
 
 pub invariant_of-self : goal.invariant_of-self
 invariant_of-self c =
     let here : After-begin = (goal.at.invariant_of-self c).After-begin in
-    record { world = subst IsWorld (sym (left here)) (world here); home = c.self.invariant.home; numbering = c.self.invariant.numbering }
+    record { world = subst IsWorld (sym (left here)) (world here); home = c.self.invariant.home }
 
 pub returns-clause-run : goal.returns-clause-run
 returns-clause-run c =
     let here : After-begin = (goal.at.returns-clause-run c).After-begin in
-    subst EndsRun (sym (left here)) (world_run _ (world here) (unmarked here))
+    subst EndsRun (sym (left here)) ((world here).run)
 
 pub returns-clause-kept : goal.returns-clause-kept
 returns-clause-kept c =

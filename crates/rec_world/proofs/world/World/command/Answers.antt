@@ -1,7 +1,7 @@
 -- The last step of the command says all.
-use Rattle.std.proofs.Common.{sym, subst, ◌∙◌}
+use Rattle.std.proofs.Common.{sym, subst}
 use Rattle.rec_world.specs.Core.{Core, mutator}
-use Rattle.rec_world.specs.World.{HasFound, IsWorld}
+use Rattle.rec_world.specs.World.{HasFound}
 use Rattle.rec_world.proofs.Calls.{world_kept, finished_kept, begun_found, worked}
 use Rattle.rec_world.proofs.Commands.{IsAnswered, command_said, command_crosses}
 use Rattle.rec_world.proofs.world.World.command.Goals as goal
@@ -10,20 +10,20 @@ use Rattle.rec_world.proofs.world.World.command.Goals.{In-Answered}
 -- what is said of the command
 said : (c : In-Answered) → IsAnswered c.args.self.now c.finish.new.self c.args.t c.args.cmd c.in-Answered.told
 said c =
-    command_said c.args.self.now c.begin.new.self c.finish.new.self c.args.t c.args.cmd c.in-Answered.told (world_kept c.args.self.now (subst IsWorld c.self.view_is c.self.invariant.world) c.requires.unmarked)
+    command_said c.args.self.now c.begin.new.self c.finish.new.self c.args.t c.args.cmd c.in-Answered.told (world_kept c.args.self.now c.rules.ensures)
     c.requires.valid.0 c.begin.ensures.begun c.begin.ensures.work c.in-Answered.ensures.finished
-    (finished_kept c.args.self.now c.begin.new.self c.finish.new.self c.args.t _ _ c.requires.unmarked c.begin.ensures.begun c.in-Answered.ensures.finished)
+    (finished_kept c.args.self.now c.begin.new.self c.finish.new.self c.args.t _ _ c.begin.ensures.begun c.in-Answered.ensures.finished)
 
 pub finish-requires-clause-begun : goal.finish-requires-clause-begun
 finish-requires-clause-begun c =
     subst (λ (x : Core). HasFound x (mutator x c.args.t).phase) (sym c.begin.ensures.begun)
-    (begun_found c.args.self.now c.args.t _ (world_kept c.args.self.now (subst IsWorld c.self.view_is c.self.invariant.world) c.requires.unmarked) c.requires.valid.0)
+    (begun_found c.args.self.now c.args.t _ (world_kept c.args.self.now c.rules.ensures) c.requires.valid.0)
 
 pub unreachable-requires : goal.unreachable-requires
 unreachable-requires c =
-    command_crosses c.args.self.now c.begin.new.self c.finish.new.self c.args.t c.args.cmd c.in-Crossed.field-0 (world_kept c.args.self.now (subst IsWorld c.self.view_is c.self.invariant.world) c.requires.unmarked)
+    command_crosses c.args.self.now c.begin.new.self c.finish.new.self c.args.t c.args.cmd c.in-Crossed.field-0 (world_kept c.args.self.now c.rules.ensures)
     c.requires.valid.0 c.begin.ensures.begun c.begin.ensures.work c.in-Crossed.ensures.finished
-    (finished_kept c.args.self.now c.begin.new.self c.finish.new.self c.args.t _ _ c.requires.unmarked c.begin.ensures.begun c.in-Crossed.ensures.finished)
+    (finished_kept c.args.self.now c.begin.new.self c.finish.new.self c.args.t _ _ c.begin.ensures.begun c.in-Crossed.ensures.finished)
 
 pub returns-clause-worked : goal.returns-clause-worked
 returns-clause-worked c = worked c.args.self.now c.begin.new.self c.finish.new.self c.args.t _ _ c.begin.ensures.begun c.in-Answered.ensures.finished (said c).idle
@@ -81,6 +81,3 @@ returns-clause-collector c = (said c).collector
 
 pub returns-clause-config : goal.returns-clause-config
 returns-clause-config c = (said c).config
-
-pub returns-clause-marked : goal.returns-clause-marked
-returns-clause-marked c = (said c).marked ∙ c.requires.unmarked

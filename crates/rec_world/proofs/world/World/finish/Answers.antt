@@ -7,7 +7,7 @@ use Rattle.rec_world.specs.Core.{Core, mutator}
 use Rattle.rec_world.specs.CoreKept.{IsKept}
 use Rattle.rec_world.specs.Worked.{StepsTo}
 use Rattle.rec_world.proofs.Calls.{world_kept}
-use Rattle.rec_world.proofs.Commands.{waits_none, waited, waits_marked, nearer, mutator_there}
+use Rattle.rec_world.proofs.Commands.{waits_none, waited, nearer, mutator_there}
 use Rattle.rec_world.proofs.world.World.finish.Goals as goal
 
 pub loop-made-init : goal.loop-made-init
@@ -18,7 +18,7 @@ loop-made-preserved c =
     let before : Core = c.args.self.now in
     let w : Core = c.loop-made.self in
     let is : IsMutator w.config c.args.t = mutator_there before w c.args.t c.loop-made.invariant.waits c.requires.mutator in
-    let kept : IsKept w = world_kept w c.loop-made.invariant.world (waits_marked before w c.args.t c.loop-made.invariant.waits ∙ c.requires.unmarked) in
+    let kept : IsKept w = world_kept w c.loop-made.invariant.world in
     let none : answer_of (mutator c.step.new.self c.args.t) ≡ None = sym c.step.ensures.answer ∙ c.in_default.is in
     record {
       path = StepsTo.further w c.step.new.self c.loop-made.invariant.path c.loop-made.invariant.busy c.step.ensures.stepped;
@@ -32,5 +32,5 @@ pub loop-made-smaller : goal.loop-made-smaller
 loop-made-smaller c =
     let before : Core = c.args.self.now in
     let w : Core = c.loop-made.self in
-    nearer before w c.step.new.self c.args.t (world_kept w c.loop-made.invariant.world (waits_marked before w c.args.t c.loop-made.invariant.waits ∙ c.requires.unmarked))
+    nearer before w c.step.new.self c.args.t (world_kept w c.loop-made.invariant.world)
     (mutator_there before w c.args.t c.loop-made.invariant.waits c.requires.mutator) c.loop-made.invariant.busy c.loop-made.invariant.waits c.step.ensures.stepped

@@ -4,7 +4,7 @@ use Rattle.rec_model.specs.Sight.{NumbersSlots}
 use Rattle.rec_world.specs.Inside.{core}
 use Rattle.rec_world.specs.Numbering.{NamesBelow, sight_of}
 use Rattle.rec_world.specs.Core.{Core, sight}
-use Rattle.rec_world.proofs.Marks.{names_below}
+use Rattle.rec_world.proofs.Names.{names_below}
 use Rattle.rec_world.proofs.world.World.number.Goals as goal
 
 pub fill-requires : goal.fill-requires

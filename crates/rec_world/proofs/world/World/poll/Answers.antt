@@ -1,7 +1,7 @@
 -- The last step of the poll says all.
 use Rattle.std.proofs.Common.{sym, subst}
 use Rattle.rec_world.specs.Core.{Core, mutator}
-use Rattle.rec_world.specs.World.{HasFound, IsWorld}
+use Rattle.rec_world.specs.World.{HasFound}
 use Rattle.rec_world.proofs.Calls.{world_kept, finished_kept, begun_found, worked}
 use Rattle.rec_world.proofs.Commands.{IsPolled, poll_said, poll_answers}
 use Rattle.rec_world.proofs.world.World.poll.Goals as goal
@@ -10,20 +10,20 @@ use Rattle.rec_world.proofs.world.World.poll.Goals.{In-Crossed}
 -- what is said of the poll
 said : (c : In-Crossed) → IsPolled c.args.self.now c.finish.new.self c.args.t c.in-Crossed.epoch
 said c =
-    poll_said c.args.self.now c.begin.new.self c.finish.new.self c.args.t c.in-Crossed.epoch (world_kept c.args.self.now (subst IsWorld c.self.view_is c.self.invariant.world) c.requires.unmarked)
+    poll_said c.args.self.now c.begin.new.self c.finish.new.self c.args.t c.in-Crossed.epoch (world_kept c.args.self.now c.rules.ensures)
     c.requires.mutator c.begin.ensures.begun c.begin.ensures.work c.in-Crossed.ensures.finished
-    (finished_kept c.args.self.now c.begin.new.self c.finish.new.self c.args.t _ _ c.requires.unmarked c.begin.ensures.begun c.in-Crossed.ensures.finished)
+    (finished_kept c.args.self.now c.begin.new.self c.finish.new.self c.args.t _ _ c.begin.ensures.begun c.in-Crossed.ensures.finished)
 
 pub finish-requires-clause-begun : goal.finish-requires-clause-begun
 finish-requires-clause-begun c =
     subst (λ (x : Core). HasFound x (mutator x c.args.t).phase) (sym c.begin.ensures.begun)
-    (begun_found c.args.self.now c.args.t _ (world_kept c.args.self.now (subst IsWorld c.self.view_is c.self.invariant.world) c.requires.unmarked) c.requires.mutator)
+    (begun_found c.args.self.now c.args.t _ (world_kept c.args.self.now c.rules.ensures) c.requires.mutator)
 
 pub unreachable-requires : goal.unreachable-requires
 unreachable-requires c =
-    poll_answers c.args.self.now c.begin.new.self c.finish.new.self c.args.t c.in-Answered.field-0 (world_kept c.args.self.now (subst IsWorld c.self.view_is c.self.invariant.world) c.requires.unmarked)
+    poll_answers c.args.self.now c.begin.new.self c.finish.new.self c.args.t c.in-Answered.field-0 (world_kept c.args.self.now c.rules.ensures)
     c.requires.mutator c.begin.ensures.begun c.begin.ensures.work c.in-Answered.ensures.finished
-    (finished_kept c.args.self.now c.begin.new.self c.finish.new.self c.args.t _ _ c.requires.unmarked c.begin.ensures.begun c.in-Answered.ensures.finished)
+    (finished_kept c.args.self.now c.begin.new.self c.finish.new.self c.args.t _ _ c.begin.ensures.begun c.in-Answered.ensures.finished)
 
 pub returns-clause-worked : goal.returns-clause-worked
 returns-clause-worked c = worked c.args.self.now c.begin.new.self c.finish.new.self c.args.t _ _ c.begin.ensures.begun c.in-Crossed.ensures.finished (said c).idle

@@ -12,7 +12,7 @@ use Rattle.rec_world.specs.Inside.{core}
 use Rattle.rec_world.specs.Mailbox.{held}
 use Rattle.rec_world.specs.Memory.{IsWithin, cell, births_of}
 use Rattle.rec_world.specs.World.{IsWorld}
-use Rattle.rec_world.proofs.Calls.{Ready, ready, mutator_read, box_read, box_home, home_again, machine_left, stepped_is, moved_world, world_run, made_small, births_few}
+use Rattle.rec_world.proofs.Calls.{Ready, ready, mutator_read, box_read, box_home, home_again, machine_left, stepped_is, moved_world, made_small, births_few}
 use Rattle.rec_world.proofs.Commands.{work_stays, step_busy, steps_counted, steps_limited}
 use Rattle.rec_world.proofs.CoreRuns.{move_kept}
 use Rattle.rec_world.proofs.CoreShowing.{step_shown}
@@ -22,7 +22,7 @@ use Rattle.rec_world.proofs.world.World.step.Goals.{After-index_mut-machine, Aft
 
 -- what is known as the machine is asked
 begins : (c : After-index_mut-machine) → Ready c.self.inside c.args.t
-begins c = ready c.self.inside c.args.self.now c.args.t c.self.invariant c.self.view_is c.requires.mutator c.requires.unmarked
+begins c = ready c.self.inside c.args.self.now c.args.t c.self.invariant c.self.view_is c.requires.mutator
 
 may : (c : After-index_mut-machine) → MayStep (core c.self.inside) c.args.t
 may c = may_step (core c.self.inside) c.args.t (begins c).kept (begins c).is (ap (λ (s : Core). is_busy (mutator s c.args.t)) c.self.view_is ∙ c.requires.busy)
@@ -76,7 +76,7 @@ overflow_add-self c =
 
 -- what is known as the step ends
 ends : (c : After-answer) → Ready c.self.inside c.args.t
-ends c = ready c.self.inside c.args.self.now c.args.t c.self.invariant c.self.view_is c.requires.mutator c.requires.unmarked
+ends c = ready c.self.inside c.args.self.now c.args.t c.self.invariant c.self.view_is c.requires.mutator
 
 was_busy : (c : After-answer) → is_busy (mutator (core c.self.inside) c.args.t) ≡ true
 was_busy c = ap (λ (s : Core). is_busy (mutator s c.args.t)) c.self.view_is ∙ c.requires.busy
@@ -103,11 +103,11 @@ left c =
     c.next-op.ensures c.perform-found.ensures.found c.perform-found.ensures.left c.took.ensures.took c.swap_own.ensures.machine c.swap_own.ensures.mailbox c.births.ensures
 
 world : (c : After-answer) → IsWorld (after c)
-world c = subst IsWorld (sym (left c)) (moved_world (core c.self.inside) (Move.Steps c.args.t) c.self.invariant.world (ends c).unmarked ((ends c).is, was_busy c))
+world c = subst IsWorld (sym (left c)) (moved_world (core c.self.inside) (Move.Steps c.args.t) c.self.invariant.world ((ends c).is, was_busy c))
 
 pub invariant_of-self : goal.invariant_of-self
 invariant_of-self c =
-    record { world = world (goal.at.invariant_of-self c).After-answer; home = home_again c.self.inside.boxes.items (c.from-index.result - 1) c.swap_own.new.mailbox (ap is_some c.swap_own.ensures.mailbox) c.self.invariant.home; numbering = c.self.invariant.numbering }
+    record { world = world (goal.at.invariant_of-self c).After-answer; home = home_again c.self.inside.boxes.items (c.from-index.result - 1) c.swap_own.new.mailbox (ap is_some c.swap_own.ensures.mailbox) c.self.invariant.home }
 
 pub returns-clause-stepped : goal.returns-clause-stepped
 returns-clause-stepped c = left (goal.at.returns-clause-stepped c).After-answer ∙ ap (λ (s : Core). stepped s c.args.t) c.self.view_is
@@ -159,7 +159,7 @@ returns-clause-limit c =
 pub returns-clause-run : goal.returns-clause-run
 returns-clause-run c =
     let at : After-answer = (goal.at.returns-clause-run c).After-answer in
-    world_run (after at) (world at) (ends at).unmarked
+    (world at).run
 
 pub returns-clause-kept : goal.returns-clause-kept
 returns-clause-kept c = world (goal.at.returns-clause-kept c).After-answer

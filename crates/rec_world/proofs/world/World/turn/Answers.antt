@@ -22,7 +22,7 @@ use Rattle.rec_world.specs.Inside.{core}
 use Rattle.rec_world.specs.Mailbox.{held}
 use Rattle.rec_world.specs.Memory.{cell}
 use Rattle.rec_world.specs.World.{IsWorld, TurnHasCause}
-use Rattle.rec_world.proofs.Calls.{ReadyToTurn, ready_to_turn, box_read, box_home, home_again, moved_world, world_run}
+use Rattle.rec_world.proofs.Calls.{ReadyToTurn, ready_to_turn, box_read, box_home, home_again, moved_world}
 use Rattle.rec_world.proofs.CoreFreed.{freed_is_forgotten, given_up_are_gone}
 use Rattle.rec_world.proofs.CoreReach.{turned_keeps, keeps_stands_by}
 use Rattle.rec_world.proofs.CoreRuns.{move_kept, move_stays}
@@ -35,7 +35,7 @@ use Rattle.rec_world.proofs.world.World.turn.Goals.{In_default, In-Some, After-p
 -- where no operation comes next, the epochs are spent
 pub returns-in_default-clause-cause : goal.returns-in_default-clause-cause
 returns-in_default-clause-cause c =
-    let now : ReadyToTurn c.self.inside = ready_to_turn c.self.inside c.args.self.now c.self.invariant c.self.view_is c.requires.unmarked in
+    let now : ReadyToTurn c.self.inside = ready_to_turn c.self.inside c.self.invariant in
     let spent = c.next.ensures.none.0 (ap is_some c.in_default.is) in (
       ap (λ (s : Core). s.collector.phase) (sym c.self.view_is) ∙ spent.0,
       ap (λ (s : Core). s.epoch + 1) (sym c.self.view_is) ∙ ap (λ n. n + 1) (sym now.kept.collector.epoch) ∙ spent.1,
@@ -43,11 +43,11 @@ returns-in_default-clause-cause c =
     )
 
 pub returns-in_default-clause-run : goal.returns-in_default-clause-run
-returns-in_default-clause-run c = subst EndsRun c.self.view_is (world_run (core c.self.inside) c.self.invariant.world (ready_to_turn c.self.inside c.args.self.now c.self.invariant c.self.view_is c.requires.unmarked).unmarked)
+returns-in_default-clause-run c = subst EndsRun c.self.view_is c.self.invariant.world.run
 
 -- what is known as the operation is named
 begins : (c : In-Some) → ReadyToTurn c.self.inside
-begins c = ready_to_turn c.self.inside c.args.self.now c.self.invariant c.self.view_is c.requires.unmarked
+begins c = ready_to_turn c.self.inside c.self.invariant
 
 named : (c : In-Some) → ◌≡◌ {A = Option Op} (next_of c.self.inside.collector) (Some c.in-Some.op)
 named c = sym c.next.ensures.next ∙ c.in-Some.is
@@ -72,7 +72,7 @@ overflow_sub-from c = subst (λ n. 1 ≤ n) (sym (number (goal.at.overflow_sub-f
 boxed : (c : After-from) → c.from.result - 1 < length c.self.inside.boxes.items
 boxed c =
     subst (λ n. n - 1 < length c.self.inside.boxes.items) (sym (number c))
-    (ready_to_turn c.self.inside c.args.self.now c.self.invariant c.self.view_is c.requires.unmarked).boxed
+    (ready_to_turn c.self.inside c.self.invariant).boxed
 
 pub index_mut-mailbox-requires : goal.index_mut-mailbox-requires
 index_mut-mailbox-requires c = let there : c.from.result - 1 < length c.self.inside.boxes.items = boxed (goal.at.index_mut-mailbox-requires c).After-from in omega (arith, there)
@@ -106,7 +106,7 @@ after c =
 
 -- what is known as the turn ends
 ends : (c : After-swap_gathered) → ReadyToTurn c.self.inside
-ends c = ready_to_turn c.self.inside c.args.self.now c.self.invariant c.self.view_is c.requires.unmarked
+ends c = ready_to_turn c.self.inside c.self.invariant
 
 its_op : (c : After-swap_gathered) → ◌≡◌ {A = Option Op} (next_of c.self.inside.collector) (Some c.in-Some.op)
 its_op c = sym c.next.ensures.next ∙ c.in-Some.is
@@ -118,14 +118,13 @@ left c =
     (ends c).kept.collector.between refl (ends c).boxed (its_op c) (c.from.ensures ∙ c.mailbox_of.ensures) c.index_mut-mailbox.ensures.value c.perform-found.ensures.found c.perform-found.ensures.left c.took-turn.ensures.took c.swap_gathered.ensures.collector c.swap_gathered.ensures.mailbox
 
 world : (c : After-swap_gathered) → IsWorld (after c)
-world c = subst IsWorld (sym (left c)) (moved_world (core c.self.inside) Move.Turns c.self.invariant.world (ends c).unmarked tt)
+world c = subst IsWorld (sym (left c)) (moved_world (core c.self.inside) Move.Turns c.self.invariant.world tt)
 
 pub invariant_of-self : goal.invariant_of-self
 invariant_of-self c =
     record {
       world = world (goal.at.invariant_of-self c).After-swap_gathered;
       home = home_again c.self.inside.boxes.items (c.from.result - 1) c.swap_gathered.new.mailbox (ap is_some c.swap_gathered.ensures.mailbox) c.self.invariant.home;
-      numbering = c.self.invariant.numbering;
     }
 
 pub returns-clause-turned : goal.returns-clause-turned
@@ -180,11 +179,11 @@ returns-clause-sweep c =
     subst (λ (s : Core). IsSweep s (after at)) c.self.view_is (subst (IsSweep (core c.self.inside)) (sym (left at)) (turned_sweeps (core c.self.inside) (ends at).kept))
 
 pub returns-in_default-clause-gone : goal.returns-in_default-clause-gone
-returns-in_default-clause-gone c = subst AreGone c.self.view_is (given_up_are_gone (core c.self.inside) (ready_to_turn c.self.inside c.args.self.now c.self.invariant c.self.view_is c.requires.unmarked).kept)
+returns-in_default-clause-gone c = subst AreGone c.self.view_is (given_up_are_gone (core c.self.inside) (ready_to_turn c.self.inside c.self.invariant).kept)
 
 pub returns-in_default-clause-forgotten : goal.returns-in_default-clause-forgotten
 returns-in_default-clause-forgotten c = λ slot.
-    let now : ReadyToTurn c.self.inside = ready_to_turn c.self.inside c.args.self.now c.self.invariant c.self.view_is c.requires.unmarked in
+    let now : ReadyToTurn c.self.inside = ready_to_turn c.self.inside c.self.invariant in
     subst (λ (s : Core). ◌≡◌ {A = Option Op} (next_of s.collector) (Some (FreeHeader slot)) → IsForgotten s slot) c.self.view_is (freed_is_forgotten (core c.self.inside) slot now.kept)
 
 pub returns-clause-gone : goal.returns-clause-gone
@@ -201,13 +200,13 @@ pub returns-clause-requested : goal.returns-clause-requested
 returns-clause-requested c =
     let at : After-swap_gathered = (goal.at.returns-clause-requested c).After-swap_gathered in
     let w : Core = core c.self.inside in
-    let few : (turned w).epoch ≤ w.epoch + 1 = turn_requests w (turned w) c.took-turn.result (ends at).kept (move_kept w Move.Turns (ends at).kept tt) (move_stays w Move.Turns).0 (caused at) in
+    let few : (turned w).epoch ≤ w.epoch + 1 = turn_requests w (turned w) c.took-turn.result (ends at).kept (move_kept w Move.Turns (ends at).kept tt) (move_stays w Move.Turns) (caused at) in
     subst (λ (s : Core). (after at).epoch ≤ s.epoch + 1) c.self.view_is (subst (λ (s : Core). s.epoch ≤ w.epoch + 1) (sym (left at)) few)
 
 pub returns-clause-run : goal.returns-clause-run
 returns-clause-run c =
     let at : After-swap_gathered = (goal.at.returns-clause-run c).After-swap_gathered in
-    world_run (after at) (world at) (ends at).unmarked
+    (world at).run
 
 pub returns-clause-kept : goal.returns-clause-kept
 returns-clause-kept c = world (goal.at.returns-clause-kept c).After-swap_gathered

@@ -1,0 +1,121 @@
+-- What is known in the midst of a collection that settling makes, and once it is complete.
+use Rattle.std.proofs.Common.{◌≡◌, ℕ, ◌+◌, ◌≤◌, refl, sym, ap, subst, ◌∙◌, arith}
+use Rattle.rec_model.specs.Sight.{Sight}
+use Rattle.rec_collector.specs.Kept.{under_way}
+use Rattle.rec_collector.specs.Private.{Private}
+use Rattle.rec_collector.specs.declared.phase.Phase.{Phase}
+use Rattle.rec_collector.specs.declared.phase.Phase.TheVariants.{Idle, Looking, Swapping, Returning, Releasing, Freeing, Trying, Preparing, Opening, Sweeping, Closing}
+use Rattle.rec_world.specs.Core.{Core, sight}
+use Rattle.rec_world.specs.CoreKept.{IsKept}
+use Rattle.rec_world.specs.CoreMoves.{turned, Move}
+use Rattle.rec_world.proofs.CoreRuns.{move_kept, move_stays}
+use Rattle.rec_settle.specs.Collecting.{HasPolled, IsAmid, IsCollection}
+use Rattle.rec_settle.specs.Quiet.{IsQuiet}
+use Rattle.rec_settle.specs.Resting.{holds, Round, RestsIn, TurnsTo, epochs_before, next_round}
+use Rattle.rec_settle.proofs.QuietPolls.{polled_kept, quiet_polled}
+use Rattle.rec_settle.proofs.QuietTurns.{quiet_turned}
+use Rattle.rec_settle.proofs.RestingSeen.{rests_seen}
+use Rattle.rec_settle.proofs.Rounds.{rests_turned}
+use Rattle.rec_settle.proofs.Turns.{turn_is}
+
+-- every heap keeps what it keeps over a turn
+pub turn_kept : (w : Core) → IsKept w → IsKept (turned w)
+turn_kept w kept = move_kept w Move.Turns kept tt
+
+-- In the midst of a collection mutators are at rest, and no collection more is complete.
+pub record IsQuietAmid (first : ℕ) (before w : Core) : Type 0 where
+  pub kept : IsKept w
+  pub quiet : IsQuiet first w
+  pub config : w.config ≡ before.config
+  pub collections : w.collector.collections ≡ before.collector.collections
+
+pub quiet_amid : (first : ℕ) (before w : Core) → IsKept before → IsQuiet first before → IsAmid before w → IsQuietAmid first before w
+quiet_amid first before w kept quiet (IsAmid.here _ is) = subst (IsQuietAmid first before) (sym is) (record { kept = kept; quiet = quiet; config = refl; collections = refl })
+quiet_amid first before w kept quiet (IsAmid.turns u _ path is cause) =
+    let h = quiet_amid first before u kept quiet path in
+    let after : IsKept (turned u) = turn_kept u h.kept in
+    record {
+      kept = subst IsKept (sym is) after;
+      quiet = subst (IsQuiet first) (sym is) (quiet_turned first u (turned u) h.kept after (turn_is u h.kept) h.quiet);
+      config = ap (λ (x : Core). x.config) is ∙ move_stays u Move.Turns ∙ h.config;
+      collections = cause.1 ∙ h.collections;
+    }
+quiet_amid first before w kept quiet (IsAmid.polls u _ t path awaited polled) =
+    let h = quiet_amid first before u kept quiet path in
+    record {
+      kept = polled_kept first u w t h.kept awaited.there polled.worked h.quiet;
+      quiet = quiet_polled first u w t h.kept awaited.there polled.worked h.quiet;
+      config = polled.quiet.config ∙ h.config;
+      collections = ap (λ (c : Private). c.collections) polled.quiet.collector ∙ h.collections;
+    }
+
+-- and once it is complete
+pub record IsQuietAfter (first : ℕ) (before after : Core) : Type 0 where
+  pub kept : IsKept after
+  pub quiet : IsQuiet first after
+  pub config : after.config ≡ before.config
+  pub collections : after.collector.collections ≡ before.collector.collections + 1
+
+pub quiet_after : (first : ℕ) (before after : Core) → IsKept before → IsQuiet first before → IsCollection before after → IsQuietAfter first before after
+quiet_after first before after kept quiet c =
+    let h = quiet_amid first before c.last kept quiet c.path in
+    let next : IsKept (turned c.last) = turn_kept c.last h.kept in
+    record {
+      kept = subst IsKept (sym c.turns) next;
+      quiet = subst (IsQuiet first) (sym c.turns) (quiet_turned first c.last (turned c.last) h.kept next (turn_is c.last h.kept) h.quiet);
+      config = ap (λ (x : Core). x.config) c.turns ∙ move_stays c.last Move.Turns ∙ h.config;
+      collections = c.complete.3 ∙ ap (λ n. n + 1) h.collections;
+    }
+
+-- a collection that isn't complete is under way
+pub busy_way : (phase : Phase) → (phase ≡ Idle → ⊥) → under_way phase ≡ 1
+busy_way Idle busy = absurd (busy refl)
+busy_way (Looking t) busy = refl
+busy_way (Swapping t) busy = refl
+busy_way (Returning t) busy = refl
+busy_way Releasing busy = refl
+busy_way Freeing busy = refl
+busy_way Trying busy = refl
+busy_way Preparing busy = refl
+busy_way Opening busy = refl
+busy_way (Sweeping n) busy = refl
+busy_way (Closing n) busy = refl
+
+-- A collection of a round, which began at rest, when nothing had been written or born for so many epochs.
+module _ (first : ℕ) (r : Round) (before : Core) (kept : IsKept before) (quiet : IsQuiet first before) (idle : before.collector.phase ≡ Idle) (late : first + epochs_before r ≤ before.epoch + 1) (some : r ≡ Round.Over → ⊥)
+    (begun : RestsIn r before before.words before.collector before.collector.phase) where
+  -- the requested epoch, while the collection is under way
+  late_amid : (w : Core) → IsQuietAmid first before w → (w.collector.phase ≡ Idle → ⊥) → first + epochs_before r ≤ w.epoch
+  late_amid w h busy =
+      let first_epoch : w.config.first_epoch ≡ before.config.first_epoch = ap (λ c. c.first_epoch) h.config in
+      let now : w.config.first_epoch + w.collector.collections + under_way w.collector.phase ≡ w.epoch = h.kept.collector.begun in
+      let then : before.config.first_epoch + before.collector.collections + under_way before.collector.phase ≡ before.epoch = kept.collector.begun in
+      omega (arith, now, then, first_epoch, h.collections, busy_way w.collector.phase busy, ap under_way idle, late)
+
+  -- a poll leaves what is known
+  polled_rests : (w v : Core) (t : ℕ) → HasPolled w t v → RestsIn r w w.words w.collector w.collector.phase → RestsIn r v v.words v.collector v.collector.phase
+  polled_rests w v t polled h =
+      let seen : sight v ≡ sight w = polled.quiet.seen in
+      let over : RestsIn r v w.words w.collector w.collector.phase = rests_seen r w v polled.quiet.config (ap holds seen) w.words w.collector w.collector.phase h in
+      subst (λ ws. RestsIn r v ws v.collector v.collector.phase) (sym (ap (λ (s : Sight). s.words) seen)) (subst (λ (c : Private). RestsIn r v w.words c c.phase) (sym polled.quiet.collector) over)
+
+  rests_amid : (w : Core) → IsAmid before w → RestsIn r w w.words w.collector w.collector.phase
+  rests_amid w (IsAmid.here _ is) = subst (λ (x : Core). RestsIn r x x.words x.collector x.collector.phase) (sym is) begun
+  rests_amid w (IsAmid.turns u _ path is cause) =
+      let h = quiet_amid first before u kept quiet path in
+      subst (λ (x : Core). RestsIn r x x.words x.collector x.collector.phase) (sym is) (go (rests_turned first u h.kept h.quiet r (late_amid u h) some (rests_amid u path)))
+    where
+      go : TurnsTo r u (turned u) → RestsIn r (turned u) (turned u).words (turned u).collector (turned u).collector.phase
+      go (TurnsTo.goes_on stays rests) = rests
+      go (TurnsTo.completes more at rests) = absurd (omega (arith, more, sym (ap (λ (x : Core). x.collector.collections) is) ∙ cause.1))
+  rests_amid w (IsAmid.polls u _ t path awaited polled) = polled_rests u w t polled (rests_amid u path)
+
+  -- Once it is complete, the next round may begin.
+  pub rests_after : (after : Core) → IsCollection before after → RestsIn (next_round r) after after.words after.collector Idle
+  rests_after after c =
+      let h = quiet_amid first before c.last kept quiet c.path in
+      subst (λ (x : Core). RestsIn (next_round r) x x.words x.collector Idle) (sym c.turns) (go (rests_turned first c.last h.kept h.quiet r (late_amid c.last h) some (rests_amid c.last c.path)))
+    where
+      go : TurnsTo r c.last (turned c.last) → RestsIn (next_round r) (turned c.last) (turned c.last).words (turned c.last).collector Idle
+      go (TurnsTo.goes_on stays rests) = absurd (omega (arith, stays, sym (ap (λ (x : Core). x.collector.collections) c.turns) ∙ c.complete.3))
+      go (TurnsTo.completes more at rests) = rests

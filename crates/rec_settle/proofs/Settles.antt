@@ -1,0 +1,180 @@
+-- Settling comes to a settled heap, from every state of a run in which no mutator works.
+use Rattle.std.proofs.Common.{◌≡◌, ◌≢◌, ℕ, ◌+◌, ◌*◌, ◌^◌, ◌<◌, ◌≤◌, refl, sym, ap, subst, ◌∙◌, arith}
+use Rattle.std.proofs.Math.Nat.{mul-le-mul_right}
+use Rattle.rec_collector.specs.Kept.{under_way}
+use Rattle.rec_collector.specs.declared.phase.Phase.{Phase}
+use Rattle.rec_collector.specs.declared.phase.Phase.TheVariants.{Idle, Looking, Swapping, Returning, Releasing, Freeing, Trying, Preparing, Opening, Sweeping, Closing}
+use Rattle.rec_world.specs.Core.{Core}
+use Rattle.rec_world.specs.CoreKept.{IsKept}
+use Rattle.rec_world.specs.CoreMoves.{offering}
+use Rattle.rec_world.specs.Settled.{IsSettled}
+use Rattle.rec_world.proofs.CoreOffering.{offering_kept}
+use Rattle.rec_settle.specs.Collecting.{AreIdle, IsCollection, Finishes, IsSettling}
+use Rattle.rec_settle.specs.Quiet.{IsQuiet}
+use Rattle.rec_settle.specs.Resting.{Round, RestsIn}
+use Rattle.rec_settle.proofs.Amid.{busy_way, quiet_after, rests_after}
+use Rattle.rec_settle.proofs.QuietCounts.{idle_count}
+use Rattle.rec_settle.proofs.QuietTurns.{quiet_begun}
+use Rattle.rec_settle.proofs.Rested.{settled}
+use Rattle.rec_settle.proofs.Stays.{Stays, stays_after, stays_same, stays_then}
+
+-- the epoch that is requested where no collection is under way
+idle_epoch : (w : Core) → IsKept w → w.collector.phase ≡ Idle → w.config.first_epoch + w.collector.collections ≡ w.epoch
+idle_epoch w kept idle = omega (arith, kept.collector.begun, ap under_way idle)
+
+-- A collection ends where no other is under way, an epoch on, but where it was under way as it began.
+pub collection_epoch : (before after : Core) → IsKept before → AreIdle before → IsCollection before after → after.epoch + under_way before.collector.phase ≡ before.epoch + 1
+collection_epoch before after kept idle c =
+    let next = quiet_after (before.epoch + 1) before after kept (quiet_begun before kept idle) c in
+    omega (arith, kept.collector.begun, idle_epoch after next.kept c.complete.2, next.collections, ap (λ x. x.first_epoch) next.config)
+
+-- So the epoch tells whether it was.
+pub was_busy : (before after : Core) → IsKept before → AreIdle before → IsCollection before after → after.epoch ≡ before.epoch → before.collector.phase ≡ Idle → ⊥
+was_busy before after kept idle c same none = omega (arith, collection_epoch before after kept idle c, same, ap under_way none)
+
+pub was_idle : (before after : Core) → IsKept before → AreIdle before → IsCollection before after → after.epoch ≢ before.epoch → before.collector.phase ≡ Idle
+was_idle before after kept idle c other = go before.collector.phase refl
+  where
+    busy : under_way before.collector.phase ≡ 1 → ⊥
+    busy one = other (omega (arith, collection_epoch before after kept idle c, one))
+
+    go : (phase : Phase) → before.collector.phase ≡ phase → before.collector.phase ≡ Idle
+    go Idle is = is
+    go (Looking t) is = absurd (busy (ap under_way is))
+    go (Swapping t) is = absurd (busy (ap under_way is))
+    go (Returning t) is = absurd (busy (ap under_way is))
+    go Releasing is = absurd (busy (ap under_way is))
+    go Freeing is = absurd (busy (ap under_way is))
+    go Trying is = absurd (busy (ap under_way is))
+    go Preparing is = absurd (busy (ap under_way is))
+    go Opening is = absurd (busy (ap under_way is))
+    go (Sweeping n) is = absurd (busy (ap under_way is))
+    go (Closing n) is = absurd (busy (ap under_way is))
+
+-- to offer every slot changes nothing else
+offering_quiet : (first : ℕ) (w : Core) → IsQuiet first w → IsQuiet first (offering w)
+offering_quiet first w quiet t is = let own = quiet t is in record { idle = own.idle; log = own.log; box = own.box; newer = own.newer; older = own.older }
+
+-- Where a part of settling has come to: no collection is under way, and mutators did nothing since a first epoch. So many collections
+-- were completed, and what stays stayed.
+pub record HasCollected (first number : ℕ) (before after : Core) : Type 0 where
+  pub kept : IsKept after
+  pub quiet : IsQuiet first after
+  pub idle : after.collector.phase ≡ Idle
+  pub config : after.config ≡ before.config
+  pub collections : after.collector.collections ≡ before.collector.collections + number
+  pub stays : Stays before after
+  pub few : after.collector.freed ≤ before.collector.freed + number * before.config.slots
+
+-- one collection more
+collected_more : (first number : ℕ) (before w after : Core) → IsKept w → IsQuiet first w → w.config ≡ before.config → w.collector.collections ≡ before.collector.collections + number → Stays before w
+    → w.collector.freed ≤ before.collector.freed + number * before.config.slots → IsCollection w after → HasCollected first (number + 1) before after
+collected_more first number before w after kept quiet config collections stays few c =
+    let next = quiet_after first w after kept quiet c in
+    let more = stays_after first w after kept quiet c in
+    let slots : w.config.slots ≡ before.config.slots = ap (λ x. x.slots) config in
+    record {
+      kept = next.kept;
+      quiet = next.quiet;
+      idle = c.complete.2;
+      config = next.config ∙ config;
+      collections = omega (arith, next.collections, collections);
+      stays = stays_then stays more.stays;
+      few = omega (arith, more.few, few, slots, mul_more number before.config.slots);
+    }
+  where
+    mul_more : (n k : ℕ) → (n + 1) * k ≡ n * k + k
+    mul_more n k = omega arith
+
+-- the collection of the requested epoch is complete
+finished : (first : ℕ) (before after : Core) → IsKept before → IsQuiet first before → Finishes before after → HasCollected first (1 + under_way before.collector.phase) before after
+finished first before after kept quiet (Finishes.one idle c) =
+    subst (λ n. HasCollected first n before after) (sym (ap (λ p. 1 + under_way p) idle)) (collected_more first 0 before before after kept quiet refl (omega arith) (stays_same before) (omega arith) c)
+finished first before after kept quiet (Finishes.two w busy c d) =
+    let h = collected_more first 0 before before w kept quiet refl (omega arith) (stays_same before) (omega arith) c in
+    let one : 1 + 1 ≡ 1 + under_way before.collector.phase = ap (λ n. 1 + n) (sym (busy_way before.collector.phase busy)) in
+    subst (λ n. HasCollected first n before after) one (collected_more first 1 before w after h.kept h.quiet h.config h.collections h.stays h.few d)
+
+-- What settling comes to.
+pub record HasSettled (before after : Core) : Type 0 where
+  pub all : HasCollected (before.epoch + 1) (3 + under_way before.collector.phase) before after
+  pub epoch : after.epoch ≡ before.epoch + 3
+  pub settled : IsSettled after
+
+module _ (before after : Core) (kept : IsKept before) (idle : AreIdle before) (settling : IsSettling before after) where
+  abbrev first : ℕ
+  first = before.epoch + 1
+
+  abbrev collected : Core
+  collected = settling.collected
+
+  abbrev tried : Core
+  tried = settling.tried
+
+  abbrev way : ℕ
+  way = under_way before.collector.phase
+
+  -- the collection of the requested epoch is complete
+  one : HasCollected first (1 + way) before collected
+  one = finished first before collected kept (quiet_begun before kept idle) settling.finishes
+
+  offered_kept : IsKept (offering collected)
+  offered_kept = offering_kept collected one.kept
+
+  offered_quiet : IsQuiet first (offering collected)
+  offered_quiet = offering_quiet first collected one.quiet
+
+  -- and the one whose trial is offered every slot
+  two : HasCollected first (1 + way + 1) before tried
+  two = collected_more first (1 + way) before (offering collected) tried offered_kept offered_quiet one.config one.collections (stays_then one.stays (record { registers = refl; stands = λ heap number h. h; made = refl; freed = omega arith })) one.few settling.tries
+
+  -- and the one that frees its sets
+  three : HasCollected first (1 + way + 1 + 1) before after
+  three = collected_more first (1 + way + 1) before tried after two.kept two.quiet two.config two.collections two.stays two.few settling.frees
+
+  begun : before.config.first_epoch + before.collector.collections + way ≡ before.epoch
+  begun = kept.collector.begun
+
+  epoch_one : collected.epoch ≡ before.epoch + 1
+  epoch_one = omega (arith, idle_epoch collected one.kept one.idle, one.collections, ap (λ c. c.first_epoch) one.config, begun)
+
+  epoch_two : tried.epoch ≡ before.epoch + 2
+  epoch_two = omega (arith, idle_epoch tried two.kept two.idle, two.collections, ap (λ c. c.first_epoch) two.config, begun)
+
+  epoch_three : after.epoch ≡ before.epoch + 3
+  epoch_three = omega (arith, idle_epoch after three.kept three.idle, three.collections, ap (λ c. c.first_epoch) three.config, begun)
+
+  tried_rests : RestsIn Round.Second tried tried.words tried.collector Idle
+  tried_rests = rests_after first Round.First (offering collected) offered_kept offered_quiet one.idle (omega (arith, epoch_one)) (λ is. cc)
+      (subst (RestsIn Round.First (offering collected) collected.words (offering collected).collector) (sym one.idle) refl) tried settling.tries
+
+  all_rests : RestsIn Round.Over after after.words after.collector Idle
+  all_rests = rests_after first Round.Second tried two.kept two.quiet two.idle (omega (arith, epoch_two)) (λ is. cc) (subst (RestsIn Round.Second tried tried.words tried.collector) (sym two.idle) tried_rests) after settling.frees
+
+  pub settling_settles : HasSettled before after
+  settling_settles = record {
+    all = subst (λ n. HasCollected first n before after) (let sum : 1 + way + 1 + 1 ≡ 3 + way = omega arith in sum) three;
+    epoch = epoch_three;
+    settled = settled after three.kept three.idle all_rests (idle_count first after three.kept three.quiet three.idle (omega (arith, epoch_three)));
+  }
+
+-- at most one collection is under way
+few_way : (phase : Phase) → under_way phase ≤ 1
+few_way Idle = omega arith
+few_way (Looking t) = omega arith
+few_way (Swapping t) = omega arith
+few_way (Returning t) = omega arith
+few_way Releasing = omega arith
+few_way Freeing = omega arith
+few_way Trying = omega arith
+few_way Preparing = omega arith
+few_way Opening = omega arith
+few_way (Sweeping n) = omega arith
+few_way (Closing n) = omega arith
+
+-- What four collections sweep fits a number of 32 bits.
+pub few_freed : (before after : Core) → IsKept before → HasSettled before after → after.collector.freed < before.collector.freed + 2 ^ 32
+few_freed before after kept h =
+    let some : 3 + under_way before.collector.phase ≤ 4 = omega (arith, few_way before.collector.phase) in
+    let most : (3 + under_way before.collector.phase) * before.config.slots ≤ 4 * before.config.slots = mul-le-mul_right before.config.slots some in
+    omega (arith, h.all.few, most, kept.config.few_slots)

@@ -1,0 +1,126 @@
+-- A collection ends: each turn that goes on counts, and a mutator that was waited for lets the collector turn once it has polled.
+use Rattle.std.proofs.Common.{◌≡◌, ◌↔◌, inl, inr, ℕ, ◌+◌, ◌-◌, ◌*◌, ◌<◌, ◌≤◌, ◌==◌, nat_lt, if◌then◌else◌, Bool, true, false, Option, None, Some, List, length, refl, sym, ap, subst, ◌∙◌, arith}
+use Rattle.std.proofs.lemmas.Bool.Decides.{nat_tests}
+use Rattle.std.proofs.lemmas.Bool.{cases_eq, cond-true, cond-false, eq-eqb, false≢true, ne_eqb}
+use Rattle.rec_word.specs.Op.{crossing_word}
+use Rattle.rec_mutator.specs.Private as mutators
+use Rattle.rec_mutator.specs.Private.{is_busy}
+use Rattle.rec_mutator.specs.declared.phase.Phase as mutator_phases
+use Rattle.rec_mutator.specs.declared.phase.Phase.TheVariants.{Giving}
+use Rattle.rec_mutator.specs.declared.work.Work.TheVariants as works
+use Rattle.rec_collector.specs.Kept.{limit_of}
+use Rattle.rec_collector.specs.Private.{Private}
+use Rattle.rec_collector.specs.declared.phase.Phase.{Phase}
+use Rattle.rec_collector.specs.declared.phase.Phase.TheVariants.{Idle, Looking, Swapping, Returning, Releasing, Freeing, Trying, Preparing, Opening, Sweeping, Closing}
+use Rattle.rec_collector.specs.declared.turn.Turn.TheVariants as answers
+use Rattle.rec_collector.proofs.Limits.{within_limit}
+use Rattle.rec_world.specs.declared.config.Config.{Config}
+use Rattle.rec_world.specs.Config.{IsMutator}
+use Rattle.rec_world.specs.Core.{Core, mutator, box, crossing_of}
+use Rattle.rec_world.specs.CoreKept.{Stand, stand_at, IsHandshake, IsKept}
+use Rattle.rec_world.specs.World.{IsCrossed, IsQuiet, TurnHasCause}
+use Rattle.rec_world.specs.Worked.{IsWorked}
+use Rattle.rec_world.proofs.CoreRuns.{looked_is}
+use Rattle.rec_world.proofs.CoreSteps.{actor_of}
+use Rattle.rec_world.proofs.CoreTurns.{now_at}
+use Rattle.rec_settle.specs.Collecting.{AreIdle, IsAwaited, HasPolled, turns_of, waits_at}
+
+-- a turn that goes on leaves a collection under way
+pub moved_busy : (w v : Core) → IsKept v → TurnHasCause w v answers.Moved → v.collector.phase ≡ Idle → ⊥
+moved_busy w v kept cause idle = omega (arith, cause.0, (now_at v Idle kept idle).2)
+
+-- the turns of a collection are limited
+few_turns : (w : Core) → IsKept w → w.collector.turns ≤ turns_of w.config
+few_turns w kept =
+    let slots : length w.collector.counts.slots ≡ w.config.slots = kept.collector.slots in
+    let fields : w.collector.release.fields ≡ w.config.fields = kept.collector.fields in
+    let mutators : length w.collector.newer ≡ w.config.mutators = kept.collector.mutators in
+    let limit : limit_of w.collector ≡ turns_of w.config = ap (λ n. 6 * (n * w.collector.release.fields) + 2 * n + 3 * length w.collector.newer + 16) slots ∙ ap (λ n. 6 * (w.config.slots * n) + 2 * w.config.slots + 3 * length w.collector.newer + 16) fields ∙ ap (λ n. 6 * (w.config.slots * w.config.fields) + 2 * w.config.slots + 3 * n + 16) mutators in
+    subst (λ n. w.collector.turns ≤ n) limit (within_limit w.collector kept.collector.machine)
+
+few_waits : (w : Core) (phase : Phase) → waits_at w phase ≤ 1
+few_waits w (Looking t) = go (crossing_of w t == crossing_word w.epoch 2)
+  where
+    go : (b : Bool) → (if b then 0 else 1) ≤ 1
+    go true = omega arith
+    go false = omega arith
+few_waits w Idle = omega arith
+few_waits w (Swapping t) = omega arith
+few_waits w (Returning t) = omega arith
+few_waits w Releasing = omega arith
+few_waits w Freeing = omega arith
+few_waits w Trying = omega arith
+few_waits w Preparing = omega arith
+few_waits w Opening = omega arith
+few_waits w (Sweeping n) = omega arith
+few_waits w (Closing n) = omega arith
+
+-- what is left of a collection
+abbrev pub left_of : Core → ℕ
+left_of w = 2 * (turns_of w.config + 1 - w.collector.turns) + waits_at w w.collector.phase
+
+-- is less after a turn that goes on
+pub moved_nearer : (w v : Core) → IsKept w → IsKept v → v.config ≡ w.config → TurnHasCause w v answers.Moved → left_of v < left_of w
+moved_nearer w v before after config cause =
+    let same : turns_of v.config ≡ turns_of w.config = ap turns_of config in
+    omega (arith, same, cause.0, few_turns w before, few_turns v after, few_waits v v.collector.phase)
+
+-- whoever is waited for is a mutator
+pub awaited : (w v : Core) (t : ℕ) → IsKept w → TurnHasCause w v (answers.Waiting t) → IsAwaited w t
+awaited w v t kept cause = record { there = looked_is w (Looking t) kept cause.0; looked = cause.0; other = cause.1 }
+
+-- what a poll leaves
+pub has_polled : (w v : Core) (t : ℕ) (crossed : Option ℕ) → IsWorked w t works.Poll v → IsQuiet w v t → is_busy (mutator v t) ≡ false → IsCrossed w v t crossed → (crossed ≡ None) ↔ (w.epoch ≡ (mutator w t).epoch) → ((epoch : ℕ) → crossed ≡ Some epoch → epoch ≡ w.epoch)
+    → HasPolled w t v
+has_polled w v t None worked quiet idle crossed none some = record { worked = worked; quiet = quiet; idle = idle; epoch = crossed.0 ∙ sym (none.0 refl) }
+has_polled w v t (Some e) worked quiet idle crossed none some = record { worked = worked; quiet = quiet; idle = idle; epoch = crossed.1 ∙ some e refl }
+
+-- no mutator that is idle holds its mailbox
+idle_holds : (phase : mutator_phases.Phase) → mutators.is_busy_at phase ≡ false → phase ≡ Giving → ⊥
+idle_holds phase idle is = false≢true (sym idle ∙ ap mutators.is_busy_at is)
+
+-- Once a mutator that was waited for has polled, its mailbox is handed over.
+pub polled_over : (w v : Core) (t : ℕ) → IsKept v → IsAwaited w t → HasPolled w t v → crossing_of v t ≡ crossing_word v.epoch 2
+polled_over w v t kept awaits polled =
+    let is : IsMutator v.config t = subst (λ (c : Config). IsMutator c t) (sym polled.quiet.config) awaits.there in
+    let phase : v.collector.phase ≡ Looking t = ap (λ (c : Private). c.phase) polled.quiet.collector ∙ awaits.looked in
+    let actor = actor_of v t kept is in
+    let due : stand_at v.collector.phase t ≡ Stand.Due = ap (λ p. stand_at p t) phase ∙ stands t in
+    let here : (mutator v t).epoch ≡ v.epoch = polled.epoch ∙ sym polled.quiet.requested in
+    go (subst (IsHandshake v.config v.epoch (mutator v t) (crossing_of v t) (box v t)) due actor.handshake) here
+  where
+    stands : (t : ℕ) → stand_at (Looking t) t ≡ Stand.Due
+    stands t = cond-false (nat_lt t t) Stand.Done Stand.Due (not_less t)
+      where
+        not_less : (n : ℕ) → nat_lt n n ≡ false
+        not_less n = grind (arith, nat_tests)
+
+    go : IsHandshake v.config v.epoch (mutator v t) (crossing_of v t) (box v t) Stand.Due → (mutator v t).epoch ≡ v.epoch → crossing_of v t ≡ crossing_word v.epoch 2
+    go (inl behind) here = absurd (omega (arith, behind.epoch, here))
+    go (inr (inl crossing)) here = absurd (idle_holds (mutator v t).phase polled.idle crossing.phase)
+    go (inr (inr crossed)) here = crossed.word
+
+-- so less is left
+pub polled_nearer : (w v : Core) (t : ℕ) → IsKept v → IsAwaited w t → HasPolled w t v → left_of v < left_of w
+polled_nearer w v t kept awaits polled =
+    let phase : v.collector.phase ≡ Looking t = ap (λ (c : Private). c.phase) polled.quiet.collector ∙ awaits.looked in
+    let now : waits_at v v.collector.phase ≡ 0 = ap (waits_at v) phase ∙ cond-true (crossing_of v t == crossing_word v.epoch 2) 0 1 (eq-eqb (crossing_of v t) (crossing_word v.epoch 2) (polled_over w v t kept awaits polled)) in
+    let earlier : waits_at w w.collector.phase ≡ 1 = ap (waits_at w) awaits.looked ∙ cond-false (crossing_of w t == crossing_word w.epoch 2) 0 1 (ne_eqb (crossing_of w t) (crossing_word w.epoch 2) awaits.other) in
+    omega (arith, now, earlier, ap turns_of polled.quiet.config, ap (λ (c : Private). c.turns) polled.quiet.collector)
+
+-- the collection is still under way
+pub polled_busy : (w v : Core) (t : ℕ) → IsAwaited w t → HasPolled w t v → v.collector.phase ≡ Idle → ⊥
+polled_busy w v t awaits polled idle = let is : Looking t ≡ Idle = sym awaits.looked ∙ sym (ap (λ (c : Private). c.phase) polled.quiet.collector) ∙ idle in cc
+
+-- a turn leaves the mutators idle,
+pub idle_turned : (w v : Core) → v.mutators ≡ w.mutators → v.config ≡ w.config → AreIdle w → AreIdle v
+idle_turned w v same config idle t is =
+    let before : IsMutator w.config t = subst (λ (c : Config). IsMutator c t) config is in
+    ap (λ (ps : List mutators.Private). is_busy (mutator (record w { mutators = ps }) t)) same ∙ idle t before
+
+-- and so does a poll
+pub idle_polled : (w v : Core) (t : ℕ) → HasPolled w t v → AreIdle w → AreIdle v
+idle_polled w v t polled idle s is = elim (cases_eq s t) [
+  | inl same ↦ subst (λ n. is_busy (mutator v n) ≡ false) (sym same) polled.idle
+  | inr other ↦ ap is_busy (polled.quiet.others s other is.0) ∙ idle s (subst (λ (c : Config). IsMutator c s) polled.quiet.config is)
+]

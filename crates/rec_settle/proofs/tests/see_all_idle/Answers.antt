@@ -1,0 +1,20 @@
+-- Each mutator is seen, one after the other.
+use Rattle.std.proofs.Common.{◌≡◌, ℕ, ◌+◌, ◌-◌, ◌<◌, inl, inr, arith, subst, false}
+use Rattle.std.proofs.lemmas.Bool.{cases_lt}
+use Rattle.rec_mutator.specs.Private.{is_busy}
+use Rattle.rec_world.specs.Core.{mutator}
+use Rattle.rec_settle.proofs.tests.see_all_idle.Goals as goal
+
+pub loop-index-init : goal.loop-index-init
+loop-index-init g c = λ i l. absurd (omega (arith, l))
+
+pub loop-index-preserved : goal.loop-index-preserved
+loop-index-preserved g c = λ i l. elim (cases_lt i c.loop-index.index) [
+  | inl below ↦ c.loop-index.invariant i below
+  | inr above ↦ subst (λ (n : ℕ). is_busy (mutator c.args.world.now (n + 1)) ≡ false) (omega (arith, l, above)) c.see_idle.ensures.idle
+]
+
+pub returns : goal.returns
+returns g c = λ t there.
+    let last : t - 1 < c.loop-index.index = omega (arith, there, c.loop-index-test.false, c.mutators-index-end.ensures.mutators) in
+    subst (λ (n : ℕ). is_busy (mutator c.args.world.now n) ≡ false) (omega (arith, there)) (c.loop-index.invariant (t - 1) last)

@@ -1,0 +1,5 @@
+pub mod Collecting
+pub mod Quiet
+pub mod Resting
+pub mod Settling
+pub mod Turn

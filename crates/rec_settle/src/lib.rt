@@ -1,0 +1,18 @@
+//! Settling: the heap comes to rest, by whole collections alone.
+//!
+//! Where no mutator works, settling lets the collector turn, and polls whoever it waits for. It finishes the collection of the
+//! requested epoch, offers every slot to the trial of the next one, and lets one more collection test and free the sets which that
+//! trial found. So it takes three collections, or four where one was under way.
+//! The rule that this crate keeps: from every state of a run, in the middle of a collection too, just the slots that registers
+//! reach hold objects afterwards, and the count of each is the number of fields and registers that hold it.
+//! The layer above may use the contract of `settle` and the definitions of `specs/Collecting` and of `rec_world`'s `Settled`.
+//! Collections, trial deletion and the two tests are those of the paper "Java without the Coffee Breaks" (2001); that every slot
+//! is offered to a trial is this project's profile (`docs/PROFILE.md`).
+#![tactic(auto)]
+
+mod collection;
+mod settling;
+#[cfg(test)]
+mod tests;
+
+pub use settling::{EpochsSpent, Settled, settle};
