@@ -2,7 +2,8 @@
 //!
 //! The rule that this crate keeps: the lines of a text are a stated function of the journals, the order, the listing of
 //! the settled heap, and the births.
-//! The layer above may use the clause of `text`, `Text::lines` and `Line::bytes`.
+//! A summary has four lines in their place, a function of the journals, the live objects, the births and the collections.
+//! The layer above may use the clauses of `text` and `summary`, `Text::lines` and `Line::bytes`.
 //! The form of a text is this project's profile (`docs/PROFILE.md`).
 #![tactic(auto)]
 
@@ -17,6 +18,8 @@ mod answer;
 mod line;
 mod listing;
 mod page;
+mod summing;
+mod tally;
 
 pub use line::Line;
 pub use page::Text;
@@ -24,6 +27,7 @@ use rec_model::{Answer, Cmd, Told};
 use rec_script::Script;
 use rec_world::{Journal, Order, World};
 use std::alloc::{AllocError as NoMemory, Global};
+pub use summing::summary;
 
 // How many of these commands were refused.
 fn own_refusals(journal: &[(Cmd, Told)]) -> u64

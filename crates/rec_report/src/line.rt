@@ -1,10 +1,12 @@
 //! The lines of a report.
 
-ghost use Rattle.std.specs.Prelude.{◌≡◌, ◌++◌, map, IfOk, OnOk, string_bytes};
+ghost use Rattle.std.specs.Prelude.{◌≡◌, ◌-◌, ◌++◌, map, slice_index_or, IfOk, OnOk, string_bytes};
 ghost use Rattle.rec_word.specs.Word.{target_of};
+ghost use Rattle.rec_report.specs.Summary.{answers_line, collections_line, objects_line, sizes_line};
 ghost use Rattle.rec_report.specs.Text.{answer_line, field_number, field_word, live_line, row_head as head_of, row_line, totals_line};
 
 use crate::answer::{LONGEST, write_answer};
+use crate::tally::PLACES;
 use rec_model::Answer;
 use rec_word::target;
 use rec_world::Numbering;
@@ -100,9 +102,64 @@ impl Line {
     ) -> Result<Line, NoMemory>
         ensures { IfOk result (λ line. line ≡ totals_line made refused live) }
     {
-        let freed = made.saturating_sub(live);
+        let freed = freed(made, live);
         Ok(Line::of(format!(in alloc; "made {made} refused {refused} freed {freed}\n")?))
     }
+
+    /// How many mutators there are, and how many commands they were answered.
+    pub(super) fn sizes(alloc: Global, mutators: usize, commands: u64) -> Result<Line, NoMemory>
+        ensures { IfOk result (λ line. line ≡ sizes_line mutators commands) }
+    {
+        Ok(Line::of(format!(in alloc; "mutators {mutators} commands {commands}\n")?))
+    }
+
+    /// How many answers there are of each kind, by their places.
+    pub(super) fn answers(alloc: Global, counts: &[u64; PLACES]) -> Result<Line, NoMemory>
+        ensures { IfOk result (λ line. line ≡ answers_line (λ at. slice_index_or counts.now at 0)) }
+    {
+        let [done, null, object, value, yes, no, none, full, busy, _] = *counts;
+        let mut text = format!(in alloc; "done {done} null {null} object {object}")?;
+        write!(text, " value {value} yes {yes} no {no}")?;
+        writeln!(text, " none {none} full {full} busy {busy}")?;
+        Ok(Line::of(text))
+    }
+
+    /// Live objects, births, refusals, and how many objects are live no more.
+    pub(super) fn objects(
+        alloc: Global,
+        live: u64,
+        made: u64,
+        refused: u64,
+    ) -> Result<Line, NoMemory>
+        ensures { IfOk result (λ line. line ≡ objects_line live made refused) }
+    {
+        let freed = freed(made, live);
+        Ok(Line::of(format!(in alloc;
+            "live {live} made {made} refused {refused} freed {freed}\n"
+        )?))
+    }
+
+    /// Collections, and what became of the sets that they tested.
+    pub(super) fn collections(
+        alloc: Global,
+        collections: u32,
+        cycles: u64,
+        delta: u64,
+        sigma: u64,
+    ) -> Result<Line, NoMemory>
+        ensures { IfOk result (λ line. line ≡ collections_line collections cycles delta sigma) }
+    {
+        Ok(Line::of(format!(in alloc;
+            "epochs {collections} cycles {cycles} delta {delta} sigma {sigma}\n"
+        )?))
+    }
+}
+
+/// How many objects are live no more.
+fn freed(made: u64, live: u64) -> u64
+    ensures { result ≡ made - live }
+{
+    made.saturating_sub(live)
 }
 
 /// The line of a live object without its fields.

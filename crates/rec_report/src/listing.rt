@@ -2,6 +2,7 @@
 
 ghost use Rattle.std.specs.Prelude.{◌≡◌, ◌++◌, ◌∷◌, List, length, map, IfOk, OnOk};
 ghost use Rattle.rec_model.specs.Listing.{Row, slot_row, ListsSlots};
+ghost use Rattle.rec_model.specs.Sight.{NumbersSlots};
 ghost use Rattle.rec_world.specs.Settled.{IsSettled};
 ghost use Rattle.rec_world.specs.World.{sight};
 ghost use Rattle.rec_report.specs.Report.{AreFor, IsNumbered};
@@ -11,6 +12,20 @@ use crate::{Line, Text};
 use rec_script::Script;
 use rec_world::{Numbering, World};
 use std::alloc::{AllocError as NoMemory, Global};
+
+/// The live objects, numbered as the listing numbers them.
+pub(super) fn number_live(
+    alloc: Global,
+    script: &Script,
+    world: &World,
+) -> Result<Numbering, NoMemory>
+    requires { AreFor script.now world.now }
+    ensures { IfOk result (λ numbering. NumbersSlots (sight world.now) numbering.list) }
+{
+    let mut numbering = Numbering::open(alloc, script.slots() as u16)?;
+    world.number(&mut numbering);
+    Ok(numbering)
+}
 
 impl Text {
     /// How many objects are live, and then their listing.
@@ -25,12 +40,10 @@ impl Text {
 
         ensures { IfOk result (λ live. (rows : List Row) × ListsSlots (sight world.now) rows × (live ≡ length rows) × (self.new ≡ self.old ++ live_line live ∷ row_lines rows)) }
     {
-        let fields = script.fields() as u8;
-        let mut numbering = Numbering::open(alloc, script.slots() as u16)?;
-        world.number(&mut numbering);
+        let numbering = number_live(alloc, script, world)?;
         let live = numbering.list().len();
         self.add(Line::live(alloc, live)?)?;
-        self.add_rows(alloc, world, fields, &numbering)?;
+        self.add_rows(alloc, world, script.fields() as u8, &numbering)?;
         Ok(live)
     }
 

@@ -1,4 +1,5 @@
 use super::*;
+use std::process::Abort;
 use std::test::Fail;
 
 #[test]
@@ -55,5 +56,47 @@ fn lists_mutator_by_mutator(rt: HostRuntime) -> Result<(), Fail> {
     assert_eq!(rt; text.lines()[1].bytes(), b"2.1 full\n".as_slice());
     assert_eq!(rt; journals.len(), 2);
     assert_eq!(rt; refusals_of(&journals), 1);
+    Ok(())
+}
+
+// One of each.
+const ANSWERS: [Answer; 10] = [
+    Answer::Done,
+    Answer::Null,
+    Answer::Object,
+    Answer::Value(5),
+    Answer::Yes,
+    Answer::No,
+    Answer::NoObject,
+    Answer::Full,
+    Answer::Busy {
+        before: 1,
+        after: 1,
+    },
+    Answer::LogFull,
+];
+
+// A journal with these answers.
+fn answered(rt: &impl Abort, alloc: Global, answers: &[Answer]) -> Result<Journal, Fail> {
+    let mut journal = Journal::open(alloc, 10)?;
+    for answer in answers {
+        let told = Told {
+            answer: *answer,
+            saw: 0,
+            left: 0,
+        };
+        assert!(rt; journal.room() > 0);
+        journal.note(Cmd::Null { reg: 0 }, told);
+    }
+    Ok(journal)
+}
+
+#[test]
+fn counts_answers_of_all_mutators(rt: HostRuntime) -> Result<(), Fail> {
+    let first = answered(&rt, rt.alloc(), &ANSWERS)?;
+    let second = answered(&rt, rt.alloc(), &ANSWERS[1..])?;
+    let journals = [first, second];
+    assert_eq!(rt; tally::tally(&journals), [1, 2, 2, 2, 2, 2, 2, 2, 2, 2]);
+    assert_eq!(rt; tally::commands_of(&journals), 19);
     Ok(())
 }

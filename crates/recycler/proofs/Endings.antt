@@ -1,5 +1,5 @@
 -- How a run ends, from what its parts tell.
-use Rattle.std.proofs.Common.{◌≡◌, ◌⊎◌, inl, inr, ℕ, ◌+◌, ◌<◌, ◌≤◌, codes, List, [], ◌++◌, Option, None, Some, Result, Ok, Err, length, refl, sym, ap, subst, ◌∙◌, arith}
+use Rattle.std.proofs.Common.{◌≡◌, ◌⊎◌, inl, inr, ℕ, ◌+◌, ◌<◌, ◌≤◌, Bool, List, [], ◌++◌, Option, None, Some, Result, Ok, Err, length, refl, sym, ap, subst, ◌∙◌, arith}
 use Rattle.std.specs.Result.{IfOk}
 use Rattle.std.proofs.lemmas.Bool.{cases_lt}
 use Rattle.std.proofs.lemmas.List.{append-nil, length-append}
@@ -18,16 +18,14 @@ use Rattle.recycler.specs.declared.status.Status.TheVariants as statuses
 use Rattle.rec_script.specs.declared.error.Kind.{Kind}
 use Rattle.rec_script.specs.declared.error.ScriptError.{ScriptError}
 use Rattle.rec_script.specs.declared.error.ScriptError.TheVariants.{Bad}
-use Rattle.clap.specs.Words.{Row as Found, first_of, subcommand_of}
-use Rattle.recycler.specs.CommandLine.{recycler, Says, AsksBy, Asks, HasFewTurns}
-use Rattle.recycler.specs.Headline.{Are, IsAnswer, Answers, WroteAnswer, WroteFront, ReadNoScript}
+use Rattle.recycler.specs.CommandLine.{ReadsScript}
+use Rattle.recycler.specs.Headline.{Are, HasRead, IsAnswer, Answers, PlaysTo, WroteAnswer, WroteFront, ReadNoScript, run_text}
 use Rattle.rec_play.specs.Played.{IsPlayed, last_moment}
 use Rattle.rec_script.proofs.Refusing.{refused_no_text}
 use Rattle.rec_script.proofs.Uniqueness.{refused_once}
 use Rattle.recycler.specs.declared.command_line.Request.{Request}
 use Rattle.recycler.specs.declared.command_line.Request.TheVariants as requests
 use Rattle.rec_script.specs.Script.{Contents, IsText, IsRefused}
-use Rattle.rec_report.specs.Text.{play_text}
 use Rattle.recycler.specs.Whole.{IsAtEnd}
 
 -- one value in two options
@@ -86,31 +84,26 @@ no_script (Some rest) left bytes line kind passes end refused =
           }
     ]
 
--- what is answered isn't past the limit
-answered_short : (request : Request) (bytes text : List ℕ) → IsAnswer request bytes text → length bytes ≤ 16777216
-answered_short (requests.Play seed turns) bytes text answer = answer.short
-
 -- a text was written whole
-pub wrote_answer : (request : Request) (rest left before after : Option (List ℕ)) (bytes text : List ℕ) → Passes rest left bytes → (length bytes ≤ 16777216 → IsAtEnd rest left)
-    → IsAnswer request bytes text → Appends before after text → WroteAnswer request rest left before after
-wrote_answer request rest left before after bytes text passes end answer appends =
+pub wrote_answer : (seed turns : ℕ) (summary : Bool) (rest left before after : Option (List ℕ)) (bytes text : List ℕ) → Passes rest left bytes → (length bytes ≤ 16777216 → IsAtEnd rest left)
+    → PlaysTo bytes seed turns summary text → Appends before after text → WroteAnswer (requests.Play seed turns summary) rest left before after
+wrote_answer seed turns summary rest left before after bytes text passes end answer appends =
     record {
       bytes = bytes;
-      read = all_read rest left bytes passes (end (answered_short request bytes text answer));
-      ended = end (answered_short request bytes text answer);
+      read = (all_read rest left bytes passes (end answer.short), end answer.short);
       text = text;
       answer = answer;
       written = appends;
     }
 
 -- a front of a text was written
-pub wrote_front : (request : Request) (rest left before after : Option (List ℕ)) (bytes text : List ℕ) → Passes rest left bytes → (length bytes ≤ 16777216 → IsAtEnd rest left)
-    → IsAnswer request bytes text → (front back : List ℕ) × (text ≡ front ++ back) × Appends before after front → WroteFront request rest left before after
-wrote_front request rest left before after bytes text passes end answer (front, back, cut, appends) =
+pub wrote_front : (seed turns : ℕ) (summary : Bool) (rest left before after : Option (List ℕ)) (bytes text : List ℕ) → Passes rest left bytes → (length bytes ≤ 16777216 → IsAtEnd rest left)
+    → PlaysTo bytes seed turns summary text → (front back : List ℕ) × (text ≡ front ++ back) × Appends before after front
+    → WroteFront (requests.Play seed turns summary) rest left before after
+wrote_front seed turns summary rest left before after bytes text passes end answer (front, back, cut, appends) =
     record {
       bytes = bytes;
-      read = all_read rest left bytes passes (end (answered_short request bytes text answer));
-      ended = end (answered_short request bytes text answer);
+      read = (all_read rest left bytes passes (end answer.short), end answer.short);
       text = text;
       answer = answer;
       front = front;
@@ -135,12 +128,16 @@ completes (statuses.BadScript line kind) rest left reads reads_after writes writ
     let refused = bad line kind refl in
     absurd (refused_no_text refused.bytes line kind refused.refused (subst IsText (refused.read bytes told) text))
 
--- what is answered is a script's text
-answered_text : (request : Request) (bytes text : List ℕ) → IsAnswer request bytes text → IsText bytes
-answered_text (requests.Play seed turns) bytes text answer = (answer.script, answer.short, answer.spelled)
+-- what is answered is the text of a script
+answered_text : (request : Request) (rest left : Option (List ℕ)) (bytes text told : List ℕ) → ReadsScript request → HasRead request rest left bytes → IsAnswer request bytes text
+    → rest ≡ Some told → IsText told
+answered_text (requests.Play seed turns summary) rest left bytes text told reads read answer is =
+    subst IsText (sym (read.0 told is)) (answer.script, answer.short, answer.spelled)
+answered_text (requests.Make seed mutators commands) rest left bytes text told reads read answer is = absurd reads
 
 -- a text that is told and is no script's is refused with its line and kind, unless a count rises or memory runs out
 pub refuses : (status : Status) (request : Request) (rest left before after : Option (List ℕ)) (reads reads_after : ℕ)
+    → ReadsScript request
     → (status ≡ statuses.Usage → ⊥)
     → ((line : ℕ) (kind : Kind) → status ≡ statuses.BadScript line kind → ReadNoScript rest left line kind)
     → (status ≡ statuses.ReadFault → Rose reads reads_after)
@@ -148,31 +145,19 @@ pub refuses : (status : Status) (request : Request) (rest left before after : Op
     → (status ≡ statuses.WriteFault → WroteFront request rest left before after)
     → (bytes : List ℕ) (line : ℕ) (kind : Kind) → rest ≡ Some bytes → IsRefused bytes line kind → (Rose reads reads_after → ⊥)
     → (status ≡ statuses.BadScript line kind) ⊎ (status ≡ statuses.NoMemory)
-refuses statuses.NoMemory request rest left before after reads reads_after usage bad read done front bytes line kind told refused no_read = inr refl
-refuses statuses.Usage request rest left before after reads reads_after usage bad read done front bytes line kind told refused no_read = absurd (usage refl)
-refuses statuses.ReadFault request rest left before after reads reads_after usage bad read done front bytes line kind told refused no_read = absurd (no_read (read refl))
-refuses statuses.Done request rest left before after reads reads_after usage bad read done front bytes line kind told refused no_read =
+refuses statuses.NoMemory request rest left before after reads reads_after is_read usage bad read done front bytes line kind told refused no_read = inr refl
+refuses statuses.Usage request rest left before after reads reads_after is_read usage bad read done front bytes line kind told refused no_read = absurd (usage refl)
+refuses statuses.ReadFault request rest left before after reads reads_after is_read usage bad read done front bytes line kind told refused no_read = absurd (no_read (read refl))
+refuses statuses.Done request rest left before after reads reads_after is_read usage bad read done front bytes line kind told refused no_read =
     let wrote = done refl in
-    absurd (refused_no_text bytes line kind refused (subst IsText (sym (wrote.read bytes told)) (answered_text request wrote.bytes wrote.text wrote.answer)))
-refuses statuses.WriteFault request rest left before after reads reads_after usage bad read done front bytes line kind told refused no_read =
+    absurd (refused_no_text bytes line kind refused (answered_text request rest left wrote.bytes wrote.text bytes is_read wrote.read wrote.answer told))
+refuses statuses.WriteFault request rest left before after reads reads_after is_read usage bad read done front bytes line kind told refused no_read =
     let wrote = front refl in
-    absurd (refused_no_text bytes line kind refused (subst IsText (sym (wrote.read bytes told)) (answered_text request wrote.bytes wrote.text wrote.answer)))
-refuses (statuses.BadScript l k) request rest left before after reads reads_after usage bad read done front bytes line kind told refused no_read =
+    absurd (refused_no_text bytes line kind refused (answered_text request rest left wrote.bytes wrote.text bytes is_read wrote.read wrote.answer told))
+refuses (statuses.BadScript l k) request rest left before after reads reads_after is_read usage bad read done front bytes line kind told refused no_read =
     let found = bad l k refl in
     let same = refused_once bytes l line k kind (subst (λ all. IsRefused all l k) (sym (found.read bytes told)) found.refused) refused in
     inl (ap (λ n. statuses.BadScript n k) same.0 ∙ ap (statuses.BadScript line) same.1)
-
--- what a command line asks for is within its limit
-pub asked_turns : (words : List (List ℕ)) (request : Request) → Asks words request → HasFewTurns request
-asked_turns words request asks = go (subcommand_of recycler words) request asks.asked
-  where
-    said : (told : Option (List ℕ)) (n : ℕ) → Says told 1000000 10000000 n → n ≤ 10000000
-    said None n is = omega (arith, is)
-    said (Some text) n is = is.2
-
-    go : (told : Option (List ℕ × List Found)) (request : Request) → AsksBy told request → HasFewTurns request
-    go (Some (name, options)) (requests.Play seed turns) asked = said (first_of (codes "turns") options) turns asked.1.limited
-    go None request asked = absurd asked
 
 -- a fact of each value that was made
 pub if_ok : {T E : Type 0} (r : Result T E) (P Q : T → Type 0) → ((x : T) → P x → Q x) → IfOk r P → IfOk r Q
@@ -180,11 +165,11 @@ if_ok (Ok x) P Q step held = step x held
 if_ok (Err e) P Q step held = held
 
 -- what was played, settled and listed is the answer
-pub answers_script : (script : Contents) (seed turns : ℕ) (journals : List (List Line)) (events : List Event) (end world : Core) (rows : List Row) (text : List ℕ)
+pub answers_script : (script : Contents) (seed turns : ℕ) (summary : Bool) (journals : List (List Line)) (events : List Event) (end world : Core) (rows : List Row) (text : List ℕ)
     → IsPlayed script seed turns journals events end → IsSettling end world → IsSettled world → StandsFor (last_moment script events).heap (sight world)
     → length world.headers ≡ script.slots → ListsSlots (sight world) rows
-    → text ≡ play_text journals (Some (actors events)) rows (length (last_moment script events).heap.objects) → Answers script seed turns text
-answers_script script seed turns journals events end world rows text played settles settled stands room listed written =
+    → text ≡ run_text summary journals (actors events) rows (length (last_moment script events).heap.objects) world → Answers script seed turns summary text
+answers_script script seed turns summary journals events end world rows text played settles settled stands room listed written =
     record {
       journals = journals;
       events = events;

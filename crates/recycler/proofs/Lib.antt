@@ -1,4 +1,6 @@
 pub mod Endings
 pub mod Fronts
 pub mod Opening
+pub mod Options
+pub mod Requests
 pub mod Turns

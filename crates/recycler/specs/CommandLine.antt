@@ -1,8 +1,10 @@
 -- Which words are a command line, and what they ask for.
-use Rattle.std.specs.Prelude.{◌≡◌, ℕ, ◌≤◌, true, false, List, [], ◌∷◌, Option, None, Some, codes}
+use Rattle.std.specs.Prelude.{◌≡◌, ⊤, ℕ, ◌≤◌, Bool, true, false, List, [], ◌∷◌, Option, None, Some, codes}
+use Rattle.std.specs.Str.{bytes_eq}
 use Rattle.std.specs.Str.Parse.{IsNumeral, without_leading_plus, digits_value}
 use Rattle.clap.specs.Words.{App, Row, Rule, Shape, Text, fault_of, first_of, new_rule, subcommand_of}
 use Rattle.clap.specs.Simple.{new_shape}
+use Rattle.clap.specs.declared.builder.action.ArgAction.TheVariants.{SetTrue}
 use Rattle.recycler.specs.declared.command_line.Request.{Request}
 use Rattle.recycler.specs.declared.command_line.Request.TheVariants as requests
 
@@ -10,11 +12,23 @@ use Rattle.recycler.specs.declared.command_line.Request.TheVariants as requests
 abbrev pub option : Text → Rule
 option name = record (new_rule name) { long = Some name }
 
+-- a flag, which has no value
+abbrev pub flag : Text → Rule
+flag name = record (option name) { action = Some SetTrue }
+
 -- the subcommand `play` and its options
 abbrev pub play : Shape
-play = record (new_shape (codes "play")) { rules = option (codes "seed") ∷ option (codes "turns") ∷ [] }
+play = record (new_shape (codes "play")) { rules = option (codes "seed") ∷ option (codes "turns") ∷ flag (codes "summary") ∷ [] }
 
--- the program's command: one subcommand is required, and there is neither help nor a version
+-- the subcommand `make` and its options
+abbrev pub make : Shape
+make = record (new_shape (codes "make")) { rules = option (codes "seed") ∷ option (codes "mutators") ∷ option (codes "commands") ∷ [] }
+
+-- a command without subcommands
+abbrev pub app_with : Shape → App
+app_with shape = record { top = shape; subs = [] }
+
+-- the program's command: a subcommand is required, and there is neither help nor a version
 abbrev pub recycler : App
 recycler =
     record {
@@ -26,7 +40,7 @@ recycler =
             disable_version_flag = true;
             subcommand_required = true;
           };
-      subs = play ∷ [];
+      subs = play ∷ make ∷ [];
     }
 
 -- An option says a number up to this most: a plus or none, and then decimal digits. Where it isn't given it says its default.
@@ -34,25 +48,53 @@ abbrev pub Says : Option Text → (default most n : ℕ) → Type 0
 Says None default most n = n ≡ default
 Says (Some text) default most n = IsNumeral 10 (without_leading_plus text) × (n ≡ digits_value 10 (without_leading_plus text)) × (n ≤ most)
 
--- what the options of `play` ask for: a seed of 64 bits, and at most ten million turns
-pub record AsksPlay (options : List Row) (seed turns : ℕ) : Type 0 where
+-- whether a flag is set: where it stands among the words its value is true, and where it doesn't stand there it is false
+abbrev pub is_set : Option Text → Bool
+is_set None = false
+is_set (Some text) = bytes_eq text (codes "true")
+
+-- what the options of `play` ask for: a seed of 64 bits, at most ten million turns, and a summary or the whole text
+pub record AsksPlay (options : List Row) (seed turns : ℕ) (summary : Bool) : Type 0 where
   pub seeded : Says (first_of (codes "seed") options) 0 18446744073709551615 seed
   pub limited : Says (first_of (codes "turns") options) 1000000 10000000 turns
+  pub summed : summary ≡ is_set (first_of (codes "summary") options)
+
+-- what the options of `make` ask for: a seed of 64 bits, one to eight mutators, and at most 200,000 commands of each
+pub record AsksMake (options : List Row) (seed mutators commands : ℕ) : Type 0 where
+  pub seeded : Says (first_of (codes "seed") options) 0 18446744073709551615 seed
+  pub some : 1 ≤ mutators
+  pub few : Says (first_of (codes "mutators") options) 2 8 mutators
+  pub limited : Says (first_of (codes "commands") options) 1000 200000 commands
 
 -- what a subcommand with its options asks for, if there is one
 abbrev pub AsksBy : Option (Text × List Row) → Request → Type 0
 AsksBy None request = ⊥
-AsksBy (Some (name, options)) (requests.Play seed turns) = (name ≡ codes "play") × AsksPlay options seed turns
+AsksBy (Some (name, options)) (requests.Play seed turns summary) = (name ≡ codes "play") × AsksPlay options seed turns summary
+AsksBy (Some (name, options)) (requests.Make seed mutators commands) = (name ≡ codes "make") × AsksMake options seed mutators commands
 
 -- The command takes the words, the first of which is the program's name, and they ask for this.
 pub record Asks (words : List Text) (request : Request) : Type 0 where
   pub taken : fault_of recycler words ≡ []
   pub asked : AsksBy (subcommand_of recycler words) request
 
--- a request for at most ten million turns
-abbrev pub HasFewTurns : Request → Type 0
-HasFewTurns (requests.Play seed turns) = turns ≤ 10000000
+-- each number of a request is in its range
+abbrev pub IsInRange : Request → Type 0
+IsInRange (requests.Play seed turns summary) = turns ≤ 10000000
+IsInRange (requests.Make seed mutators commands) = (1 ≤ mutators) × (mutators ≤ 8) × (commands ≤ 200000)
+
+-- a request that a script is read for
+abbrev pub ReadsScript : Request → Type 0
+ReadsScript (requests.Play seed turns summary) = ⊤
+ReadsScript (requests.Make seed mutators commands) = ⊥
 
 -- The command takes the words, and each number is in its range.
 abbrev pub IsCommandLine : List Text → Type 0
 IsCommandLine words = (request : Request) × Asks words request
+
+-- The words are a command line that asks for what a script is read for.
+abbrev pub AsksToRead : List Text → Type 0
+AsksToRead words = (request : Request) × Asks words request × ReadsScript request
+
+-- The words are a command line that asks for a made script.
+abbrev pub AsksToMake : List Text → Type 0
+AsksToMake words = (seed mutators commands : ℕ) × Asks words (requests.Make seed mutators commands)

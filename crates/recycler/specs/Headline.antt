@@ -1,5 +1,5 @@
--- What the program's answer to a script is.
-use Rattle.std.specs.Prelude.{◌≡◌, ◌⊎◌, ℕ, ◌<◌, ◌≤◌, Option, Some, List, [], ◌++◌, length}
+-- What the program's answer to a request is.
+use Rattle.std.specs.Prelude.{◌≡◌, ◌⊎◌, ℕ, ◌<◌, ◌≤◌, Bool, true, false, Option, Some, List, [], ◌++◌, length}
 use Rattle.std.specs.Option.{ForSome}
 use Rattle.rec_model.specs.Heap.{Heap}
 use Rattle.rec_model.specs.LegalOrder.{Line, Event, actors}
@@ -15,6 +15,8 @@ use Rattle.rec_script.specs.Script.{Contents, Spells, IsRefused}
 use Rattle.recycler.specs.declared.command_line.Request.{Request}
 use Rattle.recycler.specs.declared.command_line.Request.TheVariants as requests
 use Rattle.rec_script.specs.declared.error.Kind.{Kind}
+use Rattle.rec_script.specs.Made.{made_text}
+use Rattle.rec_report.specs.Summary.{summary_text}
 use Rattle.rec_report.specs.Text.{play_text}
 use Rattle.recycler.specs.Whole.{IsAtEnd}
 
@@ -28,10 +30,16 @@ pub record IsSettledAs (end : Core) (heap : Heap) (slots : ℕ) (rows : List Row
   pub room : length world.headers ≡ slots
   pub listing : IsListing heap rows
 
+-- what is printed of a run in this order whose heap is settled: the whole text, or the summary, with the numbers of the settled heap
+abbrev pub run_text : (summary : Bool) → List (List Line) → (order : List ℕ) → List Row → (made : ℕ) → Core → List ℕ
+run_text false journals order rows made world = play_text journals (Some order) rows made
+run_text true journals order rows made world = summary_text journals (length rows) made world.collector.collections world.collector.sets
+
 -- The text answers the script: each printed answer is the one that the heap that never frees gives to the script's
 -- commands in one order that keeps each mutator's own, the one that the playing rule draws; an allocation is answered full
 -- only where no slot was free; and after settling just the objects that registers reach hold slots, listed with true counts.
-pub record Answers (script : Contents) (seed turns : ℕ) (text : List ℕ) : Type 0 where
+-- A summary counts the same answers and objects.
+pub record Answers (script : Contents) (seed turns : ℕ) (summary : Bool) (text : List ℕ) : Type 0 where
   pub journals : List (List Line)
   pub events : List Event
   -- the world after the last turn
@@ -39,18 +47,19 @@ pub record Answers (script : Contents) (seed turns : ℕ) (text : List ℕ) : Ty
   pub played : IsPlayed script seed turns journals events end
   pub rows : List Row
   pub settled : IsSettledAs end (last_moment script events).heap script.slots rows
-  pub written : text ≡ play_text journals (Some (actors events)) rows (length (last_moment script events).heap.objects)
+  pub written : text ≡ run_text summary journals (actors events) rows (length (last_moment script events).heap.objects) settled.world
 
 -- The bytes are the text of a script within the limits, and the answer is the script's, in the order drawn from the seed.
-pub record PlaysTo (bytes : List ℕ) (seed turns : ℕ) (text : List ℕ) : Type 0 where
+pub record PlaysTo (bytes : List ℕ) (seed turns : ℕ) (summary : Bool) (text : List ℕ) : Type 0 where
   pub script : Contents
   pub short : length bytes ≤ 16777216
   pub spelled : Spells (lines bytes) script
-  pub answered : Answers script seed turns text
+  pub answered : Answers script seed turns summary text
 
--- the answer of the bytes to a request
+-- the answer of the bytes to a request; a made script is that of its seed, whatever the bytes
 abbrev pub IsAnswer : Request → (bytes text : List ℕ) → Type 0
-IsAnswer (requests.Play seed turns) bytes text = PlaysTo bytes seed turns text
+IsAnswer (requests.Play seed turns summary) bytes text = PlaysTo bytes seed turns summary text
+IsAnswer (requests.Make seed mutators commands) bytes text = text ≡ made_text seed mutators commands
 
 -- the bytes are those told, where any are told
 abbrev pub Are : Option (List ℕ) → List ℕ → Type 0
@@ -60,20 +69,23 @@ Are told bytes = ForSome told (λ all. all ≡ bytes)
 abbrev pub IsReadOut : Option (List ℕ) → Option (List ℕ) → Type 0
 IsReadOut before after = ForSome before (λ rest. (after ≡ Some []) ⊎ (16777216 < length rest))
 
--- The bytes of the source were read to their end, and the whole answer to them was written.
+-- what a request reads of a source: all its bytes, and nothing for a made script
+abbrev pub HasRead : Request → (rest left : Option (List ℕ)) → (bytes : List ℕ) → Type 0
+HasRead (requests.Play seed turns summary) rest left bytes = Are rest bytes × IsAtEnd rest left
+HasRead (requests.Make seed mutators commands) rest left bytes = (left ≡ rest) × (bytes ≡ [])
+
+-- The bytes that the request reads were read, and the whole answer was written.
 pub record WroteAnswer (request : Request) (rest left before after : Option (List ℕ)) : Type 0 where
   pub bytes : List ℕ
-  pub read : Are rest bytes
-  pub ended : IsAtEnd rest left
+  pub read : HasRead request rest left bytes
   pub text : List ℕ
   pub answer : IsAnswer request bytes text
   pub written : Appends before after text
 
--- The bytes of the source were read to their end, and a front of the answer to them was written.
+-- The bytes that the request reads were read, and a front of the answer was written.
 pub record WroteFront (request : Request) (rest left before after : Option (List ℕ)) : Type 0 where
   pub bytes : List ℕ
-  pub read : Are rest bytes
-  pub ended : IsAtEnd rest left
+  pub read : HasRead request rest left bytes
   pub text : List ℕ
   pub answer : IsAnswer request bytes text
   pub front : List ℕ

@@ -1,31 +1,46 @@
 //! The answer to a script: its commands are played on a heap of its own, which is then settled and listed.
-ghost use Rattle.std.specs.Prelude.{◌≡◌, ◌≤◌, [], IfOk};
+ghost use Rattle.std.specs.Prelude.{◌≡◌, ◌≤◌, [], List, map, length, IfOk};
 ghost use Rattle.std.specs.List.{flat_map, sum};
-ghost use Rattle.rec_world.specs.World.{opened};
+ghost use Rattle.rec_model.specs.Listing.{Row, ListsSlots};
+ghost use Rattle.rec_report.specs.Report.{AreFor};
+ghost use Rattle.rec_report.specs.Text.{IsOrderOf};
+ghost use Rattle.rec_world.specs.Settled.{IsSettled};
+ghost use Rattle.rec_world.specs.World.{opened, sight};
 ghost use Rattle.rec_play.specs.Played.{AreReady, config_of, lengths_of};
-ghost use Rattle.recycler.specs.Headline.{Answers};
+ghost use Rattle.recycler.specs.Headline.{Answers, run_text};
 
 use rec_play::{config_for, journals_for, order_for, play};
-use rec_report::{Text, text};
+use rec_report::{Text, summary as summary_of, text as whole_text};
 use rec_script::Script;
 use rec_settle::settle;
 use rec_world::{Journal, OpenError, Order, World};
 use std::alloc::{AllocError as NoMemory, Global};
 
-/// The answer to a script, in the order that the playing rule draws from this seed with at most so many turns.
+/// The answer to a script, in the order that the playing rule draws from this seed with at most so many turns: the whole
+/// text, or a summary.
 pub fn answer_script(
     alloc: Global,
     script: &Script,
     seed: u64,
     turns: u32,
+    summary: bool,
 ) -> Result<Text, NoMemory>
     requires { turns ≤ 10000000 }
-    ensures { IfOk result (λ text. Answers script.now seed turns (flat_map (λ line. line) text)) }
+    ensures { IfOk result (λ text. Answers script.now seed turns summary (flat_map (λ line. line) text)) }
 {
     let world = open_world(alloc, script)?;
     let mut journals = journals_for(alloc, script)?;
     let order = order_for(alloc, script)?;
-    text_of(alloc, script, seed, turns, world, &mut journals, order)
+    text_of(
+        alloc,
+        script,
+        seed,
+        turns,
+        summary,
+        world,
+        &mut journals,
+        order,
+    )
 }
 
 // Plays a script on the heap that was opened for it, settles the heap, and makes the text.
@@ -34,6 +49,7 @@ fn text_of(
     script: &Script,
     seed: u64,
     turns: u32,
+    summary: bool,
     mut world: World,
     journals: &mut [Journal],
     mut order: Order,
@@ -44,14 +60,38 @@ fn text_of(
     requires room { sum (lengths_of script.now) ≤ order.room }
     requires turns { turns ≤ 10000000 }
 
-    ensures { IfOk result (λ text. Answers script.now seed turns (flat_map (λ line. line) text)) }
+    ensures { IfOk result (λ text. Answers script.now seed turns summary (flat_map (λ line. line) text)) }
 {
     play(script, seed, turns, &mut world, journals, &mut order);
     // Each turn requests one epoch more at most, so there are enough left to settle.
     let Ok(_) = settle(&mut world) else {
         unreachable!();
     };
-    text(alloc, script, journals, Some(&order), &world)
+    write_text(alloc, script, summary, journals, &order, &world)
+}
+
+// The whole text of a run in this order whose heap is settled, or its summary.
+fn write_text(
+    alloc: Global,
+    script: &Script,
+    summary: bool,
+    journals: &[Journal],
+    order: &Order,
+    world: &World,
+) -> Result<Text, NoMemory>
+    requires script { AreFor script.now world.now }
+    requires journals { length journals.now ≡ world.now.config.mutators }
+    requires order { IsOrderOf (map (λ journal. journal.lines) journals.now) order.now.list }
+    requires settled { IsSettled world.now }
+
+    ensures { IfOk result (λ text. (rows : List Row) × ListsSlots (sight world.now) rows
+        × (flat_map (λ line. line) text ≡ run_text summary (map (λ journal. journal.lines) journals.now) order.now.list rows world.now.made world.now)) }
+{
+    if summary {
+        summary_of(alloc, script, journals, Some(order), world)
+    } else {
+        whole_text(alloc, script, journals, Some(order), world)
+    }
 }
 
 // The heap of a script.

@@ -1,14 +1,14 @@
 //! The words that the program is called with.
-ghost use Rattle.std.specs.Prelude.{◌≡◌, ◌≢◌, ◌≤◌, ℕ, [], map, option_map, Err, IfOk, IfSome, IfNone};
+ghost use Rattle.std.specs.Prelude.{◌≡◌, ◌≢◌, ◌≤◌, ℕ, Bool, [], map, option_map, Err, IfOk, IfSome, IfNone};
 ghost use Rattle.clap.specs.Words.{app_of, fault_of, found_of, rows_of, subcommand_of, subcommand_rows_of};
-ghost use Rattle.recycler.specs.CommandLine.{recycler, Says, AsksPlay, AsksBy, Asks, IsCommandLine};
+ghost use Rattle.recycler.specs.CommandLine.{app_with, make as make_shape, play as play_shape, recycler, is_set, Says, AsksPlay, AsksMake, AsksBy, Asks, IsCommandLine};
 ghost use Rattle.recycler.specs.declared.command_line.Request.{Request as Asking};
 
 use clap::error::ErrorKind;
-use clap::{Arg, ArgMatches, Command};
+use clap::{Arg, ArgAction, ArgMatches, Command};
 use std::alloc::{AllocError as NoMemory, Global};
 
-/// The seed of an order where none is given.
+/// The seed where none is given.
 const SEED: u64 = 0;
 
 /// How many turns are drawn where no number is given, and at most.
@@ -16,11 +16,31 @@ const TURNS: u64 = 1_000_000;
 
 const MOST_TURNS: u64 = 10_000_000;
 
+/// How many mutators a made script has where no number is given, and at most.
+const MUTATORS: u64 = 2;
+
+const MOST_MUTATORS: u64 = 8;
+
+/// How many commands each mutator of a made script has where no number is given, and at most.
+const COMMANDS: u64 = 1_000;
+
+const MOST_COMMANDS: u64 = 200_000;
+
 /// What a command line asks for.
 #[derive(Clone, Copy, Debug, PartialEq, Eq)]
 pub enum Request {
-    /// Run a script in an order that is drawn from a seed, with at most so many draws.
-    Play { seed: u64, turns: u32 },
+    /// Run a script in an order that is drawn from a seed, with at most so many draws, and write the whole text or a summary.
+    Play {
+        seed: u64,
+        turns: u32,
+        summary: bool,
+    },
+    /// Write a script of so many mutators with so many commands each, drawn from a seed.
+    Make {
+        seed: u64,
+        mutators: u8,
+        commands: u32,
+    },
 }
 
 /// Why words ask for nothing.
@@ -61,15 +81,43 @@ fn matches_of<'a>(alloc: Global, words: &'a [&'a str]) -> Result<ArgMatches<'a>,
 fn command<'a>(alloc: Global) -> Result<Command<'a>, NoMemory>
     ensures { IfOk result (λ command. app_of command ≡ recycler) }
 {
-    let seed = Arg::new(alloc, "seed").long("seed");
-    let turns = Arg::new(alloc, "turns").long("turns");
-    let play = Command::new(alloc, "play").arg(seed)?.arg(turns)?;
+    let play = play_command(alloc)?;
+    let make = make_command(alloc)?;
     Command::new(alloc, "recycler")
         .disable_help_flag(true)
         .disable_help_subcommand(true)
         .disable_version_flag(true)
         .subcommand_required(true)
-        .subcommand(play)
+        .subcommand(play)?
+        .subcommand(make)
+}
+
+// The subcommand that runs a script.
+fn play_command<'a>(alloc: Global) -> Result<Command<'a>, NoMemory>
+    ensures { IfOk result (λ command. app_of command ≡ app_with play_shape) }
+{
+    let seed = Arg::new(alloc, "seed").long("seed");
+    let turns = Arg::new(alloc, "turns").long("turns");
+    let summary = Arg::new(alloc, "summary")
+        .long("summary")
+        .action(ArgAction::SetTrue);
+    Command::new(alloc, "play")
+        .arg(seed)?
+        .arg(turns)?
+        .arg(summary)
+}
+
+// The subcommand that makes a script.
+fn make_command<'a>(alloc: Global) -> Result<Command<'a>, NoMemory>
+    ensures { IfOk result (λ command. app_of command ≡ app_with make_shape) }
+{
+    let seed = Arg::new(alloc, "seed").long("seed");
+    let mutators = Arg::new(alloc, "mutators").long("mutators");
+    let commands = Arg::new(alloc, "commands").long("commands");
+    Command::new(alloc, "make")
+        .arg(seed)?
+        .arg(mutators)?
+        .arg(commands)
 }
 
 // What the subcommand that was found asks for.
@@ -79,21 +127,49 @@ fn asked(matches: &ArgMatches) -> Option<Request>
 {
     match matches.subcommand() {
         Some(("play", options)) => play(options),
+        Some(("make", options)) => make(options),
         _ => None,
     }
 }
 
 // What the options of `play` ask for, where their numbers are in range.
 fn play(options: &ArgMatches) -> Option<Request>
-    ensures some { IfSome result (λ request. (seed turns : ℕ) × (request ≡ Request.Play seed turns) × AsksPlay (rows_of (found_of options.now)) seed turns) }
-    ensures none { IfNone result ((seed turns : ℕ) → ¬ AsksPlay (rows_of (found_of options.now)) seed turns) }
+    ensures some { IfSome result (λ request. (seed turns : ℕ) × (summary : Bool) × (request ≡ Request.Play seed turns summary) × AsksPlay (rows_of (found_of options.now)) seed turns summary) }
+    ensures none { IfNone result ((seed turns : ℕ) (summary : Bool) → ¬ AsksPlay (rows_of (found_of options.now)) seed turns summary) }
 {
     let seed = number(options.get_str("seed"), SEED, u64::MAX)?;
     let turns = number(options.get_str("turns"), TURNS, MOST_TURNS)?;
+    let summary = is_flag_set(options.get_str("summary"));
     Some(Request::Play {
         seed,
         turns: turns as u32,
+        summary,
     })
+}
+
+// What the options of `make` ask for, where their numbers are in range.
+fn make(options: &ArgMatches) -> Option<Request>
+    ensures some { IfSome result (λ request. (seed mutators commands : ℕ) × (request ≡ Request.Make seed mutators commands) × AsksMake (rows_of (found_of options.now)) seed mutators commands) }
+    ensures none { IfNone result ((seed mutators commands : ℕ) → ¬ AsksMake (rows_of (found_of options.now)) seed mutators commands) }
+{
+    let seed = number(options.get_str("seed"), SEED, u64::MAX)?;
+    let mutators = number(options.get_str("mutators"), MUTATORS, MOST_MUTATORS)?;
+    let commands = number(options.get_str("commands"), COMMANDS, MOST_COMMANDS)?;
+    if mutators == 0 {
+        return None;
+    }
+    Some(Request::Make {
+        seed,
+        mutators: mutators as u8,
+        commands: commands as u32,
+    })
+}
+
+// Whether a flag is set, by the value that was found for it.
+fn is_flag_set(text: Option<&str>) -> bool
+    ensures { result ≡ is_set (option_map (λ text. text.now) text.entry) }
+{
+    text == Some("true")
 }
 
 // The number that an option says, or its default where it isn't given.

@@ -1,7 +1,7 @@
 //! The Recycler's program, from bytes to bytes.
 //!
 //! `run` reads a script, carries out its commands on a heap, settles the heap, and writes what was told, the listing of
-//! the settled heap and the totals. The rule that it keeps: each printed answer is the one that a heap that never frees
+//! the settled heap and the totals, or a summary of them. Asked to make a script, it writes one that is drawn from a seed. The rule that it keeps: each printed answer is the one that a heap that never frees
 //! gives to the same commands in one order; an allocation is answered full only where no slot was free; and after
 //! settling just the objects that registers reach hold slots, listed with true counts.
 //! The layer above is a person at a terminal: `main` gives `run` the words, standard input and standard output.
@@ -16,6 +16,8 @@ mod run;
 #[cfg(test)]
 mod settling_tests;
 mod status;
+#[cfg(test)]
+mod summary_tests;
 mod writing;
 
 use gate::OpenGate;

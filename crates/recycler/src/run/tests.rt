@@ -142,7 +142,7 @@ fn other_words_are_no_command_line(rt: HostRuntime) -> Result<(), Fail> {
         &[],
         &["recycler"],
         &["recycler", "Play"],
-        &["recycler", "make"],
+        &["recycler", "make", "--summary"],
         &["recycler", "help"],
         &["recycler", "play", "--help"],
         &["recycler", "play", "--turns", "10000001"],

@@ -1,20 +1,19 @@
 -- What was played, settled and listed is the answer.
-use Rattle.std.proofs.Common.{◌≡◌, ◌∙◌, ℕ, ◌+◌, ◌<◌, ◌≤◌, List, Some, sym, ap, subst, arith}
+use Rattle.std.proofs.Common.{◌≡◌, ◌∙◌, ℕ, List, sym, ap, subst}
 use Rattle.std.specs.List.{flat_map}
 use Rattle.rec_model.specs.LegalOrder.{Line, actors}
 use Rattle.rec_world.specs.World.{Core}
 use Rattle.rec_world.specs.declared.config.Config.{Config}
 use Rattle.rec_script.specs.Script.{Contents}
-use Rattle.rec_report.specs.Text.{IsOrderOf, play_text}
+use Rattle.rec_report.specs.Text.{IsOrderOf}
 use Rattle.rec_play.specs.Played.{last_moment, lines_of}
-use Rattle.recycler.specs.Headline.{Answers}
+use Rattle.recycler.specs.Headline.{Answers, run_text}
 use Rattle.recycler.proofs.Endings.{if_ok, answers_script}
-use Rattle.recycler.proofs.Fronts.{joined}
 use Rattle.recycler.proofs.Turns.{legal_turns}
 use Rattle.recycler.proofs.answer.text_of.Goals as goal
 
-pub text-requires-clause-order : goal.text-requires-clause-order
-text-requires-clause-order c =
+pub write_text-requires-clause-order : goal.write_text-requires-clause-order
+write_text-requires-clause-order c =
     let (events, played, stands, made) = c.play.ensures.played in
     subst (IsOrderOf (lines_of c.play.new.journals)) (played.in_order ∙ sym c.play.ensures.order) (legal_turns _ _ _ events played.legal)
 
@@ -25,11 +24,11 @@ returns c =
     let journals : List (List Line) = lines_of c.play.new.journals in
     let world : Core = c.settle.new.world in
     let in_order : c.play.new.order.list ≡ actors events = c.play.ensures.order ∙ sym played.in_order in
-    if_ok c.text.result _ (λ text. Answers script c.args.seed c.args.turns (flat_map (λ line. line) text))
-    (λ text (rows, listed, is). answers_script script c.args.seed c.args.turns journals events c.play.new.world world rows (flat_map (λ line. line) text) played
+    if_ok c.write_text.result _ (λ text. Answers script c.args.seed c.args.turns c.args.summary (flat_map (λ line. line) text))
+    (λ text (rows, listed, is). answers_script script c.args.seed c.args.turns c.args.summary journals events c.play.new.world world rows (flat_map (λ line. line) text) played
     c.in-Ok.ensures.settles c.in-Ok.ensures.settled (stands.0, c.settle.ensures.stands (last_moment script events).heap stands.0 stands.1)
     (c.settle.ensures.kept.shaped.headers ∙ ap (λ (k : Config). k.slots) (c.settle.ensures.config ∙ c.play.ensures.config))
     listed
-    (ap joined is ∙ ap (λ (ts : List ℕ). play_text journals (Some ts) rows world.made) in_order
-    ∙ ap (λ n. play_text journals (Some (actors events)) rows n) (c.settle.ensures.made ∙ made)))
-    c.text.ensures.lines
+    (is ∙ ap (λ (ts : List ℕ). run_text c.args.summary journals ts rows world.made world) in_order
+    ∙ ap (λ n. run_text c.args.summary journals (actors events) rows n world) (c.settle.ensures.made ∙ made)))
+    c.write_text.ensures

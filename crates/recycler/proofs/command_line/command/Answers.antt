@@ -1,9 +1,11 @@
-use Rattle.std.proofs.Common.{rules, ap, ap₂, codes, true, ◌≡◌, ◌∙◌}
+use Rattle.std.proofs.Common.{rules, ap, ap₂, refl, codes, Bool, true, false, not, ◌≡◌, ◌∙◌}
 use Rattle.std.proofs.lemmas.Result.{IfOk-weaker}
-use Rattle.clap.specs.Words.{App, app_of, new_app, rule_of, with_rule, with_subcommand}
-use Rattle.clap.specs.Simple.{app_of_fields}
+use Rattle.clap.specs.Words.{App, Shape, app_of, new_app, with_subcommand}
+use Rattle.clap.specs.Simple.{app_of_fields, has_plain_fields}
+use Rattle.clap.specs.declared.builder.command.Command.{Command}
 use Rattle.clap.specs.declared.builder.command.Command.TheViews.{out-Command}
-use Rattle.recycler.specs.CommandLine.{option}
+use Rattle.clap.proofs.WalkLemmas.{both}
+use Rattle.recycler.specs.CommandLine.{app_with, make, play}
 use Rattle.recycler.proofs.command_line.command.Goals as goal
 
 -- the settings of the program's command
@@ -19,12 +21,20 @@ settings a =
           };
     }
 
+not_true : (b : Bool) → not b ≡ true → b ≡ false
+not_true true is = cc
+not_true false is = refl
+
+-- a plain command has no global arguments
+no_globals : (command : Command) (shape : Shape) → app_of command ≡ app_with shape → shape.is_plain ≡ true → (out-Command command).has_globals ≡ false
+no_globals command shape is plain =
+    let all : has_plain_fields (out-Command command) ≡ true = ap (λ (a : App). a.top.is_plain) is ∙ plain in
+    not_true _ (both _ _ (both _ _ (both _ _ all).1).1).0
+
 pub returns : goal.returns
 returns c =
-    let seed_is : rule_of c.long-seed.result ≡ option (codes "seed") = search rules in
-    let turns_is : rule_of c.long-turns.result ≡ option (codes "turns") = search rules in
-    let play_is : app_of c.in_ok-play.play ≡ with_rule (with_rule (new_app (codes "play")) (option (codes "seed"))) (option (codes "turns")) =
-    c.in_ok-play.ensures.shape (search rules) ∙ ap₂ with_rule (c.in_ok-arg.ensures.shape (search rules) ∙ ap₂ with_rule c.new-3.ensures.app seed_is) turns_is in
-    let fields_are : out-Command c.subcommand_required.result ≡ record (out-Command c.new-4.result) { disable_help_flag = true; disable_help_subcommand = true; disable_version_flag = true; subcommand_required = true } = search rules in
-    let set_is : app_of c.subcommand_required.result ≡ settings (new_app (codes "recycler")) = ap app_of_fields fields_are ∙ ap settings c.new-4.ensures.app in
-    IfOk-weaker c.subcommand.result _ _ (λ command added. added.shape (search rules) ∙ ap₂ with_subcommand set_is (ap (λ (a : App). a.top) play_is)) c.subcommand.ensures
+    let fields_are : out-Command c.subcommand_required.result ≡ record (out-Command c.new.result) { disable_help_flag = true; disable_help_subcommand = true; disable_version_flag = true; subcommand_required = true } = search rules in
+    let set_is : app_of c.subcommand_required.result ≡ settings (new_app (codes "recycler")) = ap app_of_fields fields_are ∙ ap settings c.new.ensures.app in
+    let one_is : app_of c.in_ok-subcommand.field-0 ≡ with_subcommand (settings (new_app (codes "recycler"))) play =
+    c.in_ok-subcommand.ensures.shape (no_globals c.in_ok-play.play play c.in_ok-play.ensures refl) ∙ ap₂ with_subcommand set_is (ap (λ (a : App). a.top) c.in_ok-play.ensures) in
+    IfOk-weaker c.subcommand-2.result _ _ (λ command added. added.shape (no_globals c.in_ok-make.make make c.in_ok-make.ensures refl) ∙ ap₂ with_subcommand one_is (ap (λ (a : App). a.top) c.in_ok-make.ensures)) c.subcommand-2.ensures

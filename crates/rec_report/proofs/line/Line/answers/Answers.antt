@@ -1,0 +1,21 @@
+-- The pieces of the three formats one after another.
+use Rattle.std.proofs.Common.{◌≡◌, ◌∙◌, ◌++◌, ℕ, List, sym, ap, append_assoc, codes, decimal, get_or}
+use Rattle.std.specs.Prelude.{string_bytes}
+use Rattle.rec_report.specs.Text.{line_feed}
+use Rattle.rec_report.proofs.Summed.{six_pieces}
+use Rattle.rec_report.proofs.line.Line.answers.Goals as goal
+
+pub returns : goal.returns
+returns c =
+    let at : ℕ → ℕ = λ i. get_or c.args.counts.now i 0 in
+    let first : List ℕ = codes "done " ++ decimal (at 0) ++ codes " null " ++ decimal (at 1) ++ codes " object " ++ decimal (at 2) in
+    let second : List ℕ = codes " value " ++ decimal (at 3) ++ codes " yes " ++ decimal (at 4) ++ codes " no " ++ decimal (at 5) in
+    let third : List ℕ = codes " none " ++ decimal (at 6) ++ codes " full " ++ decimal (at 7) ++ codes " busy " ++ decimal (at 8) in
+    let one : string_bytes c.in_ok-text.text ≡ first = simp append_assoc c.in_ok-text.ensures.ok in
+    let two : string_bytes c.write.new.self ≡ string_bytes c.in_ok-text.text ++ second = simp append_assoc c.in_ok-write.ensures.bytes in
+    let three : string_bytes c.writeln.new.self ≡ string_bytes c.write.new.self ++ (third ++ line_feed) = simp append_assoc c.in_ok-writeln.ensures.bytes in
+    let two_parts : string_bytes c.write.new.self ≡ first ++ codes " value " ++ decimal (at 3) ++ codes " yes " ++ decimal (at 4) ++ codes " no " ++ decimal (at 5) =
+    two ∙ ap (λ t. t ++ second) one ∙ six_pieces first (codes " value ") (decimal (at 3)) (codes " yes ") (decimal (at 4)) (codes " no ") (decimal (at 5)) in
+    c.of.ensures ∙ three ∙ sym (append_assoc (string_bytes c.write.new.self) third line_feed)
+    ∙ ap (λ t. t ++ line_feed) (six_pieces (string_bytes c.write.new.self) (codes " none ") (decimal (at 6)) (codes " full ") (decimal (at 7)) (codes " busy ") (decimal (at 8)))
+    ∙ ap (λ t. t ++ codes " none " ++ decimal (at 6) ++ codes " full " ++ decimal (at 7) ++ codes " busy " ++ decimal (at 8) ++ line_feed) two_parts

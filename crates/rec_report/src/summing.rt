@@ -1,0 +1,51 @@
+//! The summary of a run.
+
+ghost use Rattle.std.specs.Prelude.{◌≡◌, List, map, length, IfOk, IfSome};
+ghost use Rattle.rec_model.specs.Listing.{Row, ListsSlots};
+ghost use Rattle.rec_world.specs.Settled.{IsSettled};
+ghost use Rattle.rec_world.specs.World.{sight};
+ghost use Rattle.rec_report.specs.Report.{AreFor};
+ghost use Rattle.rec_report.specs.Summary.{summary_lines};
+ghost use Rattle.rec_report.specs.Text.{IsOrderOf};
+
+use crate::listing::number_live;
+use crate::tally::{commands_of, tally};
+use crate::{Line, Text, refusals_of};
+use rec_script::Script;
+use rec_world::{Journal, Order, World};
+use std::alloc::{AllocError as NoMemory, Global};
+
+/// The summary of a run: how many mutators and commands there were, how the commands were answered, what became of the
+/// objects, and what the collections did. The order of the answers is of no account.
+pub fn summary(
+    alloc: Global,
+    script: &Script,
+    journals: &[Journal],
+    _order: Option<&Order>,
+    world: &World,
+) -> Result<Text, NoMemory>
+    // The conditions are those of `text`.
+    requires script { AreFor script.now world.now }
+    requires journals { length journals.now ≡ world.now.config.mutators }
+    requires order { IfSome _order (λ turns. IsOrderOf (map (λ journal. journal.lines) journals.now) turns.now.list) }
+    requires settled { IsSettled world.now }
+
+    // The live objects are those that `text` lists.
+    ensures lines { IfOk result (λ text. (rows : List Row) × ListsSlots (sight world.now) rows × (text ≡ summary_lines (map (λ journal. journal.lines) journals.now) (length rows) world.now.made world.now.collector.collections world.now.collector.sets)) }
+{
+    let numbering = number_live(alloc, script, world)?;
+    let live = numbering.list().len();
+    let sets = world.sets();
+    let mut text = Text::new(alloc);
+    text.add(Line::sizes(alloc, journals.len(), commands_of(journals))?)?;
+    text.add(Line::answers(alloc, &tally(journals))?)?;
+    text.add(Line::objects(alloc, live as u64, world.made(), refusals_of(journals))?)?;
+    text.add(Line::collections(
+        alloc,
+        world.collections(),
+        sets.freed,
+        sets.delta,
+        sets.sigma,
+    )?)?;
+    Ok(text)
+}
