@@ -1,6 +1,7 @@
 pub mod Found
 pub mod Polls
 pub mod Refusals
+pub mod Skips
 pub mod Sizes
 pub mod Steps
 pub mod Words

@@ -147,6 +147,21 @@ left_of p buffer = left_at p buffer p.phase
 unfoldable pub step_of : Private → (word : ℕ) → (box : Contents) → Private
 step_of p word box = swapped_of (took_of p word) box
 
+-- the slots below this one are those that a scan has still to come to, or has passed, by phase
+abbrev pub IsAhead : Phase → (slot : ℕ) → Type 0
+IsAhead (Scanning reg label before at) slot = at ≤ slot
+IsAhead _ slot = Unit {0}
+
+-- a scan comes to this slot, or to its end, by phase: each probe between is a step
+unfoldable pub skipped_at : Private → (slot : ℕ) → Phase → Private
+skipped_at p slot (Scanning reg label before at) =
+    record p { phase = if slot == p.slots then Scanned reg label before else Scanning reg label before slot; steps = p.steps + (slot - at) }
+skipped_at p slot _ = p
+
+-- a scan comes to this slot, or to its end
+unfoldable pub skipped_to : Private → (slot : ℕ) → Private
+skipped_to p slot = skipped_at p slot p.phase
+
 -- a mailbox is held, and its buffer is still to be swapped
 abbrev pub IsSwapping : Phase → Type 0
 IsSwapping Swapping = Unit {0}

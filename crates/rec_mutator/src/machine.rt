@@ -8,7 +8,7 @@ ghost use Rattle.rec_mutator.specs.declared.made.Made.TheVariants as makes;
 ghost use Rattle.rec_mutator.specs.declared.work.Work.TheVariants as works;
 ghost use Rattle.rec_model.specs.declared.command.Cmd.{Cmd as Command};
 ghost use Rattle.rec_model.specs.declared.told.Told.{Told as Answered};
-ghost use Rattle.rec_mutator.specs.Took.{begun_of, begun_by, took_of, took_at, plain, moved, answered, with_register, first_by, polled, probed, none_free, spare, swapped_of, IsFound, IsRequested, IsSwapping, IsBetween};
+ghost use Rattle.rec_mutator.specs.Took.{begun_of, begun_by, took_of, took_at, plain, moved, answered, with_register, first_by, polled, probed, none_free, skipped_to, spare, swapped_of, IsAhead, IsFound, IsRequested, IsSwapping, IsBetween};
 
 use crate::phase::Phase;
 use crate::{Made, Work};
@@ -143,6 +143,40 @@ impl Machine {
         ensures kept { IsMachine self.new }
     {
         self.learn(word);
+    }
+
+    /// Makes the probes of all slots below this one that a scan has still to come to: as many steps as there are such slots,
+    /// each of which has to be taken. Where no scan is under way nothing changes.
+    #[tactic(auto, unfolding(crate::specs::Took::skipped_to, crate::specs::Took::skipped_at))]
+    pub fn skip_to(&mut self, slot: u16)
+        requires ahead { IsAhead self.old.phase slot }
+        requires slots { slot ≤ self.old.slots }
+
+        ensures skipped { self.new ≡ skipped_to self.old slot }
+        ensures same { KeepsSizes self.old self.new }
+        ensures busy { is_busy self.new ≡ is_busy self.old }
+        ensures work { work_of self.new ≡ work_of self.old }
+        ensures kept { IsMachine self.new }
+    {
+        if let Phase::Scanning {
+            reg,
+            label,
+            before,
+            slot: at,
+        } = self.phase
+        {
+            self.steps += u32::from(slot - at);
+            self.phase = if slot == self.slots {
+                Phase::Scanned { reg, label, before }
+            } else {
+                Phase::Scanning {
+                    reg,
+                    label,
+                    before,
+                    slot,
+                }
+            };
+        }
     }
 
     /// Takes the buffer of the own mailbox, which is held, as the log, and gives the retired log that takes its place there.

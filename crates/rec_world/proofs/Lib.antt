@@ -1,3 +1,4 @@
+pub mod Beginnings
 pub mod Calls
 pub mod Commands
 pub mod CoreActors
@@ -41,12 +42,15 @@ pub mod CyclesTest
 pub mod CyclesTrial
 pub mod CyclesWait
 pub mod Filled
+pub mod Frees
 pub mod LogStamps
 pub mod Machines
 pub mod Mailboxes
 pub mod Names
 pub mod Numbers
+pub mod OneStep
 pub mod Openings
 pub mod Places
+pub mod Skipping
 pub mod Stamps
 pub mod Turnings

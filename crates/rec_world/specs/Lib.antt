@@ -11,6 +11,7 @@ pub mod CoreReach
 pub mod CoreShown
 pub mod CoreSwept
 pub mod Cycles
+pub mod Indexed
 pub mod Inside
 pub mod Journal
 pub mod Mailbox
@@ -19,6 +20,7 @@ pub mod Numbering
 pub mod Order
 pub mod Settled
 pub mod Worked
+pub mod Stepping
 pub mod World
 pub use Rattle.rec_model.specs.Asking
 pub use Rattle.rec_model.specs.Heap

@@ -1,7 +1,9 @@
-ghost use Rattle.std.specs.Prelude.{◌≡◌, ℕ, ◌-◌, ◌*◌, ◌<◌, length, ◌∷◌, replicate, slice_index_or, IfOk};
+ghost use Rattle.std.specs.Prelude.{◌≡◌, ℕ, ◌-◌, ◌*◌, ◌^◌, ◌<◌, ◌≤◌, length, ◌∷◌, replicate, slice_index_or, IfOk};
 ghost use Rattle.rec_word.specs.Op.{written};
+ghost use Rattle.rec_world.specs.Indexed.{HoldsUpTo};
 ghost use Rattle.rec_world.specs.Memory.{IsWithin, cell, with_cell};
 
+use rec_index::Index;
 use rec_word::Op;
 use std::alloc::{AllocError as NoMemory, Global};
 use std::marker::Model;
@@ -14,6 +16,8 @@ pub struct Memory {
     pub epoch: u64,
     pub freed: u64,
     pub crossing: Vec<u64>,
+    // The slots whose headers are 0.
+    free: Index,
 }
 
 impl Model for Memory {
@@ -21,13 +25,11 @@ impl Model for Memory {
 
     ghost Value = { Cells };
 
-    ghost view = { λ memory. record {
-      headers = memory.headers.items;
-      words = memory.words.items;
-      epoch = memory.epoch;
-      freed = memory.freed;
-      crossing = memory.crossing.items;
-    } };
+    ghost use Rattle.rec_world.specs.Indexed.{cells, IsIndexed};
+
+    ghost view = { cells };
+
+    ghost invariant = { IsIndexed };
 }
 
 impl Memory {
@@ -40,7 +42,8 @@ impl Memory {
         mutators: usize,
         epoch: u32,
     ) -> Result<Memory, NoMemory>
-        requires { 0 < slots }
+        requires some_slots { 0 < slots }
+        requires few_slots { slots < 2 ^ 16 }
         ensures { IfOk result (λ memory. memory ≡ record {
           headers = 1 ∷ replicate (slots - 1) 0;
           words = replicate places 0;
@@ -53,12 +56,14 @@ impl Memory {
         headers[0] = 1;
         let words = vec![in alloc; 0; places]?;
         let crossing = vec![in alloc; 4 * u64::from(epoch); mutators]?;
+        let free = all_but_first(alloc, slots as u16)?;
         Ok(Memory {
             headers,
             words,
             epoch: u64::from(epoch),
             freed: 0,
             crossing,
+            free,
         })
     }
 
@@ -80,10 +85,19 @@ impl Memory {
                 *word = op.written(found);
                 found
             }
-            Op::LoadHeader(slot) | Op::ClaimHeader(slot, _) | Op::FreeHeader(slot) => {
-                let header = &mut self.headers[usize::from(slot)];
-                let found = *header;
-                *header = op.written(found);
+            Op::LoadHeader(slot) => self.headers[usize::from(slot)],
+            Op::ClaimHeader(slot, _) => {
+                let found = self.headers[usize::from(slot)];
+                if found == 0 {
+                    self.free.remove(slot);
+                    self.headers[usize::from(slot)] = op.written(0);
+                }
+                found
+            }
+            Op::FreeHeader(slot) => {
+                let found = self.headers[usize::from(slot)];
+                self.headers[usize::from(slot)] = 0;
+                self.free.insert(slot);
                 found
             }
             Op::LoadEpoch | Op::StoreEpoch(_) => {
@@ -116,6 +130,20 @@ impl Memory {
         self.words.as_slice()
     }
 
+    /// The lowest slot whose header is 0, or how many slots there are where no header is.
+    pub fn lowest_free(&self) -> u16
+        requires { length self.now.headers < 2 ^ 16 }
+
+        ensures there { result ≤ length self.now.headers }
+        ensures lower { (s : ℕ) → s < result → 0 < slice_index_or self.now.headers s 0 }
+        ensures free { result < length self.now.headers → slice_index_or self.now.headers result 0 ≡ 0 }
+    {
+        match self.free.lowest() {
+            Some(slot) => slot,
+            None => self.headers.len() as u16,
+        }
+    }
+
     /// The header of the slot.
     pub fn header(&self, slot: u16) -> u64
         requires { slot < length self.now.headers }
@@ -123,4 +151,16 @@ impl Memory {
     {
         self.headers[usize::from(slot)]
     }
+}
+
+// The slots of a heap in which only slot 0 is taken.
+fn all_but_first(alloc: Global, slots: u16) -> Result<Index, NoMemory>
+    requires { 0 < slots }
+    ensures { IfOk result (λ index. HoldsUpTo index slots) }
+{
+    let mut free = Index::open(alloc)?;
+    'slots: for slot in 1..slots {
+        free.insert(slot);
+    }
+    Ok(free)
 }

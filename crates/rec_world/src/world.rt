@@ -22,9 +22,14 @@ ghost use Rattle.rec_world.specs.CoreMoves.{begun, stepped, turned, offering, En
 ghost use Rattle.rec_world.specs.CoreReach.{KeepsReached};
 ghost use Rattle.rec_world.specs.CoreShown.{IsShown, entries_of, sight_told};
 ghost use Rattle.rec_world.specs.CoreSwept.{IsSweep};
-ghost use Rattle.rec_world.specs.Memory.{births_of};
+ghost use Rattle.rec_word.specs.Op.{written};
+ghost use Rattle.rec_mutator.specs.Next.{next_of};
+ghost use Rattle.rec_mutator.specs.Took.{took_of, step_of, left_of};
+ghost use Rattle.rec_world.specs.Mailbox.{held};
+ghost use Rattle.rec_world.specs.Stepping.{MakesStep};
+ghost use Rattle.rec_world.specs.Memory.{births_of, cell, with_cell};
 ghost use Rattle.rec_world.specs.World.{IsWorld, label_of, IsLogFull, IsFull, IsBusy, IsLowestFree, HasFound, IsFinished, IsQuiet, IsCrossed, OnlyWorks, TurnHasCause};
-ghost use Rattle.rec_world.specs.Worked.{IsWorked};
+ghost use Rattle.rec_world.specs.Worked.{StepsTo, IsWorked};
 
 use crate::mailbox::{mailbox_of, open_boxes, swap_gathered, swap_own};
 use crate::memory::Memory;
@@ -139,11 +144,7 @@ impl World {
     {
         let index = usize::from(t) - 1;
         let machine = &mut self.machines[index];
-        let op = machine.next();
-        let found = self.memory.perform(op);
-        machine.took(found);
-        swap_own(machine, &mut self.boxes[index]);
-        self.made += births(op, found);
+        self.made += make_step(machine, &mut self.memory, &mut self.boxes[index]);
         machine.answer()
     }
 
@@ -234,8 +235,7 @@ impl World {
         ensures kept { IsWorld self.new }
     {
         self.rules();
-        self.begin(t, Work::Command(cmd));
-        match self.finish(t) {
+        match self.carry_out(t, Work::Command(cmd)) {
             Made::Answered(told) => told,
             Made::Crossed(_) => unreachable!(),
         }
@@ -262,8 +262,7 @@ impl World {
         ensures kept { IsWorld self.new }
     {
         self.rules();
-        self.begin(t, Work::Poll);
-        match self.finish(t) {
+        match self.carry_out(t, Work::Poll) {
             Made::Crossed(epoch) => epoch,
             Made::Answered(_) => unreachable!(),
         }
@@ -435,8 +434,45 @@ impl World {
         let _config = &self.config;
     }
 
-    // Steps of mutator `t` until its work is finished, and what came of it.
+    // Begins a work of mutator `t`, and makes its steps until it is finished: most works end with their first step.
     #[inline(always)]
+    fn carry_out(&mut self, t: u8, work: Work) -> Made
+        requires mutator { IsMutator self.old.config t }
+        requires work { IsWork self.old.config work }
+        requires idle { is_busy (mutator self.old t) ≡ false }
+        requires world { IsWorld self.old }
+
+        ensures finished { IsFinished (begun self.old t work) t result self.new }
+        ensures run { EndsRun self.new }
+        ensures kept { IsWorld self.new }
+    {
+        if let Some(made) = self.begin_and_step(t, work) {
+            return made;
+        }
+        self.finish(t)
+    }
+
+    // Begins a work of mutator `t` and makes its first step.
+    #[inline(always)]
+    fn begin_and_step(&mut self, t: u8, work: Work) -> Option<Made>
+        requires mutator { IsMutator self.old.config t }
+        requires work { IsWork self.old.config work }
+        requires idle { is_busy (mutator self.old t) ≡ false }
+
+        ensures begun { IsWorld (begun self.old t work) }
+        ensures stepped { self.new ≡ stepped (begun self.old t work) t }
+        ensures answer { result ≡ answer_of (mutator self.new t) }
+        ensures kept { IsWorld self.new }
+    {
+        see_label(work);
+        let index = usize::from(t) - 1;
+        let machine = &mut self.machines[index];
+        machine.begin(work);
+        self.made += make_step(machine, &mut self.memory, &mut self.boxes[index]);
+        machine.answer()
+    }
+
+    // Steps of mutator `t` until its work is finished, and what came of it.
     fn finish(&mut self, t: u8) -> Made
         requires mutator { IsMutator self.old.config t }
         requires begun { HasFound self.old (mutator self.old t).phase }
@@ -448,10 +484,25 @@ impl World {
         ensures kept { IsWorld self.new }
     {
         loop {
+            self.skip_taken(t);
             if let Some(made) = self.step(t) {
                 return made;
             }
         }
+    }
+
+    // Makes the probes of taken slots that come next, if mutator `t` makes a scan, all at once.
+    fn skip_taken(&mut self, t: u8)
+        requires mutator { IsMutator self.old.config t }
+        requires busy { is_busy (mutator self.old t) ≡ true }
+        requires found { HasFound self.old (mutator self.old t).phase }
+
+        ensures path { StepsTo self.old t self.new }
+        ensures busy { is_busy (mutator self.new t) ≡ true }
+        ensures kept { IsWorld self.new }
+    {
+        let slot = self.memory.lowest_free();
+        self.machines[usize::from(t) - 1].skip_to(slot);
     }
 }
 
@@ -527,6 +578,24 @@ fn see_label(work: Work)
     if let Work::Command(Cmd::New { label, .. }) = work {
         prove!(label <= u32::MAX);
     }
+}
+
+// One step of a machine that isn't between begin and end of one: its operation on the word that this names, and what it learns
+// of the word found. The answer is how many births that was.
+#[inline(always)]
+fn make_step(machine: &mut Machine, memory: &mut Memory, mailbox: &mut Option<Buffer>) -> u64
+    requires { MakesStep machine.old memory.old mailbox.old }
+
+    ensures machine { machine.new ≡ step_of machine.old (cell memory.old (next_of machine.old)) (held mailbox.old) }
+    ensures memory { memory.new ≡ with_cell memory.old (next_of machine.old) (written (next_of machine.old) (cell memory.old (next_of machine.old))) }
+    ensures mailbox { mailbox.new ≡ Some (left_of (took_of machine.old (cell memory.old (next_of machine.old))) (held mailbox.old)) }
+    ensures births { result ≡ births_of (next_of machine.old) (cell memory.old (next_of machine.old)) }
+{
+    let op = machine.next();
+    let found = memory.perform(op);
+    machine.took(found);
+    swap_own(machine, mailbox);
+    births(op, found)
 }
 
 // The births of an operation that found this word.

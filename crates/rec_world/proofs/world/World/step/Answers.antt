@@ -2,18 +2,18 @@
 use Rattle.std.proofs.Common.{◌≡◌, ◌-◌, ◌+◌, ◌<◌, ◌≤◌, ◌^◌, true, map, length, slice_set, arith, refl, sym, ap, subst, ◌∙◌}
 use Rattle.std.specs.Option.{is_none, is_some, IfSome}
 use Rattle.rec_mutator.specs.Next.{next_of}
-use Rattle.rec_mutator.specs.Private.{Private, is_busy, work_of, answer_of, limit_of}
-use Rattle.rec_mutator.specs.Took.{IsFound, IsBetween, IsSwapping, spare, took_of}
+use Rattle.rec_mutator.specs.Private.{is_busy, work_of, answer_of, limit_of}
 use Rattle.rec_world.specs.Core.{Core, cells_of, mutator}
 use Rattle.rec_world.specs.CoreMet.{MayStep}
-use Rattle.rec_world.specs.CoreMoves.{Move, stepped, found_by}
+use Rattle.rec_world.specs.CoreMoves.{Move, stepped}
 use Rattle.rec_world.specs.CoreShown.{IsShown}
 use Rattle.rec_world.specs.Inside.{core}
 use Rattle.rec_world.specs.Mailbox.{held}
-use Rattle.rec_world.specs.Memory.{IsWithin, cell, births_of}
+use Rattle.rec_world.specs.Memory.{cell, births_of}
 use Rattle.rec_world.specs.World.{IsWorld}
-use Rattle.rec_world.proofs.Calls.{Ready, ready, mutator_read, box_read, box_home, home_again, machine_left, stepped_is, moved_world, made_small, births_few}
+use Rattle.rec_world.proofs.Calls.{Ready, ready, mutator_read, home_again, machine_left, moved_world, made_small, births_few}
 use Rattle.rec_world.proofs.Commands.{work_stays, step_busy, steps_counted, steps_limited}
+use Rattle.rec_world.proofs.OneStep.{makes_step, made_step_is}
 use Rattle.rec_world.proofs.CoreRuns.{move_kept}
 use Rattle.rec_world.proofs.CoreShowing.{step_shown}
 use Rattle.rec_world.proofs.CoreWords.{may_step}
@@ -31,48 +31,22 @@ may c = may_step (core c.self.inside) c.args.t (begins c).kept (begins c).is (ap
 asked : (c : After-index_mut-machine) → c.index_mut-machine.result.now ≡ mutator (core c.self.inside) c.args.t
 asked c = mutator_read (core c.self.inside) c.args.t c.from-index.result c.index_mut-machine.result.now c.self.invariant.world.shaped (begins c).is c.from-index.ensures c.index_mut-machine.ensures.value
 
-pub perform-found-requires : goal.perform-found-requires
-perform-found-requires c =
-    let here : After-index_mut-machine = (goal.at.perform-found-requires c).After-index_mut-machine in
-    subst (IsWithin (cells_of (core c.self.inside))) (sym (c.next-op.ensures ∙ ap next_of (asked here))) (may here).within
-
-pub took-requires-clause-between : goal.took-requires-clause-between
-took-requires-clause-between c =
-    let here : After-index_mut-machine = (goal.at.took-requires-clause-between c).After-index_mut-machine in
-    subst (λ (p : Private). IsBetween p.phase) (sym (asked here)) (may here).between
-
-pub took-requires-clause-found : goal.took-requires-clause-found
-took-requires-clause-found c =
-    let here : After-index_mut-machine = (goal.at.took-requires-clause-found c).After-index_mut-machine in
-    let w : Core = core c.self.inside in
-    let found : c.perform-found.result ≡ found_by w c.args.t = c.perform-found.ensures.found ∙ ap (cell (cells_of w)) (c.next-op.ensures ∙ ap next_of (asked here)) in
-    subst (λ (p : Private). IsFound p (next_of p) c.perform-found.result) (sym (asked here)) (subst (IsFound (mutator w c.args.t) (next_of (mutator w c.args.t))) (sym found) (may here).found)
-
 pub index_mut-requires : goal.index_mut-requires
 index_mut-requires c =
     let there : c.args.t - 1 < length c.self.inside.boxes.items = (begins (goal.at.index_mut-requires c).After-index_mut-machine).boxed in
     omega (arith, there, c.from-index.ensures)
 
-pub swap_own-requires-clause-home : goal.swap_own-requires-clause-home
-swap_own-requires-clause-home c =
-    let there : c.args.t - 1 < length c.self.inside.boxes.items = (begins (goal.at.swap_own-requires-clause-home c).After-index_mut-machine).boxed in
-    box_home c.self.inside.boxes.items (c.from-index.result - 1) c.index_mut.result.now c.self.invariant.home (subst (λ n. n - 1 < length c.self.inside.boxes.items) (sym c.from-index.ensures) there) c.index_mut.ensures.value
-
-pub swap_own-requires-clause-spare : goal.swap_own-requires-clause-spare
-swap_own-requires-clause-spare c =
-    let here : After-index_mut-machine = (goal.at.swap_own-requires-clause-spare c).After-index_mut-machine in
-    let w : Core = core c.self.inside in
-    let found : c.perform-found.result ≡ found_by w c.args.t = c.perform-found.ensures.found ∙ ap (cell (cells_of w)) (c.next-op.ensures ∙ ap next_of (asked here)) in
-    let learnt : c.took.new.self ≡ took_of (mutator w c.args.t) (found_by w c.args.t) = c.took.ensures.took ∙ ap (λ p. took_of p c.perform-found.result) (asked here) ∙ ap (took_of (mutator w c.args.t)) found in
-    λ swaps.
-    box_read c.self.inside.boxes.items c.args.t c.from-index.result c.index_mut.result.now c.from-index.ensures (begins here).boxed c.index_mut.ensures.value
-    ∙ (may here).spare (subst (λ (p : Private). IsSwapping p.phase) learnt swaps) ∙ ap spare (sym learnt)
+pub make_step-requires : goal.make_step-requires
+make_step-requires c =
+    let here : After-index_mut-machine = (goal.at.make_step-requires c).After-index_mut-machine in
+    makes_step (core c.self.inside) c.args.t c.from-index.result c.self.inside.boxes.items c.index_mut-machine.result.now c.index_mut.result.now (may here) (ap (λ (s : Core). is_busy (mutator s c.args.t)) c.self.view_is ∙ c.requires.busy)
+    (asked here) refl (begins here).boxed c.from-index.ensures c.self.invariant.home c.index_mut.ensures.value
 
 pub overflow_add-self : goal.overflow_add-self
 overflow_add-self c =
     let few : c.self.inside.made + 1 < 2 ^ 64 = made_small (core c.self.inside) (begins (goal.at.overflow_add-self c).After-index_mut-machine).kept in
-    let one : births_of c.next-op.result c.perform-found.result ≤ 1 = births_few c.next-op.result c.perform-found.result in
-    omega (arith, few, one, c.births.ensures)
+    let one : births_of (next_of c.index_mut-machine.result.now) (cell (cells_of (core c.self.inside)) (next_of c.index_mut-machine.result.now)) ≤ 1 = births_few (next_of c.index_mut-machine.result.now) (cell (cells_of (core c.self.inside)) (next_of c.index_mut-machine.result.now)) in
+    omega (arith, few, one, c.make_step.ensures.births)
 
 -- what is known as the step ends
 ends : (c : After-answer) → Ready c.self.inside c.args.t
@@ -85,29 +59,29 @@ was_busy c = ap (λ (s : Core). is_busy (mutator s c.args.t)) c.self.view_is ∙
 abbrev after : After-answer → Core
 after c =
     record (core c.self.inside) {
-      headers = c.perform-found.new.self.headers;
-      words = c.perform-found.new.self.words;
-      epoch = c.perform-found.new.self.epoch;
-      freed = c.perform-found.new.self.freed;
-      crossing = c.perform-found.new.self.crossing;
-      mutators = slice_set c.self.inside.machines.items (c.from-index.result - 1) c.swap_own.new.machine;
-      boxes = map held (slice_set c.self.inside.boxes.items (c.from-index.result - 1) c.swap_own.new.mailbox);
-      made = c.self.inside.made + c.births.result;
+      headers = c.make_step.new.memory.headers;
+      words = c.make_step.new.memory.words;
+      epoch = c.make_step.new.memory.epoch;
+      freed = c.make_step.new.memory.freed;
+      crossing = c.make_step.new.memory.crossing;
+      mutators = slice_set c.self.inside.machines.items (c.from-index.result - 1) c.make_step.new.machine;
+      boxes = map held (slice_set c.self.inside.boxes.items (c.from-index.result - 1) c.make_step.new.mailbox);
+      made = c.self.inside.made + c.make_step.result;
     }
 
 -- it is the one of the definitions
 left : (c : After-answer) → after c ≡ stepped (core c.self.inside) c.args.t
 left c =
-    stepped_is (core c.self.inside) c.args.t c.from-index.result c.self.inside.boxes.items c.next-op.result c.perform-found.result c.births.result c.index_mut-machine.result.now c.index_mut-machine.result.now c.index_mut.result.now c.swap_own.new.mailbox
-    c.took.new.self c.swap_own.new.machine c.perform-found.new.self c.self.invariant.world.shaped (ends c).is refl (ends c).boxed c.from-index.ensures c.index_mut-machine.ensures.value c.index_mut-machine.ensures.value c.index_mut.ensures.value
-    c.next-op.ensures c.perform-found.ensures.found c.perform-found.ensures.left c.took.ensures.took c.swap_own.ensures.machine c.swap_own.ensures.mailbox c.births.ensures
+    made_step_is (core c.self.inside) c.args.t c.from-index.result c.make_step.result c.self.inside.boxes.items c.index_mut-machine.result.now c.make_step.new.machine c.index_mut.result.now c.make_step.new.mailbox c.make_step.new.memory
+    c.self.invariant.world.shaped (ends c).is refl (ends c).boxed c.from-index.ensures c.index_mut-machine.ensures.value c.index_mut.ensures.value
+    c.make_step.ensures.machine c.make_step.ensures.memory c.make_step.ensures.mailbox c.make_step.ensures.births
 
 world : (c : After-answer) → IsWorld (after c)
 world c = subst IsWorld (sym (left c)) (moved_world (core c.self.inside) (Move.Steps c.args.t) c.self.invariant.world ((ends c).is, was_busy c))
 
 pub invariant_of-self : goal.invariant_of-self
 invariant_of-self c =
-    record { world = world (goal.at.invariant_of-self c).After-answer; home = home_again c.self.inside.boxes.items (c.from-index.result - 1) c.swap_own.new.mailbox (ap is_some c.swap_own.ensures.mailbox) c.self.invariant.home }
+    record { world = world (goal.at.invariant_of-self c).After-answer; home = home_again c.self.inside.boxes.items (c.from-index.result - 1) c.make_step.new.mailbox (ap is_some c.make_step.ensures.mailbox) c.self.invariant.home }
 
 pub returns-clause-stepped : goal.returns-clause-stepped
 returns-clause-stepped c = left (goal.at.returns-clause-stepped c).After-answer ∙ ap (λ (s : Core). stepped s c.args.t) c.self.view_is
@@ -116,7 +90,7 @@ returns-clause-stepped c = left (goal.at.returns-clause-stepped c).After-answer 
 answered : (c : After-answer) → c.answer.result ≡ answer_of (mutator (stepped (core c.self.inside) c.args.t) c.args.t)
 answered c =
     c.answer.ensures.answer
-    ∙ ap answer_of (sym (machine_left (core c.self.inside) c.args.t c.from-index.result c.swap_own.new.machine (ends c).kept (ends c).is c.from-index.ensures) ∙ ap (λ (s : Core). mutator s c.args.t) (left c))
+    ∙ ap answer_of (sym (machine_left (core c.self.inside) c.args.t c.from-index.result c.make_step.new.machine (ends c).kept (ends c).is c.from-index.ensures) ∙ ap (λ (s : Core). mutator s c.args.t) (left c))
 
 pub returns-clause-answer : goal.returns-clause-answer
 returns-clause-answer c =

@@ -1,0 +1,7 @@
+use Rattle.std.proofs.Common.{rules}
+use Rattle.rec_index.proofs.Words.{lowest_in}
+use Rattle.rec_index.proofs.bits.Bits.lowest.Goals as goal
+
+pub returns-clause-some : goal.returns-clause-some
+returns-clause-some c =
+    lowest_in c.self.inside.words.items c.args.self.now c.args.word c.index-bits.result.now c.self.view_is c.requires.there c.index-bits.ensures c.if-bits-eq0.false (search rules)
