@@ -18,7 +18,7 @@ use Rattle.rec_apply.proofs.Falling.{fall_first, fall_right, fall_zeros_all}
 use Rattle.rec_apply.proofs.Resting.{rest_all_up}
 use Rattle.rec_apply.proofs.Whole.{batch_rests}
 use Rattle.rec_release.specs.Release.{IsReady}
-use Rattle.rec_release.specs.TakenOff.{IsApart, IsMember}
+use Rattle.rec_release.specs.TakenOff.{AllZerosButOrange, IsApart, IsMember}
 use Rattle.rec_release.specs.declared.at.At.{At}
 use Rattle.rec_release.proofs.Orange.{off_keeps}
 use Rattle.rec_release.proofs.TakenOff.{written}
@@ -26,8 +26,11 @@ use Rattle.rec_trial.specs.Moves.{is_gray, is_white}
 use Rattle.rec_trial.specs.Trial.{next_of as trial_next}
 use Rattle.rec_trial.proofs.Worked.{kept_by_all}
 use Rattle.rec_collector.specs.Clearing.{IsClearing, IsUntried}
+use Rattle.rec_collector.specs.Outside.{AreOutside}
 use Rattle.rec_collector.specs.Parts.{Parts}
+use Rattle.rec_collector.specs.Zeros.{AreCounted}
 use Rattle.rec_collector.proofs.Clearing.{clearing, freeing_idle, release_idle, tidy_of}
+use Rattle.rec_collector.proofs.Outside.{outside_on, raised_lowers}
 use Rattle.rec_collector.proofs.Tidy.{tidy_off, IsTidy}
 
 -- a slot that was incremented is Black
@@ -49,7 +52,14 @@ unfolding all_up
 all_up_apart s [] a = a
 all_up_apart s (t ∷ ts) a = all_up_apart (counted_up s t) ts (up_apart s t a)
 
-tidy_up : (s : State) (t : Option ℕ) (at : Option At) → IsTidy s at → IsTidy (counted_up s t) at
+-- and has a count
+raised_zeros : (s : State) (x : ℕ) → AllZerosButOrange s → AllZerosButOrange (with_slot s x (raised (slot_at s x)))
+raised_zeros s x a y u n o = elim (written s x (raised (slot_at s x)) y) [
+  | inl q ↦ absurd (omega (arith, n, ap (λ (v : Slot). v.count) q.1))
+  | inr q ↦ a y (ap (λ (v : Slot). v.released) (sym q) ∙ u) (ap (λ (v : Slot). v.count) (sym q) ∙ n) (λ p. o (ap (λ (v : Slot). v.colour) q ∙ p))
+]
+
+tidy_up : {fields : ℕ} → (s : State) (t : Option ℕ) (at : Option At) → IsTidy fields s at → IsTidy fields (counted_up s t) at
 tidy_up s None at i = i
 tidy_up s (Some x) at i =
     let v : Slot = raised (slot_at s x) in
@@ -62,12 +72,14 @@ tidy_up s (Some x) at i =
         no_white = kept_by_all (λ (w : Slot). is_white w.colour) s x v refl i.untried.no_white;
       };
       apart = raised_apart s x i.apart;
+      all_zeros = raised_zeros s x i.all_zeros;
+      outside = outside_on s (with_slot s x v) (raised_lowers s x) i.outside;
       listed = λ y l r b. i.listed y (omega (arith, l, length-set s.slots x v)) (sym (released y) ∙ r) (sym (buffered y) ∙ b);
       unbuffered = λ y l. buffered y ∙ i.unbuffered y l;
       held = λ y l. buffered y ∙ i.held y l;
     }
 
-tidy_all_up : (s : State) (ts : List (Option ℕ)) (at : Option At) → IsTidy s at → IsTidy (all_up s ts) at
+tidy_all_up : {fields : ℕ} → (s : State) (ts : List (Option ℕ)) (at : Option At) → IsTidy fields s at → IsTidy fields (all_up s ts) at
 unfolding all_up
 tidy_all_up s [] at i = i
 tidy_all_up s (t ∷ ts) at i = tidy_all_up (counted_up s t) ts at (tidy_up s t at i)
@@ -93,7 +105,7 @@ released_rests s t k r = record {
   work = λ x h. k.released x ∙ r.work x (subst (λ xs. 0 < times x xs) k.work h);
 }
 
-tidy_down : (s : State) (t : Option ℕ) (ts : List (Option ℕ)) (at : Option At) → CanFall s (t ∷ ts) → AreReleased s → IsTidy s at → IsTidy (counted_down s t) at
+tidy_down : {fields : ℕ} → (s : State) (t : Option ℕ) (ts : List (Option ℕ)) (at : Option At) → CanFall s (t ∷ ts) → AreReleased s → IsTidy fields s at → IsTidy fields (counted_down s t) at
 tidy_down s None ts at c r i = i
 tidy_down s (Some x) ts at c r i = tidy_off false s (Some x) at (fall_first s (Some x) ts c).0 (record { zeros = c.zeros; free = r.free }) r.work i
 
@@ -101,7 +113,7 @@ released_down : (s : State) (t : Option ℕ) → AreReleased s → AreReleased (
 released_down s None r = r
 released_down s (Some x) r = released_rests s (counted_down s (Some x)) (rest_decremented s x) r
 
-tidy_all_down : (s : State) (ts : List (Option ℕ)) (at : Option At) → CanFall s ts → AreReleased s → IsTidy s at → IsTidy (all_down s ts) at
+tidy_all_down : {fields : ℕ} → (s : State) (ts : List (Option ℕ)) (at : Option At) → CanFall s ts → AreReleased s → IsTidy fields s at → IsTidy fields (all_down s ts) at
 unfolding all_down
 tidy_all_down s [] at c r i = i
 tidy_all_down s (t ∷ ts) at c r i = tidy_all_down (counted_down s t) ts at (fall_right s (t ∷ []) ts c) (released_down s t r) (tidy_down s t ts at c r i)
@@ -114,7 +126,7 @@ module _ (s : State) (newer older : List Contents) (c : CanFall (all_up s (flat_
   pub batch_apart : IsApart s → IsApart (batch s newer older)
   batch_apart a = all_down_apart up (flat_map down_targets older) c (all_up_apart s (flat_map up_targets newer) a)
 
-  tidy_batch : (at : Option At) → AreReleased s → IsTidy s at → IsTidy (batch s newer older) at
+  tidy_batch : {fields : ℕ} → (at : Option At) → AreReleased s → IsTidy fields s at → IsTidy fields (batch s newer older) at
   tidy_batch at r i = tidy_all_down up (flat_map down_targets older) at c (released_rests s up (rest_all_up s (flat_map up_targets newer)) r) (tidy_all_up s (flat_map up_targets newer) at i)
 
 -- parts that are clear stay so, where nothing is at work
@@ -137,17 +149,19 @@ nowhere : {P : Type 0} (xs : List ℕ) (x : ℕ) → xs ≡ [] → 0 < times x x
 nowhere xs x e h = absurd (omega (arith, h, ap (times x) e, times-nil x))
 
 -- parts are clear where no slot is released and nothing is to be done
-pub resting_clear : (w : Parts) → IsUntried w.counts → IsNone (trial_next w.trial) → w.prep.at ≡ None → IsApart w.counts → ((x : ℕ) → x < length w.counts.slots → (slot_at w.counts x).released ≡ false) →
+pub resting_clear : (w : Parts) → IsUntried w.counts → IsNone (trial_next w.trial) → w.prep.at ≡ None → IsApart w.counts → ((x : ℕ) → x < length w.counts.slots → (slot_at w.counts x).released ≡ false) → AreCounted w.counts → AreOutside w.prep.fields w.counts →
     w.counts.zeros ≡ [] → w.counts.free ≡ [] → w.counts.work ≡ [] → w.release.at ≡ None → w.freeing.at ≡ None → IsClearing w
-resting_clear w untried idle unprepared apart none zeros free work still unfreed =
+resting_clear w untried idle unprepared apart none counted outside zeros free work still unfreed =
     let s : State = w.counts in
     let ready : IsReady s = record {
       zeros = record { once = λ x. omega (arith, ap (times x) zeros, times-nil x); none = λ x h. nowhere s.zeros x zeros h; unreleased = λ x h. nowhere s.zeros x zeros h };
       free = λ x h. nowhere s.free x free h;
     } in
-    let tidy : IsTidy s w.release.at = record {
+    let tidy : IsTidy w.prep.fields s w.release.at = record {
       untried = untried;
       apart = apart;
+      outside = outside;
+      all_zeros = λ x r n o. absurd (omega (arith, n, counted x r));
       listed = λ x l r b. absurd (false≢true (sym (none x l) ∙ r));
       unbuffered = λ x h. nowhere s.free x free h;
       held = λ x h. nowhere s.work x work h;

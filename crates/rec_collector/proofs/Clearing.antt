@@ -28,6 +28,7 @@ use Rattle.rec_trial.specs.Trial.{next_of as trial_next}
 use Rattle.rec_collector.specs.Clearing.{IsClearing, IsDone}
 use Rattle.rec_collector.specs.Followed.{relieved, with_freed, with_released}
 use Rattle.rec_collector.specs.Parts.{Parts}
+use Rattle.rec_collector.specs.Zeros.{AreCounted}
 use Rattle.rec_collector.specs.Testing.{is_busy, last_tested, tested, verdict_of, with_release, zeros_released}
 use Rattle.rec_collector.specs.declared.verdict.Verdict.{Verdict}
 use Rattle.rec_collector.specs.declared.verdict.Verdict.TheVariants.{Passed}
@@ -40,17 +41,19 @@ use Rattle.rec_collector.proofs.Tidy.{tidy_emptied, tidy_given, tidy_listed, tid
 pub use Rattle.rec_collector.proofs.Goings.{last_sets}
 pub use Rattle.rec_collector.proofs.Judging.{last_freeable, last_refusable}
 
-pub tidy_of : {w : Parts} → IsClearing w → IsTidy w.counts w.release.at
-tidy_of c = record { untried = c.untried; apart = c.apart; listed = c.listed; unbuffered = c.unbuffered; held = c.held }
+pub tidy_of : {w : Parts} → IsClearing w → IsTidy w.prep.fields w.counts w.release.at
+tidy_of c = record { untried = c.untried; apart = c.apart; all_zeros = c.all_zeros; outside = c.outside; listed = c.listed; unbuffered = c.unbuffered; held = c.held }
 
 -- what is left to show of parts whose trial and preparation stay at rest
-pub clearing : (w : Parts) → IsNone (trial_next w.trial) → w.prep.at ≡ None → IsTidy w.counts w.release.at → releases.IsAtWork w.release w.counts → frees.IsAtWork w.freeing w.counts →
+pub clearing : (w : Parts) → IsNone (trial_next w.trial) → w.prep.at ≡ None → IsTidy w.prep.fields w.counts w.release.at → releases.IsAtWork w.release w.counts → frees.IsAtWork w.freeing w.counts →
     ((w.release.at ≡ None) ⊎ (w.freeing.at ≡ None)) → (w.freeing.at ≡ None → w.counts.work ≡ []) → IsClearing w
 clearing w i p t r f o k = record {
   untried = t.untried;
   idle = i;
   unprepared = p;
   apart = t.apart;
+  all_zeros = t.all_zeros;
+  outside = t.outside;
   listed = t.listed;
   unbuffered = t.unbuffered;
   held = t.held;
@@ -92,7 +95,7 @@ next_clear lowers w wide still unfreed c =
     let t : State = without_first s.zeros s in
     let r : releases.IsAtWork (with_next w.release.fields lowers s).machine t = work_next w.release.fields lowers s wide c.release.ready in
     let work : t.work ≡ [] = first_work s.zeros s ∙ c.work unfreed in
-    let tidy : IsTidy t (first_of s.zeros) = tidy_next s c.release.ready.zeros (subst (IsTidy s) still (tidy_of c)) in (
+    let tidy : IsTidy w.prep.fields t (first_of s.zeros) = tidy_next s c.release.ready.zeros (subst (IsTidy w.prep.fields s) still (tidy_of c)) in (
       clearing (with_release w (with_next w.release.fields lowers s)) c.idle c.unprepared tidy r (freeing_idle w.freeing t unfreed work r.ready) (inr unfreed) (λ e. work),
       λ e f. first_done s.zeros s refl e,
     )
@@ -106,8 +109,8 @@ nothing_in [] e = refl
 nothing_in (xs ∷ xss) e = absurd (omega (arith, e))
 
 -- another field of the same slot is due
-tidy_more : (s : State) (a : At) → IsTidy s (Some a) → IsTidy s (Some (record { slot = a.slot; field = a.field + 1 }))
-tidy_more s a i = record { untried = i.untried; apart = i.apart; listed = i.listed; unbuffered = i.unbuffered; held = i.held }
+tidy_more : {fields : ℕ} → (s : State) (a : At) → IsTidy fields s (Some a) → IsTidy fields s (Some (record { slot = a.slot; field = a.field + 1 }))
+tidy_more s a i = record { untried = i.untried; apart = i.apart; all_zeros = i.all_zeros; outside = i.outside; listed = i.listed; unbuffered = i.unbuffered; held = i.held }
 
 -- a word came out of a field of a released slot
 module _ (w : Parts) (word : ℕ) (counted : Counted w.counts word) (c : IsClearing w) where
@@ -130,8 +133,8 @@ module _ (w : Parts) (word : ℕ) (counted : Counted w.counts word) (c : IsClear
     work : off.work ≡ []
     work = n.work ∙ c.work unfreed
 
-    tidy : IsTidy off (Some a)
-    tidy = subst (IsTidy off) e (tidy_off w.release.lowers w.counts (target_of word) w.release.at counted c.release.ready (λ x h. absurd (omega (arith, h, ap (times x) (c.work unfreed), times-nil x))) (tidy_of c))
+    tidy : IsTidy w.prep.fields off (Some a)
+    tidy = subst (IsTidy w.prep.fields off) e (tidy_off w.release.lowers w.counts (target_of word) w.release.at counted c.release.ready (λ x h. absurd (omega (arith, h, ap (times x) (c.work unfreed), times-nil x))) (tidy_of c))
 
     more_clear : a.field + 1 < w.release.fields → IsClearing (released_more w word a)
     more_clear l =
@@ -167,7 +170,7 @@ module _ (w : Parts) (word : ℕ) (counted : Counted w.counts word) (c : IsClear
   freeing_left : frees.IsAtWork (record { fields = w.freeing.fields; at = Some a }) left
   freeing_left = off_work w.freeing.fields w.counts (target_of word) a freeing_now
 
-  tidy_left : IsTidy left w.release.at
+  tidy_left : IsTidy w.prep.fields left w.release.at
   tidy_left = tidy_off true w.counts (target_of word) w.release.at counted c.freeing.ready c.freeing.released (tidy_of c)
 
   freed_more_clear : a.field + 1 < w.freeing.fields → IsClearing (freed_more w word a)
@@ -194,7 +197,7 @@ module _ (w : Parts) (word : ℕ) (counted : Counted w.counts word) (c : IsClear
           | inr l ↦ freeing_left.released x (omega (arith, h, l, times-append x left.free left.work))
         ];
       } in
-      clearing (freed_last w word) c.idle c.unprepared (subst (IsTidy (frees.listed left)) (sym still) (tidy_listed left (subst (IsTidy left) still tidy_left))) (release_idle w.release (frees.listed left) still ready) (freeing_idle (freed_last w word).freeing (frees.listed left) refl refl ready) (inl still) (λ f. refl)
+      clearing (freed_last w word) c.idle c.unprepared (subst (IsTidy w.prep.fields (frees.listed left)) (sym still) (tidy_listed left (subst (IsTidy w.prep.fields left) still tidy_left))) (release_idle w.release (frees.listed left) still ready) (freeing_idle (freed_last w word).freeing (frees.listed left) refl refl ready) (inl still) (λ f. refl)
 
 pub freed_clear : (w : Parts) (word : ℕ) → IsSome w.freeing.at → Counted w.counts word → IsKept w.counts → IsClearing w → IsClearing (with_freed w word)
 freed_clear w word busy h k c = freed_by IsClearing w word (λ e. none_some w.freeing.at e busy)
@@ -219,7 +222,7 @@ given_clear w wide some idle passed k c d =
     let e = none_busy w idle in
     let f : frees.IsFreeable s = last_freeable w some idle passed k c d in
     let r : frees.IsAtWork (last_given w).freeing (given_up s) = given_is_work s w.freeing.fields wide k f in (
-      clearing (last_given w) c.idle c.unprepared (subst (IsTidy (given_up s)) (sym e.0) (tidy_given s k f (subst (IsTidy s) e.0 (tidy_of c)))) (release_idle w.release (given_up s) e.0 r.ready) r (inl e.0)
+      clearing (last_given w) c.idle c.unprepared (subst (IsTidy w.prep.fields (given_up s)) (sym e.0) (tidy_given s k f (subst (IsTidy w.prep.fields s) e.0 (tidy_of c)))) (release_idle w.release (given_up s) e.0 r.ready) r (inl e.0)
           (λ g. ap (λ ws. ws ++ last_set s.sets) f.work ∙ nothing_first (last_set s.sets) (first_none (slice_get (last_set s.sets) 0) g)),
       λ g h. d e.0 e.1,
     )
@@ -236,7 +239,7 @@ refused_clear verdict w some idle k c d =
       free = released_after s (last_set s.sets) (slice_get (last_set s.sets) 0) t r c.release.ready.free;
     } in
     let work : t.work ≡ [] = r.work ∙ f.work in
-    clearing (last_refused verdict w) c.idle c.unprepared (subst (IsTidy t) (sym e.0) (tidy_refurbished s t k f c.release.ready r (subst (IsTidy s) e.0 (tidy_of c)))) (release_idle w.release t e.0 ready) (freeing_idle w.freeing t e.1 work ready) (inl e.0) (λ g. work)
+    clearing (last_refused verdict w) c.idle c.unprepared (subst (IsTidy w.prep.fields t) (sym e.0) (tidy_refurbished s t k f c.release.ready r (subst (IsTidy w.prep.fields s) e.0 (tidy_of c)))) (release_idle w.release t e.0 ready) (freeing_idle w.freeing t e.1 work ready) (inl e.0) (λ g. work)
 
 pub last_clear : (w : Parts) → 0 < w.release.fields → 0 < w.freeing.fields → 0 < length w.counts.sets → is_busy w ≡ false → IsKept w.counts → IsClearing w → IsDone w → IsClearing (last_tested w) × IsDone (last_tested w)
 last_clear w wide freed some idle k c d = last_by (λ v. IsClearing v × IsDone v) w (λ e. given_clear w freed some idle e k c d)
@@ -300,3 +303,10 @@ clear_ready w k c d still unfreed none = record {
 -- and no slot is Orange
 pub clear_uncoloured : (w : Parts) → IsKept w.counts → IsClearing w → IsDone w → w.release.at ≡ None → w.freeing.at ≡ None → w.counts.sets ≡ [] → (x : ℕ) → (slot_at w.counts x).colour ≢ Orange
 clear_uncoloured w k c d still unfreed none x o = absurd (omega (arith, (c.apart x o).member, ap (λ sets. times x (concat sets)) none, times-nil x))
+
+-- each slot that isn't released has a count
+pub clear_counted : (w : Parts) → IsKept w.counts → IsClearing w → IsDone w → w.release.at ≡ None → w.freeing.at ≡ None → w.counts.sets ≡ [] → AreCounted w.counts
+clear_counted w k c d still unfreed none x r = elim (cases_lt 0 (slot_at w.counts x).count) [
+  | inl l ↦ l
+  | inr l ↦ absurd (omega (arith, c.all_zeros x r (omega (arith, l)) (clear_uncoloured w k c d still unfreed none x), ap (times x) (d still unfreed), times-nil x))
+]

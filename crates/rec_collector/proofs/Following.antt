@@ -21,7 +21,7 @@ use Rattle.rec_collector.specs.Took.{batched}
 use Rattle.rec_collector.specs.declared.phase.Phase.{Phase}
 use Rattle.rec_collector.specs.declared.phase.Phase.TheVariants.{Returning, Releasing, Freeing}
 use Rattle.rec_collector.proofs.Batched.{batched_clear, resting_clear}
-use Rattle.rec_collector.proofs.Clearing.{clear_ready, clear_uncoloured, relieved_clear, released_clear, tested_clear, tested_ends, tested_kept, zeros_clear}
+use Rattle.rec_collector.proofs.Clearing.{clear_counted, clear_ready, clear_uncoloured, relieved_clear, released_clear, tested_clear, tested_ends, tested_kept, zeros_clear}
 use Rattle.rec_collector.proofs.Counting.{batch_kept, freed_kept, released_kept, relieved_kept, zeros_kept}
 use Rattle.rec_collector.proofs.Exchanging.{exchanged_few, none_exchanged, released_exchanged, relieved_exchanged, tested_exchanged, zeros_exchanged}
 use Rattle.rec_collector.proofs.Landing.{Fits, Lands, fits_all, landed, now_at, told_at}
@@ -95,6 +95,7 @@ tries_next p v f h still unfreed none =
     tried_lands p (trial_started v) f (
     started_tried p w (omega (arith, f, h.fits.trial_fields)) (where_ready v.offers v.counts (clear_ready v h.counts h.clearing h.done still unfreed none)) (where_kept v.offers v.counts h.counts)
     (where_listed v.offers v.counts (clear_listed v h.counts h.clearing h.done still unfreed none)) (where_uncoloured v.offers v.counts (clear_uncoloured v h.counts h.clearing h.done still unfreed none))
+    (λ x r. omega (arith, keeps.counts x, clear_counted v h.counts h.clearing h.done still unfreed none x (sym (keeps.rest.released x) ∙ r)))
     (keeps.zeros ∙ h.done still unfreed) still unfreed h.clearing.unprepared (offers_fits h.fits) h.due (omega (arith, h.turns, few, fits_all p v h.fits)) (omega (arith, h.told, ap length none))
     )
 
@@ -155,7 +156,7 @@ freed_clears p word k e c =
 
 -- at rest the parts are clear
 pub rest_clears : (p : Private) → IsAtRest p → IsClearing (parts_of p)
-rest_clears p a = resting_clear (parts_of p) a.untried a.idle a.unprepared a.apart a.none a.zeros a.free a.work a.still a.unfreed
+rest_clears p a = resting_clear (parts_of p) a.untried a.idle a.unprepared a.apart a.none a.counted a.outside a.zeros a.free a.work a.still a.unfreed
 
 -- a batch can be applied, and the parts are then clear
 covered_falls : (s : State) (newer older : List Contents) → s.zeros ≡ [] → IsCovered s newer older → CanFall (all_up s (flat_map up_targets newer)) (flat_map down_targets older)

@@ -10,8 +10,10 @@ use Rattle.rec_collector.specs.Clearing.{IsUntried}
 use Rattle.rec_collector.specs.Given.{IsSized}
 use Rattle.rec_collector.specs.Kept.{AreSized, AreSpare, IsAt, IsAtRest, IsMachine, IsTold, NoneReleased, swept_at, under_way}
 use Rattle.rec_collector.specs.Next.{is_spent}
+use Rattle.rec_collector.specs.Outside.{AreOutside}
 use Rattle.rec_collector.specs.Parts.{Parts}
 use Rattle.rec_collector.specs.Private.{Private, blank, buffer_at, parts_of}
+use Rattle.rec_collector.specs.Zeros.{AreCounted}
 use Rattle.rec_collector.specs.Took.{moved, swapped_at, took_at}
 use Rattle.rec_collector.specs.declared.phase.Phase.{Phase}
 use Rattle.rec_collector.specs.declared.phase.Phase.TheVariants.{Idle, Looking, Swapping, Returning}
@@ -25,6 +27,8 @@ still_rests p q e due a = record {
   unprepared = ap (λ (w : Parts). w.prep.at) e ∙ a.unprepared;
   apart = subst (λ (w : Parts). IsApart w.counts) (sym e) a.apart;
   none = subst (λ (w : Parts). NoneReleased w.counts) (sym e) a.none;
+  counted = subst (λ (w : Parts). AreCounted w.counts) (sym e) a.counted;
+  outside = subst (λ (w : Parts). AreOutside w.prep.fields w.counts) (sym e) a.outside;
   zeros = ap (λ (w : Parts). w.counts.zeros) e ∙ a.zeros;
   roots = ap (λ (w : Parts). w.counts.roots) e ∙ a.roots;
   free = ap (λ (w : Parts). w.counts.free) e ∙ a.free;

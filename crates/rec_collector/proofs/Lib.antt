@@ -5,6 +5,7 @@ pub mod Causes
 pub mod Clearing
 pub mod Counting
 pub mod Dropping
+pub mod Exact
 pub mod Exchanging
 pub mod Following
 pub mod Gathering
@@ -15,10 +16,12 @@ pub mod Keeping
 pub mod Landing
 pub mod Limits
 pub mod Listing
+pub mod Mailbox
 pub mod Offers
 pub mod OfferedTo
 pub mod Offering
 pub mod Opening
+pub mod Outside
 pub mod Preparing
 pub mod Rows
 pub mod Steps
@@ -26,6 +29,7 @@ pub mod Sweeping
 pub mod Tested
 pub mod Tidy
 pub mod Told
+pub mod Touching
 pub mod Trying
 pub mod Turning
 pub mod UnderTest

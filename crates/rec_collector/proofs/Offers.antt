@@ -13,6 +13,8 @@ clearing_on w b c = record {
   idle = c.idle;
   unprepared = c.unprepared;
   apart = c.apart;
+  all_zeros = c.all_zeros;
+  outside = c.outside;
   listed = c.listed;
   unbuffered = c.unbuffered;
   held = c.held;
@@ -27,6 +29,7 @@ tried_on w b t = record {
   untried = t.untried;
   idle = t.idle;
   apart = t.apart;
+  counted = t.counted;
   zeros = t.zeros;
   roots = t.roots;
   work = t.work;
@@ -44,6 +47,8 @@ module _ (p : Private) (b : Bool) where
     unprepared = r.unprepared;
     apart = r.apart;
     none = r.none;
+    outside = r.outside;
+    counted = r.counted;
     zeros = r.zeros;
     roots = r.roots;
     free = r.free;
@@ -70,6 +75,7 @@ module _ (p : Private) (b : Bool) where
     kept = t.kept;
     busy = t.busy;
     uncoloured = t.uncoloured;
+    counted = t.counted;
     zeros = t.zeros;
     still = t.still;
     unfreed = t.unfreed;
@@ -95,7 +101,7 @@ module _ (p : Private) (b : Bool) where
   }
 
   sweeping_on : (swept made : ℕ) → IsSweeping p swept made → IsSweeping (record p { offers = b }) swept made
-  sweeping_on swept made s = record { tried = tried_on (parts_of p) b s.tried; unprepared = s.unprepared; left = s.left; turns = s.turns }
+  sweeping_on swept made s = record { tried = tried_on (parts_of p) b s.tried; unprepared = s.unprepared; outside = s.outside; left = s.left; turns = s.turns }
 
   at_on : (phase : Phase) → IsAt p phase → IsAt (record p { offers = b }) phase
   at_on Idle a = (rest_on a.0, a.1, a.2)

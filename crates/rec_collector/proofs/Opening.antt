@@ -7,11 +7,14 @@ use Rattle.rec_counts.specs.Counts.{opened as opened_counts, slot_at, IsKept as 
 use Rattle.rec_counts.specs.Slot.{absent, fresh}
 use Rattle.rec_counts.proofs.Keeping.{field_kept}
 use Rattle.rec_release.specs.TakenOff.{IsApart, is_orange}
+use Rattle.rec_release.proofs.TakenOff.{written}
 use Rattle.rec_trial.specs.Moves.{is_gray, is_white}
 use Rattle.rec_trial.specs.Trial.{idle_of, next_of}
 use Rattle.rec_collector.specs.Clearing.{IsUntried}
 use Rattle.rec_collector.specs.Kept.{AreSpare, IsMachine, NoneReleased}
 use Rattle.rec_collector.specs.Private.{Private, blank, first_registers, opened, retired}
+use Rattle.rec_collector.specs.Zeros.{AreCounted}
+use Rattle.rec_collector.proofs.Outside.{none_outside}
 use Rattle.rec_collector.proofs.Rows.{row_sized}
 
 -- no slot is released
@@ -22,6 +25,28 @@ opened_none slots first = λ x l.
     elim (cases_eq x 0) [
       | inl q ↦ ap (λ z. (slot_at (opened_counts slots first) z).released) q ∙ ap (λ (v : Slot). v.released) (get_or-set_same (replicate slots fresh) 0 (record fresh { count = first }) absent (omega (arith, there, n)))
       | inr q ↦ ap (λ (v : Slot). v.released) (get_or-set_other (replicate slots fresh) 0 x (record fresh { count = first }) absent q ∙ get_or-replicate slots x fresh absent there)
+    ]
+
+-- each has a count
+opened_counted : (slots first : ℕ) → 0 < first → AreCounted (opened_counts slots first)
+opened_counted slots first h = λ x r.
+    let v : Slot = record fresh { count = first } in
+    elim (written (record (opened_counts slots first) { slots = replicate slots fresh }) 0 v x) [
+      | inl q ↦ omega (arith, h, ap (λ (w : Slot). w.count) q.1)
+      | inr q ↦ elim (cases_lt x slots) [
+        | inl l ↦ omega (arith, ap (λ (w : Slot). w.count) (q ∙ get_or-replicate slots x fresh absent l))
+        | inr l ↦ absurd (false≢true (sym r ∙ ap (λ (w : Slot). w.released) (q ∙ get_or_past (replicate slots fresh) x absent (omega (arith, l, length-replicate slots fresh)))))
+      ]
+    ]
+
+-- none is in a set
+opened_unset : (slots first : ℕ) (x : ℕ) → (slot_at (opened_counts slots first) x).set ≡ None
+opened_unset slots first x = field_kept (λ (w : Slot). w.set) (replicate slots fresh) 0 (record fresh { count = first }) (sym (each 0)) x ∙ each x
+  where
+    each : (y : ℕ) → (get_or (replicate slots fresh) y absent).set ≡ None
+    each y = elim (cases_lt y slots) [
+      | inl l ↦ ap (λ (w : Slot). w.set) (get_or-replicate slots y fresh absent l)
+      | inr l ↦ ap (λ (w : Slot). w.set) (get_or_past (replicate slots fresh) y absent (omega (arith, l, length-replicate slots fresh)))
     ]
 
 -- no slot is Gray or White, and no trial is at work
@@ -82,6 +107,8 @@ opened_keeps slots fields registers mutators capacity epoch f few r m small e k 
           unprepared = refl;
           apart = opened_apart slots mutators;
           none = opened_none slots mutators;
+          counted = opened_counted slots mutators m;
+          outside = none_outside fields (opened_counts slots mutators) refl (opened_unset slots mutators);
           zeros = refl;
           roots = refl;
           free = refl;

@@ -23,6 +23,7 @@ use Rattle.rec_collector.specs.declared.phase.Phase.TheVariants.{Preparing, Open
 use Rattle.rec_collector.proofs.Dropping.{others_kept}
 use Rattle.rec_collector.proofs.Landing.{Fits, Lands, fits_all, landed, now_at, told_at}
 use Rattle.rec_collector.proofs.Limits.{loads_few}
+use Rattle.rec_collector.proofs.Outside.{prepared_outside}
 
 -- What a trial has left holds still where no more than cyclic counts change.
 others_untried : {s t : State} → KeepsOthers s t → IsUntried s → IsUntried t
@@ -42,6 +43,7 @@ others_tried w v o t = record {
   untried = others_untried o t.untried;
   idle = t.idle;
   apart = others_apart o t.apart;
+  counted = λ x r. omega (arith, ap (λ (u : Slot). u.count) (o.slots x), t.counted x (sym (ap (λ (u : Slot). u.released) (o.slots x)) ∙ r));
   zeros = o.zeros ∙ t.zeros;
   roots = o.roots ∙ t.roots;
   work = o.work ∙ t.work;
@@ -125,6 +127,7 @@ sweep_follows : (p : Private) (w : Parts) (phase : Phase) (made : ℕ) → HasPr
 sweep_follows p w phase made h e = record {
   tried = h.tried;
   unprepared = e;
+  outside = prepared_outside w.prep.fields h.before w.counts h.loads h.before_kept (subst (λ (at : Option At). PreparedTo w.prep.fields h.before at w.counts h.loads) e h.prepares);
   left = omega (arith, length-once (length w.counts.slots) w.counts.free h.counts.free_once);
   turns =
       let all : length w.counts.slots * w.release.fields ≡ all_fields p = fits_all p w h.fits in

@@ -13,16 +13,19 @@ use Rattle.rec_release.specs.Sweep as sweeps
 use Rattle.rec_release.specs.Sweep.{AreUnbuffered, swept, took_of, started_of, next_of}
 use Rattle.rec_release.specs.TakenOff.{IsApart, IsMember}
 use Rattle.rec_release.proofs.Sweeping.{unbuffered_swept}
+use Rattle.rec_release.proofs.TakenOff.{written}
 use Rattle.rec_trial.specs.Moves.{is_gray, is_white}
 use Rattle.rec_trial.proofs.Worked.{kept_by_all}
 use Rattle.rec_collector.specs.Clearing.{IsUntried}
 use Rattle.rec_collector.specs.Parts.{Parts}
 use Rattle.rec_collector.specs.Private.{Private, parts_of}
 use Rattle.rec_collector.specs.Kept.{IsAt, IsMachine, IsTried, NoneReleased, KeepsSizes}
+use Rattle.rec_collector.specs.Zeros.{AreCounted}
 use Rattle.rec_collector.specs.Took.{cleared, ended, moved, swept_phase, swept_one, took_at, with_sweep}
 use Rattle.rec_collector.specs.declared.phase.Phase.{Phase}
 use Rattle.rec_collector.specs.declared.phase.Phase.TheVariants.{Opening, Sweeping, Closing}
 use Rattle.rec_collector.proofs.Landing.{freed_at, now_at, told_at, under_way_at}
+use Rattle.rec_collector.proofs.Outside.{outside_on, swept_lowers}
 use Rattle.rec_collector.proofs.Rows.{cleared_sized, cleared_spares}
 
 -- a sweep begins
@@ -46,7 +49,7 @@ opening_keeps p k e =
       older = k.older;
       counts = k.counts;
       told = told_at p Opening k e;
-      now = (record { tried = a.0.tried; unprepared = a.0.unprepared; left = a.0.left; turns = omega (arith, a.0.turns) }, a.1, refl);
+      now = (record { tried = a.0.tried; unprepared = a.0.unprepared; outside = a.0.outside; left = a.0.left; turns = omega (arith, a.0.turns) }, a.1, refl);
     }
 
 first_gone : (free : List ℕ) (x y : ℕ) → slice_get free 0 ≡ Some x → times y free ≡ one (eqb y x) + times y (drop 1 free)
@@ -90,11 +93,19 @@ swept_apart s x a = λ y e. elim (eqb_tells y x) [
     swept_black (inl l) = ap (λ (v : Slot). v.colour) (get_or-set_same s.slots x (swept_clean (slot_at s x)) absent l)
     swept_black (inr l) = ap (λ (v : Slot). v.colour) (get_or_past (swept s x).slots x absent (omega (arith, l, length-set s.slots x (swept_clean (slot_at s x)))))
 
+-- a swept slot has one count
+swept_counted : (s : State) (x : ℕ) → AreCounted s → AreCounted (swept s x)
+swept_counted s x c = λ y r. elim (written s x (swept_clean (slot_at s x)) y) [
+  | inl q ↦ omega (arith, ap (λ (v : Slot). v.count) q.1)
+  | inr q ↦ omega (arith, ap (λ (v : Slot). v.count) q, c y (ap (λ (v : Slot). v.released) (sym q) ∙ r))
+]
+
 swept_tried : (w : Parts) (x : ℕ) → slice_get w.counts.free 0 ≡ Some x → IsTried w → IsTried (record w { counts = swept w.counts x })
 swept_tried w x first t = record {
   untried = swept_untried w.counts x t.untried;
   idle = t.idle;
   apart = swept_apart w.counts x t.apart;
+  counted = swept_counted w.counts x t.counted;
   zeros = t.zeros;
   roots = t.roots;
   work = t.work;
@@ -131,6 +142,7 @@ swept_keeps_on p n x [] k e first left len s =
         record {
           tried = swept_tried (parts_of p) x first a.0.tried;
           unprepared = a.0.unprepared;
+          outside = outside_on p.counts (swept p.counts x) (swept_lowers p.counts x) a.0.outside;
           left = omega (arith, a.0.left, len, many, ap length left);
           turns = omega (arith, a.0.turns, ap (λ m. m * p.release.fields) many);
         },
@@ -162,6 +174,7 @@ swept_keeps_on p n x (y ∷ ys) k e first left len s =
         record {
           tried = swept_tried (parts_of p) x first a.0.tried;
           unprepared = a.0.unprepared;
+          outside = outside_on p.counts (swept p.counts x) (swept_lowers p.counts x) a.0.outside;
           left = omega (arith, a.0.left, len, many, ap length left);
           turns = omega (arith, a.0.turns, ap (λ m. m * p.release.fields) many);
         },
@@ -241,6 +254,8 @@ ended_keeps p n k e =
           unprepared = a.0.unprepared;
           apart = a.0.tried.apart;
           none = none_left p.counts a.1 a.0.tried.listed;
+          counted = a.0.tried.counted;
+          outside = a.0.outside;
           zeros = a.0.tried.zeros;
           roots = a.0.tried.roots;
           free = a.1;

@@ -25,6 +25,7 @@ use Rattle.rec_collector.specs.Kept.{IsMachine, IsTried, IsTrying, all_fields}
 use Rattle.rec_collector.specs.Parts.{Parts}
 use Rattle.rec_collector.specs.Private.{Private, parts_of}
 use Rattle.rec_collector.specs.Testing.{told}
+use Rattle.rec_collector.specs.Zeros.{AreCounted}
 use Rattle.rec_collector.specs.declared.phase.Phase.TheVariants.{Trying}
 use Rattle.rec_collector.proofs.Landing.{Fits, Lands, fits_all, now_at, told_at}
 use Rattle.rec_collector.proofs.Listing.{IsListed}
@@ -96,6 +97,7 @@ pub record HasTried (p : Private) (w : Parts) : Type 0 where
   pub kept : IsAtWork w.trial w.counts
   pub counts : IsKeptCounts w.counts
   pub uncoloured : (x : ℕ) → (slot_at kept.before x).colour ≢ Orange
+  pub counted : AreCounted w.counts
   pub listed : IsListed w.counts
   pub zeros : w.counts.zeros ≡ []
   pub still : w.release.at ≡ None
@@ -117,10 +119,14 @@ tried_fits p w v f slots fields = record {
   prep_fields = f.prep_fields;
 }
 
+-- no true count changes
+counted_on : (s t : State) → KeepsCounts s t → AreCounted s → AreCounted t
+counted_on s t k c = λ x r. omega (arith, k.counts x, c x (sym (k.released x) ∙ r))
+
 -- it has begun
-pub started_tried : (p : Private) (w : Parts) → 0 < w.trial.fields → IsReady w.counts → IsKeptCounts w.counts → IsListed w.counts → ((x : ℕ) → (slot_at w.counts x).colour ≢ Orange) → w.counts.zeros ≡ [] → w.release.at ≡ None → w.freeing.at ≡ None → w.prep.at ≡ None
+pub started_tried : (p : Private) (w : Parts) → 0 < w.trial.fields → IsReady w.counts → IsKeptCounts w.counts → IsListed w.counts → ((x : ℕ) → (slot_at w.counts x).colour ≢ Orange) → AreCounted w.counts → w.counts.zeros ≡ [] → w.release.at ≡ None → w.freeing.at ≡ None → w.prep.at ≡ None
     → Fits p w → p.due ≡ None → p.turns ≤ 2 * length p.newer + all_fields p → told w.sets ≤ 2 ^ 16 * p.collections → HasTried p (trial_begun w)
-started_tried p w f ready k listed none zeros still unfreed unprepared fits due turns told =
+started_tried p w f ready k listed none counted zeros still unfreed unprepared fits due turns told =
     let v : Work = started_of w.trial.fields w.counts in
     let keeps : KeepsCounts w.counts v.counts = started_keeps w.trial.fields w.counts f ready in
     let fields : v.machine.fields ≡ w.trial.fields = started_fields w.trial.fields w.counts f ready in
@@ -129,6 +135,7 @@ started_tried p w f ready k listed none zeros still unfreed unprepared fits due 
       kept = record { wide = omega (arith, f, fields); before = w.counts; words = []; kept = k; ready = ready; named = tt; is = sym (run_none w.trial.fields w.counts) ∙ ap (λ n. (run_of n w.counts []).work) (sym fields) };
       counts = counts;
       uncoloured = none;
+      counted = counted_on w.counts v.counts keeps counted;
       listed = still_listed w.counts v.counts keeps k counts listed;
       zeros = keeps.zeros ∙ zeros;
       still = still;
@@ -154,6 +161,7 @@ took_tried p word k e l =
       kept = took_at_work p.trial p.counts a.kept word l v.machine v.counts refl;
       counts = counts;
       uncoloured = subst (λ (b : State). (x : ℕ) → (slot_at b x).colour ≢ Orange) (sym (took_before p.trial p.counts a.kept word l v.machine v.counts refl)) a.uncoloured;
+      counted = counted_on p.counts v.counts keeps a.counted;
       listed = still_listed p.counts v.counts keeps k.counts counts (record { listed = a.listed; only = a.only; unbuffered = a.unbuffered });
       zeros = keeps.zeros ∙ a.zeros;
       still = a.still;
@@ -174,6 +182,7 @@ over_tried p w h n =
       untried = record { marked = l.marked; no_gray = l.no_gray; no_white = l.no_white };
       idle = n;
       apart = over_apart w.trial w.counts h.kept n h.uncoloured h.zeros;
+      counted = h.counted;
       zeros = h.zeros;
       roots = l.roots;
       work = l.work;
@@ -202,6 +211,7 @@ tried_lands p w f h = go (next_of w.trial) refl
         kept = h.kept;
         busy = subst (λ (op : Option Op). IsSome op) (sym e) refl;
         uncoloured = h.uncoloured;
+        counted = h.counted;
         zeros = h.zeros;
         still = h.still;
         unfreed = h.unfreed;

@@ -6,11 +6,12 @@ use Rattle.rec_release.specs.CycleFree as frees
 use Rattle.rec_release.specs.Release as releases
 use Rattle.rec_release.specs.Released.{is_at}
 use Rattle.rec_release.specs.Sweep.{AreUnbuffered}
-use Rattle.rec_release.specs.TakenOff.{IsApart}
+use Rattle.rec_release.specs.TakenOff.{AllZerosButOrange, IsApart}
 use Rattle.rec_release.specs.declared.at.At.{At}
 use Rattle.rec_release.specs.declared.member.Member.{Member}
 use Rattle.rec_trial.specs.Moves.{is_gray, is_white}
 use Rattle.rec_trial.specs.Trial.{next_of as trial_next}
+use Rattle.rec_collector.specs.Outside.{AreOutside}
 use Rattle.rec_collector.specs.Parts.{Parts}
 use Rattle.rec_collector.specs.Testing.{told}
 
@@ -28,12 +29,15 @@ AreListed s at = (x : ℕ) → x < length s.slots → (slot_at s x).released ≡
 abbrev pub AreHeld : State → Type 0
 AreHeld s = (x : ℕ) → 0 < times x s.work → (slot_at s x).buffered ≡ false
 
--- Slots are released, or a set is freed, or neither; and nothing else is at work.
+-- Slots are released, or a set is freed, or neither; and nothing else is at work. Each slot that has no count, is not released and
+-- not Orange stands in the zeros.
 pub record IsClearing (w : Parts) : Type 0 where
   pub untried : IsUntried w.counts
   pub idle : IsNone (trial_next w.trial)
   pub unprepared : w.prep.at ≡ None
   pub apart : IsApart w.counts
+  pub all_zeros : AllZerosButOrange w.counts
+  pub outside : AreOutside w.prep.fields w.counts
   pub listed : AreListed w.counts w.release.at
   pub unbuffered : AreUnbuffered w.counts
   pub held : AreHeld w.counts

@@ -12,9 +12,11 @@ use Rattle.rec_trial.specs.Loaded as trials
 use Rattle.rec_trial.specs.Trial.{next_of as trial_next}
 use Rattle.rec_collector.specs.Clearing.{IsUntried, IsClearing, HasExchanged}
 use Rattle.rec_collector.specs.Given.{IsSized}
+use Rattle.rec_collector.specs.Outside.{AreOutside}
 use Rattle.rec_collector.specs.Parts.{Parts}
 use Rattle.rec_collector.specs.Private.{Private, parts_of, spare, buffer_at}
 use Rattle.rec_collector.specs.Testing.{told}
+use Rattle.rec_collector.specs.Zeros.{AreCounted}
 use Rattle.rec_collector.specs.declared.phase.Phase.{Phase}
 use Rattle.rec_collector.specs.declared.phase.Phase.TheVariants.{Idle, Looking, Swapping, Returning, Releasing, Freeing, Trying, Preparing, Opening, Sweeping, Closing}
 
@@ -38,13 +40,15 @@ AreSpare p from = (place : ℕ) → from ≤ place → place < length p.newer �
 abbrev pub NoneReleased : State → Type 0
 NoneReleased s = (x : ℕ) → x < length s.slots → (slot_at s x).released ≡ false
 
--- nothing is to be released, tried or swept
+-- Nothing is to be released, tried or swept. Each slot has a count.
 pub record IsAtRest (p : Private) : Type 0 where
   pub untried : IsUntried p.counts
   pub idle : IsNone (trial_next p.trial)
   pub unprepared : p.prep.at ≡ None
   pub apart : IsApart p.counts
   pub none : NoneReleased p.counts
+  pub outside : AreOutside p.prep.fields p.counts
+  pub counted : AreCounted p.counts
   pub zeros : p.counts.zeros ≡ []
   pub roots : p.counts.roots ≡ []
   pub free : p.counts.free ≡ []
@@ -75,6 +79,7 @@ pub record IsTrying (p : Private) : Type 0 where
   pub kept : trials.IsAtWork p.trial p.counts
   pub busy : IsSome (trial_next p.trial)
   pub uncoloured : (x : ℕ) → (slot_at kept.before x).colour ≢ Orange
+  pub counted : AreCounted p.counts
   pub zeros : p.counts.zeros ≡ []
   pub still : p.release.at ≡ None
   pub unfreed : p.freeing.at ≡ None
@@ -90,6 +95,7 @@ pub record IsTried (w : Parts) : Type 0 where
   pub untried : IsUntried w.counts
   pub idle : IsNone (trial_next w.trial)
   pub apart : IsApart w.counts
+  pub counted : AreCounted w.counts
   pub zeros : w.counts.zeros ≡ []
   pub roots : w.counts.roots ≡ []
   pub work : w.counts.work ≡ []
@@ -114,6 +120,7 @@ pub record IsPreparing (p : Private) : Type 0 where
 pub record IsSweeping (p : Private) (swept made : ℕ) : Type 0 where
   pub tried : IsTried (parts_of p)
   pub unprepared : p.prep.at ≡ None
+  pub outside : AreOutside p.prep.fields p.counts
   pub left : swept + length p.counts.free ≤ length p.counts.slots
   pub turns : p.turns ≤ 2 + 2 * length p.newer + 5 * all_fields p + made
 

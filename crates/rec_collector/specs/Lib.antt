@@ -6,8 +6,10 @@ pub mod Inside
 pub mod Kept
 pub mod Next
 pub mod Offered
+pub mod Outside
 pub mod Parts
 pub mod Private
 pub mod Step
 pub mod Testing
 pub mod Took
+pub mod Zeros

@@ -1,5 +1,5 @@
 -- What a step of the collector may be: the rules of its phases.
-use Rattle.std.specs.Prelude.{◌≡◌, ◌≢◌, ℕ, ◌+◌, ◌-◌, ◌*◌, ◌^◌, ◌<◌, ◌≤◌, false, true, Option, None, Some, [], length, map, slice_set}
+use Rattle.std.specs.Prelude.{◌≡◌, ◌≢◌, ℕ, ◌+◌, ◌-◌, ◌*◌, ◌^◌, ◌<◌, ◌≤◌, false, true, Option, None, Some, [], length, replicate, map, slice_set}
 use Rattle.rec_word.specs.Op.{crossing_word}
 use Rattle.rec_word.specs.declared.op.Op.{Op}
 use Rattle.rec_word.specs.declared.op.Op.TheVariants.{StoreEpoch, LookBox, ReturnBox, LoadChild, ClearField, FreeHeader, AddFreed}
@@ -96,6 +96,18 @@ pub data Step (p : Private) (word : ℕ) (box : Contents) (op : Option Op) (q : 
       → IsNext swept w next_phase
       → GoesOn (record p { due = w.due; counts = w.counts; freed = p.freed + 1 }) q turn next_phase → Step p word box op q turn
   end_sweep : (swept : ℕ) → p.phase ≡ Closing swept → op ≡ Some AddFreed → Ends p q turn swept → Step p word box op q turn
+
+-- What a step leaves in the mailbox that it looks at, which held `box`: where it takes the buffer there, a buffer without entries, with
+-- a null snapshot; else what was there.
+pub data LeavesBox (p : Private) (word : ℕ) (box left : Contents) : Type 0 where
+  empties : (t : ℕ) → p.phase ≡ Looking t → word ≡ crossing_word p.epoch 2
+      → left ≡ record { entries = []; snapshot = replicate p.registers None; capacity = p.capacity } → LeavesBox p word box left
+  keeps : ((t : ℕ) → p.phase ≡ Looking t → word ≢ crossing_word p.epoch 2) → left ≡ box → LeavesBox p word box left
+
+-- A whole step: what it leaves of the private record and answers, and what it leaves in the mailbox.
+pub record WholeStep (p : Private) (word : ℕ) (box : Contents) (op : Option Op) (q : Private) (turn : Turn) (left : Contents) : Type 0 where
+  pub own : Step p word box op q turn
+  pub mailbox : LeavesBox p word box left
 
 -- a phase between two steps: no mailbox waits to be swapped
 abbrev pub IsBetween : Phase → Type 0

@@ -7,7 +7,7 @@ use Rattle.rec_release.specs.Sweep as sweeps
 use Rattle.rec_collector.specs.Followed.{Next, followed, prepared, relieved, tried, with_freed, with_loaded, with_released, with_tried}
 use Rattle.rec_collector.specs.Next.{is_spent}
 use Rattle.rec_collector.specs.Parts.{Parts}
-use Rattle.rec_collector.specs.Private.{Private, parts_of, with_parts}
+use Rattle.rec_collector.specs.Private.{Private, parts_of, with_parts, spare}
 use Rattle.rec_collector.specs.Testing.{zeros_released}
 use Rattle.rec_collector.specs.declared.phase.Phase.{Phase}
 use Rattle.rec_collector.specs.declared.phase.Phase.TheVariants.{Idle, Looking, Swapping, Returning, Releasing, Freeing, Trying, Preparing, Opening, Sweeping, Closing}
@@ -82,6 +82,15 @@ swapped_at p buffer _ = p
 -- the buffer of a mailbox is swapped
 unfoldable pub swapped_of : Private → Contents → Private
 swapped_of p buffer = swapped_at p buffer p.phase
+
+-- what the mailbox that is looked at holds then, by phase: a spare, where its buffer is swapped
+unfoldable pub left_at : Private → Contents → Phase → Contents
+left_at p buffer (Swapping t) = spare p
+left_at p buffer _ = buffer
+
+-- what the mailbox that is looked at holds then
+unfoldable pub left_of : Private → Contents → Contents
+left_of p buffer = left_at p buffer p.phase
 
 -- a whole step: what is learnt of the word, and, where the step takes a mailbox, of the buffer in it
 unfoldable pub step_of : Private → (word : ℕ) → (box : Contents) → Private

@@ -1,22 +1,28 @@
 //! What follows from the definitions alone, each law as the contract of a function that does nothing.
 
-ghost use Rattle.std.specs.Prelude.{◌≡◌, ℕ, false, true, [], IfSome, length};
+ghost use Rattle.std.specs.Prelude.{◌≡◌, ◌↔◌, ◌+◌, ◌-◌, ℕ, false, true, List, [], IfSome, Some, length};
 ghost use Rattle.rec_log.specs.declared.contents.Contents.{Contents};
-ghost use Rattle.rec_counts.specs.Counts.{IsKept as IsKeptCounts};
+ghost use Rattle.rec_apply.specs.Batch.{batch};
+ghost use Rattle.rec_apply.specs.Targets.{added, taken};
+ghost use Rattle.rec_counts.specs.declared.colour.Colour.TheVariants.{Orange};
+ghost use Rattle.rec_counts.specs.Counts.{slot_at, IsKept as IsKeptCounts, State};
+ghost use Rattle.rec_sigma.specs.Prepared.{seen};
 ghost use Rattle.rec_collector.specs.Followed.{with_offers};
 ghost use Rattle.rec_collector.specs.Given.{IsGiven, IsSized};
 ghost use Rattle.rec_collector.specs.Kept.{IsMachine};
 ghost use Rattle.rec_collector.specs.Next.{next_of};
 ghost use Rattle.rec_collector.specs.Offered.{AreOffered};
+ghost use Rattle.rec_collector.specs.Outside.{AreOutside, HasSets};
 ghost use Rattle.rec_collector.specs.Parts.{Parts};
 ghost use Rattle.rec_collector.specs.Private.{Private};
-ghost use Rattle.rec_collector.specs.Step.{Step, IsBetween, NamesWord};
-ghost use Rattle.rec_collector.specs.Took.{step_of, turn_of};
+ghost use Rattle.rec_collector.specs.Step.{IsBetween, NamesWord, WholeStep};
+ghost use Rattle.rec_collector.specs.Took.{left_of, step_of, took_of, turn_of};
+ghost use Rattle.rec_collector.specs.Zeros.{AreTheZeros};
 
-/// What comes next, what is learnt and what is answered is one of the steps of the collector, whatever the word found and
+/// What comes next, what is learnt, what is answered and what is left in the mailbox is one of the steps of the collector, whatever the word found and
 /// whatever is in the mailbox, as long as the word is what a machine may be given.
 pub fn machine_makes_steps()
-    ensures { (p : Private) (word : ℕ) (box : Contents) → IsMachine p → IsBetween p.phase → IsGiven p word → Step p word box (next_of p) (step_of p word box) (turn_of p word) }
+    ensures { (p : Private) (word : ℕ) (box : Contents) → IsMachine p → IsBetween p.phase → IsGiven p word → WholeStep p word box (next_of p) (step_of p word box) (turn_of p word) (left_of (took_of p word) box) }
 {}
 
 /// The operation that comes next names a word of the heap, and is one of the collector's seven.
@@ -28,6 +34,25 @@ pub fn machine_names_words()
 /// long as these are what a machine may be given.
 pub fn machines_stay_machines()
     ensures { (p : Private) (word : ℕ) (box : Contents) → IsMachine p → IsBetween p.phase → IsGiven p word → IsSized p.registers p.capacity box → IsMachine (step_of p word box) }
+{}
+
+/// In every phase of a machine the zeros are exactly the slots without a count that are neither released nor Orange.
+pub fn zeros_are_exact()
+    ensures { (p : Private) → IsMachine p → AreTheZeros p.counts }
+{}
+
+/// While prepared sets wait for their tests and are tested, the cyclic count of each member that is Orange is its outside count, of
+/// which each reference lowered since preparation took one off: its true count now, less the words that preparation saw in fields of
+/// the set's members.
+pub fn orange_members_have_outside_counts()
+    ensures outside { (p : Private) → IsMachine p → HasSets p.phase → AreOutside p.prep.fields p.counts }
+    ensures cyclic { (fields : ℕ) (s : State) (a : AreOutside fields s) (number x : ℕ) → (slot_at s x).set ≡ Some number → (slot_at s x).colour ≡ Orange → (slot_at s x).cyclic ≡ (slot_at s x).count - seen a.before number a.loads x }
+{}
+
+/// A slot that isn't released is Orange after a batch exactly where it was so before, and no entry and no snapshot of the batch names
+/// it.
+pub fn batches_colour_what_they_name()
+    ensures { (s : State) (newer older : List Contents) (x : ℕ) → (slot_at s x).released ≡ false → ((slot_at (batch s newer older) x).colour ≡ Orange) ↔ (((slot_at s x).colour ≡ Orange) × (added x newer + taken x older ≡ 0)) }
 {}
 
 /// Where every slot is to be offered to a trial, each that isn't released is a candidate root of that trial, and Purple, while no true

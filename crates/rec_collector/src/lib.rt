@@ -31,7 +31,8 @@ mod turn;
 mod verdict;
 
 pub use laws::{
-    machine_makes_steps, machine_names_words, machines_stay_machines, offers_are_whole,
+    batches_colour_what_they_name, machine_makes_steps, machine_names_words,
+    machines_stay_machines, offers_are_whole, orange_members_have_outside_counts, zeros_are_exact,
 };
 pub use machine::Machine;
 pub use sets::Sets;

@@ -15,6 +15,7 @@ use Rattle.rec_mutator.specs.Causes.{AnswersBy, is_refusal, LacksObject, MakesEn
 use Rattle.rec_mutator.specs.Private.{Private, register, is_busy, work_of, work_at, answer_of, answer_at, IsAt, IsScan, IsMachine}
 use Rattle.rec_mutator.specs.Took.{took_of, swapped_at, swapped_of, step_of, IsBetween}
 use Rattle.rec_mutator.specs.Step.{Step, Decides, GoesOn, IsLogFull, IsStill}
+use Rattle.rec_mutator.proofs.Scans.{scanned_none}
 use Rattle.rec_mutator.specs.declared.made.Made.{Made}
 use Rattle.rec_mutator.specs.declared.made.Made.TheVariants as makes
 use Rattle.rec_mutator.specs.declared.phase.Phase.{Phase}
@@ -64,7 +65,7 @@ stays d = (ap (λ (x : Private). x.registers) d.after, ap (λ (x : Private). x.l
 
 -- no scan ended
 not_scanned : (p : Private) (at : Phase) → p.phase ≡ at → ((before : ℕ) → FoundNoneAt at before → ⊥) → (before : ℕ) → FoundNone p before → ⊥
-not_scanned p at is none before found = none before (subst (λ x. FoundNoneAt x before) is found)
+not_scanned p at is none before found = none before (subst (λ x. FoundNoneAt x before) is found.scanned)
 
 -- an answer that is no refusal
 plain_cause : (p q : Private) (cmd : Cmd) (word : ℕ) (answer : Answer) → is_refusal answer ≡ false
@@ -121,8 +122,8 @@ full_cause p q reg label before word kept room is still =
     record {
       no_object = (λ e. cc, λ e. absurd e);
       log_full = (λ e. cc, λ e. absurd (room e.0));
-      full = (λ _. (before, subst (λ x. FoundNoneAt x before) (sym is) refl, still), λ _. refl);
-      busy = λ first after. (λ e. cc, λ e. absurd (e.2 (still_along before first word (subst (λ x. FoundNoneAt x first) is e.0) still)));
+      full = (λ _. (before, scanned_none p reg label before is, still), λ _. refl);
+      busy = λ first after. (λ e. cc, λ e. absurd (e.2 (still_along before first word (subst (λ x. FoundNoneAt x first) is e.0.scanned) still)));
       refused = λ _. kept;
     }
 
@@ -137,13 +138,13 @@ busy_cause p q reg label before word kept room is moves =
     record {
       no_object = (λ e. cc, λ e. absurd e);
       log_full = (λ e. cc, λ e. absurd (room e.0));
-      full = (λ e. cc, λ e. absurd (moves (still_along e.0 before word (sym (subst (λ x. FoundNoneAt x e.0) is e.1)) e.2)));
+      full = (λ e. cc, λ e. absurd (moves (still_along e.0 before word (sym (subst (λ x. FoundNoneAt x e.0) is e.1.scanned)) e.2)));
       busy = λ first after. (
         λ e.
             let parts : (before ≡ first) × (word ≡ after) = busy_parts before word first after e in
-            (subst (λ x. FoundNoneAt x first) (sym is) parts.0, sym parts.1, λ still. moves (still_along first before word (sym parts.0) still)),
+            (subst (λ b. FoundNone p b) parts.0 (scanned_none p reg label before is), sym parts.1, λ still. moves (still_along first before word (sym parts.0) still)),
         λ e.
-            let begin : before ≡ first = subst (λ x. FoundNoneAt x first) is e.0 in
+            let begin : before ≡ first = subst (λ x. FoundNoneAt x first) is e.0.scanned in
             let end : word ≡ after = sym e.1 in
             (cc),
       );

@@ -11,8 +11,8 @@ use Rattle.rec_log.specs.declared.contents.Contents.{Contents}
 use Rattle.rec_log.specs.declared.entry.Entry.{Entry}
 use Rattle.rec_mutator.specs.Private.{Private, register, is_full, is_busy_at, is_busy}
 use Rattle.rec_mutator.specs.Next.{next_of, next_at, read_op, write_op, label_op}
-use Rattle.rec_mutator.specs.Took.{took_of, took_at, plain, moved, answered, read_by, written_by, label_by, polled, swapped_at, swapped_of, step_of, IsBetween}
-use Rattle.rec_mutator.specs.Step.{Step, Decides, GoesOn, Crosses, IsStill}
+use Rattle.rec_mutator.specs.Took.{took_of, took_at, plain, moved, answered, read_by, written_by, label_by, polled, swapped_at, swapped_of, step_of, left_at, left_of, IsBetween}
+use Rattle.rec_mutator.specs.Step.{Step, Decides, GoesOn, Crosses, IsStill, LeavesBox, WholeStep}
 use Rattle.rec_mutator.specs.declared.phase.Phase.{Phase}
 use Rattle.rec_mutator.specs.declared.phase.Phase.TheVariants.{Idle, Begun, Scanning, Scanned, Crossing, Swapping, Giving, Finished}
 use Rattle.rec_mutator.specs.declared.work.Work.{Work}
@@ -239,3 +239,40 @@ step_at p word box (Finished work made) is busy whole = here_made p word box bus
 -- what comes next, and what is learnt of the word found and of the mailbox that is taken, is a step
 pub step_made : (p : Private) (word : ℕ) (box : Contents) → is_busy p ≡ true → IsBetween p.phase → Step p word box (next_of p) (step_of p word box)
 step_made p word box busy whole = step_at p word box p.phase refl busy whole
+
+-- where no mailbox is held, what is in the own one stays
+left_same : (q : Private) (box : Contents) (phase : Phase) → q.phase ≡ phase → IsBetween phase → left_of q box ≡ box
+unfolding left_of left_at
+left_same q box phase is between = ap (left_at q box) is ∙ go phase between
+  where
+    go : (f : Phase) → IsBetween f → left_at q box f ≡ box
+    go Idle b = refl
+    go (Begun work) b = refl
+    go (Scanning reg label before slot) b = refl
+    go (Scanned reg label before) b = refl
+    go Crossing b = refl
+    go Swapping b = absurd b
+    go Giving b = refl
+    go (Finished work made) b = refl
+
+-- what a step leaves in the own mailbox, by phase
+leaves_box : (p : Private) (word : ℕ) (box : Contents) (phase : Phase) → p.phase ≡ phase → is_busy p ≡ true → IsBetween phase → LeavesBox p box (left_of (took_of p word) box)
+unfolding took_of took_at left_of left_at
+leaves_box p word box phase is busy between = go phase is between
+  where
+    kept : TakesNone p.phase → left_of (took_of p word) box ≡ box
+    kept none = left_same (took_of p word) box (took_of p word).phase refl (step_between (learnt_made p word box busy none))
+
+    go : (f : Phase) → p.phase ≡ f → IsBetween f → LeavesBox p box (left_of (took_of p word) box)
+    go Idle e b = LeavesBox.keeps (λ n. let no : Idle ≡ Crossing = sym e ∙ n in cc) (kept (subst TakesNone (sym e) tt))
+    go (Begun work) e b = LeavesBox.keeps (λ n. let no : Begun work ≡ Crossing = sym e ∙ n in cc) (kept (subst TakesNone (sym e) tt))
+    go (Scanning reg label before slot) e b = LeavesBox.keeps (λ n. let no : Scanning reg label before slot ≡ Crossing = sym e ∙ n in cc) (kept (subst TakesNone (sym e) tt))
+    go (Scanned reg label before) e b = LeavesBox.keeps (λ n. let no : Scanned reg label before ≡ Crossing = sym e ∙ n in cc) (kept (subst TakesNone (sym e) tt))
+    go Crossing e b = LeavesBox.retires e (ap (λ f. left_of (took_at p word f) box) e)
+    go Swapping e b = absurd b
+    go Giving e b = LeavesBox.keeps (λ n. let no : Giving ≡ Crossing = sym e ∙ n in cc) (kept (subst TakesNone (sym e) tt))
+    go (Finished work made) e b = LeavesBox.keeps (λ n. let no : Finished work made ≡ Crossing = sym e ∙ n in cc) (kept (subst TakesNone (sym e) tt))
+
+-- a whole step
+pub whole_made : (p : Private) (word : ℕ) (box : Contents) → is_busy p ≡ true → IsBetween p.phase → WholeStep p word box (next_of p) (step_of p word box) (left_of (took_of p word) box)
+whole_made p word box busy between = record { own = step_made p word box busy between; mailbox = leaves_box p word box p.phase refl busy between }

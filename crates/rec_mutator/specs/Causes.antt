@@ -1,5 +1,5 @@
 -- Why a command is refused, and that a refusal changes nothing.
-use Rattle.std.specs.Prelude.{◌≡◌, ◌↔◌, ℕ, ◌+◌, Bool, true, false, None, Some, if◌then◌else◌}
+use Rattle.std.specs.Prelude.{◌≡◌, ◌↔◌, ℕ, ◌+◌, List, Bool, true, false, None, Some, if◌then◌else◌}
 use Rattle.rec_model.specs.declared.answer.Answer.{Answer}
 use Rattle.rec_model.specs.declared.answer.Answer.TheVariants as answers
 use Rattle.rec_model.specs.declared.command.Cmd.{Cmd}
@@ -7,6 +7,7 @@ use Rattle.rec_model.specs.declared.command.Cmd.TheVariants as commands
 use Rattle.rec_model.specs.declared.told.Told.{Told}
 use Rattle.rec_log.specs.declared.contents.Contents.{Contents}
 use Rattle.rec_mutator.specs.Private.{Private, register, is_busy, work_of, answer_of}
+use Rattle.rec_mutator.specs.Scans.{FailsScan, HasScanned}
 use Rattle.rec_mutator.specs.Step.{IsLogFull, IsStill}
 use Rattle.rec_mutator.specs.Took.{step_of, IsBetween}
 use Rattle.rec_mutator.specs.declared.made.Made.TheVariants as makes
@@ -47,14 +48,16 @@ abbrev pub is_giving : Phase → Bool
 is_giving Giving = true
 is_giving _ = false
 
--- every probe of the scan failed, before which this freed word was found, by phase
+-- the scan is over, before which this freed word was found, by phase
 abbrev pub FoundNoneAt : Phase → (before : ℕ) → Type 0
 FoundNoneAt (Scanned reg label first) before = first ≡ before
 FoundNoneAt _ before = ⊥
 
--- every probe of the scan failed, before which this freed word was found
-abbrev pub FoundNone : Private → (before : ℕ) → Type 0
-FoundNone p before = FoundNoneAt p.phase before
+-- The scan is over, and every probe failed: whatever words the steps of the allocation found, the first one found this freed word, and
+-- since then each slot was probed, and each probe found a taken header.
+pub record FoundNone (p : Private) (before : ℕ) : Type 0 where
+  pub scanned : FoundNoneAt p.phase before
+  pub every : (start : Private) (first : ℕ) (found : List ℕ) → HasScanned start first found p → (first ≡ before) × FailsScan p.slots found
 
 -- When each refusal comes, at the step that answers; and it changes no register and no log.
 pub record HasCause (p q : Private) (cmd : Cmd) (word : ℕ) (answer : Answer) : Type 0 where

@@ -2,5 +2,6 @@ pub mod Causes
 pub mod Inside
 pub mod Next
 pub mod Private
+pub mod Scans
 pub mod Step
 pub mod Took

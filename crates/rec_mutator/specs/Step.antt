@@ -94,6 +94,17 @@ pub data Step (p : Private) (word : ℕ) (box : Contents) (op : Op) (q : Private
   take_box : Crosses p op q Crossing (ops.TakeBox p.number (p.epoch + 1)) p.epoch box Giving → Step p word box op q
   give_box : Crosses p op q Giving (ops.GiveBox p.number (p.epoch + 1)) (p.epoch + 1) p.log (Finished works.Poll (makes.Crossed (Some (p.epoch + 1)))) → Step p word box op q
 
+-- What a step leaves in the own mailbox that held `box`: where it takes the mailbox, the log, with the registers written as its
+-- snapshot; else what was there.
+pub data LeavesBox (p : Private) (box left : Contents) : Type 0 where
+  retires : p.phase ≡ Crossing → left ≡ record p.log { snapshot = p.registers } → LeavesBox p box left
+  keeps : p.phase ≢ Crossing → left ≡ box → LeavesBox p box left
+
+-- A whole step: what it leaves of the private record, and what in the own mailbox.
+pub record WholeStep (p : Private) (word : ℕ) (box : Contents) (op : Op) (q : Private) (left : Contents) : Type 0 where
+  pub own : Step p word box op q
+  pub mailbox : LeavesBox p box left
+
 -- the operation names a word of a heap with so many slots and fields, and no epoch but one that a word can hold
 abbrev pub NamesWord : (slots fields : ℕ) → Op → Type 0
 NamesWord slots fields (ops.LoadField place) = place < slots * fields

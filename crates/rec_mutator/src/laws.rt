@@ -7,14 +7,14 @@ ghost use Rattle.rec_model.specs.declared.told.Told.{Told};
 ghost use Rattle.rec_log.specs.declared.contents.Contents.{Contents};
 ghost use Rattle.rec_mutator.specs.Private.{Private, is_busy, IsMachine};
 ghost use Rattle.rec_mutator.specs.Next.{next_of};
-ghost use Rattle.rec_mutator.specs.Took.{step_of, IsBetween, IsFound};
-ghost use Rattle.rec_mutator.specs.Step.{Step, NamesSlots, NamesWord, IsFitting};
+ghost use Rattle.rec_mutator.specs.Took.{left_of, step_of, took_of, IsBetween, IsFound};
+ghost use Rattle.rec_mutator.specs.Step.{WholeStep, NamesSlots, NamesWord, IsFitting};
 ghost use Rattle.rec_mutator.specs.Causes.{AnswersBy, HasCause, PollHasCause};
 
-/// What comes next, and what is learnt from the word found and from the mailbox that is taken, is one of the steps of a
-/// mutator.
+/// What comes next, what is learnt from the word found and from the mailbox that is taken, and what is left in the mailbox is one
+/// of the steps of a mutator.
 pub fn machine_makes_steps()
-    ensures { (p : Private) (word : ℕ) (box : Contents) → is_busy p ≡ true → IsBetween p.phase → Step p word box (next_of p) (step_of p word box) }
+    ensures { (p : Private) (word : ℕ) (box : Contents) → is_busy p ≡ true → IsBetween p.phase → WholeStep p word box (next_of p) (step_of p word box) (left_of (took_of p word) box) }
 {}
 
 /// The operation that comes next names a word of the heap, where the registers name its slots.

@@ -267,7 +267,7 @@ record FoundFilled (w : Core) (t : ℕ) (cmd : Cmd) (before : ℕ) : Type 0 wher
   pub last : found_by w t ≡ w.freed
 
 found_filled : {w : Core} {t : ℕ} {cmd : Cmd} {told : Told} {v : Core} (before : ℕ) → Answering w t cmd told v → FoundNone (mutator w t) before → FoundFilled w t cmd before
-found_filled {w = w} {t = t} {cmd = cmd} before a none = go (mutator w t).phase refl (actor_of w t a.kept a.is).own.machine.now a.work a.found none
+found_filled {w = w} {t = t} {cmd = cmd} before a none = go (mutator w t).phase refl (actor_of w t a.kept a.is).own.machine.now a.work a.found none.scanned
   where
     go : (phase : Phase) → (mutator w t).phase ≡ phase → IsAt (mutator w t) phase → work_at phase ≡ Some (works.Command cmd) → HasFound w phase → FoundNoneAt phase before → FoundFilled w t cmd before
     go Idle its at work found none = absurd none

@@ -1,5 +1,5 @@
 -- A batch begins the tests of the sets that waited for it.
-use Rattle.std.proofs.Common.{◌≡◌, ℕ, ◌+◌, ◌-◌, ◌<◌, ◌≤◌, true, false, ltb, Option, None, Some, List, [], ◌∷◌, length, get_or, flat_map, refl, sym, ◌∙◌, ap, subst, arith, inl, inr}
+use Rattle.std.proofs.Common.{◌≡◌, ℕ, ◌+◌, ◌-◌, ◌<◌, true, false, ltb, Option, None, Some, List, [], ◌∷◌, length, get_or, flat_map, refl, sym, ◌∙◌, ap, subst, arith, inl, inr}
 use Rattle.std.specs.List.{concat}
 use Rattle.std.proofs.lemmas.List.{get_or-set_same, get_or-set_other, set_past, get_or_past}
 use Rattle.std.proofs.lemmas.Bool.{cases_lt, lt-ltb, ltb-true}
@@ -19,7 +19,7 @@ use Rattle.rec_log.specs.declared.contents.Contents.{Contents}
 use Rattle.rec_apply.specs.Targets.{added, named, is_slot}
 use Rattle.rec_apply.specs.Batch.{all_down, all_up, batch, counted_down, counted_up, down_targets, up_targets}
 use Rattle.rec_apply.proofs.Naming.{added_is, named-nil, named-cons}
-use Rattle.rec_world.specs.Cycles.{is_member, is_member_of, SetsWait, SetsTest}
+use Rattle.rec_world.specs.Cycles.{is_member, is_member_of, word_seen, SetsWait, SetsTest}
 use Rattle.rec_world.proofs.CyclesLess.{TestsLess, member_before, less_same, less_on, less_slot, less_decremented}
 use Rattle.rec_world.proofs.CyclesTest.{counted_less}
 
@@ -56,7 +56,7 @@ up_unnamed s (t ∷ ts) y o =
 
 up_eases : (s : State) (t : Option ℕ) → TestsLess s (counted_up s t)
 up_eases s None = less_same s
-up_eases s (Some x) = less_slot s x (raised (slot_at s x)) (record { set = refl; orange = λ o. cc; eased = λ o. cc })
+up_eases s (Some x) = less_slot s x (raised (slot_at s x)) (record { set = refl; orange = λ o. cc; exact = λ o r. cc })
 
 down_eases : (s : State) (t : Option ℕ) → TestsLess s (counted_down s t)
 down_eases s None = less_same s
@@ -106,11 +106,13 @@ sets_test_begun w v s t i a alive b h = record {
   member = is_member s;
   testing = batch_testing w v (is_member s) h.mark i a (unreleased_at w s alive) h.marked;
   among = λ x m. is_member_from s x (b.less.among x m);
+  loads = h.loads;
   seen = h.seen;
+  are = λ p. h.are p ∙ ap (λ f. word_seen f h.loads p) (sym a.fields);
   loaded = h.loaded;
-  counted = λ number x e o. subst (λ f. (slot_at t x).count ≤ sum_at (seen_in f (is_member_of t number) h.seen (x + 1)) v.words + (slot_at t x).cyclic) (sym a.fields) (omega (
+  counted = λ number x e o r. subst (λ f. (slot_at t x).cyclic ≡ (slot_at t x).count - sum_at (seen_in f (is_member_of t number) h.seen (x + 1)) v.words) (sym a.fields) (omega (
     arith,
-    counted_less w.fields w.words h.seen s t b.less number x e o (h.counted number x (member_before b.less number x e)),
+    counted_less w.fields w.words h.seen s t b.less number x e o r (h.counted number x (member_before b.less number x e)),
     a.words (seen_in w.fields (is_member_of t number) h.seen (x + 1)),
   ));
   unput = λ x o. omega (arith, b.unadded x o);

@@ -22,27 +22,31 @@ use Rattle.rec_release.specs.CycleFree.{given_up, given_up_slot}
 use Rattle.rec_release.specs.TakenOff.{down_if, is_lowered, taken_off}
 use Rattle.rec_release.specs.Release.{without_first}
 
--- No slot joins a set, and a set loses no member but with all others. No slot becomes Orange, and the counts of one that is
--- Orange, less its outside count, haven't grown.
+-- it was not released, and if its cyclic count was its true count less so many, so it is still
+abbrev pub StaysExact : (u v : Slot) → Type 0
+StaysExact u v = (u.released ≡ false) × ((k : ℕ) → u.cyclic ≡ u.count - k → v.cyclic ≡ v.count - k)
+
+-- No slot joins a set, and a set loses no member but with all others. No slot becomes Orange, and of one that is Orange and not
+-- released, the cyclic count stays what it was of the true count.
 pub record TestsLess (s t : State) : Type 0 where
   pub among : (x : ℕ) → 0 < times x (concat t.sets) → 0 < times x (concat s.sets)
   pub members : (number x y : ℕ) → (slot_at t x).set ≡ Some number → is_in number (slot_at t y).set ≡ is_in number (slot_at s y).set
   pub orange : (x : ℕ) → (slot_at t x).colour ≡ Orange → (slot_at s x).colour ≡ Orange
-  pub eased : (x : ℕ) → (slot_at t x).colour ≡ Orange → (slot_at t x).count - (slot_at t x).cyclic ≤ (slot_at s x).count - (slot_at s x).cyclic
+  pub exact : (x : ℕ) → (slot_at t x).colour ≡ Orange → (slot_at t x).released ≡ false → StaysExact (slot_at s x) (slot_at t x)
 
 -- a member was a member of the same set
 pub member_before : {s t : State} → TestsLess s t → (number x : ℕ) → (slot_at t x).set ≡ Some number → (slot_at s x).set ≡ Some number
 member_before {s} {t} l number x e = in_set number (slot_at s x).set (sym (l.members number x x e) ∙ ap (is_in number) e ∙ own_set number)
 
 pub less_same : (s : State) → TestsLess s s
-less_same s = record { among = λ x h. h; members = λ number x y e. refl; orange = λ x o. o; eased = λ x o. omega arith }
+less_same s = record { among = λ x h. h; members = λ number x y e. refl; orange = λ x o. o; exact = λ x o r. (r, λ k e. e) }
 
 pub less_on : {s t u : State} → TestsLess s t → TestsLess t u → TestsLess s u
 less_on {s} {t} {u} a b = record {
   among = λ x h. a.among x (b.among x h);
   members = λ number x y e. b.members number x y e ∙ a.members number x y (member_before b number x e);
   orange = λ x o. a.orange x (b.orange x o);
-  eased = λ x o. omega (arith, b.eased x o, a.eased x (b.orange x o));
+  exact = λ x o r. let p = b.exact x o r in let q = a.exact x (b.orange x o) p.0 in (q.0, λ k e. p.1 k (q.1 k e));
 }
 
 -- where the slots and the sets stay
@@ -51,7 +55,7 @@ less_listed s t slots sets = record {
   among = λ x h. subst (λ xss. 0 < times x (concat xss)) sets h;
   members = λ number x y e. ap (λ ss. is_in number (get_or ss y absent).set) slots;
   orange = λ x o. subst (λ ss. (get_or ss x absent).colour ≡ Orange) slots o;
-  eased = λ x o. omega (arith, ap (λ ss. (get_or ss x absent).count - (get_or ss x absent).cyclic) slots);
+  exact = λ x o r. (ap (λ ss. (get_or ss x absent).released) (sym slots) ∙ r, λ k e. subst (λ ss. (get_or ss x absent).cyclic ≡ (get_or ss x absent).count - k) (sym slots) e);
 }
 
 -- what holds of what is written, and of what was there, holds of each slot afterwards
@@ -65,43 +69,43 @@ each_slot P s x v here there y =
       | inr q ↦ subst (P y) (sym (get_or-set_other s.slots x y v absent q.1)) (there y)
     ]
 
--- what is written in place of a slot stays in its set, isn't Orange anew, and where it is Orange, its counts haven't grown
+-- what is written in place of a slot stays in its set, isn't Orange anew, and where it is Orange and not released, its cyclic count stays exact
 pub record EasesSlot (u v : Slot) : Type 0 where
   pub set : v.set ≡ u.set
   pub orange : v.colour ≡ Orange → u.colour ≡ Orange
-  pub eased : v.colour ≡ Orange → v.count - v.cyclic ≤ u.count - u.cyclic
+  pub exact : v.colour ≡ Orange → v.released ≡ false → StaysExact u v
 
 pub less_slot : (s : State) (x : ℕ) (v : Slot) → EasesSlot (slot_at s x) v → TestsLess s (with_slot s x v)
 less_slot s x v e = record {
   among = λ y h. h;
   members = λ number z y _. ap (is_in number) (field_kept (λ (w : Slot). w.set) s.slots x v e.set y);
   orange = each_slot (λ y w. w.colour ≡ Orange → (slot_at s y).colour ≡ Orange) s x v e.orange (λ y o. o);
-  eased = each_slot (λ y w. w.colour ≡ Orange → w.count - w.cyclic ≤ (slot_at s y).count - (slot_at s y).cyclic) s x v e.eased (λ y o. omega arith);
+  exact = each_slot (λ y w. w.colour ≡ Orange → w.released ≡ false → StaysExact (slot_at s y) w) s x v e.exact (λ y o r. (r, λ k q. q));
 }
 
 -- a slot is flagged released
 pub less_released : (s : State) (x : ℕ) → TestsLess s (with_slot s x (record (slot_at s x) { released = true }))
-less_released s x = less_slot s x (record (slot_at s x) { released = true }) (record { set = refl; orange = λ o. o; eased = λ o. omega arith })
+less_released s x = less_slot s x (record (slot_at s x) { released = true }) (record { set = refl; orange = λ o. o; exact = λ o r. absurd (false≢true (sym r)) })
 
 -- a count is lowered together with the outside count
 pub less_lowered : (s : State) (x : ℕ) → TestsLess s (with_slot s x (lowered (slot_at s x)))
-less_lowered s x = less_slot s x (lowered (slot_at s x)) (record { set = refl; orange = λ o. o; eased = λ o. omega arith })
+less_lowered s x = less_slot s x (lowered (slot_at s x)) (record { set = refl; orange = λ o. o; exact = λ o r. (r, λ k e. omega (arith, e)) })
 
-lessened_eases : (r l : Bool) (v : Slot) → EasesSlot v (lessened_if r l v)
-lessened_eases true l v = record { set = refl; orange = λ o. o; eased = λ o. omega arith }
-lessened_eases false true v = record { set = refl; orange = λ o. cc; eased = λ o. cc }
-lessened_eases false false v = record { set = refl; orange = λ o. cc; eased = λ o. cc }
+lessened_eases : (r l : Bool) (v : Slot) → v.released ≡ r → EasesSlot v (lessened_if r l v)
+lessened_eases true l v e = record { set = refl; orange = λ o. o; exact = λ o r. absurd (false≢true (sym r ∙ e)) }
+lessened_eases false true v e = record { set = refl; orange = λ o. cc; exact = λ o r. cc }
+lessened_eases false false v e = record { set = refl; orange = λ o. cc; exact = λ o r. cc }
 
 less_sent : (d : Due) (s t : State) (x : ℕ) → TestsLess s t → TestsLess s (sent d t x)
 less_sent Nothing s t x l = l
-less_sent Zero s t x l = record { among = l.among; members = l.members; orange = l.orange; eased = l.eased }
-less_sent Root s t x l = record { among = l.among; members = l.members; orange = l.orange; eased = l.eased }
+less_sent Zero s t x l = record { among = l.among; members = l.members; orange = l.orange; exact = l.exact }
+less_sent Root s t x l = record { among = l.among; members = l.members; orange = l.orange; exact = l.exact }
 
 -- a slot is decremented
 pub less_decremented : (s : State) (x : ℕ) → TestsLess s (decremented s x)
 less_decremented s x =
     let v : Slot = slot_at s x in
-    less_sent (due_of v) s (with_slot s x (lessened v)) x (less_slot s x (lessened v) (lessened_eases v.released (eqb v.count 1) v))
+    less_sent (due_of v) s (with_slot s x (lessened v)) x (less_slot s x (lessened v) (lessened_eases v.released (eqb v.count 1) v refl))
 
 -- what the earlier sets have, all of them have
 times_taken : (x n : ℕ) (xss : List (List ℕ)) → times x (concat (take n xss)) ≤ times x (concat xss)
@@ -129,9 +133,9 @@ map_at f e (v ∷ slots) zero = refl
 map_at f e (v ∷ slots) (suc y) = map_at f e slots y
 
 -- what is given up is in no set and not Orange, and what isn't stays
-given_eases : (n : ℕ) (v : Slot) (b : Bool) → is_in n v.set ≡ b → ((given_up_slot n v).colour ≡ Orange → v.colour ≡ Orange) × ((given_up_slot n v).colour ≡ Orange → (given_up_slot n v).count - (given_up_slot n v).cyclic ≤ v.count - v.cyclic)
-given_eases n v true e = rw e ((λ o. cc), (λ o. cc))
-given_eases n v false e = rw e ((λ o. o), (λ o. omega arith))
+given_eases : (n : ℕ) (v : Slot) (b : Bool) → is_in n v.set ≡ b → ((given_up_slot n v).colour ≡ Orange → v.colour ≡ Orange) × ((given_up_slot n v).colour ≡ Orange → (given_up_slot n v).released ≡ false → StaysExact v (given_up_slot n v))
+given_eases n v true e = rw e ((λ o. cc), (λ o r. cc))
+given_eases n v false e = rw e ((λ o. o), (λ o r. (r, λ k q. q)))
 
 given_leaves : (n : ℕ) (v : Slot) → is_in n v.set ≡ true → (given_up_slot n v).set ≡ None
 given_leaves n v e = rw e refl
@@ -148,15 +152,15 @@ less_given_up s =
       among = λ x h. omega (arith, h, times_taken x n s.sets);
       members = members_left s (given_up s) n (λ x e. ap (λ (v : Slot). v.set) (at x) ∙ given_leaves n (slot_at s x) e) (λ x e. ap (λ (v : Slot). v.set) (at x) ∙ given_stays n (slot_at s x) e);
       orange = λ x o. (given_eases n (slot_at s x) _ refl).0 (ap (λ (v : Slot). v.colour) (sym (at x)) ∙ o);
-      eased = λ x o. subst (λ (v : Slot). v.count - v.cyclic ≤ (slot_at s x).count - (slot_at s x).cyclic) (sym (at x)) ((given_eases n (slot_at s x) _ refl).1 (ap (λ (v : Slot). v.colour) (sym (at x)) ∙ o));
+      exact = λ x o r. subst (λ (v : Slot). StaysExact (slot_at s x) v) (sym (at x)) ((given_eases n (slot_at s x) _ refl).1 (ap (λ (v : Slot). v.colour) (sym (at x)) ∙ o) (ap (λ (v : Slot). v.released) (sym (at x)) ∙ r));
     }
 
 -- a member that is refurbished is in no set, and Orange only where it was
-refurbished_eases : (f : Fate) (v : Slot) → ((refurbished f v).set ≡ None) × ((refurbished f v).colour ≡ Orange → v.colour ≡ Orange) × ((refurbished f v).colour ≡ Orange → (refurbished f v).count - (refurbished f v).cyclic ≤ v.count - v.cyclic)
-refurbished_eases fates.Free v = (refl, (λ o. o), (λ o. omega arith))
-refurbished_eases fates.Zero v = (refl, (λ o. cc), (λ o. cc))
-refurbished_eases fates.Root v = (refl, (λ o. cc), (λ o. cc))
-refurbished_eases fates.Plain v = (refl, (λ o. cc), (λ o. cc))
+refurbished_eases : (f : Fate) (v : Slot) → ((refurbished f v).set ≡ None) × ((refurbished f v).colour ≡ Orange → v.colour ≡ Orange) × ((refurbished f v).colour ≡ Orange → (refurbished f v).released ≡ false → StaysExact v (refurbished f v))
+refurbished_eases fates.Free v = (refl, (λ o. o), (λ o r. (r, λ k q. q)))
+refurbished_eases fates.Zero v = (refl, (λ o. cc), (λ o r. cc))
+refurbished_eases fates.Root v = (refl, (λ o. cc), (λ o r. cc))
+refurbished_eases fates.Plain v = (refl, (λ o. cc), (λ o r. cc))
 
 -- the members of the last set are refurbished
 pub less_refurbished : (s t : State) → IsKept s → LastRefurbished s t → TestsLess s t
@@ -172,9 +176,9 @@ less_refurbished s t k r =
         | inl e ↦ (refurbished_eases (fate_at s first x) (slot_at s x)).1 (ap (λ (v : Slot). v.colour) (sym (inside x e)) ∙ o)
         | inr e ↦ ap (λ (v : Slot). v.colour) (sym (others x e)) ∙ o
       ];
-      eased = λ x o. elim (cases_Bool (is_in n (slot_at s x).set)) [
-        | inl e ↦ subst (λ (v : Slot). v.count - v.cyclic ≤ (slot_at s x).count - (slot_at s x).cyclic) (sym (inside x e)) ((refurbished_eases (fate_at s first x) (slot_at s x)).2 (ap (λ (v : Slot). v.colour) (sym (inside x e)) ∙ o))
-        | inr e ↦ subst (λ (v : Slot). v.count - v.cyclic ≤ (slot_at s x).count - (slot_at s x).cyclic) (sym (others x e)) (omega arith)
+      exact = λ x o u. elim (cases_Bool (is_in n (slot_at s x).set)) [
+        | inl e ↦ subst (λ (v : Slot). StaysExact (slot_at s x) v) (sym (inside x e)) ((refurbished_eases (fate_at s first x) (slot_at s x)).2 (ap (λ (v : Slot). v.colour) (sym (inside x e)) ∙ o) (ap (λ (v : Slot). v.released) (sym (inside x e)) ∙ u))
+        | inr e ↦ subst (λ (v : Slot). StaysExact (slot_at s x) v) (sym (others x e)) (ap (λ (v : Slot). v.released) (sym (others x e)) ∙ u, λ k q. q)
       ];
     }
 

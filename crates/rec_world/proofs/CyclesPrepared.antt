@@ -14,7 +14,7 @@ use Rattle.rec_model.specs.Pending.{node_of, home, Pending}
 use Rattle.rec_model.specs.Sets.{seen_in}
 use Rattle.rec_model.proofs.Ledgers.{node_of_null}
 use Rattle.rec_model.proofs.Places.{sum_at_only}
-use Rattle.rec_model.proofs.Sums.{sum_at-le-sum_at, sum_at_same, sum_at_split}
+use Rattle.rec_model.proofs.Sums.{sum_at_none, sum_at_same, sum_at_split}
 use Rattle.rec_model.proofs.Weights.{none_if_differs, only_if-le}
 use Rattle.rec_counts.specs.declared.slot.Slot.{Slot}
 use Rattle.rec_counts.specs.Counts.{State, IsKept, slot_at}
@@ -145,7 +145,7 @@ module _ (fields x : ℕ) (chosen : ℕ → Bool) (l : Load) (loads : List Load)
   seen_there : one_if_same (x + 1) (node_of (word_seen fields loads (place_loaded fields l))) ≡ 0
   seen_there = ap (λ word. one_if_same (x + 1) (node_of word)) (unloaded fields loads (place_loaded fields l) new) ∙ none_if_differs (x + 1) (node_of 0) (omega (arith, node_of_null))
 
-  more_at : (p : ℕ) → seen_at fields x chosen loads p + only_if (eqb (place_loaded fields l) p) (gained x chosen l.word fields p) ≤ seen_at fields x chosen (l ∷ loads) p
+  more_at : (p : ℕ) → seen_at fields x chosen loads p + only_if (eqb (place_loaded fields l) p) (gained x chosen l.word fields p) ≡ seen_at fields x chosen (l ∷ loads) p
   more_at p = elim (eqb_tells p (place_loaded fields l)) [
     | inl q ↦
         let other : eqb (place_loaded fields l) p ≡ true = eq-eqb (place_loaded fields l) p (sym q.1) in
@@ -159,7 +159,7 @@ module _ (fields x : ℕ) (chosen : ℕ → Bool) (l : Load) (loads : List Load)
       apart : (a b n : ℕ) → a ≢ b → only_if (eqb a b) n ≡ 0
       apart a b n d = grind (arith, nat_tests)
 
-  one_more : sum_at (λ p (word : ℕ). seen_at fields x chosen loads p) words + leading x chosen l ≤ sum_at (λ p (word : ℕ). seen_at fields x chosen (l ∷ loads) p) words
+  one_more : sum_at (λ p (word : ℕ). seen_at fields x chosen loads p) words + leading x chosen l ≡ sum_at (λ p (word : ℕ). seen_at fields x chosen (l ∷ loads) p) words
   one_more =
       let old : ℕ → ℕ → ℕ = λ p word. seen_at fields x chosen loads p in
       let gain : ℕ → ℕ → ℕ = λ p word. only_if (eqb (place_loaded fields l) p) (gained x chosen l.word fields p) in
@@ -168,14 +168,17 @@ module _ (fields x : ℕ) (chosen : ℕ → Bool) (l : Load) (loads : List Load)
         gained_there,
         sum_at_only (λ p (word : ℕ). gained x chosen l.word fields p) words (place_loaded fields l) 0 inside,
         sum_at_split (λ p word. old p word + gain p word) old gain words (λ p word. refl),
-        sum_at-le-sum_at (λ p word. old p word + gain p word) (λ p word. seen_at fields x chosen (l ∷ loads) p) words (λ p word. more_at p),
+        sum_at_same (λ p word. old p word + gain p word) (λ p word. seen_at fields x chosen (l ∷ loads) p) words (λ p word. more_at p),
       )
 
--- Where each place was loaded once, the loads of these slots' fields that lead to one are at most as many as the places of these
--- slots' fields where such a word was seen.
+-- Where each place was loaded once, the loads of these slots' fields that lead to one are as many as the places of these slots' fields
+-- where such a word was seen.
 loads_seen : (fields x : ℕ) (chosen : ℕ → Bool) (loads : List Load) (words : List ℕ) → AreFields fields loads → EachOnce (length words) (map (place_loaded fields) loads)
-    → sum_by (leading x chosen) loads ≤ sum_at (λ p (word : ℕ). seen_at fields x chosen loads p) words
-loads_seen fields x chosen [] words h once = omega arith
+    → sum_by (leading x chosen) loads ≡ sum_at (λ p (word : ℕ). seen_at fields x chosen loads p) words
+loads_seen fields x chosen [] words h once = sym (sum_at_none (λ p (word : ℕ). seen_at fields x chosen [] p) words (λ p word. none p))
+  where
+    none : (p : ℕ) → seen_at fields x chosen [] p ≡ 0
+    none p = omega (arith, none_if_differs (x + 1) (node_of 0) (omega (arith, node_of_null)), only_if-le (chosen (home fields p - 1)) (one_if_same (x + 1) (node_of 0)))
 loads_seen fields x chosen (l ∷ loads) words h once =
     let field : Load → Type 0 = λ m. m.field < fields in
     let p : ℕ = place_loaded fields l in
@@ -210,7 +213,9 @@ pub sets_wait_prepared : (w : Pending) (before s : State) (loads : List Load) �
 sets_wait_prepared w before s loads k long h p stand = record {
   mark = stand.mark;
   marked = stand.marked;
+  loads = loads;
   seen = word_seen w.fields loads;
+  are = λ q. refl;
   loaded = stand.loaded;
   counted = λ number x is.
       let was : (slot_at before x).set ≡ Some number = sym (set_kept x) ∙ is in

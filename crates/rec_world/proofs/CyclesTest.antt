@@ -24,7 +24,7 @@ use Rattle.rec_sigma.proofs.Cyclics.{in_set, set_in_range}
 use Rattle.rec_sigma.specs.Refurbish.{LastRefurbished}
 use Rattle.rec_release.specs.CycleFree.{given_up}
 use Rattle.rec_release.specs.TakenOff.{IsApart}
-use Rattle.rec_world.specs.Cycles.{is_member_of, SetsTest}
+use Rattle.rec_world.specs.Cycles.{is_member_of, word_seen, SetsTest}
 use Rattle.rec_world.proofs.CyclesLess.{TestsLess, member_before, less_given_up, less_refurbished}
 
 -- what was seen in the fields of a set's members is the same where all of them are left
@@ -33,11 +33,12 @@ seen_same : (fields : ℕ) (s t : State) → TestsLess s t → (seen : ℕ → �
 seen_same fields s t l seen number x e words =
     sum_at_same (seen_in fields (is_member_of t number) seen (x + 1)) (seen_in fields (is_member_of s number) seen (x + 1)) words (λ p word. ap (λ b. only_if b (one_if_same (x + 1) (node_of (seen p)))) (l.members number x (home fields p - 1) e))
 
--- the references of a member are still no more than what was seen, and its outside count
-pub counted_less : (fields : ℕ) (words : List ℕ) (seen : ℕ → ℕ) (s t : State) → TestsLess s t → (number x : ℕ) → (slot_at t x).set ≡ Some number → (slot_at t x).colour ≡ Orange →
-    (slot_at s x).count ≤ sum_at (seen_in fields (is_member_of s number) seen (x + 1)) words + (slot_at s x).cyclic →
-    (slot_at t x).count ≤ sum_at (seen_in fields (is_member_of t number) seen (x + 1)) words + (slot_at t x).cyclic
-counted_less fields words seen s t l number x e o c = omega (arith, c, l.eased x o, seen_same fields s t l seen number x e words)
+-- the cyclic count of a member is still its true count, less what was seen
+pub counted_less : (fields : ℕ) (words : List ℕ) (seen : ℕ → ℕ) (s t : State) → TestsLess s t → (number x : ℕ) → (slot_at t x).set ≡ Some number → (slot_at t x).colour ≡ Orange → (slot_at t x).released ≡ false →
+    (slot_at s x).cyclic ≡ (slot_at s x).count - sum_at (seen_in fields (is_member_of s number) seen (x + 1)) words →
+    (slot_at t x).cyclic ≡ (slot_at t x).count - sum_at (seen_in fields (is_member_of t number) seen (x + 1)) words
+counted_less fields words seen s t l number x e o r c =
+    omega (arith, (l.exact x o r).1 (sum_at (seen_in fields (is_member_of s number) seen (x + 1)) words) c, seen_same fields s t l seen number x e words)
 
 -- the tests go on over what the collector does to the counts
 pub sets_test_less : (w : Pending) (s t : State) → TestsLess s t → SetsTest w s → SetsTest w t
@@ -46,9 +47,11 @@ sets_test_less w s t l h = record {
   member = h.member;
   testing = h.testing;
   among = λ x m. h.among x (l.among x m);
+  loads = h.loads;
   seen = h.seen;
+  are = h.are;
   loaded = h.loaded;
-  counted = λ number x e o. counted_less w.fields w.words h.seen s t l number x e o (h.counted number x (member_before l number x e) (l.orange x o));
+  counted = λ number x e o r. counted_less w.fields w.words h.seen s t l number x e o r (h.counted number x (member_before l number x e) (l.orange x o) (l.exact x o r).0);
   unput = λ x o. h.unput x (l.orange x o);
 }
 
@@ -69,11 +72,13 @@ sets_test_on w v s h testing fields places = record {
   member = h.member;
   testing = testing;
   among = h.among;
+  loads = h.loads;
   seen = h.seen;
+  are = λ p. h.are p ∙ ap (λ f. word_seen f h.loads p) (sym fields);
   loaded = h.loaded;
-  counted = λ number x e o. subst (λ f. (slot_at s x).count ≤ sum_at (seen_in f (is_member_of s number) h.seen (x + 1)) v.words + (slot_at s x).cyclic) (sym fields) (omega (
+  counted = λ number x e o r. subst (λ f. (slot_at s x).cyclic ≡ (slot_at s x).count - sum_at (seen_in f (is_member_of s number) h.seen (x + 1)) v.words) (sym fields) (omega (
     arith,
-    h.counted number x e o,
+    h.counted number x e o r,
     places (λ p. seen_in w.fields (is_member_of s number) h.seen (x + 1) p 0),
   ));
   unput = h.unput;
@@ -153,7 +158,7 @@ module _ (w : Pending) (s : State) (number : ℕ) (h : SetsTest w s) (j : IsJudg
       omega (
         arith,
         j.count x (set_in_range s number x e),
-        h.counted number x (in_set number (slot_at s x).set e) (member_orange x e),
+        h.counted number x (in_set number (slot_at s x).set e) (member_orange x e) (j.apart x (member_orange x e)).unreleased,
         none_of (λ y. (slot_at s y).cyclic) (members_of s number) x (member_times x e) j.none,
       )
 

@@ -176,9 +176,11 @@ pub sets_wait_moved : {w v : Pending} (s : State) (m : Move w v) → IsAfterLoad
 sets_wait_moved {w} {v} s m after i alive h = record {
   mark = h.mark;
   marked = marked_moved (is_member s) h.mark m after i alive h.marked;
+  loads = h.loads;
   seen = h.seen;
+  are = λ p. h.are p ∙ ap (λ f. word_seen f h.loads p) (sym (move_fields m after));
   loaded = move_loaded h.seen m after i.epochs h.loaded;
-  counted = λ number x is. subst (λ f. (slot_at s x).count ≤ sum_at (seen_in f (is_member_of s number) h.seen (x + 1)) v.words + (slot_at s x).cyclic) (sym (move_fields m after))
+  counted = λ number x is. subst (λ f. (slot_at s x).cyclic ≡ (slot_at s x).count - sum_at (seen_in f (is_member_of s number) h.seen (x + 1)) v.words) (sym (move_fields m after))
       (omega (arith, h.counted number x is, move_weight (λ p. only_if (is_member_of s number (home w.fields p)) (one_if_same (x + 1) (node_of (h.seen p)))) m after));
 }
 
@@ -228,7 +230,9 @@ pub sets_wait_kept : (w : Pending) (s t : State) → KeepsMembers s t → SetsWa
 sets_wait_kept w s t k h = record {
   mark = h.mark;
   marked = same_members w s t h.mark k.sets h.marked;
+  loads = h.loads;
   seen = h.seen;
+  are = h.are;
   loaded = h.loaded;
   counted = λ number x is.
       let was : (slot_at s x).set ≡ Some number = sym (keeps_set s t k x) ∙ is in
@@ -254,7 +258,9 @@ sets_wait_none w s empty none = record {
     counted = λ z pos is. absurd (no_member z is);
     blackened = λ p z inside pos is out. absurd (no_member z is);
   };
+  loads = [];
   seen = λ p. 0;
+  are = λ p. refl;
   loaded = nothing_loaded w;
   counted = λ number x is. absurd (none_some (slot_at s x).set number (none x) is);
 }

@@ -21,6 +21,7 @@ pub mod CoreReach
 pub mod CoreReleasing
 pub mod CoreRules
 pub mod CoreRuns
+pub mod CoreScans
 pub mod CoreShapes
 pub mod CoreShowing
 pub mod CoreSteps

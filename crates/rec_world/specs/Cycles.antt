@@ -1,5 +1,5 @@
 -- What is known of the sets of the cycle buffer while mutators run, from one phase of a collection to the next.
-use Rattle.std.specs.Prelude.{◌≡◌, ℕ, ◌+◌, ◌-◌, ◌/◌, ◌%◌, ◌<◌, ◌≤◌, ◌==◌, nat_lt, if◌then◌else◌, Bool, true, Some, List, [], ◌∷◌, All, length}
+use Rattle.std.specs.Prelude.{◌≡◌, ℕ, ◌+◌, ◌-◌, ◌/◌, ◌%◌, ◌<◌, ◌≤◌, ◌==◌, nat_lt, if◌then◌else◌, Bool, true, false, Some, List, [], ◌∷◌, All, length}
 use Rattle.std.specs.List.{concat, sum_by}
 use Rattle.rec_model.specs.Sums.{one_if_same, sum_at}
 use Rattle.rec_model.specs.Pending.{node_of, Pending}
@@ -50,14 +50,16 @@ pub record SetsStand (w : Pending) (s : State) (loads : List prepared.Load) : Ty
   pub marked : IsMarked w (is_member s) mark
   pub loaded : HasLoaded w (word_seen w.fields loads)
 
--- Sets wait for the next batch. Each word that preparation saw is a reference of that batch's epoch; and a member has at most as
--- many references as there are such words in fields of its own set's members that lead to it, and its outside count.
+-- Sets wait for the next batch. Each word that preparation saw is a reference of that batch's epoch; and the cyclic count of a member is
+-- its outside count: its true count, less the words seen in fields of its own set's members that lead to it.
 pub record SetsWait (w : Pending) (s : State) : Type 0 where
   pub mark : ℕ → ℕ
   pub marked : IsMarked w (is_member s) mark
+  pub loads : List prepared.Load
   pub seen : ℕ → ℕ
+  pub are : (place : ℕ) → seen place ≡ word_seen w.fields loads place
   pub loaded : HasLoaded w seen
-  pub counted : (number x : ℕ) → (slot_at s x).set ≡ Some number → (slot_at s x).count ≤ sum_at (seen_in w.fields (is_member_of s number) seen (x + 1)) w.words + (slot_at s x).cyclic
+  pub counted : (number x : ℕ) → (slot_at s x).set ≡ Some number → (slot_at s x).cyclic ≡ (slot_at s x).count - sum_at (seen_in w.fields (is_member_of s number) seen (x + 1)) w.words
 
 -- Sets are tested, after the batch that made an earlier state of what was pending before it. So it is still of each member that
 -- is Orange; and no write of the batch's epoch put a word that leads to one.
@@ -66,7 +68,10 @@ pub record SetsTest (w : Pending) (s : State) : Type 0 where
   pub member : ℕ → Bool
   pub testing : IsTesting w before member
   pub among : (x : ℕ) → 0 < times x (concat s.sets) → member (x + 1) ≡ true
+  pub loads : List prepared.Load
   pub seen : ℕ → ℕ
+  pub are : (place : ℕ) → seen place ≡ word_seen w.fields loads place
   pub loaded : HasLoaded before seen
-  pub counted : (number x : ℕ) → (slot_at s x).set ≡ Some number → (slot_at s x).colour ≡ Orange → (slot_at s x).count ≤ sum_at (seen_in w.fields (is_member_of s number) seen (x + 1)) w.words + (slot_at s x).cyclic
+  pub counted : (number x : ℕ) → (slot_at s x).set ≡ Some number → (slot_at s x).colour ≡ Orange → (slot_at s x).released ≡ false
+      → (slot_at s x).cyclic ≡ (slot_at s x).count - sum_at (seen_in w.fields (is_member_of s number) seen (x + 1)) w.words
   pub unput : (x : ℕ) → (slot_at s x).colour ≡ Orange → sum_by (puts_in (before.applied + 1) (x + 1)) before.writes ≡ 0

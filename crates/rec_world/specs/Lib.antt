@@ -8,6 +8,7 @@ pub mod CoreMet
 pub mod CoreMoves
 pub mod CorePending
 pub mod CoreReach
+pub mod CoreScans
 pub mod CoreShown
 pub mod CoreSwept
 pub mod Cycles

@@ -6,8 +6,14 @@ ghost use Rattle.rec_model.specs.References.{count_formula};
 ghost use Rattle.rec_model.specs.Sight.{IsTaken, Reaches, StandsBy};
 ghost use Rattle.rec_counts.specs.Counts.{slot_at};
 ghost use Rattle.rec_world.specs.declared.config.Config.{Config as Numbers};
+ghost use Rattle.rec_model.specs.declared.command.Cmd.TheVariants as commands;
+ghost use Rattle.rec_model.specs.declared.told.Told.{Told};
 ghost use Rattle.rec_mutator.specs.Private.{is_busy, answer_of};
+ghost use Rattle.rec_mutator.specs.declared.made.Made.TheVariants as makes;
+ghost use Rattle.rec_mutator.specs.declared.phase.Phase.TheVariants.{Begun};
+ghost use Rattle.rec_mutator.specs.declared.work.Work.TheVariants as works;
 ghost use Rattle.rec_collector.specs.Next.{next_of as collector_next};
+ghost use Rattle.rec_collector.specs.Zeros.{AreTheZeros};
 ghost use Rattle.rec_world.specs.Config.{IsConfig, IsMutator};
 ghost use Rattle.rec_world.specs.Core.{Core, sight, mutator, opened};
 ghost use Rattle.rec_world.specs.CoreAsked.{AreAsked, told_in_all};
@@ -15,7 +21,8 @@ ghost use Rattle.rec_word.specs.declared.op.Op.TheVariants.{FreeHeader};
 ghost use Rattle.rec_world.specs.CoreFreed.{AreGone, IsForgotten, IsProvenGarbage, Passes, TestsSets};
 ghost use Rattle.rec_world.specs.CoreKept.{IsKept};
 ghost use Rattle.rec_world.specs.CoreMet.{MayStep, MayTurn};
-ghost use Rattle.rec_world.specs.CoreMoves.{Move, Fits, after_move, IsRun, EndsRun, stepped, turned};
+ghost use Rattle.rec_world.specs.CoreMoves.{Move, AllFit, Fits, after_move, after_moves, IsRun, EndsRun, stepped, turned};
+ghost use Rattle.rec_world.specs.CoreScans.{BeginsNone, FailsByProbes};
 ghost use Rattle.rec_world.specs.CorePending.{pending};
 ghost use Rattle.rec_world.specs.CoreReach.{KeepsReached};
 ghost use Rattle.rec_world.specs.CoreShown.{IsShown};
@@ -66,6 +73,19 @@ pub fn freed_slots_are_forgotten()
 /// of a heap with its collector.
 pub fn true_counts_are_the_formula()
     ensures { (w : Core) → IsConfig w.config → EndsRun w → (slot : ℕ) → slot < w.config.slots → (slot_at w.collector.counts slot).count ≡ count_formula (pending w) (pending w).applied (slot + 1) }
+{}
+
+/// Where an allocation is answered Full or Busy, over whatever moves of whatever run its steps were made, its first step found the
+/// freed word that is told, each slot was probed once, and each probe found a taken header. Full comes where that word was even and
+/// its last step found the same, and Busy tells both where that is not so.
+pub fn failed_allocations_probed_every_slot()
+    ensures { (w : Core) (moves : List Move) (t reg label : ℕ) (told : Told) → IsConfig w.config → EndsRun w → IsMutator w.config t → (mutator w t).phase ≡ Begun (works.Command (commands.New reg label)) → AllFit w moves → BeginsNone t moves → is_busy (mutator (after_moves w moves) t) ≡ true → answer_of (mutator (stepped (after_moves w moves) t) t) ≡ Some (makes.Answered told) → FailsByProbes w t moves (after_moves w moves) told.answer }
+{}
+
+/// In every state of every run of a heap with its collector, the zeros are exactly the slots without a count that are neither
+/// released nor Orange.
+pub fn zeros_are_exact()
+    ensures { (w : Core) → IsConfig w.config → EndsRun w → AreTheZeros w.collector.counts }
 {}
 
 /// Where a step of a mutator answers a command, in any state of any run of a heap with its collector, whatever heap that never

@@ -1,5 +1,5 @@
-use Rattle.rec_collector.proofs.Steps.{step_made}
+use Rattle.rec_collector.proofs.Mailbox.{whole_made}
 use Rattle.rec_collector.proofs.laws.machine_makes_steps.Goals as goal
 
 pub returns : goal.returns
-returns c = step_made
+returns c = whole_made

@@ -1,0 +1,114 @@
+-- What a step leaves in the mailbox that it looks at.
+use Rattle.std.proofs.Common.{◌≡◌, ◌≢◌, inl, inr, ℕ, ◌+◌, ◌==◌, Bool, true, false, cond, Option, None, Some, List, [], ◌∷◌, length, refl, sym, ap, ◌∙◌}
+use Rattle.std.proofs.lemmas.Bool.{cases_eq, eq-eqb, ne_eqb}
+use Rattle.rec_word.specs.Op.{crossing_word}
+use Rattle.rec_word.specs.declared.op.Op.{Op}
+use Rattle.rec_log.specs.declared.contents.Contents.{Contents}
+use Rattle.rec_release.specs.declared.at.At.{At}
+use Rattle.rec_release.specs.declared.member.Member.{Member}
+use Rattle.rec_sigma.specs.declared.at.At as loads
+use Rattle.rec_trial.specs.Trial.{next_of as trial_next}
+use Rattle.rec_collector.specs.Followed.{followed, prep_started, prepared, prepared_at, relieved, sweep_phase, tested_on, trial_started, tried, tried_at, with_freed, with_loaded, with_released, with_tried, Next}
+use Rattle.rec_collector.specs.Given.{IsGiven}
+use Rattle.rec_collector.specs.Kept.{IsMachine}
+use Rattle.rec_collector.specs.Next.{is_spent, next_of}
+use Rattle.rec_collector.specs.Parts.{Parts}
+use Rattle.rec_collector.specs.Private.{parts_of, with_parts, Private}
+use Rattle.rec_collector.specs.Step.{IsBetween, LeavesBox, WholeStep}
+use Rattle.rec_collector.specs.Testing.{tested, zeros_released}
+use Rattle.rec_collector.specs.Took.{batched, came, ended_if, left_at, left_of, moved, step_of, swept_phase, took_at, took_of, turn_of}
+use Rattle.rec_collector.specs.declared.phase.Phase.{Phase}
+use Rattle.rec_collector.specs.declared.phase.Phase.TheVariants.{Idle, Looking, Swapping, Returning, Releasing, Freeing, Trying, Preparing, Opening, Sweeping, Closing}
+use Rattle.rec_collector.proofs.Steps.{step_made}
+
+-- what follows a word in the middle of a collection holds no mailbox
+prepared_between : (w : Parts) → IsBetween (prepared w).phase
+unfolding prepared
+prepared_between w = at w.prep.at
+  where
+    swept : (free : List ℕ) → IsBetween (sweep_phase free)
+    swept [] = tt
+    swept (x ∷ free) = tt
+
+    at : (x : Option loads.At) → IsBetween (prepared_at w x).phase
+    at (Some a) = tt
+    at None = swept w.counts.free
+
+tried_between : (w : Parts) → IsBetween (tried w).phase
+unfolding tried
+tried_between w = at (trial_next w.trial)
+  where
+    at : (x : Option Op) → IsBetween (tried_at w x).phase
+    at (Some op) = tt
+    at None = prepared_between (prep_started w)
+
+followed_between : (w : Parts) → IsBetween (followed w).phase
+unfolding followed
+followed_between w = at (tested (length w.counts.sets) w).release.at (tested (length w.counts.sets) w).freeing.at
+  where
+    at : (x : Option At) (m : Option Member) → IsBetween (tested_on (tested (length w.counts.sets) w) x m).phase
+    at x (Some m) = tt
+    at (Some a) None = tt
+    at None None = tried_between (trial_started (tested (length w.counts.sets) w))
+
+came_leaves : (p : Private) (box : Contents) (n : Next) → IsBetween n.phase → left_of (came p n) box ≡ box
+unfolding left_of left_at
+came_leaves p box n between = at n.phase between
+  where
+    at : (phase : Phase) → IsBetween phase → left_of (ended_if phase (moved (with_parts p n.parts) phase)) box ≡ box
+    at Idle between = refl
+    at (Looking t) between = refl
+    at (Swapping t) between = absurd between
+    at (Returning t) between = refl
+    at Releasing between = refl
+    at Freeing between = refl
+    at Trying between = refl
+    at Preparing between = refl
+    at Opening between = refl
+    at (Sweeping n) between = refl
+    at (Closing n) between = refl
+
+-- a phase in which no mailbox is looked at
+keeps_in : (p : Private) (word : ℕ) (box left : Contents) (phase : Phase) → p.phase ≡ phase → ((t : ℕ) → phase ≢ Looking t) → left ≡ box → LeavesBox p word box left
+keeps_in p word box left phase is other e = LeavesBox.keeps (λ t looks. absurd (other t (sym is ∙ looks))) e
+
+-- by phase
+leaves_at : (p : Private) (word : ℕ) (box : Contents) (phase : Phase) → p.phase ≡ phase → IsBetween phase → LeavesBox p word box (left_of (took_at p word phase) box)
+unfolding took_at left_of left_at
+leaves_at p word box Idle is between = keeps_in p word box _ Idle is (λ t. λ e. cc) (go (is_spent p))
+  where
+    go : (spent : Bool) → left_of (cond spent p (moved (record p { epoch = p.epoch + 1 }) (Looking 1))) box ≡ box
+    go true = ap (left_at p box) is
+    go false = refl
+leaves_at p word box (Looking t) is between = elim (cases_eq word (crossing_word p.epoch 2)) [
+  | inl e ↦ LeavesBox.empties t is e (ap (λ b. left_of (cond b (moved p (Swapping t)) p) box) (eq-eqb word (crossing_word p.epoch 2) e))
+  | inr e ↦ LeavesBox.keeps (λ u looks same. e same) (ap (λ b. left_of (cond b (moved p (Swapping t)) p) box) (ne_eqb word (crossing_word p.epoch 2) e) ∙ ap (left_at p box) is)
+]
+leaves_at p word box (Swapping t) is between = absurd between
+leaves_at p word box (Returning t) is between = keeps_in p word box _ (Returning t) is (λ t. λ e. cc) (go (t == length p.newer))
+  where
+    next : Next
+    next = followed (zeros_released false (batched p))
+
+    go : (last : Bool) → left_of (cond last (came p next) (moved p (Looking (t + 1)))) box ≡ box
+    go true = came_leaves p box next (followed_between (zeros_released false (batched p)))
+    go false = refl
+leaves_at p word box Releasing is between = keeps_in p word box _ Releasing is (λ t. λ e. cc) (came_leaves p box (followed (with_released (parts_of p) word)) (followed_between (with_released (parts_of p) word)))
+leaves_at p word box Freeing is between = keeps_in p word box _ Freeing is (λ t. λ e. cc) (came_leaves p box (followed (relieved (with_freed (parts_of p) word))) (followed_between (relieved (with_freed (parts_of p) word))))
+leaves_at p word box Trying is between = keeps_in p word box _ Trying is (λ t. λ e. cc) (came_leaves p box (tried (with_tried (parts_of p) word)) (tried_between (with_tried (parts_of p) word)))
+leaves_at p word box Preparing is between = keeps_in p word box _ Preparing is (λ t. λ e. cc) (came_leaves p box (prepared (with_loaded (parts_of p) word)) (prepared_between (with_loaded (parts_of p) word)))
+leaves_at p word box Opening is between = keeps_in p word box _ Opening is (λ t. λ e. cc) refl
+leaves_at p word box (Sweeping n) is between = keeps_in p word box _ (Sweeping n) is (λ t. λ e. cc) (go _)
+  where
+    go : (x : Option ℕ) → left_at p box (swept_phase (n + 1) x) ≡ box
+    go None = refl
+    go (Some x) = refl
+leaves_at p word box (Closing n) is between = keeps_in p word box _ (Closing n) is (λ t. λ e. cc) refl
+
+leaves_box : (p : Private) (word : ℕ) (box : Contents) → IsBetween p.phase → LeavesBox p word box (left_of (took_of p word) box)
+unfolding took_of
+leaves_box p word box between = leaves_at p word box p.phase refl between
+
+-- a whole step
+pub whole_made : (p : Private) (word : ℕ) (box : Contents) → IsMachine p → IsBetween p.phase → IsGiven p word → WholeStep p word box (next_of p) (step_of p word box) (turn_of p word) (left_of (took_of p word) box)
+whole_made p word box k between given = record { own = step_made p word box k between given; mailbox = leaves_box p word box between }

@@ -1,0 +1,5 @@
+use Rattle.rec_collector.proofs.Exact.{machine_exact}
+use Rattle.rec_collector.proofs.laws.zeros_are_exact.Goals as goal
+
+pub returns : goal.returns
+returns c = machine_exact

@@ -1,0 +1,86 @@
+-- A scan that has ended probed each slot, and each probe found a taken header.
+use Rattle.std.proofs.Common.{◌≡◌, inl, inr, ℕ, ◌+◌, ◌<◌, ◌==◌, if◌then◌else◌, List, [], ◌∷◌, length, fold, All, refl, arith, sym, ap, subst, ◌∙◌}
+use Rattle.std.proofs.lemmas.Bool.{cases_Bool, cases_eq, cond-true, cond-false, eq-eqb, ne_eqb}
+use Rattle.std.proofs.lemmas.List.Elements.{All-nil, All-cons}
+use Rattle.rec_mutator.specs.Causes.{FoundNone, FoundNoneAt}
+use Rattle.rec_mutator.specs.Private.{Private, is_full}
+use Rattle.rec_mutator.specs.Scans.{FailsScan, HasScanned}
+use Rattle.rec_mutator.specs.Took.{born_in, moved, took_at, took_of}
+use Rattle.rec_mutator.specs.declared.made.Made.{Made}
+use Rattle.rec_mutator.specs.declared.phase.Phase.{Phase}
+use Rattle.rec_mutator.specs.declared.phase.Phase.TheVariants.{Scanning, Scanned, Finished}
+use Rattle.rec_mutator.specs.declared.work.Work.{Work}
+
+-- the phase is that of a scan that ended
+record HasEnded (phase : Phase) (first : ℕ) : Type 0 where
+  pub reg : ℕ
+  pub label : ℕ
+  pub is : phase ≡ Scanned reg label first
+
+-- a finished work stays so
+finished_stays : (q : Private) (work : Work) (made : Made) → q.phase ≡ Finished work made → (words : List ℕ) → (fold took_of q words).phase ≡ Finished work made
+unfolding took_of took_at
+finished_stays q work made e [] = e
+finished_stays q work made e (w ∷ ws) = finished_stays (took_of q w) work made (ap (λ f. (took_at q w f).phase) e) ws
+
+-- and is no scan
+finished_never : {P : Type 0} (q : Private) (work : Work) (made : Made) (first : ℕ) (words : List ℕ) → q.phase ≡ Finished work made → HasEnded (fold took_of q words).phase first → P
+finished_never q work made first words e h = let no : Finished work made ≡ Scanned h.reg h.label first = sym (finished_stays q work made e words) ∙ h.is in cc
+
+-- the words of a scan that ended, found from this slot on
+record IsRest (q : Private) (slot before first : ℕ) (found : List ℕ) : Type 0 where
+  pub same : before ≡ first
+  pub every : slot + length found ≡ q.slots
+  pub slots : (fold took_of q found).slots ≡ q.slots
+  pub taken : All (λ word. 0 < word) found
+
+-- once each slot was probed, no word more was found
+ends_here : (q : Private) (reg label before slot first : ℕ) (found : List ℕ) → q.phase ≡ Scanned reg label before → slot ≡ q.slots → HasEnded (fold took_of q found).phase first → IsRest q slot before first found
+unfolding took_of took_at
+ends_here q reg label before slot first [] e last h = let is : Scanned reg label before ≡ Scanned h.reg h.label first = sym e ∙ h.is in record { same = cc; every = omega (arith, last); slots = refl; taken = All-nil (λ word. 0 < word) }
+ends_here q reg label before slot first (w ∷ ws) e last h = finished_never (took_of q w) _ _ first ws (ap (λ f. (took_at q w f).phase) e) h
+
+-- from this slot on
+scans_on : (found : List ℕ) (q : Private) (reg label before slot first : ℕ) → q.phase ≡ Scanning reg label before slot → HasEnded (fold took_of q found).phase first → IsRest q slot before first found
+unfolding took_of took_at
+scans_on [] q reg label before slot first e h = let no : Scanning reg label before slot ≡ Scanned h.reg h.label first = sym e ∙ h.is in cc
+scans_on (w ∷ ws) q reg label before slot first e h = elim (cases_eq w 0) [
+  | inl free ↦
+      let won : took_of q w ≡ born_in q reg label slot = ap (took_at q w) e ∙ cond-true (w == 0) _ _ (eq-eqb w 0 free) in
+      finished_never (took_of q w) _ _ first ws (ap (λ (x : Private). x.phase) won) h
+  | inr taken ↦
+      let lost : took_of q w ≡ moved q (if slot + 1 == q.slots then Scanned reg label before else Scanning reg label before (slot + 1)) = ap (took_at q w) e ∙ cond-false (w == 0) _ _ (ne_eqb w 0 taken) in
+      let slots : (took_of q w).slots ≡ q.slots = ap (λ (x : Private). x.slots) lost in
+      let some : 0 < w = omega (arith, taken) in
+      elim (cases_eq (slot + 1) q.slots) [
+        | inl last ↦
+            let at : (took_of q w).phase ≡ Scanned reg label before = ap (λ (x : Private). x.phase) lost ∙ cond-true (slot + 1 == q.slots) _ _ (eq-eqb (slot + 1) q.slots last) in
+            let r : IsRest (took_of q w) (slot + 1) before first ws = ends_here (took_of q w) reg label before (slot + 1) first ws at (last ∙ sym slots) h in
+            record { same = r.same; every = omega (arith, r.every, slots); slots = r.slots ∙ slots; taken = All-cons (λ word. 0 < word) w ws some r.taken }
+        | inr more ↦
+            let at : (took_of q w).phase ≡ Scanning reg label before (slot + 1) = ap (λ (x : Private). x.phase) lost ∙ cond-false (slot + 1 == q.slots) _ _ (ne_eqb (slot + 1) q.slots more) in
+            let r : IsRest (took_of q w) (slot + 1) before first ws = scans_on ws (took_of q w) reg label before (slot + 1) first at h in
+            record { same = r.same; every = omega (arith, r.every, slots); slots = r.slots ∙ slots; taken = All-cons (λ word. 0 < word) w ws some r.taken }
+      ]
+]
+
+-- the whole scan, from the allocation's first step on
+scans : (start p : Private) (first before : ℕ) (found : List ℕ) → HasScanned start first found p → HasEnded p.phase before → (first ≡ before) × FailsScan p.slots found
+unfolding took_of took_at
+scans start p first before found s h = elim (cases_Bool (is_full start)) [
+  | inl full ↦ finished_never (took_of start first) _ _ before found (ap (λ f. (took_at start first f).phase) s.begun ∙ ap (λ (x : Private). x.phase) (cond-true (is_full start) _ _ full)) ended
+  | inr room ↦
+      let begun : took_of start first ≡ moved start (Scanning s.reg s.label first 0) = ap (took_at start first) s.begun ∙ cond-false (is_full start) _ _ room in
+      let r : IsRest (took_of start first) 0 first before found = scans_on found (took_of start first) s.reg s.label first 0 before (ap (λ (x : Private). x.phase) begun) ended in
+      (r.same, record { every = omega (arith, r.every, r.slots, ap (λ (x : Private). x.slots) s.came); taken = r.taken })
+]
+  where
+    ended : HasEnded (fold took_of (took_of start first) found).phase before
+    ended = subst (λ (x : Private). HasEnded x.phase before) s.came h
+
+-- where a scan has ended, every probe failed
+pub scanned_none : (p : Private) (reg label before : ℕ) → p.phase ≡ Scanned reg label before → FoundNone p before
+scanned_none p reg label before is = record {
+  scanned = subst (λ f. FoundNoneAt f before) (sym is) refl;
+  every = λ start first found s. scans start p first before found s (record { reg = reg; label = label; is = is });
+}
