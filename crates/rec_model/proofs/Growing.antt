@@ -1,5 +1,5 @@
 -- A legal order goes on by one event: an answer, a freeing, or the begin or end of a sweep.
-use Rattle.std.proofs.Common.{◌≡◌, ◌⊎◌, inl, inr, ℕ, ◌+◌, ◌-◌, ◌%◌, ◌<◌, ◌≤◌, zero, suc, List, [], ◌∷◌, ◌++◌, Option, None, Some, if◌then◌else◌, slice_index_or, slice_set, length, refl, sym, ap, subst, ◌∙◌, arith}
+use Rattle.std.proofs.Common.{◌≡◌, ◌⊎◌, inl, inr, ℕ, ◌+◌, ◌-◌, ◌<◌, ◌≤◌, zero, suc, List, [], ◌∷◌, ◌++◌, Option, None, Some, if◌then◌else◌, slice_index_or, slice_set, length, refl, sym, ap, subst, ◌∙◌, arith}
 use Rattle.std.specs.List.{slice_get, filter_map, cons_option}
 use Rattle.std.proofs.lemmas.Bool.{cases_eq, eq-eqb, ne_eqb}
 use Rattle.std.proofs.lemmas.List.{append-nil, take-append-le, take_all, length_push, get_or-set_same, get_or-set_other, length-set}
@@ -8,8 +8,7 @@ use Rattle.std.proofs.lemmas.Option.{slice_get_within}
 use Rattle.rec_word.specs.Word.{stamp_of}
 use Rattle.rec_model.specs.declared.answer.Answer.TheVariants as answers
 use Rattle.rec_model.specs.Reach.{is_in}
-use Rattle.rec_model.specs.Numbering.{IsDistinct}
-use Rattle.rec_model.specs.LegalOrder.{Line, Event, Limits, Moment, after, after_all, moment, AnswerFits, Fits, IsQuiet, BusyFits, Stamped, IsLegalOrder, word_left, left_by, line_by}
+use Rattle.rec_model.specs.LegalOrder.{Line, Event, Limits, Moment, after, after_all, moment, Fits, IsQuiet, BusyFits, Stamped, IsLegalOrder, word_left, left_by, line_by}
 use Rattle.rec_model.specs.LegalOrder.Event.{Answers, Frees, Marks}
 
 -- an element of a list with one more is an old one, or the new one
@@ -20,7 +19,7 @@ get_cases (x ∷ xs) y zero z is = inl is
 get_cases (x ∷ xs) y (suc i) z is = elim (get_cases xs y i z is) [ inl old ↦ inl old | inr new ↦ inr (ap suc new.0, new.1) ]
 
 -- the moments before and at the old end
-moment-grow : (limits : Limits) (start : Moment) (events : List Event) (e : Event) (i : ℕ) → i ≤ length events → moment limits start (events ++ e ∷ []) i ≡ moment limits start events i
+pub moment-grow : (limits : Limits) (start : Moment) (events : List Event) (e : Event) (i : ℕ) → i ≤ length events → moment limits start (events ++ e ∷ []) i ≡ moment limits start events i
 moment-grow limits start events e i within = ap (after_all limits start) (take-append-le i events (e ∷ []) within)
 
 -- the moment at the old end
@@ -35,7 +34,7 @@ after_all-grow limits start [] e = refl
 after_all-grow limits start (d ∷ events) e = after_all-grow limits (after limits start d) events e
 
 -- a mutator stays quiet where it was
-quiet_grow : (t : ℕ) (events : List Event) (e : Event) (i j : ℕ) → j ≤ length events → IsQuiet t events i j → IsQuiet t (events ++ e ∷ []) i j
+pub quiet_grow : (t : ℕ) (events : List Event) (e : Event) (i j : ℕ) → j ≤ length events → IsQuiet t events i j → IsQuiet t (events ++ e ∷ []) i j
 quiet_grow t events e i j within quiet k d from to is = elim (get_cases events e k d is) [
   | inl old ↦ quiet k d from to old
   | inr new ↦ absurd (omega arith)
@@ -64,7 +63,7 @@ busy_grow limits start events e t i before after there fits =
     }
 
 -- two answers that are one event
-same_answer : (s t : ℕ) (j k : Line) → Answers s j ≡ Answers t k → (s ≡ t) × (j ≡ k)
+pub same_answer : (s t : ℕ) (j k : Line) → Answers s j ≡ Answers t k → (s ≡ t) × (j ≡ k)
 same_answer s t j k is = (cc, cc)
 
 -- the journals with a line more in one of them
@@ -168,67 +167,16 @@ legal_grows limits start journals events e may legal =
       stamped = stamps_grow limits start journals events e may legal.stamped;
     }
 
--- a busy answer whose evidence is the last moment: a sweep runs, and as many objects as slots are unfreed
-pub record IsBusyNow (limits : Limits) (w : Moment) (before after : ℕ) : Type 0 where
-  pub sweep : (before % 2 ≡ 1) ⊎ (before < after)
-  pub began : w.marks ≡ before
-  pub ended : w.marks ≡ after
-  pub many : limits.slots ≤ length w.unfreed
-  pub distinct : IsDistinct w.unfreed
-
--- nothing is between a place and itself
-quiet_nowhere : (t : ℕ) (events : List Event) (i : ℕ) → IsQuiet t events i i
-quiet_nowhere t events i k d from to is = absurd (omega arith)
-
 -- after the last event
-moment-last : (limits : Limits) (start : Moment) (events : List Event) (e : Event) → moment limits start (events ++ e ∷ []) (length events + 1) ≡ after limits (after_all limits start events) e
+pub moment-last : (limits : Limits) (start : Moment) (events : List Event) (e : Event) → moment limits start (events ++ e ∷ []) (length events + 1) ≡ after limits (after_all limits start events) e
 moment-last limits start events e =
     let long : length (events ++ e ∷ []) ≡ length events + 1 = length_push events e in
     ap (after_all limits start) (take_all (length events + 1) (events ++ e ∷ []) (omega arith)) ∙ after_all-grow limits start events e
-
-busy_now : (limits : Limits) (start : Moment) (events : List Event) (t before later : ℕ) (line : Line) → IsBusyNow limits (after_all limits start events) before later
-    → BusyFits limits start (events ++ Answers t line ∷ []) t (length events) before later
-busy_now limits start events t before later line now =
-    let e : Event = Answers t line in
-    let i : ℕ = length events in
-    let here : moment limits start (events ++ e ∷ []) i ≡ after_all limits start events = moment-end limits start events e in
-    let last : (moment limits start (events ++ e ∷ []) (i + 1)).marks ≡ (after_all limits start events).marks = ap (λ (w : Moment). w.marks) (moment-last limits start events e) in
-    let long : length (events ++ e ∷ []) ≡ i + 1 = length_push events e in
-    record {
-      sweep = now.sweep;
-      began = (i, omega arith, quiet_nowhere t (events ++ e ∷ []) i, ap (λ (w : Moment). w.marks) here ∙ now.began);
-      ended = (i + 1, omega arith, omega arith, quiet_nowhere t (events ++ e ∷ []) (i + 1), last ∙ now.ended);
-      taken = (
-        (after_all limits start events).unfreed,
-        now.many,
-        now.distinct,
-        λ n named. (i, omega arith, quiet_nowhere t (events ++ e ∷ []) i, ap (λ (w : Moment). is_in n w.unfreed) here ∙ named),
-      );
-    }
 
 -- a word left bears its writer's number, and a stamp that no word has that was left before
 pub record StampsAnew (events : List Event) (t : ℕ) (line : Line) : Type 0 where
   pub writer : (word : ℕ) → word_left line.0 line.1 ≡ Some word → (stamp_of word).writer ≡ t
   pub anew : (i v word : ℕ) (d : Event) → slice_get events i ≡ Some d → left_by d ≡ Some v → word_left line.0 line.1 ≡ Some word → stamp_of v ≡ stamp_of word → ⊥
-
--- An answer may come where it fits the last moment, the last moment is the evidence where it is Busy, and its word is stamped anew.
-pub answer_may_come : (limits : Limits) (start : Moment) (journals : List (List Line)) (events : List Event) (t : ℕ) (line : Line) → 0 < t → t ≤ length journals
-    → AnswerFits limits (after_all limits start events) t line
-    → ((before after : ℕ) → line.1.answer ≡ answers.Busy before after → IsBusyNow limits (after_all limits start events) before after)
-    → StampsAnew events t line → MayCome limits start journals events (Answers t line)
-answer_may_come limits start journals events t line positive within fits busy new =
-    record {
-      numbered = λ s j is. let same : (t ≡ s) × (line ≡ j) = same_answer t s line j is in (subst (λ n. 0 < n) same.0 positive, subst (λ n. n ≤ length journals) same.0 within);
-      fits = fits;
-      busy = λ s before later j is answer.
-          let same : (t ≡ s) × (line ≡ j) = same_answer t s line j is in
-          subst (λ n. BusyFits limits start (events ++ Answers t line ∷ []) n (length events) before later) same.0
-          (busy_now limits start events t before later line (busy before later (ap (λ (l : Line). l.1.answer) same.1 ∙ answer)));
-      writer = λ s word j is leaves.
-          let same : (t ≡ s) × (line ≡ j) = same_answer t s line j is in
-          new.writer word (ap (λ (l : Line). word_left l.0 l.1) same.1 ∙ leaves) ∙ same.0;
-      anew = new.anew;
-    }
 
 -- A freeing may come where it fits the last moment.
 pub frees_may_come : (limits : Limits) (start : Moment) (journals : List (List Line)) (events : List Event) (n : ℕ) → Fits limits (after_all limits start events) (Frees n)

@@ -29,7 +29,6 @@ pub mod Positions
 pub mod Reaching
 pub mod Seen
 pub mod Sets
-pub mod Shaped
 pub mod Since
 pub mod Standing
 pub mod Sums

@@ -86,7 +86,8 @@ names_agree number next (Some n ∷ xs) same =
     let tail : map (option_map number) xs ≡ map (option_map next) xs = names_agree number next xs (λ m there. same m (is_in_tail m n (named xs) there)) in
     (cc)
 
-registers_agree : (number next : ℕ → ℕ) (rss : List (List (Option ℕ))) → ((n : ℕ) → is_in n (roots rss) ≡ true → number n ≡ next n) → map (map (option_map number)) rss ≡ map (map (option_map next)) rss
+-- registers, under two numberings that agree on all that they name
+pub registers_agree : (number next : ℕ → ℕ) (rss : List (List (Option ℕ))) → ((n : ℕ) → is_in n (roots rss) ≡ true → number n ≡ next n) → map (map (option_map number)) rss ≡ map (map (option_map next)) rss
 registers_agree number next [] same = refl
 registers_agree number next (rs ∷ rss) same =
     let head : map (option_map number) rs ≡ map (option_map next) rs = names_agree number next rs (λ n there. same n (is_in_left n (named rs) (roots rss) there)) in
@@ -99,7 +100,7 @@ option_agree number next None same = refl
 option_agree number next (Some n) same = ap Some (same n refl)
 
 -- words, under two numberings that agree on all that they name
-fields_agree : (number next : ℕ → ℕ) (words : List ℕ) → ((n : ℕ) → is_in n (named (map target_of words)) ≡ true → number n ≡ next n) → map (field_of number) words ≡ map (field_of next) words
+pub fields_agree : (number next : ℕ → ℕ) (words : List ℕ) → ((n : ℕ) → is_in n (named (map target_of words)) ≡ true → number n ≡ next n) → map (field_of number) words ≡ map (field_of next) words
 fields_agree number next [] same = refl
 fields_agree number next (word ∷ words) same =
     let first : option_map number (target_of word) ≡ option_map next (target_of word)
@@ -116,7 +117,8 @@ with_birth number slot object s = if s == slot then object else number s
 pub with_birth-same : (number : ℕ → ℕ) (slot object : ℕ) → with_birth number slot object slot ≡ object
 with_birth-same number slot object = cond-true (slot == slot) object (number slot) (eq-eqb slot slot refl)
 
-with_birth-other : (number : ℕ → ℕ) (slot object s : ℕ) → s ≢ slot → with_birth number slot object s ≡ number s
+-- another slot keeps its number
+pub with_birth-other : (number : ℕ → ℕ) (slot object s : ℕ) → s ≢ slot → with_birth number slot object s ≡ number s
 with_birth-other number slot object s other = cond-false (s == slot) object (number s) (ne_eqb s slot other)
 
 -- what was taken is another slot than a free one

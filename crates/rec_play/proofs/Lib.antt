@@ -2,8 +2,8 @@ pub mod Unfinished
 pub mod Turns
 pub mod Orders
 pub mod Commands
-pub mod Entries
 pub mod Going
-pub mod Shows
+pub mod Opened
+pub mod Room
 pub mod Rounds
 pub mod Ready

@@ -1,5 +1,5 @@
 -- Journals and orders as they are opened, and the numbers of a heap.
-use Rattle.std.proofs.Common.{◌≡◌, inl, inr, ℕ, ◌+◌, ◌-◌, ◌<◌, ◌≤◌, suc, List, [], ◌∷◌, ◌++◌, Some, slice_index_or, length, map, take, sym, ap, subst, ◌∙◌, arith}
+use Rattle.std.proofs.Common.{◌≡◌, inl, inr, ℕ, ◌+◌, ◌-◌, ◌<◌, ◌≤◌, zero, suc, List, [], ◌∷◌, ◌++◌, Some, slice_index_or, length, map, take, sym, ap, subst, ◌∙◌, arith}
 use Rattle.std.specs.List.{slice_get, sum, All, Any}
 use Rattle.std.proofs.lemmas.Bool.{cases_lt}
 use Rattle.std.proofs.lemmas.List.{take_more, take_all, length-map, get_or-map, get_or_past}
@@ -12,7 +12,12 @@ use Rattle.rec_world.specs.Config.{IsConfig}
 use Rattle.rec_world.specs.Journal.{Notes}
 use Rattle.rec_script.specs.Script.{Contents, IsScript}
 use Rattle.rec_play.specs.Played.{AreReady, config_of, longest, log_room, no_notes}
-use Rattle.rec_play.proofs.Going.{fits_longest}
+
+-- a mutator's commands fit its log
+pub fits_longest : (all : List (List Cmd)) (i : ℕ) → length (slice_index_or all i []) ≤ longest all
+fits_longest [] i = omega arith
+fits_longest (cmds ∷ all) zero = omega arith
+fits_longest (cmds ∷ all) (suc i) = let rest : length (slice_index_or all i []) ≤ longest all = fits_longest all i in omega arith
 
 -- an empty journal with this room
 abbrev pub journal_with : ℕ → Notes

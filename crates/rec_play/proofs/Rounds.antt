@@ -7,22 +7,33 @@ use Rattle.std.proofs.lemmas.List.Elements.{All-get_or}
 use Rattle.std.proofs.lemmas.Option.{slice_get-get_or, get_or_from_slice_get}
 use Rattle.rec_model.specs.declared.command.Cmd.{Cmd}
 use Rattle.rec_model.specs.declared.told.Told.{Told}
-use Rattle.rec_model.specs.LegalOrder.{Line, Event}
+use Rattle.rec_model.specs.LegalOrder.{Line, Event, IsLegalOrder}
 use Rattle.rec_model.specs.LegalOrder.Event.{Answers}
 use Rattle.rec_model.specs.Numbering.{times}
 use Rattle.rec_model.proofs.Growing.{with_line}
 use Rattle.rec_world.specs.Journal.{Notes}
 use Rattle.rec_world.specs.Order.{Turns}
-use Rattle.rec_world.specs.Core.{opened, Core}
+use Rattle.rec_world.specs.Core.{opened, Core, sight}
 use Rattle.rec_script.specs.Script.{Contents, IsScript}
 use Rattle.rec_play.specs.declared.actor.Actor.{Actor}
 use Rattle.rec_play.specs.declared.actor.Actor.TheVariants.{Mutator, Collector}
 use Rattle.rec_play.specs.Commanded.{Commanded, Polled, PollsNone, PollsOne, Turned, noted}
-use Rattle.rec_play.specs.Played.{AreReady, IsPlayed, config_of, lengths_of, lines_of, no_notes}
+use Rattle.rec_play.specs.Played.{AreReady, IsPlayed, config_of, lengths_of, limits_of, lines_of, no_notes, opening_moment}
 use Rattle.rec_play.specs.Playing.{Rest, IsOrderFor, all_turns, generator_of, mutators_of, order, to_come}
 use Rattle.rec_play.specs.Run.{IsPlayedRun, EndsTurn, commands_of, made_in}
 use Rattle.rec_play.specs.Run.IsPlayedRun.{starts}
-use Rattle.rec_play.proofs.Going.{PlayedSo, own, commands_at, begun, one_more, poll_more, turn_more, made_is_named}
+use Rattle.rec_world.specs.Config.{IsMutator}
+use Rattle.rec_world.proofs.CoreRuns.{looked_is}
+use Rattle.rec_collector.specs.declared.phase.Phase.TheVariants.{Looking}
+use Rattle.rec_play.specs.Run.{WaitsFor}
+use Rattle.rec_collector.specs.Next.{next_of}
+use Rattle.rec_order.specs.Events.{swept_by}
+use Rattle.rec_order.specs.Naming.{Naming, NamesGoOn, first_naming}
+use Rattle.rec_world.specs.declared.config.Config.{Config}
+use Rattle.rec_model.specs.Sight.{Sight, IsTaken}
+use Rattle.rec_play.proofs.Going.{PlayedSo, own, commands_at, begun, one_more, poll_more, turn_more, made_is_named, is_mutator, world_kept}
+use Rattle.rec_play.proofs.Opened.{played_legally}
+use Rattle.rec_play.proofs.Room.{no_log_full}
 use Rattle.rec_play.proofs.Orders.{times-append, times-cons, order_names, order_length, order_comes, collectors, collectors_few}
 
 -- the notes of a mutator, by its index
@@ -37,10 +48,12 @@ journal_is journals index t d same some there =
 
 pub record Between (script : Contents) (seed turns : ℕ) (world : Core) (journals : List Notes) (made : Turns) (rest : Rest) : Type 0 where
   pub events : List Event
-  pub so : PlayedSo script world (lines_of journals) made.list events
+  -- which object each slot holds
+  pub names : Naming
+  pub so : PlayedSo script world (lines_of journals) made.list events names
   -- the turns so far, and the run that they make up
   pub acted : List Actor
-  pub run : IsPlayedRun script acted events world
+  pub run : IsPlayedRun script acted events names world
   pub all : acted ++ to_come rest ≡ all_turns (lengths_of script) seed turns
   pub comes : made.list ++ mutators_of (to_come rest) ≡ order (lengths_of script) seed turns
   pub journal_room : (i : ℕ) → length (commands_at script i) ≤ (notes_at journals i).room + length (notes_at journals i).lines
@@ -65,11 +78,12 @@ start script seed turns world journals made rest valid is ready none room begins
     let lines_are : length (lines_of journals) ≡ length script.commands = length-map journals (λ (j : Notes). j.lines) ∙ ready.one_each in
     let empty : (i : ℕ) → i < length (lines_of journals) → own (lines_of journals) i ≡ [] = λ i there.
     own_notes journals i ∙ All-get_or (λ (j : Notes). j.lines ≡ []) journals i no_notes (subst (λ n. i < n) (length-map journals (λ (j : Notes). j.lines)) there) ready.empty in
-    let P : Core → Type 0 = λ w. PlayedSo script w (lines_of journals) made.list [] in
-    let Q : List ℕ → Type 0 = λ ts. PlayedSo script (opened (config_of script)) (lines_of journals) ts [] in
-    let R : Core → Type 0 = λ w. IsPlayedRun script [] [] w in
+    let P : Core → Type 0 = λ w. PlayedSo script w (lines_of journals) made.list [] first_naming in
+    let Q : List ℕ → Type 0 = λ ts. PlayedSo script (opened (config_of script)) (lines_of journals) ts [] first_naming in
+    let R : Core → Type 0 = λ w. IsPlayedRun script [] [] first_naming w in
     record {
       events = [];
+      names = first_naming;
       so = subst P (sym is) (subst Q (sym none) (begun script (lines_of journals) valid lines_are empty));
       acted = [];
       run = subst R (sym is) starts;
@@ -119,7 +133,7 @@ turn_of script seed turns world journals made rest t later is so =
     let there : length (lines_of journals) ≡ length journals = length-map journals (λ (j : Notes). j.lines) in
     let one_each : length (lines_of journals) ≡ length script.commands = so.so.one_each in
     let own_length : slice_index_or (lengths_of script) (t - 1) 0 ≡ length (commands_at script (t - 1)) = get_or-map (length {A = Cmd}) script.commands (t - 1) [] 0 (omega arith) in
-    let made_so_far : times t made.list ≡ length (notes_at journals (t - 1)).lines = made_is_named script world (lines_of journals) made.list so.events so.so t some ∙ ap length (own_notes journals (t - 1)) in
+    let made_so_far : times t made.list ≡ length (notes_at journals (t - 1)).lines = made_is_named script world (lines_of journals) made.list so.events so.names so.so t some ∙ ap length (own_notes journals (t - 1)) in
     let room : length (commands_at script (t - 1)) ≤ (notes_at journals (t - 1)).room + length (notes_at journals (t - 1)).lines = so.journal_room (t - 1) in
     let long : length (made.list ++ t ∷ mutators_of later) ≡ sum (lengths_of script) = ap length comes ∙ order_length (lengths_of script) seed turns in
     let parts : length (made.list ++ t ∷ mutators_of later) ≡ length made.list + length (t ∷ mutators_of later) = length-append made.list (t ∷ mutators_of later) in
@@ -141,7 +155,12 @@ commands_are script (suc i) some = ap (commands_at script) (let same : i ≡ suc
 -- as many commands were answered as its journal holds
 made_is_noted : (script : Contents) (seed turns : ℕ) (world : Core) (journals : List Notes) (made : Turns) (rest : Rest) → (so : Between script seed turns world journals made rest)
     → (t : ℕ) → 0 < t → made_in so.events t ≡ noted journals t
-made_is_noted script seed turns world journals made rest so t some = ap length (so.so.legal.own t some ∙ own_notes journals (t - 1))
+made_is_noted script seed turns world journals made rest so t some = ap length (so.so.lines_of t some ∙ own_notes journals (t - 1))
+
+-- the naming goes on over a command and the poll before it
+names_from : (before mid after : Core) (line : Line) (n k : Naming) → sight mid ≡ sight before → NamesGoOn mid after line n k → NamesGoOn before after line n k
+names_from before mid after line n k seen (NamesGoOn.born slot birth free taken) = NamesGoOn.born slot birth (λ was. free (subst (λ (x : Sight). IsTaken x slot) (sym seen) was)) taken
+names_from before mid after line n k seen (NamesGoOn.same unborn) = NamesGoOn.same unborn
 
 -- A mutator's turn: it polls, and makes its next command.
 pub turn_made : (script : Contents) (seed turns : ℕ) (before mid after : Core) (journals : List Notes) (notes : Notes) (made more : Turns) (rest next : Rest) (t : ℕ) (cmd : Cmd) (told : Told)
@@ -158,24 +177,26 @@ turn_made script seed turns before mid after journals notes made more rest next 
     ap (λ xs. slice_set (lines_of journals) (t - 1) (xs ++ (cmd, told) ∷ [])) mine
     ∙ ap (slice_set (lines_of journals) (t - 1)) (sym lines)
     ∙ sym (map-set (λ (j : Notes). j.lines) journals (t - 1) notes) in
-    let step : PlayedSo script after (with_line (lines_of journals) t (cmd, told)) (made.list ++ t ∷ []) (so.events ++ Answers t (cmd, told) ∷ []) =
-    one_more script mid after (lines_of journals) made.list so.events t cmd told
-    (record { some = turn.some; most = turn.most; is = ap (λ xs. slice_get (commands_at script (t - 1)) (length xs)) mine ∙ cmd_is }) done
-    (poll_more script before mid (lines_of journals) made.list so.events t polled so.so) in
-    let P : List (List Line) → Type 0 = λ ls. PlayedSo script after ls more.list (so.events ++ Answers t (cmd, told) ∷ []) in
-    let Q : List ℕ → Type 0 = λ ts. PlayedSo script after (with_line (lines_of journals) t (cmd, told)) ts (so.events ++ Answers t (cmd, told) ∷ []) in
+    let (waited, seen) = poll_more script before mid (lines_of journals) made.list so.events so.names t (is_mutator script before t so.so.config turn.some turn.most) polled so.so in
+    let (k, names, step) =
+    one_more script mid after (lines_of journals) made.list so.events so.names t cmd told
+    (record { some = turn.some; most = turn.most; is = ap (λ xs. slice_get (commands_at script (t - 1)) (length xs)) mine ∙ cmd_is }) done waited in
+    let P : List (List Line) → Type 0 = λ ls. PlayedSo script after ls more.list (so.events ++ Answers t (cmd, told) ∷ []) k in
+    let Q : List ℕ → Type 0 = λ ts. PlayedSo script after (with_line (lines_of journals) t (cmd, told)) ts (so.events ++ Answers t (cmd, told) ∷ []) k in
     record {
       events = so.events ++ Answers t (cmd, told) ∷ [];
+      names = k;
       so = subst P now (subst Q (sym list) step);
       acted = so.acted ++ Mutator t ∷ [];
-      run = IsPlayedRun.turn so.acted so.events before after t cmd told so.run
+      run = IsPlayedRun.turn so.acted so.events so.names k before after t cmd told so.run
           (record {
             next = ap (slice_get (commands_of script t)) (made_is_noted script seed turns before journals made rest so t turn.some) ∙ ap (λ cmds. slice_get cmds (noted journals t)) (commands_are script t turn.some) ∙ cmd_is;
             polled = mid;
             poll = polled.worked;
             command = done.worked;
             answer = done.answer;
-          });
+          })
+          (names_from before mid after (cmd, told) so.names k seen names);
       all = append_assoc so.acted (Mutator t ∷ []) (to_come next) ∙ ap (λ later. so.acted ++ later) (sym is) ∙ so.all;
       comes = ap (λ ts. ts ++ mutators_of (to_come next)) list ∙ append_assoc made.list (t ∷ []) (mutators_of (to_come next)) ∙ ap (λ later. made.list ++ mutators_of later) (sym is) ∙ so.comes;
       journal_room = λ i. elim (cases_eq (t - 1) i) [
@@ -229,11 +250,12 @@ ends_by script seed turns before mid after journals made rest (inr none) so = En
     left (suc i) more = subst (λ n. n < length (commands_of script (suc i))) (sym (made_is_noted script seed turns before journals made rest so (suc i) (omega arith))) more
 
 -- a poll, or none
-poll_or_none : (script : Contents) (before mid after : Core) (journals : List Notes) (order : List ℕ) (events : List Event) → PollsOne script journals before mid after ⊎ PollsNone script journals before mid after
-    → PlayedSo script mid (lines_of journals) order events → PlayedSo script after (lines_of journals) order events × (after.epoch ≡ mid.epoch)
-poll_or_none script before mid after journals order events (inl one) so = (poll_more script mid after (lines_of journals) order events one.t one.polled so, one.polled.requested)
-poll_or_none script before mid after journals order events (inr none) so =
-    let P : Core → Type 0 = λ w. PlayedSo script w (lines_of journals) order events in
+poll_or_none : (script : Contents) (before mid after : Core) (journals : List Notes) (order : List ℕ) (events : List Event) (n : Naming) → ((t : ℕ) → WaitsFor before t → IsMutator mid.config t)
+    → PollsOne script journals before mid after ⊎ PollsNone script journals before mid after
+    → PlayedSo script mid (lines_of journals) order events n → PlayedSo script after (lines_of journals) order events n × (after.epoch ≡ mid.epoch)
+poll_or_none script before mid after journals order events n is (inl one) so = ((poll_more script mid after (lines_of journals) order events n one.t (is one.t one.waited) one.polled so).0, one.polled.requested)
+poll_or_none script before mid after journals order events n is (inr none) so =
+    let P : Core → Type 0 = λ w. PlayedSo script w (lines_of journals) order events n in
     (subst P (sym none.same) so, ap (λ (w : Core). w.epoch) none.same)
 
 -- The collector's turn.
@@ -241,13 +263,16 @@ pub turn_of_collector : (script : Contents) (seed turns : ℕ) (before mid after
     → PollsOne script journals before mid after ⊎ PollsNone script journals before mid after
     → Between script seed turns before journals made rest → Between script seed turns after journals made next
 turn_of_collector script seed turns before mid after journals made rest next is done polls so =
-    let (told, tells, played) = turn_more script before mid (lines_of journals) made.list so.events done so.so in
-    let (polled, same) = poll_or_none script before mid after journals made.list (so.events ++ told) polls played in
+    let told : List Event = swept_by so.names (next_of before.collector) in
+    let (polled, same) = poll_or_none script before mid after journals made.list (so.events ++ told) so.names
+    (λ t waits. subst (λ (c : Config). IsMutator c t) (sym done.config) (looked_is before (Looking t) (world_kept script before (lines_of journals) made.list so.events so.names so.so) waits.looks)) polls
+    (turn_more script before mid (lines_of journals) made.list so.events so.names done so.so) in
     record {
       events = so.events ++ told;
+      names = so.names;
       so = polled;
       acted = so.acted ++ Collector ∷ [];
-      run = IsPlayedRun.collects so.acted so.events told before after so.run tells
+      run = IsPlayedRun.collects so.acted so.events so.names before after so.run
           (subst (λ (w : Core). EndsTurn script (made_in so.events) before w after) done.step (ends_by script seed turns before mid after journals made rest polls so));
       all = append_assoc so.acted (Collector ∷ []) (to_come next) ∙ ap (λ later. so.acted ++ later) (sym is) ∙ so.all;
       comes = ap (λ later. made.list ++ mutators_of later) (sym is) ∙ so.comes;
@@ -280,18 +305,23 @@ all_played script seed turns world journals made rest none so =
     let names : IsOrderFor (lengths_of script) (order (lengths_of script) seed turns) = order_names (lengths_of script) seed turns in
     let all_lines : length (map (map (λ (line : Line). line.0)) (lines_of journals)) ≡ length (lines_of journals) = length-map (lines_of journals) (map (λ (line : Line). line.0)) in
     let one_each : length (lines_of journals) ≡ length script.commands = so.so.one_each in
+    let commands : map (map (λ (line : Line). line.0)) (lines_of journals) ≡ script.commands
+    = ext_get_or [] (map (map (λ (line : Line). line.0)) (lines_of journals)) script.commands (all_lines ∙ one_each)
+    (λ i there.
+    let within : i < length (lines_of journals) = omega arith in
+    let next : i ≡ i + 1 - 1 = omega arith in
+    let made_all : length (own (lines_of journals) i) ≡ length (commands_at script i) =
+    ap (λ n. length (own (lines_of journals) n)) next
+    ∙ sym (made_is_named script world (lines_of journals) made.list so.events so.names so.so (i + 1) (omega arith))
+    ∙ ap (times (i + 1)) order_is ∙ names.each (i + 1) (omega arith) ∙ ap (λ n. slice_index_or (lengths_of script) n 0) (sym next)
+    ∙ get_or-map (length {A = Cmd}) script.commands i [] 0 (omega arith) in
+    get_or-map (map (λ (line : Line). line.0)) (lines_of journals) i [] [] within ∙ so.so.commands i ∙ take_all (length (own (lines_of journals) i)) (commands_at script i) (omega arith)) in
+    let legal : IsLegalOrder (limits_of script) (opening_moment script) (lines_of journals) so.events = (played_legally script world (lines_of journals) made.list so.events so.names so.so).legal in
     record {
-      commands = ext_get_or [] (map (map (λ (line : Line). line.0)) (lines_of journals)) script.commands (all_lines ∙ one_each)
-          (λ i there.
-          let within : i < length (lines_of journals) = omega arith in
-          let next : i ≡ i + 1 - 1 = omega arith in
-          let made_all : length (own (lines_of journals) i) ≡ length (commands_at script i) =
-          ap (λ n. length (own (lines_of journals) n)) next
-          ∙ sym (made_is_named script world (lines_of journals) made.list so.events so.so (i + 1) (omega arith))
-          ∙ ap (times (i + 1)) order_is ∙ names.each (i + 1) (omega arith) ∙ ap (λ n. slice_index_or (lengths_of script) n 0) (sym next)
-          ∙ get_or-map (length {A = Cmd}) script.commands i [] 0 (omega arith) in
-          get_or-map (map (λ (line : Line). line.0)) (lines_of journals) i [] [] within ∙ so.so.commands i ∙ take_all (length (own (lines_of journals) i)) (commands_at script i) (omega arith));
-      legal = so.so.legal;
+      commands = commands;
+      legal = legal;
       in_order = sym so.so.in_order ∙ order_is;
-      run = subst (λ actors. IsPlayedRun script actors so.events world) (sym (append-nil so.acted) ∙ ap (λ later. so.acted ++ later) (sym none) ∙ so.all) so.run;
+      names = so.names;
+      run = subst (λ actors. IsPlayedRun script actors so.events so.names world) (sym (append-nil so.acted) ∙ ap (λ later. so.acted ++ later) (sym none) ∙ so.all) so.run;
+      no_log_full = no_log_full script (lines_of journals) so.events commands legal;
     }

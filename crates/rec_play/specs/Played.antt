@@ -1,11 +1,13 @@
 -- What the commands of a script gave when they were played.
-use Rattle.std.specs.Prelude.{◌≡◌, ℕ, ◌≤◌, true, List, [], ◌∷◌, map, length, replicate, slice_index_or}
+use Rattle.std.specs.Prelude.{◌≡◌, ◌≢◌, ℕ, ◌≤◌, true, List, [], ◌∷◌, map, length, replicate, slice_index_or}
 use Rattle.std.specs.List.{All}
 use Rattle.rec_model.specs.declared.command.Cmd.{Cmd}
+use Rattle.rec_model.specs.declared.answer.Answer.TheVariants.{LogFull}
 use Rattle.rec_model.specs.Heap.{opening}
 use Rattle.rec_model.specs.LegalOrder.{Line, Event, Limits, Moment, after_all, actors, IsLegalOrder}
 use Rattle.rec_world.specs.Core.{Core}
 use Rattle.rec_world.specs.Journal.{Notes}
+use Rattle.rec_order.specs.Naming.{Naming}
 use Rattle.rec_script.specs.Script.{Contents}
 use Rattle.rec_play.specs.Playing.{order, all_turns}
 use Rattle.rec_play.specs.Run.{IsPlayedRun}
@@ -48,11 +50,15 @@ pub record AreReady (commands : List (List Cmd)) (journals : List Notes) : Type 
   pub empty : All (λ journal. journal.lines ≡ []) journals
   pub room : (i : ℕ) → length (slice_index_or commands i []) ≤ (slice_index_or journals i no_notes).room
 
--- The journals hold the script's commands with what was told. One legal order from the opening heap explains them, and its
--- answers stand in the order of the playing rule. What was told is what the run tells that the rule's turns make up, with the
--- frees and the sweeps of the collector's turns, and the world is the one at its end.
+-- The journals hold the script's commands with what was told, and no log was full. One legal order from the opening heap explains
+-- them, and its answers stand in the order of the playing rule. What was told is what the run tells that the rule's turns make up,
+-- with the frees and the sweeps of the collector's turns, and the world is the one at its end.
 pub record IsPlayed (script : Contents) (seed turns : ℕ) (journals : List (List Line)) (events : List Event) (world : Core) : Type 0 where
   pub commands : map (map (λ line. line.0)) journals ≡ script.commands
   pub legal : IsLegalOrder (limits_of script) (opening_moment script) journals events
   pub in_order : actors events ≡ order (lengths_of script) seed turns
-  pub run : IsPlayedRun script (all_turns (lengths_of script) seed turns) events world
+  -- which object each slot holds at the end
+  pub names : Naming
+  pub run : IsPlayedRun script (all_turns (lengths_of script) seed turns) events names world
+  -- no answer is that a log is full
+  pub no_log_full : All (All (λ (line : Line). line.1.answer ≢ LogFull)) journals

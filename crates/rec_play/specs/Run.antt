@@ -1,13 +1,11 @@
 -- The played run: what each turn makes of the world, and what it tells.
-use Rattle.std.specs.Prelude.{◌≡◌, ◌≢◌, ℕ, zero, suc, ◌<◌, ◌≤◌, Option, Some, List, [], ◌∷◌, ◌++◌, length, slice_index_or}
+use Rattle.std.specs.Prelude.{◌≡◌, ◌≢◌, ℕ, zero, suc, ◌<◌, ◌≤◌, Some, List, [], ◌∷◌, ◌++◌, length, slice_index_or}
 use Rattle.std.specs.List.{slice_get, filter_map}
 use Rattle.rec_word.specs.Op.{crossing_word}
-use Rattle.rec_word.specs.declared.op.Op.{Op}
-use Rattle.rec_word.specs.declared.op.Op.TheVariants.{FreeHeader, AddFreed}
 use Rattle.rec_model.specs.declared.command.Cmd.{Cmd}
 use Rattle.rec_model.specs.declared.told.Told.{Told}
 use Rattle.rec_model.specs.LegalOrder.{Event, line_by}
-use Rattle.rec_model.specs.LegalOrder.Event.{Answers, Frees, Marks}
+use Rattle.rec_model.specs.LegalOrder.Event.{Answers}
 use Rattle.rec_mutator.specs.Private.{answer_of}
 use Rattle.rec_mutator.specs.declared.made.Made.TheVariants as makes
 use Rattle.rec_mutator.specs.declared.work.Work.TheVariants as works
@@ -16,6 +14,8 @@ use Rattle.rec_collector.specs.declared.phase.Phase.TheVariants.{Looking}
 use Rattle.rec_world.specs.Core.{Core, mutator, crossing_of, opened}
 use Rattle.rec_world.specs.CoreMoves.{turned}
 use Rattle.rec_world.specs.Worked.{IsWorked}
+use Rattle.rec_order.specs.Events.{swept_by}
+use Rattle.rec_order.specs.Naming.{Naming, NamesGoOn, first_naming}
 use Rattle.rec_script.specs.Script.{Contents}
 use Rattle.rec_play.specs.declared.actor.Actor.{Actor}
 use Rattle.rec_play.specs.declared.actor.Actor.TheVariants.{Mutator, Collector}
@@ -43,24 +43,19 @@ pub record WaitsFor (w : Core) (t : ℕ) : Type 0 where
   pub looks : w.collector.phase ≡ Looking t
   pub behind : crossing_of w t ≢ crossing_word w.epoch 2
 
--- what a turn of the collector tells, by its operation: that a sweep began or ended, or that an object was freed, or nothing
-abbrev pub Tells : Option Op → List Event → Type 0
-Tells (Some AddFreed) told = told ≡ Marks ∷ []
-Tells (Some (FreeHeader slot)) told = (n : ℕ) × (told ≡ Frees n ∷ [])
-Tells _ told = told ≡ []
-
 -- How a turn of the collector ends, after its step, where each mutator has made so many commands. One for which it waited, and
 -- that has no command left, polls: no turn of its own comes in which it could cross. Else nothing follows.
 pub data EndsTurn (script : Contents) (made : ℕ → ℕ) (before stepped after : Core) : Type 0 where
   polls : (t : ℕ) → WaitsFor before t → length (commands_of script t) ≤ made t → IsWorked stepped t works.Poll after → EndsTurn script made before stepped after
   rests : ((t : ℕ) → WaitsFor before t → made t < length (commands_of script t)) → after ≡ stepped → EndsTurn script made before stepped after
 
--- The run of a script by these turns, one after the other from the opening of its heap: what was told, and the world at its end.
-pub data IsPlayedRun (script : Contents) : List Actor → List Event → Core → Type 0 where
-  starts : IsPlayedRun script [] [] (opened (config_of script))
-  turn : (actors : List Actor) (events : List Event) (before after : Core) (t : ℕ) (cmd : Cmd) (told : Told)
-      → IsPlayedRun script actors events before → IsTurnOf script events t cmd told before after
-      → IsPlayedRun script (actors ++ Mutator t ∷ []) (events ++ Answers t (cmd, told) ∷ []) after
-  collects : (actors : List Actor) (events told : List Event) (before after : Core)
-      → IsPlayedRun script actors events before → Tells (next_of before.collector) told → EndsTurn script (made_in events) before (turned before) after
-      → IsPlayedRun script (actors ++ Collector ∷ []) (events ++ told) after
+-- The run of a script by these turns, one after the other from the opening of its heap: what was told, which object each slot holds
+-- then, and the world at its end. A slot that a turn of the collector frees tells the object that it holds.
+pub data IsPlayedRun (script : Contents) : List Actor → List Event → Naming → Core → Type 0 where
+  starts : IsPlayedRun script [] [] first_naming (opened (config_of script))
+  turn : (actors : List Actor) (events : List Event) (n k : Naming) (before after : Core) (t : ℕ) (cmd : Cmd) (told : Told)
+      → IsPlayedRun script actors events n before → IsTurnOf script events t cmd told before after → NamesGoOn before after (cmd, told) n k
+      → IsPlayedRun script (actors ++ Mutator t ∷ []) (events ++ Answers t (cmd, told) ∷ []) k after
+  collects : (actors : List Actor) (events : List Event) (n : Naming) (before after : Core)
+      → IsPlayedRun script actors events n before → EndsTurn script (made_in events) before (turned before) after
+      → IsPlayedRun script (actors ++ Collector ∷ []) (events ++ swept_by n (next_of before.collector)) n after

@@ -9,7 +9,7 @@ use Rattle.rec_world.specs.World.{Core, sight}
 use Rattle.rec_report.specs.Summary.{answers_line, summary_lines}
 
 -- the second line is made from nine numbers
-pub answers_line-same : (f g : ℕ → ℕ) → ((at : ℕ) → at < 10 → f at ≡ g at) → answers_line f ≡ answers_line g
+pub answers_line-same : (f g : ℕ → ℕ) → ((at : ℕ) → at < 9 → f at ≡ g at) → answers_line f ≡ answers_line g
 answers_line-same f g same =
     rw (
       same 0 (omega arith),

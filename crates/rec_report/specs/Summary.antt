@@ -1,7 +1,7 @@
 -- The summary of a run: four lines in the place of its whole text.
-use Rattle.std.specs.Prelude.{ℕ, ◌-◌, ◌==◌, List, [], ◌∷◌, ◌++◌, codes, length, count_by}
+use Rattle.std.specs.Prelude.{◌≢◌, ℕ, ◌-◌, ◌==◌, List, [], ◌∷◌, ◌++◌, codes, length, count_by}
 use Rattle.std.specs.Fmt.{decimal}
-use Rattle.std.specs.List.{flat_map, sum_by}
+use Rattle.std.specs.List.{All, flat_map, sum_by}
 use Rattle.rec_model.specs.declared.answer.Answer.{Answer}
 use Rattle.rec_model.specs.declared.answer.Answer.TheVariants as answers
 use Rattle.rec_model.specs.LegalOrder.{Line}
@@ -16,8 +16,12 @@ commands_of journals = sum_by length journals
 abbrev pub sizes_line : (mutators commands : ℕ) → List ℕ
 sizes_line mutators commands = codes "mutators " ++ decimal mutators ++ codes " commands " ++ decimal commands ++ line_feed
 
--- The place of an answer among the words of the summary's second line. The last one has no word there, since it is never
--- given by the program.
+-- no answer is that a log is full
+abbrev pub NoLogFull : List (List Line) → Type 0
+NoLogFull journals = All (All (λ (line : Line). line.1.answer ≢ answers.LogFull)) journals
+
+-- The place of an answer among the words of the summary's second line. The last one has no word there: a summary is asked for
+-- where no answer is that a log is full.
 abbrev pub place_of : Answer → ℕ
 place_of answers.Done = 0
 place_of answers.Null = 1

@@ -117,7 +117,7 @@ impl Line {
     pub(super) fn answers(alloc: Global, counts: &[u64; PLACES]) -> Result<Line, NoMemory>
         ensures { IfOk result (λ line. line ≡ answers_line (λ at. slice_index_or counts.now at 0)) }
     {
-        let [done, null, object, value, yes, no, none, full, busy, _] = *counts;
+        let [done, null, object, value, yes, no, none, full, busy] = *counts;
         let mut text = format!(in alloc; "done {done} null {null} object {object}")?;
         write!(text, " value {value} yes {yes} no {no}")?;
         writeln!(text, " none {none} full {full} busy {busy}")?;

@@ -5,7 +5,7 @@ ghost use Rattle.rec_model.specs.Listing.{Row, ListsSlots};
 ghost use Rattle.rec_world.specs.Settled.{IsSettled};
 ghost use Rattle.rec_world.specs.World.{sight};
 ghost use Rattle.rec_report.specs.Report.{AreFor};
-ghost use Rattle.rec_report.specs.Summary.{summary_lines};
+ghost use Rattle.rec_report.specs.Summary.{NoLogFull, summary_lines};
 ghost use Rattle.rec_report.specs.Text.{IsOrderOf};
 
 use crate::listing::number_live;
@@ -24,11 +24,12 @@ pub fn summary(
     _order: Option<&Order>,
     world: &World,
 ) -> Result<Text, NoMemory>
-    // The conditions are those of `text`.
+    // The conditions are those of `text`, and that no log was full: a summary has no word for that.
     requires script { AreFor script.now world.now }
     requires journals { length journals.now ≡ world.now.config.mutators }
     requires order { IfSome _order (λ turns. IsOrderOf (map (λ journal. journal.lines) journals.now) turns.now.list) }
     requires settled { IsSettled world.now }
+    requires room { NoLogFull (map (λ journal. journal.lines) journals.now) }
 
     // The live objects are those that `text` lists.
     ensures lines { IfOk result (λ text. (rows : List Row) × ListsSlots (sight world.now) rows × (text ≡ summary_lines (map (λ journal. journal.lines) journals.now) (length rows) world.now.made world.now.collector.collections world.now.collector.sets)) }

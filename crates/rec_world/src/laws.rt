@@ -1,7 +1,7 @@
 //! What holds of every run, each law as the contract of a function that does nothing.
 
 ghost use Rattle.std.specs.Prelude.{◌≡◌, ℕ, ◌+◌, ◌<◌, List, Some, IfSome, false, true, slice_index_or};
-ghost use Rattle.rec_model.specs.Heap.{Heap, opening};
+ghost use Rattle.rec_model.specs.Heap.{Heap};
 ghost use Rattle.rec_model.specs.References.{count_formula};
 ghost use Rattle.rec_model.specs.Sight.{IsTaken, Reaches, StandsBy};
 ghost use Rattle.rec_counts.specs.Counts.{slot_at};
@@ -15,8 +15,7 @@ ghost use Rattle.rec_mutator.specs.declared.work.Work.TheVariants as works;
 ghost use Rattle.rec_collector.specs.Next.{next_of as collector_next};
 ghost use Rattle.rec_collector.specs.Zeros.{AreTheZeros};
 ghost use Rattle.rec_world.specs.Config.{IsConfig, IsMutator};
-ghost use Rattle.rec_world.specs.Core.{Core, sight, mutator, opened};
-ghost use Rattle.rec_world.specs.CoreAsked.{AreAsked, told_in_all};
+ghost use Rattle.rec_world.specs.Core.{Core, sight, mutator};
 ghost use Rattle.rec_word.specs.declared.op.Op.TheVariants.{FreeHeader};
 ghost use Rattle.rec_world.specs.CoreFreed.{AreGone, IsForgotten, IsProvenGarbage, Passes, TestsSets};
 ghost use Rattle.rec_world.specs.CoreKept.{IsKept};
@@ -93,12 +92,6 @@ pub fn zeros_are_exact()
 /// answered only where no slot is free. Every other step leaves all that is seen.
 pub fn answers_are_explained()
     ensures { (w : Core) (t : ℕ) → IsConfig w.config → EndsRun w → IsMutator w.config t → is_busy (mutator w t) ≡ true → IsShown w t (answer_of (mutator (stepped w t) t)) (stepped w t) }
-{}
-
-/// Over every run of a heap with its collector, the commands answered, in the order of the steps that answered them, were
-/// answered as a heap that never frees is asked, from the opening on; and at the end this heap stands for what is seen.
-pub fn runs_answer_as_asked()
-    ensures { (config : Numbers) (moves : List Move) (end : Core) → IsConfig config → IsRun config moves end → AreAsked config.fields (opening config.fields config.registers config.mutators) (told_in_all (opened config) moves) (sight end) }
 {}
 
 /// Whatever the machines ask of the heap in which they make a step holds in every state of every run of a heap with its

@@ -33,9 +33,8 @@ pub use config::Config;
 pub use journal::Journal;
 pub use laws::{
     answers_are_explained, conditions_are_met, failed_allocations_probed_every_slot,
-    freed_slots_are_forgotten, nothing_reached_is_freed, runs_answer_as_asked, runs_go_on,
-    runs_keep, sets_that_pass_are_garbage, true_counts_are_the_formula, worlds_end_runs,
-    zeros_are_exact,
+    freed_slots_are_forgotten, nothing_reached_is_freed, runs_go_on, runs_keep,
+    sets_that_pass_are_garbage, true_counts_are_the_formula, worlds_end_runs, zeros_are_exact,
 };
 pub use numbering::Numbering;
 pub use open_error::OpenError;

@@ -3,6 +3,7 @@ ghost use Rattle.std.specs.Prelude.{◌≡◌, ◌≤◌, [], List, map, length,
 ghost use Rattle.std.specs.List.{flat_map, sum};
 ghost use Rattle.rec_model.specs.Listing.{Row, ListsSlots};
 ghost use Rattle.rec_report.specs.Report.{AreFor};
+ghost use Rattle.rec_report.specs.Summary.{NoLogFull};
 ghost use Rattle.rec_report.specs.Text.{IsOrderOf};
 ghost use Rattle.rec_world.specs.Settled.{IsSettled};
 ghost use Rattle.rec_world.specs.World.{opened, sight};
@@ -83,6 +84,7 @@ fn write_text(
     requires journals { length journals.now ≡ world.now.config.mutators }
     requires order { IsOrderOf (map (λ journal. journal.lines) journals.now) order.now.list }
     requires settled { IsSettled world.now }
+    requires room { NoLogFull (map (λ journal. journal.lines) journals.now) }
 
     ensures { IfOk result (λ text. (rows : List Row) × ListsSlots (sight world.now) rows
         × (flat_map (λ line. line) text ≡ run_text summary (map (λ journal. journal.lines) journals.now) order.now.list rows world.now.made world.now)) }

@@ -13,7 +13,7 @@ use Rattle.rec_world.specs.World.{TurnHasCause}
 use Rattle.rec_script.specs.Script.{Contents}
 use Rattle.rec_play.specs.Commanded.{Turned, noted}
 use Rattle.rec_play.specs.Run.{WaitsFor, commands_of}
-use Rattle.rec_play.proofs.Commands.{polled_by, turned_by, turned_idle, waits_for_one}
+use Rattle.rec_play.proofs.Commands.{polled_by, turned_idle, waits_for_one}
 use Rattle.rec_play.proofs.Rounds.{journal_is, commands_are}
 use Rattle.rec_play.proofs.playing.give_collector_turn.Goals as goal
 use Rattle.rec_play.proofs.playing.give_collector_turn.Goals.{After-commands, Else-lines-commands}
@@ -45,7 +45,7 @@ poll-requires-clause-mutator c = waits_for_one c.args.world.now c.turn.new.self 
 pub poll-requires-clause-idle : goal.poll-requires-clause-idle
 poll-requires-clause-idle c =
     let done : Turned c.args.world.now c.turn.new.self =
-    turned_by c.args.world.now c.turn.new.self c.turn.ensures.config c.turn.ensures.sweep c.turn.ensures.kept c.turn.ensures.mutators c.turn.ensures.stands c.turn.ensures.made c.turn.ensures.requested c.turn.ensures.turned in
+    record { step = c.turn.ensures.turned; config = c.turn.ensures.config; mutators = c.turn.ensures.mutators; requested = c.turn.ensures.requested } in
     turned_idle c.args.world.now c.turn.new.self done c.requires.idle c.in-Waiting.mutator
     (waits_for_one c.args.world.now c.turn.new.self c.turn.result c.in-Waiting.mutator c.turn.ensures.cause c.in-Waiting.is c.turn.ensures.run c.turn.ensures.kept)
 
@@ -72,13 +72,13 @@ pub returns-then-lines-commands : goal.returns-then-lines-commands
 returns-then-lines-commands c =
     let so : AreCounted c.args.script.now c.args.journals.now c.in-Waiting.mutator (length c.lines.result.now) (length c.commands.result.now) = counted (goal.at.returns-then-lines-commands c).After-commands in (
       c.turn.new.self,
-      turned_by c.args.world.now c.turn.new.self c.turn.ensures.config c.turn.ensures.sweep c.turn.ensures.kept c.turn.ensures.mutators c.turn.ensures.stands c.turn.ensures.made c.turn.ensures.requested c.turn.ensures.turned,
+      record { step = c.turn.ensures.turned; config = c.turn.ensures.config; mutators = c.turn.ensures.mutators; requested = c.turn.ensures.requested },
       inl
           (record {
             t = c.in-Waiting.mutator;
             waited = waited c.args.world.now c.turn.new.self c.turn.result c.in-Waiting.mutator c.turn.ensures.cause c.in-Waiting.is;
             spent = omega (arith, so.lines, so.commands, c.if-lines-commands.true);
-            polled = polled_by c.turn.new.self c.poll.new.self c.in-Waiting.mutator c.poll.result c.poll.ensures.quiet c.poll.ensures.crossed c.poll.ensures.idle c.poll.ensures.kept c.poll.ensures.worked;
+            polled = polled_by c.turn.new.self c.poll.new.self c.in-Waiting.mutator c.poll.ensures.quiet c.poll.ensures.idle c.poll.ensures.worked;
           }),
     )
 
@@ -97,7 +97,7 @@ has_left c =
 pub returns-else-lines-commands : goal.returns-else-lines-commands
 returns-else-lines-commands c = (
   c.turn.new.self,
-  turned_by c.args.world.now c.turn.new.self c.turn.ensures.config c.turn.ensures.sweep c.turn.ensures.kept c.turn.ensures.mutators c.turn.ensures.stands c.turn.ensures.made c.turn.ensures.requested c.turn.ensures.turned,
+  record { step = c.turn.ensures.turned; config = c.turn.ensures.config; mutators = c.turn.ensures.mutators; requested = c.turn.ensures.requested },
   inr
       (record {
         left = λ s waits.
@@ -111,6 +111,6 @@ returns-else-lines-commands c = (
 pub returns-in_default : goal.returns-in_default
 returns-in_default c = (
   c.turn.new.self,
-  turned_by c.args.world.now c.turn.new.self c.turn.ensures.config c.turn.ensures.sweep c.turn.ensures.kept c.turn.ensures.mutators c.turn.ensures.stands c.turn.ensures.made c.turn.ensures.requested c.turn.ensures.turned,
+  record { step = c.turn.ensures.turned; config = c.turn.ensures.config; mutators = c.turn.ensures.mutators; requested = c.turn.ensures.requested },
   inr (record { left = λ s waits. absurd (c.in_default.not-Waiting s (c.turn.ensures.waiting s waits.looks waits.behind)); same = refl }),
 )

@@ -7,9 +7,10 @@ use Rattle.rec_world.specs.Core.{Core}
 use Rattle.rec_script.specs.Script.{Contents}
 use Rattle.rec_play.specs.declared.actor.Actor.{Actor}
 use Rattle.rec_play.specs.declared.actor.Actor.TheVariants.{Mutator, Collector}
-use Rattle.rec_play.specs.Played.{lengths_of}
+use Rattle.rec_play.specs.Played.{lengths_of, lines_of}
 use Rattle.rec_play.specs.Playing.{Rest, generator_of, to_come}
 use Rattle.rec_play.proofs.Going.{commands_at}
+use Rattle.rec_play.proofs.Opened.{played_legally}
 use Rattle.rec_play.proofs.Rounds.{Between, IsTurnOf, notes_at, journal_is, start, turn_of, turn_made, turn_of_collector, few_noted, epochs_made, order_made, all_played}
 use Rattle.rec_play.proofs.playing.play.Goals as goal
 
@@ -83,8 +84,8 @@ returns-clause-played c =
     let none : to_come c.loop-actor.schedule ≡ [] = c.in_default.ensures.ended refl in (
       so.events,
       all_played c.args.script.now c.args.seed c.args.turns c.loop-actor.world c.loop-actor.journals c.loop-actor.order c.loop-actor.schedule none so,
-      (so.so.shows.number, so.so.shows.stands),
-      so.so.shows.made,
+      (played_legally c.args.script.now c.loop-actor.world (lines_of c.loop-actor.journals) c.loop-actor.order.list so.events so.names so.so).stands,
+      (played_legally c.args.script.now c.loop-actor.world (lines_of c.loop-actor.journals) c.loop-actor.order.list so.events so.names so.so).made,
     )
 
 pub returns-clause-idle : goal.returns-clause-idle

@@ -17,6 +17,9 @@ write_text-requires-clause-order c =
     let (events, played, stands, made) = c.play.ensures.played in
     subst (IsOrderOf (lines_of c.play.new.journals)) (played.in_order ∙ sym c.play.ensures.order) (legal_turns _ _ _ events played.legal)
 
+pub write_text-requires-clause-room : goal.write_text-requires-clause-room
+write_text-requires-clause-room c = let (events, played, stands, made) = c.play.ensures.played in played.no_log_full
+
 pub returns : goal.returns
 returns c =
     let script : Contents = c.args.script.now in

@@ -1,0 +1,269 @@
+-- Runs with moves more; and a work made to its end is a run.
+use Rattle.std.proofs.Common.{◌≡◌, ℕ, ◌+◌, ◌<◌, ◌==◌, List, [], ◌∷◌, ◌++◌, Option, None, Some, Bool, true, false, if◌then◌else◌, length, slice_index_or, refl, sym, ap, subst, ◌∙◌, arith, append_assoc}
+use Rattle.std.proofs.lemmas.List.{append-nil}
+use Rattle.rec_word.specs.declared.op.Op.{Op}
+use Rattle.rec_word.specs.declared.op.Op.TheVariants as ops
+use Rattle.rec_model.specs.declared.command.Cmd.{Cmd}
+use Rattle.rec_model.specs.declared.told.Told.{Told}
+use Rattle.rec_model.specs.LegalOrder.{Event}
+use Rattle.rec_model.specs.Sight.{Sight, IsTaken}
+use Rattle.rec_mutator.specs.Next as mutator_next
+use Rattle.rec_mutator.specs.Private.{is_busy, is_busy_at, work_of, answer_of, answer_at, IsValid}
+use Rattle.rec_mutator.specs.Took.{begun_of}
+use Rattle.rec_mutator.specs.declared.made.Made.{Made}
+use Rattle.rec_mutator.specs.declared.made.Made.TheVariants as makes
+use Rattle.rec_mutator.specs.declared.phase.Phase.{Phase}
+use Rattle.rec_mutator.specs.declared.phase.Phase.TheVariants as at
+use Rattle.rec_mutator.specs.declared.work.Work.{Work}
+use Rattle.rec_mutator.specs.declared.work.Work.TheVariants as works
+use Rattle.rec_collector.specs.Next.{next_of}
+use Rattle.rec_world.specs.Config.{IsMutator, HasLabel}
+use Rattle.rec_world.specs.Core.{Core, sight, mutator}
+use Rattle.rec_world.specs.CoreAsked.{told_by}
+use Rattle.rec_world.specs.CoreKept.{IsKept}
+use Rattle.rec_world.specs.CoreMoves.{Move, Fits, AllFit, after_move, after_moves, begun, stepped, turned, turned_at, found_by}
+use Rattle.rec_world.specs.CoreShown.{IsDecided}
+use Rattle.rec_world.specs.Memory.{births_of}
+use Rattle.rec_world.specs.Worked.{StepsTo, IsWorked}
+use Rattle.rec_world.proofs.Commands.{work_stays}
+use Rattle.rec_world.proofs.CoreRuns.{move_kept}
+use Rattle.rec_world.proofs.CoreAsked.{begun_sight}
+use Rattle.rec_world.proofs.CoreShowing.{Says, step_says, mutator_left}
+use Rattle.rec_order.specs.Naming.{Naming, NamesGoOn, born_in, named_by, named_after, named_after_all}
+use Rattle.rec_order.specs.Events.{events_in, events_of}
+use Rattle.rec_order.proofs.Stamps.{IsSilent, going_silent, holding_silent, stayed_silent, crossed_silent}
+use Rattle.rec_order.proofs.Stands.{NamesOn, born_taken}
+use Rattle.rec_order.proofs.Steps.{same_names, step_names}
+
+-- where the moves of two lists lead
+pub after_both : (w : Core) (ms ns : List Move) → after_moves w (ms ++ ns) ≡ after_moves (after_moves w ms) ns
+after_both w [] ns = refl
+after_both w (m ∷ ms) ns = after_both (after_move w m) ms ns
+
+-- two lists of moves fit one after the other
+pub fit_both : (w : Core) (ms ns : List Move) → AllFit w ms → AllFit (after_moves w ms) ns → AllFit w (ms ++ ns)
+fit_both w [] ns fit more = more
+fit_both w (m ∷ ms) ns fit more = (fit.0, fit_both (after_move w m) ms ns fit.1 more)
+
+-- the naming after two lists
+names_both : (n : Naming) (w : Core) (ms ns : List Move) → named_after_all n w (ms ++ ns) ≡ named_after_all (named_after_all n w ms) (after_moves w ms) ns
+names_both n w [] ns = refl
+names_both n w (m ∷ ms) ns = names_both (named_after n w m) (after_move w m) ms ns
+
+-- what two lists tell
+pub events_both : (n : Naming) (w : Core) (ms ns : List Move) → events_of n w (ms ++ ns) ≡ events_of n w ms ++ events_of (named_after_all n w ms) (after_moves w ms) ns
+events_both n w [] ns = refl
+events_both n w (m ∷ ms) ns =
+    ap (λ es. events_in n w m ++ es) (events_both (named_after n w m) (after_move w m) ms ns)
+    ∙ sym (append_assoc (events_in n w m) (events_of (named_after n w m) (after_move w m) ms) (events_of (named_after_all (named_after n w m) (after_move w m) ms) (after_moves (after_move w m) ms) ns))
+
+-- the naming counts the births
+named_next : (n : Naming) (op : Op) (found : ℕ) → (named_by n op found).next ≡ n.next + births_of op found
+named_next n (ops.ClaimHeader slot label) found = go (found == 0)
+  where
+    go : (b : Bool) → (if b then born_in n slot else n).next ≡ n.next + (if b then 1 else 0)
+    go true = refl
+    go false = omega arith
+named_next n _ found = omega arith
+
+-- a turn of the collector counts no birth
+turned_made : (w : Core) → (turned w).made ≡ w.made
+turned_made w = go (next_of w.collector)
+  where
+    go : (x : Option Op) → (turned_at w x).made ≡ w.made
+    go None = refl
+    go (Some op) = refl
+
+-- a move counts as many births as it names
+move_made : (n : Naming) (w : Core) (m : Move) → (named_after n w m).next + w.made ≡ n.next + (after_move w m).made
+move_made n w (Move.Begins t work) = refl
+move_made n w (Move.Steps t) = let next : (named_by n (mutator_next.next_of (mutator w t)) (found_by w t)).next ≡ n.next + births_of (mutator_next.next_of (mutator w t)) (found_by w t) = named_next n (mutator_next.next_of (mutator w t)) (found_by w t) in omega (arith, next)
+move_made n w Move.Turns = ap (λ x. n.next + x) (sym (turned_made w))
+move_made n w Move.Offers = refl
+
+-- As many objects were born as are counted.
+pub moves_made : (n : Naming) (w : Core) (ms : List Move) → (named_after_all n w ms).next + w.made ≡ n.next + (after_moves w ms).made
+moves_made n w [] = refl
+moves_made n w (m ∷ ms) =
+    let rest : (named_after_all (named_after n w m) (after_move w m) ms).next + (after_move w m).made ≡ (named_after n w m).next + (after_moves (after_move w m) ms).made = moves_made (named_after n w m) (after_move w m) ms in
+    let first : (named_after n w m).next + w.made ≡ n.next + (after_move w m).made = move_made n w m in
+    omega (arith, rest, first)
+
+-- what is at work has no answer
+busy_none : (phase : Phase) → is_busy_at phase ≡ true → answer_at phase ≡ None
+busy_none at.Idle busy = cc
+busy_none (at.Begun work) busy = refl
+busy_none (at.Scanning reg label before slot) busy = refl
+busy_none (at.Scanned reg label before) busy = refl
+busy_none at.Crossing busy = refl
+busy_none at.Swapping busy = refl
+busy_none at.Giving busy = refl
+busy_none (at.Finished work made) busy = cc
+
+-- A run from one state to another that tells these events, and takes one naming to another.
+pub record Runs (w v : Core) (told : List Event) (n k : Naming) : Type 0 where
+  pub moves : List Move
+  pub fit : AllFit w moves
+  pub ends : after_moves w moves ≡ v
+  pub tells : events_of n w moves ≡ told
+  pub names : named_after_all n w moves ≡ k
+
+-- no move
+runs_none : (w v : Core) (n : Naming) → v ≡ w → Runs w v [] n n
+runs_none w v n same = record { moves = []; fit = tt; ends = sym same; tells = refl; names = refl }
+
+-- one move
+pub runs_one : (w v : Core) (m : Move) (n : Naming) → Fits w m → v ≡ after_move w m → Runs w v (events_in n w m) n (named_after n w m)
+runs_one w v m n fits same = record { moves = m ∷ []; fit = (fits, tt); ends = sym same; tells = append-nil (events_in n w m); names = refl }
+
+-- one run after the other
+pub runs_both : (u w v : Core) (first second : List Event) (n k j : Naming) → Runs u w first n k → Runs w v second k j → Runs u v (first ++ second) n j
+runs_both u w v first second n k j a b =
+    record {
+      moves = a.moves ++ b.moves;
+      fit = fit_both u a.moves b.moves a.fit (subst (λ x. AllFit x b.moves) (sym a.ends) b.fit);
+      ends = after_both u a.moves b.moves ∙ ap (λ x. after_moves x b.moves) a.ends ∙ b.ends;
+      tells =
+          events_both n u a.moves b.moves
+          ∙ ap (λ es. es ++ events_of (named_after_all n u a.moves) (after_moves u a.moves) b.moves) a.tells
+          ∙ ap (λ es. first ++ es) (ap (λ x. events_of (named_after_all n u a.moves) x b.moves) a.ends ∙ ap (λ (m : Naming). events_of m w b.moves) a.names ∙ b.tells);
+      names =
+          names_both n u a.moves b.moves
+          ∙ ap (λ x. named_after_all (named_after_all n u a.moves) x b.moves) a.ends ∙ ap (λ (m : Naming). named_after_all m w b.moves) a.names ∙ b.names;
+    }
+
+-- a step that answers no command
+runs_silent : (w v : Core) (t : ℕ) (n : Naming) → IsMutator w.config t → is_busy (mutator w t) ≡ true → v ≡ stepped w t → IsSilent w t → Runs w v [] n n
+runs_silent w v t n is busy steps done =
+    let step : Runs w v (events_in n w (Move.Steps t)) n (named_after n w (Move.Steps t)) = runs_one w v (Move.Steps t) n (is, busy) steps in
+    let silent : Runs w v [] n (named_after n w (Move.Steps t)) = subst (λ es. Runs w v es n (named_after n w (Move.Steps t))) done.told step in
+    subst (Runs w v [] n) (same_names n w t done.made) silent
+
+-- a step after which the mutator is still at work answers no command
+busy_silent : (w : Core) (t : ℕ) → IsKept w → IsMutator w.config t → is_busy (mutator w t) ≡ true → is_busy (mutator (stepped w t) t) ≡ true → IsSilent w t
+busy_silent w t kept is busy later = go (step_says w t kept is busy)
+  where
+    none : answer_of (mutator (stepped w t) t) ≡ None
+    none = busy_none (mutator (stepped w t) t).phase later
+
+    go : Says w t (mutator (stepped w t) t) (stepped w t) → IsSilent w t
+    go (Says.decided cmd told work answer said refused) = absurd (let no : ◌≡◌ {A = Option Made} None (Some (makes.Answered told)) = sym none ∙ answer in cc)
+    go (Says.going answer only found) = going_silent w t kept is busy answer only
+    go (Says.holding answer phase still epoch) = holding_silent w t kept is busy answer phase still
+    go (Says.stayed answer work here only) = stayed_silent w t kept is busy answer only
+    go (Says.crossed answer work phase still epoch log) = crossed_silent w t kept is busy ((mutator w t).epoch + 1) answer still log
+
+-- Steps that finish nothing are a run that tells nothing and that nobody sees.
+record StepsOn (w v : Core) (t : ℕ) (n : Naming) : Type 0 where
+  run : Runs w v [] n n
+  kept : IsKept v
+  is : IsMutator v.config t
+  work : work_of (mutator v t) ≡ work_of (mutator w t)
+  seen : sight v ≡ sight w
+
+-- a path of steps is one
+steps_on : (w : Core) (t : ℕ) (n : Naming) (v : Core) → IsKept w → IsMutator w.config t → StepsTo w t v → is_busy (mutator v t) ≡ true → StepsOn w v t n
+steps_on w t n v kept is (StepsTo.here x same) busy =
+    record {
+      run = runs_none w v n same;
+      kept = subst IsKept (sym same) kept;
+      is = subst (λ (y : Core). IsMutator y.config t) (sym same) is;
+      work = ap (λ (y : Core). work_of (mutator y t)) same;
+      seen = ap sight same;
+    }
+steps_on w t n v kept is (StepsTo.further u x path u_busy steps) busy =
+    let so : StepsOn w u t n = steps_on w t n u kept is path u_busy in
+    let silent : IsSilent u t = busy_silent u t so.kept so.is u_busy (subst (λ (y : Core). is_busy (mutator y t) ≡ true) steps busy) in
+    record {
+      run = runs_both w u v [] [] n n n so.run (runs_silent u v t n so.is u_busy steps silent);
+      kept = subst IsKept (sym steps) (move_kept u (Move.Steps t) so.kept (so.is, u_busy));
+      is = subst (λ (y : Core). IsMutator y.config t) (sym steps) so.is;
+      work = ap (λ (y : Core). work_of (mutator y t)) steps ∙ work_stays u t so.kept so.is u_busy ∙ so.work;
+      seen = ap sight steps ∙ silent.seen ∙ so.seen;
+    }
+
+-- A work up to its last step is a run that tells nothing and that nobody sees.
+record WorksOn (w last : Core) (t : ℕ) (work : Work) (n : Naming) : Type 0 where
+  run : Runs w last [] n n
+  kept : IsKept last
+  is : IsMutator last.config t
+  its : work_of (mutator last t) ≡ Some work
+  seen : sight last ≡ sight w
+
+-- a work that was made to its end has come to its last step so
+works_on : (w v : Core) (t : ℕ) (work : Work) (n : Naming) → IsKept w → IsMutator w.config t → is_busy (mutator w t) ≡ false → IsValid (mutator w t) work → HasLabel work → (done : IsWorked w t work v)
+    → WorksOn w done.last t work n
+unfolding begun_of
+works_on w v t work n kept is idle valid label done =
+    let fits : Fits w (Move.Begins t work) = (is, idle, valid, label) in
+    let here : mutator (begun w t work) t ≡ begun_of (mutator w t) work = mutator_left w t (begun_of (mutator w t) work) kept is in
+    let so : StepsOn (begun w t work) done.last t n = steps_on (begun w t work) t n done.last (move_kept w (Move.Begins t work) kept fits) is done.path done.busy in
+    record {
+      run = runs_both w (begun w t work) done.last [] [] n n n (runs_one w (begun w t work) (Move.Begins t work) n fits refl) so.run;
+      kept = so.kept;
+      is = so.is;
+      its = so.work ∙ ap work_of here;
+      seen = so.seen ∙ begun_sight w t work;
+    }
+
+-- A poll made to its end is a run that tells nothing, and nobody sees it.
+pub polled_runs : (w v : Core) (t : ℕ) (n : Naming) → IsKept w → IsMutator w.config t → is_busy (mutator w t) ≡ false → IsWorked w t works.Poll v → Runs w v [] n n × (sight v ≡ sight w)
+polled_runs w v t n kept is idle done =
+    let so : WorksOn w done.last t works.Poll n = works_on w v t works.Poll n kept is idle tt tt done in
+    let silent : IsSilent done.last t = last done.last so.kept so.is so.its done.busy in (
+      runs_both w done.last v [] [] n n n so.run (runs_silent done.last v t n so.is done.busy done.steps silent),
+      ap sight done.steps ∙ silent.seen ∙ so.seen,
+    )
+  where
+    last : (u : Core) → IsKept u → IsMutator u.config t → work_of (mutator u t) ≡ Some works.Poll → is_busy (mutator u t) ≡ true → IsSilent u t
+    last u kept is its busy = go (step_says u t kept is busy)
+      where
+        go : Says u t (mutator (stepped u t) t) (stepped u t) → IsSilent u t
+        go (Says.decided cmd told work answer said refused) = absurd (let no : ◌≡◌ {A = Option Work} (Some works.Poll) (Some (works.Command cmd)) = sym its ∙ work in cc)
+        go (Says.going answer only found) = going_silent u t kept is busy answer only
+        go (Says.holding answer phase still epoch) = holding_silent u t kept is busy answer phase still
+        go (Says.stayed answer work here only) = stayed_silent u t kept is busy answer only
+        go (Says.crossed answer work phase still epoch log) = crossed_silent u t kept is busy ((mutator u t).epoch + 1) answer still log
+
+-- the naming goes on with the step that answers as with the command
+names_go_on : (u w v : Core) (t : ℕ) (cmd : Cmd) (told : Told) (n : Naming) (home : ℕ → ℕ) (k : Naming) (homes : ℕ → ℕ) → sight w ≡ sight u → length w.headers ≡ w.config.slots
+    → NamesOn w t cmd told v n home k homes → NamesGoOn u v (cmd, told) n k
+names_go_on u w v t cmd told n home k homes seen headers (NamesOn.born slot birth place left) =
+    NamesGoOn.born slot birth
+    (λ taken. let free : slice_index_or w.headers slot 0 ≡ 0 = place.free in let some : 0 < slice_index_or w.headers slot 0 = subst (λ (x : Sight). IsTaken x slot) (sym seen) taken in omega (arith, free, some))
+    (born_taken w v slot t cmd told headers birth place left)
+names_go_on u w v t cmd told n home k homes seen headers (NamesOn.same unborn) = NamesGoOn.same unborn
+
+-- A command made to its end is a run that tells its answer.
+pub commanded_runs : (w v : Core) (t : ℕ) (cmd : Cmd) (told : Told) (n : Naming) → IsKept w → IsMutator w.config t → is_busy (mutator w t) ≡ false → IsValid (mutator w t) (works.Command cmd) → HasLabel (works.Command cmd)
+    → IsWorked w t (works.Command cmd) v → answer_of (mutator v t) ≡ Some (makes.Answered told)
+    → (k : Naming) × NamesGoOn w v (cmd, told) n k × Runs w v (Event.Answers t (cmd, told) ∷ []) n k
+commanded_runs w v t cmd told n kept is idle valid label done answered =
+    let u : Core = done.last in
+    let so : WorksOn w u t (works.Command cmd) n = works_on w v t (works.Command cmd) n kept is idle valid label done in
+    let answer : answer_of (mutator (stepped u t) t) ≡ Some (makes.Answered told) = ap (λ (x : Core). answer_of (mutator x t)) (sym done.steps) ∙ answered in
+    let (homes, names) = step_names u t cmd told n (λ object. 0) (decided_so u t cmd told so.kept so.is done.busy so.its answer) in
+    let k : Naming = named_after n u (Move.Steps t) in
+    let P : List Event → Type 0 = λ es. Runs u v es n k in
+    let tells : events_in n u (Move.Steps t) ≡ Event.Answers t (cmd, told) ∷ []
+    = ap (λ (x : Option Work). told_by t x (answer_of (mutator (stepped u t) t))) so.its ∙ ap (told_by t (Some (works.Command cmd))) answer in
+    let Q : Core → Type 0 = λ x. NamesGoOn w x (cmd, told) n k in (
+      k,
+      subst Q (sym done.steps) (names_go_on w u (stepped u t) t cmd told n (λ object. 0) k homes so.seen so.kept.headers names),
+      runs_both w u v [] (Event.Answers t (cmd, told) ∷ []) n n k so.run (subst P tells (runs_one u v (Move.Steps t) n (so.is, done.busy) done.steps)),
+    )
+  where
+    -- a step that answers a command decides it
+    decided_so : (u : Core) (t : ℕ) (cmd : Cmd) (told : Told) → IsKept u → IsMutator u.config t → is_busy (mutator u t) ≡ true → work_of (mutator u t) ≡ Some (works.Command cmd)
+        → answer_of (mutator (stepped u t) t) ≡ Some (makes.Answered told) → IsDecided u t cmd told (stepped u t)
+    decided_so u t cmd told kept is busy its answer = go (step_says u t kept is busy)
+      where
+        go : Says u t (mutator (stepped u t) t) (stepped u t) → IsDecided u t cmd told (stepped u t)
+        go (Says.decided c d work now said refused) =
+            let same : c ≡ cmd = (let all : ◌≡◌ {A = Option Work} (Some (works.Command c)) (Some (works.Command cmd)) = sym work ∙ its in cc) in
+            let so : d ≡ told = (let all : ◌≡◌ {A = Option Made} (Some (makes.Answered d)) (Some (makes.Answered told)) = sym now ∙ answer in cc) in
+            subst (λ x. IsDecided u t cmd x (stepped u t)) so (subst (λ x. IsDecided u t x d (stepped u t)) same said)
+        go (Says.going none only found) = absurd (let no : ◌≡◌ {A = Option Made} None (Some (makes.Answered told)) = sym none ∙ answer in cc)
+        go (Says.holding none phase still epoch) = absurd (let no : ◌≡◌ {A = Option Made} None (Some (makes.Answered told)) = sym none ∙ answer in cc)
+        go (Says.stayed none work here only) = absurd (let no : ◌≡◌ {A = Option Made} (Some (makes.Crossed None)) (Some (makes.Answered told)) = sym none ∙ answer in cc)
+        go (Says.crossed none work phase still epoch log) = absurd (let no : ◌≡◌ {A = Option Made} (Some (makes.Crossed (Some ((mutator u t).epoch + 1)))) (Some (makes.Answered told)) = sym none ∙ answer in cc)
