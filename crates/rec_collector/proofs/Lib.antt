@@ -10,7 +10,6 @@ pub mod Exchanging
 pub mod Following
 pub mod Gathering
 pub mod Goings
-pub mod HandDriven
 pub mod Judging
 pub mod Keeping
 pub mod Landing
@@ -29,6 +28,7 @@ pub mod Sweeping
 pub mod Tested
 pub mod Tidy
 pub mod Told
+pub mod Touched
 pub mod Touching
 pub mod Trying
 pub mod Turning

@@ -143,7 +143,7 @@ none_outside fields s e none = record {
 }
 
 -- a member's set is there
-set_there : (s : State) (number x : ℕ) → IsKept s → (slot_at s x).set ≡ Some number → number < length s.sets
+pub set_there : (s : State) (number x : ℕ) → IsKept s → (slot_at s x).set ≡ Some number → number < length s.sets
 set_there s number x k e = elim (cases_lt number (length s.sets)) [
   | inl l ↦ l
   | inr past ↦

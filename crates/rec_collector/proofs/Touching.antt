@@ -67,7 +67,7 @@ sent_names Nothing s t x name y n = n
 sent_names Zero s t x name y n = record { lost = n.lost; kept = n.kept }
 sent_names Root s t x name y n = record { lost = n.lost; kept = n.kept }
 
-down_names : (s : State) (name : Option ℕ) (y : ℕ) → (slot_at s y).released ≡ false → Names s (counted_down s name) name y
+pub down_names : (s : State) (name : Option ℕ) (y : ℕ) → (slot_at s y).released ≡ false → Names s (counted_down s name) name y
 down_names s None y r = record { lost = λ e. absurd (false≢true e); kept = λ _. refl }
 down_names s (Some x) y r =
     let v : Slot = slot_at s x in
@@ -123,6 +123,18 @@ batch_touches s newer older y r =
           let none_down : named y downs ≡ 0 = omega (arith, q.1, taken_is y older) in
           ap (λ (w : Slot). w.colour) (d.same none_down ∙ u.same none_up) ∙ q.0,
     )
+
+-- a slot that is Orange after a batch is as it was, and nothing of the batch names it
+pub batch_same : (s : State) (newer older : List Contents) (y : ℕ) → (slot_at s y).released ≡ false → (slot_at (batch s newer older) y).colour ≡ Orange → (slot_at (batch s newer older) y ≡ slot_at s y) × (added y newer + taken y older ≡ 0)
+batch_same s newer older y r o =
+    let ups : List (Option ℕ) = flat_map up_targets newer in
+    let downs : List (Option ℕ) = flat_map down_targets older in
+    let u = ups_spare s ups y in
+    let d = downs_spare (all_up s ups) downs y ((rest_all_up s ups).released y ∙ r) in
+    let unnamed : added y newer + taken y older ≡ 0 = ((batch_touches s newer older y r).0 o).1 in
+    let none_up : named y ups ≡ 0 = omega (arith, unnamed, added_is y newer) in
+    let none_down : named y downs ≡ 0 = omega (arith, unnamed, taken_is y older) in
+    (d.same none_down ∙ u.same none_up, unnamed)
 
 -- the members of the sets of a machine
 outside_at : (p : Private) (phase : Phase) → IsAt p phase → HasSets phase → AreOutside p.prep.fields p.counts

@@ -12,4 +12,5 @@ pub mod Private
 pub mod Step
 pub mod Testing
 pub mod Took
+pub mod Touched
 pub mod Zeros

@@ -17,6 +17,7 @@ ghost use Rattle.rec_collector.specs.Parts.{Parts};
 ghost use Rattle.rec_collector.specs.Private.{Private};
 ghost use Rattle.rec_collector.specs.Step.{IsBetween, NamesWord, WholeStep};
 ghost use Rattle.rec_collector.specs.Took.{left_of, step_of, took_of, turn_of};
+ghost use Rattle.rec_collector.specs.Touched.{IsOrangeIn, named_by, tried_at, WasUntouched};
 ghost use Rattle.rec_collector.specs.Zeros.{AreTheZeros};
 
 /// What comes next, what is learnt, what is answered and what is left in the mailbox is one of the steps of the collector, whatever the word found and
@@ -47,6 +48,13 @@ pub fn zeros_are_exact()
 pub fn orange_members_have_outside_counts()
     ensures outside { (p : Private) → IsMachine p → HasSets p.phase → AreOutside p.prep.fields p.counts }
     ensures cyclic { (fields : ℕ) (s : State) (a : AreOutside fields s) (number x : ℕ) → (slot_at s x).set ≡ Some number → (slot_at s x).colour ≡ Orange → (slot_at s x).cyclic ≡ (slot_at s x).count - seen a.before number a.loads x }
+{}
+
+/// A member of a prepared set that is Orange still was touched by nothing since its preparation: up to the next trial, whatever step
+/// leaves it Orange found it Orange in the same set, and named it nowhere. So no increment, no decrement and no snapshot of the batch
+/// named it, and no decrement since. A reference that was lowered came off its true count and off its cyclic count, not below zero.
+pub fn orange_members_are_untouched()
+    ensures { (p : Private) (word : ℕ) (box : Contents) (number x : ℕ) → IsMachine p → IsBetween p.phase → IsGiven p word → HasSets p.phase → tried_at (step_of p word box).epoch (step_of p word box).phase ≡ tried_at p.epoch p.phase → IsOrangeIn (step_of p word box).counts number x → WasUntouched p.counts (step_of p word box).counts number x (named_by p word x) }
 {}
 
 /// A slot that isn't released is Orange after a batch exactly where it was so before, and no entry and no snapshot of the batch names

@@ -32,7 +32,8 @@ mod verdict;
 
 pub use laws::{
     batches_colour_what_they_name, machine_makes_steps, machine_names_words,
-    machines_stay_machines, offers_are_whole, orange_members_have_outside_counts, zeros_are_exact,
+    machines_stay_machines, offers_are_whole, orange_members_are_untouched,
+    orange_members_have_outside_counts, zeros_are_exact,
 };
 pub use machine::Machine;
 pub use sets::Sets;

@@ -7,8 +7,8 @@ ghost use Rattle.rec_collector.specs.Causes.{HasCause};
 ghost use Rattle.rec_collector.specs.Given.{IsCovered, IsGiven, IsSized, IsSwapping};
 ghost use Rattle.rec_collector.specs.Kept.{IsMachine, KeepsSizes, limit_of};
 ghost use Rattle.rec_collector.specs.Next.{next_of};
-ghost use Rattle.rec_collector.specs.Private.{Private, opened, spare};
-ghost use Rattle.rec_collector.specs.Took.{came_turn, ended, ended_if, swapped_of, swept_phase, took_at, took_of, turn_at, turn_of};
+ghost use Rattle.rec_collector.specs.Private.{Private, opened};
+ghost use Rattle.rec_collector.specs.Took.{came_turn, ended, ended_if, left_of, swapped_of, swept_phase, took_at, took_of, turn_at, turn_of};
 
 use crate::buffers::{clear_all, open_row};
 use crate::parts::Parts;
@@ -149,12 +149,12 @@ impl Machine {
     }
 
     /// Takes the buffer of a mailbox that is held, and gives the cleared one that takes its place there.
-    #[tactic(auto, unfolding(crate::specs::Took::swapped_of, crate::specs::Took::swapped_at))]
+    #[tactic(auto, unfolding(crate::specs::Took::left_of, crate::specs::Took::left_at, crate::specs::Took::swapped_of, crate::specs::Took::swapped_at))]
     pub fn swap_box(&mut self, buffer: Buffer) -> Buffer
         requires swapping { IsSwapping self.old.phase }
         requires sized { IsSized self.old.registers self.old.capacity buffer }
 
-        ensures given { result ≡ spare self.old }
+        ensures given { result ≡ left_of self.old buffer }
         ensures swapped { self.new ≡ swapped_of self.old buffer }
         ensures same { KeepsSizes self.old self.new }
         ensures kept { IsMachine self.new }

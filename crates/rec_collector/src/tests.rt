@@ -1,101 +1,88 @@
-//! Collections driven by hand, over the words that they meet.
-ghost use Rattle.std.specs.Prelude.{◌≡◌, ◌<◌, IfOk, Some, [], ◌∷◌, length};
-ghost use Rattle.rec_log.specs.declared.entry.Entry.TheVariants.{Born};
-ghost use Rattle.rec_collector.specs.Private.{opened};
+//! A refused set, and the release of its zeros to the end. A test asks at run time for what a call requires.
+ghost use Rattle.std.specs.Prelude.{◌≡◌, ◌<◌, length, IfOk, IsSome};
+ghost use Rattle.rec_release.specs.Release.{IsAtWork, IsReady, next_of};
+ghost use Rattle.rec_sigma.specs.Worked.{IsWorked};
 
-use crate::{Machine, Turn};
-use rec_frame::Frame;
-use rec_log::{Buffer, Entry};
-use rec_word::Op;
+use rec_counts::{Colour, Counts};
+use rec_release::Release;
+use rec_sigma::refurbish;
 use std::alloc::{AllocError as NoMemory, Global};
+use std::process::Abort;
 use std::test::Fail;
 
-// Slot 1 was born in epoch 1, and its mutator let go of it before it crossed. Slot 0 is a root in each collection.
 #[test]
-fn collects_a_slot(rt: HostRuntime) -> Result<(), Fail> {
-    let mut machine = Machine::open(rt.alloc(), 2, 1, 1, 1, 1, 1)?;
-    assert_eq!(rt; machine.next(), Some(Op::StoreEpoch(2)));
-    let born = born_1(rt.alloc())?;
-    let left = left_0(rt.alloc())?;
-    let turns = drive(&mut machine, born, left);
-    let expected = [
-        Turn::Moved,
-        Turn::Waiting { mutator: 1 },
-        Turn::Moved,
-        Turn::Moved,
-        Turn::Moved,
-        Turn::Collected { epoch: 1, freed: 0 },
-        Turn::Moved,
-        Turn::Moved,
-        Turn::Moved,
-        Turn::Moved,
-        Turn::Moved,
-        Turn::Moved,
-        Turn::Moved,
-        Turn::Moved,
-        Turn::Collected { epoch: 2, freed: 1 },
-    ];
-    assert_eq!(rt; turns, expected);
-    assert_eq!(rt;
-        (
-            machine.epoch(),
-            machine.collections(),
-            machine.freed(),
-            machine.turns()
-        ),
-        (3, 2, 1, 0)
-    );
-    assert_eq!(rt; (machine.count(0), machine.count(1)), (1, 1));
+fn a_refused_set_is_released_to_its_end(rt: HostRuntime) -> Result<(), Fail> {
+    let mut counts = set_of_four(&rt, rt.alloc())?;
+    refuse(&mut counts);
+    assert!(rt; has(counts.zeros(), &[1]));
+    assert!(rt; has(counts.roots(), &[2]));
+    assert!(rt; has(counts.free_list(), &[4]));
+    assert!(rt; is_plain(&counts, 1) && is_plain(&counts, 3) && is_plain(&counts, 4));
+    let mut release = Release::idle(1);
+    release.start(&mut counts, true);
+    assert!(rt; release.next().is_some());
+    release.took(&mut counts, 0);
+    assert_eq!(rt; release.next(), None);
+    assert!(rt; has(counts.free_list(), &[4, 1]));
+    assert!(rt; counts.zeros().is_empty());
     Ok(())
 }
 
-// The turns of two collections of a heap of two slots with a field each, and one mutator with one register.
-fn drive(machine: &mut Machine, born: Buffer, left: Buffer) -> [Turn; 15]
-    requires opened { machine.old ≡ opened 2 1 1 1 1 1 }
-    requires born { born ≡ record { entries = Born 1 ∷ []; snapshot = Some 0 ∷ []; capacity = 1 } }
-    requires left { left ≡ record { entries = []; snapshot = Some 0 ∷ []; capacity = 1 } }
-    ensures { length machine.new.counts.slots ≡ 2 }
+// Eight slots, and a set of four: an orange slot without references, a purple one and an orange one with a reference each, and a black
+// one without references that is released.
+fn set_of_four(rt: &impl Abort, alloc: Global) -> Result<Counts, NoMemory>
+    ensures { IfOk result IsWorked }
 {
-    let requested = machine.took(1);
-    let waited = machine.took(4);
-    let looked = machine.took(10);
-    let _spare = machine.swap_box(born);
-    let tried = machine.took(11);
-    let marked = machine.took(0);
-    let first = machine.took(0);
-    let again = machine.took(2);
-    let found = machine.took(14);
-    let _other = machine.swap_box(left);
-    let applied = machine.took(15);
-    let released = machine.took(0);
-    let retried = machine.took(0);
-    let blackened = machine.took(0);
-    let begun = machine.took(0);
-    let swept = machine.took(8);
-    let second = machine.took(1);
-    [
-        requested, waited, looked, tried, marked, first, again, found, applied, released, retried,
-        blackened, begun, swept, second,
-    ]
+    let mut counts = Counts::open(alloc, 8, 1)?;
+    counts.begin_set();
+    join(rt, &mut counts, 1, Colour::Orange);
+    join(rt, &mut counts, 2, Colour::Purple);
+    join(rt, &mut counts, 3, Colour::Orange);
+    join(rt, &mut counts, 4, Colour::Black);
+    lose(rt, &mut counts, 1);
+    lose(rt, &mut counts, 4);
+    counts.release(4);
+    Ok(counts)
 }
 
-// A buffer without entries, whose register names slot 0.
-fn left_0(alloc: Global) -> Result<Buffer, NoMemory>
-    ensures { IfOk result (λ buffer. buffer ≡ record { entries = []; snapshot = Some 0 ∷ []; capacity = 1 }) }
+// A slot of this colour joins the set.
+fn join(rt: &impl Abort, counts: &mut Counts, slot: u16, colour: Colour)
+    requires worked { IsWorked counts.old }
+    requires in_range { slot < 8 }
+    ensures worked { IsWorked counts.new }
 {
-    let mut frame = Frame::open(alloc, 1)?;
-    frame.set(0, 0);
-    let mut buffer = Buffer::open(alloc, 1, 1)?;
-    buffer.retire(&frame);
-    Ok(buffer)
+    assert!(rt; !counts.buffered(slot));
+    counts.join_set(slot);
+    counts.set_colour(slot, colour);
 }
 
-// The same, with the birth of slot 1.
-fn born_1(alloc: Global) -> Result<Buffer, NoMemory>
-    ensures { IfOk result (λ buffer. buffer ≡ record { entries = Born 1 ∷ []; snapshot = Some 0 ∷ []; capacity = 1 }) }
+// A slot loses its reference.
+fn lose(rt: &impl Abort, counts: &mut Counts, slot: u16)
+    requires worked { IsWorked counts.old }
+    requires in_range { slot < 8 }
+    ensures worked { IsWorked counts.new }
 {
-    let mut buffer = left_0(alloc)?;
-    let noted = buffer.push(Entry::Born { slot: 1 }).is_ok();
-    prove!(noted);
-    Ok(buffer)
+    assert!(rt; counts.count(slot) > 0);
+    counts.lower(slot);
+}
+
+// The set is refurbished.
+fn refuse(counts: &mut Counts)
+    requires { IsWorked counts.old }
+    ensures slots { length counts.new.slots ≡ 8 }
+    ensures ready { IsReady counts.new }
+{
+    refurbish(counts, 0);
+}
+
+// Whether the list is this one.
+fn has(list: &[u16], expected: &[u16]) -> bool {
+    list == expected
+}
+
+// Whether a slot is Black and in no buffer.
+fn is_plain(counts: &Counts, slot: u16) -> bool
+    requires { slot < length counts.now.slots }
+{
+    counts.colour(slot) == Colour::Black && !counts.buffered(slot)
 }

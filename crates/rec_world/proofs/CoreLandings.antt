@@ -67,7 +67,7 @@ use Rattle.rec_world.proofs.CyclesTrial.{trial_stands_begun}
 use Rattle.rec_world.proofs.CyclesWait.{sets_stand_begun, sets_wait_moved}
 
 -- writes of an early epoch weigh nothing, if nothing early does
-early_writes : (weight : Write → ℕ) (epoch bound : ℕ) (es : List Entry) → epoch < bound → ((e : Write) → epoch_of e.new < bound → weight e ≡ 0) → All (IsMadeIn epoch) es → sum_by weight (writes_in es) ≡ 0
+pub early_writes : (weight : Write → ℕ) (epoch bound : ℕ) (es : List Entry) → epoch < bound → ((e : Write) → epoch_of e.new < bound → weight e ≡ 0) → All (IsMadeIn epoch) es → sum_by weight (writes_in es) ≡ 0
 early_writes weight epoch bound [] early none made = refl
 early_writes weight epoch bound (entries.Put place new old ∷ es) early none made =
     let at : epoch_of new ≡ epoch = All-head (IsMadeIn epoch) (entries.Put place new old) es made in
@@ -467,7 +467,7 @@ module _ (w : Core) (crossing words : List ℕ) (q : collectors.Private) (machin
         loads = [];
         prepares = subst (λ (x : preps.Work). prepared.PreparedTo w.config.fields v.counts x.machine.at x.counts []) (sym (prep_is v.prep v.counts)) came.law;
         fields = fields_begun w.config.fields;
-        stands = sets_stand_begun p v.counts u.counts (word_loaded w.config.fields loading.run.marking) others (subst (λ (y : State). IsMarked p (is_member y) (word_loaded w.config.fields loading.run.marking)) counts marked);
+        stands = sets_stand_begun p v.counts u.counts loading.run.marking others (subst (λ (y : State). IsMarked p (is_member y) (word_loaded w.config.fields loading.run.marking)) counts marked);
       }
     where
       slot_counted : (s : State) (x : ℕ) → x < length s.slots → (slot_in s (x + 1)).count ≡ (slot_at s x).count

@@ -41,7 +41,7 @@ use Rattle.rec_world.proofs.Places.{place_within}
 use Rattle.rec_world.proofs.Stamps.{target_of-packed}
 
 -- the epoch of a word is that of its stamp
-epoch_of_stamp : (x : ℕ) (s : Stamp) → stamp_of x ≡ s → epoch_of x ≡ s.epoch
+pub epoch_of_stamp : (x : ℕ) (s : Stamp) → stamp_of x ≡ s → epoch_of x ≡ s.epoch
 unfolding epoch_of
 epoch_of_stamp x s is = ap (λ (y : Stamp). y.epoch) is
 

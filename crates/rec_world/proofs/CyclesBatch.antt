@@ -8,7 +8,7 @@ use Rattle.rec_model.specs.Sums.{sum_at}
 use Rattle.rec_model.specs.Pending.{Pending}
 use Rattle.rec_model.specs.Moves as moves
 use Rattle.rec_model.specs.Accounted.{IsAccounted}
-use Rattle.rec_model.specs.Sets.{seen_in}
+use Rattle.rec_model.specs.Sets.{HasLoaded, seen_in}
 use Rattle.rec_model.proofs.Testing.{batch_testing}
 use Rattle.rec_counts.specs.declared.colour.Colour.TheVariants.{Black, Orange}
 use Rattle.rec_counts.specs.declared.slot.Slot.{Slot}
@@ -19,7 +19,7 @@ use Rattle.rec_log.specs.declared.contents.Contents.{Contents}
 use Rattle.rec_apply.specs.Targets.{added, named, is_slot}
 use Rattle.rec_apply.specs.Batch.{all_down, all_up, batch, counted_down, counted_up, down_targets, up_targets}
 use Rattle.rec_apply.proofs.Naming.{added_is, named-nil, named-cons}
-use Rattle.rec_world.specs.Cycles.{is_member, is_member_of, word_seen, SetsWait, SetsTest}
+use Rattle.rec_world.specs.Cycles.{is_member, is_member_of, word_loaded, word_seen, SetsWait, SetsTest}
 use Rattle.rec_world.proofs.CyclesLess.{TestsLess, member_before, less_same, less_on, less_slot, less_decremented}
 use Rattle.rec_world.proofs.CyclesTest.{counted_less}
 
@@ -104,16 +104,14 @@ pub sets_test_begun : (w v : Pending) (s t : State) → IsAccounted w → moves.
 sets_test_begun w v s t i a alive b h = record {
   before = w;
   member = is_member s;
-  testing = batch_testing w v (is_member s) h.mark i a (unreleased_at w s alive) h.marked;
+  testing = batch_testing w v (is_member s) (word_loaded w.fields h.marking) i a (unreleased_at w s alive) h.marked;
   among = λ x m. is_member_from s x (b.less.among x m);
   loads = h.loads;
-  seen = h.seen;
-  are = λ p. h.are p ∙ ap (λ f. word_seen f h.loads p) (sym a.fields);
-  loaded = h.loaded;
-  counted = λ number x e o r. subst (λ f. (slot_at t x).cyclic ≡ (slot_at t x).count - sum_at (seen_in f (is_member_of t number) h.seen (x + 1)) v.words) (sym a.fields) (omega (
+  loaded = subst (λ f. HasLoaded w (word_seen f h.loads)) (sym a.fields) h.loaded;
+  counted = λ number x e o r. subst (λ f. (slot_at t x).cyclic ≡ (slot_at t x).count - sum_at (seen_in f (is_member_of t number) (word_seen f h.loads) (x + 1)) v.words) (sym a.fields) (omega (
     arith,
-    counted_less w.fields w.words h.seen s t b.less number x e o r (h.counted number x (member_before b.less number x e)),
-    a.words (seen_in w.fields (is_member_of t number) h.seen (x + 1)),
+    counted_less w.fields w.words (word_seen w.fields h.loads) s t b.less number x e o r (h.counted number x (member_before b.less number x e)),
+    a.words (seen_in w.fields (is_member_of t number) (word_seen w.fields h.loads) (x + 1)),
   ));
   unput = λ x o. omega (arith, b.unadded x o);
 }

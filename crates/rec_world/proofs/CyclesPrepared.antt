@@ -211,11 +211,9 @@ seen_loads s number loads x = refl
 -- once all sets are prepared, they wait
 pub sets_wait_prepared : (w : Pending) (before s : State) (loads : List Load) → IsKept before → length w.words ≡ length before.slots * w.fields → AreFields w.fields loads → PreparedTo w.fields before None s loads → SetsStand w s loads → SetsWait w s
 sets_wait_prepared w before s loads k long h p stand = record {
-  mark = stand.mark;
+  marking = stand.marking;
   marked = stand.marked;
   loads = loads;
-  seen = word_seen w.fields loads;
-  are = λ q. refl;
   loaded = stand.loaded;
   counted = λ number x is.
       let was : (slot_at before x).set ≡ Some number = sym (set_kept x) ∙ is in

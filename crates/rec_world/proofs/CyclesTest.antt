@@ -8,7 +8,7 @@ use Rattle.rec_model.specs.Pending.{node_of, home, Pending}
 use Rattle.rec_model.specs.Moves.Move.{put, register, birth, crossing, request, batch, release, clearing, freeing, dropping}
 use Rattle.rec_model.specs.Moves.{Clears, puts_in, Move}
 use Rattle.rec_model.specs.Accounted.{IsAccounted}
-use Rattle.rec_model.specs.Sets.{IsStanding, IsTesting, IsAmongTests, IsTested, ReleasesSet, seen_in}
+use Rattle.rec_model.specs.Sets.{HasLoaded, IsStanding, IsTesting, IsAmongTests, IsTested, ReleasesSet, seen_in}
 use Rattle.rec_model.proofs.Sums.{sum_at_same}
 use Rattle.rec_model.proofs.Since.{loaded_stands}
 use Rattle.rec_model.proofs.Testing.{move_testing, set_accounted}
@@ -48,10 +48,8 @@ sets_test_less w s t l h = record {
   testing = h.testing;
   among = λ x m. h.among x (l.among x m);
   loads = h.loads;
-  seen = h.seen;
-  are = h.are;
   loaded = h.loaded;
-  counted = λ number x e o r. counted_less w.fields w.words h.seen s t l number x e o r (h.counted number x (member_before l number x e) (l.orange x o) (l.exact x o r).0);
+  counted = λ number x e o r. counted_less w.fields w.words (word_seen w.fields h.loads) s t l number x e o r (h.counted number x (member_before l number x e) (l.orange x o) (l.exact x o r).0);
   unput = λ x o. h.unput x (l.orange x o);
 }
 
@@ -73,13 +71,11 @@ sets_test_on w v s h testing fields places = record {
   testing = testing;
   among = h.among;
   loads = h.loads;
-  seen = h.seen;
-  are = λ p. h.are p ∙ ap (λ f. word_seen f h.loads p) (sym fields);
-  loaded = h.loaded;
-  counted = λ number x e o r. subst (λ f. (slot_at s x).cyclic ≡ (slot_at s x).count - sum_at (seen_in f (is_member_of s number) h.seen (x + 1)) v.words) (sym fields) (omega (
+  loaded = subst (λ f. HasLoaded h.before (word_seen f h.loads)) (sym fields) h.loaded;
+  counted = λ number x e o r. subst (λ f. (slot_at s x).cyclic ≡ (slot_at s x).count - sum_at (seen_in f (is_member_of s number) (word_seen f h.loads) (x + 1)) v.words) (sym fields) (omega (
     arith,
     h.counted number x e o r,
-    places (λ p. seen_in w.fields (is_member_of s number) h.seen (x + 1) p 0),
+    places (λ p. seen_in w.fields (is_member_of s number) (word_seen w.fields h.loads) (x + 1) p 0),
   ));
   unput = h.unput;
 }
@@ -150,10 +146,10 @@ module _ (w : Pending) (s : State) (number : ℕ) (h : SetsTest w s) (j : IsJudg
       let same : node - 1 + 1 ≡ node = omega arith in
       subst (λ z. w.released z ≡ false) same (j.released (node - 1) (set_in_range s number (node - 1) e) ∙ (j.apart (node - 1) (member_orange (node - 1) e)).unreleased)
 
-  set_stands : (node : ℕ) → 0 < node → is_member_of s number node ≡ true → IsStanding w (is_member_of s number) h.seen node
-  set_stands node pos e p inside m = loaded_stands w h.before h.member h.testing.since.0 h.seen h.testing.since.1 h.loaded p node inside pos (member_unreleased (home w.fields p) (omega arith) m)
+  set_stands : (node : ℕ) → 0 < node → is_member_of s number node ≡ true → IsStanding w (is_member_of s number) (word_seen w.fields h.loads) node
+  set_stands node pos e p inside m = loaded_stands w h.before h.member h.testing.since.0 (word_seen w.fields h.loads) h.testing.since.1 h.loaded p node inside pos (member_unreleased (home w.fields p) (omega arith) m)
 
-  slot_counted : (x : ℕ) → is_in number (slot_at s x).set ≡ true → w.count (x + 1) ≤ sum_at (seen_in w.fields (is_member_of s number) h.seen (x + 1)) w.words
+  slot_counted : (x : ℕ) → is_in number (slot_at s x).set ≡ true → w.count (x + 1) ≤ sum_at (seen_in w.fields (is_member_of s number) (word_seen w.fields h.loads) (x + 1)) w.words
   slot_counted x e =
       omega (
         arith,
@@ -162,10 +158,10 @@ module _ (w : Pending) (s : State) (number : ℕ) (h : SetsTest w s) (j : IsJudg
         none_of (λ y. (slot_at s y).cyclic) (members_of s number) x (member_times x e) j.none,
       )
 
-  set_counted : (node : ℕ) → 0 < node → is_member_of s number node ≡ true → w.count node ≤ sum_at (seen_in w.fields (is_member_of s number) h.seen node) w.words
+  set_counted : (node : ℕ) → 0 < node → is_member_of s number node ≡ true → w.count node ≤ sum_at (seen_in w.fields (is_member_of s number) (word_seen w.fields h.loads) node) w.words
   set_counted node pos e =
       let same : node - 1 + 1 ≡ node = omega arith in
-      subst (λ z. w.count z ≤ sum_at (seen_in w.fields (is_member_of s number) h.seen z) w.words) same (slot_counted (node - 1) e)
+      subst (λ z. w.count z ≤ sum_at (seen_in w.fields (is_member_of s number) (word_seen w.fields h.loads) z) w.words) same (slot_counted (node - 1) e)
 
   set_among : (node : ℕ) → 0 < node → is_member_of s number node ≡ true → h.member node ≡ true
   set_among node pos e =
@@ -180,7 +176,7 @@ module _ (w : Pending) (s : State) (number : ℕ) (h : SetsTest w s) (j : IsJudg
   -- a set that is judged well passes its tests
   pub set_is_tested : IsTested w h.before h.member (is_member_of s number)
   set_is_tested = record {
-    passes = (h.seen, record { stands = set_stands; counted = set_counted });
+    passes = ((word_seen w.fields h.loads), record { stands = set_stands; counted = set_counted });
     among = set_among;
     unput = set_unput;
   }

@@ -23,7 +23,8 @@ use Rattle.rec_counts.specs.Slot.{absent, is_in}
 use Rattle.rec_counts.proofs.Times.{times-nil}
 use Rattle.rec_sigma.specs.declared.at.At.{At}
 use Rattle.rec_sigma.specs.Prepared.{KeepsOthers, Load, place_loaded, loaded_at}
-use Rattle.rec_world.specs.Cycles.{is_member, is_member_of, word_seen, SetsStand, SetsWait}
+use Rattle.rec_trial.specs.Loaded as trials
+use Rattle.rec_world.specs.Cycles.{is_member, is_member_of, word_loaded, word_seen, SetsStand, SetsWait}
 
 -- what stays over the moves before the next batch: how many fields there are,
 pub move_fields : {w v : Pending} → (m : Move w v) → IsAfterLoads m → v.fields ≡ w.fields
@@ -108,6 +109,10 @@ marked_moved {w} {v} member mark m after i alive t = record {
       omega (arith, t.blackened p z there pos is outside, move_replaced p z m after);
 }
 
+-- so does what was marked by these loads
+marks_moved : {w v : Pending} (member : ℕ → Bool) (marking : List trials.Load) (m : Move w v) → IsAfterLoads m → IsAccounted w → ((node : ℕ) → 0 < node → member node ≡ true → w.released node ≡ false) → IsMarked w member (word_loaded w.fields marking) → IsMarked v member (word_loaded v.fields marking)
+marks_moved {w} {v} member marking m after i alive h = subst (λ f. IsMarked v member (word_loaded f marking)) (sym (move_fields m after)) (marked_moved member (word_loaded w.fields marking) m after i alive h)
+
 -- the same members by another test
 pub marked_alike : {w : Pending} (member alike : ℕ → Bool) (mark : ℕ → ℕ) → ((node : ℕ) → 0 < node → alike node ≡ member node) → IsMarked w member mark → IsMarked w alike mark
 marked_alike {w} member alike mark e t = record {
@@ -121,18 +126,18 @@ same_members : (w : Pending) (s t : State) (mark : ℕ → ℕ) → t.sets ≡ s
 same_members w s t mark e = marked_alike (is_member s) (is_member t) mark (λ node _. ap (λ sets. ltb 0 (times (node - 1) (concat sets))) e)
 
 -- preparation begins with what the trial left
-pub sets_stand_begun : (w : Pending) (s t : State) (mark : ℕ → ℕ) → KeepsOthers s t → IsMarked w (is_member s) mark → SetsStand w t []
-sets_stand_begun w s t mark k marked = record {
-  mark = mark;
-  marked = same_members w s t mark k.sets marked;
+pub sets_stand_begun : (w : Pending) (s t : State) (marking : List trials.Load) → KeepsOthers s t → IsMarked w (is_member s) (word_loaded w.fields marking) → SetsStand w t []
+sets_stand_begun w s t marking k marked = record {
+  marking = marking;
+  marked = same_members w s t (word_loaded w.fields marking) k.sets marked;
   loaded = nothing_loaded w;
 }
 
 -- it goes on over the moves before the next batch
 pub sets_stand_moved : {w v : Pending} (s : State) (loads : List Load) (m : Move w v) → IsAfterLoads m → IsAccounted w → ((node : ℕ) → 0 < node → is_member s node ≡ true → w.released node ≡ false) → SetsStand w s loads → SetsStand v s loads
 sets_stand_moved {w} {v} s loads m after i alive h = record {
-  mark = h.mark;
-  marked = marked_moved (is_member s) h.mark m after i alive h.marked;
+  marking = h.marking;
+  marked = marks_moved (is_member s) h.marking m after i alive h.marked;
   loaded = subst (λ f. HasLoaded v (word_seen f loads)) (sym (move_fields m after)) (move_loaded (word_seen w.fields loads) m after i.epochs h.loaded);
 }
 
@@ -157,8 +162,8 @@ seen_more fields (m ∷ loads) l p = go (eqb p (place_loaded fields m)) (seen_mo
 pub sets_stand_loaded : (w : Pending) (s t : State) (loads : List Load) (a : At) → IsAccounted w → w.applied + 1 ≡ w.requested → place_of a.slot a.field w.fields < length w.words → KeepsOthers s t → SetsStand w s loads
     → SetsStand w t (loads ++ loaded_at (Some a) (word_in w (place_of a.slot a.field w.fields)))
 sets_stand_loaded w s t loads a i done within k h = record {
-  mark = h.mark;
-  marked = same_members w s t h.mark k.sets h.marked;
+  marking = h.marking;
+  marked = same_members w s t (word_loaded w.fields h.marking) k.sets h.marked;
   loaded = λ p z inside pos. elim (seen_more w.fields loads l p) [
     | inl e ↦ rw e (h.loaded p z inside pos)
     | inr e ↦ rw e (load_loaded w (word_seen w.fields loads) place i.epochs done within h.loaded p z inside pos)
@@ -174,14 +179,12 @@ sets_stand_loaded w s t loads a i done within k h = record {
 -- sets wait over the moves before the next batch
 pub sets_wait_moved : {w v : Pending} (s : State) (m : Move w v) → IsAfterLoads m → IsAccounted w → ((node : ℕ) → 0 < node → is_member s node ≡ true → w.released node ≡ false) → SetsWait w s → SetsWait v s
 sets_wait_moved {w} {v} s m after i alive h = record {
-  mark = h.mark;
-  marked = marked_moved (is_member s) h.mark m after i alive h.marked;
+  marking = h.marking;
+  marked = marks_moved (is_member s) h.marking m after i alive h.marked;
   loads = h.loads;
-  seen = h.seen;
-  are = λ p. h.are p ∙ ap (λ f. word_seen f h.loads p) (sym (move_fields m after));
-  loaded = move_loaded h.seen m after i.epochs h.loaded;
-  counted = λ number x is. subst (λ f. (slot_at s x).cyclic ≡ (slot_at s x).count - sum_at (seen_in f (is_member_of s number) h.seen (x + 1)) v.words) (sym (move_fields m after))
-      (omega (arith, h.counted number x is, move_weight (λ p. only_if (is_member_of s number (home w.fields p)) (one_if_same (x + 1) (node_of (h.seen p)))) m after));
+  loaded = subst (λ f. HasLoaded v (word_seen f h.loads)) (sym (move_fields m after)) (move_loaded (word_seen w.fields h.loads) m after i.epochs h.loaded);
+  counted = λ number x is. subst (λ f. (slot_at s x).cyclic ≡ (slot_at s x).count - sum_at (seen_in f (is_member_of s number) (word_seen f h.loads) (x + 1)) v.words) (sym (move_fields m after))
+      (omega (arith, h.counted number x is, move_weight (λ p. only_if (is_member_of s number (home w.fields p)) (one_if_same (x + 1) (node_of (word_seen w.fields h.loads p)))) m after));
 }
 
 -- None is not Some
@@ -228,11 +231,9 @@ keeps_set s t k x = go (slot_at s x).set refl
 -- sets wait while others change
 pub sets_wait_kept : (w : Pending) (s t : State) → KeepsMembers s t → SetsWait w s → SetsWait w t
 sets_wait_kept w s t k h = record {
-  mark = h.mark;
-  marked = same_members w s t h.mark k.sets h.marked;
+  marking = h.marking;
+  marked = same_members w s t (word_loaded w.fields h.marking) k.sets h.marked;
   loads = h.loads;
-  seen = h.seen;
-  are = h.are;
   loaded = h.loaded;
   counted = λ number x is.
       let was : (slot_at s x).set ≡ Some number = sym (keeps_set s t k x) ∙ is in
@@ -241,9 +242,9 @@ sets_wait_kept w s t k h = record {
       omega (arith, h.counted number x was, count, cyclic, same_sum number x);
 }
   where
-    same_sum : (number x : ℕ) → sum_at (seen_in w.fields (is_member_of t number) h.seen (x + 1)) w.words ≡ sum_at (seen_in w.fields (is_member_of s number) h.seen (x + 1)) w.words
-    same_sum number x = sum_at_same (seen_in w.fields (is_member_of t number) h.seen (x + 1)) (seen_in w.fields (is_member_of s number) h.seen (x + 1)) w.words
-        (λ p word. ap (λ o. only_if (is_in number o) (one_if_same (x + 1) (node_of (h.seen p)))) (keeps_set s t k (home w.fields p - 1)))
+    same_sum : (number x : ℕ) → sum_at (seen_in w.fields (is_member_of t number) (word_seen w.fields h.loads) (x + 1)) w.words ≡ sum_at (seen_in w.fields (is_member_of s number) (word_seen w.fields h.loads) (x + 1)) w.words
+    same_sum number x = sum_at_same (seen_in w.fields (is_member_of t number) (word_seen w.fields h.loads) (x + 1)) (seen_in w.fields (is_member_of s number) (word_seen w.fields h.loads) (x + 1)) w.words
+        (λ p word. ap (λ o. only_if (is_in number o) (one_if_same (x + 1) (node_of (word_seen w.fields h.loads p)))) (keeps_set s t k (home w.fields p - 1)))
 
 -- both at once, as a slot is swept
 pub sets_wait_swept : {w v : Pending} (s t : State) (m : Move w v) → IsAfterLoads m → IsAccounted w → ((node : ℕ) → 0 < node → is_member s node ≡ true → w.released node ≡ false) → KeepsMembers s t → SetsWait w s → SetsWait v t
@@ -252,15 +253,13 @@ sets_wait_swept {w} {v} s t m after i alive k h = sets_wait_kept v s t k (sets_w
 -- no sets wait
 pub sets_wait_none : (w : Pending) (s : State) → s.sets ≡ [] → ((x : ℕ) → (slot_at s x).set ≡ None) → SetsWait w s
 sets_wait_none w s empty none = record {
-  mark = λ p. 0;
+  marking = [];
   marked = record {
     stands = λ p z inside pos is. absurd (no_member z is);
     counted = λ z pos is. absurd (no_member z is);
     blackened = λ p z inside pos is out. absurd (no_member z is);
   };
   loads = [];
-  seen = λ p. 0;
-  are = λ p. refl;
   loaded = nothing_loaded w;
   counted = λ number x is. absurd (none_some (slot_at s x).set number (none x) is);
 }

@@ -13,9 +13,11 @@ pub mod CoreFreed
 pub mod CoreFreeing
 pub mod CoreLanded
 pub mod CoreLandings
+pub mod CoreLoads
 pub mod CoreMoves
 pub mod CoreOffering
 pub mod CoreOpening
+pub mod CoreOutside
 pub mod CorePreparing
 pub mod CoreReach
 pub mod CoreReleasing

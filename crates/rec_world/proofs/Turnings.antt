@@ -23,7 +23,7 @@ use Rattle.rec_collector.specs.Private as collectors
 use Rattle.rec_collector.specs.Private.{parts_of, with_parts}
 use Rattle.rec_collector.specs.Step.{IsBetween}
 use Rattle.rec_collector.specs.Testing.{tested, zeros_released}
-use Rattle.rec_collector.specs.Took.{batched, came, ended_if, moved, took_of, took_at, step_of, swapped_of, swapped_at, swept_phase}
+use Rattle.rec_collector.specs.Took.{batched, came, ended_if, left_at, left_of, moved, took_of, took_at, step_of, swapped_of, swapped_at, swept_phase}
 use Rattle.rec_collector.specs.declared.phase.Phase.{Phase}
 use Rattle.rec_collector.specs.declared.phase.Phase.TheVariants.{Idle, Looking, Swapping, Returning, Releasing, Freeing, Trying, Preparing, Opening, Sweeping, Closing}
 use Rattle.rec_collector.specs.declared.turn.Turn.{Turn}
@@ -32,7 +32,7 @@ use Rattle.rec_world.specs.declared.config.Config.{Config}
 use Rattle.rec_world.specs.Core.{Core, cells_of, box, crossing_of}
 use Rattle.rec_world.specs.CoreKept.{IsKept}
 use Rattle.rec_world.specs.CoreMoves.{looked_at, left_by, collected, turned, turned_at, turned_by}
-use Rattle.rec_world.specs.Mailbox.{held, gathered_from, mailbox_at}
+use Rattle.rec_world.specs.Mailbox.{held, mailbox_at}
 use Rattle.rec_world.specs.Memory.{Cells, cell, with_cell}
 use Rattle.rec_world.specs.World.{TurnHasCause}
 use Rattle.rec_world.proofs.Calls.{box_read}
@@ -109,10 +109,11 @@ followed_between w = at (tested (length w.counts.sets) w).release.at (tested (le
     at (Some a) None = tt
     at None None = tried_between (trial_started (tested (length w.counts.sets) w))
 
-came_between : (c : collectors.Private) (b : Contents) (n : Next) → IsBetween n.phase → gathered_from (came c n) b (came c n).phase ≡ b
+came_between : (c : collectors.Private) (b : Contents) (n : Next) → IsBetween n.phase → left_of (came c n) b ≡ b
+unfolding left_of left_at
 came_between c b n between = at n.phase between
   where
-    at : (phase : Phase) → IsBetween phase → (let d : collectors.Private = ended_if phase (moved (with_parts c n.parts) phase) in gathered_from d b d.phase) ≡ b
+    at : (phase : Phase) → IsBetween phase → (let d : collectors.Private = ended_if phase (moved (with_parts c n.parts) phase) in left_at d b d.phase) ≡ b
     at Idle between = refl
     at (Looking t) between = refl
     at (Swapping t) between = absurd between
@@ -126,25 +127,25 @@ came_between c b n between = at n.phase between
     at (Closing n) between = refl
 
 -- what the mailbox that was looked at holds after the turn, by phase
-gathers : (c : collectors.Private) (word : ℕ) (b : Contents) (phase : Phase) → c.phase ≡ phase → IsBetween phase → gathered_from (took_at c word phase) b (took_at c word phase).phase ≡ left_by c word b phase
-unfolding took_at
+gathers : (c : collectors.Private) (word : ℕ) (b : Contents) (phase : Phase) → c.phase ≡ phase → IsBetween phase → left_of (took_at c word phase) b ≡ left_by c word b phase
+unfolding took_at left_of left_at
 gathers c word b Idle is between = go (is_spent c)
   where
-    go : (spent : Bool) → (let d : collectors.Private = (if spent then c else record c { epoch = c.epoch + 1; phase = Looking 1; turns = c.turns + 1 }) in gathered_from d b d.phase) ≡ b
-    go true = ap (gathered_from c b) is
+    go : (spent : Bool) → (let d : collectors.Private = (if spent then c else record c { epoch = c.epoch + 1; phase = Looking 1; turns = c.turns + 1 }) in left_at d b d.phase) ≡ b
+    go true = ap (left_at c b) is
     go false = refl
 gathers c word b (Looking t) is between = go (word == crossing_word c.epoch 2)
   where
-    go : (held_ : Bool) → (let d : collectors.Private = (if held_ then record c { phase = Swapping t; turns = c.turns + 1 } else c) in gathered_from d b d.phase) ≡ (if held_ then collectors.spare c else b)
+    go : (held_ : Bool) → (let d : collectors.Private = (if held_ then record c { phase = Swapping t; turns = c.turns + 1 } else c) in left_at d b d.phase) ≡ (if held_ then collectors.spare c else b)
     go true = refl
-    go false = ap (gathered_from c b) is
+    go false = ap (left_at c b) is
 gathers c word b (Swapping t) is between = absurd between
 gathers c word b (Returning t) is between = go (t == length c.newer)
   where
     next : Next
     next = followed (zeros_released false (batched c))
 
-    go : (last : Bool) → (let d : collectors.Private = (if last then came c next else record c { phase = Looking (t + 1); turns = c.turns + 1 }) in gathered_from d b d.phase) ≡ b
+    go : (last : Bool) → (let d : collectors.Private = (if last then came c next else record c { phase = Looking (t + 1); turns = c.turns + 1 }) in left_at d b d.phase) ≡ b
     go true = came_between c b next (followed_between (zeros_released false (batched c)))
     go false = refl
 gathers c word b Releasing is between = came_between c b (followed (with_released (parts_of c) word)) (followed_between (with_released (parts_of c) word))
@@ -154,12 +155,12 @@ gathers c word b Preparing is between = came_between c b (prepared (with_loaded 
 gathers c word b Opening is between = refl
 gathers c word b (Sweeping n) is between = go _
   where
-    go : (x : Option ℕ) → gathered_from c b (swept_phase (n + 1) x) ≡ b
+    go : (x : Option ℕ) → left_at c b (swept_phase (n + 1) x) ≡ b
     go None = refl
     go (Some x) = refl
 gathers c word b (Closing n) is between = refl
 
-pub gathers_so : (c : collectors.Private) (word : ℕ) (b : Contents) → IsBetween c.phase → gathered_from (took_of c word) b (took_of c word).phase ≡ left_by c word b c.phase
+pub gathers_so : (c : collectors.Private) (word : ℕ) (b : Contents) → IsBetween c.phase → left_of (took_of c word) b ≡ left_by c word b c.phase
 unfolding took_of
 gathers_so c word b between = gathers c word b c.phase refl between
 
@@ -168,7 +169,7 @@ pub turned_is : (w : Core) (boxes : List (Option Contents)) (op : Op) (found i :
     → IsBetween w.collector.phase → w.boxes ≡ map held boxes → looked_at w.collector.phase - 1 < length boxes
     → ◌≡◌ {A = Option Op} (next_of w.collector) (Some op) → i ≡ mailbox_at op → mailbox ≡ slice_index_or boxes (i - 1) mailbox
     → found ≡ cell (cells_of w) op → cells ≡ with_cell (cells_of w) op (written op found)
-    → taken ≡ took_of w.collector found → new ≡ swapped_of taken (held mailbox) → left ≡ Some (gathered_from taken (held mailbox) taken.phase)
+    → taken ≡ took_of w.collector found → new ≡ swapped_of taken (held mailbox) → left ≡ Some (left_of taken (held mailbox))
     → ◌≡◌ {A = Core} (record w { headers = cells.headers; words = cells.words; epoch = cells.epoch; freed = cells.freed; crossing = cells.crossing; boxes = map held (slice_set boxes (i - 1) left); collector = new }) (turned w)
 unfolding next_of step_of
 turned_is w boxes op found i mailbox left taken new cells between same there named at its_box finds leaves learns swaps gives =
@@ -180,7 +181,7 @@ turned_is w boxes op found i mailbox left taken new cells between same there nam
     let was : held mailbox ≡ box w t = box_read boxes t i mailbox number there its_box ∙ ap (λ (bs : List Contents). slice_index_or bs (t - 1) (collectors.blank 0 0)) (sym same) in
     let its_new : new ≡ step_of c found (box w t) = swaps ∙ ap (λ x. swapped_of x (held mailbox)) learns ∙ ap (swapped_of (took_of c found)) was in
     let its_left : left ≡ Some (left_by c found (box w t) c.phase)
-    = gives ∙ ap (λ (x : collectors.Private). Some (gathered_from x (held mailbox) x.phase)) learns ∙ ap (λ b. Some (gathered_from (took_of c found) b (took_of c found).phase)) was ∙ ap (λ b. Some b) (gathers_so c found (box w t) between) in
+    = gives ∙ ap (λ (x : collectors.Private). Some (left_of x (held mailbox))) learns ∙ ap (λ b. Some (left_of (took_of c found) b)) was ∙ ap (λ b. Some b) (gathers_so c found (box w t) between) in
     let boxed : map held (slice_set boxes (i - 1) left) ≡ slice_set w.boxes (t - 1) (left_by c found (box w t) c.phase)
     = ap (λ n. map held (slice_set boxes (n - 1) left)) number ∙ ap (λ x. map held (slice_set boxes (t - 1) x)) its_left ∙ map-set held boxes (t - 1) (Some (left_by c found (box w t) c.phase))
     ∙ ap (λ bs. slice_set bs (t - 1) (left_by c found (box w t) c.phase)) (sym same) in

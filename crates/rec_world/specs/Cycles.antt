@@ -43,23 +43,22 @@ pub record TrialStands (w : Pending) (r : Run) : Type 0 where
   pub blacks : (place node : ℕ) → place < length w.words → 0 < node → 0 < loaded (place / w.fields) (place % w.fields) r.blackening
       → one_if_same node (node_of (word_loaded w.fields r.marking place)) ≤ closed_at w (w.applied + 1) place node + one_if_same node (node_of (word_loaded w.fields r.blackening place))
 
--- Sets are prepared, and these fields were loaded for it: the trial's members are what a trial leaves, and each word that was
--- loaded is a reference of the next batch's epoch.
+-- Sets are prepared, and these fields were loaded for it: the trial's members are what a trial leaves that marked with such loads, and
+-- each word that was loaded for the preparation is a reference of the next batch's epoch.
 pub record SetsStand (w : Pending) (s : State) (loads : List prepared.Load) : Type 0 where
-  pub mark : ℕ → ℕ
-  pub marked : IsMarked w (is_member s) mark
+  pub marking : List Load
+  pub marked : IsMarked w (is_member s) (word_loaded w.fields marking)
   pub loaded : HasLoaded w (word_seen w.fields loads)
 
 -- Sets wait for the next batch. Each word that preparation saw is a reference of that batch's epoch; and the cyclic count of a member is
 -- its outside count: its true count, less the words seen in fields of its own set's members that lead to it.
 pub record SetsWait (w : Pending) (s : State) : Type 0 where
-  pub mark : ℕ → ℕ
-  pub marked : IsMarked w (is_member s) mark
+  pub marking : List Load
+  pub marked : IsMarked w (is_member s) (word_loaded w.fields marking)
   pub loads : List prepared.Load
-  pub seen : ℕ → ℕ
-  pub are : (place : ℕ) → seen place ≡ word_seen w.fields loads place
-  pub loaded : HasLoaded w seen
-  pub counted : (number x : ℕ) → (slot_at s x).set ≡ Some number → (slot_at s x).cyclic ≡ (slot_at s x).count - sum_at (seen_in w.fields (is_member_of s number) seen (x + 1)) w.words
+  pub loaded : HasLoaded w (word_seen w.fields loads)
+  pub counted : (number x : ℕ) → (slot_at s x).set ≡ Some number
+      → (slot_at s x).cyclic ≡ (slot_at s x).count - sum_at (seen_in w.fields (is_member_of s number) (word_seen w.fields loads) (x + 1)) w.words
 
 -- Sets are tested, after the batch that made an earlier state of what was pending before it. So it is still of each member that
 -- is Orange; and no write of the batch's epoch put a word that leads to one.
@@ -69,9 +68,7 @@ pub record SetsTest (w : Pending) (s : State) : Type 0 where
   pub testing : IsTesting w before member
   pub among : (x : ℕ) → 0 < times x (concat s.sets) → member (x + 1) ≡ true
   pub loads : List prepared.Load
-  pub seen : ℕ → ℕ
-  pub are : (place : ℕ) → seen place ≡ word_seen w.fields loads place
-  pub loaded : HasLoaded before seen
+  pub loaded : HasLoaded before (word_seen w.fields loads)
   pub counted : (number x : ℕ) → (slot_at s x).set ≡ Some number → (slot_at s x).colour ≡ Orange → (slot_at s x).released ≡ false
-      → (slot_at s x).cyclic ≡ (slot_at s x).count - sum_at (seen_in w.fields (is_member_of s number) seen (x + 1)) w.words
+      → (slot_at s x).cyclic ≡ (slot_at s x).count - sum_at (seen_in w.fields (is_member_of s number) (word_seen w.fields loads) (x + 1)) w.words
   pub unput : (x : ℕ) → (slot_at s x).colour ≡ Orange → sum_by (puts_in (before.applied + 1) (x + 1)) before.writes ≡ 0

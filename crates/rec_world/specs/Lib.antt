@@ -4,6 +4,7 @@ pub mod CoreAsked
 pub mod CoreCycles
 pub mod CoreFreed
 pub mod CoreKept
+pub mod CoreLoads
 pub mod CoreMet
 pub mod CoreMoves
 pub mod CorePending

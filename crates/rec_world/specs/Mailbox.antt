@@ -3,19 +3,12 @@ use Rattle.std.specs.Prelude.{ℕ, Option, None, Some}
 use Rattle.rec_word.specs.declared.op.Op.{Op}
 use Rattle.rec_word.specs.declared.op.Op.TheVariants.{LookBox}
 use Rattle.rec_log.specs.declared.contents.Contents.{Contents}
-use Rattle.rec_collector.specs.Private.{Private, blank, spare}
-use Rattle.rec_collector.specs.declared.phase.Phase.{Phase}
-use Rattle.rec_collector.specs.declared.phase.Phase.TheVariants.{Swapping}
+use Rattle.rec_collector.specs.Private.{blank}
 
 -- the buffer in a mailbox that is home
 abbrev pub held : Option Contents → Contents
 held (Some b) = b
 held None = blank 0 0
-
--- what a mailbox holds once the collector swapped its buffer, by phase: a spare, where it held it
-abbrev pub gathered_from : Private → Contents → Phase → Contents
-gathered_from c b (Swapping t) = spare c
-gathered_from c b _ = b
 
 -- whose mailbox an operation of the collector takes; the first mutator's where it takes none
 abbrev pub mailbox_at : Op → ℕ

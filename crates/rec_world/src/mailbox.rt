@@ -3,10 +3,10 @@
 ghost use Rattle.std.specs.Prelude.{◌≡◌, Some, All, length, replicate, IsSome, IfOk};
 ghost use Rattle.rec_mutator.specs.Took.{spare, swapped_of, left_of, IsSwapping};
 ghost use Rattle.rec_collector.specs.Given.{IsSized};
-ghost use Rattle.rec_collector.specs.Took.{swapped_of as gathered_of};
+ghost use Rattle.rec_collector.specs.Took.{left_of as left_for, swapped_of as gathered_of};
 ghost use Rattle.rec_world.specs.Config.{IsConfig};
 ghost use Rattle.rec_world.specs.Core.{spare_of};
-ghost use Rattle.rec_world.specs.Mailbox.{held, gathered_from, mailbox_at};
+ghost use Rattle.rec_world.specs.Mailbox.{held, mailbox_at};
 
 use crate::Config;
 use rec_collector::Machine as Collector;
@@ -59,7 +59,7 @@ pub fn swap_gathered(collector: &mut Collector, mailbox: &mut Option<Buffer>)
     requires sized { IsSized collector.old.registers collector.old.capacity (held mailbox.old) }
 
     ensures collector { collector.new ≡ gathered_of collector.old (held mailbox.old) }
-    ensures mailbox { mailbox.new ≡ Some (gathered_from collector.old (held mailbox.old) collector.old.phase) }
+    ensures mailbox { mailbox.new ≡ Some (left_for collector.old (held mailbox.old)) }
 {
     if collector.is_swapping() {
         if let Some(buffer) = mailbox.take() {

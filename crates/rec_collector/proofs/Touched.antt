@@ -1,0 +1,332 @@
+-- A step leaves an orange member as it was, or lowers it, and names it nowhere.
+use Rattle.std.proofs.Common.{◌≡◌, ◌≢◌, ◌⊎◌, ℕ, ◌+◌, ◌-◌, ◌<◌, ◌==◌, ◌&&◌, not, Bool, true, false, eqb, Option, None, Some, IfSome, List, [], ◌∷◌, length, flat_map, refl, sym, ap, subst, ◌∙◌, arith, inl, inr}
+use Rattle.std.proofs.lemmas.Bool.{cases_eq, cases_lt, cond-true, cond-false, eq-eqb, ne_eqb}
+use Rattle.std.proofs.lemmas.Bool.Decides.{eqb_tells}
+use Rattle.std.proofs.lemmas.List.{get_or_past}
+use Rattle.rec_word.specs.Word.{target_of}
+use Rattle.rec_word.specs.declared.op.Op.{Op}
+use Rattle.rec_log.specs.declared.contents.Contents.{Contents}
+use Rattle.rec_apply.specs.Batch.{all_up, batch, down_targets, up_targets}
+use Rattle.rec_apply.specs.Targets.{added, is_slot, taken}
+use Rattle.rec_apply.proofs.Resting.{rest_all_down, rest_all_up}
+use Rattle.rec_counts.specs.declared.colour.Colour.TheVariants.{Orange}
+use Rattle.rec_counts.specs.declared.slot.Slot.{Slot}
+use Rattle.rec_counts.specs.Counts.{State, slot_at}
+use Rattle.rec_counts.specs.Lists.{one}
+use Rattle.rec_counts.specs.Slot.{absent}
+use Rattle.rec_release.specs.CycleFree as frees
+use Rattle.rec_release.specs.Release as releases
+use Rattle.rec_release.specs.Release.{emptied, listed_if, without_first}
+use Rattle.rec_release.specs.Sweep as sweeps
+use Rattle.rec_release.specs.TakenOff.{down_if, IsApart, is_lowered, taken_off}
+use Rattle.rec_release.specs.declared.at.At.{At}
+use Rattle.rec_release.specs.declared.member.Member.{Member}
+use Rattle.rec_sigma.specs.Prepared.{Load}
+use Rattle.rec_collector.specs.Followed.{prep_started, relieved, with_freed, with_loaded, with_released, with_tried}
+use Rattle.rec_collector.specs.Given.{IsGiven, IsGivenAt}
+use Rattle.rec_collector.specs.Kept.{IsAt, IsAtRest, IsMachine, NoneReleased, under_way}
+use Rattle.rec_collector.specs.Outside.{HasSets, IsOutside}
+use Rattle.rec_collector.specs.Parts.{Parts}
+use Rattle.rec_collector.specs.Private.{Private, parts_of, with_parts}
+use Rattle.rec_collector.specs.Step.{Step, GoesOn, Ends, PreparesOn, TriesOn, ClearsOn, IsNext, IsTested, IsBetween}
+use Rattle.rec_collector.specs.Testing.{zeros_released}
+use Rattle.rec_collector.specs.Took.{step_of, turn_of}
+use Rattle.rec_collector.specs.Next.{next_of}
+use Rattle.rec_collector.specs.Touched.{decrements, IsOrangeIn, named_at, named_by, tried_at, WasUntouched}
+use Rattle.rec_collector.specs.declared.phase.Phase.{Phase}
+use Rattle.rec_collector.specs.declared.phase.Phase.TheVariants.{Idle, Looking, Swapping, Returning, Releasing, Freeing, Trying, Preparing, Opening, Sweeping, Closing}
+use Rattle.rec_collector.specs.declared.turn.Turn.{Turn}
+use Rattle.rec_collector.proofs.Goings.{freed_by, freed_off, none_some, relieved_by, released_by, released_off}
+use Rattle.rec_collector.proofs.Outside.{Lowers, first_lowers, given_lowers, off_lowers, refurbished_lowers, same_lowers, swept_lowers}
+use Rattle.rec_collector.proofs.Steps.{step_made}
+use Rattle.rec_collector.proofs.Touching.{batch_same, down_names}
+use Rattle.rec_collector.proofs.Landing.{now_at}
+
+-- each orange member was one before, and was named so often, which is nowhere
+abbrev Spares : State → State → (x named : ℕ) → Type 0
+Spares s t x named = (number : ℕ) → IsOrangeIn t number x → WasUntouched s t number x named
+
+lowers_spares : (s t : State) (x : ℕ) → Lowers s t → Spares s t x 0
+lowers_spares s t x l number o = let m = l number x o.0 o.1 in record { orange = (m.set, m.colour); lowered = m.by; count = m.count; cyclic = m.cyclic; unnamed = refl }
+
+-- one after the other
+pub untouched_on : {s t u : State} {number x m n : ℕ} (k : ℕ) → WasUntouched s t number x m → WasUntouched t u number x n → k ≡ m + n → WasUntouched s u number x k
+untouched_on k first second e = record {
+  orange = first.orange;
+  lowered = first.lowered + second.lowered;
+  count = omega (arith, first.count, second.count);
+  cyclic = omega (arith, first.cyclic, second.cyclic);
+  unnamed = omega (arith, e, first.unnamed, second.unnamed);
+}
+
+-- where nothing happens
+pub untouched_same : {s : State} {number x : ℕ} → IsOrangeIn s number x → WasUntouched s s number x 0
+untouched_same o = record { orange = o; lowered = 0; count = omega arith; cyclic = omega arith; unnamed = refl }
+
+spares_on : (s t u : State) (x m n k : ℕ) → Spares s t x m → Spares t u x n → k ≡ m + n → Spares s u x k
+spares_on s t u x m n k a b e number o = let second = b number o in untouched_on k (a number second.orange) second e
+
+same_spares : (s t : State) (x : ℕ) → t ≡ s → Spares s t x 0
+same_spares s t x e number o = subst (λ u. WasUntouched s u number x 0) (sym e) (untouched_same (subst (λ u. IsOrangeIn u number x) e o))
+
+-- a decrement takes the colour from its target
+off_spares : (lowers : Bool) (s : State) (target : Option ℕ) (x : ℕ) → IsApart s → IfSome target (λ y. 0 < (slot_at s y).count) → Spares s (taken_off lowers s target) x (decrements lowers s target x)
+off_spares lowers s None x a h number o = lowers_spares s s x (same_lowers s s (λ y. refl)) number o
+off_spares lowers s (Some y) x a h number o =
+    let m = off_lowers lowers s (Some y) a h number x o.0 o.1 in
+    record { orange = (m.set, m.colour); lowered = m.by; count = m.count; cyclic = m.cyclic; unnamed = go (x == y) (is_lowered lowers (slot_at s x).colour) refl refl m.colour }
+  where
+    go : (b l : Bool) → (x == y) ≡ b → is_lowered lowers (slot_at s x).colour ≡ l → (slot_at s x).colour ≡ Orange → one (b && not l) ≡ 0
+    go false l e f c = refl
+    go true true e f c = refl
+    go true false e f c =
+        let here : y ≡ x = elim (eqb_tells x y) [ inl q ↦ sym q.1 | inr q ↦ let n : true ≡ false = sym e ∙ q.0 in absurd (cc) ] in
+        let plain : is_lowered lowers (slot_at s y).colour ≡ false = ap (λ z. is_lowered lowers (slot_at s z).colour) here ∙ f in
+        let down : taken_off lowers s (Some y) ≡ down_if false s y = ap (λ b. down_if b s y) plain in
+        absurd ((down_names s (Some y) x (a x c).unreleased).lost e (ap (λ t. (slot_at t x).colour) (sym down) ∙ o.1))
+
+-- an emptied slot goes to the free list
+emptied_same : (b : Bool) (s : State) (y x : ℕ) → slot_at (listed_if b s y) x ≡ slot_at s x
+emptied_same true s y x = refl
+emptied_same false s y x = refl
+
+-- a word came out of a field of a released slot
+released_spares : (w : Parts) (word x : ℕ) → IsApart w.counts → IfSome (target_of word) (λ y. 0 < (slot_at w.counts y).count) → Spares w.counts (with_released w word).counts x (decrements w.release.lowers w.counts (target_of word) x) ⊎ (w.release.at ≡ None)
+released_spares w word x a h = released_by (λ v. Spares w.counts v.counts x (decrements w.release.lowers w.counts (target_of word) x) ⊎ (w.release.at ≡ None)) w word
+    (λ e. inr e)
+    (λ at e l. inl off)
+    (λ at e l.
+        let t : State = emptied (released_off w word) at.slot in
+        inl (spares_on w.counts t (without_first t.zeros t) x (decrements w.release.lowers w.counts (target_of word) x) 0 (decrements w.release.lowers w.counts (target_of word) x)
+            (spares_on w.counts (released_off w word) t x (decrements w.release.lowers w.counts (target_of word) x) 0 (decrements w.release.lowers w.counts (target_of word) x) off
+                (lowers_spares (released_off w word) t x (same_lowers (released_off w word) t (emptied_same (slot_at (released_off w word) at.slot).buffered (released_off w word) at.slot))) (omega arith))
+            (lowers_spares t (without_first t.zeros t) x (first_lowers t.zeros t)) (omega arith)))
+  where
+    off : Spares w.counts (released_off w word) x (decrements w.release.lowers w.counts (target_of word) x)
+    off = off_spares w.release.lowers w.counts (target_of word) x a h
+
+-- the zeros are to be released
+zeros_spares : (lowers : Bool) (w : Parts) (x : ℕ) → Spares w.counts (zeros_released lowers w).counts x 0
+unfolding releases.started_of
+zeros_spares lowers w x = lowers_spares w.counts (without_first w.counts.zeros w.counts) x (first_lowers w.counts.zeros w.counts)
+
+-- a word came out of a field of a member of the set that is freed
+freed_spares : (w : Parts) (word x : ℕ) → IsApart w.counts → IfSome (target_of word) (λ y. 0 < (slot_at w.counts y).count) → Spares w.counts (with_freed w word).counts x (decrements true w.counts (target_of word) x) ⊎ (w.freeing.at ≡ None)
+freed_spares w word x a h = freed_by (λ v. Spares w.counts v.counts x (decrements true w.counts (target_of word) x) ⊎ (w.freeing.at ≡ None)) w word
+    (λ e. inr e)
+    (λ at e l. inl off)
+    (λ at e l m. inl off)
+    (λ at e l m. inl (spares_on w.counts (freed_off w word) (frees.listed (freed_off w word)) x (decrements true w.counts (target_of word) x) 0 (decrements true w.counts (target_of word) x) off
+        (lowers_spares (freed_off w word) (frees.listed (freed_off w word)) x (same_lowers (freed_off w word) (frees.listed (freed_off w word)) (λ y. refl))) (omega arith)))
+  where
+    off : Spares w.counts (freed_off w word) x (decrements true w.counts (target_of word) x)
+    off = off_spares true w.counts (target_of word) x a h
+
+relieved_spares : (w : Parts) (x : ℕ) → Spares w.counts (relieved w).counts x 0
+relieved_spares w x = relieved_by (λ v. Spares w.counts v.counts x 0) w (λ e. zeros_spares true w x) (λ m e. lowers_spares w.counts w.counts x (same_lowers w.counts w.counts (λ y. refl)))
+
+-- the last set is tested
+tested_spares : (w v : Parts) (x : ℕ) → IsTested w v → Spares w.counts v.counts x 0
+unfolding frees.started_of
+tested_spares w v x (IsTested.passes orange none is) = subst (λ (u : Parts). Spares w.counts u.counts x 0) (sym is) (lowers_spares w.counts (frees.given_up w.counts) x (given_lowers w.counts))
+tested_spares w v x (IsTested.fails_delta s not last is) = subst (λ (u : Parts). Spares w.counts u.counts x 0) (sym is) (spares_on w.counts s (zeros_released true (record w { counts = s })).counts x 0 0 0 (lowers_spares w.counts s x (refurbished_lowers w.counts s last)) (zeros_spares true (record w { counts = s }) x) (omega arith))
+tested_spares w v x (IsTested.fails_sigma s orange some last is) = subst (λ (u : Parts). Spares w.counts u.counts x 0) (sym is) (spares_on w.counts s (zeros_released true (record w { counts = s })).counts x 0 0 0 (lowers_spares w.counts s x (refurbished_lowers w.counts s last)) (zeros_spares true (record w { counts = s }) x) (omega arith))
+
+-- where a trial begins, its sets are of the requested epoch
+prepares_late : (p q : Private) (w : Parts) (turn : Turn) → PreparesOn p w q turn → tried_at q.epoch q.phase ≡ p.epoch
+prepares_late p q w turn (PreparesOn.more busy g) = ap (λ (r : Private). tried_at r.epoch r.phase) g.after
+prepares_late p q w turn (PreparesOn.sweeps_next done some g) = ap (λ (r : Private). tried_at r.epoch r.phase) g.after
+prepares_late p q w turn (PreparesOn.completes done none e) = ap (λ (r : Private). tried_at r.epoch r.phase) e.after
+
+tries_late : (p q : Private) (w : Parts) (turn : Turn) → TriesOn p w q turn → tried_at q.epoch q.phase ≡ p.epoch
+tries_late p q w turn (TriesOn.more busy g) = ap (λ (r : Private). tried_at r.epoch r.phase) g.after
+tries_late p q w turn (TriesOn.prepares done on) = prepares_late p q _ turn on
+
+-- what follows a release or the freeing of a set, up to the next trial
+clears_spare : (p q : Private) (turn : Turn) (x : ℕ) {w : Parts} → ClearsOn p q turn w → (tried_at q.epoch q.phase ≡ p.epoch → ⊥) → Spares w.counts q.counts x 0
+clears_spare p q turn x {w} (ClearsOn.frees_on busy g) early = same_spares w.counts q.counts x (ap (λ (r : Private). r.counts) g.after)
+clears_spare p q turn x {w} (ClearsOn.releases_on unfreed busy g) early = same_spares w.counts q.counts x (ap (λ (r : Private). r.counts) g.after)
+clears_spare p q turn x {w} (ClearsOn.tests v unfreed still some tested on) early = spares_on w.counts v.counts q.counts x 0 0 0 (tested_spares w v x tested) (clears_spare p q turn x on early) (omega arith)
+clears_spare p q turn x (ClearsOn.tries unfreed still none on) early = absurd (early (tries_late p q _ turn on))
+
+-- at rest no member is released
+rest_unreleased : (p : Private) (number x : ℕ) → IsAtRest p → (slot_at p.counts x).set ≡ Some number → (slot_at p.counts x).released ≡ false
+rest_unreleased p number x r is = elim (cases_lt x (length p.counts.slots)) [
+  | inl below ↦ r.none x below
+  | inr past ↦ let none : None ≡ Some number = ap (λ (v : Slot). v.set) (sym (get_or_past p.counts.slots x absent past)) ∙ is in absurd (cc)
+]
+
+-- a batch changes no sets
+batch_sets : (s : State) (newer older : List Contents) (x : ℕ) → (slot_at (batch s newer older) x).set ≡ (slot_at s x).set
+batch_sets s newer older x = (rest_all_down (all_up s (flat_map up_targets newer)) (flat_map down_targets older)).set x ∙ (rest_all_up s (flat_map up_targets newer)).set x
+
+batched_spares : (p : Private) (x : ℕ) → IsAtRest p → Spares p.counts (batch p.counts p.newer p.older) x (added x p.newer + taken x p.older)
+batched_spares p x r number o =
+    let was : (slot_at p.counts x).set ≡ Some number = sym (batch_sets p.counts p.newer p.older x) ∙ o.0 in
+    let b = batch_same p.counts p.newer p.older x (rest_unreleased p number x r was) o.1 in
+    record {
+      orange = (was, ap (λ (v : Slot). v.colour) (sym b.0) ∙ o.1);
+      lowered = 0;
+      count = omega (arith, ap (λ (v : Slot). v.count) b.0);
+      cyclic = omega (arith, ap (λ (v : Slot). v.cyclic) b.0);
+      unnamed = b.1;
+    }
+
+counts_started : (p : Private) → (sweeps.started_of p.counts).counts ≡ p.counts
+unfolding sweeps.started_of
+counts_started p = refl
+
+module _ (p q : Private) (word x : ℕ) (turn : Turn) (k : IsMachine p) (same : tried_at q.epoch q.phase ≡ tried_at p.epoch p.phase) where
+  -- in a collection that has still to make its trial, none begins
+  early : under_way p.phase ≡ 1 → tried_at p.epoch p.phase ≡ p.epoch - 1 → tried_at q.epoch q.phase ≡ p.epoch → ⊥
+  early way was late = omega (arith, k.collections, way, was, late, same)
+
+  named_as : {phase : Phase} → p.phase ≡ phase → named_by p word x ≡ named_at p word x phase
+  named_as e = ap (named_at p word x) e
+
+  goes_spare : {r : Private} {next : Phase} → r.counts ≡ p.counts → GoesOn r q turn next → named_by p word x ≡ 0 → Spares p.counts q.counts x (named_by p word x)
+  goes_spare e g none = subst (Spares p.counts q.counts x) (sym none) (same_spares p.counts q.counts x (ap (λ (r : Private). r.counts) g.after ∙ e))
+
+  step_spares : {box : Contents} {op : Option Op} → IsGiven p word → HasSets p.phase → Step p word box op q turn → Spares p.counts q.counts x (named_by p word x)
+  unfolding IsGiven IsGivenAt sweeps.took_of
+  step_spares given has (Step.spent at last none is t) = subst (Spares p.counts q.counts x) (sym (named_as at)) (same_spares p.counts q.counts x (ap (λ (r : Private). r.counts) is))
+  step_spares given has (Step.request at more is g) = goes_spare refl g (named_as at)
+  step_spares given has (Step.wait t at other is same_as turned) = subst (Spares p.counts q.counts x) (sym (named_as at)) (same_spares p.counts q.counts x (ap (λ (r : Private). r.counts) same_as))
+  step_spares given has (Step.gather t at crossed is g) = goes_spare refl g (named_as at)
+  step_spares given has (Step.give_back t at other is g) = goes_spare refl g (named_as at ∙ cond-false (t == length p.newer) (added x p.newer + taken x p.older) 0 (ne_eqb t (length p.newer) other))
+  step_spares given has (Step.apply t at last is on) =
+      let w : Parts = record (parts_of p) { counts = batch p.counts p.newer p.older } in
+      let n : named_by p word x ≡ added x p.newer + taken x p.older = named_as at ∙ cond-true (t == length p.newer) (added x p.newer + taken x p.older) 0 (eq-eqb t (length p.newer) last) in
+      let rest = (now_at p (Returning t) k at).rest in
+      spares_on p.counts w.counts q.counts x (added x p.newer + taken x p.older) 0 (named_by p word x) (batched_spares p x rest)
+      (spares_on w.counts (zeros_released false w).counts q.counts x 0 0 0 (zeros_spares false w x) (clears_spare p q turn x on (early (ap under_way at) (ap (tried_at p.epoch) at))) (omega arith)) (omega (arith, n))
+  step_spares given has (Step.release at is on) =
+      let w : Parts = with_released (parts_of p) word in
+      let now = now_at p Releasing k at in
+      let h : IfSome (target_of word) (λ y. 0 < (slot_at p.counts y).count) = subst (IsGivenAt p word) at given in
+      let c = clears_spare p q turn x on (early (ap under_way at) (ap (tried_at p.epoch) at)) in
+      elim (released_spares (parts_of p) word x now.0.clearing.apart h) [
+        | inl s ↦ spares_on p.counts w.counts q.counts x (decrements p.release.lowers p.counts (target_of word) x) 0 (named_by p word x) s c (omega (arith, named_as at))
+        | inr none ↦ none_some p.release.at none now.1
+      ]
+  step_spares given has (Step.freeing at is on) =
+      let v : Parts = with_freed (parts_of p) word in
+      let w : Parts = relieved v in
+      let now = now_at p Freeing k at in
+      let h : IfSome (target_of word) (λ y. 0 < (slot_at p.counts y).count) = subst (IsGivenAt p word) at given in
+      let c = clears_spare p q turn x on (early (ap under_way at) (ap (tried_at p.epoch) at)) in
+      elim (freed_spares (parts_of p) word x now.0.clearing.apart h) [
+        | inl s ↦ spares_on p.counts w.counts q.counts x (decrements true p.counts (target_of word) x) 0 (named_by p word x) (spares_on p.counts v.counts w.counts x (decrements true p.counts (target_of word) x) 0 (decrements true p.counts (target_of word) x) s (relieved_spares v x) (omega arith)) c (omega (arith, named_as at))
+        | inr none ↦ none_some p.freeing.at none now.1
+      ]
+  step_spares given has (Step.trial at is on) = absurd (subst HasSets at has)
+  step_spares given has (Step.preparation at is on) = absurd (subst HasSets at has)
+  step_spares given has (Step.begin_sweep at is g) = goes_spare (counts_started p) g (named_as at)
+  step_spares given has (Step.sweep swept u next at is took follows g) =
+      let counts : q.counts ≡ u.counts = ap (λ (r : Private). r.counts) g.after in
+      subst (Spares p.counts q.counts x) (sym (named_as at)) (subst (λ t. Spares p.counts t x 0) (sym (counts ∙ ap (λ (v : sweeps.Work). v.counts) took)) (sweeps_spare p.due))
+    where
+      sweeps_spare : (due : Option ℕ) → Spares p.counts (sweeps.took_at (record { due = p.due; counts = p.counts }) due).counts x 0
+      sweeps_spare None = lowers_spares p.counts p.counts x (same_lowers p.counts p.counts (λ y. refl))
+      sweeps_spare (Some z) = lowers_spares p.counts (sweeps.swept p.counts z) x (swept_lowers p.counts z)
+  step_spares given has (Step.end_sweep swept at is e) = subst (Spares p.counts q.counts x) (sym (named_as at)) (same_spares p.counts q.counts x (ap (λ (r : Private). r.counts) e.after))
+
+-- what a step leaves of an orange member, up to the next trial
+pub untouched : (p : Private) (word : ℕ) (box : Contents) (number x : ℕ) → IsMachine p → IsBetween p.phase → IsGiven p word → HasSets p.phase → tried_at (step_of p word box).epoch (step_of p word box).phase ≡ tried_at p.epoch p.phase
+    → IsOrangeIn (step_of p word box).counts number x → WasUntouched p.counts (step_of p word box).counts number x (named_by p word x)
+untouched p word box number x k between given has same o = step_spares p (step_of p word box) word x (turn_of p word) k same given has (step_made p word box k between given) number o
+
+-- what follows a release or the freeing of a set has sets still, up to the next trial
+clears_has : (p q : Private) (turn : Turn) {w : Parts} → ClearsOn p q turn w → (tried_at q.epoch q.phase ≡ p.epoch → ⊥) → HasSets q.phase
+clears_has p q turn (ClearsOn.frees_on busy g) early = subst HasSets (sym (ap (λ (r : Private). r.phase) g.after)) tt
+clears_has p q turn (ClearsOn.releases_on unfreed busy g) early = subst HasSets (sym (ap (λ (r : Private). r.phase) g.after)) tt
+clears_has p q turn (ClearsOn.tests v unfreed still some tested on) early = clears_has p q turn on early
+clears_has p q turn (ClearsOn.tries unfreed still none on) early = absurd (early (tries_late p q _ turn on))
+
+goes_has : {p q : Private} {turn : Turn} {next : Phase} → GoesOn p q turn next → HasSets next → HasSets q.phase
+goes_has g has = subst HasSets (sym (ap (λ (r : Private). r.phase) g.after)) has
+
+swept_has : {swept : ℕ} {w : sweeps.Work} {next : Phase} → IsNext swept w next → HasSets next
+swept_has (IsNext.more busy is) = subst HasSets (sym is) tt
+swept_has (IsNext.last done is) = subst HasSets (sym is) tt
+
+-- so does every step up to the next trial
+step_has : (p q : Private) (word : ℕ) (box : Contents) (op : Option Op) (turn : Turn) → IsMachine p → tried_at q.epoch q.phase ≡ tried_at p.epoch p.phase → HasSets p.phase → Step p word box op q turn → HasSets q.phase
+step_has p q word box op turn k same has (Step.spent at last none is t) = subst (λ (r : Private). HasSets r.phase) (sym is) has
+step_has p q word box op turn k same has (Step.request at more is g) = goes_has g tt
+step_has p q word box op turn k same has (Step.wait t at other is kept turned) = subst (λ (r : Private). HasSets r.phase) (sym kept) has
+step_has p q word box op turn k same has (Step.gather t at crossed is g) = goes_has g tt
+step_has p q word box op turn k same has (Step.give_back t at other is g) = goes_has g tt
+step_has p q word box op turn k same has (Step.apply t at last is on) = clears_has p q turn on (early p q word 0 turn k same (ap under_way at) (ap (tried_at p.epoch) at))
+step_has p q word box op turn k same has (Step.release at is on) = clears_has p q turn on (early p q word 0 turn k same (ap under_way at) (ap (tried_at p.epoch) at))
+step_has p q word box op turn k same has (Step.freeing at is on) = clears_has p q turn on (early p q word 0 turn k same (ap under_way at) (ap (tried_at p.epoch) at))
+step_has p q word box op turn k same has (Step.trial at is on) = absurd (subst HasSets at has)
+step_has p q word box op turn k same has (Step.preparation at is on) = absurd (subst HasSets at has)
+step_has p q word box op turn k same has (Step.begin_sweep at is g) = goes_has g tt
+step_has p q word box op turn k same has (Step.sweep swept u next at is took follows g) = goes_has g (swept_has follows)
+step_has p q word box op turn k same has (Step.end_sweep swept at is e) = subst HasSets (sym (ap (λ (r : Private). r.phase) e.after)) tt
+
+pub has_on : (p : Private) (word : ℕ) (box : Contents) → IsMachine p → IsBetween p.phase → IsGiven p word → HasSets p.phase → tried_at (step_of p word box).epoch (step_of p word box).phase ≡ tried_at p.epoch p.phase → HasSets (step_of p word box).phase
+has_on p word box k between given has same = step_has p (step_of p word box) word box (next_of p) (turn_of p word) k same has (step_made p word box k between given)
+
+-- A preparation took in a word: it goes on, or is done.
+pub record LoadsOn (w : Parts) (q : Private) : Type 0 where
+  pub counts : q.counts ≡ w.counts
+  pub prep : q.prep ≡ w.prep
+  pub goes : (q.phase ≡ Preparing) ⊎ (HasSets q.phase × (w.prep.at ≡ None))
+
+prepares_loads : (p q : Private) (w : Parts) (turn : Turn) → PreparesOn p w q turn → LoadsOn w q
+prepares_loads p q w turn (PreparesOn.more busy g) = record { counts = ap (λ (r : Private). r.counts) g.after; prep = ap (λ (r : Private). r.prep) g.after; goes = inl (ap (λ (r : Private). r.phase) g.after) }
+prepares_loads p q w turn (PreparesOn.sweeps_next done some g) = record { counts = ap (λ (r : Private). r.counts) g.after; prep = ap (λ (r : Private). r.prep) g.after; goes = inr (goes_has g tt, done) }
+prepares_loads p q w turn (PreparesOn.completes done none e) = record { counts = ap (λ (r : Private). r.counts) e.after; prep = ap (λ (r : Private). r.prep) e.after; goes = inr (subst HasSets (sym (ap (λ (r : Private). r.phase) e.after)) tt, done) }
+
+pub loads_on : (p : Private) (word : ℕ) (box : Contents) → IsMachine p → IsBetween p.phase → IsGiven p word → p.phase ≡ Preparing → LoadsOn (with_loaded (parts_of p) word) (step_of p word box)
+loads_on p word box k between given at = go (step_made p word box k between given)
+  where
+    other : {phase : Phase} → p.phase ≡ phase → (Preparing ≡ phase → ⊥) → LoadsOn (with_loaded (parts_of p) word) (step_of p word box)
+    other e n = absurd (n (sym at ∙ e))
+
+    go : Step p word box (next_of p) (step_of p word box) (turn_of p word) → LoadsOn (with_loaded (parts_of p) word) (step_of p word box)
+    go (Step.spent e last none is t) = other e (λ z. cc)
+    go (Step.request e more is g) = other e (λ z. cc)
+    go (Step.wait t e apart is kept turned) = other e (λ z. cc)
+    go (Step.gather t e crossed is g) = other e (λ z. cc)
+    go (Step.give_back t e apart is g) = other e (λ z. cc)
+    go (Step.apply t e last is on) = other e (λ z. cc)
+    go (Step.release e is on) = other e (λ z. cc)
+    go (Step.freeing e is on) = other e (λ z. cc)
+    go (Step.trial e is on) = other e (λ z. cc)
+    go (Step.preparation e is on) = prepares_loads p (step_of p word box) (with_loaded (parts_of p) word) (turn_of p word) on
+    go (Step.begin_sweep e is g) = other e (λ z. cc)
+    go (Step.sweep swept u next e is took follows g) = other e (λ z. cc)
+    go (Step.end_sweep swept e is ends) = other e (λ z. cc)
+
+-- a trial took in its last word, and a preparation begins
+pub begins_on : (p : Private) (word : ℕ) (box : Contents) → IsMachine p → IsBetween p.phase → IsGiven p word → p.phase ≡ Trying → (step_of p word box).phase ≡ Preparing → LoadsOn (prep_started (with_tried (parts_of p) word)) (step_of p word box)
+begins_on p word box k between given at next = go (step_made p word box k between given)
+  where
+    other : {phase : Phase} → p.phase ≡ phase → (Trying ≡ phase → ⊥) → LoadsOn (prep_started (with_tried (parts_of p) word)) (step_of p word box)
+    other e n = absurd (n (sym at ∙ e))
+
+    tries : TriesOn p (with_tried (parts_of p) word) (step_of p word box) (turn_of p word) → LoadsOn (prep_started (with_tried (parts_of p) word)) (step_of p word box)
+    tries (TriesOn.more busy g) = let e : Preparing ≡ Trying = sym next ∙ ap (λ (r : Private). r.phase) g.after in absurd (cc)
+    tries (TriesOn.prepares over on) = prepares_loads p (step_of p word box) (prep_started (with_tried (parts_of p) word)) (turn_of p word) on
+
+    go : Step p word box (next_of p) (step_of p word box) (turn_of p word) → LoadsOn (prep_started (with_tried (parts_of p) word)) (step_of p word box)
+    go (Step.spent e last none is t) = other e (λ z. cc)
+    go (Step.request e more is g) = other e (λ z. cc)
+    go (Step.wait t e apart is kept turned) = other e (λ z. cc)
+    go (Step.gather t e crossed is g) = other e (λ z. cc)
+    go (Step.give_back t e apart is g) = other e (λ z. cc)
+    go (Step.apply t e last is on) = other e (λ z. cc)
+    go (Step.release e is on) = other e (λ z. cc)
+    go (Step.freeing e is on) = other e (λ z. cc)
+    go (Step.trial e is on) = tries on
+    go (Step.preparation e is on) = other e (λ z. cc)
+    go (Step.begin_sweep e is g) = other e (λ z. cc)
+    go (Step.sweep swept u next e is took follows g) = other e (λ z. cc)
+    go (Step.end_sweep swept e is ends) = other e (λ z. cc)
+
+-- what an orange member's outside count was, it is, less what was lowered
+pub outside_later : {before s t : State} {loads : List Load} {number x n : ℕ} → IsOutside before s loads number x → WasUntouched s t number x n → IsOutside before t loads number x
+outside_later i u = record { member = i.member; fewer = omega (arith, u.count, i.fewer); cyclic = omega (arith, u.count, u.cyclic, i.fewer, i.cyclic) }

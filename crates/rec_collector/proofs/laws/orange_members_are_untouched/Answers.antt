@@ -1,0 +1,5 @@
+use Rattle.rec_collector.proofs.Touched.{untouched}
+use Rattle.rec_collector.proofs.laws.orange_members_are_untouched.Goals as goal
+
+pub returns : goal.returns
+returns c = untouched

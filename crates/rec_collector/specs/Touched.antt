@@ -1,0 +1,50 @@
+-- What names a slot from one step to the next: a batch, and what is taken off afterwards.
+use Rattle.std.specs.Prelude.{◌≡◌, ℕ, ◌+◌, ◌-◌, ◌==◌, ◌&&◌, not, if◌then◌else◌, Bool, true, Option, Some, length}
+use Rattle.rec_word.specs.Word.{target_of}
+use Rattle.rec_apply.specs.Targets.{added, is_slot, taken}
+use Rattle.rec_counts.specs.declared.colour.Colour.TheVariants.{Orange}
+use Rattle.rec_counts.specs.Counts.{State, slot_at}
+use Rattle.rec_counts.specs.Lists.{one}
+use Rattle.rec_release.specs.TakenOff.{is_lowered}
+use Rattle.rec_collector.specs.Private.{Private}
+use Rattle.rec_collector.specs.declared.phase.Phase.{Phase}
+use Rattle.rec_collector.specs.declared.phase.Phase.TheVariants.{Looking, Swapping, Returning, Releasing, Freeing}
+
+-- The epoch that was requested when the last trial was made, by phase: a collection that is under way has still to make its trial
+-- until the sets of the one before are tested.
+abbrev pub tried_at : (requested : ℕ) → Phase → ℕ
+tried_at requested (Looking t) = requested - 1
+tried_at requested (Swapping t) = requested - 1
+tried_at requested (Returning t) = requested - 1
+tried_at requested Releasing = requested - 1
+tried_at requested Freeing = requested - 1
+tried_at requested _ = requested
+
+-- counted where a reference that came out of a field leads to the slot, and is decremented: where the work lowers, an orange target is
+-- lowered and not decremented
+abbrev pub decrements : (lowers : Bool) → State → (target : Option ℕ) → (x : ℕ) → ℕ
+decrements lowers s target x = one (is_slot x target && not (is_lowered lowers (slot_at s x).colour))
+
+-- how often a step names the slot, by phase: the increments, the decrements and the snapshots of a batch, or one decrement
+abbrev pub named_at : Private → (word x : ℕ) → Phase → ℕ
+named_at p word x (Returning t) = if t == length p.newer then added x p.newer + taken x p.older else 0
+named_at p word x Releasing = decrements p.release.lowers p.counts (target_of word) x
+named_at p word x Freeing = decrements true p.counts (target_of word) x
+named_at p word x _ = 0
+
+-- how often a step names the slot
+abbrev pub named_by : Private → (word x : ℕ) → ℕ
+named_by p word x = named_at p word x p.phase
+
+-- the slot is an orange member of the set of this number
+abbrev pub IsOrangeIn : State → (number x : ℕ) → Type 0
+IsOrangeIn s number x = ((slot_at s x).set ≡ Some number) × ((slot_at s x).colour ≡ Orange)
+
+-- It was one before, of the same set; so many references were lowered, each of which took one off its cyclic count too, not below
+-- zero; and nothing named it.
+pub record WasUntouched (before after : State) (number x named : ℕ) : Type 0 where
+  pub orange : IsOrangeIn before number x
+  pub lowered : ℕ
+  pub count : (slot_at after x).count + lowered ≡ (slot_at before x).count
+  pub cyclic : (slot_at after x).cyclic ≡ (slot_at before x).cyclic - lowered
+  pub unnamed : named ≡ 0
