@@ -7,7 +7,7 @@ use Rattle.rec_model.specs.declared.command.Cmd.TheVariants as commands
 use Rattle.rec_model.specs.declared.told.Told.{Told}
 use Rattle.rec_log.specs.declared.contents.Contents.{Contents}
 use Rattle.rec_mutator.specs.Private.{Private, register, is_busy, work_of, answer_of}
-use Rattle.rec_mutator.specs.Scans.{FailsScan, HasScanned}
+use Rattle.rec_mutator.specs.Scans.{ops_along, FailsScan, HasScanned}
 use Rattle.rec_mutator.specs.Step.{IsLogFull, IsStill}
 use Rattle.rec_mutator.specs.Took.{step_of, IsBetween}
 use Rattle.rec_mutator.specs.declared.made.Made.TheVariants as makes
@@ -54,10 +54,10 @@ FoundNoneAt (Scanned reg label first) before = first ≡ before
 FoundNoneAt _ before = ⊥
 
 -- The scan is over, and every probe failed: whatever words the steps of the allocation found, the first one found this freed word, and
--- since then each slot was probed, and each probe found a taken header.
+-- since then the header of each slot was claimed, one after another, and each was found taken.
 pub record FoundNone (p : Private) (before : ℕ) : Type 0 where
   pub scanned : FoundNoneAt p.phase before
-  pub every : (start : Private) (first : ℕ) (found : List ℕ) → HasScanned start first found p → (first ≡ before) × FailsScan p.slots found
+  pub every : (start : Private) (words : List ℕ) → (s : HasScanned start words p) → FailsScan s.label p.slots before (ops_along start words) words
 
 -- When each refusal comes, at the step that answers; and it changes no register and no log.
 pub record HasCause (p q : Private) (cmd : Cmd) (word : ℕ) (answer : Answer) : Type 0 where

@@ -12,7 +12,5 @@
 
 mod collection;
 mod settling;
-#[cfg(test)]
-mod tests;
 
 pub use settling::{EpochsSpent, Settled, settle};

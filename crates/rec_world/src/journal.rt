@@ -58,27 +58,3 @@ impl Journal {
         self.room
     }
 }
-
-#[cfg(test)]
-mod tests {
-    use super::*;
-    use rec_model::Answer;
-    use std::test::Fail;
-
-    #[test]
-    fn keeps_its_lines(rt: HostRuntime) -> Result<(), Fail> {
-        let line = (
-            Cmd::Null { reg: 3 },
-            Told {
-                answer: Answer::Done,
-                saw: 0,
-                left: 0,
-            },
-        );
-        let mut journal = Journal::open(rt.alloc(), 2)?;
-        journal.note(line.0, line.1);
-        assert_eq!(rt; journal.lines(), [line].as_slice());
-        assert_eq!(rt; journal.room(), 1);
-        Ok(())
-    }
-}

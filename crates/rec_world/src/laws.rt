@@ -1,6 +1,6 @@
 //! What holds of every run, each law as the contract of a function that does nothing.
 
-ghost use Rattle.std.specs.Prelude.{◌≡◌, ℕ, ◌+◌, ◌<◌, List, Some, IfSome, false, true, slice_index_or};
+ghost use Rattle.std.specs.Prelude.{◌≡◌, ℕ, ◌+◌, ◌<◌, List, Some, IfSome, false, true, map, slice_index_or};
 ghost use Rattle.std.specs.List.{concat, Contains};
 ghost use Rattle.rec_model.specs.Heap.{Heap};
 ghost use Rattle.rec_model.specs.References.{count_formula};
@@ -80,10 +80,10 @@ pub fn true_counts_are_the_formula()
 {}
 
 /// Where an allocation is answered Full or Busy, over whatever moves of whatever run its steps were made, its first step found the
-/// freed word that is told, each slot was probed once, and each probe found a taken header. Full comes where that word was even and
-/// its last step found the same, and Busy tells both where that is not so.
+/// freed word that is told; then each header was claimed, from the first to the last, and each was found taken. Full comes where
+/// that word was even and its last step found the same, and Busy tells both where that is not so.
 pub fn failed_allocations_probed_every_slot()
-    ensures { (w : Core) (moves : List Move) (t reg label : ℕ) (told : Told) → IsConfig w.config → EndsRun w → IsMutator w.config t → (mutator w t).phase ≡ Begun (works.Command (commands.New reg label)) → AllFit w moves → BeginsNone t moves → is_busy (mutator (after_moves w moves) t) ≡ true → answer_of (mutator (stepped (after_moves w moves) t) t) ≡ Some (makes.Answered told) → FailsByProbes w t moves (after_moves w moves) told.answer }
+    ensures { (w : Core) (moves : List Move) (t reg label : ℕ) (told : Told) → IsConfig w.config → EndsRun w → IsMutator w.config t → (mutator w t).phase ≡ Begun (works.Command (commands.New reg label)) → AllFit w moves → BeginsNone t moves → is_busy (mutator (after_moves w moves) t) ≡ true → answer_of (mutator (stepped (after_moves w moves) t) t) ≡ Some (makes.Answered told) → FailsByProbes w t label moves (after_moves w moves) told.answer }
 {}
 
 /// What the collector loads from fields, for marking, for blackening and for preparation, stays what it is over every run until the

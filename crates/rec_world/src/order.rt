@@ -57,19 +57,3 @@ impl Order {
         self.room
     }
 }
-
-#[cfg(test)]
-mod tests {
-    use super::*;
-    use std::test::Fail;
-
-    #[test]
-    fn keeps_its_turns(rt: HostRuntime) -> Result<(), Fail> {
-        let mut order = Order::open(rt.alloc(), 3)?;
-        order.note(2);
-        order.note(1);
-        assert_eq!(rt; order.list(), [2, 1].as_slice());
-        assert_eq!(rt; order.room(), 1);
-        Ok(())
-    }
-}

@@ -465,10 +465,10 @@ impl World {
         ensures kept { IsWorld self.new }
     {
         see_label(work);
-        let index = usize::from(t) - 1;
-        let machine = &mut self.machines[index];
+        let own = usize::from(t) - 1;
+        let machine = &mut self.machines[own];
         machine.begin(work);
-        self.made += make_step(machine, &mut self.memory, &mut self.boxes[index]);
+        self.made += make_step(machine, &mut self.memory, &mut self.boxes[own]);
         machine.answer()
     }
 
@@ -607,10 +607,3 @@ fn births(op: Op, found: u64) -> u64
         _ => 0,
     }
 }
-
-#[cfg(test)]
-mod collecting_tests;
-#[cfg(test)]
-mod cycle_tests;
-#[cfg(test)]
-mod tests;

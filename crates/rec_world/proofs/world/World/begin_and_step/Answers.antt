@@ -21,23 +21,23 @@ begins c = may_begin c.self.inside c.args.self.now c.args.t c.args.work c.self.i
 
 -- the machine that was asked
 asked : (c : After-begin) → c.begin.new.self ≡ mutator (begun (core c.self.inside) c.args.t c.args.work) c.args.t
-asked c = began_read c.self.inside c.args.t c.from-index.result c.args.work c.index_mut-machine.result.now c.begin.new.self c.self.invariant (begins c) c.from-index.ensures c.index_mut-machine.ensures.value c.begin.ensures.begun
+asked c = began_read c.self.inside c.args.t c.from-own.result c.args.work c.index_mut-machine.result.now c.begin.new.self c.self.invariant (begins c) c.from-own.ensures c.index_mut-machine.ensures.value c.begin.ensures.begun
 
 pub begin-requires-clause-valid : goal.begin-requires-clause-valid
 begin-requires-clause-valid c =
     let may : MayBegin c.self.inside c.args.t c.args.work = may_begin c.self.inside c.args.self.now c.args.t c.args.work c.self.invariant c.self.view_is c.requires.mutator c.requires.work c.requires.idle c.see_label.ensures in
-    subst (λ (p : Private). IsValid p c.args.work) (sym (mutator_read (core c.self.inside) c.args.t c.from-index.result c.index_mut-machine.result.now c.self.invariant.world.shaped may.was.is c.from-index.ensures c.index_mut-machine.ensures.value)) may.fits.2
+    subst (λ (p : Private). IsValid p c.args.work) (sym (mutator_read (core c.self.inside) c.args.t c.from-own.result c.index_mut-machine.result.now c.self.invariant.world.shaped may.was.is c.from-own.ensures c.index_mut-machine.ensures.value)) may.fits.2
 
 pub index_mut-requires : goal.index_mut-requires
 index_mut-requires c =
     let there : c.args.t - 1 < length c.self.inside.boxes.items = (begins (goal.at.index_mut-requires c).After-begin).was.boxed in
-    omega (arith, there, c.from-index.ensures)
+    omega (arith, there, c.from-own.ensures)
 
 pub make_step-requires : goal.make_step-requires
 make_step-requires c =
     let here : After-begin = (goal.at.make_step-requires c).After-begin in
-    makes_step (begun (core c.self.inside) c.args.t c.args.work) c.args.t c.from-index.result c.self.inside.boxes.items c.begin.new.self c.index_mut.result.now (begins here).may (begins here).busy
-    (asked here) refl (begins here).was.boxed c.from-index.ensures c.self.invariant.home c.index_mut.ensures.value
+    makes_step (begun (core c.self.inside) c.args.t c.args.work) c.args.t c.from-own.result c.self.inside.boxes.items c.begin.new.self c.index_mut.result.now (begins here).may (begins here).busy
+    (asked here) refl (begins here).was.boxed c.from-own.ensures c.self.invariant.home c.index_mut.ensures.value
 
 pub overflow_add-self : goal.overflow_add-self
 overflow_add-self c =
@@ -59,16 +59,16 @@ after c =
       epoch = c.make_step.new.memory.epoch;
       freed = c.make_step.new.memory.freed;
       crossing = c.make_step.new.memory.crossing;
-      mutators = slice_set c.self.inside.machines.items (c.from-index.result - 1) c.make_step.new.machine;
-      boxes = map held (slice_set c.self.inside.boxes.items (c.from-index.result - 1) c.make_step.new.mailbox);
+      mutators = slice_set c.self.inside.machines.items (c.from-own.result - 1) c.make_step.new.machine;
+      boxes = map held (slice_set c.self.inside.boxes.items (c.from-own.result - 1) c.make_step.new.mailbox);
       made = c.self.inside.made + c.make_step.result;
     }
 
 -- it is the one of the definitions
 left : (c : After-answer) → after c ≡ stepped (begun (core c.self.inside) c.args.t c.args.work) c.args.t
 left c =
-    first_step_is c.self.inside c.args.t c.from-index.result c.make_step.result c.args.work c.begin.new.self c.make_step.new.machine c.index_mut.result.now c.make_step.new.mailbox c.make_step.new.memory (ends c) c.from-index.ensures
-    (began_read c.self.inside c.args.t c.from-index.result c.args.work c.index_mut-machine.result.now c.begin.new.self c.self.invariant (ends c) c.from-index.ensures c.index_mut-machine.ensures.value c.begin.ensures.begun)
+    first_step_is c.self.inside c.args.t c.from-own.result c.make_step.result c.args.work c.begin.new.self c.make_step.new.machine c.index_mut.result.now c.make_step.new.mailbox c.make_step.new.memory (ends c) c.from-own.ensures
+    (began_read c.self.inside c.args.t c.from-own.result c.args.work c.index_mut-machine.result.now c.begin.new.self c.self.invariant (ends c) c.from-own.ensures c.index_mut-machine.ensures.value c.begin.ensures.begun)
     c.index_mut.ensures.value c.make_step.ensures.machine c.make_step.ensures.memory c.make_step.ensures.mailbox c.make_step.ensures.births
 
 world : (c : After-answer) → IsWorld (after c)
@@ -76,7 +76,7 @@ world c = subst IsWorld (sym (left c)) (moved_world (begun (core c.self.inside) 
 
 pub invariant_of-self : goal.invariant_of-self
 invariant_of-self c =
-    record { world = world (goal.at.invariant_of-self c).After-answer; home = home_again c.self.inside.boxes.items (c.from-index.result - 1) c.make_step.new.mailbox (ap is_some c.make_step.ensures.mailbox) c.self.invariant.home }
+    record { world = world (goal.at.invariant_of-self c).After-answer; home = home_again c.self.inside.boxes.items (c.from-own.result - 1) c.make_step.new.mailbox (ap is_some c.make_step.ensures.mailbox) c.self.invariant.home }
 
 pub returns-clause-stepped : goal.returns-clause-stepped
 returns-clause-stepped c = left (goal.at.returns-clause-stepped c).After-answer ∙ ap (λ (s : Core). stepped (begun s c.args.t c.args.work) c.args.t) c.self.view_is
@@ -84,7 +84,7 @@ returns-clause-stepped c = left (goal.at.returns-clause-stepped c).After-answer 
 pub returns-clause-answer : goal.returns-clause-answer
 returns-clause-answer c =
     let at : After-answer = (goal.at.returns-clause-answer c).After-answer in
-    c.answer.ensures.answer ∙ ap answer_of (sym (machine_left (core c.self.inside) c.args.t c.from-index.result c.make_step.new.machine (ends at).was.kept (ends at).was.is c.from-index.ensures))
+    c.answer.ensures.answer ∙ ap answer_of (sym (machine_left (core c.self.inside) c.args.t c.from-own.result c.make_step.new.machine (ends at).was.kept (ends at).was.is c.from-own.ensures))
 
 pub returns-clause-kept : goal.returns-clause-kept
 returns-clause-kept c = world (goal.at.returns-clause-kept c).After-answer

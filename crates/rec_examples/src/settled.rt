@@ -1,0 +1,72 @@
+ghost use Rattle.std.specs.Prelude.{IsTrue};
+ghost use Rattle.rec_settle.specs.Collecting.{AreIdle};
+
+use crate::happen::is_idle;
+use rec_settle::{EpochsSpent, Settled, settle};
+use rec_word::target;
+use rec_world::{Numbering, World};
+use std::alloc::{AllocError as NoMemory, Global};
+
+/// Settles a heap in which no mutator works. Nothing is told where one does, or where it isn't settled afterwards.
+pub fn settled(
+    alloc: Global,
+    world: &mut World,
+) -> Result<Option<Result<Settled, EpochsSpent>>, NoMemory> {
+    if !are_idle(world) {
+        return Ok(None);
+    }
+    let told = settle(world);
+    if told.is_ok() && !is_settled(alloc, world)? {
+        return Ok(None);
+    }
+    Ok(Some(told))
+}
+
+// Whether no mutator works.
+fn are_idle(world: &World) -> bool
+    ensures { IsTrue result → AreIdle world.now }
+{
+    for index in 0..world.mutators() {
+        if !is_idle(world, index + 1) {
+            return false;
+        }
+    }
+    true
+}
+
+// Whether just the slots that registers reach are taken, each with its true count.
+fn is_settled(alloc: Global, world: &World) -> Result<bool, NoMemory> {
+    let mut numbering = Numbering::open(alloc, world.slots())?;
+    world.number(&mut numbering);
+    for slot in 0..world.slots() {
+        let is_reached = numbering.number(slot).is_some();
+        let count = if is_reached { held(world, slot) } else { 1 };
+        if world.taken(slot) != is_reached || world.count(slot) != count {
+            return Ok(false);
+        }
+    }
+    Ok(true)
+}
+
+// How many fields and registers hold the slot.
+fn held(world: &World, slot: u16) -> u64 {
+    let mut held = fields_to(world.words(), slot);
+    for t in 1..=world.mutators() {
+        held = held.wrapping_add(registers_to(world.registers(t), slot));
+    }
+    held
+}
+
+fn fields_to(words: &[u64], slot: u16) -> u64 {
+    words
+        .iter()
+        .filter(|word| target(**word) == Some(slot))
+        .count() as u64
+}
+
+fn registers_to(registers: &[Option<u16>], slot: u16) -> u64 {
+    registers
+        .iter()
+        .filter(|register| **register == Some(slot))
+        .count() as u64
+}
