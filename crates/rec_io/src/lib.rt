@@ -16,6 +16,7 @@
 mod bytes_source;
 mod calls;
 mod copy;
+mod flush;
 mod flush_fault;
 mod room_sink;
 mod sink;
@@ -25,6 +26,7 @@ mod std_source;
 mod steady_source;
 
 pub use bytes_source::BytesSource;
+pub use flush::Flush;
 pub use flush_fault::FlushFault;
 pub use room_sink::RoomSink;
 pub use sink::{Sink, Taken};

@@ -1,11 +1,13 @@
 //! A sink in memory, with room for some bytes and with calls that fail.
-ghost use Rattle.std.specs.Prelude.{◌≡◌, ◌↔◌, ◌⊎◌, ◌<◌, ◌≤◌, ◌-◌, ◌++◌, ℕ, [], IfOk, Some, length, min, take};
+ghost use Rattle.std.specs.Prelude.{◌≡◌, ◌↔◌, ◌⊎◌, ◌<◌, ◌≤◌, ◌-◌, ◌++◌, ℕ, [], IfOk, IsOk, Some, length, min, take};
 ghost use Rattle.rec_io.specs.Calls.{NextFails};
 ghost use Rattle.rec_io.specs.Faults.{Rose, counted_up, last_count};
 ghost use Rattle.rec_io.specs.Sink.{IfTaken, OnWriteFailed, Appends};
 ghost use Rattle.rec_io.specs.Told.{KeepsTold, StaysTold};
 
 use crate::calls::Calls;
+use crate::flush::Flush;
+use crate::flush_fault::FlushFault;
 use crate::sink::{Sink, Taken};
 use std::alloc::{AllocError as NoMemory, Global};
 use std::marker::Model;
@@ -107,5 +109,17 @@ impl Sink for RoomSink {
         self.bytes.extend_from_slice(&piece[..count]).unwrap();
         self.room -= count;
         Taken::Bytes(count)
+    }
+}
+
+/// It holds nothing back, so a flush has nothing to do.
+impl Flush for RoomSink {
+    ghost passed_on = { λ s. Some s.written };
+
+    fn flush(&mut self) -> Result<(), FlushFault>
+        ensures ok { IsOk result }
+        ensures unchanged { self.new ≡ self.old }
+    {
+        Ok(())
     }
 }

@@ -3,6 +3,7 @@ ghost use Rattle.std.specs.Prelude.{◌≡◌, ◌<◌, ◌≤◌, None, OnOk, O
 ghost use Rattle.rec_io.specs.Faults.{Rose, counted_up, last_count};
 ghost use Rattle.rec_io.specs.Sink.{IfTaken, OnWriteFailed};
 
+use crate::flush::Flush;
 use crate::flush_fault::FlushFault;
 use crate::sink::{Sink, Taken};
 use std::io::Write;
@@ -42,21 +43,6 @@ impl<W: Write> StdSink<W> {
     {
         self.faults
     }
-
-    /// Has the writer pass on what it holds back, as a buffered one does. A flush that fails is a fault.
-    pub fn flush(&mut self) -> Result<(), FlushFault>
-        ensures ok { OnOk result (self.new ≡ self.old) }
-        ensures err { OnErr result (self.new ≡ counted_up self.old) }
-        ensures rose { OnErr result (Rose self.old self.new) }
-    {
-        match self.writer.flush() {
-            Ok(()) => Ok(()),
-            Err(_) => {
-                self.faults = self.faults.saturating_add(1);
-                Err(FlushFault)
-            }
-        }
-    }
 }
 
 impl<W: Write> Sink for StdSink<W> {
@@ -89,6 +75,29 @@ impl<W: Write> Sink for StdSink<W> {
                 Taken::Failed
             }
             Ok(count) => Taken::Bytes(count),
+        }
+    }
+}
+
+impl<W: Write> Flush for StdSink<W> {
+    ghost passed_on = { λ _. None };
+
+    // That a writer whose flush succeeds holds nothing back is trusted.
+    fn flush(&mut self) -> Result<(), FlushFault>
+        // What each sink that may hold bytes back promises of faults.
+        ensures rose { OnErr result (Rose self.old self.new) }
+        ensures never_falls { self.old ≤ self.new }
+
+        // The count rises by one at each flush that fails, and at no other.
+        ensures ok { OnOk result (self.new ≡ self.old) }
+        ensures err { OnErr result (self.new ≡ counted_up self.old) }
+    {
+        match self.writer.flush() {
+            Ok(()) => Ok(()),
+            Err(_) => {
+                self.faults = self.faults.saturating_add(1);
+                Err(FlushFault)
+            }
         }
     }
 }

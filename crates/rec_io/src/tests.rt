@@ -1,5 +1,6 @@
 use crate::{
-    BytesSource, FlushFault, Given, RoomSink, Sink, Source, StdSink, StdSource, SteadySource, Taken,
+    BytesSource, Flush, FlushFault, Given, RoomSink, Sink, Source, StdSink, StdSource,
+    SteadySource, Taken,
 };
 use std::alloc::{AllocError, Global};
 use std::io::{self, Error, ErrorKind, Read, Write};
@@ -85,6 +86,7 @@ fn a_sink_in_memory_fills_its_room(rt: HostRuntime) -> Result<(), Fail> {
         Taken::Failed,
     ];
     assert_eq!(rt; answers.as_slice(), want.as_slice());
+    assert_eq!(rt; sink.flush(), Ok(()));
     assert_eq!(rt; sink.bytes(), b"abcde".as_slice());
     Ok(())
 }

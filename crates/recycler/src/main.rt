@@ -10,6 +10,7 @@
 
 mod answer;
 mod command_line;
+mod finish;
 mod gate;
 mod reading;
 mod run;
@@ -20,6 +21,7 @@ mod status;
 mod summary_tests;
 mod writing;
 
+use finish::finish;
 use gate::OpenGate;
 use rec_io::{StdSink, StdSource};
 use run::run;
@@ -55,11 +57,7 @@ fn run_arguments<R: Env + AllocGlobal + Input + Print + Threads + Wait + Sync>(r
     let mut source = StdSource::over(rt.reader());
     let mut sink = StdSink::over(writer);
     let status = run(rt, alloc, &words, &mut source, &mut sink, &OpenGate);
-    // What the buffer holds back is written now, and a fault of that is a fault of writing too.
-    match sink.flush() {
-        Err(_) if status == Status::Done => Status::WriteFault,
-        _ => status,
-    }
+    finish(status, &mut sink)
 }
 
 fn main(rt: HostRuntime) -> ExitCode {
