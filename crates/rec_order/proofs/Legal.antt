@@ -2,7 +2,7 @@
 use Rattle.std.proofs.Common.{◌≡◌, inl, inr, ℕ, ◌-◌, ◌<◌, ◌≤◌, zero, suc, List, [], ◌∷◌, ◌++◌, Option, Some, false, length, slice_index_or, replicate, map, refl, sym, ap, subst, ◌∙◌, arith}
 use Rattle.std.specs.List.{filter_map}
 use Rattle.std.proofs.lemmas.Bool.{cases_eq, cases_lt}
-use Rattle.std.proofs.lemmas.List.{length-replicate, get_or_past, append-nil}
+use Rattle.std.proofs.lemmas.List.{length-replicate, get_or_past, length-map}
 use Rattle.std.proofs.lemmas.List.Elements.{filter_map-append}
 use Rattle.std.proofs.Math.ListN.{get_or-map}
 use Rattle.rec_word.specs.declared.op.Op.{Op}
@@ -27,6 +27,8 @@ use Rattle.rec_order.specs.Legal.{limits_of, moment_of, AreIdle, AreJournals, Ha
 use Rattle.rec_order.proofs.Orders.{HasOrder, moves_order}
 use Rattle.rec_model.proofs.Standing.{with_birth-same, with_birth-other}
 use Rattle.rec_order.proofs.Steps.{Meets}
+use Rattle.rec_world.specs.declared.config.Config.{Config}
+use Rattle.rec_world.proofs.CoreRuns.{move_stays}
 
 -- Each object in one of the first slots has that slot as its home.
 has_homes : (w : Sight) (number : ℕ → ℕ) → ((s t : ℕ) → IsTaken w s → IsTaken w t → number s ≡ number t → s ≡ t) → (bound : ℕ) → (home : ℕ → ℕ) × ((s : ℕ) → s < bound → IsTaken w s → home (number s) ≡ s)
@@ -52,14 +54,9 @@ has_homes w number apart (suc bound) =
 
 -- a mutator without work has met nothing
 idle_meets : (limits : Limits) (start : Moment) (events : List Event) (home : ℕ → ℕ) (next t : ℕ) (phase : Phase) → is_busy_at phase ≡ false → Meets limits start events home next t phase
-idle_meets limits start events home next t at.Idle idle = tt
-idle_meets limits start events home next t (at.Finished work made) idle = tt
-idle_meets limits start events home next t (at.Begun work) idle = tt
 idle_meets limits start events home next t (at.Scanning reg label before slot) idle = cc
 idle_meets limits start events home next t (at.Scanned reg label before) idle = cc
-idle_meets limits start events home next t at.Crossing idle = tt
-idle_meets limits start events home next t at.Swapping idle = tt
-idle_meets limits start events home next t at.Giving idle = tt
+idle_meets limits start events home next t _ idle = tt
 
 -- empty journals
 no_lines : (many i : ℕ) → [] ≡ slice_index_or (replicate {A = List Line} many []) i []
@@ -89,7 +86,7 @@ starts w heap number unfreed kept idle stands are =
         done = λ t is.
             let same : slice_index_or (map (λ (p : Private). length p.log.entries) w.mutators) (t - 1) 0 ≡ log_length w t = get_or-map (λ (p : Private). length p.log.entries) w.mutators (t - 1) nobody in
             omega (arith, same);
-        logs = Rattle.std.proofs.lemmas.List.length-map w.mutators (λ (p : Private). length p.log.entries) ∙ kept.mutators.many;
+        logs = length-map w.mutators (λ (p : Private). length p.log.entries) ∙ kept.mutators.many;
         journals = length-replicate w.config.mutators [];
       },
     )
@@ -100,12 +97,14 @@ swept_lines t n (Some ops.AddFreed) = refl
 swept_lines t n (Some (ops.FreeHeader slot)) = refl
 swept_lines t n _ = refl
 
+-- the lines of a mutator are those of the answers of one move
 lines_in : (t : ℕ) (n : Naming) (w : Core) (m : Move) → filter_map (line_by t) (events_in n w m) ≡ filter_map (line_by t) (told_in w m)
 lines_in t n w (Move.Begins u work) = refl
 lines_in t n w (Move.Steps u) = refl
 lines_in t n w Move.Turns = swept_lines t n (next_of w.collector)
 lines_in t n w Move.Offers = refl
 
+-- and of all moves
 pub lines_of : (t : ℕ) (n : Naming) (w : Core) (ms : List Move) → filter_map (line_by t) (events_of n w ms) ≡ filter_map (line_by t) (told_in_all w ms)
 lines_of t n w [] = refl
 lines_of t n w (m ∷ ms) =
@@ -139,11 +138,11 @@ run_legal w heap number unfreed moves journals kept idle stands are fit told =
     let (lines, home, so) = moves_order limits start [] w n moves refl kept fit (starts w heap number unfreed kept idle stands are) in
     let config : (after_moves w moves).config ≡ w.config = config_stays w moves in
     record {
-      legal = same_journals limits start (events_of n w moves) lines journals w.config.mutators (so.journals ∙ ap (λ (c : Rattle.rec_world.specs.declared.config.Config.Config). c.mutators) config) told.one_each
+      legal = same_journals limits start (events_of n w moves) lines journals w.config.mutators (so.journals ∙ ap (λ (c : Config). c.mutators) config) told.one_each
           (λ t some most. told.lines t (some, most) ∙ sym (lines_of t n w moves)) so.legal;
       ends = record { stands = so.stands.stands; next = so.stands.next; unfreed = so.stands.unfreed; marks = so.stands.marks };
     }
   where
     config_stays : (v : Core) (ms : List Move) → (after_moves v ms).config ≡ v.config
     config_stays v [] = refl
-    config_stays v (m ∷ ms) = config_stays (after_move v m) ms ∙ Rattle.rec_world.proofs.CoreRuns.move_stays v m
+    config_stays v (m ∷ ms) = config_stays (after_move v m) ms ∙ move_stays v m

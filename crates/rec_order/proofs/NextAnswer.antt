@@ -50,13 +50,7 @@ allocation_fits limits w _ answer full fewer = tt
 -- a scan that found none free has passed all slots
 found_none : (phase : Phase) (before : ℕ) → FoundNoneAt phase before → (reg : ℕ) × (label : ℕ) × (phase ≡ at.Scanned reg label before)
 found_none (at.Scanned reg label first) before is = (reg, label, ap (at.Scanned reg label) is)
-found_none at.Idle before is = absurd is
-found_none (at.Begun work) before is = absurd is
-found_none (at.Scanning reg label first slot) before is = absurd is
-found_none at.Crossing before is = absurd is
-found_none at.Swapping before is = absurd is
-found_none at.Giving before is = absurd is
-found_none (at.Finished work made) before is = absurd is
+found_none _ before is = absurd is
 
 -- it looks at the freed word then
 looks_again : (w : Core) (t reg label before : ℕ) → (mutator w t).phase ≡ at.Scanned reg label before → found_by w t ≡ w.freed

@@ -50,6 +50,7 @@ use Rattle.rec_order.proofs.Stamps.{HasEntry, Advances, IsUntold, IsSilent, entr
 use Rattle.rec_order.proofs.NextAnswer.{step_may_come}
 use Rattle.rec_order.proofs.Stands.{Stands, NamesOn, stands_unseen, stands_rested, stands_marked, stands_freed, stands_answered, marks_fit, frees_fit}
 use Rattle.rec_order.proofs.Steps.{Meets, meets_grows, meets_born, own_meets, same_names, step_names}
+use Rattle.std.specs.Option.{IfSome}
 
 -- A legal order of what was told so far, what its last moment shows of the world, what each scan has met, and which stamps and
 -- entries each mutator has.
@@ -119,6 +120,7 @@ module _ (limits : Limits) (start : Moment) where
   swept_nothing n (Some (ops.FreeHeader slot)) nothing = absurd nothing
   swept_nothing n _ nothing = refl
 
+  -- a turn leaves the mutators
   turned_mutators : (w : Core) → (turned w).mutators ≡ w.mutators
   turned_mutators w = go (next_of w.collector)
     where
@@ -126,6 +128,7 @@ module _ (limits : Limits) (start : Moment) where
       go None = refl
       go (Some op) = refl
 
+  -- the order over a turn: as the sweep goes
   turn_order : (lines : List (List Line)) (events : List Event) (w : Core) (n : Naming) (home : ℕ → ℕ) → IsKept w → Ordered limits start lines events w n home
       → Ordered limits start lines (events ++ swept_by n (next_of w.collector)) (turned w) n home
   turn_order lines events w n home kept so = go (turned_sweeps w kept)
@@ -209,13 +212,7 @@ module _ (limits : Limits) (start : Moment) where
   -- a finished scan meets nothing
   finished_meets : (events : List Event) (home : ℕ → ℕ) (next t : ℕ) (phase : Phase) (made : Made) → answer_at phase ≡ Some made → Meets limits start events home next t phase
   finished_meets events home next t (at.Finished work done) made is = tt
-  finished_meets events home next t at.Idle made is = cc
-  finished_meets events home next t (at.Begun work) made is = cc
-  finished_meets events home next t (at.Scanning reg label before slot) made is = cc
-  finished_meets events home next t (at.Scanned reg label before) made is = cc
-  finished_meets events home next t at.Crossing made is = cc
-  finished_meets events home next t at.Swapping made is = cc
-  finished_meets events home next t at.Giving made is = cc
+  finished_meets events home next t _ made is = cc
 
   -- what another's scan has met goes on with the naming
   names_meets : (events : List Event) (w v : Core) (n k : Naming) (home homes : ℕ → ℕ) (t s : ℕ) (cmd : Cmd) (told : Told) (phase : Phase) → NamesOn w t cmd told v n home k homes
@@ -236,6 +233,7 @@ module _ (limits : Limits) (start : Moment) where
   put_entry src f val answers.Done left v leaves = refl
   put_entry src f val _ left v leaves = cc
 
+  -- and so does any command that leaves a word
   entry_of_word : (cmd : Cmd) (told : Told) (v : ℕ) → word_left cmd told ≡ Some v → entries_of cmd told.answer ≡ 1
   entry_of_word (commands.Put src f val) told v leaves = put_entry src f val told.answer told.left v leaves
   entry_of_word _ told v leaves = cc
@@ -245,10 +243,12 @@ module _ (limits : Limits) (start : Moment) where
   done_now ns t true some most = get_or-set_same ns (t - 1) (slice_index_or ns (t - 1) 0 + 1) 0 (omega (arith, some, most))
   done_now ns t false some most = omega arith
 
+  -- another mutator's entries stay
   done_other : (ns : List ℕ) (t s : ℕ) (b : Bool) → 0 < t → 0 < s → s ≢ t → slice_index_or (if b then bump ns t else ns) (s - 1) 0 ≡ slice_index_or ns (s - 1) 0
   done_other ns t s true some s_some other = get_or-set_other ns (t - 1) (s - 1) (slice_index_or ns (t - 1) 0 + 1) 0 (λ same. other (omega (arith, some, s_some, same)))
   done_other ns t s false some s_some other = refl
 
+  -- there is a number for each mutator as before
   done_many : (ns : List ℕ) (t : ℕ) (b : Bool) → length (if b then bump ns t else ns) ≡ length ns
   done_many ns t true = length-set ns (t - 1) (slice_index_or ns (t - 1) 0 + 1)
   done_many ns t false = refl
@@ -291,7 +291,7 @@ module _ (limits : Limits) (start : Moment) where
             | inl old ↦ entry_stays w v (stamp_of word) refl advances (so.stamps i word d old left)
             | inr new ↦
                 let leaves : word_left cmd told ≡ Some word = ap left_by new.1 ∙ left in
-                let mine : stamp_of word ≡ record { writer = t; epoch = (mutator w t).epoch; index = log_length w t } = subst (λ o. Rattle.std.specs.Option.IfSome o (λ x. stamp_of x ≡ record { writer = t; epoch = (mutator w t).epoch; index = log_length w t })) leaves said.stamp in
+                let mine : stamp_of word ≡ record { writer = t; epoch = (mutator w t).epoch; index = log_length w t } = subst (λ o. IfSome o (λ x. stamp_of x ≡ record { writer = t; epoch = (mutator w t).epoch; index = log_length w t })) leaves said.stamp in
                 let entry : entries_of cmd told.answer ≡ 1 = entry_of_word cmd told word leaves in
                 let now : epoch_at (mutator v t) ≡ (mutator w t).epoch = epoch_here (mutator v t) (finished_here (mutator v t) (makes.Answered told) answer) ∙ said.epoch in
                 let R : Stamp → Type 0 = λ s. HasEntry v s in
@@ -318,6 +318,7 @@ module _ (limits : Limits) (start : Moment) where
         },
       )
 
+  -- one step, of whatever kind
   step_order : (lines : List (List Line)) (events : List Event) (w : Core) (n : Naming) (home : ℕ → ℕ) (t : ℕ) → limits ≡ limits_of w.config → IsKept w → IsKept (stepped w t) → IsMutator w.config t → is_busy (mutator w t) ≡ true
       → Ordered limits start lines events w n home → HasOrder (events ++ events_in n w (Move.Steps t)) (stepped w t) (named_after n w (Move.Steps t))
   step_order lines events w n home t numbers kept kept_after is busy so = go (step_says w t kept is busy)

@@ -91,14 +91,8 @@ moves_made n w (m ∷ ms) =
 
 -- what is at work has no answer
 busy_none : (phase : Phase) → is_busy_at phase ≡ true → answer_at phase ≡ None
-busy_none at.Idle busy = cc
-busy_none (at.Begun work) busy = refl
-busy_none (at.Scanning reg label before slot) busy = refl
-busy_none (at.Scanned reg label before) busy = refl
-busy_none at.Crossing busy = refl
-busy_none at.Swapping busy = refl
-busy_none at.Giving busy = refl
 busy_none (at.Finished work made) busy = cc
+busy_none _ busy = refl
 
 -- A run from one state to another that tells these events, and takes one naming to another.
 pub record Runs (w v : Core) (told : List Event) (n k : Naming) : Type 0 where

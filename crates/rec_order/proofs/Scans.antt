@@ -1,7 +1,7 @@
 -- What a scan has met: for each slot that it passed an object of that slot that was unfreed since the mutator's last event.
 use Rattle.std.proofs.Common.{◌≡◌, ◌⊎◌, inl, inr, ℕ, ◌+◌, ◌%◌, ◌<◌, ◌≤◌, true, false, zero, suc, List, [], ◌∷◌, ◌++◌, Some, length, refl, sym, ap, subst, ◌∙◌, arith}
 use Rattle.std.specs.List.{slice_get}
-use Rattle.std.proofs.lemmas.Bool.{cases_eq, cases_Bool, cond-true, cond-false, eq-eqb, ne_eqb, false≢true}
+use Rattle.std.proofs.lemmas.Bool.{cases_eq, cases_Bool, false≢true, cases_lt}
 use Rattle.std.proofs.lemmas.List.{take_all, length_push}
 use Rattle.rec_model.specs.LegalOrder.{Line, Event, Limits, Moment, after, after_all, moment, is_by, IsQuiet, BusyFits}
 use Rattle.rec_model.specs.LegalOrder.Event.{Answers}
@@ -52,7 +52,7 @@ since_grow limits start events t P e other since =
     }
   where
     cases_below : (k : ℕ) → (k < length events) ⊎ (length events ≤ k)
-    cases_below k = Rattle.std.proofs.lemmas.Bool.cases_lt k (length events)
+    cases_below k = cases_lt k (length events)
 
     absent : (es : List Event) (k : ℕ) (d : Event) → length es ≤ k → slice_get es k ≡ Some d → ⊥
     absent [] k d past is = cc
@@ -106,6 +106,7 @@ record AreMet (home : ℕ → ℕ) (P : ℕ → Type 0) (bound : ℕ) (ns : List
   apart : IsDistinct ns
   each : (n : ℕ) → is_in n ns ≡ true → (home n < bound) × P n
 
+-- there are such, where each slot has its object
 all_met : (home : ℕ → ℕ) (P : ℕ → Type 0) (bound : ℕ) → ((s : ℕ) → s < bound → (n : ℕ) × (home n ≡ s) × P n) → (ns : List ℕ) × AreMet home P bound ns
 all_met home P zero met = ([], record { as_many = refl; apart = tt; each = λ n there. absurd (false≢true there) })
 all_met home P (suc bound) met =

@@ -17,11 +17,12 @@ use Rattle.rec_model.proofs.Lives.{unreached_is_dead}
 use Rattle.rec_model.proofs.Standing.{taken_is_other}
 use Rattle.rec_model.proofs.Unfreed.{taken_or_free, unfreed_after, unfreed_after_free, unfreed_same}
 use Rattle.rec_world.specs.Core.{Core, sight}
-use Rattle.rec_world.specs.CoreShown.{IsDecided, IsBirthplace, sight_told}
+use Rattle.rec_world.specs.CoreShown.{IsDecided, IsBirthplace, sight_told, sight_with_birth}
 use Rattle.rec_world.specs.CoreSwept.{swept}
 use Rattle.rec_order.specs.Naming.{Naming, with_number, born_in}
 use Rattle.rec_order.proofs.Agreement.{agree_goes_on}
 use Rattle.rec_model.proofs.Standing.{with_birth-same, with_birth-other}
+use Rattle.rec_collector.specs.Kept.{swept_at}
 
 -- The moment's heap stands for the world by this naming, and the unfreed objects are those in taken slots; marks are counted as
 -- the world counts them; a sweep that has freed a slot has freed an object since the last mark; and each object that is unfreed is
@@ -68,6 +69,7 @@ stands_rested w v m n home stands headers freed less so = stands_same w v m m n 
 pub marks_fit : (limits : Limits) (w : Core) (m : Moment) (n : Naming) (home : ℕ → ℕ) → (w.freed % 2 ≡ 1 → 0 < swept w) → Stands w m n home → Fits limits m Marks
 marks_fit limits w m n home freed_one so odd = so.frees (freed_one (ap (λ x. x % 2) (sym so.marks) ∙ odd))
 
+-- after the mark
 pub stands_marked : (limits : Limits) (w v : Core) (m : Moment) (n : Naming) (home : ℕ → ℕ) → StandsBy m.heap (sight v) n.number → v.headers ≡ w.headers → v.freed ≡ w.freed + 1 → swept v ≡ 0
     → Stands w m n home → Stands v (moment_after limits m Marks) n home
 stands_marked limits w v m n home stands headers freed none so =
@@ -82,6 +84,7 @@ frees_fit limits w m n home slot sound taken out odd so = (
   ap (λ x. x % 2) so.marks ∙ odd,
 )
 
+-- after the freeing
 pub stands_freed : (limits : Limits) (w v : Core) (m : Moment) (n : Naming) (home : ℕ → ℕ) (slot : ℕ) → StandsBy m.heap (sight v) n.number → IsTaken (sight w) slot → v.headers ≡ slice_set w.headers slot 0 → v.freed ≡ w.freed
     → ((s : ℕ) → IsTaken (sight v) s → IsTaken (sight w) s) → Stands w m n home → Stands v (moment_after limits m (Frees (n.number slot))) n home
 stands_freed limits w v m n home slot stands taken headers freed was so =
@@ -99,7 +102,7 @@ birth_headers : (w : Sight) (slot t : ℕ) (cmd : Cmd) (told : Told) → is_birt
 birth_headers w slot t (commands.New reg label) told birth = (label, ap (λ (b : Bool). (sight_new b).headers) birth)
   where
     sight_new : Bool → Sight
-    sight_new b = if b then Rattle.rec_world.specs.CoreShown.sight_with_birth w t reg slot label else w
+    sight_new b = if b then sight_with_birth w t reg slot label else w
 birth_headers w slot t (commands.Null reg) told birth = cc
 birth_headers w slot t (commands.Copy dst src) told birth = cc
 birth_headers w slot t (commands.Get dst src f) told birth = cc
@@ -159,7 +162,7 @@ module _ (limits : Limits) (w v : Core) (m : Moment) (n : Naming) (home : ℕ �
         unfreed = unfreed_after limits.fields m.heap (sight w) (sight v) n.number (with_number n.number slot n.next) t cmd told m.unfreed so.stands goes
             (λ _. (slot, born_taken w v slot t cmd told headers birth place seen, with_birth-same n.number slot n.next ∙ so.next)) so.unfreed;
         marks = so.marks ∙ sym said.freed;
-        frees = λ some. so.frees (subst (λ c. 0 < Rattle.rec_collector.specs.Kept.swept_at c.phase) collector some);
+        frees = λ some. so.frees (subst (λ c. 0 < swept_at c.phase) collector some);
         homes = λ s taken. elim (taken_or_free (sight w) s) [
           | inl old ↦
               let here : with_number n.number slot n.next s ≡ n.number s = with_birth-other n.number slot n.next s (taken_is_other (sight w) slot s place.free old) in
@@ -187,6 +190,6 @@ module _ (limits : Limits) (w v : Core) (m : Moment) (n : Naming) (home : ℕ �
         next = so.next ∙ sym (omega (arith, few));
         unfreed = unfreed_after limits.fields m.heap (sight w) (sight v) n.number n.number t cmd told m.unfreed so.stands goes (λ birth. absurd (false≢true (sym unborn ∙ birth))) so.unfreed;
         marks = so.marks ∙ sym said.freed;
-        frees = λ some. so.frees (subst (λ c. 0 < Rattle.rec_collector.specs.Kept.swept_at c.phase) collector some);
+        frees = λ some. so.frees (subst (λ c. 0 < swept_at c.phase) collector some);
         homes = λ s taken. so.homes s (was s taken);
       }

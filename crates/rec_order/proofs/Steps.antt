@@ -7,7 +7,7 @@ use Rattle.rec_model.specs.declared.command.Cmd.{Cmd}
 use Rattle.rec_model.specs.declared.told.Told.{Told}
 use Rattle.rec_model.specs.LegalOrder.{Event, Limits, Moment, after_all, is_by, is_birth}
 use Rattle.rec_model.specs.Sight.{IsTaken}
-use Rattle.rec_mutator.specs.Next.{next_of}
+use Rattle.rec_mutator.specs.Next.{next_of, next_at}
 use Rattle.rec_mutator.specs.Private.{Private, is_busy}
 use Rattle.rec_mutator.specs.Step.{Step, Decides}
 use Rattle.rec_mutator.specs.Took.{step_of}
@@ -25,6 +25,7 @@ use Rattle.rec_world.proofs.CoreSteps.{actor_of}
 use Rattle.rec_order.specs.Naming.{Naming, with_number, born_in, named_by, named_after}
 use Rattle.rec_order.proofs.Scans.{HasMet, met_begins, met_more, met_grows, met_born}
 use Rattle.rec_order.proofs.Stands.{Stands, NamesOn}
+use Rattle.rec_log.specs.declared.entry.Entry.{Entry}
 
 -- what a scan has met, by phase
 abbrev pub Meets : Limits → Moment → List Event → (home : ℕ → ℕ) → (next t : ℕ) → Phase → Type 0
@@ -61,7 +62,7 @@ module _ (limits : Limits) (start : Moment) (events : List Event) (w : Core) (n 
       met_more limits start events home n.next t before slot (n.number slot) (so.homes slot taken) (omega (arith, below, next)) (so.unfreed.there slot taken) has
 
   module _ (p : Private) (word : ℕ) (b : Contents) (op : Op) (q : Private) (many : p.slots ≡ w.config.slots) (found : word ≡ cell (cells_of w) op) (has : Meets limits start events home n.next t p.phase) where
-    decided : {cmd : Cmd} {phase : Phase} {its_op : Op} {registers : List (Option ℕ)} {entries : List Rattle.rec_log.specs.declared.entry.Entry.Entry} {told : Told} → Decides p op q cmd phase its_op registers entries told
+    decided : {cmd : Cmd} {phase : Phase} {its_op : Op} {registers : List (Option ℕ)} {entries : List Entry} {told : Told} → Decides p op q cmd phase its_op registers entries told
         → Meets limits start events home n.next t q.phase
     decided d = subst (λ (x : Private). Meets limits start events home n.next t x.phase) (sym d.after) tt
 
@@ -120,18 +121,12 @@ same_names n w t made =
 
 -- a scan claims the slot to which it has come
 claims_at : (p : Private) (slot : ℕ) → probed_at p.phase ≡ Some slot → (label : ℕ) × (next_of p ≡ ops.ClaimHeader slot label)
-unfolding next_of Rattle.rec_mutator.specs.Next.next_at
+unfolding next_of next_at
 claims_at p slot probed = go p.phase probed
   where
-    go : (phase : Phase) → probed_at phase ≡ Some slot → (label : ℕ) × (Rattle.rec_mutator.specs.Next.next_at p phase ≡ ops.ClaimHeader slot label)
+    go : (phase : Phase) → probed_at phase ≡ Some slot → (label : ℕ) × (next_at p phase ≡ ops.ClaimHeader slot label)
     go (at.Scanning reg label before s) is = let same : s ≡ slot = cc in (label, ap (λ x. ops.ClaimHeader x label) same)
-    go at.Idle is = cc
-    go (at.Begun work) is = cc
-    go (at.Scanned reg label before) is = cc
-    go at.Crossing is = cc
-    go at.Swapping is = cc
-    go at.Giving is = cc
-    go (at.Finished work made) is = cc
+    go _ is = cc
 
 -- how the naming and the homes go on with a step that answers
 pub step_names : (w : Core) (t : ℕ) (cmd : Cmd) (told : Told) (n : Naming) (home : ℕ → ℕ) → IsDecided w t cmd told (stepped w t)

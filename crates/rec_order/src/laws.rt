@@ -1,4 +1,4 @@
-//! What holds of every run.
+//! What holds of every run, as the contract of a function that does nothing.
 ghost use Rattle.std.specs.Prelude.{◌≡◌, ℕ, ◌+◌, List, length};
 ghost use Rattle.rec_model.specs.Heap.{Heap};
 ghost use Rattle.rec_model.specs.LegalOrder.{Line};
@@ -10,10 +10,11 @@ ghost use Rattle.rec_world.specs.CoreMoves.{Move, AllFit, EndsRun, after_moves};
 ghost use Rattle.rec_order.specs.Naming.{naming_of, named_after_all};
 ghost use Rattle.rec_order.specs.Legal.{AreIdle, AreJournals, HasLegalOrder};
 
-/// Over every run from a world in which no mutator works, step by step in any order, the journals of its mutators have a legal
-/// order, from every heap that stands for that world, with the objects in its slots as the unfreed ones: the order of the steps
-/// that answer, with each object that a turn frees and each begin and end of a sweep among them. And the heap at its end
-/// stands for the world at the end.
+/// Every run, step by step in any order, has a legal order, if no mutator works in the world where it begins. Its events are
+/// those of the run: each answer at the step that decides it, each object at the turn that frees its slot, and the begin and
+/// the end of each sweep. It is a legal order of the mutators' journals, from every heap that stands for the world, with the
+/// objects of taken slots as the unfreed ones; and its last heap stands for the world at the end.
+/// There are such unfreed objects for every such heap, and the naming counts the births.
 pub fn runs_have_a_legal_order()
     ensures order { (w : Core) (heap : Heap) (number : ℕ → ℕ) (unfreed : List ℕ) (moves : List Move) (journals : List (List Line)) → IsConfig w.config → EndsRun w → AreIdle w → StandsBy heap (sight w) number → AreUnfreed (sight w) number unfreed → AllFit w moves → AreJournals w moves journals → HasLegalOrder w heap number unfreed moves journals }
     ensures unfreed { (w : Core) (heap : Heap) (number : ℕ → ℕ) → StandsBy heap (sight w) number → (unfreed : List ℕ) × AreUnfreed (sight w) number unfreed }

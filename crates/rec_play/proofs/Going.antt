@@ -79,6 +79,7 @@ next_in_range script lines t cmd is next =
 lines_more : (lines : List (List Line)) (t : ℕ) (line : Line) → 0 < t → t ≤ length lines → own (with_line lines t line) (t - 1) ≡ own lines (t - 1) ++ line ∷ []
 lines_more lines t line some most = get_or-set_same lines (t - 1) (own lines (t - 1) ++ line ∷ []) [] (omega arith)
 
+-- another mutator's lines stay
 lines_stay : (lines : List (List Line)) (t i : ℕ) (line : Line) → (t - 1 ≡ i → ⊥) → own (with_line lines t line) i ≡ own lines i
 lines_stay lines t i line other = get_or-set_other lines (t - 1) i (own lines (t - 1) ++ line ∷ []) [] (λ same. other (sym same))
 
@@ -243,6 +244,7 @@ begun script lines is one_each empty =
       idle = λ t there. ap is_busy (mutator_opened (config_of script) t there);
     }
 
+-- a turn is a line of its mutator
 turns_of_one : (t s : ℕ) (line : Line) (order : List ℕ) (lines : List Line) → times t order ≡ length lines
     → times t (s ∷ order) ≡ length (cons_option (if s == t then Some line else None) lines)
 turns_of_one t s line order lines so = sum_by-cons (λ m. if m == t then 1 else 0) s order ∙ one_of (s == t)

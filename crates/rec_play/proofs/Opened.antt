@@ -4,7 +4,7 @@ use Rattle.std.specs.List.{filter_map}
 use Rattle.std.proofs.lemmas.List.{map_push}
 use Rattle.rec_model.specs.Heap.{Heap, opening}
 use Rattle.rec_model.specs.LegalOrder.{Line, Event, Moment, after_all, line_by, IsLegalOrder}
-use Rattle.rec_model.specs.Sight.{Sight, StandsBy, StandsFor}
+use Rattle.rec_model.specs.Sight.{Sight, StandsBy}
 use Rattle.rec_model.specs.Unfreed.{AreUnfreed}
 use Rattle.rec_model.proofs.Opened.{opening_number, opening_stands_by, opening_unfreed}
 use Rattle.rec_mutator.specs.Private.{Private}
@@ -38,12 +38,13 @@ done_opened config (suc n) =
     map_push (λ (p : Private). length p.log.entries) (opened_mutators config n) (opened_mutator config (suc n)) ∙ ap (λ ns. ns ++ 0 ∷ []) (done_opened config n) ∙ replicate_push n 0
 
 -- what is played has a legal order, and its heap stands for the world
-pub record IsPlayedLegally (script : Contents) (world : Core) (lines : List (List Line)) (events : List Event) : Type 0 where
+pub record IsPlayedLegally (script : Contents) (world : Core) (lines : List (List Line)) (events : List Event) (n : Naming) : Type 0 where
   pub legal : IsLegalOrder (played.limits_of script) (opening_moment script) lines events
-  pub stands : StandsFor (last_moment script events).heap (sight world)
+  pub stands : StandsBy (last_moment script events).heap (sight world) n.number
   pub made : world.made ≡ length (last_moment script events).heap.objects
 
-pub played_legally : (script : Contents) (world : Core) (lines : List (List Line)) (order : List ℕ) (events : List Event) (n : Naming) → PlayedSo script world lines order events n → IsPlayedLegally script world lines events
+-- by the law of every run
+pub played_legally : (script : Contents) (world : Core) (lines : List (List Line)) (order : List ℕ) (events : List Event) (n : Naming) → PlayedSo script world lines order events n → IsPlayedLegally script world lines events n
 played_legally script world lines order events n so =
     let config : Config = config_of script in
     let first : Core = opened config in
@@ -60,15 +61,17 @@ played_legally script world lines order events n so =
       one_each = so.one_each;
       lines = λ t is. sym (so.lines_of t is.0) ∙ ap (filter_map (line_by t)) (sym so.tells) ∙ lines_of t first_naming first so.moves;
     }) in
+    let ends : Moment = after_all (limits_of config) (moment_of first heap (0 ∷ [])) (events_of first_naming first so.moves) in
     let P : Moment → List Event → Type 0 = λ m es. IsLegalOrder (played.limits_of script) m lines es in
-    let Q : Moment → List Event → Type 0 = λ m es. StandsFor (after_all (played.limits_of script) m es).heap (sight world) in
+    let Q : Moment → List Event → Type 0 = λ m es. StandsBy (after_all (played.limits_of script) m es).heap (sight world) n.number in
     let R : Moment → List Event → Type 0 = λ m es. world.made ≡ length (after_all (played.limits_of script) m es).heap.objects in
     let counted : (named_after_all first_naming first so.moves).next + 1 ≡ 1 + (after_moves first so.moves).made = moves_made first_naming first so.moves in
-    let next : (named_after_all first_naming first so.moves).next ≡ length (after_all (limits_of config) (moment_of first heap (0 ∷ [])) (events_of first_naming first so.moves)).heap.objects = all.ends.next in
+    let next : (named_after_all first_naming first so.moves).next ≡ length ends.heap.objects = all.ends.next in
     let same : world.made ≡ (after_moves first so.moves).made = ap (λ (w : Core). w.made) (sym so.ends) in
     record {
       legal = subst (λ m. P m events) start (subst (P (moment_of first heap (0 ∷ []))) so.tells all.legal);
-      stands = subst (λ m. Q m events) start (subst (Q (moment_of first heap (0 ∷ []))) so.tells
-          ((named_after_all first_naming first so.moves).number, subst (λ (w : Core). StandsBy (after_all (limits_of config) (moment_of first heap (0 ∷ [])) (events_of first_naming first so.moves)).heap (sight w) (named_after_all first_naming first so.moves).number) so.ends all.ends.stands));
+      stands = subst (λ m. Q m events) start (subst (Q (moment_of first heap (0 ∷ []))) so.tells (
+          subst (λ (k : Naming). StandsBy ends.heap (sight world) k.number) so.names
+          (subst (λ (w : Core). StandsBy ends.heap (sight w) (named_after_all first_naming first so.moves).number) so.ends all.ends.stands)));
       made = subst (λ m. R m events) start (subst (R (moment_of first heap (0 ∷ []))) so.tells (omega (arith, counted, next, same)));
     }

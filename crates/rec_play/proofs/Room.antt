@@ -9,6 +9,7 @@ use Rattle.rec_model.specs.declared.answer.Answer.TheVariants.{LogFull}
 use Rattle.rec_model.specs.Asking.{is_done}
 use Rattle.rec_model.specs.LegalOrder.{Line, Event, Limits, Moment, Fits, after, bump, line_by, moment, IsLegalOrder}
 use Rattle.rec_model.specs.LegalOrder.Event.{Answers, Frees, Marks}
+use Rattle.rec_world.proofs.Openings.{free_at}
 use Rattle.rec_script.specs.Script.{Contents}
 use Rattle.rec_play.specs.Played.{limits_of, log_room, longest, opening_moment}
 use Rattle.rec_play.proofs.Ready.{fits_longest}
@@ -27,6 +28,7 @@ bump_own ns t = elim (cases_lt (t - 1) (length ns)) [
       omega (arith, none)
 ]
 
+-- and after an answer of its own
 done_own : (ns : List ℕ) (t : ℕ) (b : Bool) → slice_index_or (if b then bump ns t else ns) (t - 1) 0 ≤ slice_index_or ns (t - 1) 0 + 1
 done_own ns t true = bump_own ns t
 done_own ns t false = omega arith
@@ -64,12 +66,6 @@ never_full limits t m (Answers s line ∷ events) some numbered fits room = elim
       (never_full limits t (after limits m (Answers s line)) events some (λ i. numbered (suc i)) (λ i. fits (suc i)) (omega (arith, stays, long, room)))
 ]
 
--- a log is empty at opening
-none_done : (many i : ℕ) → slice_index_or {A = ℕ} (replicate many 0) i 0 ≡ 0
-none_done zero i = refl
-none_done (suc many) zero = refl
-none_done (suc many) (suc i) = none_done many i
-
 -- Journals with the script's commands and a legal order tell no full log.
 pub no_log_full : (script : Contents) (journals : List (List Line)) (events : List Event) → map (map (λ (line : Line). line.0)) journals ≡ script.commands
     → IsLegalOrder (limits_of script) (opening_moment script) journals events → All (All HasRoom) journals
@@ -83,7 +79,7 @@ no_log_full script journals events commands legal = All-from_get_or (All HasRoom
     each : (i : ℕ) → i < length journals → All HasRoom (slice_index_or journals i [])
     each i there =
         let own : filter_map (line_by (suc i)) events ≡ slice_index_or journals i [] = legal.own (suc i) (omega arith) ∙ ap (λ n. slice_index_or journals n []) (let same : suc i - 1 ≡ i = omega arith in same) in
-        let none : slice_index_or (opening_moment script).done (suc i - 1) 0 ≡ 0 = none_done (length script.commands) (suc i - 1) in
+        let none : slice_index_or (opening_moment script).done (suc i - 1) 0 ≡ 0 = free_at (length script.commands) (suc i - 1) in
         let many : length (filter_map (line_by (suc i)) events) ≡ length (slice_index_or script.commands i []) = ap (λ (ls : List Line). length ls) own ∙ long i there in
         let most : length (slice_index_or script.commands i []) ≤ longest script.commands = fits_longest script.commands i in
         let room : longest script.commands ≤ log_room script = omega arith in

@@ -7,7 +7,7 @@ use Rattle.std.proofs.lemmas.List.Elements.{All-get_or}
 use Rattle.std.proofs.lemmas.Option.{slice_get-get_or, get_or_from_slice_get}
 use Rattle.rec_model.specs.declared.command.Cmd.{Cmd}
 use Rattle.rec_model.specs.declared.told.Told.{Told}
-use Rattle.rec_model.specs.LegalOrder.{Line, Event, IsLegalOrder}
+use Rattle.rec_model.specs.LegalOrder.{Line, Event}
 use Rattle.rec_model.specs.LegalOrder.Event.{Answers}
 use Rattle.rec_model.specs.Numbering.{times}
 use Rattle.rec_model.proofs.Growing.{with_line}
@@ -18,7 +18,7 @@ use Rattle.rec_script.specs.Script.{Contents, IsScript}
 use Rattle.rec_play.specs.declared.actor.Actor.{Actor}
 use Rattle.rec_play.specs.declared.actor.Actor.TheVariants.{Mutator, Collector}
 use Rattle.rec_play.specs.Commanded.{Commanded, Polled, PollsNone, PollsOne, Turned, noted}
-use Rattle.rec_play.specs.Played.{AreReady, IsPlayed, config_of, lengths_of, limits_of, lines_of, no_notes, opening_moment}
+use Rattle.rec_play.specs.Played.{AreReady, IsPlayed, config_of, lengths_of, lines_of, no_notes}
 use Rattle.rec_play.specs.Playing.{Rest, IsOrderFor, all_turns, generator_of, mutators_of, order, to_come}
 use Rattle.rec_play.specs.Run.{IsPlayedRun, EndsTurn, commands_of, made_in}
 use Rattle.rec_play.specs.Run.IsPlayedRun.{starts}
@@ -32,7 +32,7 @@ use Rattle.rec_order.specs.Naming.{Naming, NamesGoOn, first_naming}
 use Rattle.rec_world.specs.declared.config.Config.{Config}
 use Rattle.rec_model.specs.Sight.{Sight, IsTaken}
 use Rattle.rec_play.proofs.Going.{PlayedSo, own, commands_at, begun, one_more, poll_more, turn_more, made_is_named, is_mutator, world_kept}
-use Rattle.rec_play.proofs.Opened.{played_legally}
+use Rattle.rec_play.proofs.Opened.{IsPlayedLegally, played_legally}
 use Rattle.rec_play.proofs.Room.{no_log_full}
 use Rattle.rec_play.proofs.Orders.{times-append, times-cons, order_names, order_length, order_comes, collectors, collectors_few}
 
@@ -46,6 +46,7 @@ journal_is journals index t d same some there =
     ap (λ n. slice_index_or journals (n - 1) d) same
     ∙ get_or_from_slice_get journals (t - 1) (notes_at journals (t - 1)) d (slice_get-get_or journals (t - 1) no_notes (omega arith))
 
+-- what was played so far, what is to come, and what room is left
 pub record Between (script : Contents) (seed turns : ℕ) (world : Core) (journals : List Notes) (made : Turns) (rest : Rest) : Type 0 where
   pub events : List Event
   -- which object each slot holds
@@ -298,6 +299,7 @@ epochs_made script seed turns world journals made rest none so =
     let nobody : collectors (to_come rest) ≡ 0 = ap collectors none in
     omega arith
 
+-- all commands were played
 pub all_played : (script : Contents) (seed turns : ℕ) (world : Core) (journals : List Notes) (made : Turns) (rest : Rest) → to_come rest ≡ [] → (so : Between script seed turns world journals made rest)
     → IsPlayed script seed turns (lines_of journals) so.events world
 all_played script seed turns world journals made rest none so =
@@ -316,12 +318,13 @@ all_played script seed turns world journals made rest none so =
     ∙ ap (times (i + 1)) order_is ∙ names.each (i + 1) (omega arith) ∙ ap (λ n. slice_index_or (lengths_of script) n 0) (sym next)
     ∙ get_or-map (length {A = Cmd}) script.commands i [] 0 (omega arith) in
     get_or-map (map (λ (line : Line). line.0)) (lines_of journals) i [] [] within ∙ so.so.commands i ∙ take_all (length (own (lines_of journals) i)) (commands_at script i) (omega arith)) in
-    let legal : IsLegalOrder (limits_of script) (opening_moment script) (lines_of journals) so.events = (played_legally script world (lines_of journals) made.list so.events so.names so.so).legal in
+    let legally : IsPlayedLegally script world (lines_of journals) so.events so.names = played_legally script world (lines_of journals) made.list so.events so.names so.so in
     record {
       commands = commands;
-      legal = legal;
+      legal = legally.legal;
       in_order = sym so.so.in_order ∙ order_is;
       names = so.names;
       run = subst (λ actors. IsPlayedRun script actors so.events so.names world) (sym (append-nil so.acted) ∙ ap (λ later. so.acted ++ later) (sym none) ∙ so.all) so.run;
-      no_log_full = no_log_full script (lines_of journals) so.events commands legal;
+      stands = legally.stands;
+      no_log_full = no_log_full script (lines_of journals) so.events commands legally.legal;
     }

@@ -5,7 +5,8 @@ use Rattle.rec_model.specs.declared.command.Cmd.{Cmd}
 use Rattle.rec_model.specs.declared.answer.Answer.TheVariants.{LogFull}
 use Rattle.rec_model.specs.Heap.{opening}
 use Rattle.rec_model.specs.LegalOrder.{Line, Event, Limits, Moment, after_all, actors, IsLegalOrder}
-use Rattle.rec_world.specs.Core.{Core}
+use Rattle.rec_model.specs.Sight.{StandsBy}
+use Rattle.rec_world.specs.Core.{Core, sight}
 use Rattle.rec_world.specs.Journal.{Notes}
 use Rattle.rec_order.specs.Naming.{Naming}
 use Rattle.rec_script.specs.Script.{Contents}
@@ -57,8 +58,9 @@ pub record IsPlayed (script : Contents) (seed turns : ℕ) (journals : List (Lis
   pub commands : map (map (λ line. line.0)) journals ≡ script.commands
   pub legal : IsLegalOrder (limits_of script) (opening_moment script) journals events
   pub in_order : actors events ≡ order (lengths_of script) seed turns
-  -- which object each slot holds at the end
+  -- which object each slot holds at the end: by this the heap of the order stands for the world
   pub names : Naming
   pub run : IsPlayedRun script (all_turns (lengths_of script) seed turns) events names world
+  pub stands : StandsBy (last_moment script events).heap (sight world) names.number
   -- no answer is that a log is full
   pub no_log_full : All (All (λ (line : Line). line.1.answer ≢ LogFull)) journals

@@ -84,7 +84,7 @@ returns-clause-played c =
     let none : to_come c.loop-actor.schedule ≡ [] = c.in_default.ensures.ended refl in (
       so.events,
       all_played c.args.script.now c.args.seed c.args.turns c.loop-actor.world c.loop-actor.journals c.loop-actor.order c.loop-actor.schedule none so,
-      (played_legally c.args.script.now c.loop-actor.world (lines_of c.loop-actor.journals) c.loop-actor.order.list so.events so.names so.so).stands,
+      (so.names.number, (played_legally c.args.script.now c.loop-actor.world (lines_of c.loop-actor.journals) c.loop-actor.order.list so.events so.names so.so).stands),
       (played_legally c.args.script.now c.loop-actor.world (lines_of c.loop-actor.journals) c.loop-actor.order.list so.events so.names so.so).made,
     )
 
