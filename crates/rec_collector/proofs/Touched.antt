@@ -1,13 +1,13 @@
 -- A step leaves an orange member as it was, or lowers it, and names it nowhere.
-use Rattle.std.proofs.Common.{◌≡◌, ◌≢◌, ◌⊎◌, ℕ, ◌+◌, ◌-◌, ◌<◌, ◌==◌, ◌&&◌, not, Bool, true, false, eqb, Option, None, Some, IfSome, List, [], ◌∷◌, length, flat_map, refl, sym, ap, subst, ◌∙◌, arith, inl, inr}
-use Rattle.std.proofs.lemmas.Bool.{cases_eq, cases_lt, cond-true, cond-false, eq-eqb, ne_eqb}
+use Rattle.std.proofs.Common.{◌≡◌, ◌⊎◌, ℕ, ◌+◌, ◌-◌, ◌<◌, ◌==◌, ◌&&◌, not, Bool, true, false, Option, None, Some, IfSome, List, length, flat_map, refl, sym, ap, subst, ◌∙◌, arith, inl, inr}
+use Rattle.std.proofs.lemmas.Bool.{cases_lt, cond-true, cond-false, eq-eqb, ne_eqb}
 use Rattle.std.proofs.lemmas.Bool.Decides.{eqb_tells}
 use Rattle.std.proofs.lemmas.List.{get_or_past}
 use Rattle.rec_word.specs.Word.{target_of}
 use Rattle.rec_word.specs.declared.op.Op.{Op}
 use Rattle.rec_log.specs.declared.contents.Contents.{Contents}
 use Rattle.rec_apply.specs.Batch.{all_up, batch, down_targets, up_targets}
-use Rattle.rec_apply.specs.Targets.{added, is_slot, taken}
+use Rattle.rec_apply.specs.Targets.{added, taken}
 use Rattle.rec_apply.proofs.Resting.{rest_all_down, rest_all_up}
 use Rattle.rec_counts.specs.declared.colour.Colour.TheVariants.{Orange}
 use Rattle.rec_counts.specs.declared.slot.Slot.{Slot}
@@ -19,22 +19,20 @@ use Rattle.rec_release.specs.Release as releases
 use Rattle.rec_release.specs.Release.{emptied, listed_if, without_first}
 use Rattle.rec_release.specs.Sweep as sweeps
 use Rattle.rec_release.specs.TakenOff.{down_if, IsApart, is_lowered, taken_off}
-use Rattle.rec_release.specs.declared.at.At.{At}
-use Rattle.rec_release.specs.declared.member.Member.{Member}
 use Rattle.rec_sigma.specs.Prepared.{Load}
 use Rattle.rec_collector.specs.Followed.{prep_started, relieved, with_freed, with_loaded, with_released, with_tried}
 use Rattle.rec_collector.specs.Given.{IsGiven, IsGivenAt}
-use Rattle.rec_collector.specs.Kept.{IsAt, IsAtRest, IsMachine, NoneReleased, under_way}
+use Rattle.rec_collector.specs.Kept.{IsAtRest, IsMachine, under_way}
 use Rattle.rec_collector.specs.Outside.{HasSets, IsOutside}
 use Rattle.rec_collector.specs.Parts.{Parts}
-use Rattle.rec_collector.specs.Private.{Private, parts_of, with_parts}
-use Rattle.rec_collector.specs.Step.{Step, GoesOn, Ends, PreparesOn, TriesOn, ClearsOn, IsNext, IsTested, IsBetween}
+use Rattle.rec_collector.specs.Private.{Private, parts_of}
+use Rattle.rec_collector.specs.Step.{Step, GoesOn, PreparesOn, TriesOn, ClearsOn, IsNext, IsTested, IsBetween}
 use Rattle.rec_collector.specs.Testing.{zeros_released}
 use Rattle.rec_collector.specs.Took.{step_of, turn_of}
 use Rattle.rec_collector.specs.Next.{next_of}
 use Rattle.rec_collector.specs.Touched.{decrements, IsOrangeIn, named_at, named_by, tried_at, WasUntouched}
 use Rattle.rec_collector.specs.declared.phase.Phase.{Phase}
-use Rattle.rec_collector.specs.declared.phase.Phase.TheVariants.{Idle, Looking, Swapping, Returning, Releasing, Freeing, Trying, Preparing, Opening, Sweeping, Closing}
+use Rattle.rec_collector.specs.declared.phase.Phase.TheVariants.{Returning, Releasing, Freeing, Trying, Preparing}
 use Rattle.rec_collector.specs.declared.turn.Turn.{Turn}
 use Rattle.rec_collector.proofs.Goings.{freed_by, freed_off, none_some, relieved_by, released_by, released_off}
 use Rattle.rec_collector.proofs.Outside.{Lowers, first_lowers, given_lowers, off_lowers, refurbished_lowers, same_lowers, swept_lowers}
@@ -96,11 +94,11 @@ released_spares w word x a h = released_by (λ v. Spares w.counts v.counts x (de
     (λ e. inr e)
     (λ at e l. inl off)
     (λ at e l.
-        let t : State = emptied (released_off w word) at.slot in
-        inl (spares_on w.counts t (without_first t.zeros t) x (decrements w.release.lowers w.counts (target_of word) x) 0 (decrements w.release.lowers w.counts (target_of word) x)
-            (spares_on w.counts (released_off w word) t x (decrements w.release.lowers w.counts (target_of word) x) 0 (decrements w.release.lowers w.counts (target_of word) x) off
-                (lowers_spares (released_off w word) t x (same_lowers (released_off w word) t (emptied_same (slot_at (released_off w word) at.slot).buffered (released_off w word) at.slot))) (omega arith))
-            (lowers_spares t (without_first t.zeros t) x (first_lowers t.zeros t)) (omega arith)))
+    let t : State = emptied (released_off w word) at.slot in
+    inl (spares_on w.counts t (without_first t.zeros t) x (decrements w.release.lowers w.counts (target_of word) x) 0 (decrements w.release.lowers w.counts (target_of word) x)
+    (spares_on w.counts (released_off w word) t x (decrements w.release.lowers w.counts (target_of word) x) 0 (decrements w.release.lowers w.counts (target_of word) x) off
+    (lowers_spares (released_off w word) t x (same_lowers (released_off w word) t (emptied_same (slot_at (released_off w word) at.slot).buffered (released_off w word) at.slot))) (omega arith))
+    (lowers_spares t (without_first t.zeros t) x (first_lowers t.zeros t)) (omega arith)))
   where
     off : Spares w.counts (released_off w word) x (decrements w.release.lowers w.counts (target_of word) x)
     off = off_spares w.release.lowers w.counts (target_of word) x a h
@@ -117,7 +115,7 @@ freed_spares w word x a h = freed_by (λ v. Spares w.counts v.counts x (decremen
     (λ at e l. inl off)
     (λ at e l m. inl off)
     (λ at e l m. inl (spares_on w.counts (freed_off w word) (frees.listed (freed_off w word)) x (decrements true w.counts (target_of word) x) 0 (decrements true w.counts (target_of word) x) off
-        (lowers_spares (freed_off w word) (frees.listed (freed_off w word)) x (same_lowers (freed_off w word) (frees.listed (freed_off w word)) (λ y. refl))) (omega arith)))
+    (lowers_spares (freed_off w word) (frees.listed (freed_off w word)) x (same_lowers (freed_off w word) (frees.listed (freed_off w word)) (λ y. refl))) (omega arith)))
   where
     off : Spares w.counts (freed_off w word) x (decrements true w.counts (target_of word) x)
     off = off_spares true w.counts (target_of word) x a h
@@ -133,12 +131,12 @@ tested_spares w v x (IsTested.fails_delta s not last is) = subst (λ (u : Parts)
 tested_spares w v x (IsTested.fails_sigma s orange some last is) = subst (λ (u : Parts). Spares w.counts u.counts x 0) (sym is) (spares_on w.counts s (zeros_released true (record w { counts = s })).counts x 0 0 0 (lowers_spares w.counts s x (refurbished_lowers w.counts s last)) (zeros_spares true (record w { counts = s }) x) (omega arith))
 
 -- where a trial begins, its sets are of the requested epoch
-prepares_late : (p q : Private) (w : Parts) (turn : Turn) → PreparesOn p w q turn → tried_at q.epoch q.phase ≡ p.epoch
+pub prepares_late : (p q : Private) (w : Parts) (turn : Turn) → PreparesOn p w q turn → tried_at q.epoch q.phase ≡ p.epoch
 prepares_late p q w turn (PreparesOn.more busy g) = ap (λ (r : Private). tried_at r.epoch r.phase) g.after
 prepares_late p q w turn (PreparesOn.sweeps_next done some g) = ap (λ (r : Private). tried_at r.epoch r.phase) g.after
 prepares_late p q w turn (PreparesOn.completes done none e) = ap (λ (r : Private). tried_at r.epoch r.phase) e.after
 
-tries_late : (p q : Private) (w : Parts) (turn : Turn) → TriesOn p w q turn → tried_at q.epoch q.phase ≡ p.epoch
+pub tries_late : (p q : Private) (w : Parts) (turn : Turn) → TriesOn p w q turn → tried_at q.epoch q.phase ≡ p.epoch
 tries_late p q w turn (TriesOn.more busy g) = ap (λ (r : Private). tried_at r.epoch r.phase) g.after
 tries_late p q w turn (TriesOn.prepares done on) = prepares_late p q _ turn on
 

@@ -33,6 +33,7 @@ use Rattle.rec_mutator.specs.declared.work.Work.TheVariants as works
 use Rattle.rec_mutator.proofs.Steps.{whole_made}
 use Rattle.rec_release.specs.CycleFree.{op_at as freeing_op_at, next_of as freeing_next}
 use Rattle.rec_release.specs.Release.{op_at as release_op_at, next_of as release_next}
+use Rattle.rec_release.specs.Sweep as sweeps
 use Rattle.rec_release.specs.declared.at.At.{At}
 use Rattle.rec_release.specs.declared.member.Member.{Member}
 use Rattle.rec_collector.specs.Given.{IsGiven}
@@ -49,12 +50,13 @@ use Rattle.rec_collector.specs.declared.phase.Phase.{Phase}
 use Rattle.rec_collector.specs.declared.phase.Phase.TheVariants.{Idle, Looking, Swapping, Returning, Releasing, Freeing, Trying, Preparing, Opening, Sweeping, Closing}
 use Rattle.rec_collector.specs.declared.turn.Turn.{Turn}
 use Rattle.rec_collector.proofs.Steps as collectors_made
+use Rattle.rec_collector.proofs.Touched.{prepares_late, tries_late}
 use Rattle.rec_collector.proofs.Words.{names_word}
 use Rattle.rec_world.specs.declared.config.Config.{Config}
 use Rattle.rec_world.specs.Config.{IsMutator}
 use Rattle.rec_world.specs.Core.{Core, cells_of, mutator, box, nobody, crossing_of}
 use Rattle.rec_world.specs.CoreKept.{IsMadeIn, IsBufferOf, IsHandshake, IsKept, Stand, stand_at}
-use Rattle.rec_world.specs.CoreLoads.{BeginsNoTrial, cleared_by, cleared_in, cleared_over, IsKnown, IsReferenceStill, Loaded, loaded_by, loaded_in, loaded_over, tried_in}
+use Rattle.rec_world.specs.CoreLoads.{cleared_by, cleared_in, cleared_over, IsKnown, IsReferenceStill, IsSameTrial, Loaded, loaded_by, loaded_in, loaded_over, tried_in}
 use Rattle.rec_world.specs.CoreMoves.{AllFit, Fits, Move, after_move, after_moves, begun, collected, found_by, left_by, looked_at, offering, stepped, turned, turned_at, turned_by}
 use Rattle.rec_world.specs.CorePending.{older_at, writes_in, writes_of}
 use Rattle.rec_world.specs.Memory.{Cells, cell, with_cell}
@@ -386,9 +388,9 @@ module _ (w : Core) (op : Op) (kept : IsKept w) (named : ◌≡◌ {A = Option O
       let both : length c.older ≡ length c.newer = kept.collector.machine.both in
       let many : length c.newer ≡ w.config.mutators = kept.collector.mutators in
       none_of (wrote g) c.older (collectors.blank 0 0) (λ i below.
-          let at : i + 1 - 1 ≡ i = omega arith in
-          let one : IsBufferOf w.config (older_at w.epoch c.phase) (slice_index_or c.older i (collectors.blank 0 0)) = subst (λ n. IsBufferOf w.config (older_at w.epoch c.phase) (slice_index_or c.older n (collectors.blank 0 0))) at (kept.collector.older (i + 1) (omega arith, omega (arith, below, both, many))) in
-          early_writes g (older_at w.epoch c.phase) (tried_in w) (slice_index_or c.older i (collectors.blank 0 0)).entries (older_early w.config.first_epoch c.collections w.epoch c.phase kept.config.some_epoch kept.collector.begun) early one.made)
+      let at : i + 1 - 1 ≡ i = omega arith in
+      let one : IsBufferOf w.config (older_at w.epoch c.phase) (slice_index_or c.older i (collectors.blank 0 0)) = subst (λ n. IsBufferOf w.config (older_at w.epoch c.phase) (slice_index_or c.older n (collectors.blank 0 0))) at (kept.collector.older (i + 1) (omega arith, omega (arith, below, both, many))) in
+      early_writes g (older_at w.epoch c.phase) (tried_in w) (slice_index_or c.older i (collectors.blank 0 0)).entries (older_early w.config.first_epoch c.collections w.epoch c.phase kept.config.some_epoch kept.collector.begun) early one.made)
 
   rows_keep : v.boxes ≡ w.boxes → Rows c q → (g : Write → ℕ) → ((x : Write) → epoch_of x.new < tried_in w → g x ≡ 0) → sum_by g (writes_of w) ≤ sum_by g (writes_of v)
   rows_keep boxes (Rows.kept_rows newer older) g early = omega (arith, writes_sum g v, writes_sum g w, ap (sum_by (wrote g)) boxes, ap (sum_by (wrote g)) newer, ap (sum_by (wrote g)) older)
@@ -464,6 +466,11 @@ move_keeps w (Move.Begins t work) kept fits = begun_keeps w t work kept fits.0
 move_keeps w (Move.Steps t) kept fits = step_keeps w t kept fits.0 fits.1
 move_keeps w Move.Turns kept fits = turn_keeps w kept
 move_keeps w Move.Offers kept fits = same_keeps w (offering w) (tried_in w) refl (λ g. omega arith)
+
+-- no other trial begins over these moves
+abbrev pub BeginsNoTrial : Core → List Move → Type 0
+BeginsNoTrial w [] = Unit {0}
+BeginsNoTrial w (m ∷ ms) = (tried_in (after_move w m) ≡ tried_in w) × BeginsNoTrial (after_move w m) ms
 
 -- more may have been taken out
 lasts_more : (v : Core) (first rest : List Cleared) (l : Loaded) → Lasts v rest l → Lasts v (first ++ rest) l
@@ -559,3 +566,73 @@ all_known w (m ∷ ms) l kept fit within c = elim (Contains-append_cases (loaded
     known_more v first rest l (IsKnown.stands e) = IsKnown.stands e
     known_more v first rest l (IsKnown.replaced x held at old late) = IsKnown.replaced x held at old late
     known_more v first rest l (IsKnown.taken_out held) = IsKnown.taken_out (Contains-append_right first rest _ held)
+
+-- the requested epoch of the collector is that of its heap
+pub tried_of : (w : Core) → IsKept w → tried_at w.collector.epoch w.collector.phase ≡ tried_in w
+tried_of w kept = ap (λ n. tried_at n w.collector.phase) kept.collector.epoch
+
+-- a step of a mutator leaves it
+step_tried : (w : Core) (t : ℕ) → IsKept w → IsMutator w.config t → is_busy (mutator w t) ≡ true → tried_in (stepped w t) ≡ tried_in w
+step_tried w t kept is busy = sym (tried_of (stepped w t) (move_kept w (Move.Steps t) kept (is, busy))) ∙ tried_of w kept
+
+-- what goes on to a phase
+goes_tried : {r q : collectors.Private} {turn : Turn} {next : Phase} → collectors_step.GoesOn r q turn next → tried_at q.epoch q.phase ≡ tried_at r.epoch next
+goes_tried g = ap (λ (x : collectors.Private). tried_at x.epoch x.phase) g.after
+
+ends_tried : {r q : collectors.Private} {turn : Turn} {swept : ℕ} → collectors_step.Ends r q turn swept → tried_at q.epoch q.phase ≡ r.epoch
+ends_tried e = ap (λ (x : collectors.Private). tried_at x.epoch x.phase) e.after
+
+clears_tried : (p q : collectors.Private) (turn : Turn) {w : Parts} → collectors_step.ClearsOn p q turn w → p.epoch - 1 ≤ tried_at q.epoch q.phase
+clears_tried p q turn (collectors_step.ClearsOn.frees_on busy g) = omega (arith, goes_tried g)
+clears_tried p q turn (collectors_step.ClearsOn.releases_on unfreed busy g) = omega (arith, goes_tried g)
+clears_tried p q turn (collectors_step.ClearsOn.tests v unfreed still some tested on) = clears_tried p q turn on
+clears_tried p q turn (collectors_step.ClearsOn.tries unfreed still none on) = omega (arith, tries_late p q _ turn on)
+
+swept_tried : {swept requested : ℕ} {w : sweeps.Work} {next : Phase} → collectors_step.IsNext swept w next → tried_at requested next ≡ requested
+swept_tried {requested = requested} (collectors_step.IsNext.more busy is) = ap (tried_at requested) is
+swept_tried {requested = requested} (collectors_step.IsNext.last done is) = ap (tried_at requested) is
+
+-- the epoch of the last trial never falls
+step_rises : {p q : collectors.Private} {word : ℕ} {b : Contents} {op : Option Op} {turn : Turn} → collectors_step.Step p word b op q turn → tried_at p.epoch p.phase ≤ tried_at q.epoch q.phase
+step_rises (collectors_step.Step.spent at last none is t) = omega (arith, ap (λ (x : collectors.Private). tried_at x.epoch x.phase) is)
+step_rises {p} (collectors_step.Step.request at more is g) = omega (arith, ap (tried_at p.epoch) at, goes_tried g)
+step_rises (collectors_step.Step.wait t at other is same turn) = omega (arith, ap (λ (x : collectors.Private). tried_at x.epoch x.phase) same)
+step_rises {p} (collectors_step.Step.gather t at crossed is g) = omega (arith, ap (tried_at p.epoch) at, goes_tried g)
+step_rises {p} (collectors_step.Step.give_back t at other is g) = omega (arith, ap (tried_at p.epoch) at, goes_tried g)
+step_rises {p} {q} (collectors_step.Step.apply t at last is on) = omega (arith, ap (tried_at p.epoch) at, clears_tried p q _ on)
+step_rises {p} {q} (collectors_step.Step.release at is on) = omega (arith, ap (tried_at p.epoch) at, clears_tried p q _ on)
+step_rises {p} {q} (collectors_step.Step.freeing at is on) = omega (arith, ap (tried_at p.epoch) at, clears_tried p q _ on)
+step_rises {p} {q} (collectors_step.Step.trial at is on) = omega (arith, ap (tried_at p.epoch) at, tries_late p q _ _ on)
+step_rises {p} {q} (collectors_step.Step.preparation at is on) = omega (arith, ap (tried_at p.epoch) at, prepares_late p q _ _ on)
+step_rises {p} (collectors_step.Step.begin_sweep at is g) = omega (arith, ap (tried_at p.epoch) at, goes_tried g)
+step_rises {p} (collectors_step.Step.sweep swept u next at is took follows g) = omega (arith, ap (tried_at p.epoch) at, goes_tried g, swept_tried {requested = p.epoch} follows)
+step_rises {p} (collectors_step.Step.end_sweep swept at is e) = omega (arith, ap (tried_at p.epoch) at, ends_tried e)
+
+turn_rises : (w : Core) → IsKept w → IsKept (turned w) → tried_in w ≤ tried_in (turned w)
+turn_rises w kept later = go (collectors_next.next_of w.collector) refl later
+  where
+    go : (x : Option Op) → collectors_next.next_of w.collector ≡ x → IsKept (turned_at w x) → tried_in w ≤ tried_in (turned_at w x)
+    go None none later = omega arith
+    go (Some op) named later =
+        let c : collectors.Private = w.collector in
+        let made = collectors_made.step_made c (cell (cells_of w) op) (box w (looked_at c.phase)) kept.collector.machine kept.collector.between (given_is w op kept named) in
+        let rises : tried_at c.epoch c.phase ≤ tried_at (turned_by w op (cell (cells_of w) op)).collector.epoch (turned_by w op (cell (cells_of w) op)).collector.phase = step_rises made in
+        omega (arith, rises, tried_of w kept, tried_of (turned_by w op (cell (cells_of w) op)) later)
+
+move_rises : (w : Core) (m : Move) → IsKept w → Fits w m → tried_in w ≤ tried_in (after_move w m)
+move_rises w (Move.Begins t work) kept fits = omega arith
+move_rises w (Move.Steps t) kept fits = omega (arith, step_tried w t kept fits.0 fits.1)
+move_rises w Move.Turns kept fits = turn_rises w kept (move_kept w Move.Turns kept fits)
+move_rises w Move.Offers kept fits = omega arith
+
+moves_rise : (w : Core) (ms : List Move) → IsKept w → AllFit w ms → tried_in w ≤ tried_in (after_moves w ms)
+moves_rise w [] kept fit = omega arith
+moves_rise w (m ∷ ms) kept fit = omega (arith, move_rises w m kept fit.0, moves_rise (after_move w m) ms (move_kept w m kept fit.0) fit.1)
+
+-- so where it is the same at the end, no move begins another trial
+pub no_trial : (w : Core) (ms : List Move) → IsKept w → AllFit w ms → IsSameTrial w (after_moves w ms) → BeginsNoTrial w ms
+no_trial w [] kept fit same = tt
+no_trial w (m ∷ ms) kept fit same =
+    let v : Core = after_move w m in
+    let here : tried_in v ≡ tried_in w = omega (arith, move_rises w m kept fit.0, moves_rise v ms (move_kept w m kept fit.0) fit.1, same) in
+    (here, no_trial v ms (move_kept w m kept fit.0) fit.1 (same ∙ sym here))

@@ -36,18 +36,15 @@ use Rattle.rec_collector.proofs.Touched.{begins_on, has_on, loads_on, LoadsOn, o
 use Rattle.rec_world.specs.declared.config.Config.{Config}
 use Rattle.rec_world.specs.Core.{Core, cells_of, box}
 use Rattle.rec_world.specs.CoreKept.{IsKept}
-use Rattle.rec_world.specs.CoreLoads.{BeginsNoTrial, BeginsPreparing, fields_loaded, load_of, Loaded, loaded_by, loaded_in, loaded_over, named_by_op, named_in, named_over, tried_in}
+use Rattle.rec_world.specs.CoreLoads.{BeginsPreparing, fields_loaded, load_of, Loaded, loaded_by, loaded_in, loaded_over, named_by_op, named_in, named_over, tried_in}
 use Rattle.rec_world.specs.CoreMoves.{AllFit, Fits, Move, after_move, after_moves, looked_at, turned, turned_at, turned_by}
 use Rattle.rec_world.specs.Memory.{cell}
 use Rattle.rec_world.proofs.CoreLanded.{HasLanded}
+use Rattle.rec_world.proofs.CoreLoads.{BeginsNoTrial, tried_of}
 use Rattle.rec_world.proofs.CorePreparing.{loads_due}
 use Rattle.rec_world.proofs.CoreRuns.{given_is, move_kept, move_stays}
 use Rattle.rec_world.proofs.CoreTrying.{loads_child, trying_lands}
 use Rattle.rec_world.proofs.CoreTurns.{now_at}
-
--- the requested epoch of the collector is that of its heap
-tried_of : (w : Core) → IsKept w → tried_at w.collector.epoch w.collector.phase ≡ tried_in w
-tried_of w kept = ap (λ n. tried_at n w.collector.phase) kept.collector.epoch
 
 -- a turn with an operation, up to the next trial
 module _ (w : Core) (op : Op) (kept : IsKept w) (later : IsKept (turned_by w op (cell (cells_of w) op))) (named : ◌≡◌ {A = Option Op} (next_of w.collector) (Some op)) where

@@ -52,10 +52,9 @@ cleared_over w (m ∷ ms) = cleared_in w m ++ cleared_over (after_move w m) ms
 abbrev pub tried_in : Core → ℕ
 tried_in w = tried_at w.epoch w.collector.phase
 
--- no other trial begins over these moves: none leads past the tests of the sets that the last one found
-abbrev pub BeginsNoTrial : Core → List Move → Type 0
-BeginsNoTrial w [] = Unit {0}
-BeginsNoTrial w (m ∷ ms) = (tried_in (after_move w m) ≡ tried_in w) × BeginsNoTrial (after_move w m) ms
+-- From the one state to the other no trial begins: the sets that the last one found are not yet all tested.
+abbrev pub IsSameTrial : Core → Core → Type 0
+IsSameTrial w v = tried_in v ≡ tried_in w
 
 -- Where a word is that was loaded: it stands in its field, or a write of the epoch requested then, or of a later one, replaced it there,
 -- or the collector took it out.

@@ -23,7 +23,7 @@ ghost use Rattle.rec_world.specs.Core.{Core, sight, mutator};
 ghost use Rattle.rec_word.specs.declared.op.Op.TheVariants.{FreeHeader};
 ghost use Rattle.rec_world.specs.CoreFreed.{AreGone, IsForgotten, IsProvenGarbage, Passes, TestsSets};
 ghost use Rattle.rec_world.specs.CoreKept.{IsKept};
-ghost use Rattle.rec_world.specs.CoreLoads.{BeginsNoTrial, BeginsPreparing, cleared_over, fields_loaded, IsReferenceStill, Loaded, loaded_over, named_over};
+ghost use Rattle.rec_world.specs.CoreLoads.{BeginsPreparing, cleared_over, fields_loaded, IsReferenceStill, IsSameTrial, Loaded, loaded_over, named_over};
 ghost use Rattle.rec_world.specs.CoreMet.{MayStep, MayTurn};
 ghost use Rattle.rec_world.specs.CoreMoves.{Move, AllFit, Fits, after_move, after_moves, IsRun, EndsRun, stepped, turned};
 ghost use Rattle.rec_world.specs.CoreScans.{BeginsNone, FailsByProbes};
@@ -91,14 +91,14 @@ pub fn failed_allocations_probed_every_slot()
 /// that was loaded was put in the epoch requested then or before; and it stands in its field, or a write of that epoch or of a later
 /// one replaced it there, or the collector took it out.
 pub fn loaded_words_stay_references()
-    ensures { (w : Core) (moves : List Move) (l : Loaded) → IsConfig w.config → EndsRun w → AllFit w moves → BeginsNoTrial w moves → Contains (loaded_over w moves) l → IsReferenceStill (after_moves w moves) (cleared_over w moves) l }
+    ensures { (w : Core) (moves : List Move) (l : Loaded) → IsConfig w.config → EndsRun w → AllFit w moves → IsSameTrial w (after_moves w moves) → Contains (loaded_over w moves) l → IsReferenceStill (after_moves w moves) (cleared_over w moves) l }
 {}
 
 /// A member of a prepared set that is Orange still was touched by nothing since: over any moves of mutators and collector over which no
 /// trial begins, it was Orange in the same set before, no increment, decrement or snapshot of a batch named it and no decrement since,
 /// and each reference that was lowered came off its true count and off its cyclic count, not below zero.
 pub fn orange_members_stay_untouched()
-    ensures { (w : Core) (moves : List Move) (number x : ℕ) → IsConfig w.config → EndsRun w → HasSets w.collector.phase → AllFit w moves → BeginsNoTrial w moves → IsOrangeIn (after_moves w moves).collector.counts number x → WasUntouched w.collector.counts (after_moves w moves).collector.counts number x (named_over w moves x) }
+    ensures { (w : Core) (moves : List Move) (number x : ℕ) → IsConfig w.config → EndsRun w → HasSets w.collector.phase → AllFit w moves → IsSameTrial w (after_moves w moves) → IsOrangeIn (after_moves w moves).collector.counts number x → WasUntouched w.collector.counts (after_moves w moves).collector.counts number x (named_over w moves x) }
 {}
 
 /// The outside count of a member is read off the run. From the turn with which the preparation of sets begins, over any moves of mutators
@@ -106,8 +106,8 @@ pub fn orange_members_stay_untouched()
 /// member that is Orange still is its true count then, less the words among them in fields of its set's members that lead to it, less the
 /// references that were lowered since, not below zero.
 pub fn outside_counts_are_of_the_run()
-    ensures places { (w : Core) (moves : List Move) → IsConfig w.config → EndsRun w → BeginsPreparing w → AllFit (turned w) moves → BeginsNoTrial (turned w) moves → HasSets (after_moves (turned w) moves).collector.phase → map (λ (l : Loaded). l.place) (loaded_over (turned w) moves) ≡ places_of w.config.fields (concat (turned w).collector.counts.sets) }
-    ensures members { (w : Core) (moves : List Move) (number x : ℕ) → IsConfig w.config → EndsRun w → BeginsPreparing w → AllFit (turned w) moves → BeginsNoTrial (turned w) moves → HasSets (after_moves (turned w) moves).collector.phase → IsOrangeIn (after_moves (turned w) moves).collector.counts number x → IsOutside (turned w).collector.counts (after_moves (turned w) moves).collector.counts (fields_loaded w.config.fields (loaded_over (turned w) moves)) number x }
+    ensures places { (w : Core) (moves : List Move) → IsConfig w.config → EndsRun w → BeginsPreparing w → AllFit (turned w) moves → IsSameTrial (turned w) (after_moves (turned w) moves) → HasSets (after_moves (turned w) moves).collector.phase → map (λ (l : Loaded). l.place) (loaded_over (turned w) moves) ≡ places_of w.config.fields (concat (turned w).collector.counts.sets) }
+    ensures members { (w : Core) (moves : List Move) (number x : ℕ) → IsConfig w.config → EndsRun w → BeginsPreparing w → AllFit (turned w) moves → IsSameTrial (turned w) (after_moves (turned w) moves) → HasSets (after_moves (turned w) moves).collector.phase → IsOrangeIn (after_moves (turned w) moves).collector.counts number x → IsOutside (turned w).collector.counts (after_moves (turned w) moves).collector.counts (fields_loaded w.config.fields (loaded_over (turned w) moves)) number x }
 {}
 
 /// In every state of every run of a heap with its collector, the zeros are exactly the slots without a count that are neither

@@ -1,9 +1,19 @@
+use Rattle.std.proofs.Common.{List}
+use Rattle.rec_world.specs.Config.{IsConfig}
+use Rattle.rec_world.specs.Core.{Core}
+use Rattle.rec_world.specs.CoreLoads.{IsSameTrial}
+use Rattle.rec_world.specs.CoreMoves.{AllFit, after_moves, EndsRun, Move, turned}
+use Rattle.rec_world.proofs.CoreLoads.{BeginsNoTrial, no_trial}
 use Rattle.rec_world.proofs.CoreOutside.{run_outside, run_places}
-use Rattle.rec_world.proofs.CoreRuns.{end_kept}
+use Rattle.rec_world.proofs.CoreRuns.{end_kept, move_kept}
 use Rattle.rec_world.proofs.laws.outside_counts_are_of_the_run.Goals as goal
+
+-- the moves from the preparation on
+same_trial : (w : Core) (moves : List Move) → IsConfig w.config → EndsRun w → AllFit (turned w) moves → IsSameTrial (turned w) (after_moves (turned w) moves) → BeginsNoTrial (turned w) moves
+same_trial w moves config run fit same = no_trial (turned w) moves (move_kept w Move.Turns (end_kept w config run) tt) fit same
 
 pub returns : goal.returns
 returns c = record {
-  places = λ w moves config run. run_places w moves (end_kept w config run);
-  members = λ w moves number x config run begins fit within has. run_outside w moves (end_kept w config run) begins fit within has number x;
+  places = λ w moves config run begins fit same has. run_places w moves (end_kept w config run) begins fit (same_trial w moves config run fit same) has;
+  members = λ w moves number x config run begins fit same has. run_outside w moves (end_kept w config run) begins fit (same_trial w moves config run fit same) has number x;
 }
