@@ -1,17 +1,17 @@
 ghost use Rattle.std.specs.Prelude.{◌≡◌, ℕ, ◌*◌, ◌^◌, ◌<◌, ◌≤◌, ◌==◌, if◌then◌else◌, length, replicate, IfOk, IfSome, IsNone};
 ghost use Rattle.rec_index.specs.Sets.{bit, Holds, IsLowest};
 
-use crate::bits::Bits;
+use crate::level::Level;
 use std::alloc::{AllocError as NoMemory, Global};
 use std::marker::Model;
 
-/// A set of slots.
+/// A set of slots, of which the lowest is found at once. Its memory, 8 kilobytes, is taken when it is opened.
 #[derive(Debug, Drop)]
 pub struct Index {
-    slots: Bits,
-    // The words of `slots` that have members, and the words of `words` that have.
-    words: Bits,
-    groups: Bits,
+    slots: Level,
+    // The words of `slots` that aren't 0, and in `groups` the words of `words` that aren't.
+    words: Level,
+    groups: Level,
 }
 
 impl Model for Index {
@@ -26,18 +26,18 @@ impl Model for Index {
 }
 
 impl Index {
-    /// An empty set, for slots of every number. All its memory is taken here.
+    /// An empty set, with room for slots of every number.
     pub fn open(alloc: Global) -> Result<Index, NoMemory>
         ensures { IfOk result (λ index. (s : ℕ) → bit index s ≡ 0) }
     {
         Ok(Index {
-            slots: Bits::open(alloc, 1024)?,
-            words: Bits::open(alloc, 16)?,
-            groups: Bits::open(alloc, 1)?,
+            slots: Level::open(alloc, 1024)?,
+            words: Level::open(alloc, 16)?,
+            groups: Level::open(alloc, 1)?,
         })
     }
 
-    /// Makes the slot a member.
+    /// Makes the slot a member. One that is a member already stays so.
     pub fn insert(&mut self, slot: u16)
         ensures { (s : ℕ) → bit self.new s ≡ (if s == slot then 1 else bit self.old s) }
     {
@@ -47,7 +47,7 @@ impl Index {
         self.groups.insert(slot / 64 / 64);
     }
 
-    /// Lets a member be none.
+    /// Takes a member out.
     pub fn remove(&mut self, slot: u16)
         requires { Holds self.old slot }
         ensures { (s : ℕ) → bit self.new s ≡ (if s == slot then 0 else bit self.old s) }
@@ -67,5 +67,25 @@ impl Index {
         let word = self.words.lowest(group)?;
         let slot = self.slots.lowest(word)?;
         Some(slot as u16)
+    }
+}
+
+#[cfg(test)]
+mod tests {
+    use super::*;
+    use std::test::Fail;
+
+    #[test]
+    fn finds_the_lowest_member(rt: HostRuntime) -> Result<(), Fail> {
+        let mut index = Index::open(rt.alloc())?;
+        assert_eq!(rt; index.lowest(), None);
+        index.insert(65_535);
+        assert_eq!(rt; index.lowest(), Some(65_535));
+        index.insert(4_160);
+        index.insert(4_159);
+        assert_eq!(rt; index.lowest(), Some(4_159));
+        index.remove(4_159);
+        assert_eq!(rt; index.lowest(), Some(4_160));
+        Ok(())
     }
 }

@@ -1,5 +1,5 @@
 use Rattle.rec_index.proofs.Words.{removed}
-use Rattle.rec_index.proofs.bits.Bits.remove.Goals as goal
+use Rattle.rec_index.proofs.level.Level.remove.Goals as goal
 
 pub returns-clause-holds : goal.returns-clause-holds
 returns-clause-holds c = removed c.self.inside.words.items c.args.self.now c.args.i c.index_mut-word.result.now c.self.view_is c.requires c.index_mut-word.ensures.value

@@ -1,6 +1,6 @@
 use Rattle.std.proofs.Common.{rules}
 use Rattle.rec_index.proofs.Words.{lowest_in}
-use Rattle.rec_index.proofs.bits.Bits.lowest.Goals as goal
+use Rattle.rec_index.proofs.level.Level.lowest.Goals as goal
 
 pub returns-clause-some : goal.returns-clause-some
 returns-clause-some c =

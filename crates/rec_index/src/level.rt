@@ -4,31 +4,31 @@ ghost use Rattle.rec_index.specs.Sets.{bit, Holds, IsLowestIn};
 use std::alloc::{AllocError as NoMemory, Global};
 use std::marker::Model;
 
-/// A set of numbers: a bit for each, in words of 64.
+/// One level: a set of numbers, a bit for each, in words of 64. Its memory is taken when it is opened.
 #[derive(Debug, Drop)]
-pub struct Bits {
+pub struct Level {
     words: Vec<u64>,
 }
 
-impl Model for Bits {
+impl Model for Level {
     ghost use Rattle.std.specs.Prelude.{ℕ, List};
 
     ghost Value = { List ℕ };
 
-    ghost view = { λ bits. bits.words.items };
+    ghost view = { λ level. level.words.items };
 }
 
-impl Bits {
-    /// An empty set of numbers that fit so many words. All its memory is taken here.
-    pub fn open(alloc: Global, words: usize) -> Result<Bits, NoMemory>
-        ensures { IfOk result (λ bits. bits ≡ replicate words 0) }
+impl Level {
+    /// An empty set, of as many numbers as so many words have bits.
+    pub fn open(alloc: Global, words: usize) -> Result<Level, NoMemory>
+        ensures { IfOk result (λ level. level ≡ replicate words 0) }
     {
-        Ok(Bits {
+        Ok(Level {
             words: vec![in alloc; 0; words]?,
         })
     }
 
-    /// Makes `i` a member.
+    /// Makes `i` a member. Its word alone changes.
     pub fn insert(&mut self, i: usize)
         requires { i / 64 < length self.old }
 
@@ -39,7 +39,7 @@ impl Bits {
         self.words[i / 64] |= 1u64 << (i % 64);
     }
 
-    /// Lets `i` be no member, and answers whether the word that it stood in is 0 then.
+    /// Takes `i` out, where it is a member, and answers whether its word is 0 then. That word alone changes.
     pub fn remove(&mut self, i: usize) -> bool
         requires { i / 64 < length self.old }
 
@@ -53,7 +53,7 @@ impl Bits {
         *word == 0
     }
 
-    /// The lowest member in a word, or `None` where the word is 0.
+    /// The lowest member of those in a word, or `None` where there is none.
     pub fn lowest(&self, word: usize) -> Option<usize>
         requires there { word < length self.now }
         requires few { length self.now < 2 ^ 32 }
