@@ -21,7 +21,7 @@ use Rattle.rec_counts.specs.Counts.{slot_at}
 use Rattle.rec_apply.specs.Targets.{is_slot}
 use Rattle.rec_world.specs.World.{Core, sight, IsWorld}
 use Rattle.rec_world.specs.Settled.{IsSettled, fields_holding}
-use Rattle.rec_report.proofs.Lines.{times-cons}
+use Rattle.rec_report.proofs.AnswerLines.{times-cons}
 
 same_either : (m n : ℕ) → (m == n) ≡ (n == m)
 same_either m n = elim (cases_eq m n) [

@@ -1,5 +1,6 @@
+pub mod AnswerLines
 pub mod Counted
-pub mod Lines
+pub mod Cuts
 pub mod Numbers
 pub mod Rows
 pub mod Summed

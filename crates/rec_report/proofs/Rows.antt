@@ -21,7 +21,7 @@ use Rattle.rec_world.proofs.Names.{names_sound}
 use Rattle.rec_report.specs.Report.{IsNumbered}
 use Rattle.rec_report.specs.Text.{field_number, live_line, row_line, row_lines}
 use Rattle.rec_report.proofs.Counted.{counted_holders}
-use Rattle.rec_report.proofs.Lines.{added, next_numbered}
+use Rattle.rec_report.proofs.AnswerLines.{added, next_numbered}
 
 -- what a listed object's fields lead to is listed
 fields_numbered : (list : List ℕ) (xs : List (Option ℕ)) → ((n : ℕ) → is_in n (named xs) ≡ true → is_in n list ≡ true) → map (field_number list) xs ≡ map (option_map (number_in list)) xs

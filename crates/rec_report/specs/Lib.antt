@@ -1,3 +1,4 @@
+pub mod Pieces
 pub mod Report
 pub mod Summary
 pub mod Text

@@ -3,7 +3,7 @@
 //! The rule that this crate keeps: the lines of a text are a stated function of the journals, the order, the listing of
 //! the settled heap, and the births.
 //! A summary has four lines in their place, a function of the journals, the live objects, the births and the collections.
-//! The layer above may use the clauses of `text` and `summary`, `Text::lines` and `Line::bytes`.
+//! The layer above may use the clauses of `text` and `summary`, `Text::lines` and `Text::bytes`.
 //! The form of a text is this project's profile (`docs/PROFILE.md`).
 #![tactic(auto)]
 
@@ -21,8 +21,7 @@ mod page;
 mod summing;
 mod tally;
 
-pub use line::Line;
-pub use page::Text;
+pub use page::{Lines, Text};
 use rec_model::{Answer, Cmd, Told};
 use rec_script::Script;
 use rec_world::{Journal, Order, World};
@@ -71,10 +70,10 @@ pub fn text(
     let mut text = Text::new(alloc);
     match order {
         Some(order) => text.add_turns(alloc, journals, order.list())?,
-        None => text.add_journals(alloc, journals)?,
+        None => text.add_journals(journals)?,
     }
     let live = text.add_listing(alloc, script, world)?;
-    let totals = Line::totals(alloc, world.made(), refusals_of(journals), live as u64)?;
+    let totals = line::totals(alloc, world.made(), refusals_of(journals), live as u64)?;
     text.add(totals)?;
     Ok(text)
 }

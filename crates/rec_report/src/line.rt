@@ -3,156 +3,85 @@
 ghost use Rattle.std.specs.Prelude.{◌≡◌, ◌-◌, ◌++◌, map, slice_index_or, IfOk, OnOk, string_bytes};
 ghost use Rattle.rec_word.specs.Word.{target_of};
 ghost use Rattle.rec_report.specs.Summary.{answers_line, collections_line, objects_line, sizes_line};
-ghost use Rattle.rec_report.specs.Text.{answer_line, field_number, field_word, live_line, row_head as head_of, row_line, totals_line};
+ghost use Rattle.rec_report.specs.Text.{field_number, field_word, live_line, row_head as head_of, row_line, totals_line};
 
-use crate::answer::{LONGEST, write_answer};
 use crate::tally::PLACES;
-use rec_model::Answer;
 use rec_word::target;
 use rec_world::Numbering;
-use smallvec::SmallVec;
 use std::alloc::{AllocError as NoMemory, Global};
 use std::fmt::Write;
-use std::marker::Model;
 
-// How many bytes a line holds in itself. The longest answer within the limits that isn't a busy one fits: it is
-// `8.200000 value 4294967295`, of 26 bytes with its line feed. So answers, which are most of a text, take no memory
-// of their own.
-const OWN_BYTES: usize = 32;
-
-/// One line, with its line feed.
-#[derive(Debug, Drop)]
-pub struct Line {
-    bytes: SmallVec<u8, OWN_BYTES>,
+/// How many objects are live.
+pub(super) fn live(alloc: Global, live: usize) -> Result<String, NoMemory>
+    ensures { IfOk result (λ line. string_bytes line ≡ live_line live) }
+{
+    format!(in alloc; "live {live}\n")
 }
 
-impl Model for Line {
-    ghost use Rattle.std.specs.Prelude.{ℕ, List};
-
-    ghost Value = { List ℕ };
-
-    ghost view = { λ line. line.bytes.items };
+/// The live object with this number and this true count: `words` are those of its fields.
+pub(super) fn row(
+    alloc: Global,
+    number: usize,
+    label: u32,
+    count: u64,
+    words: &[u64],
+    numbering: &Numbering,
+) -> Result<String, NoMemory>
+    ensures { IfOk result (λ line. string_bytes line ≡ row_line number (record { label = label; count = count; fields = map (λ word. field_number numbering.now.list (target_of word)) words.now })) }
+{
+    let mut text = row_head(alloc, number, label, count)?;
+    for word in words {
+        push_field(&mut text, number_of_field(numbering, *word))?;
+    }
+    text.push('\n')?;
+    Ok(text)
 }
 
-impl Line {
-    /// The bytes of the line.
-    pub fn bytes(&self) -> &[u8]
-        ensures { result.now ≡ self.now }
-    {
-        self.bytes.as_slice()
-    }
+/// Births, refusals, and how many objects are live no more.
+pub(super) fn totals(alloc: Global, made: u64, refused: u64, live: u64) -> Result<String, NoMemory>
+    ensures { IfOk result (λ line. string_bytes line ≡ totals_line made refused live) }
+{
+    let freed = freed(made, live);
+    format!(in alloc; "made {made} refused {refused} freed {freed}\n")
+}
 
-    // The line of a text. A long text stays where it lies in memory, and a short one gives its memory back.
-    fn of(text: String) -> Line
-        ensures { result ≡ string_bytes text }
-    {
-        Line {
-            bytes: SmallVec::from_vec(text.into_bytes()),
-        }
-    }
+/// How many mutators there are, and how many commands they were answered.
+pub(super) fn sizes(alloc: Global, mutators: usize, commands: u64) -> Result<String, NoMemory>
+    ensures { IfOk result (λ line. string_bytes line ≡ sizes_line mutators commands) }
+{
+    format!(in alloc; "mutators {mutators} commands {commands}\n")
+}
 
-    /// The answer to command `i` of mutator `t`.
-    pub(super) fn answer(
-        alloc: Global,
-        t: usize,
-        i: usize,
-        answer: Answer,
-    ) -> Result<Line, NoMemory>
-        ensures { IfOk result (λ line. line ≡ answer_line t i answer) }
-    {
-        let mut buffer = [0; LONGEST];
-        let start = write_answer(t, i, answer, &mut buffer);
-        Ok(Line {
-            bytes: SmallVec::from_slice(alloc, &buffer[start..])?,
-        })
-    }
+/// How many answers there are of each kind, by their places.
+pub(super) fn answers(alloc: Global, counts: &[u64; PLACES]) -> Result<String, NoMemory>
+    ensures { IfOk result (λ line. string_bytes line ≡ answers_line (λ at. slice_index_or counts.now at 0)) }
+{
+    let [done, null, object, value, yes, no, none, full, busy] = *counts;
+    let mut text = format!(in alloc; "done {done} null {null} object {object}")?;
+    write!(text, " value {value} yes {yes} no {no}")?;
+    writeln!(text, " none {none} full {full} busy {busy}")?;
+    Ok(text)
+}
 
-    /// How many objects are live.
-    pub(super) fn live(alloc: Global, live: usize) -> Result<Line, NoMemory>
-        ensures { IfOk result (λ line. line ≡ live_line live) }
-    {
-        Ok(Line::of(format!(in alloc; "live {live}\n")?))
-    }
+/// Live objects, births, refusals, and how many objects are live no more.
+pub(super) fn objects(alloc: Global, live: u64, made: u64, refused: u64) -> Result<String, NoMemory>
+    ensures { IfOk result (λ line. string_bytes line ≡ objects_line live made refused) }
+{
+    let freed = freed(made, live);
+    format!(in alloc; "live {live} made {made} refused {refused} freed {freed}\n")
+}
 
-    /// The live object with this number and this true count: `words` are those of its fields.
-    pub(super) fn row(
-        alloc: Global,
-        number: usize,
-        label: u32,
-        count: u64,
-        words: &[u64],
-        numbering: &Numbering,
-    ) -> Result<Line, NoMemory>
-        ensures { IfOk result (λ line. line ≡ row_line number (record { label = label; count = count; fields = map (λ word. field_number numbering.now.list (target_of word)) words.now })) }
-    {
-        let mut text = row_head(alloc, number, label, count)?;
-        for word in words {
-            push_field(&mut text, number_of_field(numbering, *word))?;
-        }
-        text.push('\n')?;
-        Ok(Line::of(text))
-    }
-
-    /// Births, refusals, and how many objects are live no more.
-    pub(super) fn totals(
-        alloc: Global,
-        made: u64,
-        refused: u64,
-        live: u64,
-    ) -> Result<Line, NoMemory>
-        ensures { IfOk result (λ line. line ≡ totals_line made refused live) }
-    {
-        let freed = freed(made, live);
-        Ok(Line::of(format!(in alloc; "made {made} refused {refused} freed {freed}\n")?))
-    }
-
-    /// How many mutators there are, and how many commands they were answered.
-    pub(super) fn sizes(alloc: Global, mutators: usize, commands: u64) -> Result<Line, NoMemory>
-        ensures { IfOk result (λ line. line ≡ sizes_line mutators commands) }
-    {
-        Ok(Line::of(format!(in alloc; "mutators {mutators} commands {commands}\n")?))
-    }
-
-    /// How many answers there are of each kind, by their places.
-    pub(super) fn answers(alloc: Global, counts: &[u64; PLACES]) -> Result<Line, NoMemory>
-        ensures { IfOk result (λ line. line ≡ answers_line (λ at. slice_index_or counts.now at 0)) }
-    {
-        let [done, null, object, value, yes, no, none, full, busy] = *counts;
-        let mut text = format!(in alloc; "done {done} null {null} object {object}")?;
-        write!(text, " value {value} yes {yes} no {no}")?;
-        writeln!(text, " none {none} full {full} busy {busy}")?;
-        Ok(Line::of(text))
-    }
-
-    /// Live objects, births, refusals, and how many objects are live no more.
-    pub(super) fn objects(
-        alloc: Global,
-        live: u64,
-        made: u64,
-        refused: u64,
-    ) -> Result<Line, NoMemory>
-        ensures { IfOk result (λ line. line ≡ objects_line live made refused) }
-    {
-        let freed = freed(made, live);
-        Ok(Line::of(format!(in alloc;
-            "live {live} made {made} refused {refused} freed {freed}\n"
-        )?))
-    }
-
-    /// Collections, and what became of the sets that they tested.
-    pub(super) fn collections(
-        alloc: Global,
-        collections: u32,
-        cycles: u64,
-        delta: u64,
-        sigma: u64,
-    ) -> Result<Line, NoMemory>
-        ensures { IfOk result (λ line. line ≡ collections_line collections cycles delta sigma) }
-    {
-        Ok(Line::of(format!(in alloc;
-            "epochs {collections} cycles {cycles} delta {delta} sigma {sigma}\n"
-        )?))
-    }
+/// Collections, and what became of the sets that they tested.
+pub(super) fn collections(
+    alloc: Global,
+    collections: u32,
+    cycles: u64,
+    delta: u64,
+    sigma: u64,
+) -> Result<String, NoMemory>
+    ensures { IfOk result (λ line. string_bytes line ≡ collections_line collections cycles delta sigma) }
+{
+    format!(in alloc; "epochs {collections} cycles {cycles} delta {delta} sigma {sigma}\n")
 }
 
 /// How many objects are live no more.

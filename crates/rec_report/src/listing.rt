@@ -8,7 +8,7 @@ ghost use Rattle.rec_world.specs.World.{sight};
 ghost use Rattle.rec_report.specs.Report.{AreFor, IsNumbered};
 ghost use Rattle.rec_report.specs.Text.{live_line, row_lines};
 
-use crate::{Line, Text};
+use crate::{Text, line};
 use rec_script::Script;
 use rec_world::{Numbering, World};
 use std::alloc::{AllocError as NoMemory, Global};
@@ -42,7 +42,7 @@ impl Text {
     {
         let numbering = number_live(alloc, script, world)?;
         let live = numbering.list().len();
-        self.add(Line::live(alloc, live)?)?;
+        self.add(line::live(alloc, live)?)?;
         self.add_rows(alloc, world, script.fields() as u8, &numbering)?;
         Ok(live)
     }
@@ -66,7 +66,7 @@ impl Text {
             let first = usize::from(*slot) * usize::from(fields);
             let own = &words[first..first + usize::from(fields)];
             let count = world.count(*slot);
-            self.add(Line::row(alloc, i + 1, label, count, own, numbering)?)?;
+            self.add(line::row(alloc, i + 1, label, count, own, numbering)?)?;
         }
         Ok(())
     }

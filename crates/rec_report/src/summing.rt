@@ -10,7 +10,7 @@ ghost use Rattle.rec_report.specs.Text.{IsOrderOf};
 
 use crate::listing::number_live;
 use crate::tally::{commands_of, tally};
-use crate::{Line, Text, refusals_of};
+use crate::{Text, line, refusals_of};
 use rec_script::Script;
 use rec_world::{Journal, Order, World};
 use std::alloc::{AllocError as NoMemory, Global};
@@ -38,10 +38,10 @@ pub fn summary(
     let live = numbering.list().len();
     let sets = world.sets();
     let mut text = Text::new(alloc);
-    text.add(Line::sizes(alloc, journals.len(), commands_of(journals))?)?;
-    text.add(Line::answers(alloc, &tally(journals))?)?;
-    text.add(Line::objects(alloc, live as u64, world.made(), refusals_of(journals))?)?;
-    text.add(Line::collections(
+    text.add(line::sizes(alloc, journals.len(), commands_of(journals))?)?;
+    text.add(line::answers(alloc, &tally(journals))?)?;
+    text.add(line::objects(alloc, live as u64, world.made(), refusals_of(journals))?)?;
+    text.add(line::collections(
         alloc,
         world.collections(),
         sets.freed,

@@ -30,8 +30,9 @@ fn prints_each_answer(rt: HostRuntime) -> Result<(), Fail> {
         (Answer::LogFull, "2.7 logfull\n"),
     ];
     for (answer, wanted) in cases {
-        let line = Line::answer(rt.alloc(), 2, 7, answer)?;
-        assert_eq!(rt; line.bytes(), wanted.as_bytes());
+        let mut text = Text::new(rt.alloc());
+        text.add_answer(2, 7, answer)?;
+        assert_eq!(rt; text.bytes(), wanted.as_bytes());
     }
     Ok(())
 }
@@ -50,10 +51,12 @@ fn lists_mutator_by_mutator(rt: HostRuntime) -> Result<(), Fail> {
         journals.push(journal)?;
     }
     let mut text = Text::new(rt.alloc());
-    text.add_journals(rt.alloc(), &journals)?;
-    assert_eq!(rt; text.lines().len(), 2);
-    assert_eq!(rt; text.lines()[0].bytes(), b"1.1 done\n".as_slice());
-    assert_eq!(rt; text.lines()[1].bytes(), b"2.1 full\n".as_slice());
+    text.add_journals(&journals)?;
+    let mut lines = text.lines();
+    assert_eq!(rt; lines.next(), Some(b"1.1 done\n".as_slice()));
+    assert_eq!(rt; lines.next(), Some(b"2.1 full\n".as_slice()));
+    assert_eq!(rt; lines.next(), None);
+    assert_eq!(rt; text.bytes(), b"1.1 done\n2.1 full\n".as_slice());
     assert_eq!(rt; journals.len(), 2);
     assert_eq!(rt; refusals_of(&journals), 1);
     Ok(())

@@ -9,7 +9,7 @@ use Rattle.rec_script.specs.declared.error.Kind.{Kind}
 use Rattle.rec_script.specs.declared.draft.Draft.{Draft}
 use Rattle.rec_script.specs.Lines.{lines, counted, AreUtf8}
 use Rattle.rec_script.specs.Script.{Contents, IsScript, IsRefused, Continues, StopsAt, IsFault, IsNeed, mutator_lines, spelled}
-use Rattle.rec_script.specs.Drafts.{so_far, IsDraft, IsWrongFirst}
+use Rattle.rec_script.specs.Drafts.{so_far, IsDraft, IsTaken, IsWrongFirst}
 use Rattle.rec_script.proofs.Stopping.{counted-append, stops}
 use Rattle.rec_script.proofs.Continuing.{continues}
 
@@ -34,6 +34,28 @@ counted_next text n line more h =
 
 pub utf8_next : (text : List (List ℕ)) (n : ℕ) (line : List ℕ) (more : List (List ℕ)) → Next text n line more → AreUtf8 (take n text) → IsUtf8 line → AreUtf8 (take (n + 1) text)
 utf8_next text n line more h before here = All-more IsUtf8 text n [] h.there before (subst IsUtf8 (sym h.is) here)
+
+-- a draft is what this many lines have spelled, and the others are the lines of the rest
+pub record IsReadTo (bytes rest : List ℕ) (d : Draft) (n : ℕ) : Type 0 where
+  pub draft : IsDraft d
+  pub spelt : so_far d ≡ counted (take n (lines bytes))
+  pub utf8 : AreUtf8 (take n (lines bytes))
+  pub others : lines rest ≡ drop n (lines bytes)
+  pub within : n ≤ length (lines bytes)
+  pub few : n + length rest ≤ length bytes
+
+-- it has taken the next line then
+pub read_on : (bytes rest behind : List ℕ) (before after : Draft) (n : ℕ) → IsReadTo bytes rest before n → IsTaken rest behind (so_far before) (so_far after) → IsDraft after → IsReadTo bytes behind after (n + 1)
+read_on bytes rest behind before after n so taken is =
+    let h = next (lines bytes) n taken.line (lines behind) (sym taken.first ∙ so.others) in
+    record {
+      draft = is;
+      spelt = taken.more ∙ ap (λ (b : List (List (List ℕ))). b ++ counted (taken.line ∷ [])) so.spelt ∙ sym (counted_next (lines bytes) n taken.line (lines behind) h);
+      utf8 = utf8_next (lines bytes) n taken.line (lines behind) h so.utf8 taken.utf8;
+      others = h.others;
+      within = omega (arith, h.there);
+      few = omega (arith, taken.less, so.few);
+    }
 
 -- a fault behind what a draft stands for stops the text
 pub stops_at : (d : Draft) (text : List (List ℕ)) (n : ℕ) (line : List ℕ) (more : List (List ℕ)) (kind : Kind) → IsDraft d → so_far d ≡ counted (take n text) → AreUtf8 (take n text) → Next text n line more → IsFault (so_far d) line kind → StopsAt text n kind

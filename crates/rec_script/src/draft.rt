@@ -195,7 +195,7 @@ impl Draft {
 
     /// Takes the first line of the bytes by its words, and gives what is behind it.
     #[inline(never)]
-    fn take_words<'b>(
+    pub fn take_words<'b>(
         &mut self,
         alloc: Global,
         number: u32,
@@ -217,7 +217,7 @@ impl Draft {
 
     /// Takes the first line of the bytes where it is a spaced command, and gives what is behind it.
     #[inline(always)]
-    fn take_spaced<'b>(&mut self, bytes: &'b [u8]) -> Result<Option<&'b [u8]>, AllocError>
+    pub fn take_spaced<'b>(&mut self, bytes: &'b [u8]) -> Result<Option<&'b [u8]>, AllocError>
         requires { IsDraft self.old }
         ensures taken { IfOk result (λ found. IfSome found (λ rest.
             IsTaken bytes.now rest.now (so_far self.old) (so_far self.new))) }
@@ -227,28 +227,6 @@ impl Draft {
         match self {
             Draft::Whole(script) => add_spaced(script, bytes),
             _ => Ok(None),
-        }
-    }
-
-    /// Takes the first line of the bytes, and gives what is behind it.
-    #[inline(always)]
-    pub fn take_first<'b>(
-        &mut self,
-        alloc: Global,
-        number: u32,
-        bytes: &'b [u8],
-    ) -> Result<&'b [u8], ScriptError>
-        requires draft { IsDraft self.old }
-        requires some { 0 < length bytes.now }
-        ensures taken { IfOk result (λ rest. IsTaken bytes.now rest.now (so_far self.old) (so_far self.new)) }
-        ensures valid { IfOk result (λ rest. IsDraft self.new) }
-        ensures refused { (at : ℕ) (kind : Kind) → result ≡ Err (Bad at kind)
-            → (at ≡ number) × IsWrongFirst (lines bytes.now) (so_far self.old) kind }
-    {
-        match self.take_spaced(bytes) {
-            Ok(Some(rest)) => Ok(rest),
-            Ok(None) => self.take_words(alloc, number, bytes),
-            Err(_) => Err(ScriptError::NoMemory),
         }
     }
 

@@ -40,7 +40,11 @@ pub fn read(alloc: Global, bytes: &[u8]) -> Result<Script, ScriptError>
     let mut number: u32 = 0;
     while !rest.is_empty() {
         number += 1;
-        rest = draft.take_first(alloc, number, rest)?;
+        rest = match draft.take_spaced(rest) {
+            Ok(Some(behind)) => behind,
+            Ok(None) => draft.take_words(alloc, number, rest)?,
+            Err(_) => return Err(ScriptError::NoMemory),
+        };
     }
     match draft.close() {
         Ok(script) => Ok(script),

@@ -19,7 +19,7 @@ use Rattle.rec_script.specs.declared.error.Kind.{Kind}
 use Rattle.rec_script.specs.declared.error.ScriptError.{ScriptError}
 use Rattle.rec_script.specs.declared.error.ScriptError.TheVariants.{Bad}
 use Rattle.recycler.specs.CommandLine.{ReadsScript}
-use Rattle.recycler.specs.Headline.{Are, HasRead, IsAnswer, Answers, PlaysTo, WroteAnswer, WroteFront, ReadNoScript, run_text}
+use Rattle.recycler.specs.Headline.{Are, HasRead, IsAnswer, Answers, PlaysTo, WroteAnswer, WroteFront, IsReadPast, ReadNoScript, run_text}
 use Rattle.rec_play.specs.Played.{IsPlayed, last_moment}
 use Rattle.rec_script.proofs.Refusing.{refused_no_text}
 use Rattle.rec_script.proofs.Uniqueness.{refused_once}
@@ -59,7 +59,7 @@ no_script None left bytes line kind passes end refused =
     record {
       bytes = bytes;
       read = λ whole told. untold (λ w. w ≡ bytes) whole told;
-      ended = λ whole told. untold (λ w. (left ≡ Some []) ⊎ (16777216 < length w)) whole told;
+      ended = λ whole told. untold (λ w. (left ≡ Some []) ⊎ IsReadPast w left) whole told;
       refused = refused;
     }
 no_script (Some rest) left bytes line kind passes end refused =
@@ -69,10 +69,7 @@ no_script (Some rest) left bytes line kind passes end refused =
           record {
             bytes = rest;
             read = λ whole told. sym (some_same rest whole told);
-            ended = λ whole told.
-                let same : rest ≡ whole = some_same rest whole told in
-                let longer : length rest ≡ length bytes + length passed.left = ap length passed.front ∙ length-append bytes passed.left in
-                inr (subst (λ w. 16777216 < length w) same (omega arith));
+            ended = λ whole told. inr (subst (λ w. IsReadPast w left) (some_same rest whole told) (record { bytes = bytes; passed = passed; many = long }));
             refused = past_limit bytes passed.left rest line kind long passed.front refused;
           }
       | inr short ↦

@@ -10,6 +10,7 @@ use Rattle.rec_world.specs.Settled.{IsSettled}
 use Rattle.rec_settle.specs.Collecting.{IsSettling}
 use Rattle.rec_play.specs.Played.{IsPlayed, last_moment}
 use Rattle.rec_io.specs.Sink.{Appends}
+use Rattle.rec_io.specs.Source.{BeginsWith}
 use Rattle.rec_script.specs.Lines.{lines}
 use Rattle.rec_script.specs.Script.{Contents, Spells, IsRefused}
 use Rattle.recycler.specs.declared.command_line.Request.{Request}
@@ -65,9 +66,15 @@ IsAnswer (requests.Make seed mutators commands) bytes text = text ≡ made_text 
 abbrev pub Are : Option (List ℕ) → List ℕ → Type 0
 Are told bytes = ForSome told (λ all. all ≡ bytes)
 
+-- More bytes were read than a script has: they stand in front of what there was, and what is behind them is left.
+pub record IsReadPast (rest : List ℕ) (left : Option (List ℕ)) : Type 0 where
+  pub bytes : List ℕ
+  pub passed : BeginsWith rest bytes left
+  pub many : 16777216 < length bytes
+
 -- a source was read to its end, or past the limit of a script
 abbrev pub IsReadOut : Option (List ℕ) → Option (List ℕ) → Type 0
-IsReadOut before after = ForSome before (λ rest. (after ≡ Some []) ⊎ (16777216 < length rest))
+IsReadOut before after = ForSome before (λ rest. (after ≡ Some []) ⊎ IsReadPast rest after)
 
 -- what a request reads of a source: all its bytes, and nothing for a made script
 abbrev pub HasRead : Request → (rest left : Option (List ℕ)) → (bytes : List ℕ) → Type 0

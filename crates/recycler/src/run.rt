@@ -133,7 +133,7 @@ fn answer_source<S: Source, K: Sink>(
         Err(ScriptError::Bad { line, kind }) => return Status::BadScript { line, kind },
         Err(ScriptError::NoMemory) => return Status::NoMemory,
     };
-    match write_lines(sink, text.lines()) {
+    match write_lines(sink, &text) {
         Ok(()) => Status::Done,
         Err(_) => Status::WriteFault,
     }

@@ -5,7 +5,7 @@ ghost use Rattle.rec_io.specs.Faults.{Rose};
 ghost use Rattle.rec_io.specs.Sink.{Appends};
 
 use rec_io::{Sink, Taken};
-use rec_report::Line;
+use rec_report::Text;
 
 /// A write failed.
 #[derive(Clone, Copy, Debug, PartialEq, Eq)]
@@ -54,14 +54,14 @@ pub fn write_text<K: Sink>(sink: &mut K, text: &[u8]) -> Result<(), WriteFault>
     Ok(())
 }
 
-/// Writes lines in order.
-pub fn write_lines<K: Sink>(sink: &mut K, lines: &[Line]) -> Result<(), WriteFault>
-    ensures written { OnOk result (Appends (K.written sink.old) (K.written sink.new) (flat_map (λ line. line) lines.now)) }
+/// Writes the lines of a text in order.
+pub fn write_lines<K: Sink>(sink: &mut K, text: &Text) -> Result<(), WriteFault>
+    ensures written { OnOk result (Appends (K.written sink.old) (K.written sink.new) (flat_map (λ line. line) text.now)) }
     ensures fault { OnErr result (Rose (K.faults sink.old) (K.faults sink.new)) }
-    ensures front { OnErr result ((front back : List ℕ) × (flat_map (λ line. line) lines.now ≡ front ++ back) × Appends (K.written sink.old) (K.written sink.new) front) }
+    ensures front { OnErr result ((front back : List ℕ) × (flat_map (λ line. line) text.now ≡ front ++ back) × Appends (K.written sink.old) (K.written sink.new) front) }
 {
-    for line in lines {
-        write_piece(sink, line.bytes())?;
+    for line in text.lines() {
+        write_piece(sink, line)?;
     }
     Ok(())
 }

@@ -1,6 +1,6 @@
 -- The next journal's refusals are added, and they are few.
 use Rattle.std.proofs.Common.{arith}
-use Rattle.rec_report.proofs.Lines.{refusals_step}
+use Rattle.rec_report.proofs.AnswerLines.{refusals_step}
 use Rattle.rec_report.proofs.refusals_of.Goals as goal
 
 pub loop-journal-preserved : goal.loop-journal-preserved

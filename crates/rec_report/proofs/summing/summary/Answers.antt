@@ -1,5 +1,6 @@
 -- Each line is that of the summary.
 use Rattle.std.proofs.Common.{◌≡◌, ◌∙◌, ℕ, List, length, map, refl, sym, ap, get_or}
+use Rattle.std.specs.Prelude.{string_bytes}
 use Rattle.std.proofs.lemmas.List.{length-map}
 use Rattle.rec_model.specs.LegalOrder.{Line}
 use Rattle.rec_world.specs.World.{Core}
@@ -13,13 +14,13 @@ returns c =
     let w : Core = c.args.world.now in
     let journals : List (List Line) = map (λ journal. journal.lines) c.args.journals.now in
     let live : ℕ = length c.list-live.result.now in
-    let sizes : c.in_ok-sizes.field-0 ≡ sizes_line (length journals) (commands_of journals) =
+    let sizes : string_bytes c.in_ok-sizes.field-0 ≡ sizes_line (length journals) (commands_of journals) =
     c.in_ok-sizes.ensures ∙ ap (λ n. sizes_line n c.commands_of.result) (sym (length-map c.args.journals.now (λ journal. journal.lines))) ∙ ap (sizes_line (length journals)) c.commands_of.ensures in
-    let answers : c.in_ok-answers.field-0 ≡ answers_line (answers_at journals) =
+    let answers : string_bytes c.in_ok-answers.field-0 ≡ answers_line (answers_at journals) =
     c.in_ok-answers.ensures ∙ answers_line-same (λ at. get_or c.tally.result at 0) (answers_at journals) c.tally.ensures in
-    let objects : c.in_ok-objects.field-0 ≡ objects_line live w.made (refusals journals) =
+    let objects : string_bytes c.in_ok-objects.field-0 ≡ objects_line live w.made (refusals journals) =
     c.in_ok-objects.ensures ∙ ap (λ n. objects_line live n c.refusals_of.result) c.made.ensures.made ∙ ap (objects_line live w.made) c.refusals_of.ensures in
-    let collections : c.in_ok-collections.field-0 ≡ collections_line w.collector.collections w.collector.sets.freed w.collector.sets.delta w.collector.sets.sigma =
+    let collections : string_bytes c.in_ok-collections.field-0 ≡ collections_line w.collector.collections w.collector.sets.freed w.collector.sets.delta w.collector.sets.sigma =
     c.in_ok-collections.ensures ∙ rw (c.collections.ensures.collections, c.sets-sets.ensures.sets) refl in
     record {
       lines = summed w c.in_ok-numbering.numbering c.list-live.result.now journals c.add-4.new.self c.in_ok-numbering.ensures c.list-live.ensures.list

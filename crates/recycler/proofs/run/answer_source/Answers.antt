@@ -1,6 +1,3 @@
-use Rattle.std.proofs.Common.{sym, subst}
-use Rattle.rec_io.specs.Sink.{Appends}
-use Rattle.recycler.specs.Headline.{PlaysTo}
 use Rattle.recycler.proofs.Endings.{bad_same, no_script, wrote_answer, wrote_front}
 use Rattle.recycler.proofs.Fronts.{joined}
 use Rattle.recycler.proofs.run.answer_source.Goals as goal
@@ -15,12 +12,11 @@ returns-in-Ok-write_lines-clause-done g c = λ _.
     wrote_answer c.args.seed c.args.turns c.args.summary (g.S.Source.rest c.args.source.now) (g.S.Source.rest c.read_all.new.source) (g.K.Sink.written c.args.sink.now) (g.K.Sink.written c.write_lines.new.sink)
     c.in-Ok.bytes.items (joined c.in-Ok-answer.text) c.in-Ok.ensures.passed c.in-Ok.ensures.whole
     c.in-Ok-answer.ensures.answer
-    (subst (λ lines. Appends (g.K.Sink.written c.args.sink.now) (g.K.Sink.written c.write_lines.new.sink) (joined lines)) c.lines.ensures c.in-Ok-write_lines.ensures.written)
+    c.in-Ok-write_lines.ensures.written
 
 pub returns-clause-front : goal.returns-clause-front
 returns-clause-front g c = λ _.
     wrote_front c.args.seed c.args.turns c.args.summary (g.S.Source.rest c.args.source.now) (g.S.Source.rest c.read_all.new.source) (g.K.Sink.written c.args.sink.now) (g.K.Sink.written c.write_lines.new.sink)
-    c.in-Ok.bytes.items (joined c.lines.result.now) c.in-Ok.ensures.passed c.in-Ok.ensures.whole
-    (subst (λ lines. PlaysTo c.in-Ok.bytes.items c.args.seed c.args.turns c.args.summary (joined lines)) (sym c.lines.ensures)
-    c.in-Ok-answer.ensures.answer)
+    c.in-Ok.bytes.items (joined c.in-Ok-answer.text) c.in-Ok.ensures.passed c.in-Ok.ensures.whole
+    c.in-Ok-answer.ensures.answer
     c.in-Err.ensures.front

@@ -2,7 +2,7 @@
 use Rattle.std.proofs.Common.{◌∙◌, ◌++◌, ◌+◌, ap}
 use Rattle.rec_world.specs.Journal.{Notes}
 use Rattle.rec_report.specs.Text.{own_lines}
-use Rattle.rec_report.proofs.Lines.{journals_step}
+use Rattle.rec_report.proofs.AnswerLines.{journals_step}
 use Rattle.rec_report.proofs.page.Text.add_journals.Goals as goal
 
 pub loop-i-preserved : goal.loop-i-preserved

@@ -1,7 +1,7 @@
 -- A turn reads the next line of its mutator's journal, which is there since the order names the mutator once more.
 use Rattle.std.proofs.Common.{◌≤◌, ◌∙◌, ◌++◌, ◌+◌, ◌-◌, ◌∷◌, [], ap, ◌<◌, arith, get_or, length-set, subst}
 use Rattle.rec_report.specs.Text.{own_lines}
-use Rattle.rec_report.proofs.Lines.{TurnReads, turn_reads, turn_step, turns_more}
+use Rattle.rec_report.proofs.AnswerLines.{TurnReads, turn_reads, turn_step, turns_more}
 use Rattle.rec_report.proofs.page.Text.add_turns.Goals as goal
 
 pub add_turn-requires : goal.add_turn-requires

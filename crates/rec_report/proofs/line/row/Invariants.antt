@@ -4,7 +4,7 @@ use Rattle.std.specs.Prelude.{string_bytes}
 use Rattle.std.specs.List.{flat_map}
 use Rattle.rec_word.specs.Word.{target_of}
 use Rattle.rec_report.specs.Text.{field_number, field_word, row_head}
-use Rattle.rec_report.proofs.line.Line.row.Given as goal
+use Rattle.rec_report.proofs.line.row.Given as goal
 
 abbrev pub invariant-loop-word : goal.invariant-loop-word
 invariant-loop-word l =

@@ -3,7 +3,7 @@ use Rattle.std.proofs.Common.{◌≡◌, ◌∙◌, ◌++◌, ℕ, List, sym, ap
 use Rattle.std.specs.Prelude.{string_bytes}
 use Rattle.rec_report.specs.Text.{line_feed}
 use Rattle.rec_report.proofs.Summed.{six_pieces}
-use Rattle.rec_report.proofs.line.Line.answers.Goals as goal
+use Rattle.rec_report.proofs.line.answers.Goals as goal
 
 pub returns : goal.returns
 returns c =
@@ -16,6 +16,6 @@ returns c =
     let three : string_bytes c.writeln.new.self ≡ string_bytes c.write.new.self ++ (third ++ line_feed) = simp append_assoc c.in_ok-writeln.ensures.bytes in
     let two_parts : string_bytes c.write.new.self ≡ first ++ codes " value " ++ decimal (at 3) ++ codes " yes " ++ decimal (at 4) ++ codes " no " ++ decimal (at 5) =
     two ∙ ap (λ t. t ++ second) one ∙ six_pieces first (codes " value ") (decimal (at 3)) (codes " yes ") (decimal (at 4)) (codes " no ") (decimal (at 5)) in
-    c.of.ensures ∙ three ∙ sym (append_assoc (string_bytes c.write.new.self) third line_feed)
+    three ∙ sym (append_assoc (string_bytes c.write.new.self) third line_feed)
     ∙ ap (λ t. t ++ line_feed) (six_pieces (string_bytes c.write.new.self) (codes " none ") (decimal (at 6)) (codes " full ") (decimal (at 7)) (codes " busy ") (decimal (at 8)))
     ∙ ap (λ t. t ++ codes " none " ++ decimal (at 6) ++ codes " full " ++ decimal (at 7) ++ codes " busy " ++ decimal (at 8) ++ line_feed) two_parts
