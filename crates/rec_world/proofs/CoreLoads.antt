@@ -1,7 +1,7 @@
 -- What the collector loaded stands in its field, was replaced, or was taken out, over the moves of a run.
-use Rattle.std.proofs.Common.{◌≡◌, ◌≢◌, ◌⊎◌, inl, inr, ℕ, zero, suc, ◌+◌, ◌-◌, ◌<◌, ◌≤◌, ◌==◌, Bool, true, false, leb, Option, None, Some, IfSome, List, [], ◌∷◌, ◌++◌, map, length, slice_index_or, slice_set, refl, sym, ap, subst, ◌∙◌, arith}
-use Rattle.std.specs.List.{sum_by, Contains, All}
-use Rattle.std.proofs.lemmas.Bool.{cases_eq, cases_lt, cases_Bool, cond-true, cond-false, eq-eqb, ne_eqb, false≢true}
+use Rattle.std.proofs.Common.{◌≡◌, ◌≢◌, ◌⊎◌, inl, inr, ℕ, zero, suc, ◌+◌, ◌-◌, ◌<◌, ◌≤◌, ◌==◌, true, leb, Option, None, Some, IfSome, List, [], ◌∷◌, ◌++◌, map, length, slice_index_or, slice_set, refl, sym, ap, subst, ◌∙◌, arith}
+use Rattle.std.specs.List.{sum_by, Contains}
+use Rattle.std.proofs.lemmas.Bool.{cases_eq, cases_lt, cond-true, cond-false, eq-eqb, ne_eqb}
 use Rattle.std.proofs.lemmas.Bool.Decides.{nat_tests}
 use Rattle.std.proofs.lemmas.List.{set-get_or, get_or-set_other, get_or_past}
 use Rattle.std.proofs.lemmas.List.Elements.{Contains-append_left, Contains-append_right, Contains-append_cases, Contains-get_or}
@@ -17,14 +17,13 @@ use Rattle.rec_model.specs.Sets.{Cleared}
 use Rattle.rec_model.specs.declared.command.Cmd.{Cmd}
 use Rattle.rec_model.specs.declared.command.Cmd.TheVariants as commands
 use Rattle.rec_model.specs.declared.told.Told.{Told}
+use Rattle.rec_model.proofs.Ledgers.{epoch_of_null}
 use Rattle.rec_model.proofs.Sums.{get_or-le-sum_at}
 use Rattle.rec_model.proofs.Weights.{not_lt_from_none}
 use Rattle.rec_log.specs.declared.contents.Contents.{Contents}
-use Rattle.rec_log.specs.declared.entry.Entry.{Entry}
-use Rattle.rec_log.specs.declared.entry.Entry.TheVariants as entries
 use Rattle.rec_mutator.specs.Private.{Private, is_busy, IsMachine, next_stamp, word_for}
 use Rattle.rec_mutator.specs.Next.{next_of}
-use Rattle.rec_mutator.specs.Step.{Step, Decides, GoesOn, Crosses, LeavesBox}
+use Rattle.rec_mutator.specs.Step.{Step, Decides, GoesOn, LeavesBox}
 use Rattle.rec_mutator.specs.Took.{begun_of, left_of, step_of, took_of}
 use Rattle.rec_mutator.specs.declared.phase.Phase as phases
 use Rattle.rec_mutator.specs.declared.phase.Phase.TheVariants as at
@@ -36,7 +35,6 @@ use Rattle.rec_release.specs.Release.{op_at as release_op_at, next_of as release
 use Rattle.rec_release.specs.Sweep as sweeps
 use Rattle.rec_release.specs.declared.at.At.{At}
 use Rattle.rec_release.specs.declared.member.Member.{Member}
-use Rattle.rec_collector.specs.Given.{IsGiven}
 use Rattle.rec_collector.specs.Kept as collector_kept
 use Rattle.rec_collector.specs.Next as collectors_next
 use Rattle.rec_collector.specs.Parts.{Parts}
@@ -55,18 +53,18 @@ use Rattle.rec_collector.proofs.Words.{names_word}
 use Rattle.rec_world.specs.declared.config.Config.{Config}
 use Rattle.rec_world.specs.Config.{IsMutator}
 use Rattle.rec_world.specs.Core.{Core, cells_of, mutator, box, nobody, crossing_of}
-use Rattle.rec_world.specs.CoreKept.{IsMadeIn, IsBufferOf, IsHandshake, IsKept, Stand, stand_at}
+use Rattle.rec_world.specs.CoreKept.{IsBufferOf, IsHandshake, IsKept, Stand, stand_at}
 use Rattle.rec_world.specs.CoreLoads.{cleared_by, cleared_in, cleared_over, IsKnown, IsReferenceStill, IsSameTrial, Loaded, loaded_by, loaded_in, loaded_over, tried_in}
-use Rattle.rec_world.specs.CoreMoves.{AllFit, Fits, Move, after_move, after_moves, begun, collected, found_by, left_by, looked_at, offering, stepped, turned, turned_at, turned_by}
+use Rattle.rec_world.specs.CoreMoves.{AllFit, Fits, Move, after_move, after_moves, begun, found_by, left_by, looked_at, offering, stepped, turned, turned_at, turned_by}
 use Rattle.rec_world.specs.CorePending.{older_at, writes_in, writes_of}
 use Rattle.rec_world.specs.Memory.{Cells, cell, with_cell}
 use Rattle.rec_world.proofs.CoreBatches.{none_of}
 use Rattle.rec_world.proofs.CoreLandings.{early_writes}
 use Rattle.rec_world.proofs.CoreRules.{epoch_of_stamp}
-use Rattle.rec_world.proofs.CoreRuns.{given_is, looked_is, move_kept}
+use Rattle.rec_world.proofs.CoreRuns.{given_is, move_kept}
 use Rattle.rec_world.proofs.CoreSteps.{actor_of, in_list}
 use Rattle.rec_world.proofs.CoreSums.{buffers_sum, writes_more, writes_same}
-use Rattle.rec_world.proofs.CoreTurns.{its_spare, now_at, same_boxes}
+use Rattle.rec_world.proofs.CoreTurns.{now_at, same_boxes}
 use Rattle.rec_world.proofs.LogStamps.{word_stamp}
 
 -- what the writes in a buffer weigh
@@ -513,16 +511,11 @@ loads_tried w place Opening at named = refl
 loads_tried w place (Sweeping n) at named = refl
 loads_tried w place (Closing n) at named = refl
 
--- null has no epoch
-null_early : epoch_of 0 ≡ 0
-unfolding epoch_of
-null_early = refl
-
 -- a word that is found in a field was put in the requested epoch or before
 put_early : (w : Core) (place : ℕ) → IsKept w → epoch_of (slice_index_or w.words place 0) ≤ w.epoch
 put_early w place kept = elim (cases_lt place (length w.words)) [
   | inl inside ↦ not_lt_from_none w.epoch (epoch_of (slice_index_or w.words place 0)) (omega (arith, kept.accounted.epochs.words, get_or-le-sum_at (is_late_word w.epoch) w.words place 0 inside))
-  | inr past ↦ omega (arith, ap epoch_of (get_or_past w.words place 0 past), null_early)
+  | inr past ↦ omega (arith, ap epoch_of (get_or_past w.words place 0 past), epoch_of_null)
 ]
 
 -- what a move loads

@@ -1,5 +1,5 @@
 -- Orange members and their outside counts, over the moves of a run.
-use Rattle.std.proofs.Common.{◌≡◌, ◌⊎◌, inl, inr, ℕ, ◌+◌, ◌-◌, ◌/◌, ◌%◌, ◌<◌, Bool, true, false, cond, Option, None, Some, IfSome, List, [], ◌∷◌, ◌++◌, map, length, slice_index_or, refl, sym, ap, subst, ◌∙◌, arith, append_assoc}
+use Rattle.std.proofs.Common.{◌≡◌, ◌⊎◌, inl, inr, ℕ, ◌+◌, ◌/◌, ◌%◌, ◌<◌, Bool, true, false, cond, Option, None, Some, IfSome, List, [], ◌∷◌, ◌++◌, map, slice_index_or, refl, sym, ap, subst, ◌∙◌, arith, append_assoc}
 use Rattle.std.specs.List.{concat}
 use Rattle.std.proofs.Math.Nat.{div-add-mod, mul_comm}
 use Rattle.std.proofs.lemmas.List.{append-nil, map-append}
@@ -17,13 +17,13 @@ use Rattle.rec_release.specs.declared.at.At as releases
 use Rattle.rec_release.specs.declared.member.Member.{Member}
 use Rattle.rec_sigma.specs.declared.at.At.{At}
 use Rattle.rec_sigma.specs.Prepare as preps
-use Rattle.rec_sigma.specs.Prepared.{KeepsOthers, Load, PreparedTo, loaded_at, outside, place_loaded, places_left, places_of, seen, sets_begun}
+use Rattle.rec_sigma.specs.Prepared.{Load, PreparedTo, loaded_at, place_loaded, places_left, places_of, sets_begun}
+use Rattle.rec_sigma.proofs.Cyclics.{seen-nil}
 use Rattle.rec_sigma.proofs.Runs.{Came, came_first, came_on}
 use Rattle.rec_collector.specs.Followed.{prep_started, with_loaded, with_tried}
 use Rattle.rec_collector.specs.Given.{IsGiven}
-use Rattle.rec_collector.specs.Kept as collector_kept
 use Rattle.rec_collector.specs.Next.{next_of, next_at, is_spent}
-use Rattle.rec_collector.specs.Outside.{HasSets, IsOutside, lost}
+use Rattle.rec_collector.specs.Outside.{HasSets, IsOutside}
 use Rattle.rec_collector.specs.Parts.{Parts}
 use Rattle.rec_collector.specs.Private as collectors
 use Rattle.rec_collector.specs.Private.{parts_of}
@@ -255,20 +255,16 @@ moves_stage w (m ∷ ms) before loads tells kept fit within s =
     subst (Stage fields before (after_moves v ms)) joined on
 
 -- the preparation of sets begins: nothing is loaded yet, and the counts are those of its beginning
-none_seen : (s : State) (number x : ℕ) → seen s number [] x ≡ 0
-unfolding seen
-none_seen s number x = refl
-
 renewed : (fields : ℕ) (b s : State) (at : Option At) → PreparedTo fields b at s [] → PreparedTo fields s at s []
 renewed fields b s at p = record {
   places = subst (λ sets. places_left fields sets at ≡ places_of fields (concat sets)) (sym p.others.sets) p.places;
   members = λ number x l is.
       let was : (slot_at b x).set ≡ Some number = ap (λ (v : Slot). v.set) (sym (p.others.slots x)) ∙ is in
       let count : (slot_at s x).count ≡ (slot_at b x).count = ap (λ (v : Slot). v.count) (p.others.slots x) in
-      omega (arith, p.members number x (subst (λ sets. number < sets_begun sets at) p.others.sets l) was, none_seen b number x, none_seen s number x, count);
+      omega (arith, p.members number x (subst (λ sets. number < sets_begun sets at) p.others.sets l) was, seen-nil b number x, seen-nil s number x, count);
   later = λ number x l is. refl;
   unset = λ x is. refl;
-  unseen = λ number x l. none_seen s number x;
+  unseen = λ number x l. seen-nil s number x;
   others = record { slots = λ x. refl; many = refl; roots = refl; sets = refl; marked = refl; work = refl; zeros = refl; free = refl };
 }
 
