@@ -184,4 +184,4 @@ fn write_made<K: Sink>(
 }
 
 #[cfg(test)]
-mod tests;
+pub(crate) mod tests;

@@ -1,11 +1,9 @@
 use super::*;
 use crate::gate::OpenGate;
-use rec_io::{BytesSource, Given, RoomSink, SteadySource};
+use rec_io::{BytesSource, Given, RoomSink};
 use rec_script::Kind;
 use std::process::Abort;
 use std::test::Fail;
-
-const PLAY: [&str; 2] = ["recycler", "play"];
 
 const SIX: &str =
     "recycler 1\nheap 4 1 2\nmutator\nnew 1 7\nput 0 0 1\nnull 1\nget 1 0 0\nvalue 1\n";
@@ -45,25 +43,177 @@ const ROWS: [(&str, &str); 8] = [
     ),
 ];
 
-// The script is answered with this text.
-fn is_answered<R: Abort + AllocGlobal + Threads + Wait + Sync>(
+// The words, a script, the calls of the source and of the sink that fail, and what comes of it: a status, and what is written.
+type Case<'a> = (&'a [&'a str], &'a str, [&'a [u64]; 2], Status, &'a str);
+
+const BAD_COMMAND: Status = Status::BadScript {
+    line: 4,
+    kind: Kind::BadCommand,
+};
+
+// Without turns mutators run one after another; scripts that are refused; a write and a read that fail; summaries; made scripts.
+const CASES: [Case<'static>; 11] = [
+    (
+        &["recycler", "play", "--turns=0"],
+        "recycler 1\nheap 4 1 2\nmutator\nnew 1 5\nput 0 0 1\nmutator\nget 1 0 0\nvalue 1\nsame 0 1\n",
+        [&[], &[]],
+        Status::Done,
+        "1.1 done\n1.2 done\n2.1 object\n2.2 value 5\n2.3 no\nlive 2\n#1 label 0 count 2 fields #2\n#2 label 5 count 3 fields -\nmade 2 refused 0 freed 0\n",
+    ),
+    (
+        &["recycler", "play", "--turns=0"],
+        "recycler 1\nheap 2 1 2\nmutator\nnew 1 5\nnull 1\nnew 1 6\n",
+        [&[], &[]],
+        Status::Done,
+        "1.1 done\n1.2 done\n1.3 full\nlive 1\n#1 label 0 count 1 fields -\nmade 2 refused 1 freed 1\n",
+    ),
+    (&["recycler", "play"], "", [&[], &[]], NO_HEADER, ""),
+    (
+        &["recycler", "play"],
+        "recycler 1\nheap 4 1 2\nmutator\nput 1 0",
+        [&[], &[]],
+        BAD_COMMAND,
+        "",
+    ),
+    (
+        &["recycler", "play"],
+        SIX,
+        [&[], &[3]],
+        Status::WriteFault,
+        "1.1 done\n1.2 done\n",
+    ),
+    (
+        &["recycler", "play"],
+        SIX,
+        [&[2], &[]],
+        Status::ReadFault,
+        "",
+    ),
+    (
+        &["recycler", "play", "--turns=0", "--summary"],
+        SIX,
+        [&[], &[]],
+        Status::Done,
+        "mutators 1 commands 5\n\
+         done 3 null 0 object 1 value 1 yes 0 no 0 none 0 full 0 busy 0\n\
+         live 2 made 2 refused 0 freed 0\n\
+         epochs 3 cycles 0 delta 0 sigma 0\n",
+    ),
+    // A cycle that holds another one is freed with it.
+    (
+        &["recycler", "play", "--turns=0", "--summary"],
+        "recycler 1\nheap 8 2 4\nmutator\nnew 1 1\nput 1 0 1\nnew 2 2\nput 2 0 2\nput 2 1 1\nnull 1\nnull 2\n",
+        [&[], &[]],
+        Status::Done,
+        "mutators 1 commands 7\n\
+         done 7 null 0 object 0 value 0 yes 0 no 0 none 0 full 0 busy 0\n\
+         live 1 made 3 refused 0 freed 2\n\
+         epochs 3 cycles 2 delta 0 sigma 0\n",
+    ),
+    // Two mutators, and answers of the kinds that the others leave out.
+    (
+        &["recycler", "play", "--turns=0", "--summary"],
+        "recycler 1\nheap 1 1 2\nmutator\nnew 1 7\nget 1 0 0\nsame 0 0\nmutator\nvalue 1\nsame 0 1\nvalue 0\n",
+        [&[], &[]],
+        Status::Done,
+        "mutators 2 commands 6\n\
+         done 0 null 1 object 0 value 1 yes 1 no 1 none 1 full 1 busy 0\n\
+         live 1 made 1 refused 1 freed 0\n\
+         epochs 3 cycles 0 delta 0 sigma 0\n",
+    ),
+    (
+        &["recycler", "make", "--mutators", "1", "--commands", "0"],
+        SIX,
+        [&[], &[]],
+        Status::Done,
+        "recycler 1\nheap 1024 2 8\nmutator\n",
+    ),
+    (
+        &["recycler", "make", "--mutators", "1", "--commands", "0"],
+        SIX,
+        [&[], &[3]],
+        Status::WriteFault,
+        "recycler 1\nheap 1024 2 8\n",
+    ),
+];
+
+const NO_HEADER: Status = Status::BadScript {
+    line: 1,
+    kind: Kind::NoHeader,
+};
+
+// Words that are no command line.
+const NO_LINES: [&[&str]; 16] = [
+    &[],
+    &["recycler"],
+    &["recycler", "Play"],
+    &["recycler", "make", "--summary"],
+    &["recycler", "help"],
+    &["recycler", "play", "--help"],
+    &["recycler", "play", "--turns", "10000001"],
+    &["recycler", "play", "--seed", "7", "--seed=7"],
+    &["recycler", "play", "--summary=true"],
+    &["recycler", "play", "--summary", "--summary"],
+    &["recycler", "--summary", "play"],
+    &["recycler", "make", "--turns", "1"],
+    &["recycler", "make", "--mutators", "0"],
+    &["recycler", "make", "--mutators", "9"],
+    &["recycler", "make", "--commands", "200001"],
+    &["recycler", "make", "--commands=1", "--commands=1"],
+];
+
+// What a run over bytes in memory came to, and whether it left some of them unread.
+#[derive(Drop)]
+pub(crate) struct Ran {
+    pub(crate) status: Status,
+    pub(crate) sink: RoomSink,
+    pub(crate) unread: bool,
+}
+
+// Runs the program once, with room for so many bytes.
+pub(crate) fn ran<R: AllocGlobal + Threads + Wait + Sync>(
     rt: &R,
     words: &[&str],
-    script: &str,
-    text: &str,
-) -> Result<(), Fail> {
-    let mut source = BytesSource::open(rt.alloc(), script.as_bytes(), &[])?;
-    let mut sink = RoomSink::open(rt.alloc(), 1_000, &[])?;
+    script: &[u8],
+    fails: [&[u64]; 2],
+    room: usize,
+) -> Result<Ran, Fail> {
+    let [reads, writes] = fails;
+    let mut source = BytesSource::open(rt.alloc(), script, reads)?;
+    let mut sink = RoomSink::open(rt.alloc(), room, writes)?;
     let status = run(rt, rt.alloc(), words, &mut source, &mut sink, &OpenGate);
-    assert_eq!(rt; status, Status::Done, "at {script}");
-    assert_eq!(rt; sink.bytes(), text.as_bytes(), "at {script}");
+    let unread = source.read(&mut [0]) != Given::End;
+    Ok(Ran {
+        status,
+        sink,
+        unread,
+    })
+}
+
+fn comes_of<R: Abort + AllocGlobal + Threads + Wait + Sync>(
+    rt: &R,
+    cases: &[Case<'_>],
+) -> Result<(), Fail> {
+    for (words, script, fails, status, text) in cases {
+        let ran = ran(rt, words, script.as_bytes(), *fails, 1_000)?;
+        assert_eq!(rt; ran.status, *status, "at {words:?}, {script}");
+        assert_eq!(rt; ran.sink.bytes(), text.as_bytes(), "at {words:?}, {script}");
+        // Words that ask for no script to be read leave the source as it was.
+        let reads = words.get(1) == Some(&"play") && *status != Status::Usage;
+        assert_eq!(rt;
+            ran.unread,
+            !reads && !script.is_empty(),
+            "at {words:?}, {script}"
+        );
+    }
     Ok(())
 }
 
 #[test]
 fn scripts_are_answered(rt: HostRuntime) -> Result<(), Fail> {
+    let play: [&str; 2] = ["recycler", "play"];
     for (script, text) in ROWS {
-        is_answered(&rt, &PLAY, script, text)?;
+        comes_of(&rt, &[(&play, script, [&[], &[]], Status::Done, text)])?;
     }
     Ok(())
 }
@@ -72,123 +222,37 @@ fn scripts_are_answered(rt: HostRuntime) -> Result<(), Fail> {
 fn one_mutator_is_answered_alike_under_each_seed(rt: HostRuntime) -> Result<(), Fail> {
     for seed in ["0", "1", "2", "7", "18446744073709551615"] {
         let words = ["recycler", "play", "--seed", seed];
-        let (script, text) = ROWS[4];
-        is_answered(&rt, &words, script, text)?;
-        let (script, text) = ROWS[5];
-        is_answered(&rt, &words, script, text)?;
-        let (script, text) = ROWS[6];
-        is_answered(&rt, &words, script, text)?;
+        for (script, text) in &ROWS[4..7] {
+            comes_of(&rt, &[(&words, script, [&[], &[]], Status::Done, text)])?;
+        }
     }
     Ok(())
 }
 
 #[test]
-fn without_turns_mutators_run_one_after_another(rt: HostRuntime) -> Result<(), Fail> {
-    let words = ["recycler", "play", "--turns=0"];
-    is_answered(
-        &rt,
-        &words,
-        "recycler 1\nheap 4 1 2\nmutator\nnew 1 5\nput 0 0 1\nmutator\nget 1 0 0\nvalue 1\nsame 0 1\n",
-        "1.1 done\n1.2 done\n2.1 object\n2.2 value 5\n2.3 no\nlive 2\n#1 label 0 count 2 fields #2\n#2 label 5 count 3 fields -\nmade 2 refused 0 freed 0\n",
-    )?;
-    is_answered(
-        &rt,
-        &words,
-        "recycler 1\nheap 2 1 2\nmutator\nnew 1 5\nnull 1\nnew 1 6\n",
-        "1.1 done\n1.2 done\n1.3 full\nlive 1\n#1 label 0 count 1 fields -\nmade 2 refused 1 freed 1\n",
-    )?;
-    Ok(())
-}
-
-#[test]
-fn a_refused_script_writes_nothing(rt: HostRuntime) -> Result<(), Fail> {
-    let cases = [
-        ("", 1, Kind::NoHeader),
-        (
-            "recycler 1\nheap 4 1 2\nmutator\nput 1 0",
-            4,
-            Kind::BadCommand,
-        ),
-    ];
-    for (script, line, kind) in cases {
-        let mut source = SteadySource::over(script.as_bytes());
-        let mut sink = RoomSink::open(rt.alloc(), 1_000, &[])?;
-        let status = run(&rt, rt.alloc(), &PLAY, &mut source, &mut sink, &OpenGate);
-        assert_eq!(rt; status, Status::BadScript { line, kind }, "at {script}");
-        assert_eq!(rt; sink.bytes().len(), 0, "at {script}");
-    }
-    Ok(())
-}
-
-// The words aren't taken, and nothing is read or written.
-fn is_refused<R: Abort + AllocGlobal + Threads + Wait + Sync>(
-    rt: &R,
-    words: &[&str],
-) -> Result<(), Fail> {
-    let mut source = SteadySource::over(SIX.as_bytes());
-    let mut sink = RoomSink::open(rt.alloc(), 1_000, &[])?;
-    let status = run(rt, rt.alloc(), words, &mut source, &mut sink, &OpenGate);
-    assert_eq!(rt; status, Status::Usage, "at {words:?}");
-    assert_eq!(rt; sink.bytes().len(), 0, "at {words:?}");
-    let mut first = [0];
-    assert_eq!(rt; source.read(&mut first), Given::Bytes(1), "at {words:?}");
-    assert_eq!(rt; first, *b"r", "at {words:?}");
-    Ok(())
+fn runs_come_to_their_ends(rt: HostRuntime) -> Result<(), Fail> {
+    comes_of(&rt, &CASES)
 }
 
 #[test]
 fn other_words_are_no_command_line(rt: HostRuntime) -> Result<(), Fail> {
-    let lines: [&[&str]; 8] = [
-        &[],
-        &["recycler"],
-        &["recycler", "Play"],
-        &["recycler", "make", "--summary"],
-        &["recycler", "help"],
-        &["recycler", "play", "--help"],
-        &["recycler", "play", "--turns", "10000001"],
-        &["recycler", "play", "--seed", "7", "--seed=7"],
-    ];
-    for words in lines {
-        is_refused(&rt, words)?;
+    for words in NO_LINES {
+        comes_of(&rt, &[(words, SIX, [&[], &[]], Status::Usage, "")])?;
     }
-    Ok(())
-}
-
-#[test]
-fn a_failed_write_leaves_a_front(rt: HostRuntime) -> Result<(), Fail> {
-    let mut source = SteadySource::over(SIX.as_bytes());
-    let mut sink = RoomSink::open(rt.alloc(), 1_000, &[3])?;
-    let status = run(&rt, rt.alloc(), &PLAY, &mut source, &mut sink, &OpenGate);
-    assert_eq!(rt; status, Status::WriteFault);
-    assert_eq!(rt; sink.bytes(), b"1.1 done\n1.2 done\n".as_slice());
-    Ok(())
-}
-
-#[test]
-fn a_failed_read_writes_nothing(rt: HostRuntime) -> Result<(), Fail> {
-    let mut source = BytesSource::open(rt.alloc(), SIX.as_bytes(), &[2])?;
-    let mut sink = RoomSink::open(rt.alloc(), 1_000, &[])?;
-    let status = run(&rt, rt.alloc(), &PLAY, &mut source, &mut sink, &OpenGate);
-    assert_eq!(rt; status, Status::ReadFault);
-    assert_eq!(rt; sink.bytes().len(), 0);
     Ok(())
 }
 
 #[test]
 fn too_long_a_script_is_not_read_for_ever(rt: HostRuntime) -> Result<(), Fail> {
     let spaces = vec![in rt.alloc(); b' '; 20_000_000]?;
-    let mut source = SteadySource::over(&spaces);
-    let mut sink = RoomSink::open(rt.alloc(), 1_000, &[])?;
-    let status = run(&rt, rt.alloc(), &PLAY, &mut source, &mut sink, &OpenGate);
-    assert_eq!(rt;
-        status,
-        Status::BadScript {
-            line: 0,
-            kind: Kind::TooLong
-        }
-    );
-    let mut more = [0];
-    assert_eq!(rt; source.read(&mut more), Given::Bytes(1));
+    let ran = ran(&rt, &["recycler", "play"], &spaces, [&[], &[]], 1_000)?;
+    let long = Status::BadScript {
+        line: 0,
+        kind: Kind::TooLong,
+    };
+    assert_eq!(rt; ran.status, long);
+    assert!(rt; ran.unread);
+    assert_eq!(rt; ran.sink.bytes().len(), 0);
     Ok(())
 }
 
