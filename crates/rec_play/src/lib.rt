@@ -6,6 +6,8 @@
 //! The rule that this crate keeps: who has which turn follows from the numbers of commands, the seed and the number of
 //! drawn turns alone, and never from the heap; each mutator's own commands keep their order; and what is told is what the
 //! heap that never frees tells in that order, with frees and sweeps among the answers.
+//! That order is the legal order of every run (`rec_order`), of the moves that the turns make up: each object that is freed is
+//! the one that the freed slot held. Each log has room for all commands of its mutator, so none is ever full.
 //! The layer above may use the contracts of `play` and of the calls that open what a script is played with, the laws of
 //! orders, which are the contracts of the functions in `laws`, and the definitions of `specs/`.
 //! The rule is this project's profile (`docs/PROFILE.md`); the generator is PCG's, by O'Neill, with 32-bit words.
