@@ -50,9 +50,9 @@ pub fn orange_members_have_outside_counts()
     ensures cyclic { (fields : ℕ) (s : State) (a : AreOutside fields s) (number x : ℕ) → (slot_at s x).set ≡ Some number → (slot_at s x).colour ≡ Orange → (slot_at s x).cyclic ≡ (slot_at s x).count - seen a.before number a.loads x }
 {}
 
-/// A member of a prepared set that is Orange still was touched by nothing since its preparation: up to the next trial, whatever step
-/// leaves it Orange found it Orange in the same set, and named it nowhere. So no increment, no decrement and no snapshot of the batch
-/// named it, and no decrement since. A reference that was lowered came off its true count and off its cyclic count, not below zero.
+/// A member of a prepared set that is Orange still was touched by nothing since its preparation. Up to the next trial, whatever step
+/// leaves it Orange found it Orange in the same set, and named it nowhere: no increment, no decrement and no snapshot of the batch, and
+/// no decrement since. A reference that was lowered came off its true count and off its cyclic count, not below zero.
 pub fn orange_members_are_untouched()
     ensures { (p : Private) (word : ℕ) (box : Contents) (number x : ℕ) → IsMachine p → IsBetween p.phase → IsGiven p word → HasSets p.phase → tried_at (step_of p word box).epoch (step_of p word box).phase ≡ tried_at p.epoch p.phase → IsOrangeIn (step_of p word box).counts number x → WasUntouched p.counts (step_of p word box).counts number x (named_by p word x) }
 {}

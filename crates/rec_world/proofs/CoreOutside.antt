@@ -1,5 +1,5 @@
 -- Orange members and their outside counts, over the moves of a run.
-use Rattle.std.proofs.Common.{◌≡◌, ◌⊎◌, inl, inr, ℕ, ◌+◌, ◌/◌, ◌%◌, ◌<◌, Bool, true, false, cond, Option, None, Some, IfSome, List, [], ◌∷◌, ◌++◌, map, slice_index_or, refl, sym, ap, subst, ◌∙◌, arith, append_assoc}
+use Rattle.std.proofs.Common.{◌≡◌, ◌⊎◌, inl, inr, ℕ, ◌+◌, ◌/◌, ◌%◌, ◌<◌, ◌≤◌, Bool, true, false, cond, Option, None, Some, IfSome, List, [], ◌∷◌, ◌++◌, map, slice_index_or, refl, sym, ap, subst, ◌∙◌, arith, append_assoc}
 use Rattle.std.specs.List.{concat}
 use Rattle.std.proofs.Math.Nat.{div-add-mod, mul_comm}
 use Rattle.std.proofs.lemmas.List.{append-nil, map-append}
@@ -9,7 +9,10 @@ use Rattle.rec_word.specs.declared.op.Op.{Op}
 use Rattle.rec_word.specs.declared.op.Op.TheVariants as ops
 use Rattle.rec_log.specs.declared.contents.Contents.{Contents}
 use Rattle.rec_counts.specs.Counts.{State, slot_at, IsKept as IsKeptCounts}
+use Rattle.rec_counts.specs.Lists.{one, times}
+use Rattle.rec_counts.specs.Slot.{is_in}
 use Rattle.rec_counts.specs.declared.slot.Slot.{Slot}
+use Rattle.rec_counts.proofs.Times.{one-same}
 use Rattle.rec_release.specs.CycleFree.{op_at as freeing_op_at, next_of as freeing_next}
 use Rattle.rec_release.specs.Release.{op_at as release_op_at, next_of as release_next}
 use Rattle.rec_release.specs.Sweep.{op_at as sweep_op_at, next_of as sweep_next}
@@ -17,7 +20,8 @@ use Rattle.rec_release.specs.declared.at.At as releases
 use Rattle.rec_release.specs.declared.member.Member.{Member}
 use Rattle.rec_sigma.specs.declared.at.At.{At}
 use Rattle.rec_sigma.specs.Prepare as preps
-use Rattle.rec_sigma.specs.Prepared.{Load, PreparedTo, loaded_at, place_loaded, places_left, places_of, sets_begun}
+use Rattle.rec_sigma.specs.Prepare.{members_of}
+use Rattle.rec_sigma.specs.Prepared.{Load, PreparedTo, loaded_at, place_loaded, places_left, places_of, seen, sets_begun}
 use Rattle.rec_sigma.proofs.Cyclics.{seen-nil}
 use Rattle.rec_sigma.proofs.Runs.{Came, came_first, came_on}
 use Rattle.rec_collector.specs.Followed.{prep_started, with_loaded, with_tried}
@@ -35,6 +39,7 @@ use Rattle.rec_collector.proofs.Outside as machine_outside
 use Rattle.rec_collector.proofs.Touched.{begins_on, has_on, loads_on, LoadsOn, outside_later, untouched, untouched_on, untouched_same}
 use Rattle.rec_world.specs.declared.config.Config.{Config}
 use Rattle.rec_world.specs.Core.{Core, cells_of, box}
+use Rattle.rec_world.specs.CoreFreed.{Passes}
 use Rattle.rec_world.specs.CoreKept.{IsKept}
 use Rattle.rec_world.specs.CoreLoads.{BeginsPreparing, fields_loaded, load_of, Loaded, loaded_by, loaded_in, loaded_over, named_by_op, named_in, named_over, tried_in}
 use Rattle.rec_world.specs.CoreMoves.{AllFit, Fits, Move, after_move, after_moves, looked_at, turned, turned_at, turned_by}
@@ -42,9 +47,10 @@ use Rattle.rec_world.specs.Memory.{cell}
 use Rattle.rec_world.proofs.CoreLanded.{HasLanded}
 use Rattle.rec_world.proofs.CoreLoads.{BeginsNoTrial, tried_of}
 use Rattle.rec_world.proofs.CorePreparing.{loads_due}
-use Rattle.rec_world.proofs.CoreRuns.{given_is, move_kept, move_stays}
+use Rattle.rec_world.proofs.CoreRuns.{given_is, move_kept, move_stays, moves_kept}
 use Rattle.rec_world.proofs.CoreTrying.{loads_child, trying_lands}
 use Rattle.rec_world.proofs.CoreTurns.{now_at}
+use Rattle.rec_world.proofs.CyclesTest.{none_of}
 
 -- a turn with an operation, up to the next trial
 module _ (w : Core) (op : Op) (kept : IsKept w) (later : IsKept (turned_by w op (cell (cells_of w) op))) (named : ◌≡◌ {A = Option Op} (next_of w.collector) (Some op)) where
@@ -330,3 +336,13 @@ module _ (w : Core) (ms : List Move) (kept : IsKept w) (begins : BeginsPreparing
       go : Stage w.config.fields (turned w).collector.counts end all → IsOutside (turned w).collector.counts end.collector.counts all number x
       go (Stage.loading at came) = absurd (subst HasSets at has)
       go (Stage.done has places members) = members number x o
+
+  -- a set that passes both tests has no more references than words that lead to its members from within
+  pub run_passed : (number x : ℕ) → Passes end number → (slot_at end.collector.counts x).set ≡ Some number → (slot_at end.collector.counts x).count ≤ seen (turned w).collector.counts number all x
+  run_passed number x p is =
+      let s : State = end.collector.counts in
+      let later : IsKept end = moves_kept (turned w) ms (move_kept w Move.Turns kept tt) fit in
+      let there : 0 < times x (members_of s number) = omega (arith, later.collector.machine.counts.numbers number x, ap (λ o. one (is_in number o)) is, one-same number) in
+      let i = run_outside number x (is, p.orange x there) in
+      let none : (slot_at s x).cyclic ≡ 0 = none_of (λ y. (slot_at s y).cyclic) (members_of s number) x there p.none in
+      omega (arith, i.fewer, i.cyclic, none)

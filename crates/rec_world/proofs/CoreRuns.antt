@@ -124,7 +124,7 @@ move_kept w Move.Turns kept fits = turned_kept w kept
 move_kept w Move.Offers kept fits = offering_kept w kept
 
 -- some moves
-moves_kept : (w : Core) (ms : List Move) → IsKept w → AllFit w ms → IsKept (after_moves w ms)
+pub moves_kept : (w : Core) (ms : List Move) → IsKept w → AllFit w ms → IsKept (after_moves w ms)
 moves_kept w [] kept fit = kept
 moves_kept w (m ∷ ms) kept fit = moves_kept (after_move w m) ms (move_kept w m kept fit.0) fit.1
 

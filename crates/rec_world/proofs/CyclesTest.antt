@@ -117,7 +117,7 @@ sets_test_stepped {w} {v} s t m among l i h = sets_test_less v s t l (sets_test_
 pub sets_test_taken : (w v : Pending) (s t : State) (place : ℕ) → Clears w v place → TestsLess s t → IsAccounted w → SetsTest w s → SetsTest v t
 sets_test_taken w v s t place c l i h = sets_test_stepped s t (clearing c) tt l i h
 
-none_of : (f : ℕ → ℕ) (xs : List ℕ) (x : ℕ) → 0 < times x xs → sum_by f xs ≡ 0 → f x ≡ 0
+pub none_of : (f : ℕ → ℕ) (xs : List ℕ) (x : ℕ) → 0 < times x xs → sum_by f xs ≡ 0 → f x ≡ 0
 none_of f [] x h e = absurd (omega (arith, h, times-nil x))
 none_of f (y ∷ ys) x h e =
     elim (eqb_tells x y) [

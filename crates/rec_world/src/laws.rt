@@ -1,6 +1,6 @@
 //! What holds of every run, each law as the contract of a function that does nothing.
 
-ghost use Rattle.std.specs.Prelude.{◌≡◌, ℕ, ◌+◌, ◌<◌, List, Some, IfSome, false, true, map, slice_index_or};
+ghost use Rattle.std.specs.Prelude.{◌≡◌, ℕ, ◌+◌, ◌<◌, ◌≤◌, List, Some, IfSome, false, true, map, slice_index_or};
 ghost use Rattle.std.specs.List.{concat, Contains};
 ghost use Rattle.rec_model.specs.Heap.{Heap};
 ghost use Rattle.rec_model.specs.References.{count_formula};
@@ -17,7 +17,7 @@ ghost use Rattle.rec_collector.specs.Next.{next_of as collector_next};
 ghost use Rattle.rec_collector.specs.Outside.{HasSets, IsOutside};
 ghost use Rattle.rec_collector.specs.Touched.{IsOrangeIn, WasUntouched};
 ghost use Rattle.rec_collector.specs.Zeros.{AreTheZeros};
-ghost use Rattle.rec_sigma.specs.Prepared.{places_of};
+ghost use Rattle.rec_sigma.specs.Prepared.{places_of, seen};
 ghost use Rattle.rec_world.specs.Config.{IsConfig, IsMutator};
 ghost use Rattle.rec_world.specs.Core.{Core, sight, mutator};
 ghost use Rattle.rec_word.specs.declared.op.Op.TheVariants.{FreeHeader};
@@ -86,27 +86,29 @@ pub fn failed_allocations_probed_every_slot()
     ensures { (w : Core) (moves : List Move) (t reg label : ℕ) (told : Told) → IsConfig w.config → EndsRun w → IsMutator w.config t → (mutator w t).phase ≡ Begun (works.Command (commands.New reg label)) → AllFit w moves → BeginsNone t moves → is_busy (mutator (after_moves w moves) t) ≡ true → answer_of (mutator (stepped (after_moves w moves) t) t) ≡ Some (makes.Answered told) → FailsByProbes w t label moves (after_moves w moves) told.answer }
 {}
 
-/// What the collector loads from fields, for marking, for blackening and for preparation, stays what it is over every run until the
-/// sets that the trial found are tested. At the end of any moves of mutators and collector, over which no other trial begins, each word
-/// that was loaded was put in the epoch requested then or before; and it stands in its field, or a write of that epoch or of a later
+/// What the collector loads from fields stays what it is, whether marking, blackening, collecting or preparation loads it, until the
+/// sets that the trial found are tested. Take any moves of mutators and collector over which no other trial begins. Each word that they
+/// loaded was put in the epoch requested then, or before. At their end it stands in its field, or a write of that epoch or of a later
 /// one replaced it there, or the collector took it out.
 pub fn loaded_words_stay_references()
     ensures { (w : Core) (moves : List Move) (l : Loaded) → IsConfig w.config → EndsRun w → AllFit w moves → IsSameTrial w (after_moves w moves) → Contains (loaded_over w moves) l → IsReferenceStill (after_moves w moves) (cleared_over w moves) l }
 {}
 
-/// A member of a prepared set that is Orange still was touched by nothing since: over any moves of mutators and collector over which no
-/// trial begins, it was Orange in the same set before, no increment, decrement or snapshot of a batch named it and no decrement since,
-/// and each reference that was lowered came off its true count and off its cyclic count, not below zero.
+/// A member of a prepared set that is Orange still was touched by nothing since. Take any moves of mutators and collector over which no
+/// trial begins. The member was Orange in the same set before them. No increment, decrement or snapshot of a batch named it, and no
+/// decrement since. Each reference that was lowered came off its true count and off its cyclic count, not below zero.
 pub fn orange_members_stay_untouched()
     ensures { (w : Core) (moves : List Move) (number x : ℕ) → IsConfig w.config → EndsRun w → HasSets w.collector.phase → AllFit w moves → IsSameTrial w (after_moves w moves) → IsOrangeIn (after_moves w moves).collector.counts number x → WasUntouched w.collector.counts (after_moves w moves).collector.counts number x (named_over w moves x) }
 {}
 
-/// The outside count of a member is read off the run. From the turn with which the preparation of sets begins, over any moves of mutators
-/// and collector up to their tests, the words that were loaded are those of each field of each member, once; and the cyclic count of each
-/// member that is Orange still is its true count then, less the words among them in fields of its set's members that lead to it, less the
-/// references that were lowered since, not below zero.
+/// The outside count of a member is read off the run. Take the turn with which the preparation of sets begins, and any moves behind it
+/// over which no trial begins, once the preparation is done. They loaded each field of each member once, in order, and no other. The
+/// cyclic count of each member that is Orange still is its outside count by these words: its true count at that turn, less the words in
+/// fields of its set's members that lead to it. Each reference that was lowered since took one more off, not below zero. So a member of
+/// a set that passes both tests has no more references than there are such words.
 pub fn outside_counts_are_of_the_run()
     ensures places { (w : Core) (moves : List Move) → IsConfig w.config → EndsRun w → BeginsPreparing w → AllFit (turned w) moves → IsSameTrial (turned w) (after_moves (turned w) moves) → HasSets (after_moves (turned w) moves).collector.phase → map (λ (l : Loaded). l.place) (loaded_over (turned w) moves) ≡ places_of w.config.fields (concat (turned w).collector.counts.sets) }
+    ensures passed { (w : Core) (moves : List Move) (number x : ℕ) → IsConfig w.config → EndsRun w → BeginsPreparing w → AllFit (turned w) moves → IsSameTrial (turned w) (after_moves (turned w) moves) → HasSets (after_moves (turned w) moves).collector.phase → Passes (after_moves (turned w) moves) number → (slot_at (after_moves (turned w) moves).collector.counts x).set ≡ Some number → (slot_at (after_moves (turned w) moves).collector.counts x).count ≤ seen (turned w).collector.counts number (fields_loaded w.config.fields (loaded_over (turned w) moves)) x }
     ensures members { (w : Core) (moves : List Move) (number x : ℕ) → IsConfig w.config → EndsRun w → BeginsPreparing w → AllFit (turned w) moves → IsSameTrial (turned w) (after_moves (turned w) moves) → HasSets (after_moves (turned w) moves).collector.phase → IsOrangeIn (after_moves (turned w) moves).collector.counts number x → IsOutside (turned w).collector.counts (after_moves (turned w) moves).collector.counts (fields_loaded w.config.fields (loaded_over (turned w) moves)) number x }
 {}
 

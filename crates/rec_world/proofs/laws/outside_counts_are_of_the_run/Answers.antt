@@ -4,7 +4,7 @@ use Rattle.rec_world.specs.Core.{Core}
 use Rattle.rec_world.specs.CoreLoads.{IsSameTrial}
 use Rattle.rec_world.specs.CoreMoves.{AllFit, after_moves, EndsRun, Move, turned}
 use Rattle.rec_world.proofs.CoreLoads.{BeginsNoTrial, no_trial}
-use Rattle.rec_world.proofs.CoreOutside.{run_outside, run_places}
+use Rattle.rec_world.proofs.CoreOutside.{run_outside, run_passed, run_places}
 use Rattle.rec_world.proofs.CoreRuns.{end_kept, move_kept}
 use Rattle.rec_world.proofs.laws.outside_counts_are_of_the_run.Goals as goal
 
@@ -15,5 +15,6 @@ same_trial w moves config run fit same = no_trial (turned w) moves (move_kept w 
 pub returns : goal.returns
 returns c = record {
   places = λ w moves config run begins fit same has. run_places w moves (end_kept w config run) begins fit (same_trial w moves config run fit same) has;
+  passed = λ w moves number x config run begins fit same has. run_passed w moves (end_kept w config run) begins fit (same_trial w moves config run fit same) has number x;
   members = λ w moves number x config run begins fit same has. run_outside w moves (end_kept w config run) begins fit (same_trial w moves config run fit same) has number x;
 }
