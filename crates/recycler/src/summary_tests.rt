@@ -1,4 +1,4 @@
-use crate::run::tests::{Ran, ran};
+use crate::run::tests::{Ran, run_once};
 use crate::status::Status;
 use std::process::Abort;
 use std::sync::Wait;
@@ -11,7 +11,7 @@ fn done<R: Abort + AllocGlobal + Threads + Wait + Sync>(
     words: &[&str],
     script: &[u8],
 ) -> Result<Ran, Fail> {
-    let ran = ran(rt, words, script, [&[], &[]], 200_000)?;
+    let ran = run_once(rt, words, script, [&[], &[]], 200_000)?;
     assert_eq!(rt; ran.status, Status::Done, "at {words:?}");
     Ok(ran)
 }

@@ -171,7 +171,7 @@ pub(crate) struct Ran {
 }
 
 // Runs the program once, with room for so many bytes.
-pub(crate) fn ran<R: AllocGlobal + Threads + Wait + Sync>(
+pub(crate) fn run_once<R: AllocGlobal + Threads + Wait + Sync>(
     rt: &R,
     words: &[&str],
     script: &[u8],
@@ -195,7 +195,7 @@ fn comes_of<R: Abort + AllocGlobal + Threads + Wait + Sync>(
     cases: &[Case<'_>],
 ) -> Result<(), Fail> {
     for (words, script, fails, status, text) in cases {
-        let ran = ran(rt, words, script.as_bytes(), *fails, 1_000)?;
+        let ran = run_once(rt, words, script.as_bytes(), *fails, 1_000)?;
         assert_eq!(rt; ran.status, *status, "at {words:?}, {script}");
         assert_eq!(rt; ran.sink.bytes(), text.as_bytes(), "at {words:?}, {script}");
         // Words that ask for no script to be read leave the source as it was.
@@ -245,7 +245,7 @@ fn other_words_are_no_command_line(rt: HostRuntime) -> Result<(), Fail> {
 #[test]
 fn too_long_a_script_is_not_read_for_ever(rt: HostRuntime) -> Result<(), Fail> {
     let spaces = vec![in rt.alloc(); b' '; 20_000_000]?;
-    let ran = ran(&rt, &["recycler", "play"], &spaces, [&[], &[]], 1_000)?;
+    let ran = run_once(&rt, &["recycler", "play"], &spaces, [&[], &[]], 1_000)?;
     let long = Status::BadScript {
         line: 0,
         kind: Kind::TooLong,
