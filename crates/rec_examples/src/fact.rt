@@ -1,5 +1,5 @@
 ghost use Rattle.std.specs.Prelude.{◌≡◌, IsTrue};
-ghost use Rattle.rec_world.specs.Config.{IsMutator};
+ghost use Rattle.rec_core.specs.Config.{IsMutator};
 
 use rec_collector::Sets;
 use rec_model::Cmd;

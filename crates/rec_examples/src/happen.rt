@@ -1,7 +1,7 @@
 ghost use Rattle.std.specs.Prelude.{◌≡◌, IsTrue, false};
 ghost use Rattle.rec_mutator.specs.Private.{is_busy};
-ghost use Rattle.rec_world.specs.Config.{IsMutator};
-ghost use Rattle.rec_world.specs.Core.{mutator};
+ghost use Rattle.rec_core.specs.Config.{IsMutator};
+ghost use Rattle.rec_core.specs.Core.{mutator};
 
 use crate::event::Event;
 use crate::fact::{is_so, is_there};

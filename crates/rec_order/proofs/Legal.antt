@@ -17,18 +17,18 @@ use Rattle.rec_mutator.specs.Private.{Private, is_busy_at}
 use Rattle.rec_mutator.specs.declared.phase.Phase.{Phase}
 use Rattle.rec_mutator.specs.declared.phase.Phase.TheVariants as at
 use Rattle.rec_collector.specs.Next.{next_of}
-use Rattle.rec_world.specs.Core.{Core, sight, mutator, nobody, log_length}
-use Rattle.rec_world.specs.CoreAsked.{told_in, told_in_all}
-use Rattle.rec_world.specs.CoreKept.{IsKept}
-use Rattle.rec_world.specs.CoreMoves.{Move, AllFit, after_move, after_moves}
+use Rattle.rec_core.specs.Asked.{told_in, told_in_all}
+use Rattle.rec_core.specs.Core.{Core, sight, mutator, nobody, log_length}
+use Rattle.rec_core.specs.Kept.{IsKept}
+use Rattle.rec_core.specs.Moves.{Move, AllFit, after_move, after_moves}
 use Rattle.rec_order.specs.Naming.{Naming, with_number, named_after, naming_of}
 use Rattle.rec_order.specs.Events.{swept_by, events_in, events_of}
 use Rattle.rec_order.specs.Legal.{limits_of, moment_of, AreIdle, AreJournals, HasLegalOrder}
 use Rattle.rec_order.proofs.Orders.{HasOrder, moves_order}
 use Rattle.rec_model.proofs.Standing.{with_birth-same, with_birth-other}
 use Rattle.rec_order.proofs.Steps.{Meets}
-use Rattle.rec_world.specs.declared.config.Config.{Config}
-use Rattle.rec_world.proofs.CoreRuns.{move_stays}
+use Rattle.rec_core.specs.declared.config.Config.{Config}
+use Rattle.rec_core.proofs.Runs.{move_stays}
 
 -- Each object in one of the first slots has that slot as its home.
 has_homes : (w : Sight) (number : ℕ → ℕ) → ((s t : ℕ) → IsTaken w s → IsTaken w t → number s ≡ number t → s ≡ t) → (bound : ℕ) → (home : ℕ → ℕ) × ((s : ℕ) → s < bound → IsTaken w s → home (number s) ≡ s)

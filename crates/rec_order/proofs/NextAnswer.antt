@@ -23,15 +23,15 @@ use Rattle.rec_mutator.specs.Step.{IsStill}
 use Rattle.rec_mutator.specs.declared.phase.Phase.{Phase}
 use Rattle.rec_mutator.specs.declared.phase.Phase.TheVariants as at
 use Rattle.rec_mutator.specs.declared.work.Work.TheVariants as works
-use Rattle.rec_world.specs.Config.{IsMutator}
-use Rattle.rec_world.specs.Core.{Core, sight, cells_of, mutator, log_length}
-use Rattle.rec_world.specs.CoreKept.{IsKept, IsScanning, HasPassed}
-use Rattle.rec_world.specs.CoreMoves.{found_by, stepped}
-use Rattle.rec_world.specs.CorePending.{epoch_at}
-use Rattle.rec_world.specs.CoreShown.{IsDecided, IsFilled, IsBirthplace}
-use Rattle.rec_world.specs.Memory.{cell}
-use Rattle.rec_world.proofs.CoreActors.{epoch_here}
-use Rattle.rec_world.proofs.CoreSteps.{actor_of}
+use Rattle.rec_core.specs.Cells.{cell}
+use Rattle.rec_core.specs.Config.{IsMutator}
+use Rattle.rec_core.specs.Core.{Core, sight, cells_of, mutator, log_length}
+use Rattle.rec_core.specs.Kept.{IsKept, IsScanning, HasPassed}
+use Rattle.rec_core.specs.Moves.{found_by, stepped}
+use Rattle.rec_core.specs.Pending.{epoch_at}
+use Rattle.rec_core.specs.Shown.{IsDecided, IsFilled, IsBirthplace}
+use Rattle.rec_core.proofs.Actors.{epoch_here}
+use Rattle.rec_core.proofs.Steps.{actor_of}
 use Rattle.rec_order.specs.Naming.{Naming}
 use Rattle.rec_order.specs.Legal.{limits_of}
 use Rattle.rec_order.proofs.Stamps.{HasEntry, IsBefore, commanded_here}

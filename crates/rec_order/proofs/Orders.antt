@@ -26,23 +26,23 @@ use Rattle.rec_mutator.specs.declared.phase.Phase.TheVariants as at
 use Rattle.rec_mutator.specs.declared.work.Work.{Work}
 use Rattle.rec_mutator.specs.declared.work.Work.TheVariants as works
 use Rattle.rec_collector.specs.Next.{next_of}
-use Rattle.rec_world.specs.declared.config.Config.{Config}
-use Rattle.rec_world.specs.Config.{IsMutator}
-use Rattle.rec_world.specs.Core.{Core, sight, mutator, nobody, log_length}
-use Rattle.rec_world.specs.CoreAsked.{told_by}
-use Rattle.rec_world.specs.CoreKept.{IsKept}
-use Rattle.rec_world.specs.CoreMoves.{Move, Fits, AllFit, after_move, after_moves, stepped, turned, turned_at, begun, offering}
-use Rattle.rec_world.specs.CorePending.{epoch_at}
-use Rattle.rec_world.specs.CoreShown.{IsDecided, entries_of}
-use Rattle.rec_world.specs.CoreSwept.{SweepsNothing, IsSweep}
-use Rattle.rec_world.specs.CoreSwept.IsSweep.{rests, marks, frees}
-use Rattle.rec_world.proofs.CoreActors.{epoch_here}
-use Rattle.rec_world.proofs.CoreAsked.{begun_sight}
-use Rattle.rec_world.proofs.CoreReach.{turned_keeps, keeps_stands_by}
-use Rattle.rec_world.proofs.CoreRuns.{move_kept, move_stays}
-use Rattle.rec_world.proofs.CoreShowing.{Says, step_says, step_caused, mutator_other}
-use Rattle.rec_world.proofs.CoreSteps.{in_list}
-use Rattle.rec_world.proofs.CoreSwept.{turned_sweeps}
+use Rattle.rec_core.specs.Asked.{told_by}
+use Rattle.rec_core.specs.Config.{IsMutator}
+use Rattle.rec_core.specs.Core.{Core, sight, mutator, nobody, log_length}
+use Rattle.rec_core.specs.Kept.{IsKept}
+use Rattle.rec_core.specs.Moves.{Move, Fits, AllFit, after_move, after_moves, stepped, turned, turned_at, begun, offering}
+use Rattle.rec_core.specs.Pending.{epoch_at}
+use Rattle.rec_core.specs.Shown.{IsDecided, entries_of}
+use Rattle.rec_core.specs.Swept.{SweepsNothing, IsSweep}
+use Rattle.rec_core.specs.Swept.IsSweep.{rests, marks, frees}
+use Rattle.rec_core.specs.declared.config.Config.{Config}
+use Rattle.rec_core.proofs.Actors.{epoch_here}
+use Rattle.rec_core.proofs.Asked.{begun_sight}
+use Rattle.rec_core.proofs.Reach.{turned_keeps, keeps_stands_by}
+use Rattle.rec_core.proofs.Runs.{move_kept, move_stays}
+use Rattle.rec_core.proofs.Showing.{Says, step_says, step_caused, mutator_other}
+use Rattle.rec_core.proofs.Steps.{in_list}
+use Rattle.rec_core.proofs.Swept.{turned_sweeps}
 use Rattle.rec_order.specs.Naming.{Naming, named_after, named_after_all}
 use Rattle.rec_order.specs.Events.{swept_by, events_in, events_of}
 use Rattle.rec_order.specs.Legal.{limits_of}

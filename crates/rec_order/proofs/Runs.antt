@@ -17,18 +17,18 @@ use Rattle.rec_mutator.specs.declared.phase.Phase.TheVariants as at
 use Rattle.rec_mutator.specs.declared.work.Work.{Work}
 use Rattle.rec_mutator.specs.declared.work.Work.TheVariants as works
 use Rattle.rec_collector.specs.Next.{next_of}
-use Rattle.rec_world.specs.Config.{IsMutator, HasLabel}
-use Rattle.rec_world.specs.Core.{Core, sight, mutator}
-use Rattle.rec_world.specs.CoreAsked.{told_by}
-use Rattle.rec_world.specs.CoreKept.{IsKept}
-use Rattle.rec_world.specs.CoreMoves.{Move, Fits, AllFit, after_move, after_moves, begun, stepped, turned, turned_at, found_by}
-use Rattle.rec_world.specs.CoreShown.{IsDecided}
-use Rattle.rec_world.specs.Memory.{births_of}
-use Rattle.rec_world.specs.Worked.{StepsTo, IsWorked}
-use Rattle.rec_world.proofs.Commands.{work_stays}
-use Rattle.rec_world.proofs.CoreRuns.{move_kept}
-use Rattle.rec_world.proofs.CoreAsked.{begun_sight}
-use Rattle.rec_world.proofs.CoreShowing.{Says, step_says, mutator_left}
+use Rattle.rec_core.specs.Asked.{told_by}
+use Rattle.rec_core.specs.Cells.{births_of}
+use Rattle.rec_core.specs.Config.{IsMutator, HasLabel}
+use Rattle.rec_core.specs.Core.{Core, sight, mutator}
+use Rattle.rec_core.specs.Kept.{IsKept}
+use Rattle.rec_core.specs.Moves.{Move, Fits, AllFit, after_move, after_moves, begun, stepped, turned, turned_at, found_by}
+use Rattle.rec_core.specs.Shown.{IsDecided}
+use Rattle.rec_core.specs.Worked.{StepsTo, IsWorked}
+use Rattle.rec_core.proofs.Asked.{begun_sight}
+use Rattle.rec_core.proofs.Runs.{move_kept}
+use Rattle.rec_core.proofs.Showing.{Says, step_says, mutator_left}
+use Rattle.rec_core.proofs.Unfinished.{work_stays}
 use Rattle.rec_order.specs.Naming.{Naming, NamesGoOn, born_in, named_by, named_after, named_after_all}
 use Rattle.rec_order.specs.Events.{events_in, events_of}
 use Rattle.rec_order.proofs.Stamps.{IsSilent, going_silent, holding_silent, stayed_silent, crossed_silent}

@@ -16,9 +16,9 @@ use Rattle.rec_model.proofs.Births.{births}
 use Rattle.rec_model.proofs.Lives.{unreached_is_dead}
 use Rattle.rec_model.proofs.Standing.{taken_is_other}
 use Rattle.rec_model.proofs.Unfreed.{taken_or_free, unfreed_after, unfreed_after_free, unfreed_same}
-use Rattle.rec_world.specs.Core.{Core, sight}
-use Rattle.rec_world.specs.CoreShown.{IsDecided, IsBirthplace, sight_told, sight_with_birth}
-use Rattle.rec_world.specs.CoreSwept.{swept}
+use Rattle.rec_core.specs.Core.{Core, sight}
+use Rattle.rec_core.specs.Shown.{IsDecided, IsBirthplace, sight_told, sight_with_birth}
+use Rattle.rec_core.specs.Swept.{swept}
 use Rattle.rec_order.specs.Naming.{Naming, with_number, born_in}
 use Rattle.rec_order.proofs.Agreement.{agree_goes_on}
 use Rattle.rec_model.proofs.Standing.{with_birth-same, with_birth-other}

@@ -14,14 +14,14 @@ use Rattle.rec_mutator.specs.Took.{step_of}
 use Rattle.rec_mutator.specs.declared.phase.Phase.{Phase}
 use Rattle.rec_mutator.specs.declared.phase.Phase.TheVariants as at
 use Rattle.rec_mutator.proofs.Steps.{step_made}
-use Rattle.rec_world.specs.Config.{IsMutator}
-use Rattle.rec_world.specs.Core.{Core, sight, cells_of, mutator, box}
-use Rattle.rec_world.specs.CoreKept.{IsKept}
-use Rattle.rec_world.specs.CoreMoves.{Move, found_by, stepped}
-use Rattle.rec_world.specs.CoreShown.{IsDecided, IsBirthplace, probed_at}
-use Rattle.rec_world.specs.Memory.{cell, births_of}
-use Rattle.rec_world.proofs.CoreShowing.{stepped_mutator}
-use Rattle.rec_world.proofs.CoreSteps.{actor_of}
+use Rattle.rec_core.specs.Cells.{cell, births_of}
+use Rattle.rec_core.specs.Config.{IsMutator}
+use Rattle.rec_core.specs.Core.{Core, sight, cells_of, mutator, box}
+use Rattle.rec_core.specs.Kept.{IsKept}
+use Rattle.rec_core.specs.Moves.{Move, found_by, stepped}
+use Rattle.rec_core.specs.Shown.{IsDecided, IsBirthplace, probed_at}
+use Rattle.rec_core.proofs.Showing.{stepped_mutator}
+use Rattle.rec_core.proofs.Steps.{actor_of}
 use Rattle.rec_order.specs.Naming.{Naming, with_number, born_in, named_by, named_after}
 use Rattle.rec_order.proofs.Scans.{HasMet, met_begins, met_more, met_grows, met_born}
 use Rattle.rec_order.proofs.Stands.{Stands, NamesOn}

@@ -6,11 +6,11 @@ use Rattle.rec_model.specs.LegalOrder.{Line, Limits, Moment, line_by, after_all,
 use Rattle.rec_model.specs.Sight.{StandsBy}
 use Rattle.rec_model.specs.Unfreed.{AreUnfreed}
 use Rattle.rec_mutator.specs.Private.{is_busy}
-use Rattle.rec_world.specs.Config.{IsMutator}
-use Rattle.rec_world.specs.Core.{Core, sight, mutator}
-use Rattle.rec_world.specs.CoreAsked.{told_in_all}
-use Rattle.rec_world.specs.CoreMoves.{Move, after_moves}
-use Rattle.rec_world.specs.declared.config.Config.{Config}
+use Rattle.rec_core.specs.Asked.{told_in_all}
+use Rattle.rec_core.specs.Config.{IsMutator}
+use Rattle.rec_core.specs.Core.{Core, sight, mutator}
+use Rattle.rec_core.specs.Moves.{Move, after_moves}
+use Rattle.rec_core.specs.declared.config.Config.{Config}
 use Rattle.rec_order.specs.Naming.{Naming, naming_of, named_after_all}
 use Rattle.rec_order.specs.Events.{events_of}
 

@@ -6,8 +6,8 @@ use Rattle.rec_model.specs.Heap.{Heap}
 use Rattle.rec_model.specs.LegalOrder.{Line, is_birth}
 use Rattle.rec_model.specs.Sight.{IsTaken}
 use Rattle.rec_mutator.specs.Next.{next_of}
-use Rattle.rec_world.specs.Core.{Core, sight, mutator}
-use Rattle.rec_world.specs.CoreMoves.{Move, after_move, found_by}
+use Rattle.rec_core.specs.Core.{Core, sight, mutator}
+use Rattle.rec_core.specs.Moves.{Move, after_move, found_by}
 
 -- which object each slot holds, and the number of the object that is born next
 pub record Naming : Type 0 where

@@ -4,9 +4,9 @@ ghost use Rattle.rec_model.specs.Heap.{Heap};
 ghost use Rattle.rec_model.specs.LegalOrder.{Line};
 ghost use Rattle.rec_model.specs.Sight.{StandsBy};
 ghost use Rattle.rec_model.specs.Unfreed.{AreUnfreed};
-ghost use Rattle.rec_world.specs.Config.{IsConfig};
-ghost use Rattle.rec_world.specs.Core.{Core, sight};
-ghost use Rattle.rec_world.specs.CoreMoves.{Move, AllFit, EndsRun, after_moves};
+ghost use Rattle.rec_core.specs.Config.{IsConfig};
+ghost use Rattle.rec_core.specs.Core.{Core, sight};
+ghost use Rattle.rec_core.specs.Moves.{Move, AllFit, EndsRun, after_moves};
 ghost use Rattle.rec_order.specs.Naming.{naming_of, named_after_all};
 ghost use Rattle.rec_order.specs.Legal.{AreIdle, AreJournals, HasLegalOrder};
 

@@ -7,14 +7,14 @@ use Rattle.rec_collector.specs.Kept.{IsAt}
 use Rattle.rec_collector.specs.declared.phase.Phase.TheVariants.{Looking}
 use Rattle.rec_collector.specs.declared.turn.Turn.{Turn}
 use Rattle.rec_collector.specs.declared.turn.Turn.TheVariants.{Waiting}
-use Rattle.rec_world.specs.declared.config.Config.{Config}
-use Rattle.rec_world.specs.Config.{IsMutator}
-use Rattle.rec_world.specs.Core.{Core, mutator, nobody}
-use Rattle.rec_world.specs.CoreKept.{IsKept}
-use Rattle.rec_world.specs.CoreMoves.{EndsRun}
+use Rattle.rec_core.specs.Config.{IsMutator}
+use Rattle.rec_core.specs.Core.{Core, mutator, nobody}
+use Rattle.rec_core.specs.Kept.{IsKept}
+use Rattle.rec_core.specs.Moves.{EndsRun}
+use Rattle.rec_core.specs.Worked.{IsWorked}
+use Rattle.rec_core.specs.declared.config.Config.{Config}
+use Rattle.rec_core.proofs.Runs.{end_kept}
 use Rattle.rec_world.specs.World.{IsWorld, IsQuiet, TurnHasCause}
-use Rattle.rec_world.specs.Worked.{IsWorked}
-use Rattle.rec_world.proofs.CoreRuns.{end_kept}
 use Rattle.rec_order.specs.Legal.{AreIdle}
 use Rattle.rec_script.specs.Script.{Contents, IsScript}
 use Rattle.rec_play.specs.Commanded.{Polled, Turned}

@@ -18,14 +18,14 @@ use Rattle.rec_model.proofs.Growing.{with_line}
 use Rattle.rec_mutator.specs.Private.{Private, is_busy, HasOperands}
 use Rattle.rec_mutator.specs.declared.work.Work.TheVariants as works
 use Rattle.rec_collector.specs.Next.{next_of}
-use Rattle.rec_world.specs.declared.config.Config.{Config}
-use Rattle.rec_world.specs.Config.{IsMutator, HasLabel}
-use Rattle.rec_world.specs.Core.{opened, Core, sight, mutator}
-use Rattle.rec_world.specs.CoreKept.{IsKept}
-use Rattle.rec_world.specs.CoreMoves.{Move, AllFit, after_moves}
-use Rattle.rec_world.proofs.CoreRuns.{run_kept}
-use Rattle.rec_world.proofs.CoreSteps.{actor_of}
-use Rattle.rec_world.proofs.Openings.{mutator_opened}
+use Rattle.rec_core.specs.Config.{IsMutator, HasLabel}
+use Rattle.rec_core.specs.Core.{opened, Core, sight, mutator}
+use Rattle.rec_core.specs.Kept.{IsKept}
+use Rattle.rec_core.specs.Moves.{Move, AllFit, after_moves}
+use Rattle.rec_core.specs.declared.config.Config.{Config}
+use Rattle.rec_core.proofs.OpenedMutators.{mutator_opened}
+use Rattle.rec_core.proofs.Runs.{run_kept}
+use Rattle.rec_core.proofs.Steps.{actor_of}
 use Rattle.rec_order.specs.Events.{swept_by, events_of}
 use Rattle.rec_order.specs.Legal.{AreIdle}
 use Rattle.rec_order.specs.Naming.{Naming, NamesGoOn, first_naming, named_after_all}

@@ -8,12 +8,12 @@ use Rattle.rec_model.specs.Sight.{Sight, StandsBy}
 use Rattle.rec_model.specs.Unfreed.{AreUnfreed}
 use Rattle.rec_model.proofs.Opened.{opening_number, opening_stands_by, opening_unfreed}
 use Rattle.rec_mutator.specs.Private.{Private}
-use Rattle.rec_world.specs.declared.config.Config.{Config}
-use Rattle.rec_world.specs.Core.{Core, sight, opened, opened_mutators, opened_mutator}
-use Rattle.rec_world.specs.CoreKept.{IsKept}
-use Rattle.rec_world.specs.CoreMoves.{after_moves}
-use Rattle.rec_world.proofs.CoreOpening.{opened_kept}
-use Rattle.rec_world.proofs.Openings.{sight_opened, mutator_opened}
+use Rattle.rec_core.specs.Core.{Core, sight, opened, opened_mutators, opened_mutator}
+use Rattle.rec_core.specs.Kept.{IsKept}
+use Rattle.rec_core.specs.Moves.{after_moves}
+use Rattle.rec_core.specs.declared.config.Config.{Config}
+use Rattle.rec_core.proofs.OpenedMutators.{sight_opened, mutator_opened}
+use Rattle.rec_core.proofs.Opening.{opened_kept}
 use Rattle.rec_order.specs.Naming.{Naming, first_naming, named_after_all}
 use Rattle.rec_order.specs.Events.{events_of}
 use Rattle.rec_order.specs.Legal.{limits_of, moment_of, HasLegalOrder}

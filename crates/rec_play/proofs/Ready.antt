@@ -7,8 +7,8 @@ use Rattle.std.proofs.lemmas.List.Elements.{All-from_get_or, All-get_or}
 use Rattle.std.proofs.lemmas.List.Sums.{sum_by-append, sum_by-cons}
 use Rattle.std.proofs.lemmas.Option.{get_or_from_slice_get, slice_get-get_or, slice_get_within}
 use Rattle.rec_model.specs.declared.command.Cmd.{Cmd}
-use Rattle.rec_world.specs.declared.config.Config.{Config}
-use Rattle.rec_world.specs.Config.{IsConfig}
+use Rattle.rec_core.specs.Config.{IsConfig}
+use Rattle.rec_core.specs.declared.config.Config.{Config}
 use Rattle.rec_world.specs.Journal.{Notes}
 use Rattle.rec_script.specs.Script.{Contents, IsScript}
 use Rattle.rec_play.specs.Played.{AreReady, config_of, longest, log_room, no_notes}

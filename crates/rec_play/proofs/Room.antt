@@ -9,7 +9,7 @@ use Rattle.rec_model.specs.declared.answer.Answer.TheVariants.{LogFull}
 use Rattle.rec_model.specs.Asking.{is_done}
 use Rattle.rec_model.specs.LegalOrder.{Line, Event, Limits, Moment, Fits, after, bump, line_by, moment, IsLegalOrder}
 use Rattle.rec_model.specs.LegalOrder.Event.{Answers, Frees, Marks}
-use Rattle.rec_world.proofs.Openings.{free_at}
+use Rattle.rec_core.proofs.OpenedMutators.{free_at}
 use Rattle.rec_script.specs.Script.{Contents}
 use Rattle.rec_play.specs.Played.{limits_of, log_room, longest, opening_moment}
 use Rattle.rec_play.proofs.Ready.{fits_longest}

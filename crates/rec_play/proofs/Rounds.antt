@@ -11,9 +11,9 @@ use Rattle.rec_model.specs.LegalOrder.{Line, Event}
 use Rattle.rec_model.specs.LegalOrder.Event.{Answers}
 use Rattle.rec_model.specs.Numbering.{times}
 use Rattle.rec_model.proofs.Growing.{with_line}
+use Rattle.rec_core.specs.Core.{opened, Core, sight}
 use Rattle.rec_world.specs.Journal.{Notes}
 use Rattle.rec_world.specs.Order.{Turns}
-use Rattle.rec_world.specs.Core.{opened, Core, sight}
 use Rattle.rec_script.specs.Script.{Contents, IsScript}
 use Rattle.rec_play.specs.declared.actor.Actor.{Actor}
 use Rattle.rec_play.specs.declared.actor.Actor.TheVariants.{Mutator, Collector}
@@ -22,14 +22,14 @@ use Rattle.rec_play.specs.Played.{AreReady, IsPlayed, config_of, lengths_of, lin
 use Rattle.rec_play.specs.Playing.{Rest, IsOrderFor, all_turns, generator_of, mutators_of, order, to_come}
 use Rattle.rec_play.specs.Run.{IsPlayedRun, EndsTurn, commands_of, made_in}
 use Rattle.rec_play.specs.Run.IsPlayedRun.{starts}
-use Rattle.rec_world.specs.Config.{IsMutator}
-use Rattle.rec_world.proofs.CoreRuns.{looked_is}
+use Rattle.rec_core.specs.Config.{IsMutator}
+use Rattle.rec_core.proofs.Runs.{looked_is}
 use Rattle.rec_collector.specs.declared.phase.Phase.TheVariants.{Looking}
 use Rattle.rec_play.specs.Run.{WaitsFor}
 use Rattle.rec_collector.specs.Next.{next_of}
 use Rattle.rec_order.specs.Events.{swept_by}
 use Rattle.rec_order.specs.Naming.{Naming, NamesGoOn, first_naming}
-use Rattle.rec_world.specs.declared.config.Config.{Config}
+use Rattle.rec_core.specs.declared.config.Config.{Config}
 use Rattle.rec_model.specs.Sight.{Sight, IsTaken}
 use Rattle.rec_play.proofs.Going.{PlayedSo, own, commands_at, begun, one_more, poll_more, turn_more, made_is_named, is_mutator, world_kept}
 use Rattle.rec_play.proofs.Opened.{IsPlayedLegally, played_legally}

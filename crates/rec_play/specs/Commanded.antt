@@ -5,10 +5,10 @@ use Rattle.rec_model.specs.declared.told.Told.{Told}
 use Rattle.rec_mutator.specs.Private.{is_busy, answer_of}
 use Rattle.rec_mutator.specs.declared.made.Made.TheVariants as makes
 use Rattle.rec_mutator.specs.declared.work.Work.TheVariants as works
-use Rattle.rec_world.specs.Core.{Core, mutator}
-use Rattle.rec_world.specs.CoreMoves.{turned}
+use Rattle.rec_core.specs.Core.{Core, mutator}
+use Rattle.rec_core.specs.Moves.{turned}
+use Rattle.rec_core.specs.Worked.{IsWorked}
 use Rattle.rec_world.specs.Journal.{Notes}
-use Rattle.rec_world.specs.Worked.{IsWorked}
 use Rattle.rec_script.specs.Script.{Contents}
 use Rattle.rec_play.specs.Played.{no_notes}
 use Rattle.rec_play.specs.Run.{commands_of, WaitsFor}

@@ -1,7 +1,7 @@
 -- The numbers of the heap that a script runs on.
 use Rattle.std.specs.Prelude.{ℕ, max, List, [], ◌∷◌, length}
 use Rattle.rec_model.specs.declared.command.Cmd.{Cmd}
-use Rattle.rec_world.specs.declared.config.Config.{Config}
+use Rattle.rec_core.specs.declared.config.Config.{Config}
 use Rattle.rec_script.specs.Script.{Contents}
 
 -- the greatest number of commands of a mutator

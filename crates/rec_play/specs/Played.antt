@@ -6,7 +6,7 @@ use Rattle.rec_model.specs.declared.answer.Answer.TheVariants.{LogFull}
 use Rattle.rec_model.specs.Heap.{opening}
 use Rattle.rec_model.specs.LegalOrder.{Line, Event, Limits, Moment, after_all, actors, IsLegalOrder}
 use Rattle.rec_model.specs.Sight.{StandsBy}
-use Rattle.rec_world.specs.Core.{Core, sight}
+use Rattle.rec_core.specs.Core.{Core, sight}
 use Rattle.rec_world.specs.Journal.{Notes}
 use Rattle.rec_order.specs.Naming.{Naming}
 use Rattle.rec_script.specs.Script.{Contents}

@@ -11,9 +11,9 @@ use Rattle.rec_mutator.specs.declared.made.Made.TheVariants as makes
 use Rattle.rec_mutator.specs.declared.work.Work.TheVariants as works
 use Rattle.rec_collector.specs.Next.{next_of}
 use Rattle.rec_collector.specs.declared.phase.Phase.TheVariants.{Looking}
-use Rattle.rec_world.specs.Core.{Core, mutator, crossing_of, opened}
-use Rattle.rec_world.specs.CoreMoves.{turned}
-use Rattle.rec_world.specs.Worked.{IsWorked}
+use Rattle.rec_core.specs.Core.{Core, mutator, crossing_of, opened}
+use Rattle.rec_core.specs.Moves.{turned}
+use Rattle.rec_core.specs.Worked.{IsWorked}
 use Rattle.rec_order.specs.Events.{swept_by}
 use Rattle.rec_order.specs.Naming.{Naming, NamesGoOn, first_naming}
 use Rattle.rec_script.specs.Script.{Contents}

@@ -1,7 +1,7 @@
 //! Garbage cycles in played runs: what is told of them is what a heap that never frees tells, and they are freed.
 ghost use Rattle.std.specs.Prelude.{◌≡◌, ◌≤◌, []};
 ghost use Rattle.std.specs.List.{sum};
-ghost use Rattle.rec_world.specs.Core.{opened};
+ghost use Rattle.rec_core.specs.Core.{opened};
 ghost use Rattle.rec_play.specs.Played.{AreReady, config_of, lengths_of};
 
 use super::*;

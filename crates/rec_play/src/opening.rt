@@ -2,7 +2,7 @@
 
 ghost use Rattle.std.specs.Prelude.{◌≡◌, ◌≤◌, [], IfOk};
 ghost use Rattle.std.specs.List.{sum};
-ghost use Rattle.rec_world.specs.Config.{IsConfig};
+ghost use Rattle.rec_core.specs.Config.{IsConfig};
 ghost use Rattle.rec_play.specs.Played.{AreReady, config_of, lengths_of};
 
 use rec_script::Script;

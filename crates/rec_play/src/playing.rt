@@ -6,7 +6,7 @@ ghost use Rattle.rec_model.specs.LegalOrder.{Event};
 ghost use Rattle.rec_model.specs.Sight.{StandsFor};
 ghost use Rattle.rec_model.specs.declared.command.Cmd.{Cmd};
 ghost use Rattle.rec_model.specs.declared.told.Told.{Told};
-ghost use Rattle.rec_world.specs.Core.{Core, sight, opened};
+ghost use Rattle.rec_core.specs.Core.{Core, sight, opened};
 ghost use Rattle.rec_order.specs.Legal.{AreIdle};
 ghost use Rattle.rec_play.specs.Commanded.{Commanded, Polled, PollsNone, PollsOne, Turned, noted};
 ghost use Rattle.rec_play.specs.Played.{AreReady, IsPlayed, config_of, last_moment, lengths_of, lines_of};

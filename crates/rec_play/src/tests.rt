@@ -1,6 +1,6 @@
 ghost use Rattle.std.specs.Prelude.{◌≡◌, ◌≤◌, [], IfOk};
 ghost use Rattle.std.specs.List.{sum};
-ghost use Rattle.rec_world.specs.Core.{opened};
+ghost use Rattle.rec_core.specs.Core.{opened};
 ghost use Rattle.rec_play.specs.Played.{AreReady, config_of, lengths_of};
 
 use super::*;

@@ -19,8 +19,8 @@ use Rattle.rec_model.proofs.Sums.{sum_at_none, sum_at_same, sum_at_split, sum_by
 use Rattle.rec_model.proofs.Words.{named-nulls}
 use Rattle.rec_counts.specs.Counts.{slot_at}
 use Rattle.rec_apply.specs.Targets.{is_slot}
+use Rattle.rec_core.specs.Settled.{IsSettled, fields_holding}
 use Rattle.rec_world.specs.World.{Core, sight, IsWorld}
-use Rattle.rec_world.specs.Settled.{IsSettled, fields_holding}
 use Rattle.rec_report.proofs.AnswerLines.{times-cons}
 
 same_either : (m n : ℕ) → (m == n) ≡ (n == m)

@@ -14,7 +14,7 @@ use Rattle.rec_model.proofs.Members.{is_in-head, is_in-tail}
 use Rattle.rec_model.proofs.Numbered.{lists_reached}
 use Rattle.rec_world.specs.Numbering.{Numbered, number_of}
 use Rattle.rec_counts.specs.Counts.{slot_at}
-use Rattle.rec_world.specs.Settled.{IsSettled}
+use Rattle.rec_core.specs.Settled.{IsSettled}
 use Rattle.rec_world.specs.World.{Core, sight, label_of, IsWorld}
 use Rattle.rec_world.proofs.Filled.{reached_below, fields_end}
 use Rattle.rec_world.proofs.Names.{names_sound}

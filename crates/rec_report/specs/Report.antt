@@ -1,8 +1,8 @@
 -- What a report is made from.
 use Rattle.std.specs.Prelude.{◌≡◌, ℕ, length}
 use Rattle.rec_model.specs.Sight.{NumbersSlots}
-use Rattle.rec_world.specs.World.{Core, sight}
 use Rattle.rec_world.specs.Numbering.{Numbered}
+use Rattle.rec_world.specs.World.{Core, sight}
 use Rattle.rec_script.specs.Script.{Contents}
 
 -- the script's numbers are the world's

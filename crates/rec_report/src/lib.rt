@@ -9,7 +9,7 @@
 
 ghost use Rattle.std.specs.Prelude.{◌≡◌, ◌+◌, ◌<◌, ◌≤◌, ◌^◌, ◌++◌, ◌∷◌, [], List, map, count_by, length, option_map, slice_index_or, IfOk, IfSome, OnOk};
 ghost use Rattle.rec_model.specs.Listing.{Row, ListsSlots};
-ghost use Rattle.rec_world.specs.Settled.{IsSettled};
+ghost use Rattle.rec_core.specs.Settled.{IsSettled};
 ghost use Rattle.rec_world.specs.World.{sight};
 ghost use Rattle.rec_report.specs.Report.{AreFor};
 ghost use Rattle.rec_report.specs.Text.{IsOrderOf, is_refused, refusals, play_lines};

@@ -3,7 +3,7 @@
 ghost use Rattle.std.specs.Prelude.{◌≡◌, ◌++◌, ◌∷◌, List, length, map, IfOk, OnOk};
 ghost use Rattle.rec_model.specs.Listing.{Row, slot_row, ListsSlots};
 ghost use Rattle.rec_model.specs.Sight.{NumbersSlots};
-ghost use Rattle.rec_world.specs.Settled.{IsSettled};
+ghost use Rattle.rec_core.specs.Settled.{IsSettled};
 ghost use Rattle.rec_world.specs.World.{sight};
 ghost use Rattle.rec_report.specs.Report.{AreFor, IsNumbered};
 ghost use Rattle.rec_report.specs.Text.{live_line, row_lines};

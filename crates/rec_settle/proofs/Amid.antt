@@ -5,18 +5,18 @@ use Rattle.rec_collector.specs.Kept.{under_way}
 use Rattle.rec_collector.specs.Private.{Private}
 use Rattle.rec_collector.specs.declared.phase.Phase.{Phase}
 use Rattle.rec_collector.specs.declared.phase.Phase.TheVariants.{Idle, Looking, Swapping, Returning, Releasing, Freeing, Trying, Preparing, Opening, Sweeping, Closing}
-use Rattle.rec_world.specs.Core.{Core, sight}
-use Rattle.rec_world.specs.CoreKept.{IsKept}
-use Rattle.rec_world.specs.CoreMoves.{turned, Move}
-use Rattle.rec_world.proofs.CoreRuns.{move_kept, move_stays}
+use Rattle.rec_core.specs.Core.{Core, sight}
+use Rattle.rec_core.specs.Kept.{IsKept}
+use Rattle.rec_core.specs.Moves.{turned, Move}
+use Rattle.rec_core.specs.Quiet.{AreQuiet}
+use Rattle.rec_core.specs.Resting.{holds, Round, RestsIn, TurnsTo, epochs_before, next_round}
+use Rattle.rec_core.proofs.Rest.QuietPolls.{polled_kept, quiet_polled}
+use Rattle.rec_core.proofs.Rest.QuietTurns.{quiet_turned}
+use Rattle.rec_core.proofs.Rest.RestingSeen.{rests_seen}
+use Rattle.rec_core.proofs.Rest.Rounds.{rests_turned}
+use Rattle.rec_core.proofs.Rest.TurnRules.{turn_is}
+use Rattle.rec_core.proofs.Runs.{move_kept, move_stays}
 use Rattle.rec_settle.specs.Collecting.{HasPolled, IsAmid, IsCollection}
-use Rattle.rec_settle.specs.Quiet.{IsQuiet}
-use Rattle.rec_settle.specs.Resting.{holds, Round, RestsIn, TurnsTo, epochs_before, next_round}
-use Rattle.rec_settle.proofs.QuietPolls.{polled_kept, quiet_polled}
-use Rattle.rec_settle.proofs.QuietTurns.{quiet_turned}
-use Rattle.rec_settle.proofs.RestingSeen.{rests_seen}
-use Rattle.rec_settle.proofs.Rounds.{rests_turned}
-use Rattle.rec_settle.proofs.Turns.{turn_is}
 
 -- every heap keeps what it keeps over a turn
 pub turn_kept : (w : Core) → IsKept w → IsKept (turned w)
@@ -25,18 +25,18 @@ turn_kept w kept = move_kept w Move.Turns kept tt
 -- In the midst of a collection mutators are at rest, and no collection more is complete.
 pub record IsQuietAmid (first : ℕ) (before w : Core) : Type 0 where
   pub kept : IsKept w
-  pub quiet : IsQuiet first w
+  pub quiet : AreQuiet first w
   pub config : w.config ≡ before.config
   pub collections : w.collector.collections ≡ before.collector.collections
 
-pub quiet_amid : (first : ℕ) (before w : Core) → IsKept before → IsQuiet first before → IsAmid before w → IsQuietAmid first before w
+pub quiet_amid : (first : ℕ) (before w : Core) → IsKept before → AreQuiet first before → IsAmid before w → IsQuietAmid first before w
 quiet_amid first before w kept quiet (IsAmid.here _ is) = subst (IsQuietAmid first before) (sym is) (record { kept = kept; quiet = quiet; config = refl; collections = refl })
 quiet_amid first before w kept quiet (IsAmid.turns u _ path is cause) =
     let h = quiet_amid first before u kept quiet path in
     let after : IsKept (turned u) = turn_kept u h.kept in
     record {
       kept = subst IsKept (sym is) after;
-      quiet = subst (IsQuiet first) (sym is) (quiet_turned first u (turned u) h.kept after (turn_is u h.kept) h.quiet);
+      quiet = subst (AreQuiet first) (sym is) (quiet_turned first u (turned u) h.kept after (turn_is u h.kept) h.quiet);
       config = ap (λ (x : Core). x.config) is ∙ move_stays u Move.Turns ∙ h.config;
       collections = cause.1 ∙ h.collections;
     }
@@ -52,17 +52,17 @@ quiet_amid first before w kept quiet (IsAmid.polls u _ t path awaited polled) =
 -- and once it is complete
 pub record IsQuietAfter (first : ℕ) (before after : Core) : Type 0 where
   pub kept : IsKept after
-  pub quiet : IsQuiet first after
+  pub quiet : AreQuiet first after
   pub config : after.config ≡ before.config
   pub collections : after.collector.collections ≡ before.collector.collections + 1
 
-pub quiet_after : (first : ℕ) (before after : Core) → IsKept before → IsQuiet first before → IsCollection before after → IsQuietAfter first before after
+pub quiet_after : (first : ℕ) (before after : Core) → IsKept before → AreQuiet first before → IsCollection before after → IsQuietAfter first before after
 quiet_after first before after kept quiet c =
     let h = quiet_amid first before c.last kept quiet c.path in
     let next : IsKept (turned c.last) = turn_kept c.last h.kept in
     record {
       kept = subst IsKept (sym c.turns) next;
-      quiet = subst (IsQuiet first) (sym c.turns) (quiet_turned first c.last (turned c.last) h.kept next (turn_is c.last h.kept) h.quiet);
+      quiet = subst (AreQuiet first) (sym c.turns) (quiet_turned first c.last (turned c.last) h.kept next (turn_is c.last h.kept) h.quiet);
       config = ap (λ (x : Core). x.config) c.turns ∙ move_stays c.last Move.Turns ∙ h.config;
       collections = c.complete.3 ∙ ap (λ n. n + 1) h.collections;
     }
@@ -82,7 +82,7 @@ busy_way (Sweeping n) busy = refl
 busy_way (Closing n) busy = refl
 
 -- A collection of a round, which began at rest, when nothing had been written or born for so many epochs.
-module _ (first : ℕ) (r : Round) (before : Core) (kept : IsKept before) (quiet : IsQuiet first before) (idle : before.collector.phase ≡ Idle) (late : first + epochs_before r ≤ before.epoch + 1) (some : r ≡ Round.Over → ⊥)
+module _ (first : ℕ) (r : Round) (before : Core) (kept : IsKept before) (quiet : AreQuiet first before) (idle : before.collector.phase ≡ Idle) (late : first + epochs_before r ≤ before.epoch + 1) (some : r ≡ Round.Over → ⊥)
     (begun : RestsIn r before before.words before.collector before.collector.phase) where
   -- the requested epoch, while the collection is under way
   late_amid : (w : Core) → IsQuietAmid first before w → (w.collector.phase ≡ Idle → ⊥) → first + epochs_before r ≤ w.epoch

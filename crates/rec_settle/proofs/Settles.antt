@@ -4,18 +4,18 @@ use Rattle.std.proofs.Math.Nat.{mul-le-mul_right}
 use Rattle.rec_collector.specs.Kept.{under_way}
 use Rattle.rec_collector.specs.declared.phase.Phase.{Phase}
 use Rattle.rec_collector.specs.declared.phase.Phase.TheVariants.{Idle, Looking, Swapping, Returning, Releasing, Freeing, Trying, Preparing, Opening, Sweeping, Closing}
-use Rattle.rec_world.specs.Core.{Core}
-use Rattle.rec_world.specs.CoreKept.{IsKept}
-use Rattle.rec_world.specs.CoreMoves.{offering}
-use Rattle.rec_world.specs.Settled.{IsSettled}
-use Rattle.rec_world.proofs.CoreOffering.{offering_kept}
+use Rattle.rec_core.specs.Core.{Core}
+use Rattle.rec_core.specs.Kept.{IsKept}
+use Rattle.rec_core.specs.Moves.{offering}
+use Rattle.rec_core.specs.Quiet.{AreQuiet}
+use Rattle.rec_core.specs.Resting.{Round, RestsIn}
+use Rattle.rec_core.specs.Settled.{IsSettled}
+use Rattle.rec_core.proofs.Offering.{offering_kept}
+use Rattle.rec_core.proofs.Rest.QuietCounts.{idle_count}
+use Rattle.rec_core.proofs.Rest.QuietTurns.{quiet_begun}
+use Rattle.rec_core.proofs.Rest.Rested.{settled}
 use Rattle.rec_settle.specs.Collecting.{AreIdle, IsCollection, Finishes, IsSettling}
-use Rattle.rec_settle.specs.Quiet.{IsQuiet}
-use Rattle.rec_settle.specs.Resting.{Round, RestsIn}
 use Rattle.rec_settle.proofs.Amid.{busy_way, quiet_after, rests_after}
-use Rattle.rec_settle.proofs.QuietCounts.{idle_count}
-use Rattle.rec_settle.proofs.QuietTurns.{quiet_begun}
-use Rattle.rec_settle.proofs.Rested.{settled}
 use Rattle.rec_settle.proofs.Stays.{Stays, stays_after, stays_same, stays_then}
 
 -- the epoch that is requested where no collection is under way
@@ -52,14 +52,14 @@ was_idle before after kept idle c other = go before.collector.phase refl
     go (Closing n) is = absurd (busy (ap under_way is))
 
 -- to offer every slot changes nothing else
-offering_quiet : (first : ℕ) (w : Core) → IsQuiet first w → IsQuiet first (offering w)
+offering_quiet : (first : ℕ) (w : Core) → AreQuiet first w → AreQuiet first (offering w)
 offering_quiet first w quiet t is = let own = quiet t is in record { idle = own.idle; log = own.log; box = own.box; newer = own.newer; older = own.older }
 
 -- Where a part of settling has come to: no collection is under way, and mutators did nothing since a first epoch. So many collections
 -- were completed, and what stays stayed.
 pub record HasCollected (first number : ℕ) (before after : Core) : Type 0 where
   pub kept : IsKept after
-  pub quiet : IsQuiet first after
+  pub quiet : AreQuiet first after
   pub idle : after.collector.phase ≡ Idle
   pub config : after.config ≡ before.config
   pub collections : after.collector.collections ≡ before.collector.collections + number
@@ -67,7 +67,7 @@ pub record HasCollected (first number : ℕ) (before after : Core) : Type 0 wher
   pub few : after.collector.freed ≤ before.collector.freed + number * before.config.slots
 
 -- one collection more
-collected_more : (first number : ℕ) (before w after : Core) → IsKept w → IsQuiet first w → w.config ≡ before.config → w.collector.collections ≡ before.collector.collections + number → Stays before w
+collected_more : (first number : ℕ) (before w after : Core) → IsKept w → AreQuiet first w → w.config ≡ before.config → w.collector.collections ≡ before.collector.collections + number → Stays before w
     → w.collector.freed ≤ before.collector.freed + number * before.config.slots → IsCollection w after → HasCollected first (number + 1) before after
 collected_more first number before w after kept quiet config collections stays few c =
     let next = quiet_after first w after kept quiet c in
@@ -87,7 +87,7 @@ collected_more first number before w after kept quiet config collections stays f
     mul_more n k = omega arith
 
 -- the collection of the requested epoch is complete
-finished : (first : ℕ) (before after : Core) → IsKept before → IsQuiet first before → Finishes before after → HasCollected first (1 + under_way before.collector.phase) before after
+finished : (first : ℕ) (before after : Core) → IsKept before → AreQuiet first before → Finishes before after → HasCollected first (1 + under_way before.collector.phase) before after
 finished first before after kept quiet (Finishes.one idle c) =
     subst (λ n. HasCollected first n before after) (sym (ap (λ p. 1 + under_way p) idle)) (collected_more first 0 before before after kept quiet refl (omega arith) (stays_same before) (omega arith) c)
 finished first before after kept quiet (Finishes.two w busy c d) =
@@ -121,7 +121,7 @@ module _ (before after : Core) (kept : IsKept before) (idle : AreIdle before) (s
   offered_kept : IsKept (offering collected)
   offered_kept = offering_kept collected one.kept
 
-  offered_quiet : IsQuiet first (offering collected)
+  offered_quiet : AreQuiet first (offering collected)
   offered_quiet = offering_quiet first collected one.quiet
 
   -- and the one whose trial is offered every slot

@@ -9,17 +9,17 @@ use Rattle.rec_collector.specs.Step.{ClearsOn, PreparesOn, TriesOn}
 use Rattle.rec_collector.specs.declared.phase.Phase.{Phase}
 use Rattle.rec_collector.specs.declared.phase.Phase.TheVariants.{Idle, Looking, Swapping, Returning, Releasing, Freeing, Trying, Preparing, Opening, Sweeping, Closing}
 use Rattle.rec_collector.specs.declared.turn.Turn.{Turn}
-use Rattle.rec_world.specs.Core.{Core, sight}
-use Rattle.rec_world.specs.CoreKept.{IsKept}
-use Rattle.rec_world.specs.CoreMoves.{turned}
-use Rattle.rec_world.specs.CoreSwept.{swept}
-use Rattle.rec_world.proofs.CoreReach.{turned_keeps, keeps_stands_by}
-use Rattle.rec_world.proofs.CoreTurns.{now_at}
+use Rattle.rec_core.specs.Core.{Core, sight}
+use Rattle.rec_core.specs.Kept.{IsKept}
+use Rattle.rec_core.specs.Moves.{turned}
+use Rattle.rec_core.specs.Quiet.{AreQuiet}
+use Rattle.rec_core.specs.Swept.{swept}
+use Rattle.rec_core.specs.Turn.{IsTurn}
+use Rattle.rec_core.proofs.Reach.{turned_keeps, keeps_stands_by}
+use Rattle.rec_core.proofs.Rest.TurnRules.{turn_is}
+use Rattle.rec_core.proofs.Turns.{now_at}
 use Rattle.rec_settle.specs.Collecting.{IsAmid, IsCollection}
-use Rattle.rec_settle.specs.Quiet.{IsQuiet}
-use Rattle.rec_settle.specs.Turn.{IsTurn}
 use Rattle.rec_settle.proofs.Amid.{quiet_amid}
-use Rattle.rec_settle.proofs.Turns.{turn_is}
 
 -- no slot is swept by a preparation, a trial or a test
 preparation_sweeps : {p : Private} {w : Parts} {q : Private} {turn : Turn} → PreparesOn p w q turn → q.freed ≡ p.freed
@@ -93,7 +93,7 @@ pub record StaysAmid (before w : Core) : Type 0 where
   pub stays : Stays before w
   pub sweeps : w.collector.freed + swept before ≡ before.collector.freed + swept w
 
-pub stays_amid : (first : ℕ) (before w : Core) → IsKept before → IsQuiet first before → IsAmid before w → StaysAmid before w
+pub stays_amid : (first : ℕ) (before w : Core) → IsKept before → AreQuiet first before → IsAmid before w → StaysAmid before w
 stays_amid first before w kept quiet (IsAmid.here _ is) = subst (StaysAmid before) (sym is) (record { stays = stays_same before; sweeps = refl })
 stays_amid first before w kept quiet (IsAmid.turns u _ path is cause) =
     let h = stays_amid first before u kept quiet path in
@@ -139,7 +139,7 @@ pub record StaysAfter (before after : Core) : Type 0 where
   pub stays : Stays before after
   pub few : after.collector.freed ≤ before.collector.freed + before.config.slots
 
-pub stays_after : (first : ℕ) (before after : Core) → IsKept before → IsQuiet first before → IsCollection before after → StaysAfter before after
+pub stays_after : (first : ℕ) (before after : Core) → IsKept before → AreQuiet first before → IsCollection before after → StaysAfter before after
 stays_after first before after kept quiet c =
     let h = stays_amid first before c.last kept quiet c.path in
     let amid = quiet_amid first before c.last kept quiet c.path in

@@ -14,15 +14,15 @@ use Rattle.rec_collector.specs.declared.phase.Phase.{Phase}
 use Rattle.rec_collector.specs.declared.phase.Phase.TheVariants.{Idle, Looking, Swapping, Returning, Releasing, Freeing, Trying, Preparing, Opening, Sweeping, Closing}
 use Rattle.rec_collector.specs.declared.turn.Turn.TheVariants as answers
 use Rattle.rec_collector.proofs.Limits.{within_limit}
-use Rattle.rec_world.specs.declared.config.Config.{Config}
-use Rattle.rec_world.specs.Config.{IsMutator}
-use Rattle.rec_world.specs.Core.{Core, mutator, box, crossing_of}
-use Rattle.rec_world.specs.CoreKept.{Stand, stand_at, IsHandshake, IsKept}
+use Rattle.rec_core.specs.Config.{IsMutator}
+use Rattle.rec_core.specs.Core.{Core, mutator, box, crossing_of}
+use Rattle.rec_core.specs.Kept.{Stand, stand_at, IsHandshake, IsKept}
+use Rattle.rec_core.specs.Worked.{IsWorked}
+use Rattle.rec_core.specs.declared.config.Config.{Config}
+use Rattle.rec_core.proofs.Runs.{looked_is}
+use Rattle.rec_core.proofs.Steps.{actor_of}
+use Rattle.rec_core.proofs.Turns.{now_at}
 use Rattle.rec_world.specs.World.{IsCrossed, IsQuiet, TurnHasCause}
-use Rattle.rec_world.specs.Worked.{IsWorked}
-use Rattle.rec_world.proofs.CoreRuns.{looked_is}
-use Rattle.rec_world.proofs.CoreSteps.{actor_of}
-use Rattle.rec_world.proofs.CoreTurns.{now_at}
 use Rattle.rec_settle.specs.Collecting.{AreIdle, IsAwaited, HasPolled, turns_of, waits_at}
 
 -- a turn that goes on leaves a collection under way

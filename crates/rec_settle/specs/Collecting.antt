@@ -6,11 +6,11 @@ use Rattle.rec_mutator.specs.declared.work.Work.TheVariants as works
 use Rattle.rec_collector.specs.declared.phase.Phase.{Phase}
 use Rattle.rec_collector.specs.declared.phase.Phase.TheVariants.{Idle, Looking}
 use Rattle.rec_collector.specs.declared.turn.Turn.TheVariants as answers
-use Rattle.rec_world.specs.declared.config.Config.{Config}
-use Rattle.rec_world.specs.Config.{IsMutator}
-use Rattle.rec_world.specs.Core.{Core, mutator, crossing_of}
-use Rattle.rec_world.specs.CoreMoves.{offering, turned}
-use Rattle.rec_world.specs.Worked.{IsWorked}
+use Rattle.rec_core.specs.Config.{IsMutator}
+use Rattle.rec_core.specs.Core.{Core, mutator, crossing_of}
+use Rattle.rec_core.specs.Moves.{offering, turned}
+use Rattle.rec_core.specs.Worked.{IsWorked}
+use Rattle.rec_core.specs.declared.config.Config.{Config}
 use Rattle.rec_world.specs.World.{IsQuiet, TurnHasCause}
 
 -- no mutator has begun a work that isn't finished

@@ -5,8 +5,8 @@ ghost use Rattle.rec_model.specs.Heap.{Heap};
 ghost use Rattle.rec_model.specs.Sight.{StandsBy};
 ghost use Rattle.rec_collector.specs.Kept.{under_way};
 ghost use Rattle.rec_collector.specs.declared.phase.Phase.TheVariants.{Idle};
-ghost use Rattle.rec_world.specs.Core.{sight};
-ghost use Rattle.rec_world.specs.Settled.{IsSettled};
+ghost use Rattle.rec_core.specs.Core.{sight};
+ghost use Rattle.rec_core.specs.Settled.{IsSettled};
 ghost use Rattle.rec_world.specs.World.{IsWorld};
 ghost use Rattle.rec_settle.specs.Collecting.{AreIdle, IsSettling, taken_slots};
 

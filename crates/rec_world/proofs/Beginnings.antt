@@ -9,23 +9,23 @@ use Rattle.rec_mutator.specs.Private.{Private, is_busy, work_of, answer_of}
 use Rattle.rec_mutator.specs.Took.{begun_of, took_of, step_of, left_of}
 use Rattle.rec_mutator.specs.declared.made.Made.{Made}
 use Rattle.rec_mutator.specs.declared.work.Work.{Work}
-use Rattle.rec_world.specs.declared.world.World.TheInside.{Inside}
-use Rattle.rec_world.specs.Config.{IsMutator, IsWork, HasLabel}
-use Rattle.rec_world.specs.Core.{Core, cells_of, mutator, nobody}
-use Rattle.rec_world.specs.CoreKept.{IsKept}
-use Rattle.rec_world.specs.CoreMet.{MayStep}
-use Rattle.rec_world.specs.CoreMoves.{Move, Fits, begun, stepped}
+use Rattle.rec_core.specs.Cells.{Cells, cell, with_cell, births_of}
+use Rattle.rec_core.specs.Config.{IsMutator, IsWork, HasLabel}
+use Rattle.rec_core.specs.Core.{Core, cells_of, mutator, nobody}
+use Rattle.rec_core.specs.Kept.{IsKept}
+use Rattle.rec_core.specs.Met.{MayStep}
+use Rattle.rec_core.specs.Moves.{Move, Fits, begun, stepped}
+use Rattle.rec_core.specs.Worked.{StepsTo}
+use Rattle.rec_core.proofs.Showing.{mutator_left}
+use Rattle.rec_core.proofs.Unfinished.{waits_none, work_stays, step_busy}
+use Rattle.rec_core.proofs.Words.{may_step}
 use Rattle.rec_world.specs.Inside.{core, IsWhole}
 use Rattle.rec_world.specs.Mailbox.{held}
-use Rattle.rec_world.specs.Memory.{Cells, cell, with_cell, births_of}
 use Rattle.rec_world.specs.World.{IsWorld, IsFinished}
-use Rattle.rec_world.specs.Worked.{StepsTo}
+use Rattle.rec_world.specs.declared.world.World.TheInside.{Inside}
 use Rattle.rec_world.proofs.Calls.{Ready, ready, mutator_read, moved_world, own_work, world_kept, begun_found}
-use Rattle.rec_world.proofs.Commands.{waits_none, work_stays, step_busy}
 use Rattle.rec_world.proofs.OneStep.{made_step_is}
 use Rattle.rec_world.proofs.Skipping.{GoesOn, goes_on, path_both, path_waits}
-use Rattle.rec_world.proofs.CoreShowing.{mutator_left}
-use Rattle.rec_world.proofs.CoreWords.{may_step}
 
 -- the mutator that began
 pub began : (w : Core) (t : ℕ) (work : Work) → IsKept w → IsMutator w.config t → mutator (begun w t work) t ≡ begun_of (mutator w t) work

@@ -23,23 +23,24 @@ use Rattle.rec_mutator.specs.declared.phase.Phase as phases
 use Rattle.rec_mutator.specs.declared.work.Work.{Work}
 use Rattle.rec_mutator.specs.declared.work.Work.TheVariants as works
 use Rattle.rec_collector.specs.Private as collectors
-use Rattle.rec_world.specs.declared.config.Config.{Config}
-use Rattle.rec_world.specs.declared.world.World.TheInside.{Inside}
-use Rattle.rec_world.specs.Config.{IsConfig, IsMutator, HasOperands, IsWork}
-use Rattle.rec_world.specs.Core.{Core, cells_of, mutator, box, nobody, opened, opened_mutators, spare_of}
-use Rattle.rec_world.specs.CoreKept.{IsKept, entries_made}
-use Rattle.rec_world.specs.CorePending.{epoch_at}
-use Rattle.rec_world.specs.CoreMoves.{Move, after_move, Fits, begun, stepped, found_by, looked_at}
+use Rattle.rec_core.specs.Cells.{Cells, cell, with_cell, births_of}
+use Rattle.rec_core.specs.Config.{IsConfig, IsMutator, HasOperands, IsWork}
+use Rattle.rec_core.specs.Core.{Core, cells_of, mutator, box, nobody, opened, opened_mutators, spare_of}
+use Rattle.rec_core.specs.Kept.{IsKept, entries_made}
+use Rattle.rec_core.specs.Moves.{Move, after_move, Fits, begun, stepped, found_by, looked_at}
+use Rattle.rec_core.specs.Pending.{epoch_at}
+use Rattle.rec_core.specs.Unfinished.{HasFound}
+use Rattle.rec_core.specs.Worked.{StepsTo, IsWorked}
+use Rattle.rec_core.specs.declared.config.Config.{Config}
+use Rattle.rec_core.proofs.Opening.{opened_kept}
+use Rattle.rec_core.proofs.Runs.{looked_is, move_kept, end_kept, run_more, run_opened}
+use Rattle.rec_core.proofs.Showing.{mutator_left}
+use Rattle.rec_core.proofs.Steps.{actor_of}
+use Rattle.rec_core.proofs.Turns.{numbered}
 use Rattle.rec_world.specs.Inside.{core, IsWhole}
 use Rattle.rec_world.specs.Mailbox.{held}
-use Rattle.rec_world.specs.Memory.{Cells, cell, with_cell, births_of}
-use Rattle.rec_world.specs.World.{IsShaped, IsWorld, HasFound, IsFinished}
-use Rattle.rec_world.specs.Worked.{StepsTo, IsWorked}
-use Rattle.rec_world.proofs.CoreOpening.{opened_kept}
-use Rattle.rec_world.proofs.CoreRuns.{looked_is, move_kept, end_kept, run_more, run_opened}
-use Rattle.rec_world.proofs.CoreShowing.{mutator_left}
-use Rattle.rec_world.proofs.CoreSteps.{actor_of}
-use Rattle.rec_world.proofs.CoreTurns.{numbered}
+use Rattle.rec_world.specs.World.{IsShaped, IsWorld, IsFinished}
+use Rattle.rec_world.specs.declared.world.World.TheInside.{Inside}
 
 -- a world keeps what every heap with its collector keeps
 pub world_kept : (w : Core) → IsWorld w → IsKept w

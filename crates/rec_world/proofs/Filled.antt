@@ -19,8 +19,8 @@ use Rattle.rec_model.proofs.Firsts.{joined-append, joined-cases}
 use Rattle.rec_model.proofs.Members.{of_all, all_of}
 use Rattle.rec_model.proofs.Named.{joined-step, named-at}
 use Rattle.rec_mutator.specs.Private.{Private}
+use Rattle.rec_core.specs.Core.{nobody}
 use Rattle.rec_world.specs.Numbering.{sight_of, NamesBelow}
-use Rattle.rec_world.specs.Core.{nobody}
 
 -- the target of the next word joins those before it
 pub joined-word : (first met more : List ℕ) (x : Option ℕ) (words : List ℕ) (i : ℕ) → met ≡ joined first (named (map target_of (take i words))) → x ≡ target_of (get_or words i 0) → i < length words → more ≡ joined met (named (x ∷ [])) → more ≡ joined first (named (map target_of (take (i + 1) words)))

@@ -13,8 +13,8 @@ use Rattle.rec_collector.specs.Private as collectors
 use Rattle.rec_collector.specs.Took as collector_took
 use Rattle.rec_collector.specs.declared.phase.Phase.{Phase}
 use Rattle.rec_collector.specs.declared.phase.Phase.TheVariants.{Idle, Looking, Swapping, Returning, Releasing, Freeing, Trying, Preparing, Opening, Sweeping, Closing}
+use Rattle.rec_core.proofs.Crossings.{left_same}
 use Rattle.rec_world.specs.Mailbox.{held}
-use Rattle.rec_world.proofs.CoreCrossings.{left_same}
 
 -- a mailbox that is home
 pub held_some : (x : Option Contents) → IsSome x → x ≡ Some (held x)

@@ -11,7 +11,7 @@ use Rattle.rec_model.specs.Reach.{named, is_in}
 use Rattle.rec_model.specs.Heap.{roots}
 use Rattle.rec_model.specs.Sight.{Sight, targets_of, words_of, IsTaken, IsSound}
 use Rattle.rec_model.proofs.Members.{is_in-cons, is_in-cases}
-use Rattle.rec_world.specs.Core.{Core, sight}
+use Rattle.rec_core.specs.Core.{Core, sight}
 use Rattle.rec_world.specs.Numbering.{NamesBelow, sight_of}
 use Rattle.rec_world.specs.World.{IsShaped}
 

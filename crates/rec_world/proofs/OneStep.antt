@@ -7,12 +7,12 @@ use Rattle.rec_mutator.specs.Next.{next_of}
 use Rattle.rec_mutator.specs.Private.{Private, is_busy}
 use Rattle.rec_mutator.specs.Took.{took_of, step_of, left_of}
 use Rattle.rec_collector.specs.Private as collectors
-use Rattle.rec_world.specs.Config.{IsMutator}
-use Rattle.rec_world.specs.Core.{Core, cells_of, mutator, box}
-use Rattle.rec_world.specs.CoreMet.{MayStep}
-use Rattle.rec_world.specs.CoreMoves.{stepped}
+use Rattle.rec_core.specs.Cells.{Cells, cell, with_cell, births_of}
+use Rattle.rec_core.specs.Config.{IsMutator}
+use Rattle.rec_core.specs.Core.{Core, cells_of, mutator, box}
+use Rattle.rec_core.specs.Met.{MayStep}
+use Rattle.rec_core.specs.Moves.{stepped}
 use Rattle.rec_world.specs.Mailbox.{held}
-use Rattle.rec_world.specs.Memory.{Cells, cell, with_cell, births_of}
 use Rattle.rec_world.specs.Stepping.{MakesStep}
 use Rattle.rec_world.specs.World.{IsShaped}
 use Rattle.rec_world.proofs.Calls.{box_read, box_home, stepped_is}

@@ -12,20 +12,21 @@ use Rattle.rec_mutator.specs.Took.{took_of, step_of, swapped_of, left_of, skippe
 use Rattle.rec_mutator.specs.declared.phase.Phase.{Phase}
 use Rattle.rec_mutator.specs.declared.phase.Phase.TheVariants.{Idle, Begun, Scanning, Scanned, Crossing, Swapping, Giving, Finished}
 use Rattle.rec_mutator.proofs.Skips.{skipped_next, skipped_none, skipped_further, skipped_alone, skipped_busy}
-use Rattle.rec_world.specs.declared.config.Config.{Config}
-use Rattle.rec_world.specs.Config.{IsMutator}
-use Rattle.rec_world.specs.Core.{Core, cells_of, sight, mutator, with_mutator, box, nobody}
-use Rattle.rec_world.specs.CoreKept.{IsKept}
-use Rattle.rec_world.specs.CoreMoves.{Move, stepped, performed, found_by}
-use Rattle.rec_world.specs.Memory.{cell}
-use Rattle.rec_world.specs.World.{IsShaped, IsWorld, HasFound, Waits}
-use Rattle.rec_world.specs.Worked.{StepsTo}
+use Rattle.rec_core.specs.Cells.{cell}
+use Rattle.rec_core.specs.Config.{IsMutator}
+use Rattle.rec_core.specs.Core.{Core, cells_of, sight, mutator, with_mutator, box, nobody}
+use Rattle.rec_core.specs.Kept.{IsKept}
+use Rattle.rec_core.specs.Moves.{Move, stepped, performed, found_by}
+use Rattle.rec_core.specs.Unfinished.{HasFound, Waits}
+use Rattle.rec_core.specs.Worked.{StepsTo}
+use Rattle.rec_core.specs.declared.config.Config.{Config}
+use Rattle.rec_core.proofs.Machines.{at_phase}
+use Rattle.rec_core.proofs.Runs.{move_stays}
+use Rattle.rec_core.proofs.Showing.{mutator_left}
+use Rattle.rec_core.proofs.Steps.{actor_of}
+use Rattle.rec_core.proofs.Unfinished.{work_stays, steps_counted, waited, mutator_there}
+use Rattle.rec_world.specs.World.{IsShaped, IsWorld}
 use Rattle.rec_world.proofs.Calls.{world_kept, moved_world, mutator_read}
-use Rattle.rec_world.proofs.Commands.{work_stays, steps_counted, waited, mutator_there}
-use Rattle.rec_world.proofs.CoreRuns.{move_stays}
-use Rattle.rec_world.proofs.CoreShowing.{mutator_left}
-use Rattle.rec_world.proofs.CoreSteps.{actor_of}
-use Rattle.rec_world.proofs.Machines.{at_phase}
 
 -- the mutator's scan comes to this slot
 abbrev pub skipping : Core → (t slot : ℕ) → Core

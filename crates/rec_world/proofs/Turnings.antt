@@ -28,17 +28,17 @@ use Rattle.rec_collector.specs.declared.phase.Phase.{Phase}
 use Rattle.rec_collector.specs.declared.phase.Phase.TheVariants.{Idle, Looking, Swapping, Returning, Releasing, Freeing, Trying, Preparing, Opening, Sweeping, Closing}
 use Rattle.rec_collector.specs.declared.turn.Turn.{Turn}
 use Rattle.rec_collector.specs.declared.turn.Turn.TheVariants as turns
-use Rattle.rec_world.specs.declared.config.Config.{Config}
-use Rattle.rec_world.specs.Core.{Core, cells_of, box, crossing_of}
-use Rattle.rec_world.specs.CoreKept.{IsKept}
-use Rattle.rec_world.specs.CoreMoves.{looked_at, left_by, collected, turned, turned_at, turned_by}
-use Rattle.rec_world.specs.Mailbox.{held, mailbox_at}
-use Rattle.rec_world.specs.Memory.{Cells, cell, with_cell}
+use Rattle.rec_core.specs.Cells.{mailbox_at, Cells, cell, with_cell}
+use Rattle.rec_core.specs.Core.{Core, cells_of, box, crossing_of}
+use Rattle.rec_core.specs.Kept.{IsKept}
+use Rattle.rec_core.specs.Moves.{looked_at, left_by, collected, turned, turned_at, turned_by}
+use Rattle.rec_core.specs.declared.config.Config.{Config}
+use Rattle.rec_core.proofs.Trying.{loads_child}
+use Rattle.rec_core.proofs.Turning.{some_op}
+use Rattle.rec_core.proofs.Turns.{same_boxes}
+use Rattle.rec_world.specs.Mailbox.{held}
 use Rattle.rec_world.specs.World.{TurnHasCause}
 use Rattle.rec_world.proofs.Calls.{box_read}
-use Rattle.rec_world.proofs.CoreTrying.{loads_child}
-use Rattle.rec_world.proofs.CoreTurning.{some_op}
-use Rattle.rec_world.proofs.CoreTurns.{same_boxes}
 
 -- the operation that comes next takes the mailbox that the collector looks at, by phase
 looks_at_phase : (c : collectors.Private) (op : Op) (phase : Phase) → ◌≡◌ {A = Option Op} (next_at c phase) (Some op) → mailbox_at op ≡ looked_at phase

@@ -1,7 +1,7 @@
 -- The shared words of a heap, and the index of the slots that are free.
 use Rattle.std.specs.Prelude.{◌≡◌, ◌⊎◌, ℕ, ◌<◌, ◌≤◌, ◌==◌, List, if◌then◌else◌, slice_index_or}
 use Rattle.rec_index.specs.Sets.{bit}
-use Rattle.rec_world.specs.Memory.{Cells}
+use Rattle.rec_core.specs.Cells.{Cells}
 use Rattle.rec_world.specs.declared.memory.Memory.TheInside.{Inside}
 
 -- the words

@@ -1,6 +1,6 @@
 -- The heap that the fields of a world make up.
 use Rattle.std.specs.Prelude.{ℕ, ◌<◌, None, IsSome, length, map, slice_index_or}
-use Rattle.rec_world.specs.Core.{Core}
+use Rattle.rec_core.specs.Core.{Core}
 use Rattle.rec_world.specs.Mailbox.{held}
 use Rattle.rec_world.specs.World.{IsWorld}
 use Rattle.rec_world.specs.declared.world.World.TheInside.{Inside}

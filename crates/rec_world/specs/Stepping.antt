@@ -4,8 +4,8 @@ use Rattle.rec_log.specs.declared.contents.Contents.{Contents}
 use Rattle.rec_mutator.specs.Next.{next_of}
 use Rattle.rec_mutator.specs.Private.{Private, is_busy}
 use Rattle.rec_mutator.specs.Took.{IsBetween, IsFound, IsSwapping, spare, took_of}
+use Rattle.rec_core.specs.Cells.{Cells, IsWithin, cell}
 use Rattle.rec_world.specs.Mailbox.{held}
-use Rattle.rec_world.specs.Memory.{Cells, IsWithin, cell}
 
 -- the machine works, its operation names a word that is there and finds one that it may find, and a mailbox that it takes is home
 -- with a spare

@@ -7,18 +7,17 @@ use Rattle.rec_model.specs.Sight.{Sight, IsSound, IsTaken}
 use Rattle.rec_mutator.specs.Causes.{MakesEntry}
 use Rattle.rec_mutator.specs.Private.{is_busy, work_of, answer_of}
 use Rattle.rec_mutator.specs.declared.made.Made.{Made}
-use Rattle.rec_mutator.specs.declared.phase.Phase.{Phase}
-use Rattle.rec_mutator.specs.declared.phase.Phase.TheVariants.{Scanning, Scanned, Giving}
 use Rattle.rec_collector.specs.declared.phase.Phase.TheVariants.{Idle, Looking}
 use Rattle.rec_collector.specs.declared.turn.Turn.{Turn}
 use Rattle.rec_collector.specs.declared.turn.Turn.TheVariants as turns
-use Rattle.rec_world.specs.Config.{IsConfig, IsMutator}
-use Rattle.rec_world.specs.CoreMoves.{stepped, EndsRun}
-use Rattle.rec_world.specs.CoreShown.{IsFilled}
-use Rattle.rec_world.specs.CoreSwept.{swept}
-use Rattle.rec_world.specs.Worked.{StepsTo}
-pub use Rattle.rec_world.specs.Core.{Core, sight, mutator, with_mutator, crossing_of, log_length, opened}
-pub use Rattle.rec_world.specs.CoreShown.{entries_of}
+use Rattle.rec_core.specs.Config.{IsConfig, IsMutator}
+pub use Rattle.rec_core.specs.Core.{Core, sight, mutator, with_mutator, crossing_of, log_length, opened}
+use Rattle.rec_core.specs.Moves.{stepped, EndsRun}
+use Rattle.rec_core.specs.Shown.{IsFilled}
+pub use Rattle.rec_core.specs.Shown.{entries_of}
+use Rattle.rec_core.specs.Swept.{swept}
+pub use Rattle.rec_core.specs.Unfinished.{OnlyWorks, IsQuiet, HasFound, Waits}
+use Rattle.rec_core.specs.Worked.{StepsTo}
 
 -- what every world keeps of its words and registers
 pub record IsShaped (w : Core) : Type 0 where
@@ -65,33 +64,6 @@ pub record IsLowestFree (w : Sight) (slot : ℕ) : Type 0 where
   pub there : slot < length w.headers
   pub free : slice_index_or w.headers slot 0 ≡ 0
   pub lower : (s : ℕ) → s < slot → IsTaken w s
-
--- the mutator's work went on, and changed no register and no log: all else stays
-pub record OnlyWorks (before after : Core) (t : ℕ) : Type 0 where
-  pub others : after ≡ with_mutator before t (mutator after t)
-  pub own : mutator after t ≡ record (mutator before t) { phase = (mutator after t).phase; steps = (mutator after t).steps }
-
--- A work of the mutator changed nothing that is seen, no other mutator, and nothing of the collector. Crossing words and mailboxes
--- may be others.
-pub record IsQuiet (before after : Core) (t : ℕ) : Type 0 where
-  pub seen : sight after ≡ sight before
-  pub others : (s : ℕ) → s ≢ t → 1 ≤ s → mutator after s ≡ mutator before s
-  pub collector : after.collector ≡ before.collector
-  pub freed : after.freed ≡ before.freed
-  pub requested : after.epoch ≡ before.epoch
-  pub made : after.made ≡ before.made
-  pub config : after.config ≡ before.config
-
--- what a scan has found since its begin, where nothing else moved: each slot that it has passed holds an object
-abbrev pub HasFound : Core → Phase → Type 0
-HasFound w (Scanning reg label before slot) = (before ≡ w.freed) × ((s : ℕ) → s < slot → IsTaken (sight w) s)
-HasFound w (Scanned reg label before) = (before ≡ w.freed) × IsFilled w
-HasFound w _ = Unit {0}
-
--- Steps of a mutator that finished nothing: only its work went on, or it holds its mailbox.
-pub data Waits (before w : Core) (t : ℕ) : Type 0 where
-  works : OnlyWorks before w t → HasFound w (mutator w t).phase → Waits before w t
-  holds : (mutator w t).phase ≡ Giving → IsQuiet before w t → (mutator w t).epoch ≡ (mutator before t).epoch → Waits before w t
 
 -- The work of a mutator was finished by steps, of which all but the last finished nothing.
 pub record IsFinished (before : Core) (t : ℕ) (made : Made) (after : Core) : Type 0 where

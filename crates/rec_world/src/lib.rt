@@ -18,7 +18,6 @@
 //! the commands, their refusals and the words are this project's profile (`docs/PROFILE.md`).
 #![tactic(auto)]
 
-mod config;
 mod journal;
 mod laws;
 mod mailbox;
@@ -26,19 +25,17 @@ mod memory;
 mod numbering;
 mod open_error;
 mod order;
-mod part;
 mod world;
 
-pub use config::Config;
 pub use journal::Journal;
-pub use laws::{
-    answers_are_explained, conditions_are_met, failed_allocations_probed_every_slot,
-    freed_slots_are_forgotten, loaded_words_stay_references, nothing_reached_is_freed,
-    orange_members_stay_untouched, outside_counts_are_of_the_run, runs_go_on, runs_keep,
-    sets_that_pass_are_garbage, true_counts_are_the_formula, worlds_end_runs, zeros_are_exact,
-};
+pub use laws::worlds_end_runs;
 pub use numbering::Numbering;
 pub use open_error::OpenError;
 pub use order::Order;
-pub use part::Part;
+pub use rec_core::{
+    Config, Part, answers_are_explained, conditions_are_met, failed_allocations_probed_every_slot,
+    freed_slots_are_forgotten, loaded_words_stay_references, nothing_reached_is_freed,
+    orange_members_stay_untouched, outside_counts_are_of_the_run, runs_go_on, runs_keep,
+    sets_that_pass_are_garbage, true_counts_are_the_formula, zeros_are_exact,
+};
 pub use world::World;

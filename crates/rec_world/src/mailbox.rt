@@ -4,9 +4,10 @@ ghost use Rattle.std.specs.Prelude.{◌≡◌, Some, All, length, replicate, IsS
 ghost use Rattle.rec_mutator.specs.Took.{spare, swapped_of, left_of, IsSwapping};
 ghost use Rattle.rec_collector.specs.Given.{IsSized};
 ghost use Rattle.rec_collector.specs.Took.{left_of as left_for, swapped_of as gathered_of};
-ghost use Rattle.rec_world.specs.Config.{IsConfig};
-ghost use Rattle.rec_world.specs.Core.{spare_of};
-ghost use Rattle.rec_world.specs.Mailbox.{held, mailbox_at};
+ghost use Rattle.rec_core.specs.Cells.{mailbox_at};
+ghost use Rattle.rec_core.specs.Config.{IsConfig};
+ghost use Rattle.rec_core.specs.Core.{spare_of};
+ghost use Rattle.rec_world.specs.Mailbox.{held};
 
 use crate::Config;
 use rec_collector::Machine as Collector;

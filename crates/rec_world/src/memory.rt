@@ -1,7 +1,7 @@
 ghost use Rattle.std.specs.Prelude.{◌≡◌, ℕ, ◌-◌, ◌*◌, ◌^◌, ◌<◌, ◌≤◌, length, ◌∷◌, replicate, slice_index_or, IfOk};
 ghost use Rattle.rec_word.specs.Op.{written};
+ghost use Rattle.rec_core.specs.Cells.{IsWithin, cell, with_cell};
 ghost use Rattle.rec_world.specs.Indexed.{HoldsUpTo};
-ghost use Rattle.rec_world.specs.Memory.{IsWithin, cell, with_cell};
 
 use rec_index::Index;
 use rec_word::Op;
@@ -21,7 +21,7 @@ pub struct Memory {
 }
 
 impl Model for Memory {
-    ghost use Rattle.rec_world.specs.Memory.{Cells};
+    ghost use Rattle.rec_core.specs.Cells.{Cells};
 
     ghost Value = { Cells };
 

@@ -15,21 +15,23 @@ ghost use Rattle.rec_mutator.specs.declared.work.Work.TheVariants as works;
 ghost use Rattle.rec_collector.specs.Next.{next_of as collector_next};
 ghost use Rattle.rec_collector.specs.declared.phase.Phase as phases;
 ghost use Rattle.rec_collector.specs.declared.turn.Turn as turns;
-ghost use Rattle.rec_world.specs.Config.{IsConfig, IsMutator, IsRefused, IsValid, IsWork, HasLabel};
-ghost use Rattle.rec_world.specs.Core.{Core, sight, mutator, crossing_of, log_length, opened, opened_mutator, opened_mutators};
-ghost use Rattle.rec_world.specs.CoreFreed.{AreGone, IsForgotten};
-ghost use Rattle.rec_world.specs.CoreMoves.{begun, stepped, turned, offering, EndsRun};
-ghost use Rattle.rec_world.specs.CoreReach.{KeepsReached};
-ghost use Rattle.rec_world.specs.CoreShown.{IsShown, entries_of, sight_told};
-ghost use Rattle.rec_world.specs.CoreSwept.{IsSweep};
+ghost use Rattle.rec_core.specs.Config.{IsConfig, IsMutator, IsValid, IsWork, HasLabel};
+ghost use Rattle.rec_core.specs.Core.{Core, sight, mutator, crossing_of, log_length, opened, opened_mutator, opened_mutators};
+ghost use Rattle.rec_core.specs.Freed.{AreGone, IsForgotten};
+ghost use Rattle.rec_core.specs.Moves.{begun, stepped, turned, offering, EndsRun};
+ghost use Rattle.rec_core.specs.Reach.{KeepsReached};
+ghost use Rattle.rec_core.specs.Shown.{IsShown, entries_of, sight_told};
+ghost use Rattle.rec_core.specs.Swept.{IsSweep};
+ghost use Rattle.rec_world.specs.OpenError.{IsRefused};
 ghost use Rattle.rec_word.specs.Op.{written};
 ghost use Rattle.rec_mutator.specs.Next.{next_of};
 ghost use Rattle.rec_mutator.specs.Took.{took_of, step_of, left_of};
+ghost use Rattle.rec_core.specs.Cells.{births_of, cell, with_cell};
+ghost use Rattle.rec_core.specs.Unfinished.{HasFound, IsQuiet, OnlyWorks};
+ghost use Rattle.rec_core.specs.Worked.{StepsTo, IsWorked};
 ghost use Rattle.rec_world.specs.Mailbox.{held};
 ghost use Rattle.rec_world.specs.Stepping.{MakesStep};
-ghost use Rattle.rec_world.specs.Memory.{births_of, cell, with_cell};
-ghost use Rattle.rec_world.specs.World.{IsWorld, label_of, IsLogFull, IsFull, IsBusy, IsLowestFree, HasFound, IsFinished, IsQuiet, IsCrossed, OnlyWorks, TurnHasCause};
-ghost use Rattle.rec_world.specs.Worked.{StepsTo, IsWorked};
+ghost use Rattle.rec_world.specs.World.{IsWorld, label_of, IsLogFull, IsFull, IsBusy, IsLowestFree, IsFinished, IsCrossed, TurnHasCause};
 
 use crate::mailbox::{mailbox_of, open_boxes, swap_gathered, swap_own};
 use crate::memory::Memory;
@@ -55,7 +57,7 @@ pub struct World {
 }
 
 impl Model for World {
-    ghost use Rattle.rec_world.specs.Core.{Core};
+    ghost use Rattle.rec_core.specs.Core.{Core};
 
     ghost Value = { Core };
 

@@ -10,8 +10,8 @@ use Rattle.rec_model.specs.LegalOrder.{Line, Event, actors}
 use Rattle.rec_model.specs.Listing.{Row, ListsSlots}
 use Rattle.rec_model.specs.Sight.{StandsFor}
 use Rattle.rec_model.proofs.Listed.{listing_carried}
+use Rattle.rec_core.specs.Settled.{IsSettled}
 use Rattle.rec_world.specs.World.{Core, sight}
-use Rattle.rec_world.specs.Settled.{IsSettled}
 use Rattle.rec_settle.specs.Collecting.{IsSettling}
 use Rattle.recycler.specs.declared.status.Status.{Status}
 use Rattle.recycler.specs.declared.status.Status.TheVariants as statuses

@@ -1,8 +1,8 @@
 -- A heap whose numbers are in their ranges isn't refused.
-use Rattle.rec_world.specs.declared.config.Config.{Config}
-use Rattle.rec_world.specs.declared.part.Part.{Part}
-use Rattle.rec_world.specs.declared.part.Part.TheVariants.{Slots, Fields, Registers, Mutators, LogEntries, FirstEpoch}
-use Rattle.rec_world.specs.Config.{IsConfig, IsFirstWrong, IsInRange}
+use Rattle.rec_core.specs.Config.{IsConfig, IsFirstWrong, IsInRange}
+use Rattle.rec_core.specs.declared.config.Config.{Config}
+use Rattle.rec_core.specs.declared.part.Part.{Part}
+use Rattle.rec_core.specs.declared.part.Part.TheVariants.{Slots, Fields, Registers, Mutators, LogEntries, FirstEpoch}
 
 in_range : (config : Config) → IsConfig config → (part : Part) → IsInRange config part
 in_range config is Slots = (is.some_slots, is.few_slots)

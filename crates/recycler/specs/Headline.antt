@@ -5,8 +5,8 @@ use Rattle.rec_model.specs.Heap.{Heap}
 use Rattle.rec_model.specs.LegalOrder.{Line, Event, actors}
 use Rattle.rec_model.specs.Listing.{Row, IsListing}
 use Rattle.rec_model.specs.Sight.{StandsFor}
-use Rattle.rec_world.specs.Core.{Core, sight}
-use Rattle.rec_world.specs.Settled.{IsSettled}
+use Rattle.rec_core.specs.Core.{Core, sight}
+use Rattle.rec_core.specs.Settled.{IsSettled}
 use Rattle.rec_settle.specs.Collecting.{IsSettling}
 use Rattle.rec_play.specs.Played.{IsPlayed, last_moment}
 use Rattle.rec_io.specs.Sink.{Appends}

@@ -5,7 +5,7 @@ ghost use Rattle.rec_model.specs.Listing.{Row, ListsSlots};
 ghost use Rattle.rec_report.specs.Report.{AreFor};
 ghost use Rattle.rec_report.specs.Summary.{NoLogFull};
 ghost use Rattle.rec_report.specs.Text.{IsOrderOf};
-ghost use Rattle.rec_world.specs.Settled.{IsSettled};
+ghost use Rattle.rec_core.specs.Settled.{IsSettled};
 ghost use Rattle.rec_world.specs.World.{opened, sight};
 ghost use Rattle.rec_play.specs.Played.{AreReady, config_of, lengths_of};
 ghost use Rattle.recycler.specs.Headline.{Answers, run_text};

@@ -2,7 +2,7 @@
 use Rattle.std.proofs.Common.{◌≡◌, ℕ, ◌+◌, ◌-◌, ◌<◌, inl, inr, arith, rules, subst, false}
 use Rattle.std.proofs.lemmas.Bool.{cases_lt}
 use Rattle.rec_mutator.specs.Private.{is_busy}
-use Rattle.rec_world.specs.Core.{mutator}
+use Rattle.rec_core.specs.Core.{mutator}
 use Rattle.rec_examples.proofs.settled.are_idle.Goals as goal
 
 pub loop-index-init : goal.loop-index-init

@@ -1,6 +1,6 @@
 use Rattle.std.proofs.Common.{◌≡◌, max, length, sym, ap, subst, ◌∙◌}
-use Rattle.rec_world.specs.declared.config.Config.{Config}
-use Rattle.rec_world.specs.Config.{IsConfig}
+use Rattle.rec_core.specs.Config.{IsConfig}
+use Rattle.rec_core.specs.declared.config.Config.{Config}
 use Rattle.rec_script.specs.Script.{Contents}
 use Rattle.rec_play.specs.Played.{config_of, log_room}
 use Rattle.rec_play.proofs.Ready.{config_is, longest_is, script_config}

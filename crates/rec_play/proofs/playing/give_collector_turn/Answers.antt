@@ -5,9 +5,9 @@ use Rattle.std.proofs.lemmas.Option.{get_or_from_slice_get}
 use Rattle.rec_model.specs.declared.command.Cmd.{Cmd}
 use Rattle.rec_collector.specs.declared.turn.Turn.{Turn}
 use Rattle.rec_collector.specs.declared.turn.Turn.TheVariants.{Waiting}
-use Rattle.rec_world.specs.declared.config.Config.{Config}
-use Rattle.rec_world.specs.Config.{IsMutator}
-use Rattle.rec_world.specs.Core.{Core}
+use Rattle.rec_core.specs.Config.{IsMutator}
+use Rattle.rec_core.specs.Core.{Core}
+use Rattle.rec_core.specs.declared.config.Config.{Config}
 use Rattle.rec_world.specs.Journal.{Notes}
 use Rattle.rec_world.specs.World.{TurnHasCause}
 use Rattle.rec_script.specs.Script.{Contents}

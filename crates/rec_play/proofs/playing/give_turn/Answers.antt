@@ -2,7 +2,7 @@ use Rattle.std.proofs.Common.{◌≡◌, ◌-◌, ◌<◌, List, [], slice_index
 use Rattle.std.specs.List.{slice_get}
 use Rattle.std.proofs.lemmas.Option.{slice_get-get_or, get_or_from_slice_get}
 use Rattle.rec_model.specs.declared.command.Cmd.{Cmd}
-use Rattle.rec_world.specs.declared.config.Config.{Config}
+use Rattle.rec_core.specs.declared.config.Config.{Config}
 use Rattle.rec_play.proofs.Commands.{polled_by}
 use Rattle.rec_play.proofs.playing.give_turn.Goals as goal
 

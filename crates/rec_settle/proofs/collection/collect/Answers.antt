@@ -1,8 +1,8 @@
 -- A turn that goes on, and a poll, leave the collection on its way, and nearer to its end.
 use Rattle.std.proofs.Common.{◌≡◌, ◌<◌, refl, sym, subst}
 use Rattle.rec_collector.specs.declared.turn.Turn.TheVariants as answers
-use Rattle.rec_world.specs.Core.{Core}
-use Rattle.rec_world.specs.CoreKept.{IsKept}
+use Rattle.rec_core.specs.Core.{Core}
+use Rattle.rec_core.specs.Kept.{IsKept}
 use Rattle.rec_world.specs.World.{TurnHasCause}
 use Rattle.rec_world.proofs.Calls.{world_kept}
 use Rattle.rec_settle.specs.Collecting.{AreIdle, IsAmid, IsCollection, IsAwaited, HasPolled}

@@ -1,7 +1,7 @@
 -- What was settled is so by the collections that were made.
 use Rattle.std.proofs.Common.{subst, arith}
-use Rattle.rec_world.specs.Core.{Core}
-use Rattle.rec_world.specs.CoreKept.{IsKept}
+use Rattle.rec_core.specs.Core.{Core}
+use Rattle.rec_core.specs.Kept.{IsKept}
 use Rattle.rec_world.proofs.Calls.{world_kept}
 use Rattle.rec_settle.specs.Collecting.{IsCollection, IsSettling}
 use Rattle.rec_settle.proofs.Settles.{HasSettled, few_freed, settling_settles}

@@ -1,6 +1,6 @@
 -- The parts make up the heap as it is opened.
 use Rattle.std.proofs.Common.{◌≡◌, map, sym, subst}
-use Rattle.rec_world.specs.Core.{Core, opened}
+use Rattle.rec_core.specs.Core.{Core, opened}
 use Rattle.rec_world.specs.Mailbox.{held}
 use Rattle.rec_world.specs.World.{IsWorld}
 use Rattle.rec_world.proofs.Calls.{opened_parts, opened_world, opened_home}

@@ -1,7 +1,7 @@
 -- There is room for each mutator.
 use Rattle.std.proofs.Common.{◌≡◌, ◌≤◌, length, ap, ◌∙◌, arith}
 use Rattle.std.specs.Vec.{vec_capacity}
-use Rattle.rec_world.proofs.Openings.{length-opened}
+use Rattle.rec_core.proofs.OpenedMutators.{length-opened}
 use Rattle.rec_world.proofs.world.open_machines.Goals as goal
 
 pub push_reserved-requires : goal.push_reserved-requires

@@ -1,5 +1,5 @@
 use Rattle.std.proofs.Common.{subst}
-use Rattle.rec_world.specs.Config.{IsRefused}
+use Rattle.rec_world.specs.OpenError.{IsRefused}
 use Rattle.recycler.proofs.Opening.{none_wrong}
 use Rattle.recycler.proofs.answer.open_world.Goals as goal
 

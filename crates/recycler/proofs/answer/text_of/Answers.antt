@@ -2,8 +2,8 @@
 use Rattle.std.proofs.Common.{◌≡◌, ◌∙◌, ℕ, List, sym, ap, subst}
 use Rattle.std.specs.List.{flat_map}
 use Rattle.rec_model.specs.LegalOrder.{Line, actors}
+use Rattle.rec_core.specs.declared.config.Config.{Config}
 use Rattle.rec_world.specs.World.{Core}
-use Rattle.rec_world.specs.declared.config.Config.{Config}
 use Rattle.rec_script.specs.Script.{Contents}
 use Rattle.rec_report.specs.Text.{IsOrderOf}
 use Rattle.rec_play.specs.Played.{last_moment, lines_of}

@@ -1,6 +1,6 @@
 -- What isn't in the index is taken.
 use Rattle.std.proofs.Common.{◌<◌, length, get_or, subst, refl, arith}
-use Rattle.rec_world.specs.Memory.{Cells}
+use Rattle.rec_core.specs.Cells.{Cells}
 use Rattle.rec_world.proofs.Frees.{absent_taken, member_there}
 use Rattle.rec_world.proofs.memory.Memory.lowest_free.Goals as goal
 

@@ -3,16 +3,16 @@ use Rattle.std.proofs.Common.{refl, ◌≡◌, ◌-◌, ◌+◌, ◌<◌, ◌≤
 use Rattle.std.specs.Option.{is_some}
 use Rattle.rec_mutator.specs.Next.{next_of}
 use Rattle.rec_mutator.specs.Private.{Private, answer_of, IsValid}
-use Rattle.rec_world.specs.Core.{Core, cells_of, mutator}
-use Rattle.rec_world.specs.CoreMoves.{Move, begun, stepped}
+use Rattle.rec_core.specs.Cells.{cell, births_of}
+use Rattle.rec_core.specs.Core.{Core, cells_of, mutator}
+use Rattle.rec_core.specs.Moves.{Move, begun, stepped}
 use Rattle.rec_world.specs.Inside.{core}
 use Rattle.rec_world.specs.Mailbox.{held}
-use Rattle.rec_world.specs.Memory.{cell, births_of}
 use Rattle.rec_world.specs.World.{IsWorld}
 use Rattle.rec_world.proofs.Calls.{mutator_read, home_again, machine_left, moved_world, made_small, births_few}
 use Rattle.rec_word.specs.declared.op.Op.{Op}
-use Rattle.rec_world.proofs.OneStep.{makes_step}
 use Rattle.rec_world.proofs.Beginnings.{MayBegin, may_begin, began_read, first_step_is}
+use Rattle.rec_world.proofs.OneStep.{makes_step}
 use Rattle.rec_world.proofs.world.World.begin_and_step.Goals as goal
 use Rattle.rec_world.proofs.world.World.begin_and_step.Goals.{After-index_mut-machine, After-begin, After-answer}
 

@@ -1,7 +1,7 @@
 -- The first step finishes the work, or later ones do.
 use Rattle.std.proofs.Common.{sym, ◌∙◌}
-use Rattle.rec_world.proofs.Calls.{world_kept}
 use Rattle.rec_world.proofs.Beginnings.{finished_first, first_goes_on, first_busy, finished_later}
+use Rattle.rec_world.proofs.Calls.{world_kept}
 use Rattle.rec_world.proofs.world.World.carry_out.Goals as goal
 
 pub finish-requires-clause-mutator : goal.finish-requires-clause-mutator

@@ -1,9 +1,9 @@
 -- The last step of the command says all.
 use Rattle.std.proofs.Common.{refl}
 use Rattle.rec_mutator.specs.declared.work.Work.TheVariants as works
-use Rattle.rec_world.specs.CoreMoves.{begun}
-use Rattle.rec_world.proofs.Calls.{world_kept, finished_kept, worked}
+use Rattle.rec_core.specs.Moves.{begun}
 use Rattle.rec_world.proofs.Beginnings.{began_work}
+use Rattle.rec_world.proofs.Calls.{world_kept, finished_kept, worked}
 use Rattle.rec_world.proofs.Commands.{IsAnswered, command_said, command_crosses}
 use Rattle.rec_world.proofs.world.World.command.Goals as goal
 use Rattle.rec_world.proofs.world.World.command.Goals.{In-Answered}

@@ -1,12 +1,12 @@
 -- Skips and steps that answer nothing leave all as it was but the work, and the next one follows.
 use Rattle.std.proofs.Common.{◌≤◌, arith, refl, sym, ap, ◌∙◌}
 use Rattle.std.specs.Option.{is_none}
-use Rattle.rec_world.specs.Config.{IsMutator}
-use Rattle.rec_world.specs.Core.{Core, mutator}
-use Rattle.rec_world.specs.World.{Waits}
-use Rattle.rec_world.specs.Worked.{StepsTo}
+use Rattle.rec_core.specs.Config.{IsMutator}
+use Rattle.rec_core.specs.Core.{Core, mutator}
+use Rattle.rec_core.specs.Unfinished.{Waits}
+use Rattle.rec_core.specs.Worked.{StepsTo}
+use Rattle.rec_core.proofs.Unfinished.{waits_none, waited, nearer, mutator_there}
 use Rattle.rec_world.proofs.Calls.{world_kept}
-use Rattle.rec_world.proofs.Commands.{waits_none, waited, nearer, mutator_there}
 use Rattle.rec_world.proofs.Skipping.{found_of, path_both, path_waits, path_counts, path_world}
 use Rattle.rec_world.proofs.world.World.finish.Goals as goal
 

@@ -2,8 +2,8 @@
 use Rattle.std.proofs.Common.{sym, ap, subst, ◌∙◌}
 use Rattle.rec_model.specs.Heap.{opening}
 use Rattle.rec_model.specs.Sight.{StandsFor}
-use Rattle.rec_world.specs.Core.{Core, sight, mutator}
-use Rattle.rec_world.proofs.Openings.{mutator_opened, opened_stands}
+use Rattle.rec_core.specs.Core.{Core, sight, mutator}
+use Rattle.rec_core.proofs.OpenedMutators.{mutator_opened, opened_stands}
 use Rattle.rec_world.proofs.world.World.open.Goals as goal
 
 pub returns-clause-stands : goal.returns-clause-stands

@@ -1,9 +1,9 @@
 -- The last step of the poll says all.
 use Rattle.std.proofs.Common.{refl}
 use Rattle.rec_mutator.specs.declared.work.Work.TheVariants as works
-use Rattle.rec_world.specs.CoreMoves.{begun}
-use Rattle.rec_world.proofs.Calls.{world_kept, finished_kept, worked}
+use Rattle.rec_core.specs.Moves.{begun}
 use Rattle.rec_world.proofs.Beginnings.{began_work}
+use Rattle.rec_world.proofs.Calls.{world_kept, finished_kept, worked}
 use Rattle.rec_world.proofs.Commands.{IsPolled, poll_said, poll_answers}
 use Rattle.rec_world.proofs.world.World.poll.Goals as goal
 use Rattle.rec_world.proofs.world.World.poll.Goals.{In-Crossed}

@@ -3,20 +3,20 @@ use Rattle.std.proofs.Common.{◌≡◌, ◌-◌, ◌+◌, ◌<◌, ◌≤◌, �
 use Rattle.std.specs.Option.{is_none, is_some, IfSome}
 use Rattle.rec_mutator.specs.Next.{next_of}
 use Rattle.rec_mutator.specs.Private.{is_busy, work_of, answer_of, limit_of}
-use Rattle.rec_world.specs.Core.{Core, cells_of, mutator}
-use Rattle.rec_world.specs.CoreMet.{MayStep}
-use Rattle.rec_world.specs.CoreMoves.{Move, stepped}
-use Rattle.rec_world.specs.CoreShown.{IsShown}
+use Rattle.rec_core.specs.Cells.{cell, births_of}
+use Rattle.rec_core.specs.Core.{Core, cells_of, mutator}
+use Rattle.rec_core.specs.Met.{MayStep}
+use Rattle.rec_core.specs.Moves.{Move, stepped}
+use Rattle.rec_core.specs.Shown.{IsShown}
+use Rattle.rec_core.proofs.Runs.{move_kept}
+use Rattle.rec_core.proofs.Showing.{step_shown}
+use Rattle.rec_core.proofs.Unfinished.{work_stays, step_busy, steps_counted, steps_limited}
+use Rattle.rec_core.proofs.Words.{may_step}
 use Rattle.rec_world.specs.Inside.{core}
 use Rattle.rec_world.specs.Mailbox.{held}
-use Rattle.rec_world.specs.Memory.{cell, births_of}
 use Rattle.rec_world.specs.World.{IsWorld}
 use Rattle.rec_world.proofs.Calls.{Ready, ready, mutator_read, home_again, machine_left, moved_world, made_small, births_few}
-use Rattle.rec_world.proofs.Commands.{work_stays, step_busy, steps_counted, steps_limited}
 use Rattle.rec_world.proofs.OneStep.{makes_step, made_step_is}
-use Rattle.rec_world.proofs.CoreRuns.{move_kept}
-use Rattle.rec_world.proofs.CoreShowing.{step_shown}
-use Rattle.rec_world.proofs.CoreWords.{may_step}
 use Rattle.rec_world.proofs.world.World.step.Goals as goal
 use Rattle.rec_world.proofs.world.World.step.Goals.{After-index_mut-machine, After-answer}
 

@@ -12,22 +12,22 @@ use Rattle.rec_collector.specs.Given.{IsGiven, IsSized}
 use Rattle.rec_collector.specs.Next.{next_of}
 use Rattle.rec_collector.specs.Took.{took_of}
 use Rattle.rec_collector.specs.declared.phase.Phase.TheVariants.{Idle, Looking}
-use Rattle.rec_world.specs.Core.{Core, cells_of, sight, box, crossing_of}
-use Rattle.rec_world.specs.CoreFreed.{AreGone, IsForgotten}
-use Rattle.rec_world.specs.CoreMet.{MayTurn}
-use Rattle.rec_world.specs.CoreMoves.{Move, EndsRun, looked_at, turned}
-use Rattle.rec_world.specs.CoreReach.{KeepsReached}
-use Rattle.rec_world.specs.CoreSwept.{IsSweep}
+use Rattle.rec_core.specs.Cells.{cell}
+use Rattle.rec_core.specs.Core.{Core, cells_of, sight, box, crossing_of}
+use Rattle.rec_core.specs.Freed.{AreGone, IsForgotten}
+use Rattle.rec_core.specs.Met.{MayTurn}
+use Rattle.rec_core.specs.Moves.{Move, EndsRun, looked_at, turned}
+use Rattle.rec_core.specs.Reach.{KeepsReached}
+use Rattle.rec_core.specs.Swept.{IsSweep}
+use Rattle.rec_core.proofs.Freed.{freed_is_forgotten, given_up_are_gone}
+use Rattle.rec_core.proofs.Reach.{turned_keeps, keeps_stands_by}
+use Rattle.rec_core.proofs.Runs.{move_kept, move_stays}
+use Rattle.rec_core.proofs.Swept.{turned_sweeps}
+use Rattle.rec_core.proofs.Words.{may_turn}
 use Rattle.rec_world.specs.Inside.{core}
 use Rattle.rec_world.specs.Mailbox.{held}
-use Rattle.rec_world.specs.Memory.{cell}
 use Rattle.rec_world.specs.World.{IsWorld, TurnHasCause}
 use Rattle.rec_world.proofs.Calls.{ReadyToTurn, ready_to_turn, box_read, box_home, home_again, moved_world}
-use Rattle.rec_world.proofs.CoreFreed.{freed_is_forgotten, given_up_are_gone}
-use Rattle.rec_world.proofs.CoreReach.{turned_keeps, keeps_stands_by}
-use Rattle.rec_world.proofs.CoreRuns.{move_kept, move_stays}
-use Rattle.rec_world.proofs.CoreSwept.{turned_sweeps}
-use Rattle.rec_world.proofs.CoreWords.{may_turn}
 use Rattle.rec_world.proofs.Turnings.{looks_at, looked_word, turned_is, turn_cause, turn_requests}
 use Rattle.rec_world.proofs.world.World.turn.Goals as goal
 use Rattle.rec_world.proofs.world.World.turn.Goals.{In_default, In-Some, After-perform-found, After-took-turn, After-from, After-swap_gathered}

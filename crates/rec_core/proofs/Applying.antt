@@ -1,0 +1,421 @@
+-- The batch: with the last mailbox given back, what the buffers name is counted, and the accounts are those of the next epoch.
+use Rattle.std.proofs.Common.{◌≡◌, ◌⊎◌, inl, inr, ℕ, ◌+◌, ◌-◌, ◌*◌, ◌<◌, ◌≤◌, ◌==◌, nat_lt, if◌then◌else◌, Bool, true, List, [], ◌∷◌, ◌++◌, suc, Option, None, Some, length, map, slice_index_or, refl, sym, ap, subst, ◌∙◌, arith}
+use Rattle.std.specs.List.{sum_by, flat_map}
+use Rattle.std.proofs.Math.Nat.{suc-mul, mul-le-mul}
+use Rattle.std.proofs.lemmas.Bool.{cases_eq, cases_lt, eq-eqb, lt-ltb, lt-leb, cond-true}
+use Rattle.std.proofs.lemmas.List.{get_or_past, get_or_default}
+use Rattle.std.proofs.lemmas.List.Concat.{length-flat_map}
+use Rattle.std.proofs.lemmas.List.Sums.{sum_by-cons, sum_by-append}
+use Rattle.rec_model.specs.Accounted.{is_dead}
+use Rattle.rec_model.specs.Moves.{Applies, is_up_to, puts_in, replaces_in, added, taken}
+use Rattle.rec_model.specs.Pending.{Write, Dated, dated, is_at}
+use Rattle.rec_model.proofs.Sums.{sum_by-flat_map, sum_by-map}
+use Rattle.rec_model.proofs.Consequences.{counts_bounded}
+use Rattle.rec_model.proofs.CollectorMoves.{unnamed_uncounted}
+use Rattle.rec_model.proofs.Ledgers.{batch_covered}
+use Rattle.rec_model.specs.Sums.{only_if}
+use Rattle.rec_log.specs.declared.contents.Contents.{Contents}
+use Rattle.rec_log.specs.declared.entry.Entry.{Entry}
+use Rattle.rec_log.specs.declared.entry.Entry.TheVariants as entries
+use Rattle.rec_counts.specs.Counts.{State, slot_at}
+use Rattle.rec_counts.specs.Rest.{KeepsRest, AreZeros}
+use Rattle.rec_counts.specs.Slot.{fresh, absent}
+use Rattle.rec_counts.specs.declared.slot.Slot.{Slot}
+use Rattle.rec_apply.specs.Batch.{batch, up_targets, down_targets, all_up, CanRise, CanFall}
+use Rattle.rec_apply.specs.Targets as targets
+use Rattle.rec_apply.proofs.Falling.{fall_zeros_all}
+use Rattle.rec_apply.proofs.Whole.{batch_rises, batch_falls, batch_counts, batch_rests}
+use Rattle.rec_mutator.specs.Private.{Private}
+use Rattle.rec_collector.specs.Given.{IsCovered}
+use Rattle.rec_collector.specs.Private as collectors
+use Rattle.rec_collector.specs.Kept as collector_kept
+use Rattle.rec_collector.specs.declared.phase.Phase.TheVariants.{Returning}
+use Rattle.rec_core.specs.Config.{IsMutator}
+use Rattle.rec_core.specs.Core.{Core, mutator, box, crossing_of, spare_of, nobody}
+use Rattle.rec_core.specs.Kept.{IsBufferOf, Stand, stand_at, HasCrossed, IsHandshake, IsKept}
+use Rattle.rec_core.specs.Pending.{Filed, filed, code, writes_in, births_in, dated_names, dated_all, older_at, applied_at, epoch_at, buffers, writes_of, births_of, snapshots_of, registers_of, pending}
+use Rattle.rec_core.specs.declared.config.Config.{Config}
+use Rattle.rec_core.proofs.Actors.{epoch_here, settled_here}
+use Rattle.rec_core.proofs.Batches.{gain, loss, gain_named, gain_none, loss_named, loss_none, same_at, none_of, sum_parts}
+use Rattle.rec_core.proofs.Counts.{slot_in, accounts_with}
+use Rattle.rec_core.proofs.Moves.{spare_names}
+use Rattle.rec_core.proofs.Sums.{share, log_share, buffers_sum}
+use Rattle.rec_core.proofs.Turns.{now_at, returned_home}
+
+-- a spare adds nothing, and takes nothing
+gain_spare : (config : Config) (epoch node of : ℕ) → gain epoch node of (spare_of config) ≡ 0
+gain_spare config epoch node of = omega (arith, ap (sum_by (is_at epoch node)) (spare_names config of))
+
+loss_spare : (config : Config) (epoch node of : ℕ) → loss epoch node of (spare_of config) ≡ 0
+loss_spare config epoch node of = omega (arith, ap (sum_by (is_at epoch node)) (spare_names config of))
+
+-- there are no more writes in a log than entries, and no more names in a snapshot than registers
+fewer_writes : (es : List Entry) → length (writes_in es) ≤ length es
+fewer_writes [] = omega arith
+fewer_writes (entries.Put place new old ∷ es) = omega (arith, fewer_writes es)
+fewer_writes (entries.Born slot ∷ es) = omega (arith, fewer_writes es)
+
+fewer_names : (epoch : ℕ) (xs : List (Option ℕ)) → length (dated_names epoch xs) ≤ length xs
+fewer_names epoch [] = omega arith
+fewer_names epoch (None ∷ xs) = omega (arith, fewer_names epoch xs)
+fewer_names epoch (Some x ∷ xs) = omega (arith, fewer_names epoch xs)
+
+-- a sum of so many terms that are within a bound
+all_within : {X : Type 0} (f : X → ℕ) (most : ℕ) (xs : List X) (d : X) → ((i : ℕ) → i < length xs → f (slice_index_or xs i d) ≤ most) → sum_by f xs ≤ length xs * most
+all_within f most [] d within = omega arith
+all_within f most (x ∷ xs) d within =
+    let first : f x ≤ most = within 0 (omega arith) in
+    let rest : sum_by f xs ≤ length xs * most = all_within f most xs d (λ i below. within (suc i) (omega arith)) in
+    let product : suc (length xs) * most ≡ length xs * most + most = suc-mul (length xs) most in
+    omega (arith, sum_by-cons f x xs, product)
+
+-- a sum over all buffers, row by row
+rows_sum : (size : Filed → ℕ) (w : Core) → sum_by size (buffers w)
+    ≡ sum_by (λ (p : Private). size (filed (epoch_at p) p.log)) w.mutators + (sum_by (λ (b : Contents). size (filed (w.epoch - 1) b)) w.boxes + (sum_by (λ (b : Contents). size (filed (w.epoch - 1) b)) w.collector.newer + sum_by (λ (b : Contents). size (filed (older_at w.epoch w.collector.phase) b)) w.collector.older))
+rows_sum size w =
+    let logs : List Filed = map (λ (p : Private). filed (epoch_at p) p.log) w.mutators in
+    let boxes : List Filed = map (filed (w.epoch - 1)) w.boxes in
+    let newer : List Filed = map (filed (w.epoch - 1)) w.collector.newer in
+    let older : List Filed = map (filed (older_at w.epoch w.collector.phase)) w.collector.older in
+    omega (
+      arith,
+      sum_by-append size logs (boxes ++ (newer ++ older)),
+      sum_by-append size boxes (newer ++ older),
+      sum_by-append size newer older,
+      sum_by-map size (λ (p : Private). filed (epoch_at p) p.log) w.mutators,
+      sum_by-map size (filed (w.epoch - 1)) w.boxes,
+      sum_by-map size (filed (w.epoch - 1)) w.collector.newer,
+      sum_by-map size (filed (older_at w.epoch w.collector.phase)) w.collector.older,
+    )
+
+-- the limits of a heap, multiplied
+products : (n cap : ℕ) → n ≤ 8 → cap ≤ 262143 → n * cap ≤ 8 * 262143
+products n cap few most = mul-le-mul few most
+
+registers_products : (n cap : ℕ) → n ≤ 8 → cap ≤ 64 → n * cap ≤ 8 * 64
+registers_products n cap few most = mul-le-mul few most
+
+words_products : (slots fields : ℕ) → slots ≤ 65535 → fields ≤ 16 → slots * fields ≤ 65535 * 16
+words_products slots fields few most = mul-le-mul few most
+
+-- registers of a later epoch are of none up to this
+none_late : (epoch late : ℕ) (xs : List (Option ℕ)) → epoch < late → sum_by (is_up_to epoch) (dated_all late xs) ≡ 0
+none_late epoch late [] after = refl
+none_late epoch late (x ∷ xs) after =
+    let first : is_up_to epoch (dated late (code x)) ≡ 0 = ap (λ b. only_if b 1) (lt-leb late epoch after) in
+    omega (arith, sum_by-cons (is_up_to epoch) (dated late (code x)) (dated_all late xs), first, none_late epoch late xs after)
+
+-- an item of a list, by the number of its mutator
+by_number : (n i : ℕ) → i < n → (1 ≤ i + 1) × (i + 1 ≤ n)
+by_number n i below = (omega arith, omega arith)
+
+module _ (w : Core) (t : ℕ) (kept : IsKept w) (phase : w.collector.phase ≡ Returning t) (last : t ≡ length w.collector.newer) where
+  abbrev c : collectors.Private
+  c = w.collector
+
+  many : length c.newer ≡ w.config.mutators
+  many = kept.collector.mutators
+
+  -- the mutator whose mailbox was given back is the last one
+  pub last_is : IsMutator w.config t
+  last_is = let some : 1 ≤ w.config.mutators = kept.config.some_mutators in (omega (arith, many), omega (arith, many))
+
+  -- every mutator has crossed
+  pub crossed : (s : ℕ) → IsMutator w.config s → (HasCrossed w.epoch (mutator w s) (crossing_of w s) 0 ⊎ HasCrossed w.epoch (mutator w s) (crossing_of w s) 3) × (box w s ≡ spare_of w.config)
+  crossed s there = elim (cases_eq s t) [
+    | inl same ↦
+        let home = returned_home w t kept phase last_is in
+        (inr (subst (λ n. HasCrossed w.epoch (mutator w n) (crossing_of w n) 3) (sym same) home.0), ap (box w) same ∙ home.1)
+    | inr other ↦
+        let up : s ≤ t = omega (arith, there.1, many) in
+        let below : s < t = omega arith in
+        let done : stand_at c.phase s ≡ Stand.Done = ap (λ p. stand_at p s) phase ∙ cond-true (nat_lt s t) Stand.Done (if s == t then Stand.Held else Stand.Due) (lt-ltb s t below) in
+        let home : IsHandshake w.config w.epoch (mutator w s) (crossing_of w s) (box w s) Stand.Done = subst (IsHandshake w.config w.epoch (mutator w s) (crossing_of w s) (box w s)) done (kept.mutators.each s there).handshake in
+        (inl home.0, home.1)
+  ]
+
+  pub in_epoch : (s : ℕ) → IsMutator w.config s → epoch_at (mutator w s) ≡ w.epoch
+  in_epoch s there = elim (crossed s there).0 [
+    | inl h ↦ epoch_here (mutator w s) (settled_here (mutator w s).phase h.settled) ∙ h.epoch
+    | inr h ↦ epoch_here (mutator w s) (settled_here (mutator w s).phase h.settled) ∙ h.epoch
+  ]
+
+  pub some_epochs : 2 ≤ w.epoch
+  some_epochs =
+      let first : 1 ≤ w.config.first_epoch = kept.config.some_epoch in
+      let way : collector_kept.under_way c.phase ≡ 1 = ap collector_kept.under_way phase in
+      omega (arith, kept.collector.begun, way)
+
+  older_is : older_at w.epoch c.phase ≡ w.epoch - 2
+  older_is = ap (older_at w.epoch) phase
+
+  applied_is : applied_at w.epoch c.phase ≡ w.epoch - 2
+  applied_is = ap (applied_at w.epoch) phase
+
+  -- each item of the rows
+  log_of : (i : ℕ) → i < length w.mutators → IsBufferOf w.config w.epoch (slice_index_or w.mutators i nobody).log × (epoch_at (slice_index_or w.mutators i nobody) ≡ w.epoch)
+  log_of i below =
+      let all : length w.mutators ≡ w.config.mutators = kept.mutators.many in
+      let is : IsMutator w.config (i + 1) = by_number w.config.mutators i (omega arith) in
+      let at : i + 1 - 1 ≡ i = omega arith in
+      let epoch : epoch_at (mutator w (i + 1)) ≡ w.epoch = in_epoch (i + 1) is in
+      subst (λ n. IsBufferOf w.config w.epoch (slice_index_or w.mutators n nobody).log × (epoch_at (slice_index_or w.mutators n nobody) ≡ w.epoch)) at
+      (subst (λ e. IsBufferOf w.config e (mutator w (i + 1)).log) epoch (kept.mutators.each (i + 1) is).log, epoch)
+
+  box_of : (i : ℕ) → i < length w.boxes → slice_index_or w.boxes i (collectors.blank 0 0) ≡ spare_of w.config
+  box_of i below =
+      let all : length w.boxes ≡ w.config.mutators = kept.mutators.mailboxes in
+      let is : IsMutator w.config (i + 1) = by_number w.config.mutators i (omega arith) in
+      let at : i + 1 - 1 ≡ i = omega arith in
+      ap (λ n. slice_index_or w.boxes n (collectors.blank 0 0)) (sym at) ∙ (crossed (i + 1) is).1
+
+  newer_of : (i : ℕ) → i < length c.newer → IsBufferOf w.config (w.epoch - 1) (slice_index_or c.newer i (collectors.blank 0 0))
+  newer_of i below =
+      let is : IsMutator w.config (i + 1) = by_number w.config.mutators i (omega (arith, many)) in
+      let at : i + 1 - 1 ≡ i = omega arith in
+      subst (λ n. IsBufferOf w.config (w.epoch - 1) (slice_index_or c.newer n (collectors.blank 0 0))) at (kept.collector.newer (i + 1) is)
+
+  older_of : (i : ℕ) → i < length c.older → IsBufferOf w.config (w.epoch - 2) (slice_index_or c.older i (collectors.blank 0 0))
+  older_of i below =
+      let both : length c.older ≡ length c.newer = kept.collector.machine.both in
+      let is : IsMutator w.config (i + 1) = by_number w.config.mutators i (omega (arith, many)) in
+      let at : i + 1 - 1 ≡ i = omega arith in
+      subst (λ n. IsBufferOf w.config (w.epoch - 2) (slice_index_or c.older n (collectors.blank 0 0))) at (subst (λ e. IsBufferOf w.config e (collectors.buffer_at c.older (i + 1 - 1))) older_is (kept.collector.older (i + 1) is))
+
+  -- what is added by the accounts is what the newer buffers add
+  pub added_is : (x : ℕ) → added (pending w) (x + 1) ≡ targets.added x c.newer
+  added_is x =
+      let e : ℕ = w.epoch - 1 in
+      let next : applied_at w.epoch c.phase + 1 ≡ e = omega (arith, applied_is, some_epochs) in
+      let of_writes : Filed → List Write = λ b. writes_in b.buffer.entries in
+      let of_names : Filed → List Dated = λ b. dated_names b.epoch b.buffer.snapshot in
+      omega (
+        arith,
+        ap (λ n. sum_by (puts_in n (x + 1)) (writes_of w) + sum_by (is_at n (x + 1)) (snapshots_of w)) next,
+        buffers_sum (puts_in e (x + 1)) of_writes w,
+        buffers_sum (is_at e (x + 1)) of_names w,
+        sum_parts (log_share (puts_in e (x + 1)) of_writes) (log_share (is_at e (x + 1)) of_names) w.mutators,
+        sum_parts (share (puts_in e (x + 1)) of_writes e) (share (is_at e (x + 1)) of_names e) w.boxes,
+        sum_parts (share (puts_in e (x + 1)) of_writes e) (share (is_at e (x + 1)) of_names e) c.newer,
+        sum_parts (share (puts_in e (x + 1)) of_writes (older_at w.epoch c.phase)) (share (is_at e (x + 1)) of_names (older_at w.epoch c.phase)) c.older,
+        none_of (λ (p : Private). gain e (x + 1) (epoch_at p) p.log) w.mutators nobody (λ i below.
+            let l = log_of i below in
+            ap (λ n. gain e (x + 1) n (slice_index_or w.mutators i nobody).log) l.1 ∙ gain_none w.config e w.epoch (x + 1) (slice_index_or w.mutators i nobody).log (λ same. omega (arith, same, some_epochs)) l.0),
+        none_of (λ (b : Contents). gain e (x + 1) e b) w.boxes (collectors.blank 0 0) (λ i below. ap (gain e (x + 1) e) (box_of i below) ∙ gain_spare w.config e (x + 1) e),
+        same_at (λ (b : Contents). gain e (x + 1) e b) (λ (b : Contents). targets.named x (map targets.new_target b.entries) + targets.named x b.snapshot) c.newer (collectors.blank 0 0)
+            (λ i below. gain_named w.config e x (slice_index_or c.newer i (collectors.blank 0 0)) (newer_of i below)),
+        none_of (λ (b : Contents). gain e (x + 1) (older_at w.epoch c.phase) b) c.older (collectors.blank 0 0) (λ i below.
+            ap (λ n. gain e (x + 1) n (slice_index_or c.older i (collectors.blank 0 0))) older_is ∙ gain_none w.config e (w.epoch - 2) (x + 1) (slice_index_or c.older i (collectors.blank 0 0)) (λ same. omega (arith, same, some_epochs)) (older_of i below)),
+      )
+
+  -- what is taken off by the accounts is what the older buffers take
+  pub taken_is : (x : ℕ) → taken (pending w) (x + 1) ≡ targets.taken x c.older
+  taken_is x =
+      let e : ℕ = w.epoch - 2 in
+      let of_writes : Filed → List Write = λ b. writes_in b.buffer.entries in
+      let of_births : Filed → List Dated = λ b. births_in b.epoch b.buffer.entries in
+      let of_names : Filed → List Dated = λ b. dated_names b.epoch b.buffer.snapshot in
+      let o : ℕ = older_at w.epoch c.phase in
+      let l : ℕ = w.epoch - 1 in
+      omega (
+        arith,
+        ap (λ n. sum_by (replaces_in n (x + 1)) (writes_of w) + sum_by (is_at n (x + 1)) (births_of w) + sum_by (is_at n (x + 1)) (snapshots_of w)) applied_is,
+        buffers_sum (replaces_in e (x + 1)) of_writes w,
+        buffers_sum (is_at e (x + 1)) of_births w,
+        buffers_sum (is_at e (x + 1)) of_names w,
+        sum_parts (λ (p : Private). log_share (replaces_in e (x + 1)) of_writes p + log_share (is_at e (x + 1)) of_births p) (log_share (is_at e (x + 1)) of_names) w.mutators,
+        sum_parts (log_share (replaces_in e (x + 1)) of_writes) (log_share (is_at e (x + 1)) of_births) w.mutators,
+        sum_parts (λ (b : Contents). share (replaces_in e (x + 1)) of_writes l b + share (is_at e (x + 1)) of_births l b) (share (is_at e (x + 1)) of_names l) w.boxes,
+        sum_parts (share (replaces_in e (x + 1)) of_writes l) (share (is_at e (x + 1)) of_births l) w.boxes,
+        sum_parts (λ (b : Contents). share (replaces_in e (x + 1)) of_writes l b + share (is_at e (x + 1)) of_births l b) (share (is_at e (x + 1)) of_names l) c.newer,
+        sum_parts (share (replaces_in e (x + 1)) of_writes l) (share (is_at e (x + 1)) of_births l) c.newer,
+        sum_parts (λ (b : Contents). share (replaces_in e (x + 1)) of_writes o b + share (is_at e (x + 1)) of_births o b) (share (is_at e (x + 1)) of_names o) c.older,
+        sum_parts (share (replaces_in e (x + 1)) of_writes o) (share (is_at e (x + 1)) of_births o) c.older,
+        none_of (λ (p : Private). loss e (x + 1) (epoch_at p) p.log) w.mutators nobody (λ i below.
+            let own = log_of i below in
+            ap (λ n. loss e (x + 1) n (slice_index_or w.mutators i nobody).log) own.1 ∙ loss_none w.config e w.epoch (x + 1) (slice_index_or w.mutators i nobody).log (λ same. omega (arith, same, some_epochs)) own.0),
+        none_of (λ (b : Contents). loss e (x + 1) l b) w.boxes (collectors.blank 0 0) (λ i below. ap (loss e (x + 1) l) (box_of i below) ∙ loss_spare w.config e (x + 1) l),
+        none_of (λ (b : Contents). loss e (x + 1) l b) c.newer (collectors.blank 0 0)
+            (λ i below. loss_none w.config e l (x + 1) (slice_index_or c.newer i (collectors.blank 0 0)) (λ same. omega (arith, same, some_epochs)) (newer_of i below)),
+        same_at (λ (b : Contents). loss e (x + 1) o b) (λ (b : Contents). targets.named x (map targets.old_target b.entries) + targets.named x b.snapshot) c.older (collectors.blank 0 0)
+            (λ i below. ap (λ n. loss e (x + 1) n (slice_index_or c.older i (collectors.blank 0 0))) older_is ∙ loss_named w.config e x (slice_index_or c.older i (collectors.blank 0 0)) (older_of i below)),
+      )
+
+  -- a slot that isn't there is free, so nothing names it
+  none_past : (x : ℕ) → w.config.slots ≤ x → (targets.added x c.newer ≡ 0) × (targets.taken x c.older ≡ 0)
+  none_past x past =
+      let headers : length w.headers ≡ w.config.slots = kept.headers in
+      let free : (pending w).free (x + 1) ≡ true = ap (λ n. n == 0) (get_or_past w.headers (x + 1 - 1) 0 (omega arith)) ∙ eq-eqb 0 0 refl in
+      let dead : is_dead (pending w) (x + 1) ≡ true = ap (λ (b : Bool). if b then true else (pending w).released (x + 1)) free in
+      let none = unnamed_uncounted (pending w) (x + 1) (kept.accounted.unnamed (x + 1) (omega arith) dead) in
+      (sym (added_is x) ∙ none.0, sym (taken_is x) ∙ none.1)
+
+  slots_are : length c.counts.slots ≡ w.config.slots
+  slots_are = kept.collector.slots
+
+  -- the count of a slot, by its node
+  count_of : (x : ℕ) → x < w.config.slots → (pending w).count (x + 1) ≡ (slot_at c.counts x).count
+  count_of x below =
+      let at : x + 1 - 1 ≡ x = omega arith in
+      ap (λ (n : ℕ). (slice_index_or c.counts.slots n fresh).count) at ∙ ap (λ (v : Slot). v.count) (get_or_default c.counts.slots x fresh absent (omega (arith, slots_are)))
+
+  -- how much there is at most to count
+  few_writes : length (writes_of w) ≤ 32 * 262143
+  few_writes =
+      let mutators : length w.mutators ≡ w.config.mutators = kept.mutators.many in
+      let boxes : length w.boxes ≡ w.config.mutators = kept.mutators.mailboxes in
+      let both : length c.older ≡ length c.newer = kept.collector.machine.both in
+      let eight : w.config.mutators ≤ 8 = kept.config.few_mutators in
+      let size : Filed → ℕ = λ b. length (writes_in b.buffer.entries) in
+      let cap : ℕ = w.config.log_entries in
+      omega (
+        arith,
+        length-flat_map (λ (b : Filed). writes_in b.buffer.entries) (buffers w),
+        rows_sum size w,
+        all_within (λ (p : Private). size (filed (epoch_at p) p.log)) cap w.mutators nobody (λ i below. log_within (log_of i below).0),
+        all_within (λ (b : Contents). size (filed (w.epoch - 1) b)) cap w.boxes (collectors.blank 0 0) (λ i below. let is : size (filed (w.epoch - 1) (slice_index_or w.boxes i (collectors.blank 0 0))) ≡ 0 = ap (λ (b : Contents). length (writes_in b.entries)) (box_of i below) in omega (arith, is)),
+        all_within (λ (b : Contents). size (filed (w.epoch - 1) b)) cap c.newer (collectors.blank 0 0) (λ i below. log_within (newer_of i below)),
+        all_within (λ (b : Contents). size (filed (older_at w.epoch c.phase) b)) cap c.older (collectors.blank 0 0) (λ i below. log_within (older_of i below)),
+        products w.config.mutators cap eight kept.config.few_log_entries,
+        ap (λ n. n * cap) (sym mutators),
+        ap (λ n. n * cap) (sym boxes),
+        ap (λ n. n * cap) (sym many),
+        ap (λ n. n * cap) (sym (both ∙ many)),
+      )
+    where
+      log_within : {e : ℕ} {b : Contents} → IsBufferOf w.config e b → length (writes_in b.entries) ≤ w.config.log_entries
+      log_within {e} {b} is = let capacity : b.capacity ≡ w.config.log_entries = is.capacity in omega (arith, fewer_writes b.entries, is.few)
+
+  few_names : length (snapshots_of w) ≤ 32 * 64
+  few_names =
+      let mutators : length w.mutators ≡ w.config.mutators = kept.mutators.many in
+      let boxes : length w.boxes ≡ w.config.mutators = kept.mutators.mailboxes in
+      let both : length c.older ≡ length c.newer = kept.collector.machine.both in
+      let eight : w.config.mutators ≤ 8 = kept.config.few_mutators in
+      let size : Filed → ℕ = λ b. length (dated_names b.epoch b.buffer.snapshot) in
+      let cap : ℕ = w.config.registers in
+      omega (
+        arith,
+        length-flat_map (λ (b : Filed). dated_names b.epoch b.buffer.snapshot) (buffers w),
+        rows_sum size w,
+        all_within (λ (p : Private). size (filed (epoch_at p) p.log)) cap w.mutators nobody (λ i below. names_within (epoch_at (slice_index_or w.mutators i nobody)) (log_of i below).0),
+        all_within (λ (b : Contents). size (filed (w.epoch - 1) b)) cap w.boxes (collectors.blank 0 0)
+            (λ i below. let is : size (filed (w.epoch - 1) (slice_index_or w.boxes i (collectors.blank 0 0))) ≡ 0 = ap (λ (b : Contents). length (dated_names (w.epoch - 1) b.snapshot)) (box_of i below) ∙ ap length (spare_names w.config (w.epoch - 1)) in omega (arith, is)),
+        all_within (λ (b : Contents). size (filed (w.epoch - 1) b)) cap c.newer (collectors.blank 0 0) (λ i below. names_within (w.epoch - 1) (newer_of i below)),
+        all_within (λ (b : Contents). size (filed (older_at w.epoch c.phase) b)) cap c.older (collectors.blank 0 0) (λ i below. names_within (older_at w.epoch c.phase) (older_of i below)),
+        registers_products w.config.mutators cap eight kept.config.few_registers,
+        ap (λ n. n * cap) (sym mutators),
+        ap (λ n. n * cap) (sym boxes),
+        ap (λ n. n * cap) (sym many),
+        ap (λ n. n * cap) (sym (both ∙ many)),
+      )
+    where
+      names_within : {e : ℕ} {b : Contents} (o : ℕ) → IsBufferOf w.config e b → length (dated_names o b.snapshot) ≤ w.config.registers
+      names_within {e} {b} o is = omega (arith, fewer_names o b.snapshot, is.snapshot)
+
+  few_words : length w.words ≤ 65535 * 16
+  few_words =
+      let places : length w.words ≡ length w.headers * w.config.fields = kept.sound.places in
+      let headers : length w.headers ≡ w.config.slots = kept.headers in
+      omega (arith, ap (λ n. n * w.config.fields) headers, words_products w.config.slots w.config.fields kept.config.few_slots kept.config.few_fields)
+
+  -- the batch may be made: it names slots that are there, passes no greatest count, and takes none below zero
+  pub covered : IsCovered c.counts c.newer c.older
+  covered = record {
+    in_range = λ x past. let none = none_past x (omega (arith, past, slots_are)) in omega (arith, none.0, none.1);
+    fits = λ x. elim (cases_lt x w.config.slots) [
+      | inl below ↦ omega (arith, counts_bounded (pending w) kept.accounted (x + 1) (omega arith), count_of x below, added_is x, few_writes, few_names, few_words)
+      | inr past ↦
+          let none = none_past x past in
+          let absent_is : slot_at c.counts x ≡ absent = get_or_past c.counts.slots x absent (omega (arith, past, slots_are)) in
+          omega (arith, none.0, ap (λ (v : Slot). v.count) absent_is)
+    ];
+    covered = λ x. elim (cases_lt x w.config.slots) [
+      | inl below ↦ omega (arith, batch_covered (pending w) (x + 1) kept.accounted.epochs kept.accounted.ledger kept.accounted.late (omega arith), count_of x below, added_is x, taken_is x)
+      | inr past ↦ let none = none_past x past in omega (arith, none.1)
+    ];
+  }
+
+  -- what the batch makes of the counts
+  abbrev pub counted : State
+  counted = batch c.counts c.newer c.older
+
+  rises : CanRise c.counts (flat_map up_targets c.newer)
+  rises = batch_rises c.counts c.newer c.older covered.in_range covered.fits
+
+  zeros_before : c.counts.zeros ≡ []
+  zeros_before = (now_at w (Returning t) kept phase).rest.zeros
+
+  pub falls : CanFall (all_up c.counts (flat_map up_targets c.newer)) (flat_map down_targets c.older)
+  falls = batch_falls c.counts c.newer c.older zeros_before rises covered.covered
+
+  pub counted_rest : KeepsRest c.counts counted
+  counted_rest = batch_rests c.counts c.newer c.older
+
+  pub counted_zeros : AreZeros counted
+  counted_zeros = fall_zeros_all (all_up c.counts (flat_map up_targets c.newer)) (flat_map down_targets c.older) falls.zeros
+
+  -- no register is of an epoch that is applied
+  all_crossed : sum_by (is_up_to (applied_at w.epoch c.phase + 1)) (registers_of w) ≡ 0
+  all_crossed =
+      let all : length w.mutators ≡ w.config.mutators = kept.mutators.many in
+      let next : applied_at w.epoch c.phase + 1 ≡ w.epoch - 1 = omega (arith, applied_is, some_epochs) in
+      ap (λ n. sum_by (is_up_to n) (registers_of w)) next
+      ∙ sum_by-flat_map (is_up_to (w.epoch - 1)) (λ (p : Private). dated_all (epoch_at p) p.registers) w.mutators
+      ∙ none_of (λ (p : Private). sum_by (is_up_to (w.epoch - 1)) (dated_all (epoch_at p) p.registers)) w.mutators nobody (λ i below.
+      let l = log_of i below in
+      ap (λ e. sum_by (is_up_to (w.epoch - 1)) (dated_all e (slice_index_or w.mutators i nobody).registers)) l.1
+      ∙ none_late (w.epoch - 1) w.epoch (slice_index_or w.mutators i nobody).registers (omega (arith, some_epochs)))
+
+  -- the batch is one of the accounts
+  pub applies : Applies (pending w) (record (accounts_with (pending w) w.words counted) { applied = w.epoch - 1 })
+  applies = record {
+    asked = omega (arith, applied_is, some_epochs);
+    crossed = all_crossed;
+    counts = counts_move;
+    fields = refl;
+    applied = omega (arith, applied_is, some_epochs);
+    requested = refl;
+    words = λ weight. refl;
+    logs = record { writes = λ weight. refl; births = λ weight. refl; snapshots = λ weight. refl };
+    registers = λ weight. refl;
+    free = λ x _. refl;
+    released = λ x _. elim (cases_lt (x - 1) w.config.slots) [
+      | inl below ↦
+          let old : slot_in c.counts x ≡ slot_at c.counts (x - 1) = get_or_default c.counts.slots (x - 1) fresh absent (omega (arith, slots_are)) in
+          let new : slot_in counted x ≡ slot_at counted (x - 1) = get_or_default counted.slots (x - 1) fresh absent (omega (arith, slots_are, counted_rest.slots)) in
+          ap (λ (v : Slot). v.released) new ∙ counted_rest.released (x - 1) ∙ ap (λ (v : Slot). v.released) (sym old)
+      | inr past ↦
+          let old : slot_in c.counts x ≡ fresh = get_or_past c.counts.slots (x - 1) fresh (omega (arith, past, slots_are)) in
+          let new : slot_in counted x ≡ fresh = get_or_past counted.slots (x - 1) fresh (omega (arith, past, slots_are, counted_rest.slots)) in
+          ap (λ (v : Slot). v.released) (new ∙ sym old)
+    ];
+  }
+    where
+      counts_move : (node : ℕ) → 0 < node → (slot_in counted node).count + taken (pending w) node ≡ (slot_in c.counts node).count + added (pending w) node
+      counts_move node pos =
+          let x : ℕ = node - 1 in
+          let is : node ≡ x + 1 = omega arith in
+          elim (cases_lt x w.config.slots) [
+            | inl below ↦ omega (
+              arith,
+              batch_counts c.counts c.newer c.older rises falls x,
+              ap (taken (pending w)) is,
+              ap (added (pending w)) is,
+              taken_is x,
+              added_is x,
+              ap (λ (v : Slot). v.count) (get_or_default c.counts.slots x fresh absent (omega (arith, slots_are))),
+              ap (λ (v : Slot). v.count) (get_or_default counted.slots x fresh absent (omega (arith, slots_are, counted_rest.slots))),
+            )
+            | inr past ↦ omega (
+              arith,
+              (none_past x past).0,
+              (none_past x past).1,
+              ap (taken (pending w)) is,
+              ap (added (pending w)) is,
+              taken_is x,
+              added_is x,
+              ap (λ (v : Slot). v.count) (get_or_past c.counts.slots x fresh (omega (arith, past, slots_are))),
+              ap (λ (v : Slot). v.count) (get_or_past counted.slots x fresh (omega (arith, past, slots_are, counted_rest.slots))),
+            )
+          ]

@@ -1,0 +1,114 @@
+-- The batch is applied, and the first of its zeros is released: the tests of the sets that waited for it begin.
+use Rattle.std.proofs.Common.{◌≡◌, inl, inr, ℕ, ◌+◌, ◌-◌, ◌<◌, ◌≤◌, ◌==◌, nat_lt, if◌then◌else◌, true, false, length, slice_set, refl, sym, ap, subst, ◌∙◌, arith}
+use Rattle.std.specs.List.{concat}
+use Rattle.std.proofs.lemmas.Bool.{cases_lt, cond-true, false≢true, lt-ltb}
+use Rattle.std.proofs.lemmas.List.{get_or_past}
+use Rattle.rec_word.specs.Op.{crossing_word}
+use Rattle.rec_model.specs.Moves.{Move}
+use Rattle.rec_model.proofs.Consequences.{move_uncounted}
+use Rattle.rec_model.proofs.Moving.{move_accounted}
+use Rattle.rec_counts.specs.Counts.{State, slot_at, IsKept as IsKeptCounts}
+use Rattle.rec_counts.specs.Lists.{one, times}
+use Rattle.rec_counts.specs.Slot.{absent}
+use Rattle.rec_counts.specs.declared.slot.Slot.{Slot}
+use Rattle.rec_counts.proofs.Times.{times-nil}
+use Rattle.rec_release.specs.Release.{IsReady}
+use Rattle.rec_collector.specs.Clearing.{IsClearing}
+use Rattle.rec_collector.specs.Kept as collector_kept
+use Rattle.rec_collector.specs.Parts.{Parts}
+use Rattle.rec_collector.specs.Private as collectors
+use Rattle.rec_collector.specs.Private.{parts_of}
+use Rattle.rec_collector.specs.Testing.{zeros_released}
+use Rattle.rec_collector.specs.declared.phase.Phase.TheVariants.{Returning, Releasing}
+use Rattle.rec_collector.proofs.Batched.{batched_clear, resting_clear}
+use Rattle.rec_collector.proofs.Clearing.{zeros_clear}
+use Rattle.rec_collector.proofs.Counting.{batch_kept}
+use Rattle.rec_core.specs.Config.{IsMutator}
+use Rattle.rec_core.specs.Core.{Core}
+use Rattle.rec_core.specs.CyclesAt.{HasCyclesAt}
+use Rattle.rec_core.specs.Kept.{Stand, stand_at, one_if_sweeping, IsKept}
+use Rattle.rec_core.specs.Pending.{older_at, pending}
+use Rattle.rec_core.proofs.Applying.{last_is, counted, counted_rest, counted_zeros, falls, added_is, applies}
+use Rattle.rec_core.proofs.Counts.{counted_slot}
+use Rattle.rec_core.proofs.CyclesBatch.{is_batch_of, sets_test_begun}
+use Rattle.rec_core.proofs.Landed.{landed_pending, HasCleared}
+use Rattle.rec_core.proofs.Turns.{now_at, returned_mutators}
+use Rattle.rec_core.proofs.Zeros.{HasCome, cleared, zeros_come}
+
+-- a member of a set is a slot that is there
+member_there : (s : State) (x : ℕ) → IsKeptCounts s → 0 < times x (concat s.sets) → x < length s.slots
+member_there s x k member = elim (cases_lt x (length s.slots)) [
+  | inl below ↦ below
+  | inr past ↦ absurd (omega (arith, member, k.buffers x, ap (λ (v : Slot). one v.buffered) (get_or_past s.slots x absent past)))
+]
+
+module _ (w : Core) (t : ℕ) (kept : IsKept w) (phase : w.collector.phase ≡ Returning t) (last : t ≡ length w.collector.newer) where
+  abbrev c : collectors.Private
+  c = w.collector
+
+  -- the counts then, and the parts
+  abbrev s : State
+  s = counted w t kept phase last
+
+  abbrev pub batched : Parts
+  batched = record (parts_of c) { counts = s }
+
+  -- nothing was at work before
+  rest : collector_kept.IsAtRest c
+  rest = (now_at w (Returning t) kept phase).rest
+
+  slots : length c.counts.slots ≡ w.config.slots
+  slots = kept.collector.slots
+
+  ready : IsReady s
+  ready = record { zeros = counted_zeros w t kept phase last; free = λ x there. absurd (omega (arith, there, ap (times x) ((counted_rest w t kept phase last).free ∙ rest.free), times-nil x)) }
+
+  unreleased : (x : ℕ) → x < w.config.slots → (slot_at s x).released ≡ true → ⊥
+  unreleased x below is = false≢true (sym (rest.none x (omega (arith, below, slots))) ∙ sym ((counted_rest w t kept phase last).released x) ∙ is)
+
+  -- the members of the sets are not released
+  alive : (x : ℕ) → 0 < times x (concat c.counts.sets) → (pending w).released (x + 1) ≡ false
+  alive x member =
+      let there : x < length c.counts.slots = member_there c.counts x kept.collector.machine.counts member in
+      ap (λ (v : Slot). v.released) (counted_slot c.counts x there) ∙ rest.none x there
+
+  pub batch_comes : HasCome w (slice_set w.crossing (t - 1) (crossing_word w.epoch 0)) w.words batched
+  batch_comes =
+      let is : IsMutator w.config t = last_is w t kept phase last in
+      let move = Move.batch (applies w t kept phase last) in
+      let many : length c.newer ≡ w.config.mutators = kept.collector.mutators in
+      record {
+        landed = record {
+          kept = kept;
+          way = ap collector_kept.under_way phase;
+          still = ap one_if_sweeping phase;
+          older = ap (older_at w.epoch) phase;
+          mutators = returned_mutators w t kept phase is {next = Releasing} refl (λ s_ there other.
+              let up : s_ ≤ t = omega (arith, there.1, many) in
+              sym (ap (λ q. stand_at q s_) phase ∙ cond-true (nat_lt s_ t) Stand.Done (if s_ == t then Stand.Held else Stand.Due) (lt-ltb s_ t (omega arith))));
+          accounted = move_accounted move kept.accounted;
+          uncounted = λ _. move_uncounted move kept.accounted (kept.uncounted rest.unfreed);
+          sound = kept.sound;
+          many_words = refl;
+          slots = (counted_rest w t kept phase last).slots ∙ slots;
+          fields = kept.collector.fields;
+          freeing_fields = kept.collector.machine.freeing_fields ∙ kept.collector.fields;
+          trial_fields = kept.collector.machine.trial_fields ∙ kept.collector.fields;
+          prep_fields = kept.collector.machine.prep_fields ∙ kept.collector.fields;
+          counts = batch_kept c.counts c.newer c.older (falls w t kept phase last) kept.collector.machine.counts;
+          listed = ready.free;
+          emptied = λ x f below within released. absurd (unreleased x below released);
+        };
+        tests = sets_test_begun (pending w) (landed_pending w w.words s) c.counts s kept.accounted (applies w t kept phase last) alive (is_batch_of (pending w) c.counts c.newer c.older (added_is w t kept phase last))
+            (subst (HasCyclesAt (pending w) c) phase kept.cycles);
+      }
+
+  -- nothing is at work on the counts that the batch made
+  batch_clear : IsClearing batched
+  batch_clear =
+      let before : IsClearing (parts_of c) = resting_clear (parts_of c) rest.untried rest.idle rest.unprepared rest.apart rest.none rest.counted rest.outside rest.zeros rest.free rest.work rest.still rest.unfreed in
+      batched_clear (parts_of c) c.newer c.older (falls w t kept phase last) rest.still rest.unfreed before
+
+  -- The batch is applied, and the first of its zeros is released.
+  pub applied_lands : HasCleared w (slice_set w.crossing (t - 1) (crossing_word w.epoch 0)) w.words (zeros_released false batched)
+  applied_lands = cleared (zeros_come false batch_comes rest.still rest.unfreed ready) (zeros_clear false batched kept.collector.machine.fields rest.still rest.unfreed batch_clear)

@@ -1,0 +1,191 @@
+-- What a trial at work keeps, over moves and from word to word.
+use Rattle.std.proofs.Common.{◌≡◌, inl, inr, ℕ, ◌+◌, ◌*◌, ◌/◌, ◌%◌, ◌<◌, ◌≤◌, true, false, eqb, cond, None, Some, List, [], ◌∷◌, length, map, refl, sym, ap, subst, ◌∙◌, arith}
+use Rattle.std.proofs.lemmas.Bool.{cases_eq}
+use Rattle.std.proofs.lemmas.Bool.Decides.{nat_tests, eqb_tells}
+use Rattle.std.proofs.lemmas.List.Sums.{sum_by-cons}
+use Rattle.std.proofs.lemmas.Nat.{div-mul-add, mod-mul-add}
+use Rattle.rec_word.specs.Place.{place_of}
+use Rattle.rec_word.specs.declared.op.Op.TheVariants.{LoadChild}
+use Rattle.rec_counts.specs.Counts.{State}
+use Rattle.rec_counts.specs.Lists.{one}
+use Rattle.rec_model.specs.Sums.{one_if_same}
+use Rattle.rec_model.specs.Pending.{node_of, Pending, word_in}
+use Rattle.rec_model.specs.References.{closed_at}
+use Rattle.rec_model.specs.Moves.Move.{put, register, birth, crossing, request, batch, release, clearing, freeing, dropping}
+use Rattle.rec_model.specs.Moves.{Move}
+use Rattle.rec_model.specs.Accounted.{IsAccounted}
+use Rattle.rec_model.specs.Sets.{HasLoaded, with_load, IsAfterLoads}
+use Rattle.rec_model.proofs.Weights.{only_if-le, one_if_self}
+use Rattle.rec_model.proofs.Loading.{same_length, replaced_length, nothing_loaded, move_loaded, load_loaded, loaded_replaced, move_replaced}
+use Rattle.rec_trial.specs.declared.phase.Phase.{Phase}
+use Rattle.rec_trial.specs.declared.phase.Phase.TheVariants.{Idle, Marking, Scanning, Collecting}
+use Rattle.rec_trial.specs.Loaded.{Load, Run, load_of, noted_at, noted}
+use Rattle.rec_trial.specs.Promised.{IsTrial, unloaded}
+use Rattle.rec_trial.specs.Tried.{is_of, loaded}
+use Rattle.rec_trial.specs.Trial.{Machine, Work, next_of}
+use Rattle.rec_trial.proofs.Course.{first_view}
+use Rattle.rec_trial.proofs.Holding.{inv_at}
+use Rattle.rec_trial.proofs.Runs.{Told, seen_of, told_run}
+use Rattle.rec_trial.proofs.Views.{view}
+use Rattle.rec_core.specs.Cycles.{TrialStands, word_loaded}
+
+-- where blackening loaded a field that had another target by then, the word that marking loaded there was replaced
+abbrev AreReplaced : Pending → (fields : ℕ) → (marking blackening : List Load) → Type 0
+AreReplaced w fields marking blackening =
+    (place node : ℕ) → place < length w.words → 0 < node → 0 < loaded (place / fields) (place % fields) blackening → one_if_same node (node_of (word_loaded fields marking place)) ≤ closed_at w (w.applied + 1) place node + one_if_same node (node_of (word_loaded fields blackening place))
+
+none_loaded : (x g : ℕ) → loaded x g [] ≡ 0
+unfolding loaded
+none_loaded x g = refl
+
+loaded_more : (x g : ℕ) (l : Load) (loads : List Load) → loaded x g (l ∷ loads) ≡ one (is_of x g l) + loaded x g loads
+unfolding loaded
+loaded_more x g l loads = sum_by-cons (λ k. one (is_of x g k)) l loads
+
+-- where blackening loaded nothing
+none_replaced : (w : Pending) (fields : ℕ) (marking : List Load) → AreReplaced w fields marking []
+none_replaced w fields marking place node inside pos l = absurd (omega (arith, l, none_loaded (place / fields) (place % fields)))
+
+pub trial_stands_begun : (w : Pending) (k : Work) → TrialStands w (unloaded k)
+trial_stands_begun w k = record { marks = nothing_loaded w; blacks = none_replaced w w.fields [] }
+
+-- no move changes how many fields an object has, nor how many there are
+move_fields : {w v : Pending} → Move w v → v.fields ≡ w.fields
+move_fields (put s) = s.epochs.fields
+move_fields (register s) = s.epochs.fields
+move_fields (birth s) = s.epochs.fields
+move_fields (crossing s) = s.epochs.fields
+move_fields (request s) = s.fields
+move_fields (batch s) = s.fields
+move_fields (release s) = s.epochs.fields
+move_fields (clearing s) = s.epochs.fields
+move_fields (freeing s) = s.epochs.fields
+move_fields (dropping s) = s.epochs.fields
+
+move_places : {w v : Pending} → Move w v → length v.words ≡ length w.words
+move_places {w} {v} (put {epoch} {place} {new} s) = replaced_length w.words v.words place (word_in w place) new s.words
+move_places {w} {v} (register s) = same_length w.words v.words s.words
+move_places {w} {v} (birth s) = same_length w.words v.words s.words
+move_places {w} {v} (crossing s) = same_length w.words v.words s.words
+move_places {w} {v} (request s) = same_length w.words v.words s.words
+move_places {w} {v} (batch s) = same_length w.words v.words s.words
+move_places {w} {v} (release s) = same_length w.words v.words s.words
+move_places {w} {v} (clearing {place} s) = replaced_length w.words v.words place (word_in w place) 0 s.words
+move_places {w} {v} (freeing s) = same_length w.words v.words s.words
+move_places {w} {v} (dropping s) = same_length w.words v.words s.words
+
+pub trial_stands_moved : {w v : Pending} (r : Run) (m : Move w v) → IsAfterLoads m → IsAccounted w → TrialStands w r → TrialStands v r
+trial_stands_moved {w} {v} r m after i t = record {
+  marks = subst (λ f. HasLoaded v (word_loaded f r.marking)) (sym (move_fields m)) (move_loaded (word_loaded w.fields r.marking) m after i.epochs t.marks);
+  blacks = subst (λ f. AreReplaced v f r.marking r.blackening) (sym (move_fields m)) (λ place node inside pos l. omega (arith, t.blacks place node (omega (arith, inside, move_places m)) pos l, move_replaced place node m after));
+}
+
+-- a place is that of a slot's field exactly where it divides into them
+same_cell : (fields slot g p : ℕ) → g < fields → cond (eqb (p / fields) slot) (eqb (p % fields) g) false ≡ eqb p (place_of slot g fields)
+same_cell fields slot g p h = elim (eqb_tells p (place_of slot g fields)) [
+  | inl q ↦ rw (q.0, ap (λ k. k / fields) q.1 ∙ div-mul-add slot fields g h, ap (λ k. k % fields) q.1 ∙ mod-mul-add slot fields g h) (both slot g)
+  | inr q ↦ rw q.0 (neither (p / fields) (p % fields) (λ d m. q.1 (whole d m)))
+]
+  where
+    both : (a b : ℕ) → cond (eqb a a) (eqb b b) false ≡ true
+    both a b = grind (arith, nat_tests)
+
+    neither : (a b : ℕ) → (a ≡ slot → b ≡ g → ⊥) → cond (eqb a slot) (eqb b g) false ≡ false
+    neither a b n = grind (arith, nat_tests, n)
+
+    whole : p / fields ≡ slot → p % fields ≡ g → p ≡ place_of slot g fields
+    whole d m =
+        let parts : p ≡ (p / fields) * fields + p % fields = omega (arith, h) in
+        let named : (p / fields) * fields + p % fields ≡ slot * fields + g = rw (d, m) refl in
+        parts ∙ named
+
+-- one load more
+word_more : (fields : ℕ) (l : Load) (loads : List Load) (p : ℕ) → l.field < fields → word_loaded fields (l ∷ loads) p ≡ with_load (word_loaded fields loads) (place_of l.slot l.field fields) l.word p
+word_more fields l loads p h = ap (λ b. cond b l.word (word_loaded fields loads p)) (same_cell fields l.slot l.field p h)
+
+-- what was loaded is known by its targets
+has_same_loads : (w : Pending) (load more : ℕ → ℕ) → ((p : ℕ) → more p ≡ load p) → HasLoaded w load → HasLoaded w more
+has_same_loads w load more e h p z inside pos = rw (e p) (h p z inside pos)
+
+-- what marking loaded, with one word more
+marks_more : (w : Pending) (l : Load) (loads : List Load) → IsAccounted w → w.applied + 1 ≡ w.requested → l.field < w.fields → place_of l.slot l.field w.fields < length w.words → l.word ≡ word_in w (place_of l.slot l.field w.fields) → HasLoaded w (word_loaded w.fields loads) → HasLoaded w (word_loaded w.fields (l ∷ loads))
+marks_more w l loads i done h inside is t =
+    let load : ℕ → ℕ = word_loaded w.fields loads in
+    let place : ℕ = place_of l.slot l.field w.fields in
+    has_same_loads w (with_load load place (word_in w place)) (word_loaded w.fields (l ∷ loads)) (λ p. word_more w.fields l loads p h ∙ ap (λ k. with_load load place k p) is) (load_loaded w load place i.epochs done inside t)
+
+-- what marking loaded from a field stands there still, or was replaced
+stands_or_replaced : (w : Pending) (load : ℕ → ℕ) (p z : ℕ) → p < length w.words → 0 < z → HasLoaded w load → one_if_same z (node_of (load p)) ≤ closed_at w (w.applied + 1) p z + one_if_same z (node_of (word_in w p))
+stands_or_replaced w load p z inside pos h = elim (cases_eq (node_of (word_in w p)) z) [
+  | inl e ↦ rw e (omega (arith, only_if-le (eqb z (node_of (load p))) 1, one_if_self z))
+  | inr e ↦ omega (arith, loaded_replaced w load p z inside pos e h)
+]
+
+-- what blackening loaded, with one word more
+blacks_more : (w : Pending) (l : Load) (marking loads : List Load) → l.field < w.fields → l.word ≡ word_in w (place_of l.slot l.field w.fields) → HasLoaded w (word_loaded w.fields marking) → AreReplaced w w.fields marking loads → AreReplaced w w.fields marking (l ∷ loads)
+blacks_more w l marking loads h is t b place node inside pos more = elim (eqb_tells place (place_of l.slot l.field w.fields)) [
+  | inl q ↦ rw (here q.0 q.1) (stands_or_replaced w (word_loaded w.fields marking) place node inside pos t)
+  | inr q ↦ rw (other q.0) (b place node inside pos (omega (arith, more, loaded_more (place / w.fields) (place % w.fields) l loads, ap one (same_cell w.fields l.slot l.field place h ∙ q.0))))
+]
+  where
+    here : eqb place (place_of l.slot l.field w.fields) ≡ true → place ≡ place_of l.slot l.field w.fields → word_loaded w.fields (l ∷ loads) place ≡ word_in w place
+    here e same = word_more w.fields l loads place h ∙ ap (λ c. cond c l.word (word_loaded w.fields loads place)) e ∙ is ∙ ap (word_in w) (sym same)
+
+    other : eqb place (place_of l.slot l.field w.fields) ≡ false → word_loaded w.fields (l ∷ loads) place ≡ word_loaded w.fields loads place
+    other e = word_more w.fields l loads place h ∙ ap (λ c. cond c l.word (word_loaded w.fields loads place)) e
+
+-- the field that is due is the one that comes next
+named_place : (m : Machine) (p : Phase) (place : ℕ) → m.phase ≡ p → next_of m ≡ Some (LoadChild place) → (p ≡ Idle → ⊥) × (place ≡ place_of m.slot m.field m.fields)
+unfolding next_of
+named_place m Idle place e h = absurd (none place (rw e at h))
+  where
+    none : (place : ℕ) → None ≡ Some (LoadChild place) → ⊥
+    none place h = cc
+named_place m Marking place e h = let k : Some (LoadChild (place_of m.slot m.field m.fields)) ≡ Some (LoadChild place) = rw e at h in (λ q. cc, cc)
+named_place m Scanning place e h = let k : Some (LoadChild (place_of m.slot m.field m.fields)) ≡ Some (LoadChild place) = rw e at h in (λ q. cc, cc)
+named_place m Collecting place e h = let k : Some (LoadChild (place_of m.slot m.field m.fields)) ≡ Some (LoadChild place) = rw e at h in (λ q. cc, cc)
+
+trial_told : {fields : ℕ} {before : State} {words : List ℕ} (r : Run) → IsTrial fields before words r → Told fields before r
+trial_told {fields} {before} {words} r t = subst (λ q. Told fields before q) (sym t.is) (told_run fields before words t.wide t.ready t.named)
+
+nothing_seen : (loads : List Load) → map seen_of loads ≡ [] → loads ≡ []
+nothing_seen [] e = refl
+nothing_seen (l ∷ loads) e = cc
+
+module _ {fields : ℕ} {before : State} (r : Run) (t : Told fields before r) where
+  invariant_at : (p : Phase) → r.work.machine.phase ≡ p → inv_at p (first_view fields before) (view r.work) (map seen_of r.marking) (map seen_of r.blackening) (map seen_of r.collecting)
+  invariant_at p e = subst (λ k. inv_at k (first_view fields before) (view r.work) (map seen_of r.marking) (map seen_of r.blackening) (map seen_of r.collecting)) e t.course.inv
+
+  -- the due field is one of its slot
+  field_inside : (p : Phase) → r.work.machine.phase ≡ p → (p ≡ Idle → ⊥) → r.work.machine.field < r.work.machine.fields
+  field_inside Idle e n = absurd (n refl)
+  field_inside Marking e n = (invariant_at Marking e).place.below
+  field_inside Scanning e n = (invariant_at Scanning e).place.below
+  field_inside Collecting e n = (invariant_at Collecting e).place.below
+
+  -- blackening begins when marking is done
+  none_blackened : r.work.machine.phase ≡ Marking → r.blackening ≡ []
+  none_blackened e = nothing_seen r.blackening (invariant_at Marking e).no_blacks
+
+  due_fields : r.work.machine.fields ≡ fields
+  due_fields = t.course.same.fields
+
+-- a word is loaded
+module _ (w : Pending) (r : Run) (i : IsAccounted w) (done : w.applied + 1 ≡ w.requested) (s : TrialStands w r) (word : ℕ) (inside : place_of r.work.machine.slot r.work.machine.field w.fields < length w.words) (below : r.work.machine.field < w.fields) (is : word ≡ word_in w (place_of r.work.machine.slot r.work.machine.field w.fields)) where
+  noted_stands : (p : Phase) → (p ≡ Marking → r.blackening ≡ []) → TrialStands w (noted_at p r word)
+  noted_stands Idle none = s
+  noted_stands Marking none = record {
+    marks = marks_more w (load_of r.work.machine word) r.marking i done below inside is s.marks;
+    blacks = subst (λ b. AreReplaced w w.fields (load_of r.work.machine word ∷ r.marking) b) (sym (none refl)) (none_replaced w w.fields (load_of r.work.machine word ∷ r.marking));
+  }
+  noted_stands Scanning none = record { marks = s.marks; blacks = blacks_more w (load_of r.work.machine word) r.marking r.blackening below is s.marks s.blacks }
+  noted_stands Collecting none = record { marks = s.marks; blacks = s.blacks }
+
+pub trial_stands_noted : (w : Pending) (fields : ℕ) (before : State) (words : List ℕ) (r : Run) (place : ℕ) → IsAccounted w → w.applied + 1 ≡ w.requested → w.fields ≡ fields → IsTrial fields before words r → next_of r.work.machine ≡ Some (LoadChild place) → place < length w.words → TrialStands w r → TrialStands w (noted r (word_in w place))
+trial_stands_noted w fields before words r place i done width trial next inside s =
+    let m : Machine = r.work.machine in
+    let told : Told fields before r = trial_told r trial in
+    let n : (m.phase ≡ Idle → ⊥) × (place ≡ place_of m.slot m.field m.fields) = named_place m m.phase place refl next in
+    let wide : m.fields ≡ w.fields = due_fields r told ∙ sym width in
+    let at : place ≡ place_of m.slot m.field w.fields = n.1 ∙ ap (λ f. place_of m.slot m.field f) wide in
+    noted_stands w r i done s (word_in w place) (subst (λ p. p < length w.words) at inside) (subst (λ f. m.field < f) wide (field_inside r told m.phase refl n.0)) (ap (word_in w) at) m.phase (none_blackened r told)

@@ -1,0 +1,113 @@
+-- What is known of the sets, over the moves of what is pending.
+use Rattle.std.proofs.Common.{◌≡◌, ◌⊎◌, inl, inr, ℕ, ◌+◌, ◌-◌, ◌<◌, Bool, true, false, length, sym, ap, subst, ◌∙◌, arith}
+use Rattle.std.specs.List.{concat}
+use Rattle.std.proofs.lemmas.Bool.{cases_Bool, cases_lt}
+use Rattle.std.proofs.lemmas.List.{get_or_past, get_or_default}
+use Rattle.rec_model.specs.Accounted.{IsAccounted}
+use Rattle.rec_model.specs.Moves.{Move}
+use Rattle.rec_model.specs.Pending.{Pending}
+use Rattle.rec_model.specs.Sets.{IsAfterLoads, IsAmongTests}
+use Rattle.rec_counts.specs.Counts.{State, slot_at, IsKept as IsKeptCounts}
+use Rattle.rec_counts.specs.Lists.{one, times}
+use Rattle.rec_counts.specs.Slot.{absent, fresh}
+use Rattle.rec_counts.specs.declared.slot.Slot.{Slot}
+use Rattle.rec_release.specs.Sweep.{AreUnbuffered}
+use Rattle.rec_trial.specs.Promised.{IsTrial}
+use Rattle.rec_trial.proofs.Places.{ltb_yes}
+use Rattle.rec_sigma.specs.Prepared as prepared
+use Rattle.rec_collector.specs.Private.{Private}
+use Rattle.rec_collector.specs.Kept.{IsMachine, IsAt, NoneReleased}
+use Rattle.rec_collector.specs.declared.phase.Phase.{Phase}
+use Rattle.rec_collector.specs.declared.phase.Phase.TheVariants.{Idle, Looking, Swapping, Returning, Releasing, Freeing, Trying, Preparing, Opening, Sweeping, Closing}
+use Rattle.rec_core.specs.Cycles.{is_member, AreFields}
+use Rattle.rec_core.specs.CyclesAt.{IsLoading, AreSeen, HasCyclesAt}
+use Rattle.rec_core.proofs.Counts.{slot_in}
+use Rattle.rec_core.proofs.CyclesTest.{sets_test_moved}
+use Rattle.rec_core.proofs.CyclesTrial.{trial_stands_moved}
+use Rattle.rec_core.proofs.CyclesWait.{move_fields, sets_stand_moved, sets_wait_moved}
+
+-- no member of a set is given up
+abbrev pub AreAlive : (released : ℕ → Bool) → State → Type 0
+AreAlive released s = (node : ℕ) → 0 < node → is_member s node ≡ true → released node ≡ false
+
+-- so while sets wait, and while they are prepared
+abbrev pub AreAliveAt : (released : ℕ → Bool) → State → Phase → Type 0
+AreAliveAt released s Releasing = Unit {0}
+AreAliveAt released s Freeing = Unit {0}
+AreAliveAt released s Trying = Unit {0}
+AreAliveAt released s _ = AreAlive released s
+
+-- what is kept of a slot that isn't there is not released
+unreleased_in : (s : State) (node : ℕ) → (node - 1 < length s.slots → (slot_at s (node - 1)).released ≡ false) → (slot_in s node).released ≡ false
+unreleased_in s node there = elim (cases_lt (node - 1) (length s.slots)) [
+  | inl below ↦ ap (λ (v : Slot). v.released) (get_or_default s.slots (node - 1) fresh absent below) ∙ there below
+  | inr past ↦ ap (λ (v : Slot). v.released) (get_or_past s.slots (node - 1) fresh past)
+]
+
+-- where no slot is released
+pub none_alive : (s : State) → NoneReleased s → AreAlive (λ node. (slot_in s node).released) s
+none_alive s none node pos member = unreleased_in s node (none (node - 1))
+
+-- where what is released is in the free list, whose slots are in no buffer
+pub listed_alive : (s : State) → IsKeptCounts s → ((x : ℕ) → x < length s.slots → (slot_at s x).released ≡ true → 0 < times x s.free) → AreUnbuffered s → AreAlive (λ node. (slot_in s node).released) s
+listed_alive s k listed unbuffered node pos member = unreleased_in s node (λ below. go (cases_Bool (slot_at s (node - 1)).released) below)
+  where
+    there : 0 < times (node - 1) (concat s.sets)
+    there = ltb_yes 0 (times (node - 1) (concat s.sets)) member
+
+    go : ((slot_at s (node - 1)).released ≡ true) ⊎ ((slot_at s (node - 1)).released ≡ false) → node - 1 < length s.slots → (slot_at s (node - 1)).released ≡ false
+    go (inr not_so) below = not_so
+    go (inl is) below =
+        let free : (slot_at s (node - 1)).buffered ≡ false = unbuffered (node - 1) (listed (node - 1) below is) in
+        absurd (omega (arith, there, k.buffers (node - 1), ap one free))
+
+-- no machine releases a member before the next batch
+pub machine_alive : (c : Private) (phase : Phase) → IsMachine c → IsAt c phase → AreAliveAt (λ node. (slot_in c.counts node).released) c.counts phase
+machine_alive c Idle m now = none_alive c.counts now.0.none
+machine_alive c (Looking t) m now = none_alive c.counts now.rest.none
+machine_alive c (Swapping t) m now = none_alive c.counts now.rest.none
+machine_alive c (Returning t) m now = none_alive c.counts now.rest.none
+machine_alive c Releasing m now = tt
+machine_alive c Freeing m now = tt
+machine_alive c Trying m now = tt
+machine_alive c Preparing m now = listed_alive c.counts m.counts now.tried.listed now.tried.unbuffered
+machine_alive c Opening m now = listed_alive c.counts m.counts now.0.tried.listed now.0.tried.unbuffered
+machine_alive c (Sweeping n) m now = listed_alive c.counts m.counts now.0.tried.listed now.0.tried.unbuffered
+machine_alive c (Closing n) m now = listed_alive c.counts m.counts now.0.tried.listed now.0.tried.unbuffered
+
+-- a trial at work
+loading_moved : {w v : Pending} (c : Private) (m : Move w v) → IsAfterLoads m → IsAccounted w → IsLoading w c → IsLoading v c
+loading_moved {w} {v} c m after i l = record {
+  before = l.before;
+  words = l.words;
+  run = l.run;
+  trial = subst (λ f. IsTrial f l.before l.words l.run) (sym (move_fields m after)) l.trial;
+  at = l.at;
+  stands = trial_stands_moved l.run m after i l.stands;
+}
+
+-- sets that are prepared
+seen_moved : {w v : Pending} (c : Private) (m : Move w v) → IsAfterLoads m → IsAccounted w → AreAlive w.released c.counts → AreSeen w c → AreSeen v c
+seen_moved {w} {v} c m after i alive l = record {
+  before = l.before;
+  before_kept = l.before_kept;
+  loads = l.loads;
+  prepares = subst (λ f. prepared.PreparedTo f l.before c.prep.at c.counts l.loads) (sym (move_fields m after)) l.prepares;
+  fields = subst (λ f. AreFields f l.loads) (sym (move_fields m after)) l.fields;
+  stands = sets_stand_moved c.counts l.loads m after i alive l.stands;
+}
+
+-- What is known of the sets is kept by the moves that mutators make. A move that may not be made while sets are tested is one that is
+-- made before the batch.
+pub cycles_moved : {w v : Pending} (c : Private) (phase : Phase) (m : Move w v) → IsAfterLoads m → (w.applied + 1 ≡ w.requested → IsAmongTests m) → IsAccounted w → AreAliveAt w.released c.counts phase → HasCyclesAt w c phase → HasCyclesAt v c phase
+cycles_moved c Idle m after among i alive h = sets_wait_moved c.counts m after i alive h
+cycles_moved c (Looking t) m after among i alive h = sets_wait_moved c.counts m after i alive h
+cycles_moved c (Swapping t) m after among i alive h = sets_wait_moved c.counts m after i alive h
+cycles_moved c (Returning t) m after among i alive h = sets_wait_moved c.counts m after i alive h
+cycles_moved c Releasing m after among i alive h = sets_test_moved c.counts m (among h.testing.done) i h
+cycles_moved c Freeing m after among i alive h = sets_test_moved c.counts m (among h.testing.done) i h
+cycles_moved c Trying m after among i alive h = loading_moved c m after i h
+cycles_moved c Preparing m after among i alive h = seen_moved c m after i alive h
+cycles_moved c Opening m after among i alive h = sets_wait_moved c.counts m after i alive h
+cycles_moved c (Sweeping n) m after among i alive h = sets_wait_moved c.counts m after i alive h
+cycles_moved c (Closing n) m after among i alive h = sets_wait_moved c.counts m after i alive h

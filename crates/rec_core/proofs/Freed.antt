@@ -1,0 +1,159 @@
+-- The sets that pass both tests are out of reach, and a slot that is freed is named by nothing.
+use Rattle.std.proofs.Common.{◌≡◌, ℕ, ◌+◌, ◌-◌, ◌<◌, ◌≤◌, Bool, true, false, if◌then◌else◌, ltb, Option, None, Some, length, slice_get, refl, sym, ap, subst, ◌∙◌, arith}
+use Rattle.rec_word.specs.declared.op.Op.{Op}
+use Rattle.rec_word.specs.declared.op.Op.TheVariants as ops
+use Rattle.rec_model.specs.Accounted.{is_dead, HasUncountedReleased}
+use Rattle.rec_model.proofs.Consequences.{uncounted_gone}
+use Rattle.rec_model.proofs.Naming.{dead_out_of_reach}
+use Rattle.rec_model.proofs.Sets.{passed_out_of_reach}
+use Rattle.rec_counts.specs.Counts.{slot_at}
+use Rattle.rec_counts.specs.Lists.{one, times}
+use Rattle.rec_counts.specs.declared.slot.Slot.{Slot}
+use Rattle.rec_counts.proofs.Times.{in_range_once, one-le, times-nil}
+use Rattle.rec_release.specs.CycleFree.{next_of as freeing_next, op_at as freeing_op_at}
+use Rattle.rec_release.specs.Release.{next_of as release_next, op_at as release_op_at}
+use Rattle.rec_release.specs.Sweep.{next_of as sweep_next, op_at as sweep_op_at}
+use Rattle.rec_release.specs.TakenOff.{IsApart}
+use Rattle.rec_release.specs.declared.at.At.{At}
+use Rattle.rec_release.specs.declared.member.Member.{Member}
+use Rattle.rec_release.proofs.Sweeping.{first_in}
+use Rattle.rec_sigma.specs.Prepare.{next_of as prep_next, op_at as prep_op_at}
+use Rattle.rec_sigma.specs.declared.at.At as loads
+use Rattle.rec_trial.specs.Trial.{Machine as Trial, next_of as trial_next, op_at as trial_op_at}
+use Rattle.rec_trial.specs.declared.phase.Phase as trial_phases
+use Rattle.rec_trial.specs.declared.phase.Phase.TheVariants as trial_at
+use Rattle.rec_collector.specs.Next.{is_spent, next_at, next_of}
+use Rattle.rec_collector.specs.declared.phase.Phase.{Phase}
+use Rattle.rec_collector.specs.declared.phase.Phase.TheVariants.{Idle, Looking, Swapping, Returning, Releasing, Freeing, Trying, Preparing, Opening, Sweeping, Closing}
+use Rattle.rec_core.specs.Core.{Core}
+use Rattle.rec_core.specs.Cycles.{is_member_of, SetsTest}
+use Rattle.rec_core.specs.Freed.{TestsSets, Passes, IsProvenGarbage, AreGone, IsForgotten}
+use Rattle.rec_core.specs.Kept.{IsKept}
+use Rattle.rec_core.specs.Pending.{slot_of, pending, applied_at}
+use Rattle.rec_core.proofs.CyclesTest.{IsJudged, set_is_tested}
+use Rattle.rec_core.proofs.Steps.{slot_there}
+use Rattle.rec_core.proofs.Turns.{cycles_in, now_at}
+
+-- A set that passes both tests.
+passes_with : (w : Core) (number : ℕ) → IsKept w → SetsTest (pending w) w.collector.counts → IsApart w.collector.counts → Passes w number → IsProvenGarbage w number
+passes_with w number kept tests apart p =
+    let judged : IsJudged (pending w) w.collector.counts number = record {
+      kept = kept.collector.machine.counts;
+      apart = apart;
+      released = λ x below. ap (λ (v : Slot). v.released) (slot_there w kept x (subst (λ n. x < n) kept.collector.slots below));
+      count = λ x below. ap (λ (v : Slot). v.count) (slot_there w kept x (subst (λ n. x < n) kept.collector.slots below));
+      orange = p.orange;
+      none = p.none;
+    } in
+    let tested = set_is_tested (pending w) w.collector.counts number tests judged in
+    record {
+      seen = tested.passes.0;
+      passes = tested.passes.1;
+      unreached = λ node member from. passed_out_of_reach (pending w) (is_member_of w.collector.counts number) tested.passes.0 kept.accounted.ledger kept.accounted.late tested.passes.1 node from member;
+    }
+
+pub passed_are_garbage : (w : Core) (number : ℕ) → IsKept w → TestsSets w.collector.phase → Passes w number → IsProvenGarbage w number
+passed_are_garbage w number kept tests p = go w.collector.phase refl tests
+  where
+    go : (phase : Phase) → w.collector.phase ≡ phase → TestsSets phase → IsProvenGarbage w number
+    go Releasing is t = passes_with w number kept (cycles_in w Releasing kept is) (now_at w Releasing kept is).0.clearing.apart p
+    go Freeing is t = passes_with w number kept (cycles_in w Freeing kept is) (now_at w Freeing kept is).0.clearing.apart p
+    go Idle is t = absurd t
+    go (Looking n) is t = absurd t
+    go (Swapping n) is t = absurd t
+    go (Returning n) is t = absurd t
+    go Trying is t = absurd t
+    go Preparing is t = absurd t
+    go Opening is t = absurd t
+    go (Sweeping n) is t = absurd t
+    go (Closing n) is t = absurd t
+
+-- what was given up is dead
+dead_is : (free released : Bool) → released ≡ true → (if free then true else released) ≡ true
+dead_is true released is = refl
+dead_is false released is = is
+
+pub given_up_are_gone : (w : Core) → IsKept w → AreGone w
+given_up_are_gone w kept = record {
+  released = λ slot below is.
+      let dead : is_dead (pending w) (slot + 1) ≡ true = dead_is ((pending w).free (slot + 1)) ((pending w).released (slot + 1)) (ap (λ (v : Slot). v.released) (slot_there w kept slot below) ∙ is) in
+      record {
+        unreached = λ epoch from reached. dead_out_of_reach (pending w) epoch from kept.accounted.unnamed (slot + 1) reached dead;
+        unnamed = kept.accounted.unnamed (slot + 1) (omega arith) dead;
+      };
+  members = λ is slot some. (now_at w Freeing kept is).0.clearing.freeing.released slot some;
+}
+
+-- A slot that is swept next.
+pub swept_is_forgotten : (w : Core) (n slot : ℕ) → IsKept w → w.collector.phase ≡ Sweeping n → w.collector.due ≡ Some slot → IsForgotten w slot
+swept_is_forgotten w n slot kept is due =
+    let now = now_at w (Sweeping n) kept is in
+    let c = w.collector.counts in
+    let first : slice_get c.free 0 ≡ Some slot = sym now.2 ∙ due in
+    let there : 0 < times slot c.free = first_in c.free slot first in
+    let listed_released : (slot_at c slot).released ≡ true = kept.collector.listed slot there in
+    let once = kept.collector.machine.counts.free_once slot in
+    let below : slot < length c.slots = in_range_once (length c.slots) c.free slot kept.collector.machine.counts.free_once there in
+    let node : slot_of w (slot + 1) ≡ slot_at c slot = slot_there w kept slot (subst (λ n. slot < n) kept.collector.slots below) in
+    let uncounted : HasUncountedReleased (pending w) = kept.uncounted now.0.tried.unfreed in
+    let none : (pending w).count (slot + 1) ≡ 0 = uncounted (slot + 1) (omega arith) (ap (λ (v : Slot). v.released) node ∙ listed_released) in
+    let done : (pending w).applied + 1 ≡ (pending w).requested = ap (λ (f : Phase). applied_at w.epoch f + 1) is ∙ positive in
+    let alone : one (slot_at c slot).buffered ≡ 0 = ap one (now.0.tried.unbuffered slot there) in
+    let buffers = kept.collector.machine.counts.buffers slot in
+    record {
+      unnamed = (uncounted_gone (pending w) kept.accounted (slot + 1) (omega arith) done none).1;
+      roots = omega (arith, buffers, alone);
+      sets = omega (arith, buffers, alone);
+      marked = ap (times slot) now.0.tried.untried.marked ∙ times-nil slot;
+      work = ap (times slot) now.0.tried.work ∙ times-nil slot;
+      zeros = ap (times slot) now.0.tried.zeros ∙ times-nil slot;
+      free = omega (arith, once, there, one-le (ltb slot (length c.slots)));
+    }
+  where
+    positive : w.epoch - 1 + 1 ≡ w.epoch
+    positive = let some : 1 ≤ w.config.first_epoch = kept.config.some_epoch in omega (arith, kept.collector.begun)
+
+-- an operation that frees a header is none of the others
+stores_none : (spent : Bool) (epoch slot : ℕ) → ◌≡◌ {A = Option Op} (if spent then None else Some (ops.StoreEpoch epoch)) (Some (ops.FreeHeader slot)) → ⊥
+stores_none true epoch slot e = cc
+stores_none false epoch slot e = cc
+
+releases_none : (fields slot : ℕ) (at : Option At) → ◌≡◌ {A = Option Op} (release_op_at fields at) (Some (ops.FreeHeader slot)) → ⊥
+releases_none fields slot None e = cc
+releases_none fields slot (Some a) e = cc
+
+frees_none : (fields slot : ℕ) (at : Option Member) → ◌≡◌ {A = Option Op} (freeing_op_at fields at) (Some (ops.FreeHeader slot)) → ⊥
+frees_none fields slot None e = cc
+frees_none fields slot (Some a) e = cc
+
+tries_none : (m : Trial) (slot : ℕ) (phase : trial_phases.Phase) → ◌≡◌ {A = Option Op} (trial_op_at phase m) (Some (ops.FreeHeader slot)) → ⊥
+tries_none m slot trial_at.Idle e = cc
+tries_none m slot trial_at.Marking e = cc
+tries_none m slot trial_at.Scanning e = cc
+tries_none m slot trial_at.Collecting e = cc
+
+prepares_none : (fields slot : ℕ) (at : Option loads.At) → ◌≡◌ {A = Option Op} (prep_op_at fields at) (Some (ops.FreeHeader slot)) → ⊥
+prepares_none fields slot None e = cc
+prepares_none fields slot (Some a) e = cc
+
+sweeps_it : (slot : ℕ) (due : Option ℕ) → ◌≡◌ {A = Option Op} (sweep_op_at due) (Some (ops.FreeHeader slot)) → due ≡ Some slot
+sweeps_it slot None e = cc
+sweeps_it slot (Some x) e = cc
+
+-- A slot whose header is to be set to 0.
+pub freed_is_forgotten : (w : Core) (slot : ℕ) → IsKept w → ◌≡◌ {A = Option Op} (next_of w.collector) (Some (ops.FreeHeader slot)) → IsForgotten w slot
+unfolding next_of next_at release_next freeing_next trial_next prep_next sweep_next
+freed_is_forgotten w slot kept named = go w.collector.phase refl named
+  where
+    go : (phase : Phase) → w.collector.phase ≡ phase → ◌≡◌ {A = Option Op} (next_at w.collector phase) (Some (ops.FreeHeader slot)) → IsForgotten w slot
+    go Idle is e = absurd (stores_none (is_spent w.collector) (w.collector.epoch + 1) slot e)
+    go (Looking n) is e = absurd (cc)
+    go (Swapping n) is e = absurd (cc)
+    go (Returning n) is e = absurd (cc)
+    go Releasing is e = absurd (releases_none w.collector.release.fields slot w.collector.release.at e)
+    go Freeing is e = absurd (frees_none w.collector.freeing.fields slot w.collector.freeing.at e)
+    go Trying is e = absurd (tries_none w.collector.trial slot w.collector.trial.phase e)
+    go Preparing is e = absurd (prepares_none w.collector.prep.fields slot w.collector.prep.at e)
+    go Opening is e = absurd (cc)
+    go (Sweeping n) is e = swept_is_forgotten w n slot kept is (sweeps_it slot w.collector.due e)
+    go (Closing n) is e = absurd (cc)

@@ -1,0 +1,57 @@
+-- A heap whose slots are to be offered to the next trial keeps what it kept.
+use Rattle.std.proofs.Common.{true}
+use Rattle.rec_model.specs.Pending.{Pending}
+use Rattle.rec_collector.specs.Private.{Private}
+use Rattle.rec_collector.specs.declared.phase.Phase.{Phase}
+use Rattle.rec_collector.specs.declared.phase.Phase.TheVariants.{Idle, Looking, Swapping, Returning, Releasing, Freeing, Trying, Preparing, Opening, Sweeping, Closing}
+use Rattle.rec_collector.proofs.Offers.{offers_kept}
+use Rattle.rec_core.specs.Core.{Core}
+use Rattle.rec_core.specs.CyclesAt.{HasCyclesAt}
+use Rattle.rec_core.specs.Kept.{IsKept}
+use Rattle.rec_core.specs.Moves.{offering}
+use Rattle.rec_core.specs.Pending.{pending}
+
+-- its sets are the same, and so is what is at work on them
+cycles_on : (w : Pending) (c : Private) (phase : Phase) → HasCyclesAt w c phase → HasCyclesAt w (record c { offers = true }) phase
+cycles_on w c Idle k = k
+cycles_on w c (Looking n) k = k
+cycles_on w c (Swapping n) k = k
+cycles_on w c (Returning n) k = k
+cycles_on w c Releasing k = k
+cycles_on w c Freeing k = k
+cycles_on w c Trying k = record { before = k.before; words = k.words; run = k.run; trial = k.trial; at = k.at; stands = k.stands }
+cycles_on w c Preparing k = record { before = k.before; before_kept = k.before_kept; loads = k.loads; prepares = k.prepares; fields = k.fields; stands = k.stands }
+cycles_on w c Opening k = k
+cycles_on w c (Sweeping n) k = k
+cycles_on w c (Closing n) k = k
+
+-- That all slots are to be offered changes nothing of what a heap keeps.
+pub offering_kept : (w : Core) → IsKept w → IsKept (offering w)
+offering_kept w k = record {
+  config = k.config;
+  headers = k.headers;
+  labels = k.labels;
+  mutators = k.mutators;
+  collector = record {
+    machine = offers_kept w.collector true k.collector.machine;
+    between = k.collector.between;
+    slots = k.collector.slots;
+    fields = k.collector.fields;
+    registers = k.collector.registers;
+    capacity = k.collector.capacity;
+    mutators = k.collector.mutators;
+    epoch = k.collector.epoch;
+    begun = k.collector.begun;
+    newer = k.collector.newer;
+    older = k.collector.older;
+    listed = k.collector.listed;
+    emptied = k.collector.emptied;
+  };
+  sweeps = k.sweeps;
+  scans = k.scans;
+  made = k.made;
+  sound = k.sound;
+  accounted = k.accounted;
+  uncounted = k.uncounted;
+  cycles = cycles_on (pending w) w.collector w.collector.phase k.cycles;
+}

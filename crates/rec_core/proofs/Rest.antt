@@ -1,0 +1,26 @@
+-- The lemmas on a heap at rest, in which no mutator asks anything: what turns make of it, and what two whole collections come to.
+pub mod FirstPreparing
+pub mod FirstRound
+pub mod FirstTrial
+pub mod QuietCounts
+pub mod QuietPolls
+pub mod QuietSums
+pub mod QuietTurns
+pub mod Reachable
+pub mod Rested
+pub mod RestingSeen
+pub mod Rounds
+pub mod SecondBatch
+pub mod SecondFreeing
+pub mod SecondReach
+pub mod SecondRound
+pub mod SecondTurns
+pub mod SettlingBetween
+pub mod SettlingFinds
+pub mod SettlingPasses
+pub mod SettlingPrepared
+pub mod SettlingSets
+pub mod SettlingSums
+pub mod SettlingTests
+pub mod TurnRules
+pub mod Within

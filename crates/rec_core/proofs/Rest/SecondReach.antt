@@ -1,0 +1,164 @@
+-- What is within reach in a heap at rest: it has a count and was not given up, and a path to it uses no field of what was given up.
+use Rattle.std.proofs.Common.{◌≡◌, ◌≢◌, inl, inr, ℕ, ◌+◌, ◌-◌, ◌<◌, ◌==◌, if◌then◌else◌, Bool, true, false, Option, Some, None, List, [], ◌∷◌, length, get_or, slice_index_or, sum_by, refl, sym, ap, ◌∙◌, arith}
+use Rattle.std.proofs.lemmas.Bool.{cases_lt, eq-eqb, false≢true}
+use Rattle.std.proofs.lemmas.Bool.Decides.{eqb_tells}
+use Rattle.std.proofs.lemmas.List.{get_or_default, get_or_past, get_or-set_other}
+use Rattle.std.proofs.lemmas.List.Sums.{sum_by-cons}
+use Rattle.rec_word.specs.Place.{place_of}
+use Rattle.rec_word.specs.Word.{target_of}
+use Rattle.rec_model.specs.Accounted.{is_dead}
+use Rattle.rec_model.specs.Heap.{roots}
+use Rattle.rec_model.specs.Pending.{home, node_of, word_in as pending_word}
+use Rattle.rec_model.specs.Reach.{is_in, named as names}
+use Rattle.rec_model.specs.Reach.IsReached.{root}
+use Rattle.rec_model.proofs.Consequences.{fields_name_the_taken}
+use Rattle.rec_model.proofs.Members.{is_in-head, is_in-left, is_in-right, is_in-tail}
+use Rattle.rec_model.proofs.Sums.{get_or-le-sum_at}
+use Rattle.rec_model.proofs.Unfreed.{taken_within}
+use Rattle.rec_counts.specs.declared.slot.Slot.{Slot}
+use Rattle.rec_counts.specs.Counts.{State, slot_at}
+use Rattle.rec_counts.specs.Lists.{one, times}
+use Rattle.rec_counts.specs.Rest.{AreZeros}
+use Rattle.rec_counts.proofs.Times.{one-same, times-cons}
+use Rattle.rec_apply.specs.Targets.{named}
+use Rattle.rec_apply.proofs.Naming.{named-nil, named-cons}
+use Rattle.rec_release.specs.TakenOff.{IsApart}
+use Rattle.rec_release.proofs.Keeping.{in_range_unreleased}
+use Rattle.rec_trial.specs.Tried.{leads_to}
+use Rattle.rec_core.specs.Core.{Core, sight}
+use Rattle.rec_core.specs.Kept.{IsKept}
+use Rattle.rec_core.specs.Pending.{code, pending}
+use Rattle.rec_core.specs.Resting.{AreCounted, IsHeldIn, SetsRest, holds}
+use Rattle.rec_core.specs.Settling.{heap_sum, leading}
+use Rattle.rec_core.specs.Settling.IsReachable.{held, along}
+use Rattle.rec_core.specs.Turn.{words_without}
+use Rattle.rec_core.proofs.Counts.{counted_slot}
+use Rattle.rec_core.proofs.Moves.{code_target, home_of}
+use Rattle.rec_core.proofs.Places.{place_within}
+use Rattle.rec_core.proofs.Reach.{reached_stays}
+
+-- what a field leads to is counted
+led_counted : (words : List ℕ) (place x : ℕ) → target_of (get_or words place 0) ≡ Some x → 0 < heap_sum words x
+led_counted words place x e = elim (cases_lt place (length words)) [
+  | inl inside ↦
+      let here : leading x (get_or words place 0) ≡ 1 = ap (λ t. one (leads_to x t)) e ∙ one-same x in
+      omega (arith, here, get_or-le-sum_at (λ p word. leading x word) words place 0 inside)
+  | inr past ↦ let none : None ≡ Some x = ap target_of (sym (get_or_past words place 0 past)) ∙ e in cc
+]
+
+-- what is held, or led to, is counted
+held_counted : (w : Core) (words : List ℕ) (s : State) (x : ℕ) → AreCounted w words s → x < w.config.slots → IsHeldIn w words x → 0 < (slot_at s x).count
+held_counted w words s x counted below (held h) = omega (arith, counted x below, h)
+held_counted w words s x counted below (along {n} from field within led) = omega (arith, counted x below, led_counted words (place_of n field w.config.fields) x led)
+
+-- What is within reach has a count.
+pub reached_counted : (w : Core) (words : List ℕ) (s : State) (x : ℕ) → AreCounted w words s → x < w.config.slots → ((IsHeldIn w words x → ⊥) → ⊥) → 0 < (slot_at s x).count
+reached_counted w words s x counted below reached = elim (cases_lt 0 (slot_at s x).count) [
+  | inl some ↦ some
+  | inr none ↦ absurd (reached (λ h. omega (arith, none, held_counted w words s x counted below h)))
+]
+
+-- a register names the slot where they are counted to
+named_in : (x : ℕ) (registers : List (Option ℕ)) → 0 < named x registers → is_in x (names registers) ≡ true
+named_in x [] some = absurd (omega (arith, some, named-nil x))
+named_in x (None ∷ rest) some = named_in x rest (omega (arith, some, named-cons x None rest))
+named_in x (Some y ∷ rest) some = elim (eqb_tells x y) [
+  | inl q ↦ ap (λ n. is_in n (y ∷ names rest)) q.1 ∙ is_in-head y (names rest)
+  | inr q ↦ let other : one (x == y) ≡ 0 = ap one q.0 in is_in-tail x y (names rest) (named_in x rest (omega (arith, some, named-cons x (Some y) rest, other)))
+]
+
+root_in : (x : ℕ) (registers : List (List (Option ℕ))) → 0 < sum_by (named x) registers → is_in x (roots registers) ≡ true
+root_in x [] some = absurd (omega (arith, some))
+root_in x (rs ∷ rest) some = elim (cases_lt 0 (named x rs)) [
+  | inl here ↦ is_in-left x (names rs) (roots rest) (named_in x rs here)
+  | inr none ↦ is_in-right x (names rs) (roots rest) (root_in x rest (omega (arith, some, none, sum_by-cons (named x) rs rest)))
+]
+
+module _ (w : Core) (kept : IsKept w) where
+  -- a slot that is there, and was not given up
+  abbrev IsAlive : ℕ → Type 0
+  IsAlive x = (x < w.config.slots) × ((slot_at w.collector.counts x).released ≡ false)
+
+  headers : length w.headers ≡ w.config.slots
+  headers = kept.headers
+
+  in_accounts : (x : ℕ) → x < w.config.slots → (pending w).released (x + 1) ≡ (slot_at w.collector.counts x).released
+  in_accounts x below = ap (λ (v : Slot). v.released) (counted_slot w.collector.counts x (omega (arith, below, kept.collector.slots)))
+
+  free_is : (x : ℕ) → slice_index_or w.headers x 0 ≡ 0 → (pending w).free (x + 1) ≡ true
+  free_is x none = let at : x + 1 - 1 ≡ x = omega arith in ap (λ n. slice_index_or w.headers n 0 == 0) at ∙ eq-eqb (slice_index_or w.headers x 0) 0 none
+
+  -- by the accounts
+  not_dead : (x : ℕ) → is_dead (pending w) (x + 1) ≡ false → IsAlive x
+  not_dead x is = go ((pending w).free (x + 1)) refl is
+    where
+      go : (free : Bool) → (pending w).free (x + 1) ≡ free → (if free then true else (pending w).released (x + 1)) ≡ false → IsAlive x
+      go true f h = absurd (false≢true (sym h))
+      go false f h = elim (cases_lt x w.config.slots) [
+        | inl below ↦ (below, sym (in_accounts x below) ∙ h)
+        | inr past ↦ absurd (false≢true (sym f ∙ free_is x (get_or_past w.headers x 0 (omega (arith, past, headers)))))
+      ]
+
+  -- a free slot
+  free_alive : (x : ℕ) → (b : Bool) → (slice_index_or w.headers x 1 == 0) ≡ b → 0 < one b → IsAlive x
+  free_alive x false e some = absurd (omega (arith, some))
+  free_alive x true e some = elim (cases_lt x w.config.slots) [
+    | inl below ↦ (below, sym (in_accounts x below) ∙ kept.accounted.apart (x + 1) (omega arith) (free_is x (none below)))
+    | inr past ↦ absurd (false≢true (sym (ap (λ n. n == 0) (get_or_past w.headers x 1 (omega (arith, past, headers)))) ∙ e))
+  ]
+    where
+      none : x < w.config.slots → slice_index_or w.headers x 0 ≡ 0
+      none below = elim (eqb_tells (slice_index_or w.headers x 1) 0) [
+        | inl q ↦ sym (get_or_default w.headers x 1 0 (omega (arith, below, headers))) ∙ q.1
+        | inr q ↦ absurd (false≢true (sym q.0 ∙ e))
+      ]
+
+  -- what is held
+  held_alive : (x : ℕ) → 0 < holds (sight w) x → IsAlive x
+  held_alive x h = elim (cases_lt 0 (sum_by (named x) (sight w).registers)) [
+    | inl some ↦ let stays = reached_stays w kept x (root x (root_in x (sight w).registers some)) in (omega (arith, taken_within (sight w) x stays.0, headers), stays.1)
+    | inr none ↦ free_alive x (slice_index_or w.headers x 1 == 0) refl (omega (arith, h, none))
+  ]
+
+  place_there : (n field : ℕ) → n < w.config.slots → field < w.config.fields → place_of n field w.config.fields < length w.words
+  place_there n field below within = place_within w.config.fields (length w.headers) (length w.words) n field kept.sound.places (omega (arith, below, headers)) within
+
+  -- What is within reach is there, and was not given up.
+  pub reached_alive : (x : ℕ) → IsHeldIn w w.words x → (x < w.config.slots) × ((slot_at w.collector.counts x).released ≡ false)
+  reached_alive x (held h) = held_alive x h
+  reached_alive x (along {n} from field within led) =
+      let before : IsAlive n = reached_alive n from in
+      let place : ℕ = place_of n field w.config.fields in
+      let at_home : home w.config.fields place ≡ n + 1 = home_of n field w.config.fields within in
+      let unreleased : (pending w).released (home w.config.fields place) ≡ false = ap (pending w).released at_home ∙ in_accounts n before.0 ∙ before.1 in
+      let node : node_of (pending_word (pending w) place) ≡ x + 1 = sym (code_target (pending_word (pending w) place)) ∙ ap code led in
+      not_dead x (ap (is_dead (pending w)) (sym node) ∙ fields_name_the_taken (pending w) kept.accounted place (place_there n field before.0 within) unreleased (omega (arith, node)))
+
+  -- It stays within reach as a field of what was given up is emptied.
+  pub reached_still : (slot field : ℕ) → field < w.config.fields → (slot_at w.collector.counts slot).released ≡ true → (x : ℕ) → IsHeldIn w w.words x → IsHeldIn w (words_without w slot field) x
+  reached_still slot field within released x (held h) = held h
+  reached_still slot field within released x (along {n} from f below led) =
+      let alive : IsAlive n = reached_alive n from in
+      let other : place_of n f w.config.fields ≢ place_of slot field w.config.fields
+      = λ same.
+      let own : n + 1 ≡ slot + 1 = sym (home_of n f w.config.fields below) ∙ ap (home w.config.fields) same ∙ home_of slot field w.config.fields within in
+      let is : n ≡ slot = omega (arith, own) in
+      false≢true (sym alive.1 ∙ ap (λ m. (slot_at w.collector.counts m).released) is ∙ released) in
+      along (reached_still slot field within released n from) f below (ap target_of (get_or-set_other w.words (place_of slot field w.config.fields) (place_of n f w.config.fields) 0 0 other) ∙ led)
+
+-- no slot stands in an empty list
+nothing_in : (xs : List ℕ) → ((x : ℕ) → 0 < times x xs → ⊥) → xs ≡ []
+nothing_in [] none = refl
+nothing_in (x ∷ xs) none = absurd (none x (omega (arith, times-cons x x xs, one-same x)))
+
+-- No zeros are left where all that isn't released is within reach or a member of a set.
+pub no_zeros_rest : (w : Core) (words left : List ℕ) (s : State) → length s.slots ≡ w.config.slots → AreZeros s → IsApart s → AreCounted w words s → SetsRest w words left s
+    → s.zeros ≡ []
+no_zeros_rest w words left s many zeros apart counted rest = nothing_in s.zeros (λ x there. go x there (slot_at s x).set refl)
+  where
+    go : (x : ℕ) → 0 < times x s.zeros → (set : Option ℕ) → (slot_at s x).set ≡ set → ⊥
+    go x there None e =
+        let unreleased : (slot_at s x).released ≡ false = zeros.unreleased x there in
+        let below : x < w.config.slots = omega (arith, in_range_unreleased s x unreleased, many) in
+        omega (arith, zeros.none x there, reached_counted w words s x counted below (rest.found x unreleased e))
+    go x there (Some i) e = omega (arith, there, (apart x (rest.unheld.back.orange x i e)).no_zero)

@@ -1,0 +1,94 @@
+-- The collection that frees the sets, turn by turn, but for the sweep of a slot, which changes what is held.
+use Rattle.std.proofs.Common.{◌≡◌, ℕ, ◌+◌, ◌-◌, ◌<◌, true, None, Some, List, [], length, slice_index_or, refl, sym, ap, subst, ◌∙◌, arith}
+use Rattle.rec_word.specs.Word.{target_of}
+use Rattle.rec_counts.specs.declared.slot.Slot.{Slot}
+use Rattle.rec_release.specs.TakenOff.{taken_off}
+use Rattle.rec_release.specs.declared.member.Member.{Member}
+use Rattle.rec_release.proofs.TakenOff.{off_most}
+use Rattle.rec_trial.proofs.Keeps.{took_keeps}
+use Rattle.rec_collector.specs.Followed.{trial_started, with_loaded, with_tried}
+use Rattle.rec_collector.specs.Parts.{Parts}
+use Rattle.rec_collector.specs.Private.{Private, parts_of}
+use Rattle.rec_collector.specs.Step.{TriesOn}
+use Rattle.rec_collector.specs.declared.phase.Phase.{Phase}
+use Rattle.rec_collector.specs.declared.phase.Phase.TheVariants.{Idle, Looking, Returning, Releasing, Freeing, Trying, Preparing, Opening, Sweeping, Closing}
+use Rattle.rec_collector.specs.declared.turn.Turn.{Turn}
+use Rattle.rec_collector.proofs.Clearing.{clear_ready}
+use Rattle.rec_collector.proofs.Preparing.{took_others}
+use Rattle.rec_core.specs.Core.{Core}
+use Rattle.rec_core.specs.Kept.{IsKept}
+use Rattle.rec_core.specs.Pending.{older_at}
+use Rattle.rec_core.specs.Quiet.{AreQuiet, AreGathered}
+use Rattle.rec_core.specs.Resting.{AreCounted, AreWithinReach, Round, RestsIn, ComesTo}
+use Rattle.rec_core.specs.Turn.{IsTurn, word_at, words_without}
+use Rattle.rec_core.proofs.Begun.{applied_lands, batch_comes}
+use Rattle.rec_core.proofs.Freeing.{below, freed_lands, released, within}
+use Rattle.rec_core.proofs.Landed.{HasCleared}
+use Rattle.rec_core.proofs.Landings.{IsUnswept}
+use Rattle.rec_core.proofs.Rest.FirstRound.{all_gathered, last_gathered}
+use Rattle.rec_core.proofs.Rest.QuietCounts.{accounted_count, landed_count}
+use Rattle.rec_core.proofs.Rest.SecondBatch.{frees_rest_applied}
+use Rattle.rec_core.proofs.Rest.SecondFreeing.{frees_rest_more}
+use Rattle.rec_core.proofs.Rest.SecondRound.{second_clears}
+use Rattle.rec_core.proofs.Rest.Within.{within_begun, within_same, within_tries, within_prepares}
+use Rattle.rec_core.proofs.Taken.{off_accounted}
+use Rattle.rec_core.proofs.Trying.{loaded_leads}
+use Rattle.rec_core.proofs.Turns.{now_at}
+
+module _ (first : ℕ) (w : Core) (kept : IsKept w) (quiet : AreQuiet first w) where
+  -- what is known in this phase
+  known_in : (phase : Phase) → w.collector.phase ≡ phase → RestsIn Round.Second w w.words w.collector w.collector.phase → RestsIn Round.Second w w.words w.collector phase
+  known_in phase is h = subst (RestsIn Round.Second w w.words w.collector) is h
+
+  -- once no set is left, a trial begins
+  tries_on : {crossing words : List ℕ} {q : Private} {turn : Turn} (u : Parts) → HasCleared w crossing words u → u.freeing.at ≡ None → u.release.at ≡ None → u.counts.sets ≡ [] → AreWithinReach w words u.counts
+      → TriesOn w.collector (trial_started u) q turn → ComesTo Round.Second w words q
+  tries_on u h unfreed still none within on = within_tries (within_begun h.landed (clear_ready u h.landed.counts h.clearing h.done still unfreed none) within) on
+
+  -- the counts after the exchange of a field are true
+  exchanged_count : (a : Member) (phase : w.collector.phase ≡ Freeing) (at : w.collector.freeing.at ≡ Some a) → first < w.epoch
+      → AreCounted w (words_without w a.slot a.field) (taken_off true w.collector.counts (target_of (word_at w a.slot a.field)))
+  exchanged_count a phase at early =
+      let unswept : IsUnswept w.epoch w.collector.phase = subst (IsUnswept w.epoch) (sym phase) (record { way = refl; still = refl; applied = refl; older = refl; stands = λ s. refl; between = tt; some = tt }) in
+      let slots : length w.collector.counts.slots ≡ w.config.slots = kept.collector.slots in
+      accounted_count first w (words_without w a.slot a.field) (taken_off true w.collector.counts (target_of (word_at w a.slot a.field))) kept kept.mutators unswept.stands unswept.way unswept.older
+      (off_accounted w a.slot a.field kept unswept (below w a kept phase at) (within w a kept phase at) (released w a kept phase at) true)
+      ((off_most true w.collector.counts (target_of (word_at w a.slot a.field))).slots ∙ slots)
+      quiet (all_gathered w Freeing phase (λ t there. refl)) early
+
+  abbrev Comes : Core → Type 0
+  Comes after = ComesTo Round.Second w after.words after.collector
+
+  pub second_turned : (v : Core) → IsTurn w v → ((w.collector.phase ≡ Idle → ⊥) → first + 1 < w.epoch) → ((n : ℕ) → w.collector.phase ≡ Sweeping n → ⊥) → RestsIn Round.Second w w.words w.collector w.collector.phase → ComesTo Round.Second w v.words v.collector
+  second_turned v (IsTurn.spent phase last is) late unswept h = subst Comes (sym is) (ComesTo.goes_on refl h)
+  second_turned v (IsTurn.requests phase is) late unswept h = subst Comes (sym is) (ComesTo.goes_on refl (known_in Idle phase h))
+  second_turned v (IsTurn.waits t there phase word is) late unswept h = subst Comes (sym is) (ComesTo.goes_on refl h)
+  second_turned v (IsTurn.gathers t there phase word is) late unswept h = subst Comes (sym is) (ComesTo.goes_on refl (known_in (Looking t) phase h))
+  second_turned v (IsTurn.gives_back t there phase other is) late unswept h = subst Comes (sym is) (ComesTo.goes_on refl (known_in (Returning t) phase h))
+  second_turned v (IsTurn.applies t q turn there phase last on is) late unswept h =
+      let all : AreGathered w = last_gathered w kept t phase last in
+      let far : first + 1 < w.epoch = late (λ idle. other_phase (sym phase ∙ idle)) in
+      let early : first < w.epoch = omega (arith, far) in
+      let behind : older_at w.epoch w.collector.phase ≡ w.epoch - 2 = ap (older_at w.epoch) phase in
+      subst Comes (sym is) (second_clears (applied_lands w t kept phase last)
+      (frees_rest_applied w t kept phase last (λ s of. ((quiet s of).newer early (all s of), (quiet s of).older (omega (arith, far, behind)))) (known_in (Returning t) phase h) (landed_count first (batch_comes w t kept phase last).landed quiet all early))
+      tries_on on)
+    where
+      other_phase : Returning t ≡ Idle → ⊥
+      other_phase is = cc
+  second_turned v (IsTurn.releases a q turn phase at on is) late unswept h = absurd (known_in Releasing phase h)
+  second_turned v (IsTurn.frees a q turn phase at on is) late unswept h =
+      let far : first + 1 < w.epoch = late (λ idle. other_phase (sym phase ∙ idle)) in
+      subst Comes (sym is) (second_clears (freed_lands w a kept phase at) (frees_rest_more w a kept phase at (exchanged_count a phase at (omega (arith, far))) (known_in Freeing phase h)) tries_on on)
+    where
+      other_phase : Freeing ≡ Idle → ⊥
+      other_phase is = cc
+  second_turned v (IsTurn.tries place q turn phase named on is) late unswept h =
+      let keeps = took_keeps w.collector.trial w.collector.counts (now_at w Trying kept phase).kept (slice_index_or w.words place 0) (loaded_leads w kept phase place named) in
+      subst Comes (sym is) (within_tries (within_same w w.words w.collector.counts (with_tried (parts_of w.collector) (slice_index_or w.words place 0)).counts keeps.released (known_in Trying phase h)) on)
+  second_turned v (IsTurn.prepares a q turn phase at on is) late unswept h =
+      let others = took_others (record { machine = w.collector.prep; counts = w.collector.counts }) (word_at w a.slot a.field) in
+      subst Comes (sym is) (within_prepares (within_same w w.words w.collector.counts (with_loaded (parts_of w.collector) (word_at w a.slot a.field)).counts (λ x. ap (λ (y : Slot). y.released) (others.slots x)) (known_in Preparing phase h)) on)
+  second_turned v (IsTurn.begins_sweep phase is) late unswept h = subst Comes (sym is) (ComesTo.goes_on refl (known_in Opening phase h))
+  second_turned v (IsTurn.sweeps n slot next phase due which is) late unswept h = absurd (unswept n phase)
+  second_turned v (IsTurn.ends_sweep n phase is) late unswept h = subst Comes (sym is) (ComesTo.completes refl refl (known_in (Closing n) phase h))

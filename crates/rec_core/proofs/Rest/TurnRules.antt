@@ -1,0 +1,188 @@
+-- Every turn of the collector is one of its rules.
+use Rattle.std.proofs.Common.{◌≡◌, ◌⊎◌, inl, inr, ℕ, ◌+◌, ◌-◌, ◌%◌, ◌^◌, ◌==◌, Bool, true, Option, None, Some, List, IsNone, drop, slice_get, slice_index_or, slice_set, refl, sym, ap, subst, ◌∙◌}
+use Rattle.std.proofs.lemmas.Bool.{eq-eqb, ne_eqb, cond-true, cond-false}
+use Rattle.std.proofs.lemmas.List.{set-get_or}
+use Rattle.rec_word.specs.Op.{written, crossing_word}
+use Rattle.rec_word.specs.Place.{place_of}
+use Rattle.rec_word.specs.declared.op.Op.{Op}
+use Rattle.rec_word.specs.declared.op.Op.TheVariants as ops
+use Rattle.rec_log.specs.declared.contents.Contents.{Contents}
+use Rattle.rec_release.specs.declared.at.At.{At}
+use Rattle.rec_release.specs.declared.member.Member.{Member}
+use Rattle.rec_release.specs.CycleFree.{next_of as freeing_next, op_at as freeing_op_at}
+use Rattle.rec_release.specs.Release.{next_of as release_next, op_at as release_op_at}
+use Rattle.rec_release.specs.Sweep as sweeps
+use Rattle.rec_collector.specs.Causes.{HasCause}
+use Rattle.rec_collector.specs.Followed.{relieved, with_freed, with_loaded, with_released, with_tried}
+use Rattle.rec_collector.specs.Next.{next_of}
+use Rattle.rec_collector.specs.Private as collectors
+use Rattle.rec_collector.specs.Private.{Private, parts_of}
+use Rattle.rec_collector.specs.Step.{Step, ClearsOn, TriesOn, PreparesOn, IsNext}
+use Rattle.rec_collector.specs.Took.{step_of, took_of, turn_of, moved}
+use Rattle.rec_collector.specs.declared.phase.Phase.{Phase}
+use Rattle.rec_collector.specs.declared.phase.Phase.TheVariants.{Idle, Looking, Returning, Releasing, Freeing, Trying, Preparing, Opening, Sweeping, Closing}
+use Rattle.rec_collector.specs.declared.turn.Turn.{Turn}
+use Rattle.rec_collector.proofs.Causes.{has_cause, spends}
+use Rattle.rec_collector.proofs.Steps.{step_made}
+use Rattle.rec_core.specs.Cells.{cell}
+use Rattle.rec_core.specs.Core.{Core, cells_of, box, crossing_of}
+use Rattle.rec_core.specs.Kept.{IsKept}
+use Rattle.rec_core.specs.Moves.{looked_at, left_by, collected, turned, turned_at}
+use Rattle.rec_core.specs.Turn.{IsTurn, word_at, swept_by}
+use Rattle.rec_core.proofs.Preparing.{loads_due}
+use Rattle.rec_core.proofs.Runs.{given_is}
+use Rattle.rec_core.proofs.Trying.{loads_child}
+use Rattle.rec_core.proofs.Turning.{plain_left, mutator_at, some_op, freed_more}
+use Rattle.rec_core.proofs.Turns.{now_at}
+
+-- what a turn leaves where no mailbox is taken, with its operation named
+plain : (w : Core) (op its : Op) (word : ℕ) (q : Private) (phase : Phase) → w.collector.phase ≡ phase → left_by w.collector word (box w (looked_at phase)) phase ≡ box w (looked_at phase) → op ≡ its
+    → collected w op word q (left_by w.collector word (box w (looked_at w.collector.phase)) w.collector.phase) ≡ record (collected w its word q (box w 1)) { boxes = w.boxes }
+plain w op its word q phase is same named = plain_left w op word q phase is same ∙ ap (λ o. let v : Core = record (collected w o word q (box w 1)) { boxes = w.boxes } in v) named
+
+-- each rule
+rule_is : (w : Core) (op : Op) (word : ℕ) (q : Private) (turn : Turn) → IsKept w → word ≡ cell (cells_of w) op → Step w.collector word (box w (looked_at w.collector.phase)) (Some op) q turn
+    → IsTurn w (collected w op word q (left_by w.collector word (box w (looked_at w.collector.phase)) w.collector.phase))
+unfolding release_next freeing_next sweeps.started_of sweeps.next_of sweeps.took_of
+rule_is w op word q turn kept found (Step.spent idle last none same answer) = let not_so : ◌≡◌ {A = Option Op} (Some op) None = none in absurd (cc)
+rule_is w op word q turn kept found (Step.request idle more named g) =
+    let its : op ≡ ops.StoreEpoch (w.collector.epoch + 1) = some_op op (ops.StoreEpoch (w.collector.epoch + 1)) named in
+    let epoch : w.collector.epoch + 1 ≡ w.epoch + 1 = ap (λ n. n + 1) kept.collector.epoch in
+    IsTurn.requests idle (
+    plain w op (ops.StoreEpoch (w.collector.epoch + 1)) word q Idle idle refl its
+    ∙ ap (λ (n : ℕ). let v : Core = record w { epoch = n; collector = q } in v) epoch
+    ∙ ap (λ (c : Private). let v : Core = record w { epoch = w.epoch + 1; collector = c } in v) g.after
+    )
+rule_is w op word q turn kept found (Step.wait t looking other named same answer) =
+    let its : op ≡ ops.LookBox t w.collector.epoch = some_op op (ops.LookBox t w.collector.epoch) named in
+    let at : word ≡ slice_index_or w.crossing (t - 1) 0 = found ∙ ap (cell (cells_of w)) its in
+    let now = now_at w (Looking t) kept looking in
+    let left : left_by w.collector word (box w t) (Looking t) ≡ box w t = cond-false (word == crossing_word w.collector.epoch 2) (collectors.spare w.collector) (box w t) (ne_eqb word (crossing_word w.collector.epoch 2) other) in
+    let stays : written (ops.LookBox t w.collector.epoch) word ≡ word = cond-false (word == crossing_word w.collector.epoch 2) (crossing_word w.collector.epoch 3) word (ne_eqb word (crossing_word w.collector.epoch 2) other) in
+    let crossing : slice_set w.crossing (t - 1) (written (ops.LookBox t w.collector.epoch) word) ≡ w.crossing = ap (slice_set w.crossing (t - 1)) (stays ∙ at) ∙ set-get_or w.crossing (t - 1) 0 in
+    IsTurn.waits t (mutator_at w t (Looking t) kept looking (now.first, now.there)) looking (λ has. other (at ∙ has ∙ ap (λ n. crossing_word n 2) (sym kept.collector.epoch))) (
+    plain w op (ops.LookBox t w.collector.epoch) word q (Looking t) looking left its
+    ∙ ap (λ (cs : List ℕ). let v : Core = record w { crossing = cs; collector = q } in v) crossing
+    ∙ ap (λ (c : Private). let v : Core = record w { collector = c } in v) same
+    )
+rule_is w op word q turn kept found (Step.gather t looking crossed named g) =
+    let its : op ≡ ops.LookBox t w.collector.epoch = some_op op (ops.LookBox t w.collector.epoch) named in
+    let at : word ≡ slice_index_or w.crossing (t - 1) 0 = found ∙ ap (cell (cells_of w)) its in
+    let epoch : w.collector.epoch ≡ w.epoch = kept.collector.epoch in
+    let now = now_at w (Looking t) kept looking in
+    let has : crossing_of w t ≡ crossing_word w.epoch 2 = sym at ∙ crossed ∙ ap (λ n. crossing_word n 2) epoch in
+    let b : Bool = word == crossing_word w.collector.epoch 2 in
+    let yes : b ≡ true = eq-eqb word (crossing_word w.collector.epoch 2) crossed in
+    let next : written (ops.LookBox t w.collector.epoch) word ≡ crossing_word w.epoch 3 = cond-true b (crossing_word w.collector.epoch 3) word yes ∙ ap (λ n. crossing_word n 3) epoch in
+    let after : q ≡ moved (record w.collector { newer = slice_set w.collector.newer (t - 1) (box w t) }) (Returning t)
+    = g.after ∙ ap (λ (phase : Phase). moved (record w.collector { newer = slice_set w.collector.newer (t - 1) (box w (looked_at phase)) }) (Returning t)) looking in
+    let leaves : Phase → Core = λ f. collected (record w { collector = record w.collector { phase = f } }) op word q (left_by w.collector word (box w (looked_at f)) f) in
+    IsTurn.gathers t (mutator_at w t (Looking t) kept looking (now.first, now.there)) looking has (
+    ap leaves looking
+    ∙ ap (λ (o : Op). collected (record w { collector = record w.collector { phase = Looking t } }) o word q (left_by w.collector word (box w t) (Looking t))) its
+    ∙ ap (λ (x : Contents). let v : Core = record w { crossing = slice_set w.crossing (t - 1) (written (ops.LookBox t w.collector.epoch) word); boxes = slice_set w.boxes (t - 1) x; collector = q } in v) (cond-true b (collectors.spare w.collector) (box w t) yes)
+    ∙ ap (λ (n : ℕ). let v : Core = record w { crossing = slice_set w.crossing (t - 1) n; boxes = slice_set w.boxes (t - 1) (collectors.spare w.collector); collector = q } in v) next
+    ∙ ap (λ (c : Private). let v : Core = record w { crossing = slice_set w.crossing (t - 1) (crossing_word w.epoch 3); boxes = slice_set w.boxes (t - 1) (collectors.spare w.collector); collector = c } in v) after
+    )
+rule_is w op word q turn kept found (Step.give_back t returning more named g) =
+    let its : op ≡ ops.ReturnBox t w.collector.epoch = some_op op (ops.ReturnBox t w.collector.epoch) named in
+    let now = now_at w (Returning t) kept returning in
+    IsTurn.gives_back t (mutator_at w t (Returning t) kept returning (now.first, now.there)) returning more (
+    plain w op (ops.ReturnBox t w.collector.epoch) word q (Returning t) returning refl its
+    ∙ ap (λ (n : ℕ). let v : Core = record w { crossing = slice_set w.crossing (t - 1) (crossing_word n 0); collector = q } in v) kept.collector.epoch
+    ∙ ap (λ (c : Private). let v : Core = record w { crossing = slice_set w.crossing (t - 1) (crossing_word w.epoch 0); collector = c } in v) g.after
+    )
+rule_is w op word q turn kept found (Step.apply t returning last named on) =
+    let its : op ≡ ops.ReturnBox t w.collector.epoch = some_op op (ops.ReturnBox t w.collector.epoch) named in
+    let now = now_at w (Returning t) kept returning in
+    IsTurn.applies t q turn (mutator_at w t (Returning t) kept returning (now.first, now.there)) returning last on (
+    plain w op (ops.ReturnBox t w.collector.epoch) word q (Returning t) returning refl its
+    ∙ ap (λ (n : ℕ). let v : Core = record w { crossing = slice_set w.crossing (t - 1) (crossing_word n 0); collector = q } in v) kept.collector.epoch
+    )
+rule_is w op word q turn kept found (Step.release releasing named on) = go w.collector.release.at refl
+  where
+    go : (x : Option At) → w.collector.release.at ≡ x → IsTurn w (collected w op word q (left_by w.collector word (box w (looked_at w.collector.phase)) w.collector.phase))
+    go None at = let not_so : ◌≡◌ {A = Option Op} (Some op) None = named ∙ ap (release_op_at w.collector.release.fields) at in absurd (cc)
+    go (Some a) at =
+        let place : ℕ = place_of a.slot a.field w.config.fields in
+        let its : op ≡ ops.ClearField place = some_op op (ops.ClearField place) (named ∙ ap (release_op_at w.collector.release.fields) at ∙ ap (λ n. Some (ops.ClearField (place_of a.slot a.field n))) kept.collector.fields) in
+        let there : word ≡ word_at w a.slot a.field = found ∙ ap (cell (cells_of w)) its in
+        IsTurn.releases a q turn releasing at (subst (λ n. ClearsOn w.collector q turn (with_released (parts_of w.collector) n)) there on) (plain w op (ops.ClearField place) word q Releasing releasing refl its)
+rule_is w op word q turn kept found (Step.freeing freeing named on) = go w.collector.freeing.at refl
+  where
+    go : (x : Option Member) → w.collector.freeing.at ≡ x → IsTurn w (collected w op word q (left_by w.collector word (box w (looked_at w.collector.phase)) w.collector.phase))
+    go None at = let not_so : ◌≡◌ {A = Option Op} (Some op) None = named ∙ ap (freeing_op_at w.collector.freeing.fields) at in absurd (cc)
+    go (Some a) at =
+        let place : ℕ = place_of a.slot a.field w.config.fields in
+        let fields : w.collector.freeing.fields ≡ w.config.fields = kept.collector.machine.freeing_fields ∙ kept.collector.fields in
+        let its : op ≡ ops.ClearField place = some_op op (ops.ClearField place) (named ∙ ap (freeing_op_at w.collector.freeing.fields) at ∙ ap (λ n. Some (ops.ClearField (place_of a.slot a.field n))) fields) in
+        let there : word ≡ word_at w a.slot a.field = found ∙ ap (cell (cells_of w)) its in
+        IsTurn.frees a q turn freeing at (subst (λ n. ClearsOn w.collector q turn (relieved (with_freed (parts_of w.collector) n))) there on) (plain w op (ops.ClearField place) word q Freeing freeing refl its)
+rule_is w op word q turn kept found (Step.trial trying named on) =
+    let (place, its) = loads_child w.collector.trial op named in
+    let there : word ≡ slice_index_or w.words place 0 = found ∙ ap (cell (cells_of w)) its in
+    let stays : slice_set w.words place word ≡ w.words = ap (slice_set w.words place) there ∙ set-get_or w.words place 0 in
+    IsTurn.tries place q turn trying (sym named ∙ ap (λ o. Some o) its) (subst (λ n. TriesOn w.collector (with_tried (parts_of w.collector) n) q turn) there on) (
+    plain w op (ops.LoadChild place) word q Trying trying refl its ∙ ap (λ (ws : List ℕ). let v : Core = record w { words = ws; collector = q } in v) stays
+    )
+rule_is w op word q turn kept found (Step.preparation preparing named on) =
+    let (a, at, due) = loads_due w.collector.prep op (sym named) in
+    let place : ℕ = place_of a.slot a.field w.config.fields in
+    let fields : w.collector.prep.fields ≡ w.config.fields = kept.collector.machine.prep_fields ∙ kept.collector.fields in
+    let its : op ≡ ops.LoadChild place = due ∙ ap (λ n. ops.LoadChild (place_of a.slot a.field n)) fields in
+    let there : word ≡ word_at w a.slot a.field = found ∙ ap (cell (cells_of w)) its in
+    let stays : slice_set w.words place word ≡ w.words = ap (slice_set w.words place) there ∙ set-get_or w.words place 0 in
+    IsTurn.prepares a q turn preparing at (subst (λ n. PreparesOn w.collector (with_loaded (parts_of w.collector) n) q turn) there on) (
+    plain w op (ops.LoadChild place) word q Preparing preparing refl its ∙ ap (λ (ws : List ℕ). let v : Core = record w { words = ws; collector = q } in v) stays
+    )
+rule_is w op word q turn kept found (Step.begin_sweep opening named g) =
+    let its : op ≡ ops.AddFreed = some_op op ops.AddFreed named in
+    let there : word ≡ w.freed = found ∙ ap (cell (cells_of w)) its in
+    let more : (word + 1) % 2 ^ 64 ≡ w.freed + 1 = ap (λ n. (n + 1) % 2 ^ 64) there ∙ freed_more w kept in
+    IsTurn.begins_sweep opening (
+    plain w op ops.AddFreed word q Opening opening refl its
+    ∙ ap (λ (n : ℕ). let v : Core = record w { freed = n; collector = q } in v) more
+    ∙ ap (λ (c : Private). let v : Core = record w { freed = w.freed + 1; collector = c } in v) g.after
+    )
+rule_is w op word q turn kept found (Step.sweep n u next sweeping named took follows g) = go w.collector.due refl
+  where
+    follow : IsNext n u next → (next ≡ Sweeping (n + 1)) ⊎ (next ≡ Closing (n + 1))
+    follow (IsNext.more some is) = inl is
+    follow (IsNext.last none is) = inr is
+
+    go : (x : Option ℕ) → w.collector.due ≡ x → IsTurn w (collected w op word q (left_by w.collector word (box w (looked_at w.collector.phase)) w.collector.phase))
+    go None due = let not_so : ◌≡◌ {A = Option Op} (Some op) None = named ∙ ap sweeps.next_of due in absurd (cc)
+    go (Some x) due =
+        let its : op ≡ ops.FreeHeader x = some_op op (ops.FreeHeader x) (named ∙ ap sweeps.next_of due) in
+        let work : u ≡ record { due = slice_get (drop 1 w.collector.counts.free) 0; counts = sweeps.swept w.collector.counts x } = took ∙ ap (λ (o : Option ℕ). sweeps.took_at (record { due = w.collector.due; counts = w.collector.counts }) o) due in
+        let after : q ≡ swept_by w.collector x next
+        = g.after ∙ ap (λ (v : sweeps.Work). let c : Private = record w.collector { due = v.due; counts = v.counts; freed = w.collector.freed + 1; phase = next; turns = w.collector.turns + 1 } in c) work in
+        IsTurn.sweeps n x next sweeping due (follow follows) (
+        plain w op (ops.FreeHeader x) word q (Sweeping n) sweeping refl its ∙ ap (λ (c : Private). let v : Core = record w { headers = slice_set w.headers x 0; collector = c } in v) after
+        )
+rule_is w op word q turn kept found (Step.end_sweep n closing named e) =
+    let its : op ≡ ops.AddFreed = some_op op ops.AddFreed named in
+    let there : word ≡ w.freed = found ∙ ap (cell (cells_of w)) its in
+    let more : (word + 1) % 2 ^ 64 ≡ w.freed + 1 = ap (λ n. (n + 1) % 2 ^ 64) there ∙ freed_more w kept in
+    IsTurn.ends_sweep n closing (
+    plain w op ops.AddFreed word q (Closing n) closing refl its
+    ∙ ap (λ (m : ℕ). let v : Core = record w { freed = m; collector = q } in v) more
+    ∙ ap (λ (c : Private). let v : Core = record w { freed = w.freed + 1; collector = c } in v) e.after
+    )
+
+-- Every turn of a kept heap's collector is one of the rules.
+pub turn_is : (w : Core) → IsKept w → IsTurn w (turned w)
+turn_is w kept = go (next_of w.collector) refl
+  where
+    go : (x : Option Op) → next_of w.collector ≡ x → IsTurn w (turned_at w x)
+    go None none =
+        let cause = has_cause w.collector 0 kept.collector.machine in
+        let last : IsNone (next_of w.collector) = subst (λ (o : Option Op). IsNone o) (sym none) refl in
+        let is = subst (HasCause w.collector 0 (took_of w.collector 0)) (spends w.collector 0 kept.collector.machine last) cause in
+        IsTurn.spent is.0 (ap (λ n. n + 1) (sym kept.collector.epoch) ∙ is.1) refl
+    go (Some op) named =
+        let word : ℕ = cell (cells_of w) op in
+        let b : Contents = box w (looked_at w.collector.phase) in
+        let step : Step w.collector word b (Some op) (step_of w.collector word b) (turn_of w.collector word)
+        = subst (λ (x : Option Op). Step w.collector word b x (step_of w.collector word b) (turn_of w.collector word)) named (step_made w.collector word b kept.collector.machine kept.collector.between (given_is w op kept named)) in
+        rule_is w op word (step_of w.collector word b) (turn_of w.collector word) kept refl step

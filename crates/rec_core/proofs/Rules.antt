@@ -1,0 +1,246 @@
+-- Each step of a mutator keeps what every heap with its collector keeps.
+use Rattle.std.proofs.Common.{◌≡◌, inl, inr, ℕ, ◌+◌, ◌-◌, ◌*◌, ◌^◌, ◌<◌, ◌≤◌, false, List, [], ◌∷◌, ◌++◌, Option, None, Some, length, slice_index_or, slice_set, refl, sym, ap, subst, ◌∙◌, arith, length-append, add-zero}
+use Rattle.std.proofs.lemmas.Bool.{false≢true, cases_eq}
+use Rattle.std.proofs.lemmas.List.{length-set, get_or-set_same, get_or-set_other}
+use Rattle.std.proofs.lemmas.List.Elements.{All-set}
+use Rattle.rec_word.specs.Place.{place_of}
+use Rattle.rec_word.specs.Word.{target_of, stamp_of}
+use Rattle.rec_word.specs.declared.stamps.Stamp.{Stamp}
+use Rattle.rec_word.specs.declared.op.Op.{Op}
+use Rattle.rec_word.specs.declared.op.Op.TheVariants as ops
+use Rattle.rec_model.specs.Moves.{Loads, Move}
+use Rattle.rec_model.specs.Pending.{node_of, epoch_of, Holds}
+use Rattle.rec_model.specs.Sight.{Sight, IsTaken, IsSound, word_at, sight_with_header, sight_with_word}
+use Rattle.rec_model.specs.declared.answer.Answer.TheVariants as answers_
+use Rattle.rec_model.specs.declared.command.Cmd.TheVariants as commands
+use Rattle.rec_model.proofs.Standing.{register_sound, birth_sound, write_sound}
+use Rattle.rec_log.specs.declared.contents.Contents.{Contents}
+use Rattle.rec_log.specs.declared.entry.Entry.{Entry}
+use Rattle.rec_log.specs.declared.entry.Entry.TheVariants as entries
+use Rattle.rec_mutator.specs.Causes.{is_giving}
+use Rattle.rec_mutator.specs.Private.{Private, register, word_for, next_stamp}
+use Rattle.rec_mutator.specs.Step.{Step, Decides, HasRoom}
+use Rattle.rec_mutator.specs.declared.phase.Phase as phases
+use Rattle.rec_mutator.specs.declared.phase.Phase.TheVariants as at
+use Rattle.rec_mutator.specs.declared.work.Work.TheVariants as works
+use Rattle.rec_mutator.proofs.Steps.{TakesNone}
+use Rattle.rec_mutator.specs.Took.{plain}
+use Rattle.rec_core.specs.Cells.{cell}
+use Rattle.rec_core.specs.Config.{IsMutator}
+use Rattle.rec_core.specs.Core.{Core, cells_of, sight, mutator, box, crossing_of, with_mutator}
+use Rattle.rec_core.specs.Kept.{HasLabelAt, HasPassed, IsScanning, entries_made, IsKept, IsActor}
+use Rattle.rec_core.specs.Moves.{performed}
+use Rattle.rec_core.specs.Pending.{code, epoch_at, pending}
+use Rattle.rec_core.proofs.Actors.{one_entry, epoch_here}
+use Rattle.rec_core.proofs.LogStamps.{word_stamp}
+use Rattle.rec_core.proofs.Machines.{at_phase, has_room, register_target}
+use Rattle.rec_core.proofs.Moves.{code_target, home_of, has_register, put_moves, birth_moves}
+use Rattle.rec_core.proofs.Places.{place_within}
+use Rattle.rec_core.proofs.Shapes.{after_cross, after_field, after_header, after_epoch, after_freed, after_probe, after_swap, after_claim}
+use Rattle.rec_core.proofs.Stamps.{target_of-packed}
+use Rattle.rec_core.proofs.Steps.{Makes, actor_of, in_list, register_taken, target_taken, taken_slot, held_stays, emptied_stays, changed_kept, moved_accounts, answers, answered_actor, unchanged, sets, goes_on, about_to_cross, registers_stay, registers_set, Answers}
+
+-- the epoch of a word is that of its stamp
+pub epoch_of_stamp : (x : ℕ) (s : Stamp) → stamp_of x ≡ s → epoch_of x ≡ s.epoch
+unfolding epoch_of
+epoch_of_stamp x s is = ap (λ (y : Stamp). y.epoch) is
+
+-- a field's word, where its place was reckoned by the mutator
+pub word_found : (w : Core) (t word slot f : ℕ) (op : Op) → IsKept w → IsMutator w.config t → word ≡ cell (cells_of w) op → op ≡ ops.LoadField (place_of slot f (mutator w t).fields) → word ≡ word_at (sight w) slot f
+word_found w t word slot f op kept is found at = found ∙ ap (cell (cells_of w)) at ∙ ap (λ n. slice_index_or w.words (place_of slot f n) 0) (actor_of w t kept is).own.fields
+
+-- a field of a taken slot is one of the words
+place_there : (w : Core) (slot f : ℕ) → IsKept w → slot < w.config.slots → f < w.config.fields → place_of slot f w.config.fields < length w.words
+place_there w slot f kept below in_range =
+    let headers : length w.headers ≡ w.config.slots = kept.headers in
+    place_within w.config.fields (length w.headers) (length w.words) slot f kept.sound.places (omega arith) in_range
+
+-- what a register names is held
+names_held : (w : Core) (t r slot : ℕ) → IsKept w → IsMutator w.config t → r < length (mutator w t).registers → register (mutator w t) r ≡ Some slot → Holds (pending w) (epoch_at (mutator w t)) (slot + 1)
+names_held w t r slot kept is within names = subst (Holds (pending w) (epoch_at (mutator w t))) (ap code names) (has_register w t r (in_list w t kept is) within)
+
+-- the entry that a write made is one of its log's epoch
+-- the word that a write leaves leads to what the register names
+pub leads_to : (w : Core) (t val : ℕ) → IsKept w → IsMutator w.config t → HasRoom (mutator w t) → target_of (word_for (mutator w t) val) ≡ register (mutator w t) val
+leads_to w t val kept is room =
+    let p : Private = mutator w t in
+    let machine = (actor_of w t kept is).own.machine in
+    let free : length p.log.entries < p.log.capacity = has_room p machine room in
+    let most : p.log.capacity ≤ 2 ^ 18 = machine.capacity in
+    target_of-packed (register p val) (next_stamp p) (register_target p val machine) (record { writer = machine.number; epoch = machine.epoch; index = omega arith })
+
+module _ {w : Core} {t word : ℕ} {op : Op} {q : Private} (m : Makes w t word op q) where
+  abbrev p : Private
+  p = mutator w t
+
+  abbrev actor : IsActor w.config w.epoch w.collector.phase t p (crossing_of w t) (box w t)
+  actor = actor_of w t m.kept m.is
+
+  -- the entries of an answer are more than before
+  entries_grow : (registers : List (Option ℕ)) (more : List Entry) → Answers m registers (p.log.entries ++ more) → entries_made w.config p + length more ≤ entries_made w.config q
+  entries_grow registers more a =
+      let made : (e : ℕ) → Contents → ℕ = λ e b. (e - w.config.first_epoch) * w.config.log_entries + length b.entries in
+      let same : entries_made w.config q ≡ made (epoch_at p) (record p.log { entries = p.log.entries ++ more }) = ap (λ e. made e q.log) a.same ∙ ap (made (epoch_at p)) a.log in
+      omega (arith, same, length-append p.log.entries more)
+
+  -- a write of a field
+  puts : (src f val slot : ℕ) → register p src ≡ Some slot → HasRoom p
+      → Decides p op q (commands.Put src f val) (at.Begun (works.Command (commands.Put src f val))) (ops.SwapField (place_of slot f p.fields) (word_for p val)) p.registers
+      (p.log.entries ++ entries.Put (place_of slot f p.fields) (word_for p val) word ∷ []) (record { answer = answers_.Done; saw = word; left = word_for p val })
+      → IsKept (record (with_mutator w t q) { words = slice_set w.words (place_of slot f w.config.fields) (word_for p val) })
+  puts src f val slot names room d =
+      let fields : p.fields ≡ w.config.fields = actor.own.fields in
+      let operands = (at_phase p (at.Begun (works.Command (commands.Put src f val))) actor.own.machine d.phase).0 in
+      let from : src < length p.registers = operands.0 in
+      let own_range : f < p.fields = operands.1 in
+      let of : val < length p.registers = operands.2 in
+      let in_range : f < w.config.fields = omega arith in
+      let taken : IsTaken (sight w) slot = register_taken w m.kept t src slot names in
+      let below : slot < w.config.slots = taken_slot w m.kept slot taken in
+      let place : ℕ = place_of slot f w.config.fields in
+      let left : ℕ = word_for p val in
+      let is_word : word ≡ slice_index_or w.words place 0 = m.found ∙ ap (cell (cells_of w)) d.operation ∙ ap (λ n. slice_index_or w.words (place_of slot f n) 0) fields in
+      let a = answers refl m (decided_at fields is_word d) in
+      let free : length p.log.entries < p.log.capacity = has_room p actor.own.machine room in
+      let stamp : stamp_of left ≡ next_stamp p = word_stamp p val actor.own.machine room in
+      let here : epoch_at p ≡ p.epoch = epoch_here p a.here in
+      let in_epoch : epoch_of left ≡ epoch_at p = epoch_of_stamp left (next_stamp p) stamp ∙ sym here in
+      let leads : target_of left ≡ register p val = leads_to w t val m.kept m.is room in
+      let node : node_of left ≡ code (register p val) = sym (code_target left) ∙ ap code leads in
+      let there : t - 1 < length w.mutators = in_list w t m.kept m.is in
+      let holds : Holds (pending w) (epoch_at p) (slot + 1) = names_held w t src slot m.kept m.is from names in
+      subst (λ (n : ℕ). IsKept (record (with_mutator w t q) { words = slice_set w.words place left; made = n })) (add-zero w.made)
+      (changed_kept w t q w.headers (slice_set w.words place left) 0 m.kept m.is (answered_actor a (one_entry w.config (epoch_at p) p.log _ actor.log free in_epoch)) refl m.kept.labels
+      (emptied_stays w slot f left m.kept in_range (held_stays w t slot m.kept below holds)) (a.scans w.config.slots w.freed w.headers) (λ s is. is)
+      (let more = entries_grow p.registers _ a in omega (arith, more))
+      (subst (λ (rss : List (List (Option ℕ))). IsSound (record (sight_with_word (sight w) slot f left) { registers = rss })) (sym (registers_stay w t q a.registers_are))
+      (write_sound (sight w) slot f left in_range taken (λ n is. register_taken w m.kept t val n (sym leads ∙ is)) m.kept.sound))
+      (moved_accounts w _ m.kept (Move.put (put_moves w t place left slot val q there (place_there w slot f m.kept below in_range) (home_of slot f w.config.fields in_range) holds
+      (λ some. subst (Holds (pending w) (epoch_at p)) (sym node) (has_register w t val there of)) in_epoch a.registers_are a.same a.log)) tt tt))
+    where
+      decided_at : p.fields ≡ w.config.fields → word ≡ slice_index_or w.words (place_of slot f w.config.fields) 0
+          → Decides p op q (commands.Put src f val) (at.Begun (works.Command (commands.Put src f val))) (ops.SwapField (place_of slot f p.fields) (word_for p val)) p.registers
+          (p.log.entries ++ entries.Put (place_of slot f p.fields) (word_for p val) word ∷ []) (record { answer = answers_.Done; saw = word; left = word_for p val })
+          → Decides p op q (commands.Put src f val) (at.Begun (works.Command (commands.Put src f val))) (ops.SwapField (place_of slot f p.fields) (word_for p val)) p.registers
+          (p.log.entries ++ entries.Put (place_of slot f w.config.fields) (word_for p val) (slice_index_or w.words (place_of slot f w.config.fields) 0) ∷ []) (record { answer = answers_.Done; saw = word; left = word_for p val })
+      decided_at fields found is =
+          let P : ℕ → ℕ → Type 0 = λ n x. Decides p op q (commands.Put src f val) (at.Begun (works.Command (commands.Put src f val))) (ops.SwapField (place_of slot f p.fields) (word_for p val)) p.registers
+          (p.log.entries ++ entries.Put (place_of slot f n) (word_for p val) x ∷ []) (record { answer = answers_.Done; saw = word; left = word_for p val }) in
+          subst (P w.config.fields) found (subst (λ n. P n word) fields is)
+
+  -- a birth in a free slot
+  births : (reg label before slot : ℕ) → word ≡ 0 → slice_index_or w.headers slot 0 ≡ 0 → slot < w.config.slots → label < 2 ^ 32
+      → Decides p op q (commands.New reg label) (at.Scanning reg label before slot) (ops.ClaimHeader slot label) (slice_set p.registers reg (Some slot)) (p.log.entries ++ entries.Born slot ∷ []) (plain answers_.Done)
+      → IsKept (record (with_mutator w t q) { headers = slice_set w.headers slot (label + 1); made = w.made + 1 })
+  births reg label before slot free empty below fits d =
+      let scan = (at_phase p (at.Scanning reg label before slot) actor.own.machine d.phase).0 in
+      let within : reg < length p.registers = scan.register in
+      let room : length p.log.entries < p.log.capacity = scan.room in
+      let headers : length w.headers ≡ w.config.slots = kept_headers in
+      let inside : slot < length w.headers = omega arith in
+      let a = answers refl m d in
+      let seen : Sight = sight_with_header (sight w) slot (label + 1) in
+      let taken : IsTaken seen slot = (let is : slice_index_or (slice_set w.headers slot (label + 1)) slot 0 ≡ label + 1 = get_or-set_same w.headers slot (label + 1) 0 inside in omega arith) in
+      changed_kept w t q (slice_set w.headers slot (label + 1)) w.words 1 m.kept m.is (answered_actor a (one_entry w.config (epoch_at p) p.log _ actor.log room tt)) (length-set w.headers slot (label + 1))
+      (All-set (λ header. header ≤ 2 ^ 32) w.headers slot (label + 1) (omega arith) m.kept.labels) m.kept.collector (a.scans w.config.slots w.freed (slice_set w.headers slot (label + 1))) (more slot label inside)
+      (entries_grow (slice_set p.registers reg (Some slot)) (entries.Born slot ∷ []) a)
+      (subst (λ (rss : List (List (Option ℕ))). IsSound (record seen { registers = rss })) (sym (registers_set w t reg (Some slot) q a.registers_are))
+      (register_sound seen t reg (Some slot) (λ n is. subst (IsTaken seen) (some_same slot n is) taken) (birth_sound (sight w) slot (label + 1) inside empty m.kept.sound)))
+      (moved_accounts w _ m.kept (Move.birth (birth_moves w t reg slot label q (in_list w t m.kept m.is) within inside empty a.registers_are a.same a.log)) tt tt)
+    where
+      kept_headers : length w.headers ≡ w.config.slots
+      kept_headers = m.kept.headers
+
+      some_same : (x y : ℕ) → ◌≡◌ {A = Option ℕ} (Some x) (Some y) → x ≡ y
+      some_same x y is = cc
+
+      more : (x header : ℕ) → x < length w.headers → (s : ℕ) → 0 < slice_index_or w.headers s 0 → 0 < slice_index_or (slice_set w.headers x (header + 1)) s 0
+      more x header inside s some = elim (cases_eq s x) [
+        | inl same ↦ let is : slice_index_or (slice_set w.headers x (header + 1)) s 0 ≡ header + 1 = ap (λ n. slice_index_or (slice_set w.headers x (header + 1)) n 0) same ∙ get_or-set_same w.headers x (header + 1) 0 inside in omega arith
+        | inr other ↦ let is : slice_index_or (slice_set w.headers x (header + 1)) s 0 ≡ slice_index_or w.headers s 0 = get_or-set_other w.headers x s (header + 1) 0 other in omega arith
+      ]
+
+-- what is known of a scan's slot
+pub scanned : (w : Core) (t : ℕ) (phase : phases.Phase) → IsKept w → IsMutator w.config t → (mutator w t).phase ≡ phase → IsScanning w.config.slots w.headers w.freed phase
+scanned w t phase kept is at = subst (IsScanning w.config.slots w.headers w.freed) at (kept.scans t is)
+
+-- a probe's word
+pub probe_found : (w : Core) (word slot label : ℕ) (op : Op) → word ≡ cell (cells_of w) op → op ≡ ops.ClaimHeader slot label → word ≡ slice_index_or w.headers slot 0
+probe_found w word slot label op found at = found ∙ ap (cell (cells_of w)) at
+
+-- a scan that passes a taken slot has passed it
+passes : (w : Core) (before slot : ℕ) → HasPassed w.headers w.freed before slot → 0 < slice_index_or w.headers slot 0 → HasPassed w.headers w.freed before (slot + 1)
+passes w before slot is taken = (
+  is.0,
+  λ same even s below. elim (cases_eq s slot) [
+    | inl here ↦ subst (λ n. 0 < slice_index_or w.headers n 0) (sym here) taken
+    | inr other ↦ is.1 same even s (omega arith)
+  ],
+)
+
+-- the label of a scan
+label_at : (w : Core) (t : ℕ) (phase : phases.Phase) → IsKept w → IsMutator w.config t → (mutator w t).phase ≡ phase → HasLabelAt phase
+label_at w t phase kept is at = subst HasLabelAt at (actor_of w t kept is).own.label
+
+-- every step that takes no mailbox and gives none back
+pub performed_kept : {w : Core} {t word : ℕ} {op : Op} {q : Private} → is_giving (mutator w t).phase ≡ false → Makes w t word op q → Step (mutator w t) word (box w t) op q → IsKept (performed w t op word q (box w t))
+performed_kept {w = w} {t = t} {word = word} {op = op} {q = q} here m (Step.null reg d) =
+    after_cross IsKept w t _ word q op d.operation m.found (sets reg None refl m (at_phase (mutator w t) _ (actor m).own.machine d.phase).0 (λ slot e. cc) (λ some. absurd (omega arith)) d)
+performed_kept {w = w} {t = t} {word = word} {op = op} {q = q} here m (Step.copy dst src d) =
+    let operands = (at_phase (mutator w t) _ (actor m).own.machine d.phase).0 in
+    after_cross IsKept w t _ word q op d.operation m.found
+    (sets dst (register (mutator w t) src) refl m operands.0 (λ slot e. register_taken w m.kept t src slot e) (λ some. inl (has_register w t src (in_list w t m.kept m.is) operands.1)) d)
+performed_kept {w = w} {t = t} {word = word} {op = op} {q = q} here m (Step.compare a b d) = after_cross IsKept w t _ word q op d.operation m.found (unchanged refl m d)
+performed_kept {w = w} {t = t} {word = word} {op = op} {q = q} here m (Step.get_of_null dst src f names d) = after_cross IsKept w t _ word q op d.operation m.found (unchanged refl m d)
+performed_kept {w = w} {t = t} {word = word} {op = op} {q = q} here m (Step.get dst src f slot names d) =
+    let p : Private = mutator w t in
+    let fields : p.fields ≡ w.config.fields = (actor m).own.fields in
+    let operands = (at_phase p (at.Begun (works.Command (commands.Get dst src f))) (actor m).own.machine d.phase).0 in
+    let own_range : f < p.fields = operands.2 in
+    let in_range : f < w.config.fields = omega arith in
+    let taken : IsTaken (sight w) slot = register_taken w m.kept t src slot names in
+    let below : slot < w.config.slots = taken_slot w m.kept slot taken in
+    let is_word : word ≡ word_at (sight w) slot f = word_found w t word slot f op m.kept m.is m.found d.operation in
+    let place : ℕ = place_of slot f w.config.fields in
+    let loads : Loads (pending w) (epoch_at p) (code (target_of word)) = record {
+      place = place;
+      inside = place_there w slot f m.kept below in_range;
+      source = subst (Holds (pending w) (epoch_at p)) (sym (home_of slot f w.config.fields in_range)) (names_held w t src slot m.kept m.is operands.1 names);
+      target = code_target word ∙ ap node_of is_word;
+    } in
+    after_field IsKept w t _ word q op d.operation m.found
+    (sets dst (target_of word) refl m operands.0 (λ n e. target_taken w m.kept slot f n in_range taken (ap target_of (sym is_word) ∙ e)) (λ some. inr loads) d)
+performed_kept {w = w} {t = t} {word = word} {op = op} {q = q} here m (Step.put_of_null src f val names d) = after_cross IsKept w t _ word q op d.operation m.found (unchanged refl m d)
+performed_kept {w = w} {t = t} {word = word} {op = op} {q = q} here m (Step.put_refused src f val slot names full d) = after_cross IsKept w t _ word q op d.operation m.found (unchanged refl m d)
+performed_kept {w = w} {t = t} {word = word} {op = op} {q = q} here m (Step.put src f val slot names room d) =
+    let fields : (mutator w t).fields ≡ w.config.fields = (actor m).own.fields in
+    after_swap IsKept w t _ _ word q op d.operation
+    (subst (λ n. IsKept (record (with_mutator w t q) { words = slice_set w.words (place_of slot f n) (word_for (mutator w t) val) })) (sym fields) (puts m src f val slot names room d))
+performed_kept {w = w} {t = t} {word = word} {op = op} {q = q} here m (Step.value_of_null reg names d) = after_cross IsKept w t _ word q op d.operation m.found (unchanged refl m d)
+performed_kept {w = w} {t = t} {word = word} {op = op} {q = q} here m (Step.value reg slot names d) = after_header IsKept w t _ word q op d.operation m.found (unchanged refl m d)
+performed_kept {w = w} {t = t} {word = word} {op = op} {q = q} here m (Step.new_refused reg label full d) = after_cross IsKept w t _ word q op d.operation m.found (unchanged refl m d)
+performed_kept {w = w} {t = t} {word = word} {op = op} {q = q} here m (Step.new_begins reg label room g) =
+    let freed : word ≡ w.freed = m.found ∙ ap (cell (cells_of w)) g.operation in
+    after_freed IsKept w t word q op g.operation m.found (goes_on refl m tt (label_at w t _ m.kept m.is g.phase) (omega (arith, freed), λ _ _ s below. absurd (omega arith)) g)
+performed_kept {w = w} {t = t} {word = word} {op = op} {q = q} here m (Step.new_wins reg label before slot free d) =
+    let p : Private = mutator w t in
+    let slots : p.slots ≡ w.config.slots = (actor m).own.slots in
+    let there : slot < p.slots = (at_phase p (at.Scanning reg label before slot) (actor m).own.machine d.phase).1 in
+    let header : slice_index_or w.headers slot 0 ≡ 0 = sym (probe_found w word slot label op m.found d.operation) ∙ free in
+    after_claim IsKept w t slot label word q op d.operation free (births m reg label before slot free header (omega arith) (label_at w t (at.Scanning reg label before slot) m.kept m.is d.phase) d)
+performed_kept {w = w} {t = t} {word = word} {op = op} {q = q} here m (Step.new_goes_on reg label before slot taken more g) =
+    let header : word ≡ slice_index_or w.headers slot 0 = probe_found w word slot label op m.found g.operation in
+    after_probe IsKept w t slot label word q op g.operation m.found taken
+    (goes_on refl m tt (label_at w t (at.Scanning reg label before slot) m.kept m.is g.phase) (passes w before slot (scanned w t (at.Scanning reg label before slot) m.kept m.is g.phase) (omega arith)) g)
+performed_kept {w = w} {t = t} {word = word} {op = op} {q = q} here m (Step.new_finds_none reg label before slot taken last g) =
+    let header : word ≡ slice_index_or w.headers slot 0 = probe_found w word slot label op m.found g.operation in
+    let slots : (mutator w t).slots ≡ w.config.slots = (actor m).own.slots in
+    let all : slot + 1 ≡ w.config.slots = last ∙ slots in
+    after_probe IsKept w t slot label word q op g.operation m.found taken
+    (goes_on refl m tt tt (subst (HasPassed w.headers w.freed before) all (passes w before slot (scanned w t (at.Scanning reg label before slot) m.kept m.is g.phase) (omega arith))) g)
+performed_kept {w = w} {t = t} {word = word} {op = op} {q = q} here m (Step.new_is_full reg label before still d) = after_freed IsKept w t word q op d.operation m.found (unchanged refl m d)
+performed_kept {w = w} {t = t} {word = word} {op = op} {q = q} here m (Step.new_is_busy reg label before moves d) = after_freed IsKept w t word q op d.operation m.found (unchanged refl m d)
+performed_kept {w = w} {t = t} {word = word} {op = op} {q = q} here m (Step.poll_stays own g) = after_epoch IsKept w t word q op g.operation m.found (goes_on refl m tt tt tt g)
+performed_kept {w = w} {t = t} {word = word} {op = op} {q = q} here m (Step.poll_crosses other g) = after_epoch IsKept w t word q op g.operation m.found (about_to_cross m other g)
+performed_kept here m (Step.take_box c) = absurd (subst TakesNone c.phase m.none)
+performed_kept here m (Step.give_box c) = absurd (false≢true (sym here ∙ ap is_giving c.phase))

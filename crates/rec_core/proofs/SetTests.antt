@@ -1,0 +1,199 @@
+-- Sets are tested while nothing is released or freed: one that passes is given up, any other refurbished. Whatever follows, every heap
+-- keeps what it keeps.
+use Rattle.std.proofs.Common.{◌≡◌, ◌⊎◌, inl, inr, ℕ, suc, ◌+◌, ◌-◌, ◌*◌, ◌<◌, ◌==◌, true, false, Option, None, Some, List, [], ◌∷◌, length, slice_get, slice_index_or, refl, sym, ap, subst, ◌∙◌, arith}
+use Rattle.std.proofs.lemmas.Bool.{cases_Bool}
+use Rattle.std.proofs.lemmas.Bool.Decides.{eqb_tells}
+use Rattle.rec_model.specs.Pending.{Pending}
+use Rattle.rec_counts.specs.Counts.{State, slot_at}
+use Rattle.rec_counts.specs.Groups.{last_set}
+use Rattle.rec_counts.specs.Lists.{one, times}
+use Rattle.rec_counts.specs.declared.slot.Slot.{Slot}
+use Rattle.rec_counts.proofs.Times.{times-nil, times-cons}
+use Rattle.rec_release.specs.CycleFree.{IsFreeable, first_member, given_up}
+use Rattle.rec_release.specs.Release.{IsReady}
+use Rattle.rec_release.proofs.Giving.{given_many, given_released, given_work, nothing_first}
+use Rattle.rec_sigma.specs.Refurbish.{IsRefusable, LastRefurbished}
+use Rattle.rec_sigma.specs.Settling.{refurbished_of}
+use Rattle.rec_sigma.specs.Judged.{AreOrange, cyclic_sum}
+use Rattle.rec_sigma.proofs.Refused.{same_count, same_released}
+use Rattle.rec_sigma.proofs.Renewals.{refurbished_last}
+use Rattle.rec_collector.specs.Parts.{Parts}
+use Rattle.rec_collector.specs.Private as collectors
+use Rattle.rec_collector.specs.Private.{with_parts}
+use Rattle.rec_collector.specs.Kept as collector_kept
+use Rattle.rec_collector.specs.Step.{ClearsOn, IsTested}
+use Rattle.rec_collector.specs.declared.sets.Sets.{Sets}
+use Rattle.rec_collector.specs.Testing.{counted_by, is_busy, last_tested}
+use Rattle.rec_collector.specs.declared.phase.Phase.TheVariants.{Releasing, Freeing}
+use Rattle.rec_collector.specs.declared.turn.Turn.{Turn}
+use Rattle.rec_collector.proofs.Clearing.{clear_ready, last_clear, last_freeable, last_refusable, refused_clear}
+use Rattle.rec_collector.proofs.Dropping.{given_kept, refurbished_kept}
+use Rattle.rec_collector.proofs.Goings.{last_by, last_given}
+use Rattle.rec_collector.proofs.Tested.{is_last_tested}
+use Rattle.rec_collector.proofs.Verdicts.{verdict_passed}
+use Rattle.rec_core.specs.Core.{Core}
+use Rattle.rec_core.specs.Kept.{IsLeftOf, IsKept}
+use Rattle.rec_core.specs.Pending.{pending}
+use Rattle.rec_core.proofs.Counts.{alike_slots, counted_slot, none_release, set_release}
+use Rattle.rec_core.proofs.CyclesTest.{IsJudged, set_given_up, sets_test_alike, sets_test_refurbished}
+use Rattle.rec_core.proofs.Landed.{landed_pending, HasLanded, HasCleared}
+use Rattle.rec_core.proofs.Landings.{goes_on, trial_begins}
+use Rattle.rec_core.proofs.Zeros.{HasCome, AreEmpty, cleared, empty_uncounted, landed_empty, some_fields, zeros_come}
+
+-- what stands in a list stands at a place of it
+record StandsAt (x : ℕ) (xs : List ℕ) : Type 0 where
+  pub place : ℕ
+  pub within : place < length xs
+  pub is : x ≡ slice_index_or xs place 0
+
+stands : (x : ℕ) (xs : List ℕ) → 0 < times x xs → StandsAt x xs
+stands x [] some = absurd (omega (arith, some, times-nil x))
+stands x (y ∷ ys) some = elim (eqb_tells x y) [
+  | inl q ↦ record { place = 0; within = omega arith; is = q.1 }
+  | inr q ↦
+      let none : one (x == y) ≡ 0 = ap one q.0 in
+      let rest = stands x ys (omega (arith, some, none, times-cons x y ys)) in
+      record { place = suc rest.place; within = omega (arith, rest.within); is = rest.is }
+]
+
+-- all fields of the members are still to be emptied as the freeing of a set begins
+first_left : (members : List ℕ) (x f : ℕ) → 0 < times x members → IsLeftOf members (first_member (slice_get members 0)) x f
+first_left members x f some = go (slice_get members 0) refl
+  where
+    go : (first : Option ℕ) → slice_get members 0 ≡ first → IsLeftOf members (first_member first) x f
+    go None is = absurd (omega (arith, some, ap (times x) (nothing_first members is), times-nil x))
+    go (Some y) is = let at = stands x members some in (at.place, omega arith, at.within, at.is, λ e. omega arith)
+
+-- where nothing comes next, there are no members
+none_first : (first : Option ℕ) → first_member first ≡ None → first ≡ None
+none_first None is = refl
+none_first (Some x) is = cc
+
+-- Nothing is at work, and a set is left.
+module _ (w : Core) (crossing words : List ℕ) (v : Parts) (h : HasCleared w crossing words v) (unfreed : v.freeing.at ≡ None) (still : v.release.at ≡ None) (some : 0 < length v.counts.sets) where
+  abbrev s : State
+  s = v.counts
+
+  abbrev number : ℕ
+  number = length s.sets - 1
+
+  abbrev p : Pending
+  p = record (pending w) { applied = w.epoch - 1 }
+
+  l : HasLanded w crossing words v
+  l = h.landed
+
+  idle : is_busy v ≡ false
+  idle = rw (still, unfreed) refl
+
+  refusable : IsRefusable s
+  refusable = last_refusable v some idle l.counts h.clearing h.done
+
+  empty : AreEmpty w.config.slots w.config.fields words s
+  empty = landed_empty l still unfreed
+
+  judged : AreOrange s number → cyclic_sum s number ≡ 0 → IsJudged (landed_pending w words s) s number
+  judged orange none = record {
+    kept = l.counts;
+    apart = h.clearing.apart;
+    released = λ x below. ap (λ (c : Slot). c.released) (counted_slot s x below);
+    count = λ x below. ap (λ (c : Slot). c.count) (counted_slot s x below);
+    orange = orange;
+    none = none;
+  }
+
+  -- a set that passes is given up
+  given_comes : AreOrange s number → cyclic_sum s number ≡ 0 → IsFreeable s → HasCome w crossing words (last_given v)
+  given_comes orange none f =
+      let given = set_given_up (landed_pending w words s) (landed_pending w words (given_up s)) s number l.accounted h.tests (judged orange none) (set_release p words s) in
+      let released : (x : ℕ) → one (slot_at (given_up s) x).released ≡ one (slot_at s x).released + times x (last_set s.sets) = λ x. given_released s x l.counts f in
+      let many : length (given_up s).slots ≡ w.config.slots = given_many s ∙ l.slots in
+      let before : (x : ℕ) → (slot_at (given_up s) x).released ≡ true → ((slot_at s x).released ≡ true) ⊎ (0 < times x (last_set s.sets))
+      = λ x is. elim (cases_Bool (slot_at s x).released) [
+        | inl old ↦ inl old
+        | inr old ↦ inr (omega (arith, released x, ap one is, ap one old))
+      ] in
+      let headers : length w.headers ≡ w.config.slots = l.kept.headers in
+      let places : length words ≡ w.config.slots * w.config.fields = l.many_words ∙ l.kept.sound.places ∙ ap (λ n. n * w.config.fields) headers in
+      record {
+        landed = record {
+          kept = l.kept;
+          way = l.way;
+          still = l.still;
+          older = l.older;
+          mutators = l.mutators;
+          accounted = given.0;
+          uncounted = λ unstarted.
+              let no_members : last_set s.sets ≡ [] = nothing_first (last_set s.sets) (none_first (slice_get (last_set s.sets) 0) unstarted) in
+              empty_uncounted p words w.config.slots (given_up s) (some_fields l) many places (λ x f below within is. elim (before x is) [
+                | inl old ↦ empty x f below within old
+                | inr member ↦ absurd (omega (arith, member, ap (times x) no_members, times-nil x))
+              ]) given.0;
+          sound = l.sound;
+          many_words = l.many_words;
+          slots = many;
+          fields = l.fields;
+          freeing_fields = l.freeing_fields;
+          trial_fields = l.trial_fields;
+          prep_fields = l.prep_fields;
+          counts = given_kept s some f.work l.counts;
+          listed = λ x there. elim (cases_Bool (slot_at (given_up s) x).released) [ inl is ↦ is | inr not ↦ absurd (omega (arith, released x, ap one not, ap one (l.listed x there))) ];
+          emptied = λ x f_ below within is. elim (before x is) [
+            | inl old ↦ inr (inr (empty x f_ below within old))
+            | inr member ↦ inr (inl (subst (λ ms. IsLeftOf ms (first_member (slice_get (last_set s.sets) 0)) x f_) (sym (given_work s f)) (first_left (last_set s.sets) x f_ member)))
+          ];
+        };
+        tests = given.1;
+      }
+
+  -- any other is refurbished
+  refused_comes : (sets : Sets) → IsReady (refurbished_of s) → HasCome w crossing words (record v { counts = refurbished_of s; sets = sets })
+  refused_comes sets ready =
+      let t : State = refurbished_of s in
+      let r : LastRefurbished s t = refurbished_last s l.counts refusable in
+      let same = alike_slots s t r.many (λ x. same_count r x) (λ x. same_released r x) in
+      let alike = sets_test_alike (landed_pending w words s) (landed_pending w words t) s l.accounted h.tests (none_release p words s t same) in
+      record {
+        landed = record {
+          kept = l.kept;
+          way = l.way;
+          still = l.still;
+          older = l.older;
+          mutators = l.mutators;
+          accounted = alike.0;
+          uncounted = λ none node pos is. (same node).0 ∙ l.uncounted none node pos (sym (same node).1 ∙ is);
+          sound = l.sound;
+          many_words = l.many_words;
+          slots = r.many ∙ l.slots;
+          fields = l.fields;
+          freeing_fields = l.freeing_fields;
+          trial_fields = l.trial_fields;
+          prep_fields = l.prep_fields;
+          counts = refurbished_kept s refusable l.counts;
+          listed = ready.free;
+          emptied = λ x f below within is. inr (inr (empty x f below within (sym (same_released r x) ∙ is)));
+        };
+        tests = sets_test_refurbished (landed_pending w words t) s t l.counts r alike.1;
+      }
+
+  -- where the test of the last set comes to
+  pub last_lands : HasCleared w crossing words (last_tested v)
+  last_lands =
+      let wide : 0 < v.release.fields = omega (arith, some_fields l, l.fields) in
+      let freed : 0 < v.freeing.fields = omega (arith, some_fields l, l.freeing_fields) in
+      cleared (last_by (HasCome w crossing words) v (λ passed. let says = verdict_passed s number passed in given_comes says.0 says.1 (last_freeable v some idle passed l.counts h.clearing h.done))
+      (λ verdict. let ready = (refused_clear verdict v some idle l.counts h.clearing h.done).release.ready in zeros_come true (refused_comes (counted_by verdict v.sets) ready) still unfreed ready))
+      (last_clear v wide freed some idle l.counts h.clearing h.done)
+
+  pub tested_lands : (u : Parts) → IsTested v u → HasCleared w crossing words u
+  tested_lands u tested = subst (HasCleared w crossing words) (sym (is_last_tested v u l.counts refusable tested)) last_lands
+
+-- whatever follows a release, or the freeing of a set
+pub clears_kept : (w : Core) (crossing words : List ℕ) (q : collectors.Private) → collector_kept.IsMachine q → (turn : Turn) {v : Parts} → HasCleared w crossing words v → ClearsOn w.collector q turn v → IsKept (record w { crossing = crossing; words = words; collector = q })
+clears_kept w crossing words q machine turn {v} h (ClearsOn.frees_on busy g) =
+    goes_on w crossing words q machine v Freeing h.landed (record { way = refl; still = refl; applied = refl; older = refl; stands = λ s. refl; between = tt; some = tt }) h.tests g.after
+clears_kept w crossing words q machine turn {v} h (ClearsOn.releases_on unfreed busy g) =
+    goes_on w crossing words q machine v Releasing h.landed (record { way = refl; still = refl; applied = refl; older = refl; stands = λ s. refl; between = tt; some = tt }) h.tests g.after
+clears_kept w crossing words q machine turn {v} h (ClearsOn.tests u unfreed still some tested on) = clears_kept w crossing words q machine turn (tested_lands w crossing words v h unfreed still some u tested) on
+clears_kept w crossing words q machine turn {v} h (ClearsOn.tries unfreed still none on) =
+    trial_begins w crossing words q machine v turn h.landed (clear_ready v h.landed.counts h.clearing h.done still unfreed none) unfreed on

@@ -1,0 +1,172 @@
+-- A field of a slot that was given up is emptied: its word came out, and its target is lowered or decremented.
+use Rattle.std.proofs.Common.{◌≡◌, ◌⊎◌, inl, inr, ℕ, ◌+◌, ◌-◌, ◌<◌, ◌==◌, Bool, true, Option, None, Some, IfSome, List, length, slice_index_or, slice_set, refl, sym, ap, subst, ◌∙◌, arith}
+use Rattle.std.proofs.lemmas.Bool.{false≢true, cases_eq, cases_lt, eq-eqb}
+use Rattle.std.proofs.lemmas.List.{get_or-set_same, get_or-set_other, get_or_past, length-set}
+use Rattle.rec_word.specs.Place.{place_of}
+use Rattle.rec_word.specs.Word.{target_of}
+use Rattle.rec_model.specs.Accounted.{IsAccounted, HasUncountedReleased, names}
+use Rattle.rec_model.specs.Moves.{Clears, Move}
+use Rattle.rec_model.specs.Pending.{node_of, home, Pending}
+use Rattle.rec_model.specs.Sight.{IsTaken, IsSound}
+use Rattle.rec_model.specs.Sums.{one_if_same}
+use Rattle.rec_model.proofs.Consequences.{clearing_covered, move_uncounted}
+use Rattle.rec_model.proofs.CollectorMoves.{free_unnamed}
+use Rattle.rec_model.proofs.Moving.{move_accounted}
+use Rattle.rec_model.proofs.Standing.{write_sound}
+use Rattle.rec_model.proofs.Sums.{get_or-le-sum_at}
+use Rattle.rec_model.proofs.Weights.{one_if_self}
+use Rattle.rec_counts.specs.Counts.{State, slot_at}
+use Rattle.rec_counts.specs.Lists.{times}
+use Rattle.rec_counts.specs.Rest.{AreZeros}
+use Rattle.rec_counts.specs.declared.slot.Slot.{Slot}
+use Rattle.rec_release.specs.CycleFree as frees
+use Rattle.rec_release.specs.Release as releases
+use Rattle.rec_release.specs.TakenOff.{taken_off}
+use Rattle.rec_release.proofs.TakenOff.{KeepsMost, off_most}
+use Rattle.rec_collector.specs.Private as collectors
+use Rattle.rec_collector.specs.Private.{parts_of}
+use Rattle.rec_collector.proofs.Counting.{off_kept}
+use Rattle.rec_core.specs.Core.{Core, sight}
+use Rattle.rec_core.specs.Cycles.{SetsTest}
+use Rattle.rec_core.specs.Kept.{IsLeft, IsLeftOf, IsKept}
+use Rattle.rec_core.specs.Pending.{code, pending}
+use Rattle.rec_core.proofs.Counts.{slot_in, accounts_with, clears, counted_slot}
+use Rattle.rec_core.proofs.CyclesLess.{less_taken_off}
+use Rattle.rec_core.proofs.CyclesTest.{sets_test_taken}
+use Rattle.rec_core.proofs.Landed.{landed_pending}
+use Rattle.rec_core.proofs.Landings.{IsUnswept}
+use Rattle.rec_core.proofs.Moves.{code_target, home_of}
+use Rattle.rec_core.proofs.Places.{place_within}
+use Rattle.rec_core.proofs.Turns.{phase_moves}
+use Rattle.rec_core.proofs.Zeros.{HasCome}
+
+module _ (w : Core) (slot field : ℕ) (kept : IsKept w) (phase : IsUnswept w.epoch w.collector.phase) (below : slot < w.config.slots) (within : field < w.config.fields) (released : (slot_at w.collector.counts slot).released ≡ true) where
+  abbrev c : collectors.Private
+  c = w.collector
+
+  abbrev place : ℕ
+  place = place_of slot field w.config.fields
+
+  abbrev word : ℕ
+  word = slice_index_or w.words place 0
+
+  abbrev words : List ℕ
+  words = slice_set w.words place 0
+
+  slots : length c.counts.slots ≡ w.config.slots
+  slots = kept.collector.slots
+
+  headers : length w.headers ≡ w.config.slots
+  headers = kept.headers
+
+  pub inside : place < length w.words
+  inside = place_within w.config.fields (length w.headers) (length w.words) slot field kept.sound.places (omega (arith, below, headers)) within
+
+  at_home : home w.config.fields place ≡ slot + 1
+  at_home = home_of slot field w.config.fields within
+
+  home_released : (slot_in c.counts (home w.config.fields place)).released ≡ true
+  home_released = ap (λ (n : ℕ). (slot_in c.counts n).released) at_home ∙ ap (λ (v : Slot). v.released) (counted_slot c.counts slot (omega (arith, below, slots))) ∙ released
+
+  -- what the word leads to is counted
+  counted_target : (x : ℕ) → target_of word ≡ Some x → 0 < (slot_at c.counts x).count
+  counted_target x is =
+      let node : node_of word ≡ x + 1 = sym (code_target word) ∙ ap code is in
+      let own : one_if_same (x + 1) (node_of word) ≡ 1 = ap (one_if_same (x + 1)) node ∙ one_if_self (x + 1) in
+      elim (cases_lt x w.config.slots) [
+        | inl there ↦ omega (arith, clearing_covered (pending w) kept.accounted place (x + 1) inside home_released (omega arith), own, ap (λ (v : Slot). v.count) (counted_slot c.counts x (omega (arith, there, slots))))
+        | inr past ↦
+            let free : (pending w).free (x + 1) ≡ true = ap (λ n. n == 0) (get_or_past w.headers (x + 1 - 1) 0 (omega (arith, headers))) ∙ eq-eqb 0 0 refl in
+            absurd (omega (arith, free_unnamed (pending w) (x + 1) kept.accounted (omega arith) free, get_or-le-sum_at (names (x + 1)) w.words place 0 inside, own))
+      ]
+
+  pub counted_word : IfSome (target_of word) (λ x. 0 < (slot_at c.counts x).count)
+  counted_word = go (target_of word) refl
+    where
+      go : (o : Option ℕ) → target_of word ≡ o → IfSome o (λ x. 0 < (slot_at c.counts x).count)
+      go None target = tt
+      go (Some x) target = counted_target x target
+
+  -- a released slot is taken
+  taken : IsTaken (sight w) slot
+  taken = elim (cases_eq (slice_index_or w.headers slot 0) 0) [
+    | inl none ↦
+        let one : slot + 1 - 1 ≡ slot = omega arith in
+        let free : (pending w).free (slot + 1) ≡ true = ap (λ (n : ℕ). slice_index_or w.headers n 0 == 0) one ∙ eq-eqb (slice_index_or w.headers slot 0) 0 none in
+        absurd (false≢true (sym (kept.accounted.apart (slot + 1) (omega arith) free) ∙ ap (λ (n : ℕ). (slot_in c.counts n).released) (sym at_home) ∙ home_released))
+    | inr some ↦ omega arith
+  ]
+
+  sound : IsSound (sight (record w { words = words }))
+  sound = write_sound (sight w) slot field 0 within taken (λ n is. null_leads n is) kept.sound
+    where
+      null_leads : (n : ℕ) → target_of 0 ≡ Some n → IsTaken (sight w) n
+      null_leads n is = let none : target_of 0 ≡ None = refl in let not_so : ◌≡◌ {A = Option ℕ} None (Some n) = sym none ∙ is in absurd (cc)
+
+  -- the field is empty
+  pub own_empty : slice_index_or words place 0 ≡ 0
+  own_empty = get_or-set_same w.words place 0 0 inside
+
+  -- the word of every other field stays
+  pub still_empty : (x f : ℕ) → slice_index_or w.words (place_of x f w.config.fields) 0 ≡ 0 → slice_index_or words (place_of x f w.config.fields) 0 ≡ 0
+  still_empty x f none = elim (cases_eq (place_of x f w.config.fields) place) [
+    | inl same ↦ ap (λ n. slice_index_or words n 0) same ∙ own_empty
+    | inr other ↦ get_or-set_other w.words place (place_of x f w.config.fields) 0 0 other ∙ none
+  ]
+
+  abbrev p : Pending
+  p = record (pending w) { applied = w.epoch - 1 }
+
+  same_then : pending w ≡ accounts_with p w.words c.counts
+  same_then = ap (λ (n : ℕ). let q : Pending = record (pending w) { applied = n } in q) phase.applied
+
+  -- the counts then
+  abbrev pub off : Bool → State
+  off lowers = taken_off lowers c.counts (target_of word)
+
+  rule : (lowers : Bool) → Clears (accounts_with p w.words c.counts) (accounts_with p words (off lowers)) place
+  rule lowers = clears lowers p c.counts place (omega (arith, kept.config.some_epoch, kept.collector.begun, phase.way)) inside home_released counted_target
+
+  accounted : IsAccounted (accounts_with p w.words c.counts)
+  accounted = subst IsAccounted same_then kept.accounted
+
+  -- what is released stays uncounted
+  pub off_uncounted : (lowers : Bool) → HasUncountedReleased (pending w) → HasUncountedReleased (landed_pending w words (off lowers))
+  off_uncounted lowers before = move_uncounted (Move.clearing (rule lowers)) accounted (subst HasUncountedReleased same_then before)
+
+  pub off_accounted : (lowers : Bool) → IsAccounted (landed_pending w words (off lowers))
+  off_accounted lowers = move_accounted (Move.clearing (rule lowers)) accounted
+
+  -- what is still to be emptied by these machines
+  abbrev pub IsLeftBy : (lowers : Bool) → releases.Machine → frees.Machine → Type 0
+  IsLeftBy lowers m n =
+      (x f : ℕ) → x < w.config.slots → f < w.config.fields → (slot_at (off lowers) x).released ≡ true → IsLeft m.at x f ⊎ (IsLeftOf (off lowers).work n.at x f ⊎ (slice_index_or words (place_of x f w.config.fields) 0 ≡ 0))
+
+  -- where these machines have come to
+  pub off_comes : (lowers : Bool) (m : releases.Machine) (n : frees.Machine) → m.fields ≡ w.config.fields → n.fields ≡ w.config.fields → (n.at ≡ None → HasUncountedReleased (landed_pending w words (off lowers))) → AreZeros c.counts
+      → SetsTest (pending w) c.counts → IsLeftBy lowers m n → HasCome w w.crossing words (record (parts_of c) { counts = off lowers; release = m; freeing = n })
+  off_comes lowers m n release_fields freeing_fields uncounted zeros tests left =
+      let most : KeepsMost c.counts (off lowers) = off_most lowers c.counts (target_of word) in
+      record {
+        landed = record {
+          kept = kept;
+          way = phase.way;
+          still = phase.still;
+          older = phase.older;
+          mutators = phase_moves kept.mutators (λ s there. sym (phase.stands s));
+          accounted = off_accounted lowers;
+          uncounted = uncounted;
+          sound = sound;
+          many_words = length-set w.words place 0;
+          slots = most.slots ∙ slots;
+          fields = release_fields;
+          freeing_fields = freeing_fields;
+          trial_fields = kept.collector.machine.trial_fields ∙ kept.collector.fields;
+          prep_fields = kept.collector.machine.prep_fields ∙ kept.collector.fields;
+          counts = off_kept lowers c.counts (target_of word) counted_word zeros kept.collector.machine.counts;
+          listed = λ x there. most.released x ∙ kept.collector.listed x (subst (λ xs. 0 < times x xs) most.free there);
+          emptied = left;
+        };
+        tests = sets_test_taken (accounts_with p w.words c.counts) (landed_pending w words (off lowers)) c.counts (off lowers) place (rule lowers) (less_taken_off lowers c.counts (target_of word)) accounted
+            (subst (λ q. SetsTest q c.counts) same_then tests);
+      }

@@ -1,0 +1,186 @@
+-- A trial at work loads a field of the heap, whose word leads to no slot that was given up. Where it has come to is as the landing
+-- of a turn wants it.
+use Rattle.std.proofs.Common.{◌≡◌, inl, inr, ℕ, ◌+◌, ◌-◌, ◌/◌, ◌%◌, ◌<◌, ◌≤◌, ◌==◌, if◌then◌else◌, Bool, true, false, Option, None, Some, [], ◌∷◌, ◌++◌, IfSome, length, slice_index_or, refl, sym, ap, subst, ◌∙◌, arith}
+use Rattle.std.proofs.Math.Nat.{mod-lt, div-add-mod, mul_comm}
+use Rattle.std.proofs.lemmas.Bool.{false≢true, cases_Bool, cases_lt, eq-eqb}
+use Rattle.std.proofs.lemmas.List.{get_or_past}
+use Rattle.rec_word.specs.Place.{place_of}
+use Rattle.rec_word.specs.Word.{target_of}
+use Rattle.rec_word.specs.declared.op.Op.{Op}
+use Rattle.rec_word.specs.declared.op.Op.TheVariants.{LoadChild}
+use Rattle.rec_model.specs.Accounted.{is_dead}
+use Rattle.rec_model.specs.Pending.{node_of, home, Pending, word_in}
+use Rattle.rec_model.proofs.Consequences.{fields_name_the_taken}
+use Rattle.rec_counts.specs.Counts.{slot_at}
+use Rattle.rec_counts.specs.Slot.{fresh}
+use Rattle.rec_counts.specs.declared.slot.Slot.{Slot}
+use Rattle.rec_release.specs.declared.at.At.{At}
+use Rattle.rec_release.specs.declared.member.Member.{Member}
+use Rattle.rec_trial.specs.declared.phase.Phase as trial_phases
+use Rattle.rec_trial.specs.declared.phase.Phase.TheVariants as trial_at
+use Rattle.rec_trial.specs.Loaded.{noted}
+use Rattle.rec_trial.specs.Rules.{LeadsToUnreleased}
+use Rattle.rec_trial.specs.Trial.{Machine, Work, next_of, op_at, took_of}
+use Rattle.rec_trial.proofs.AtWork.{at_work_place, took_fields}
+use Rattle.rec_trial.proofs.Counted.{took_counted}
+use Rattle.rec_trial.proofs.Keeps.{took_keeps}
+use Rattle.rec_trial.proofs.Promised.{took_promised, took_recorded}
+use Rattle.rec_collector.specs.Followed.{with_tried}
+use Rattle.rec_collector.specs.Kept as collector_kept
+use Rattle.rec_collector.specs.Private.{Private, parts_of, with_parts}
+use Rattle.rec_collector.specs.Step.{TriesOn}
+use Rattle.rec_collector.specs.declared.phase.Phase.TheVariants.{Trying}
+use Rattle.rec_collector.specs.declared.turn.Turn.{Turn}
+use Rattle.rec_core.specs.Core.{Core}
+use Rattle.rec_core.specs.Cycles.{TrialStands}
+use Rattle.rec_core.specs.CyclesAt.{IsLoading}
+use Rattle.rec_core.specs.Kept.{IsLeft, IsLeftOf, IsKept}
+use Rattle.rec_core.specs.Pending.{code, slot_of, pending}
+use Rattle.rec_core.proofs.CyclesTrial.{trial_stands_noted}
+use Rattle.rec_core.proofs.Landed.{landed_pending, HasLanded}
+use Rattle.rec_core.proofs.Landings.{IsUnswept, here_done, here_pending, landed_alike, lands_here, tried_alike, tries_kept}
+use Rattle.rec_core.proofs.Moves.{code_target}
+use Rattle.rec_core.proofs.Steps.{slot_there, fields_many}
+use Rattle.rec_core.proofs.Turns.{cycles_in, now_at}
+
+-- the operation of a trial loads a field
+pub loads_child : (m : Machine) (op : Op) → ◌≡◌ {A = Option Op} (Some op) (next_of m) → (place : ℕ) × (op ≡ LoadChild place)
+unfolding next_of
+loads_child m op named = go m.phase named
+  where
+    loads : (place : ℕ) → ◌≡◌ {A = Option Op} (Some op) (Some (LoadChild place)) → (p : ℕ) × (op ≡ LoadChild p)
+    loads place is = (place, cc)
+
+    go : (phase : trial_phases.Phase) → ◌≡◌ {A = Option Op} (Some op) (op_at phase m) → (place : ℕ) × (op ≡ LoadChild place)
+    go trial_at.Idle none = absurd (cc)
+    go trial_at.Marking is = loads _ is
+    go trial_at.Scanning is = loads _ is
+    go trial_at.Collecting is = loads _ is
+
+-- A word of the heap leads to no slot that was given up, where no release is at work: the fields of those that were given up are
+-- empty, and no other field names one.
+module _ (w : Core) (place : ℕ) (kept : IsKept w) (still : w.collector.release.at ≡ None) (unfreed : w.collector.freeing.at ≡ None) (inside : place < length w.words) where
+  abbrev word : ℕ
+  word = slice_index_or w.words place 0
+
+  -- the slot that has the field
+  abbrev own : ℕ
+  own = place / w.config.fields
+
+  -- where it was given up, the field is empty
+  given_up_empty : (slot_of w (own + 1)).released ≡ true → word ≡ 0
+  given_up_empty up = elim (cases_lt own w.config.slots) [
+    | inl there ↦
+        let some : 1 ≤ w.config.fields = kept.config.some_fields in
+        let f : ℕ = place % w.config.fields in
+        let within : f < w.config.fields = mod-lt place some in
+        let at : place ≡ place_of own f w.config.fields = sym (div-add-mod place w.config.fields) ∙ ap (λ n. n + f) (mul_comm w.config.fields own) in
+        let released : (slot_at w.collector.counts own).released ≡ true = ap (λ (v : Slot). v.released) (sym (slot_there w kept own there)) ∙ up in
+        elim (kept.collector.emptied own f there within released) [
+          | inl left ↦ absurd (subst (λ (o : Option At). IsLeft o own f) still left)
+          | inr rest ↦ elim rest [
+            | inl left ↦ absurd (subst (λ (o : Option Member). IsLeftOf w.collector.counts.work o own f) unfreed left)
+            | inr none ↦ ap (λ n. slice_index_or w.words n 0) at ∙ none
+          ]
+        ]
+    | inr past ↦
+        let many : length w.collector.counts.slots ≡ w.config.slots = kept.collector.slots in
+        let is : slot_of w (own + 1) ≡ fresh = get_or_past w.collector.counts.slots (own + 1 - 1) fresh (omega (arith, past, many)) in
+        absurd (false≢true (sym (ap (λ (v : Slot). v.released) is) ∙ up))
+  ]
+
+  -- what it names is neither free nor given up
+  alive : (slot : ℕ) → target_of word ≡ Some slot → is_dead (pending w) (slot + 1) ≡ false
+  alive slot is =
+      let node : node_of word ≡ slot + 1 = sym (code_target word) ∙ ap code is in
+      ap (is_dead (pending w)) (sym node) ∙ elim (cases_Bool ((pending w).released (home w.config.fields place))) [
+        | inl up ↦ let null : ◌≡◌ {A = Option ℕ} None (Some slot) = sym (ap target_of (given_up_empty up)) ∙ is in absurd (cc)
+        | inr not_so ↦ fields_name_the_taken (pending w) kept.accounted place inside not_so (omega (arith, node))
+      ]
+
+  parts : (free released : Bool) → (if free then true else released) ≡ false → (free ≡ false) × (released ≡ false)
+  parts true released is = absurd (false≢true (sym is))
+  parts false released is = (refl, is)
+
+  -- so it leads to a slot that is there, and wasn't given up
+  live_target : (slot : ℕ) → target_of word ≡ Some slot → (slot < w.config.slots) × ((slot_at w.collector.counts slot).released ≡ false)
+  live_target slot is =
+      let lives = parts ((pending w).free (slot + 1)) ((pending w).released (slot + 1)) (alive slot is) in
+      elim (cases_lt slot w.config.slots) [
+        | inl there ↦ (there, ap (λ (v : Slot). v.released) (sym (slot_there w kept slot there)) ∙ lives.1)
+        | inr past ↦
+            let headers : length w.headers ≡ w.config.slots = kept.headers in
+            let free : (pending w).free (slot + 1) ≡ true = ap (λ n. n == 0) (get_or_past w.headers (slot + 1 - 1) 0 (omega (arith, past, headers))) ∙ eq-eqb 0 0 refl in
+            absurd (false≢true (sym lives.0 ∙ free))
+      ]
+
+  pub unreleased_target : LeadsToUnreleased w.collector.counts word
+  unreleased_target = go (target_of word) refl
+    where
+      go : (t : Option ℕ) → target_of word ≡ t → IfSome t (λ slot. (slot_at w.collector.counts slot).released ≡ false)
+      go None is = tt
+      go (Some slot) is = (live_target slot is).1
+
+  pub target_there : IfSome (target_of word) (λ slot. slot < length w.collector.counts.slots)
+  target_there = go (target_of word) refl
+    where
+      go : (t : Option ℕ) → target_of word ≡ t → IfSome t (λ slot. slot < length w.collector.counts.slots)
+      go None is = tt
+      go (Some slot) is = let many : length w.collector.counts.slots ≡ w.config.slots = kept.collector.slots in omega (arith, (live_target slot is).0, many)
+
+-- A trial is at work: the field that it loads is one of the heap.
+module _ (w : Core) (kept : IsKept w) (phase : w.collector.phase ≡ Trying) where
+  now : collector_kept.IsTrying w.collector
+  now = now_at w Trying kept phase
+
+  unswept : IsUnswept w.epoch Trying
+  unswept = record { way = refl; still = refl; applied = refl; older = refl; stands = λ s. refl; between = tt; some = tt }
+
+  loaded_inside : (place : ℕ) → ◌≡◌ {A = Option Op} (next_of w.collector.trial) (Some (LoadChild place)) → place < length w.words
+  loaded_inside place named =
+      subst (λ n. place < n) (fields_many w (length w.collector.counts.slots) w.collector.trial.fields kept kept.collector.slots (kept.collector.machine.trial_fields ∙ kept.collector.fields))
+      (at_work_place w.collector.trial w.collector.counts now.kept place named)
+
+  -- and what it finds there leads to no slot that was given up
+  pub loaded_leads : (place : ℕ) → ◌≡◌ {A = Option Op} (next_of w.collector.trial) (Some (LoadChild place)) → LeadsToUnreleased w.collector.counts (slice_index_or w.words place 0)
+  loaded_leads place named = unreleased_target w place kept now.still now.unfreed (loaded_inside place named)
+
+  -- where it has come to, words and crossing words are as they were
+  module _ (place : ℕ) (named : ◌≡◌ {A = Option Op} (next_of w.collector.trial) (Some (LoadChild place))) where
+    abbrev found : ℕ
+    found = slice_index_or w.words place 0
+
+    abbrev after : Work
+    after = took_of (record { machine = w.collector.trial; counts = w.collector.counts }) found
+
+    pub trying_lands : HasLanded w w.crossing w.words (with_tried (parts_of w.collector) found)
+    trying_lands =
+        let machine = kept.collector.machine in
+        let leads = loaded_leads place named in
+        landed_alike (lands_here w Trying kept phase unswept) now.unfreed after.counts after.machine w.collector.prep
+        (tried_alike w.collector.counts after.counts (took_keeps w.collector.trial w.collector.counts now.kept found leads))
+        (took_counted w.collector.trial w.collector.counts now.kept now.busy found leads machine.counts)
+        (took_fields w.collector.trial w.collector.counts now.kept found leads ∙ machine.trial_fields ∙ kept.collector.fields)
+        (machine.prep_fields ∙ kept.collector.fields)
+
+    -- and its record goes with it
+    pub trying_loads : IsLoading (landed_pending w w.words (with_tried (parts_of w.collector) found).counts) (with_parts w.collector (with_tried (parts_of w.collector) found))
+    trying_loads =
+        let loading : IsLoading (pending w) w.collector = cycles_in w Trying kept phase in
+        let p : Pending = landed_pending w w.words w.collector.counts in
+        let named_there : next_of loading.run.work.machine ≡ Some (LoadChild place) = ap (λ (x : Work). next_of x.machine) loading.at ∙ named in
+        let stands : TrialStands p (noted loading.run (word_in p place))
+        = trial_stands_noted p w.config.fields loading.before loading.words loading.run place (lands_here w Trying kept phase unswept).accounted (here_done w kept) refl loading.trial named_there (loaded_inside place named)
+        (subst (λ (x : Pending). TrialStands x loading.run) (here_pending w Trying phase unswept) loading.stands) in
+        record {
+          before = loading.before;
+          words = loading.words ++ found ∷ [];
+          run = noted loading.run found;
+          trial = took_promised w.config.fields loading.before loading.words loading.run w.collector.trial w.collector.counts found (loaded_leads place named) loading.at loading.trial;
+          at = took_recorded loading.run w.collector.trial w.collector.counts found after.machine after.counts loading.at refl;
+          stands = record { marks = stands.marks; blacks = stands.blacks };
+        }
+
+    -- whatever follows
+    pub trying_kept : (q : Private) (turn : Turn) → collector_kept.IsMachine q → TriesOn w.collector (with_tried (parts_of w.collector) found) q turn → IsKept (record w { collector = q })
+    trying_kept q turn machine on = tries_kept w w.crossing w.words q machine (with_tried (parts_of w.collector) found) turn trying_lands trying_loads now.unfreed on

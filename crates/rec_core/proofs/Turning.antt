@@ -1,0 +1,215 @@
+-- Every turn of the collector keeps what every heap keeps, rule by rule; and so does every run.
+use Rattle.std.proofs.Common.{◌≡◌, ℕ, ◌+◌, ◌-◌, ◌*◌, ◌%◌, ◌^◌, ◌<◌, ◌≤◌, ◌==◌, Bool, true, List, Option, None, Some, length, drop, slice_index_or, slice_set, refl, sym, ap, subst, ◌∙◌, arith}
+use Rattle.std.specs.List.{slice_get}
+use Rattle.std.proofs.lemmas.Bool.{eq-eqb, ne_eqb, cond-true, cond-false}
+use Rattle.std.proofs.lemmas.List.{set-get_or}
+use Rattle.rec_word.specs.Op.{written, crossing_word}
+use Rattle.rec_word.specs.Place.{place_of}
+use Rattle.rec_word.specs.declared.op.Op.{Op}
+use Rattle.rec_word.specs.declared.op.Op.TheVariants as ops
+use Rattle.rec_log.specs.declared.contents.Contents.{Contents}
+use Rattle.rec_release.specs.declared.at.At.{At}
+use Rattle.rec_release.specs.declared.member.Member.{Member}
+use Rattle.rec_release.specs.CycleFree.{next_of as freeing_next, op_at as freeing_op_at}
+use Rattle.rec_release.specs.Release.{next_of as release_next, op_at as release_op_at}
+use Rattle.rec_release.specs.Sweep as sweeps
+use Rattle.rec_collector.specs.Followed.{relieved, with_freed, with_loaded, with_released, with_tried}
+use Rattle.rec_collector.specs.Kept as collector_kept
+use Rattle.rec_collector.specs.Private as collectors
+use Rattle.rec_collector.specs.Private.{parts_of}
+use Rattle.rec_collector.specs.Step.{Step, ClearsOn, TriesOn, PreparesOn, IsNext}
+use Rattle.rec_collector.specs.declared.phase.Phase.{Phase}
+use Rattle.rec_collector.specs.declared.phase.Phase.TheVariants.{Idle, Looking, Swapping, Returning, Releasing, Freeing, Trying, Preparing, Opening, Sweeping, Closing}
+use Rattle.rec_collector.specs.declared.turn.Turn.{Turn}
+use Rattle.rec_core.specs.Cells.{cell}
+use Rattle.rec_core.specs.Config.{IsMutator}
+use Rattle.rec_core.specs.Core.{Core, cells_of, box, crossing_of}
+use Rattle.rec_core.specs.Kept.{one_if_sweeping, IsKept}
+use Rattle.rec_core.specs.Moves.{looked_at, left_by, collected}
+use Rattle.rec_core.proofs.Begun.{applied_lands}
+use Rattle.rec_core.proofs.Freeing.{freed_lands}
+use Rattle.rec_core.proofs.Preparing.{loads_due, preparing_kept}
+use Rattle.rec_core.proofs.Releasing.{released_lands}
+use Rattle.rec_core.proofs.SetTests.{clears_kept}
+use Rattle.rec_core.proofs.Sweeping.{began_kept, ended_kept, swept_kept, IsStillSweeping}
+use Rattle.rec_core.proofs.Trying.{loads_child, trying_kept}
+use Rattle.rec_core.proofs.Turns.{now_at, same_boxes, requested_kept, gathered_kept, returned_kept}
+
+-- one operation in two options
+pub some_op : (x y : Op) → ◌≡◌ {A = Option Op} (Some x) (Some y) → x ≡ y
+some_op x y is = cc
+
+-- a mutator whose mailbox is looked at, or given back, is there
+pub mutator_at : (w : Core) (t : ℕ) (phase : Phase) → IsKept w → w.collector.phase ≡ phase → (0 < t) × (t ≤ length w.collector.newer) → IsMutator w.config t
+mutator_at w t phase kept is there = let many : length w.collector.newer ≡ w.config.mutators = kept.collector.mutators in (omega (arith, there.0), omega (arith, there.1, many))
+
+-- the freed word rises by one: it is far from its greatest value
+pub freed_more : (w : Core) → IsKept w → (w.freed + 1) % 2 ^ 64 ≡ w.freed + 1
+freed_more w kept =
+    let most : w.freed ≤ 2 * w.collector.collections + one_if_sweeping w.collector.phase = kept.sweeps.few in
+    let few : w.collector.collections + collector_kept.under_way w.collector.phase ≤ w.collector.epoch = kept.collector.machine.collections in
+    let epoch : w.collector.epoch < 2 ^ 24 = kept.collector.machine.epoch in
+    small (w.freed + 1) (omega (arith, one_at_most w.collector.phase))
+  where
+    one_at_most : (phase : Phase) → one_if_sweeping phase ≤ 1
+    one_at_most Idle = omega arith
+    one_at_most (Looking t) = omega arith
+    one_at_most (Swapping t) = omega arith
+    one_at_most (Returning t) = omega arith
+    one_at_most Releasing = omega arith
+    one_at_most Freeing = omega arith
+    one_at_most Trying = omega arith
+    one_at_most Preparing = omega arith
+    one_at_most Opening = omega arith
+    one_at_most (Sweeping n) = omega arith
+    one_at_most (Closing n) = omega arith
+
+    small : (n : ℕ) → n < 2 ^ 64 → n % 2 ^ 64 ≡ n
+    small n below = grind (arith, below)
+
+-- A turn of a kept heap, with its operation and the word that it finds.
+pub record Turns (w : Core) (op : Op) (word : ℕ) (q : collectors.Private) : Type 0 where
+  pub kept : IsKept w
+  pub found : word ≡ cell (cells_of w) op
+  pub machine : collector_kept.IsMachine q
+
+-- what a turn leaves where no mailbox is taken
+pub plain_left : (w : Core) (op : Op) (word : ℕ) (q : collectors.Private) (phase : Phase) → w.collector.phase ≡ phase → left_by w.collector word (box w (looked_at phase)) phase ≡ box w (looked_at phase)
+    → collected w op word q (left_by w.collector word (box w (looked_at w.collector.phase)) w.collector.phase) ≡ record (collected w op word q (box w 1)) { boxes = w.boxes }
+plain_left w op word q phase is same =
+    let leaves : Phase → Core = λ f. collected (record w { collector = record w.collector { phase = f } }) op word q (left_by w.collector word (box w (looked_at f)) f) in
+    let there : slice_set w.boxes (looked_at phase - 1) (left_by w.collector word (box w (looked_at phase)) phase) ≡ w.boxes = ap (slice_set w.boxes (looked_at phase - 1)) same ∙ same_boxes w (looked_at phase) in
+    ap leaves is ∙ ap (λ (bs : List Contents). record (collected w op word q (box w 1)) { boxes = bs }) there
+
+-- each rule
+pub rule_kept : (w : Core) (op : Op) (word : ℕ) (q : collectors.Private) (turn : Turn) → Turns w op word q → Step w.collector word (box w (looked_at w.collector.phase)) (Some op) q turn
+    → IsKept (collected w op word q (left_by w.collector word (box w (looked_at w.collector.phase)) w.collector.phase))
+unfolding release_next freeing_next sweeps.started_of sweeps.next_of sweeps.took_of
+rule_kept w op word q turn m (Step.spent idle last none same answer) = let not_so : ◌≡◌ {A = Option Op} (Some op) None = none in absurd (cc)
+rule_kept w op word q turn m (Step.request idle more named g) =
+    let its : op ≡ ops.StoreEpoch (w.collector.epoch + 1) = some_op op (ops.StoreEpoch (w.collector.epoch + 1)) named in
+    let whole = requested_kept w q m.kept idle more g.after m.machine in
+    let epoch : w.collector.epoch + 1 ≡ w.epoch + 1 = ap (λ n. n + 1) m.kept.collector.epoch in
+    subst IsKept (sym (plain_left w op word q Idle idle refl))
+    (subst (λ o. IsKept (record (collected w o word q (box w 1)) { boxes = w.boxes })) (sym its)
+    (subst (λ n. IsKept (record w { epoch = n; collector = q })) (sym epoch) (subst (λ x. IsKept (record w { epoch = w.epoch + 1; collector = x })) (sym g.after) whole)))
+rule_kept w op word q turn m (Step.wait t looking other named same answer) =
+    let its : op ≡ ops.LookBox t w.collector.epoch = some_op op (ops.LookBox t w.collector.epoch) named in
+    let at : word ≡ slice_index_or w.crossing (t - 1) 0 = m.found ∙ ap (cell (cells_of w)) its in
+    let left : left_by w.collector word (box w t) (Looking t) ≡ box w t = cond-false (word == crossing_word w.collector.epoch 2) (collectors.spare w.collector) (box w t) (ne_eqb word (crossing_word w.collector.epoch 2) other) in
+    let stays : written (ops.LookBox t w.collector.epoch) word ≡ word = cond-false (word == crossing_word w.collector.epoch 2) (crossing_word w.collector.epoch 3) word (ne_eqb word (crossing_word w.collector.epoch 2) other) in
+    let crossing : slice_set w.crossing (t - 1) (written (ops.LookBox t w.collector.epoch) word) ≡ w.crossing = ap (slice_set w.crossing (t - 1)) (stays ∙ at) ∙ set-get_or w.crossing (t - 1) 0 in
+    subst IsKept (sym (plain_left w op word q (Looking t) looking left))
+    (subst (λ o. IsKept (record (collected w o word q (box w 1)) { boxes = w.boxes })) (sym its)
+    (subst (λ cs. IsKept (record w { crossing = cs; collector = q })) (sym crossing) (subst (λ x. IsKept (record w { collector = x })) (sym same) m.kept)))
+rule_kept w op word q turn m (Step.gather t looking crossed named g) =
+    let its : op ≡ ops.LookBox t w.collector.epoch = some_op op (ops.LookBox t w.collector.epoch) named in
+    let at : word ≡ slice_index_or w.crossing (t - 1) 0 = m.found ∙ ap (cell (cells_of w)) its in
+    let epoch : w.collector.epoch ≡ w.epoch = m.kept.collector.epoch in
+    let now = now_at w (Looking t) m.kept looking in
+    let is : IsMutator w.config t = mutator_at w t (Looking t) m.kept looking (now.first, now.there) in
+    let has : crossing_of w t ≡ crossing_word w.epoch 2 = sym at ∙ crossed ∙ ap (λ n. crossing_word n 2) epoch in
+    let b : Bool = word == crossing_word w.collector.epoch 2 in
+    let yes : b ≡ true = eq-eqb word (crossing_word w.collector.epoch 2) crossed in
+    let next : written (ops.LookBox t w.collector.epoch) word ≡ crossing_word w.epoch 3 = cond-true b (crossing_word w.collector.epoch 3) word yes ∙ ap (λ n. crossing_word n 3) epoch in
+    let after : q ≡ record w.collector { newer = slice_set w.collector.newer (t - 1) (box w t); phase = Returning t; turns = w.collector.turns + 1 }
+    = g.after ∙ ap (λ (phase : Phase). record w.collector { newer = slice_set w.collector.newer (t - 1) (box w (looked_at phase)); phase = Returning t; turns = w.collector.turns + 1 }) looking in
+    let whole = gathered_kept w t m.kept looking is has (subst collector_kept.IsMachine after m.machine) in
+    let leaves : Phase → Core = λ f. collected (record w { collector = record w.collector { phase = f } }) op word q (left_by w.collector word (box w (looked_at f)) f) in
+    subst IsKept (sym (ap leaves looking))
+    (subst (λ o. IsKept (collected (record w { collector = record w.collector { phase = Looking t } }) o word q (left_by w.collector word (box w t) (Looking t)))) (sym its)
+    (subst (λ (x : Contents). IsKept (record w { crossing = slice_set w.crossing (t - 1) (written (ops.LookBox t w.collector.epoch) word); boxes = slice_set w.boxes (t - 1) x; collector = q })) (sym (cond-true b (collectors.spare w.collector) (box w t) yes))
+    (subst (λ (n : ℕ). IsKept (record w { crossing = slice_set w.crossing (t - 1) n; boxes = slice_set w.boxes (t - 1) (collectors.spare w.collector); collector = q })) (sym next)
+    (subst (λ x. IsKept (record w { crossing = slice_set w.crossing (t - 1) (crossing_word w.epoch 3); boxes = slice_set w.boxes (t - 1) (collectors.spare w.collector); collector = x })) (sym after) whole))))
+rule_kept w op word q turn m (Step.give_back t returning more named g) =
+    let its : op ≡ ops.ReturnBox t w.collector.epoch = some_op op (ops.ReturnBox t w.collector.epoch) named in
+    let epoch : w.collector.epoch ≡ w.epoch = m.kept.collector.epoch in
+    let now = now_at w (Returning t) m.kept returning in
+    let is : IsMutator w.config t = mutator_at w t (Returning t) m.kept returning (now.first, now.there) in
+    let whole = returned_kept w t m.kept returning is (subst collector_kept.IsMachine g.after m.machine) in
+    subst IsKept (sym (plain_left w op word q (Returning t) returning refl))
+    (subst (λ o. IsKept (record (collected w o word q (box w 1)) { boxes = w.boxes })) (sym its)
+    (subst (λ n. IsKept (record w { crossing = slice_set w.crossing (t - 1) (crossing_word n 0); collector = q })) (sym epoch)
+    (subst (λ x. IsKept (record w { crossing = slice_set w.crossing (t - 1) (crossing_word w.epoch 0); collector = x })) (sym g.after) whole)))
+rule_kept w op word q turn m (Step.apply t returning last named on) =
+    let its : op ≡ ops.ReturnBox t w.collector.epoch = some_op op (ops.ReturnBox t w.collector.epoch) named in
+    let epoch : w.collector.epoch ≡ w.epoch = m.kept.collector.epoch in
+    let whole = clears_kept w (slice_set w.crossing (t - 1) (crossing_word w.epoch 0)) w.words q m.machine turn (applied_lands w t m.kept returning last) on in
+    subst IsKept (sym (plain_left w op word q (Returning t) returning refl))
+    (subst (λ o. IsKept (record (collected w o word q (box w 1)) { boxes = w.boxes })) (sym its)
+    (subst (λ n. IsKept (record w { crossing = slice_set w.crossing (t - 1) (crossing_word n 0); collector = q })) (sym epoch) whole))
+rule_kept w op word q turn m (Step.release releasing named on) = go w.collector.release.at refl
+  where
+    go : (x : Option At) → w.collector.release.at ≡ x → IsKept (collected w op word q (left_by w.collector word (box w (looked_at w.collector.phase)) w.collector.phase))
+    go None at = let not_so : ◌≡◌ {A = Option Op} (Some op) None = named ∙ ap (release_op_at w.collector.release.fields) at in absurd (cc)
+    go (Some a) at =
+        let place : ℕ = place_of a.slot a.field w.config.fields in
+        let its : op ≡ ops.ClearField place = some_op op (ops.ClearField place) (named ∙ ap (release_op_at w.collector.release.fields) at ∙ ap (λ n. Some (ops.ClearField (place_of a.slot a.field n))) m.kept.collector.fields) in
+        let found : word ≡ slice_index_or w.words place 0 = m.found ∙ ap (cell (cells_of w)) its in
+        let whole = clears_kept w w.crossing (slice_set w.words place 0) q m.machine turn (released_lands w a m.kept releasing at) (subst (λ n. ClearsOn w.collector q turn (with_released (parts_of w.collector) n)) found on) in
+        subst IsKept (sym (plain_left w op word q Releasing releasing refl)) (subst (λ o. IsKept (record (collected w o word q (box w 1)) { boxes = w.boxes })) (sym its) whole)
+rule_kept w op word q turn m (Step.freeing freeing named on) = go w.collector.freeing.at refl
+  where
+    go : (x : Option Member) → w.collector.freeing.at ≡ x → IsKept (collected w op word q (left_by w.collector word (box w (looked_at w.collector.phase)) w.collector.phase))
+    go None at = let not_so : ◌≡◌ {A = Option Op} (Some op) None = named ∙ ap (freeing_op_at w.collector.freeing.fields) at in absurd (cc)
+    go (Some a) at =
+        let place : ℕ = place_of a.slot a.field w.config.fields in
+        let fields : w.collector.freeing.fields ≡ w.config.fields = m.kept.collector.machine.freeing_fields ∙ m.kept.collector.fields in
+        let its : op ≡ ops.ClearField place = some_op op (ops.ClearField place) (named ∙ ap (freeing_op_at w.collector.freeing.fields) at ∙ ap (λ n. Some (ops.ClearField (place_of a.slot a.field n))) fields) in
+        let found : word ≡ slice_index_or w.words place 0 = m.found ∙ ap (cell (cells_of w)) its in
+        let whole = clears_kept w w.crossing (slice_set w.words place 0) q m.machine turn (freed_lands w a m.kept freeing at) (subst (λ n. ClearsOn w.collector q turn (relieved (with_freed (parts_of w.collector) n))) found on) in
+        subst IsKept (sym (plain_left w op word q Freeing freeing refl)) (subst (λ o. IsKept (record (collected w o word q (box w 1)) { boxes = w.boxes })) (sym its) whole)
+rule_kept w op word q turn m (Step.trial trying named on) =
+    let (place, its) = loads_child w.collector.trial op named in
+    let found : word ≡ slice_index_or w.words place 0 = m.found ∙ ap (cell (cells_of w)) its in
+    let stays : slice_set w.words place word ≡ w.words = ap (slice_set w.words place) found ∙ set-get_or w.words place 0 in
+    let whole = trying_kept w m.kept trying place (sym named ∙ ap (λ o. Some o) its) q turn m.machine (subst (λ n. TriesOn w.collector (with_tried (parts_of w.collector) n) q turn) found on) in
+    subst IsKept (sym (plain_left w op word q Trying trying refl))
+    (subst (λ o. IsKept (record (collected w o word q (box w 1)) { boxes = w.boxes })) (sym its) (subst (λ ws. IsKept (record w { words = ws; collector = q })) (sym stays) whole))
+rule_kept w op word q turn m (Step.preparation preparing named on) =
+    let (a, at, due) = loads_due w.collector.prep op (sym named) in
+    let place : ℕ = place_of a.slot a.field w.config.fields in
+    let fields : w.collector.prep.fields ≡ w.config.fields = m.kept.collector.machine.prep_fields ∙ m.kept.collector.fields in
+    let its : op ≡ ops.LoadChild place = due ∙ ap (λ n. ops.LoadChild (place_of a.slot a.field n)) fields in
+    let found : word ≡ slice_index_or w.words place 0 = m.found ∙ ap (cell (cells_of w)) its in
+    let stays : slice_set w.words place word ≡ w.words = ap (slice_set w.words place) found ∙ set-get_or w.words place 0 in
+    let whole = preparing_kept w m.kept preparing a at q turn m.machine (subst (λ n. PreparesOn w.collector (with_loaded (parts_of w.collector) n) q turn) found on) in
+    subst IsKept (sym (plain_left w op word q Preparing preparing refl))
+    (subst (λ o. IsKept (record (collected w o word q (box w 1)) { boxes = w.boxes })) (sym its) (subst (λ ws. IsKept (record w { words = ws; collector = q })) (sym stays) whole))
+rule_kept w op word q turn m (Step.begin_sweep opening named g) =
+    let its : op ≡ ops.AddFreed = some_op op ops.AddFreed named in
+    let found : word ≡ w.freed = m.found ∙ ap (cell (cells_of w)) its in
+    let more : (word + 1) % 2 ^ 64 ≡ w.freed + 1 = ap (λ n. (n + 1) % 2 ^ 64) found ∙ freed_more w m.kept in
+    let whole = began_kept w _ m.kept opening (subst collector_kept.IsMachine (begun_after g.after) m.machine) in
+    subst IsKept (sym (plain_left w op word q Opening opening refl))
+    (subst (λ o. IsKept (record (collected w o word q (box w 1)) { boxes = w.boxes })) (sym its)
+    (subst (λ n. IsKept (record w { freed = n; collector = q })) (sym more) (subst (λ x. IsKept (record w { freed = w.freed + 1; collector = x })) (sym (begun_after g.after)) whole)))
+  where
+    begun_after : q ≡ record w.collector { due = (sweeps.started_of w.collector.counts).due; counts = (sweeps.started_of w.collector.counts).counts; phase = Sweeping 0; turns = w.collector.turns + 1 }
+        → q ≡ record w.collector { due = (sweeps.started_of w.collector.counts).due; phase = Sweeping 0; turns = w.collector.turns + 1 }
+    begun_after is = is
+rule_kept w op word q turn m (Step.sweep swept u next sweeping named took follows g) = go w.collector.due refl
+  where
+    still : (n : Phase) → IsNext swept u n → (x : ℕ) (due : w.collector.due ≡ Some x) → IsStillSweeping w swept x m.kept sweeping due n
+    still n (IsNext.more some is) x due = subst (IsStillSweeping w swept x m.kept sweeping due) (sym is) (record { sweeping = refl; way = refl; applied = λ e. refl; older = λ e. refl; stands = λ s. refl; between = tt; some = tt; waits = λ p d h. h })
+    still n (IsNext.last none is) x due = subst (IsStillSweeping w swept x m.kept sweeping due) (sym is) (record { sweeping = refl; way = refl; applied = λ e. refl; older = λ e. refl; stands = λ s. refl; between = tt; some = omega arith; waits = λ p d h. h })
+
+    go : (x : Option ℕ) → w.collector.due ≡ x → IsKept (collected w op word q (left_by w.collector word (box w (looked_at w.collector.phase)) w.collector.phase))
+    go None due = let not_so : ◌≡◌ {A = Option Op} (Some op) None = named ∙ ap sweeps.next_of due in absurd (cc)
+    go (Some x) due =
+        let its : op ≡ ops.FreeHeader x = some_op op (ops.FreeHeader x) (named ∙ ap sweeps.next_of due) in
+        let work : u ≡ record { due = slice_get (drop 1 w.collector.counts.free) 0; counts = sweeps.swept w.collector.counts x } = took ∙ ap (λ (o : Option ℕ). sweeps.took_at (record { due = w.collector.due; counts = w.collector.counts }) o) due in
+        let after : q ≡ record w.collector { counts = sweeps.swept w.collector.counts x; due = slice_get (drop 1 w.collector.counts.free) 0; freed = w.collector.freed + 1; phase = next; turns = w.collector.turns + 1 }
+        = g.after ∙ ap (λ (v : sweeps.Work). record w.collector { due = v.due; counts = v.counts; freed = w.collector.freed + 1; phase = next; turns = w.collector.turns + 1 }) work in
+        let whole = swept_kept w swept x m.kept sweeping due (slice_get (drop 1 w.collector.counts.free) 0) next (still next follows x due) (subst collector_kept.IsMachine after m.machine) in
+        subst IsKept (sym (plain_left w op word q (Sweeping swept) sweeping refl))
+        (subst (λ o. IsKept (record (collected w o word q (box w 1)) { boxes = w.boxes })) (sym its)
+        (subst (λ y. IsKept (record w { headers = slice_set w.headers x 0; collector = y })) (sym after) whole))
+rule_kept w op word q turn m (Step.end_sweep swept closing named e) =
+    let its : op ≡ ops.AddFreed = some_op op ops.AddFreed named in
+    let found : word ≡ w.freed = m.found ∙ ap (cell (cells_of w)) its in
+    let more : (word + 1) % 2 ^ 64 ≡ w.freed + 1 = ap (λ n. (n + 1) % 2 ^ 64) found ∙ freed_more w m.kept in
+    let whole = ended_kept w swept m.kept closing (subst collector_kept.IsMachine e.after m.machine) in
+    subst IsKept (sym (plain_left w op word q (Closing swept) closing refl))
+    (subst (λ o. IsKept (record (collected w o word q (box w 1)) { boxes = w.boxes })) (sym its)
+    (subst (λ n. IsKept (record w { freed = n; collector = q })) (sym more) (subst (λ x. IsKept (record w { freed = w.freed + 1; collector = x })) (sym e.after) whole)))

@@ -1,0 +1,231 @@
+-- Steps of a mutator that finish nothing: what they leave, how many they are, and that each comes nearer to the end.
+use Rattle.std.proofs.Common.{◌≡◌, ℕ, ◌+◌, ◌-◌, ◌<◌, ◌≤◌, Option, None, Some, IfSome, true, false, refl, sym, ap, subst, ◌∙◌, arith}
+use Rattle.std.specs.Option.{is_none}
+use Rattle.std.proofs.lemmas.Bool.{false≢true}
+use Rattle.std.proofs.lemmas.List.{set-set, set-get_or}
+use Rattle.rec_model.specs.declared.command.Cmd.TheVariants as commands
+use Rattle.rec_mutator.specs.Next.{next_of}
+use Rattle.rec_mutator.specs.Private.{Private, IsAt, is_busy, is_busy_at, work_of, work_at, answer_of, answer_at, limit_of}
+use Rattle.rec_mutator.specs.Step.{Step}
+use Rattle.rec_mutator.specs.Took.{begun_of, step_of}
+use Rattle.rec_mutator.specs.declared.made.Made.{Made}
+use Rattle.rec_mutator.specs.declared.made.Made.TheVariants as makes
+use Rattle.rec_mutator.specs.declared.phase.Phase.{Phase}
+use Rattle.rec_mutator.specs.declared.phase.Phase.TheVariants.{Idle, Begun, Scanning, Scanned, Crossing, Swapping, Giving, Finished}
+use Rattle.rec_mutator.specs.declared.work.Work.{Work}
+use Rattle.rec_mutator.specs.declared.work.Work.TheVariants as works
+use Rattle.rec_mutator.proofs.Polls.{poll_has_cause}
+use Rattle.rec_mutator.proofs.Sizes.{step_keeps, step_counts}
+use Rattle.rec_mutator.proofs.Steps.{step_made}
+use Rattle.rec_core.specs.Config.{IsMutator}
+use Rattle.rec_core.specs.Core.{Core, nobody, box, mutator, with_mutator}
+use Rattle.rec_core.specs.Kept.{IsKept}
+use Rattle.rec_core.specs.Moves.{begun, stepped, found_by}
+use Rattle.rec_core.specs.Unfinished.{OnlyWorks, IsQuiet, HasFound, Waits}
+use Rattle.rec_core.specs.declared.config.Config.{Config}
+use Rattle.rec_core.proofs.Showing.{Says, mutator_left, mutator_other, stepped_mutator, step_says, works_sight}
+use Rattle.rec_core.proofs.Steps.{actor_of, its_box}
+
+-- nothing changed
+pub works_none : (w : Core) (t : ℕ) → OnlyWorks w w t
+works_none w t = record { others = ap (λ ms. let x : Core = record w { mutators = ms } in x) (sym (set-get_or w.mutators (t - 1) nobody)); own = refl }
+
+-- first these steps and then those
+pub works_both : (w v u : Core) (t : ℕ) → OnlyWorks w v t → OnlyWorks v u t → OnlyWorks w u t
+works_both w v u t first second =
+    let set_set : Core → Core = λ x. with_mutator x t (mutator u t) in
+    record {
+      others = second.others ∙ ap set_set first.others ∙ ap (λ ms. let x : Core = record w { mutators = ms } in x) (set-set w.mutators (t - 1) (mutator v t) (mutator u t));
+      own = second.own ∙ ap (λ (p : Private). let q : Private = record p { phase = (mutator u t).phase; steps = (mutator u t).steps } in q) first.own;
+    }
+
+-- a work that went on is quiet
+pub works_quiet : (w v : Core) (t : ℕ) → 1 ≤ t → OnlyWorks w v t → IsQuiet w v t
+works_quiet w v t first only =
+    record {
+      seen = works_sight w v t only;
+      others = λ s other some. ap (λ (x : Core). mutator x s) only.others ∙ mutator_other w.mutators t s (mutator v t) first other some;
+      collector = ap (λ (x : Core). x.collector) only.others;
+      freed = ap (λ (x : Core). x.freed) only.others;
+      requested = ap (λ (x : Core). x.epoch) only.others;
+      made = ap (λ (x : Core). x.made) only.others;
+      config = ap (λ (x : Core). x.config) only.others;
+    }
+
+-- first what is quiet here and then there
+pub quiet_both : (w v u : Core) (t : ℕ) → IsQuiet w v t → IsQuiet v u t → IsQuiet w u t
+quiet_both w v u t first second =
+    record {
+      seen = second.seen ∙ first.seen;
+      others = λ s other some. second.others s other some ∙ first.others s other some;
+      collector = second.collector ∙ first.collector;
+      freed = second.freed ∙ first.freed;
+      requested = second.requested ∙ first.requested;
+      made = second.made ∙ first.made;
+      config = second.config ∙ first.config;
+    }
+
+-- what a scan has found is said of headers and the freed word alone
+found_same : (w : Core) (t : ℕ) (q : Private) (phase : Phase) → HasFound w phase → HasFound (with_mutator w t q) phase
+found_same w t q Idle is = tt
+found_same w t q (Begun work) is = tt
+found_same w t q (Scanning reg label before slot) is = is
+found_same w t q (Scanned reg label before) is = is
+found_same w t q Crossing is = tt
+found_same w t q Swapping is = tt
+found_same w t q Giving is = tt
+found_same w t q (Finished work made) is = tt
+
+works_found : (w v : Core) (t : ℕ) (phase : Phase) → OnlyWorks w v t → HasFound w phase → HasFound v phase
+works_found w v t phase only is = subst (λ (x : Core). HasFound x phase) (sym only.others) (found_same w t (mutator v t) phase is)
+
+-- the begin of a work changes nothing but the work
+pub begun_works : (w : Core) (t : ℕ) (work : Work) → IsKept w → IsMutator w.config t → OnlyWorks w (begun w t work) t
+unfolding begun_of
+begun_works w t work kept is =
+    let here : mutator (begun w t work) t ≡ begun_of (mutator w t) work = mutator_left w t (begun_of (mutator w t) work) kept is in
+    let P : Private → Type 0 = λ x. x ≡ record (mutator w t) { phase = x.phase; steps = x.steps } in
+    record { others = ap (with_mutator w t) (sym here); own = subst P (sym here) refl }
+
+-- no step was made yet
+pub waits_none : (w : Core) (t : ℕ) → HasFound w (mutator w t).phase → Waits w w t
+waits_none w t found = Waits.works (works_none w t) found
+
+-- steps that finished nothing are quiet
+pub waits_quiet : (before w : Core) (t : ℕ) → 1 ≤ t → Waits before w t → IsQuiet before w t
+waits_quiet before w t first (Waits.works only found) = works_quiet before w t first only
+waits_quiet before w t first (Waits.holds phase still epoch) = still
+
+-- they leave the numbers
+pub waits_config : (before w : Core) (t : ℕ) → Waits before w t → w.config ≡ before.config
+waits_config before w t (Waits.works only found) = ap (λ (x : Core). x.config) only.others
+waits_config before w t (Waits.holds phase still epoch) = still.config
+
+-- so the mutator is still there
+pub mutator_there : (before w : Core) (t : ℕ) → Waits before w t → IsMutator before.config t → IsMutator w.config t
+mutator_there before w t waits is = subst (λ (c : Config). IsMutator c t) (sym (waits_config before w t waits)) is
+
+-- the mutator is still in its epoch
+pub waits_epoch : (before w : Core) (t : ℕ) → Waits before w t → (mutator w t).epoch ≡ (mutator before t).epoch
+waits_epoch before w t (Waits.works only found) = ap (λ (p : Private). p.epoch) only.own
+waits_epoch before w t (Waits.holds phase still epoch) = epoch
+
+-- a machine whose work isn't finished is busy
+busy_told : (at : Phase) (work : Work) → work_at at ≡ Some work → is_busy_at at ≡ is_none (answer_at at)
+busy_told Idle work is = let not_so : ◌≡◌ {A = Option Work} None (Some work) = is in (cc)
+busy_told (Begun its) work is = refl
+busy_told (Scanning reg label before slot) work is = refl
+busy_told (Scanned reg label before) work is = refl
+busy_told Crossing work is = refl
+busy_told Swapping work is = refl
+busy_told Giving work is = refl
+busy_told (Finished its made) work is = refl
+
+-- a machine that is busy has a work
+busy_work : (at : Phase) → is_busy_at at ≡ true → (work : Work) × (work_at at ≡ Some work)
+busy_work Idle busy = absurd (false≢true busy)
+busy_work (Begun work) busy = (work, refl)
+busy_work (Scanning reg label before slot) busy = (works.Command (commands.New reg label), refl)
+busy_work (Scanned reg label before) busy = (works.Command (commands.New reg label), refl)
+busy_work Crossing busy = (works.Poll, refl)
+busy_work Swapping busy = (works.Poll, refl)
+busy_work Giving busy = (works.Poll, refl)
+busy_work (Finished work made) busy = absurd (false≢true busy)
+
+-- a finished work is no longer busy
+pub answered_idle : (at : Phase) (made : Made) → answer_at at ≡ Some made → is_busy_at at ≡ false
+answered_idle Idle made is = refl
+answered_idle (Begun its) made is = let not_so : ◌≡◌ {A = Option Made} None (Some made) = is in (cc)
+answered_idle (Scanning reg label before slot) made is = let not_so : ◌≡◌ {A = Option Made} None (Some made) = is in (cc)
+answered_idle (Scanned reg label before) made is = let not_so : ◌≡◌ {A = Option Made} None (Some made) = is in (cc)
+answered_idle Crossing made is = let not_so : ◌≡◌ {A = Option Made} None (Some made) = is in (cc)
+answered_idle Swapping made is = let not_so : ◌≡◌ {A = Option Made} None (Some made) = is in (cc)
+answered_idle Giving made is = let not_so : ◌≡◌ {A = Option Made} None (Some made) = is in (cc)
+answered_idle (Finished its other) made is = refl
+
+-- the step that a mutator makes
+its_step : (w : Core) (t : ℕ) → IsKept w → IsMutator w.config t → is_busy (mutator w t) ≡ true → Step (mutator w t) (found_by w t) (box w t) (next_of (mutator w t)) (step_of (mutator w t) (found_by w t) (box w t))
+its_step w t kept is busy = step_made (mutator w t) (found_by w t) (box w t) busy (actor_of w t kept is).own.between
+
+-- the work of a mutator stays the same in its step
+pub work_stays : (w : Core) (t : ℕ) → IsKept w → IsMutator w.config t → is_busy (mutator w t) ≡ true → work_of (mutator (stepped w t) t) ≡ work_of (mutator w t)
+work_stays w t kept is busy = ap work_of (stepped_mutator w t kept is) ∙ (step_keeps (its_box w t kept is).capacity (its_step w t kept is busy)).1
+
+-- after a step a mutator is busy just where nothing was answered
+pub step_busy : (w : Core) (t : ℕ) → IsKept w → IsMutator w.config t → is_busy (mutator w t) ≡ true → is_busy (mutator (stepped w t) t) ≡ is_none (answer_of (mutator (stepped w t) t))
+step_busy w t kept is busy =
+    let (work, its) = busy_work (mutator w t).phase busy in
+    busy_told (mutator (stepped w t) t).phase work (work_stays w t kept is busy ∙ its)
+
+-- a step counts
+pub steps_counted : (w : Core) (t : ℕ) → IsKept w → IsMutator w.config t → is_busy (mutator w t) ≡ true → (mutator (stepped w t) t).steps ≡ (mutator w t).steps + 1
+steps_counted w t kept is busy = ap (λ (p : Private). p.steps) (stepped_mutator w t kept is) ∙ step_counts (its_step w t kept is busy)
+
+-- the steps of a work are within its limit
+limit_at : (p : Private) (at : Phase) → IsAt p at → IfSome (work_at at) (λ work. p.steps ≤ limit_of p.slots work)
+limit_at p Idle is = tt
+limit_at p (Begun work) is = let none : p.steps ≡ 0 = is.1 in omega arith
+limit_at p (Scanning reg label before slot) is = let there : slot < p.slots = is.1 in let steps : p.steps ≡ slot + 1 = is.2 in omega arith
+limit_at p (Scanned reg label before) is = let steps : p.steps ≡ p.slots + 1 = is.1 in omega arith
+limit_at p Crossing is = let one : p.steps ≡ 1 = is.0 in omega arith
+limit_at p Swapping is = let two : p.steps ≡ 2 = is.0 in omega arith
+limit_at p Giving is = let two : p.steps ≡ 2 = is.0 in omega arith
+limit_at p (Finished work made) is = is
+
+-- those of a mutator
+pub steps_limited : (w : Core) (t : ℕ) → IsKept w → IsMutator w.config t → IfSome (work_of (mutator w t)) (λ work. (mutator w t).steps ≤ limit_of w.config.slots work)
+steps_limited w t kept is =
+    let own = (actor_of w t kept is).own in
+    subst (λ n. IfSome (work_of (mutator w t)) (λ work. (mutator w t).steps ≤ limit_of n work)) own.slots (limit_at (mutator w t) (mutator w t).phase own.machine.now)
+
+-- no work takes more steps than an allocation may
+most_at : (slots steps : ℕ) (x : Option Work) (work : Work) → 0 < slots → x ≡ Some work → IfSome x (λ one. steps ≤ limit_of slots one) → steps ≤ slots + 2
+most_at slots steps None work some is few = let not_so : ◌≡◌ {A = Option Work} None (Some work) = is in (cc)
+most_at slots steps (Some (works.Command (commands.New reg label))) work some is few = few
+most_at slots steps (Some (works.Command (commands.Null reg))) work some is few = let one : steps ≤ 1 = few in omega arith
+most_at slots steps (Some (works.Command (commands.Copy dst src))) work some is few = let one : steps ≤ 1 = few in omega arith
+most_at slots steps (Some (works.Command (commands.Get dst src f))) work some is few = let one : steps ≤ 1 = few in omega arith
+most_at slots steps (Some (works.Command (commands.Put src f val))) work some is few = let one : steps ≤ 1 = few in omega arith
+most_at slots steps (Some (works.Command (commands.Value reg))) work some is few = let one : steps ≤ 1 = few in omega arith
+most_at slots steps (Some (works.Command (commands.Same a b))) work some is few = let one : steps ≤ 1 = few in omega arith
+most_at slots steps (Some works.Poll) work some is few = let three : steps ≤ 3 = few in omega arith
+
+pub most_steps : (w : Core) (t : ℕ) → IsKept w → IsMutator w.config t → is_busy (mutator w t) ≡ true → (mutator w t).steps ≤ w.config.slots + 2
+most_steps w t kept is busy =
+    let (work, its) = busy_work (mutator w t).phase busy in
+    most_at w.config.slots (mutator w t).steps (work_of (mutator w t)) work kept.config.some_slots its (steps_limited w t kept is)
+
+-- a loop of steps comes nearer to its end
+pub nearer : (before w v : Core) (t : ℕ) → IsKept w → IsMutator w.config t → is_busy (mutator w t) ≡ true → Waits before w t → v ≡ stepped w t
+    → before.config.slots + 3 - (mutator v t).steps < before.config.slots + 3 - (mutator w t).steps
+nearer before w v t kept is busy waits steps =
+    let slots : w.config.slots ≡ before.config.slots = ap (λ (c : Config). c.slots) (waits_config before w t waits) in
+    let most : (mutator w t).steps ≤ w.config.slots + 2 = most_steps w t kept is busy in
+    let more : (mutator v t).steps ≡ (mutator w t).steps + 1 = ap (λ (x : Core). (mutator x t).steps) steps ∙ steps_counted w t kept is busy in
+    omega arith
+
+-- a mutator that gives its mailbox back finishes its poll
+giving_answers : (w : Core) (t : ℕ) → IsKept w → IsMutator w.config t → is_busy (mutator w t) ≡ true → (mutator w t).phase ≡ Giving → answer_of (mutator (stepped w t) t) ≡ Some (makes.Crossed (Some ((mutator w t).epoch + 1)))
+giving_answers w t kept is busy phase =
+    ap answer_of (stepped_mutator w t kept is)
+    ∙ ((poll_has_cause (mutator w t) (found_by w t) (box w t) busy (actor_of w t kept is).own.between).some ((mutator w t).epoch + 1)).1 (phase, refl)
+
+-- Steps that finished nothing, and one more that finishes nothing either.
+pub waited : (before w v : Core) (t : ℕ) → IsKept w → IsMutator w.config t → is_busy (mutator w t) ≡ true → Waits before w t → v ≡ stepped w t → answer_of (mutator v t) ≡ None → Waits before v t
+waited before w v t kept is busy (Waits.holds phase still epoch) steps none =
+    let not_so : ◌≡◌ {A = Option Made} None (Some (makes.Crossed (Some ((mutator w t).epoch + 1)))) = sym none ∙ ap (λ (x : Core). answer_of (mutator x t)) steps ∙ giving_answers w t kept is busy phase in
+    (cc)
+waited before w v t kept is busy (Waits.works only found) steps none =
+    go (subst (λ (x : Core). Says w t (mutator x t) x) (sym steps) (step_says w t kept is busy))
+  where
+    told : (made : Made) → answer_of (mutator v t) ≡ Some made → Waits before v t
+    told made answer =
+        let not_so : ◌≡◌ {A = Option Made} None (Some made) = sym none ∙ answer in
+        (cc)
+
+    go : Says w t (mutator v t) v → Waits before v t
+    go (Says.decided cmd its_told work answer said refused) = told (makes.Answered its_told) answer
+    go (Says.going answer here finds) = Waits.works (works_both before w v t only here) (works_found w v t (mutator v t).phase here (finds found))
+    go (Says.holding answer phase still epoch) = Waits.holds phase (quiet_both before w v t (works_quiet before w t is.0 only) still) (epoch ∙ ap (λ (p : Private). p.epoch) only.own)
+    go (Says.stayed answer work here its_only) = told (makes.Crossed None) answer
+    go (Says.crossed answer work phase still epoch log) = told (makes.Crossed (Some ((mutator w t).epoch + 1))) answer

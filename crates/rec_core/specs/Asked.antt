@@ -1,0 +1,25 @@
+-- What the moves of a run tell of its commands.
+use Rattle.std.specs.Prelude.{ℕ, Option, Some, List, [], ◌∷◌, ◌++◌}
+use Rattle.rec_model.specs.LegalOrder.{Event}
+use Rattle.rec_mutator.specs.Private.{work_of, answer_of}
+use Rattle.rec_mutator.specs.declared.made.Made.{Made}
+use Rattle.rec_mutator.specs.declared.made.Made.TheVariants as makes
+use Rattle.rec_mutator.specs.declared.work.Work.{Work}
+use Rattle.rec_mutator.specs.declared.work.Work.TheVariants as works
+use Rattle.rec_core.specs.Core.{Core, mutator}
+use Rattle.rec_core.specs.Moves.{Move, stepped, after_move}
+
+-- the line that a step of mutator `t` told, by its work and what came of it: none where it answers no command
+abbrev pub told_by : (t : ℕ) → Option Work → Option Made → List Event
+told_by t (Some (works.Command cmd)) (Some (makes.Answered told)) = Event.Answers t (cmd, told) ∷ []
+told_by t _ _ = []
+
+-- the lines that a move told
+abbrev pub told_in : Core → Move → List Event
+told_in w (Move.Steps t) = told_by t (work_of (mutator w t)) (answer_of (mutator (stepped w t) t))
+told_in w _ = []
+
+-- the lines that some moves told, in the order of the steps that answered
+abbrev pub told_in_all : Core → List Move → List Event
+told_in_all w [] = []
+told_in_all w (m ∷ ms) = told_in w m ++ told_in_all (after_move w m) ms

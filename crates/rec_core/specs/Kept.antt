@@ -1,0 +1,204 @@
+-- What every heap with its collector keeps.
+use Rattle.std.specs.Prelude.{◌≡◌, ◌⊎◌, ℕ, ◌+◌, ◌-◌, ◌*◌, ◌%◌, ◌^◌, ◌<◌, ◌≤◌, ◌==◌, nat_lt, if◌then◌else◌, Bool, true, false, Option, None, Some, List, [], All, length, slice_index_or}
+use Rattle.std.specs.List.{sum_by}
+use Rattle.rec_word.specs.Op.{crossing_word}
+use Rattle.rec_word.specs.Place.{place_of}
+use Rattle.rec_model.specs.Accounted.{IsAccounted, HasUncountedReleased}
+use Rattle.rec_model.specs.Pending.{epoch_of}
+use Rattle.rec_model.specs.Reach.{named}
+use Rattle.rec_model.specs.Sight.{IsSound}
+use Rattle.rec_log.specs.declared.contents.Contents.{Contents}
+use Rattle.rec_log.specs.declared.entry.Entry.{Entry}
+use Rattle.rec_log.specs.declared.entry.Entry.TheVariants as entries
+use Rattle.rec_counts.specs.Counts.{slot_at}
+use Rattle.rec_counts.specs.Lists.{times}
+use Rattle.rec_release.specs.declared.at.At.{At}
+use Rattle.rec_release.specs.declared.member.Member.{Member}
+use Rattle.rec_mutator.specs.Causes.{is_giving}
+use Rattle.rec_mutator.specs.Private.{Private, IsMachine}
+use Rattle.rec_mutator.specs.Took.{IsBetween}
+use Rattle.rec_mutator.specs.declared.phase.Phase as phases
+use Rattle.rec_mutator.specs.declared.phase.Phase.TheVariants as at
+use Rattle.rec_collector.specs.Private as collectors
+use Rattle.rec_collector.specs.Kept as collector_kept
+use Rattle.rec_collector.specs.Step as collector_step
+use Rattle.rec_collector.specs.declared.phase.Phase.{Phase}
+use Rattle.rec_collector.specs.declared.phase.Phase.TheVariants.{Looking, Swapping, Returning, Sweeping, Closing}
+use Rattle.rec_core.specs.Config.{IsConfig, IsMutator, HasLabel}
+use Rattle.rec_core.specs.Core.{Core, sight, spare_of, nobody}
+use Rattle.rec_core.specs.CyclesAt.{HasCyclesAt}
+use Rattle.rec_core.specs.Pending.{pending, older_at, epoch_at}
+use Rattle.rec_core.specs.declared.config.Config.{Config}
+
+-- a mutator that is neither crossing nor about to
+abbrev pub IsSettledIn : phases.Phase → Type 0
+IsSettledIn at.Crossing = ⊥
+IsSettledIn at.Swapping = ⊥
+IsSettledIn at.Giving = ⊥
+IsSettledIn _ = Unit {0}
+
+-- the label of an allocation that goes on fits a header
+abbrev pub HasLabelAt : phases.Phase → Type 0
+HasLabelAt (at.Begun work) = HasLabel work
+HasLabelAt (at.Scanning reg label before slot) = label < 2 ^ 32
+HasLabelAt _ = Unit {0}
+
+-- what is known of a mutator of a heap with these numbers
+pub record IsOwn (config : Config) (t : ℕ) (p : Private) : Type 0 where
+  pub number : p.number ≡ t
+  pub slots : p.slots ≡ config.slots
+  pub fields : p.fields ≡ config.fields
+  pub registers : length p.registers ≡ config.registers
+  pub capacity : p.log.capacity ≡ config.log_entries
+  pub machine : IsMachine p
+  pub between : IsBetween p.phase
+  pub label : HasLabelAt p.phase
+
+-- A write was made in this epoch. A birth bears no stamp.
+abbrev pub IsMadeIn : (epoch : ℕ) → Entry → Type 0
+IsMadeIn epoch (entries.Put place new old) = epoch_of new ≡ epoch
+IsMadeIn epoch (entries.Born slot) = Unit {0}
+
+-- a buffer of this heap: of its size, within its capacity, with the entries of one epoch
+pub record IsBufferOf (config : Config) (epoch : ℕ) (b : Contents) : Type 0 where
+  pub snapshot : length b.snapshot ≡ config.registers
+  pub capacity : b.capacity ≡ config.log_entries
+  pub few : length b.entries ≤ b.capacity
+  pub made : All (IsMadeIn epoch) b.entries
+
+-- the mutator of this number is past its turn in a gathering, its mailbox is held, or its turn is still to come
+pub data Stand : Type 0 where
+  Done : Stand
+  Held : Stand
+  Due : Stand
+
+-- where a mutator stands in the gathering of this collection; nobody's turn is to come where none is under way
+abbrev pub stand_at : Phase → (t : ℕ) → Stand
+stand_at (Looking u) t = if nat_lt t u then Stand.Done else Stand.Due
+stand_at (Swapping u) t = if nat_lt t u then Stand.Done else (if t == u then Stand.Held else Stand.Due)
+stand_at (Returning u) t = if nat_lt t u then Stand.Done else (if t == u then Stand.Held else Stand.Due)
+stand_at _ t = Stand.Done
+
+-- the mutator is in the requested epoch, and its mailbox is in this state
+pub record HasCrossed (requested : ℕ) (p : Private) (crossing state : ℕ) : Type 0 where
+  pub epoch : p.epoch ≡ requested
+  pub word : crossing ≡ crossing_word requested state
+  pub settled : IsSettledIn p.phase
+
+-- the mutator is in the epoch before the requested one, and its mailbox is home with a spare
+pub record IsBehind (config : Config) (requested : ℕ) (p : Private) (crossing : ℕ) (box : Contents) : Type 0 where
+  pub epoch : p.epoch + 1 ≡ requested
+  pub word : crossing ≡ crossing_word p.epoch 0
+  pub here : is_giving p.phase ≡ false
+  pub spare : box ≡ spare_of config
+
+-- the mutator holds its mailbox: it is crossing into the requested epoch
+pub record IsCrossing (config : Config) (requested : ℕ) (p : Private) (crossing : ℕ) : Type 0 where
+  pub epoch : p.epoch + 1 ≡ requested
+  pub phase : p.phase ≡ at.Giving
+  pub word : crossing ≡ crossing_word requested 1
+  pub spare : p.log ≡ spare_of config
+
+-- How a mutator and the collector stand to each other: the mutator's epoch, its crossing word and what its mailbox holds.
+abbrev pub IsHandshake : Config → (requested : ℕ) → Private → (crossing : ℕ) → (box : Contents) → Stand → Type 0
+IsHandshake config requested p crossing box Stand.Done = HasCrossed requested p crossing 0 × (box ≡ spare_of config)
+IsHandshake config requested p crossing box Stand.Held = HasCrossed requested p crossing 3 × (box ≡ spare_of config)
+IsHandshake config requested p crossing box Stand.Due = IsBehind config requested p crossing box ⊎ (IsCrossing config requested p crossing ⊎ HasCrossed requested p crossing 2)
+
+-- What is known of a mutator, of its crossing word and of its mailbox, at this epoch and in this phase of the collector.
+pub record IsActor (config : Config) (requested : ℕ) (phase : Phase) (t : ℕ) (p : Private) (crossing : ℕ) (box : Contents) : Type 0 where
+  pub own : IsOwn config t p
+  pub log : IsBufferOf config (epoch_at p) p.log
+  -- its snapshot is written as it is retired
+  pub unwritten : named p.log.snapshot ≡ []
+  pub mailbox : IsBufferOf config (requested - 1) box
+  pub handshake : IsHandshake config requested p crossing box (stand_at phase t)
+
+-- what is known of all mutators
+pub record HasMutators (config : Config) (requested : ℕ) (phase : Phase) (mutators : List Private) (crossing : List ℕ) (boxes : List Contents) : Type 0 where
+  pub many : length mutators ≡ config.mutators
+  pub words : length crossing ≡ config.mutators
+  pub mailboxes : length boxes ≡ config.mutators
+  pub each : (t : ℕ) → IsMutator config t → IsActor config requested phase t (slice_index_or mutators (t - 1) nobody) (slice_index_or crossing (t - 1) 0) (slice_index_or boxes (t - 1) (collectors.blank 0 0))
+
+-- a field of this slot that is still to be emptied by the release at work
+abbrev pub IsLeft : Option At → (slot f : ℕ) → Type 0
+IsLeft None slot f = ⊥
+IsLeft (Some a) slot f = (slot ≡ a.slot) × (a.field ≤ f)
+
+-- a field of a member that is still to be emptied by the freeing of a set: of the member at work, or of one behind it
+abbrev pub IsLeftOf : (members : List ℕ) → Option Member → (slot f : ℕ) → Type 0
+IsLeftOf members None slot f = ⊥
+IsLeftOf members (Some a) slot f = (index : ℕ) × (a.index ≤ index) × (index < length members) × (slot ≡ slice_index_or members index 0) × (index ≡ a.index → a.field ≤ f)
+
+-- what is known of the collector: its machine is one, of the sizes of this heap; its buffers are of the last two epochs; its free
+-- list has released slots, and the fields of released slots are emptied, but for those that are still to be
+pub record HasCollector (config : Config) (requested : ℕ) (words : List ℕ) (c : collectors.Private) : Type 0 where
+  pub machine : collector_kept.IsMachine c
+  pub between : collector_step.IsBetween c.phase
+  pub slots : length c.counts.slots ≡ config.slots
+  pub fields : c.release.fields ≡ config.fields
+  pub registers : c.registers ≡ config.registers
+  pub capacity : c.capacity ≡ config.log_entries
+  pub mutators : length c.newer ≡ config.mutators
+  pub epoch : c.epoch ≡ requested
+  pub begun : config.first_epoch + c.collections + collector_kept.under_way c.phase ≡ requested
+  pub newer : (t : ℕ) → IsMutator config t → IsBufferOf config (requested - 1) (collectors.buffer_at c.newer (t - 1))
+  pub older : (t : ℕ) → IsMutator config t → IsBufferOf config (older_at requested c.phase) (collectors.buffer_at c.older (t - 1))
+  pub listed : (x : ℕ) → 0 < times x c.counts.free → (slot_at c.counts x).released ≡ true
+  pub emptied : (x f : ℕ) → x < config.slots → f < config.fields → (slot_at c.counts x).released ≡ true → IsLeft c.release.at x f ⊎ (IsLeftOf c.counts.work c.freeing.at x f ⊎ (slice_index_or words (place_of x f config.fields) 0 ≡ 0))
+
+-- a sweep runs
+abbrev pub is_sweeping : Phase → Bool
+is_sweeping (Sweeping swept) = true
+is_sweeping (Closing swept) = true
+is_sweeping _ = false
+
+abbrev pub one_if_sweeping : Phase → ℕ
+one_if_sweeping phase = if is_sweeping phase then 1 else 0
+
+-- a sweep that is to end has freed a slot
+abbrev pub IsSomeSwept : Phase → Type 0
+IsSomeSwept (Closing swept) = 0 < swept
+IsSomeSwept _ = Unit {0}
+
+-- what is known of the freed word: it is odd exactly during a sweep, and rises by two at most in a collection; and a
+-- sweep that is to end has freed a slot
+pub record HasSweeps (freed : ℕ) (collections : ℕ) (phase : Phase) : Type 0 where
+  pub odd : freed % 2 ≡ one_if_sweeping phase
+  pub few : freed ≤ 2 * collections + one_if_sweeping phase
+  pub some : IsSomeSwept phase
+
+-- What a scan knows: unless a sweep has begun or ended since it began, each slot that it has passed is taken still.
+abbrev pub HasPassed : (headers : List ℕ) → (freed before slot : ℕ) → Type 0
+HasPassed headers freed before slot = (before ≤ freed) × (before ≡ freed → before % 2 ≡ 0 → (s : ℕ) → s < slot → 0 < slice_index_or headers s 0)
+
+-- what is known of an allocation's scan, by phase
+abbrev pub IsScanning : (slots : ℕ) → (headers : List ℕ) → (freed : ℕ) → phases.Phase → Type 0
+IsScanning slots headers freed (at.Scanning reg label before slot) = HasPassed headers freed before slot
+IsScanning slots headers freed (at.Scanned reg label before) = HasPassed headers freed before slots
+IsScanning slots headers freed _ = Unit {0}
+
+-- what is known of all scans
+abbrev pub HasScans : Config → (headers : List ℕ) → (freed : ℕ) → (mutators : List Private) → Type 0
+HasScans config headers freed mutators = (t : ℕ) → IsMutator config t → IsScanning config.slots headers freed (slice_index_or mutators (t - 1) nobody).phase
+
+-- the entries that a mutator has made at most since the opening: a full log for each epoch that it left, and those of its log
+abbrev pub entries_made : Config → Private → ℕ
+entries_made config p = (epoch_at p - config.first_epoch) * config.log_entries + length p.log.entries
+
+-- What every heap with its collector keeps.
+pub record IsKept (w : Core) : Type 0 where
+  pub config : IsConfig w.config
+  pub headers : length w.headers ≡ w.config.slots
+  pub labels : All (λ header. header ≤ 2 ^ 32) w.headers
+  pub mutators : HasMutators w.config w.epoch w.collector.phase w.mutators w.crossing w.boxes
+  pub collector : HasCollector w.config w.epoch w.words w.collector
+  pub sweeps : HasSweeps w.freed w.collector.collections w.collector.phase
+  pub scans : HasScans w.config w.headers w.freed w.mutators
+  pub made : w.made ≤ 1 + sum_by (entries_made w.config) w.mutators
+  pub sound : IsSound (sight w)
+  pub accounted : IsAccounted (pending w)
+  -- what was given up has no count, but while a set is freed
+  pub uncounted : w.collector.freeing.at ≡ None → HasUncountedReleased (pending w)
+  pub cycles : HasCyclesAt (pending w) w.collector w.collector.phase

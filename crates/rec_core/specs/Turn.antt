@@ -1,0 +1,64 @@
+-- What a turn of the collector makes of a heap, rule by rule.
+use Rattle.std.specs.Prelude.{◌≡◌, ◌≢◌, ◌⊎◌, ℕ, ◌+◌, ◌-◌, ◌^◌, false, Option, Some, List, length, drop, slice_get, slice_index_or, slice_set}
+use Rattle.rec_word.specs.Op.{crossing_word}
+use Rattle.rec_word.specs.Place.{place_of}
+use Rattle.rec_word.specs.declared.op.Op.{Op}
+use Rattle.rec_word.specs.declared.op.Op.TheVariants.{LoadChild}
+use Rattle.rec_release.specs.declared.at.At.{At}
+use Rattle.rec_release.specs.declared.member.Member.{Member}
+use Rattle.rec_release.specs.Sweep.{swept}
+use Rattle.rec_sigma.specs.declared.at.At as loads
+use Rattle.rec_trial.specs.Trial.{next_of as trial_next}
+use Rattle.rec_collector.specs.Followed.{relieved, with_freed, with_loaded, with_released, with_tried}
+use Rattle.rec_collector.specs.Private.{Private, parts_of, spare}
+use Rattle.rec_collector.specs.Step.{ClearsOn, PreparesOn, TriesOn}
+use Rattle.rec_collector.specs.Testing.{zeros_released}
+use Rattle.rec_collector.specs.Took.{batched, ended, moved}
+use Rattle.rec_collector.specs.declared.phase.Phase.{Phase}
+use Rattle.rec_collector.specs.declared.phase.Phase.TheVariants.{Idle, Looking, Returning, Releasing, Freeing, Trying, Preparing, Opening, Sweeping, Closing}
+use Rattle.rec_collector.specs.declared.turn.Turn.{Turn}
+use Rattle.rec_core.specs.Config.{IsMutator}
+use Rattle.rec_core.specs.Core.{Core, box, crossing_of}
+
+-- the word of a slot's field
+abbrev pub word_at : Core → (slot field : ℕ) → ℕ
+word_at w slot field = slice_index_or w.words (place_of slot field w.config.fields) 0
+
+-- with that field exchanged to 0
+abbrev pub words_without : Core → (slot field : ℕ) → List ℕ
+words_without w slot field = slice_set w.words (place_of slot field w.config.fields) 0
+
+-- with the word of a mutator's crossing replaced
+abbrev pub crossing_with : Core → (t state : ℕ) → List ℕ
+crossing_with w t state = slice_set w.crossing (t - 1) (crossing_word w.epoch state)
+
+-- after the sweep of a slot, with the slot that is swept next, and the phase that follows
+abbrev pub swept_by : Private → (slot : ℕ) → Phase → Private
+swept_by c slot next = record c { counts = swept c.counts slot; due = slice_get (drop 1 c.counts.free) 0; freed = c.freed + 1; phase = next; turns = c.turns + 1 }
+
+-- with the header of a slot freed
+abbrev pub header_freed : Core → (slot : ℕ) → Core
+header_freed w slot = record w { headers = slice_set w.headers slot 0 }
+
+pub data IsTurn (w v : Core) : Type 0 where
+  spent : w.collector.phase ≡ Idle → w.epoch + 1 ≡ 2 ^ 24 → v ≡ w → IsTurn w v
+  requests : w.collector.phase ≡ Idle → v ≡ record w { epoch = w.epoch + 1; collector = moved (record w.collector { epoch = w.collector.epoch + 1 }) (Looking 1) } → IsTurn w v
+  waits : (t : ℕ) → IsMutator w.config t → w.collector.phase ≡ Looking t → crossing_of w t ≢ crossing_word w.epoch 2 → v ≡ w → IsTurn w v
+  gathers : (t : ℕ) → IsMutator w.config t → w.collector.phase ≡ Looking t → crossing_of w t ≡ crossing_word w.epoch 2
+      → v ≡ record w { crossing = crossing_with w t 3; boxes = slice_set w.boxes (t - 1) (spare w.collector); collector = moved (record w.collector { newer = slice_set w.collector.newer (t - 1) (box w t) }) (Returning t) } → IsTurn w v
+  gives_back : (t : ℕ) → IsMutator w.config t → w.collector.phase ≡ Returning t → t ≢ length w.collector.newer
+      → v ≡ record w { crossing = crossing_with w t 0; collector = moved w.collector (Looking (t + 1)) } → IsTurn w v
+  applies : (t : ℕ) (q : Private) (turn : Turn) → IsMutator w.config t → w.collector.phase ≡ Returning t → t ≡ length w.collector.newer
+      → ClearsOn w.collector q turn (zeros_released false (batched w.collector)) → v ≡ record w { crossing = crossing_with w t 0; collector = q } → IsTurn w v
+  releases : (a : At) (q : Private) (turn : Turn) → w.collector.phase ≡ Releasing → w.collector.release.at ≡ Some a
+      → ClearsOn w.collector q turn (with_released (parts_of w.collector) (word_at w a.slot a.field)) → v ≡ record w { words = words_without w a.slot a.field; collector = q } → IsTurn w v
+  frees : (a : Member) (q : Private) (turn : Turn) → w.collector.phase ≡ Freeing → w.collector.freeing.at ≡ Some a
+      → ClearsOn w.collector q turn (relieved (with_freed (parts_of w.collector) (word_at w a.slot a.field))) → v ≡ record w { words = words_without w a.slot a.field; collector = q } → IsTurn w v
+  tries : (place : ℕ) (q : Private) (turn : Turn) → w.collector.phase ≡ Trying → ◌≡◌ {A = Option Op} (trial_next w.collector.trial) (Some (LoadChild place))
+      → TriesOn w.collector (with_tried (parts_of w.collector) (slice_index_or w.words place 0)) q turn → v ≡ record w { collector = q } → IsTurn w v
+  prepares : (a : loads.At) (q : Private) (turn : Turn) → w.collector.phase ≡ Preparing → w.collector.prep.at ≡ Some a
+      → PreparesOn w.collector (with_loaded (parts_of w.collector) (word_at w a.slot a.field)) q turn → v ≡ record w { collector = q } → IsTurn w v
+  begins_sweep : w.collector.phase ≡ Opening → v ≡ record w { freed = w.freed + 1; collector = moved (record w.collector { due = slice_get w.collector.counts.free 0 }) (Sweeping 0) } → IsTurn w v
+  sweeps : (n slot : ℕ) (next : Phase) → w.collector.phase ≡ Sweeping n → w.collector.due ≡ Some slot → (next ≡ Sweeping (n + 1)) ⊎ (next ≡ Closing (n + 1))
+      → v ≡ record w { headers = slice_set w.headers slot 0; collector = swept_by w.collector slot next } → IsTurn w v
+  ends_sweep : (n : ℕ) → w.collector.phase ≡ Closing n → v ≡ record w { freed = w.freed + 1; collector = ended w.collector } → IsTurn w v

@@ -1,0 +1,34 @@
+-- What steps of a mutator leave that have finished nothing.
+use Rattle.std.specs.Prelude.{◌≡◌, ◌≢◌, ℕ, ◌<◌, ◌≤◌}
+use Rattle.rec_model.specs.Sight.{IsTaken}
+use Rattle.rec_mutator.specs.declared.phase.Phase.{Phase}
+use Rattle.rec_mutator.specs.declared.phase.Phase.TheVariants.{Scanning, Scanned, Giving}
+use Rattle.rec_core.specs.Core.{Core, sight, mutator, with_mutator}
+use Rattle.rec_core.specs.Shown.{IsFilled}
+
+-- the mutator's work went on, and changed no register and no log: all else stays
+pub record OnlyWorks (before after : Core) (t : ℕ) : Type 0 where
+  pub others : after ≡ with_mutator before t (mutator after t)
+  pub own : mutator after t ≡ record (mutator before t) { phase = (mutator after t).phase; steps = (mutator after t).steps }
+
+-- A work of the mutator changed nothing that is seen, no other mutator, and nothing of the collector. Crossing words and mailboxes
+-- may be others.
+pub record IsQuiet (before after : Core) (t : ℕ) : Type 0 where
+  pub seen : sight after ≡ sight before
+  pub others : (s : ℕ) → s ≢ t → 1 ≤ s → mutator after s ≡ mutator before s
+  pub collector : after.collector ≡ before.collector
+  pub freed : after.freed ≡ before.freed
+  pub requested : after.epoch ≡ before.epoch
+  pub made : after.made ≡ before.made
+  pub config : after.config ≡ before.config
+
+-- what a scan has found since its begin, where nothing else moved: each slot that it has passed holds an object
+abbrev pub HasFound : Core → Phase → Type 0
+HasFound w (Scanning reg label before slot) = (before ≡ w.freed) × ((s : ℕ) → s < slot → IsTaken (sight w) s)
+HasFound w (Scanned reg label before) = (before ≡ w.freed) × IsFilled w
+HasFound w _ = Unit {0}
+
+-- Steps of a mutator that finished nothing: only its work went on, or it holds its mailbox.
+pub data Waits (before w : Core) (t : ℕ) : Type 0 where
+  works : OnlyWorks before w t → HasFound w (mutator w t).phase → Waits before w t
+  holds : (mutator w t).phase ≡ Giving → IsQuiet before w t → (mutator w t).epoch ≡ (mutator before t).epoch → Waits before w t

@@ -1,0 +1,20 @@
+-- A work of a mutator that was made to its end, with nothing between its steps.
+use Rattle.std.specs.Prelude.{◌≡◌, ℕ, true, false}
+use Rattle.rec_mutator.specs.Private.{is_busy}
+use Rattle.rec_mutator.specs.declared.work.Work.{Work}
+use Rattle.rec_core.specs.Core.{Core, mutator}
+use Rattle.rec_core.specs.Moves.{begun, stepped}
+
+-- the states to which steps of a mutator lead, each made while it is busy
+pub data StepsTo (before : Core) (t : ℕ) : Core → Type 0 where
+  here : (w : Core) → w ≡ before → StepsTo before t w
+  further : (w v : Core) → StepsTo before t w → is_busy (mutator w t) ≡ true → v ≡ stepped w t → StepsTo before t v
+
+-- The work was begun, and its steps were made until it was finished. There is just one such state.
+pub record IsWorked (before : Core) (t : ℕ) (work : Work) (after : Core) : Type 0 where
+  -- the state before the last step
+  pub last : Core
+  pub path : StepsTo (begun before t work) t last
+  pub busy : is_busy (mutator last t) ≡ true
+  pub steps : after ≡ stepped last t
+  pub idle : is_busy (mutator after t) ≡ false

@@ -1,0 +1,82 @@
+ghost use Rattle.std.specs.Prelude.{IfSome, ◌≡◌, ◌↔◌, ◌<◌, ◌≤◌, IsTrue};
+ghost use Rattle.rec_core.specs.Config.{IsConfig, IsFirstWrong, HasOperands};
+
+use crate::Part;
+use rec_model::Cmd;
+
+/// The numbers of a heap, which never change.
+#[derive(Clone, Copy, Debug, PartialEq, Eq)]
+pub struct Config {
+    /// How many objects fit: 1 to 65,535.
+    pub slots: u32,
+    /// How many fields each object has: 1 to 16.
+    pub fields: u32,
+    /// How many registers each mutator has: 1 to 64.
+    pub registers: u32,
+    /// How many mutators there are: 1 to 8.
+    pub mutators: u32,
+    /// How many entries a mutator's log can hold: 1 to 262,143.
+    pub log_entries: u32,
+    /// The epoch in which the mutators begin: 1 to 16,777,215.
+    pub first_epoch: u32,
+}
+
+impl Config {
+    /// The first number that is out of its range, or `None` where each is in its own.
+    pub fn first_wrong(&self) -> Option<Part>
+        ensures wrong { IfSome result (λ part. IsFirstWrong self.now part) }
+        ensures none { (result ≡ None) ↔ IsConfig self.now }
+    {
+        if !is_from_one(self.slots, 65_535) {
+            Some(Part::Slots)
+        } else if !is_from_one(self.fields, 16) {
+            Some(Part::Fields)
+        } else if !is_from_one(self.registers, 64) {
+            Some(Part::Registers)
+        } else if !is_from_one(self.mutators, 8) {
+            Some(Part::Mutators)
+        } else if !is_from_one(self.log_entries, 262_143) {
+            Some(Part::LogEntries)
+        } else if !is_from_one(self.first_epoch, 16_777_215) {
+            Some(Part::FirstEpoch)
+        } else {
+            None
+        }
+    }
+
+    /// Whether the registers and the field that a command names are there.
+    pub fn has_operands(&self, cmd: &Cmd) -> bool
+        ensures { IsTrue result ↔ HasOperands self.now cmd.now }
+    {
+        match *cmd {
+            Cmd::New { reg, .. } | Cmd::Null { reg } | Cmd::Value { reg } => self.has_register(reg),
+            Cmd::Copy { dst, src } => self.has_register(dst) && self.has_register(src),
+            Cmd::Get { dst, src, field } => {
+                self.has_register(dst) && self.has_register(src) && self.has_field(field)
+            }
+            Cmd::Put { src, field, val } => {
+                self.has_register(src) && self.has_field(field) && self.has_register(val)
+            }
+            Cmd::Same { a, b } => self.has_register(a) && self.has_register(b),
+        }
+    }
+
+    fn has_register(&self, r: u8) -> bool
+        ensures { IsTrue result ↔ (r < self.now.registers) }
+    {
+        u32::from(r) < self.registers
+    }
+
+    fn has_field(&self, field: u8) -> bool
+        ensures { IsTrue result ↔ (field < self.now.fields) }
+    {
+        u32::from(field) < self.fields
+    }
+}
+
+// Whether a number is at least 1 and at most this.
+fn is_from_one(number: u32, most: u32) -> bool
+    ensures { IsTrue result ↔ ((1 ≤ number) × (number ≤ most)) }
+{
+    1 <= number && number <= most
+}

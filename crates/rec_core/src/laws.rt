@@ -1,0 +1,128 @@
+//! What holds of every run, each law as the contract of a function that does nothing.
+
+ghost use Rattle.std.specs.Prelude.{◌≡◌, ℕ, ◌+◌, ◌<◌, ◌≤◌, List, Some, IfSome, false, true, map, slice_index_or};
+ghost use Rattle.std.specs.List.{concat, Contains};
+ghost use Rattle.rec_model.specs.Heap.{Heap};
+ghost use Rattle.rec_model.specs.References.{count_formula};
+ghost use Rattle.rec_model.specs.Sight.{IsTaken, Reaches, StandsBy};
+ghost use Rattle.rec_counts.specs.Counts.{slot_at};
+ghost use Rattle.rec_core.specs.declared.config.Config.{Config as Numbers};
+ghost use Rattle.rec_model.specs.declared.command.Cmd.TheVariants as commands;
+ghost use Rattle.rec_model.specs.declared.told.Told.{Told};
+ghost use Rattle.rec_mutator.specs.Private.{is_busy, answer_of};
+ghost use Rattle.rec_mutator.specs.declared.made.Made.TheVariants as makes;
+ghost use Rattle.rec_mutator.specs.declared.phase.Phase.TheVariants.{Begun};
+ghost use Rattle.rec_mutator.specs.declared.work.Work.TheVariants as works;
+ghost use Rattle.rec_collector.specs.Next.{next_of as collector_next};
+ghost use Rattle.rec_collector.specs.Outside.{HasSets, IsOutside};
+ghost use Rattle.rec_collector.specs.Touched.{IsOrangeIn, WasUntouched};
+ghost use Rattle.rec_collector.specs.Zeros.{AreTheZeros};
+ghost use Rattle.rec_sigma.specs.Prepared.{places_of, seen};
+ghost use Rattle.rec_core.specs.Config.{IsConfig, IsMutator};
+ghost use Rattle.rec_core.specs.Core.{Core, sight, mutator};
+ghost use Rattle.rec_word.specs.declared.op.Op.TheVariants.{FreeHeader};
+ghost use Rattle.rec_core.specs.Freed.{AreGone, IsForgotten, IsProvenGarbage, Passes, TestsSets};
+ghost use Rattle.rec_core.specs.Kept.{IsKept};
+ghost use Rattle.rec_core.specs.Loads.{BeginsPreparing, cleared_over, fields_loaded, IsReferenceStill, IsSameTrial, Loaded, loaded_over, named_over};
+ghost use Rattle.rec_core.specs.Met.{MayStep, MayTurn};
+ghost use Rattle.rec_core.specs.Moves.{Move, AllFit, Fits, after_move, after_moves, IsRun, EndsRun, stepped, turned};
+ghost use Rattle.rec_core.specs.Pending.{pending};
+ghost use Rattle.rec_core.specs.Reach.{KeepsReached};
+ghost use Rattle.rec_core.specs.Scans.{BeginsNone, FailsByProbes};
+ghost use Rattle.rec_core.specs.Shown.{IsShown};
+
+/// What every heap keeps holds at the end of every run.
+pub fn runs_keep()
+    ensures { (config : Numbers) (moves : List Move) (end : Core) → IsConfig config → IsRun config moves end → IsKept end }
+{}
+
+/// A run goes on with every move that fits its end.
+pub fn runs_go_on()
+    ensures { (w : Core) (m : Move) → EndsRun w → Fits w m → EndsRun (after_move w m) }
+{}
+
+/// Nothing that a register reaches is released, freed or handed out again, in any state of any run of a heap with its
+/// collector: a reached slot is taken and not released; a turn of the collector keeps its header and its words; a step of a
+/// mutator claims no taken slot. And whatever heap that never frees stood for what was seen stands for it after every turn,
+/// by the same numbers.
+pub fn nothing_reached_is_freed()
+    ensures reached { (w : Core) → IsConfig w.config → EndsRun w → (slot : ℕ) → Reaches (sight w) slot → IsTaken (sight w) slot × ((slot_at w.collector.counts slot).released ≡ false) }
+    ensures turned { (w : Core) → IsConfig w.config → EndsRun w → KeepsReached (sight w) (sight (turned w)) }
+    ensures stands { (w : Core) (heap : Heap) (number : ℕ → ℕ) → IsConfig w.config → EndsRun w → StandsBy heap (sight w) number → StandsBy heap (sight (turned w)) number }
+    ensures claimed { (w : Core) (t slot : ℕ) → IsTaken (sight w) slot → slice_index_or (stepped w t).headers slot 0 ≡ slice_index_or w.headers slot 0 }
+{}
+
+/// While sets are tested, in any state of any run of a heap with its collector, a set that passes the Delta test and the Sigma
+/// test is garbage: no member is in the reach of the epoch whose batch was applied. And whatever was given up, as the members of
+/// such a set are at once, is in the reach of no epoch from that one on, and is named by no register, by no field of a slot that
+/// isn't given up and by nothing that is pending, until its slot is freed.
+pub fn sets_that_pass_are_garbage()
+    ensures passed { (w : Core) (number : ℕ) → IsConfig w.config → EndsRun w → TestsSets w.collector.phase → Passes w number → IsProvenGarbage w number }
+    ensures gone { (w : Core) → IsConfig w.config → EndsRun w → AreGone w }
+{}
+
+/// A header is set to 0, in any state of any run of a heap with its collector, only where no register, no field of any slot and
+/// nothing that is pending names the slot, and the slot stands in no list of the collector but the free list.
+pub fn freed_slots_are_forgotten()
+    ensures { (w : Core) (slot : ℕ) → IsConfig w.config → EndsRun w → collector_next w.collector ≡ Some (FreeHeader slot) → IsForgotten w slot }
+{}
+
+/// The true count of every slot is the count formula of its node at the epoch of the last batch, in every state of every run
+/// of a heap with its collector.
+pub fn true_counts_are_the_formula()
+    ensures { (w : Core) → IsConfig w.config → EndsRun w → (slot : ℕ) → slot < w.config.slots → (slot_at w.collector.counts slot).count ≡ count_formula (pending w) (pending w).applied (slot + 1) }
+{}
+
+/// Where an allocation is answered Full or Busy, over whatever moves of whatever run its steps were made, its first step found the
+/// freed word that is told; then each header was claimed, from the first to the last, and each was found taken. Full comes where
+/// that word was even and its last step found the same, and Busy tells both where that is not so.
+pub fn failed_allocations_probed_every_slot()
+    ensures { (w : Core) (moves : List Move) (t reg label : ℕ) (told : Told) → IsConfig w.config → EndsRun w → IsMutator w.config t → (mutator w t).phase ≡ Begun (works.Command (commands.New reg label)) → AllFit w moves → BeginsNone t moves → is_busy (mutator (after_moves w moves) t) ≡ true → answer_of (mutator (stepped (after_moves w moves) t) t) ≡ Some (makes.Answered told) → FailsByProbes w t label moves (after_moves w moves) told.answer }
+{}
+
+/// What the collector loads from fields stays what it is, whether marking, blackening, collecting or preparation loads it, until the
+/// sets that the trial found are tested. Take any moves of mutators and collector over which no other trial begins. Each word that they
+/// loaded was put in the epoch requested then, or before. At their end it stands in its field, or a write of that epoch or of a later
+/// one replaced it there, or the collector took it out.
+pub fn loaded_words_stay_references()
+    ensures { (w : Core) (moves : List Move) (l : Loaded) → IsConfig w.config → EndsRun w → AllFit w moves → IsSameTrial w (after_moves w moves) → Contains (loaded_over w moves) l → IsReferenceStill (after_moves w moves) (cleared_over w moves) l }
+{}
+
+/// A member of a prepared set that is Orange still was touched by nothing since. Take any moves of mutators and collector over which no
+/// trial begins. The member was Orange in the same set before them. No increment, decrement or snapshot of a batch named it, and no
+/// decrement since. Each reference that was lowered came off its true count and off its cyclic count, not below zero.
+pub fn orange_members_stay_untouched()
+    ensures { (w : Core) (moves : List Move) (number x : ℕ) → IsConfig w.config → EndsRun w → HasSets w.collector.phase → AllFit w moves → IsSameTrial w (after_moves w moves) → IsOrangeIn (after_moves w moves).collector.counts number x → WasUntouched w.collector.counts (after_moves w moves).collector.counts number x (named_over w moves x) }
+{}
+
+/// The outside count of a member is read off the run. Take the turn with which the preparation of sets begins, and any moves behind it
+/// over which no trial begins, once the preparation is done. They loaded each field of each member once, in order, and no other. The
+/// cyclic count of each member that is Orange still is its outside count by these words: its true count at that turn, less the words in
+/// fields of its set's members that lead to it. Each reference that was lowered since took one more off, not below zero. So a member of
+/// a set that passes both tests has no more references than there are such words.
+pub fn outside_counts_are_of_the_run()
+    ensures places { (w : Core) (moves : List Move) → IsConfig w.config → EndsRun w → BeginsPreparing w → AllFit (turned w) moves → IsSameTrial (turned w) (after_moves (turned w) moves) → HasSets (after_moves (turned w) moves).collector.phase → map (λ (l : Loaded). l.place) (loaded_over (turned w) moves) ≡ places_of w.config.fields (concat (turned w).collector.counts.sets) }
+    ensures passed { (w : Core) (moves : List Move) (number x : ℕ) → IsConfig w.config → EndsRun w → BeginsPreparing w → AllFit (turned w) moves → IsSameTrial (turned w) (after_moves (turned w) moves) → HasSets (after_moves (turned w) moves).collector.phase → Passes (after_moves (turned w) moves) number → (slot_at (after_moves (turned w) moves).collector.counts x).set ≡ Some number → (slot_at (after_moves (turned w) moves).collector.counts x).count ≤ seen (turned w).collector.counts number (fields_loaded w.config.fields (loaded_over (turned w) moves)) x }
+    ensures members { (w : Core) (moves : List Move) (number x : ℕ) → IsConfig w.config → EndsRun w → BeginsPreparing w → AllFit (turned w) moves → IsSameTrial (turned w) (after_moves (turned w) moves) → HasSets (after_moves (turned w) moves).collector.phase → IsOrangeIn (after_moves (turned w) moves).collector.counts number x → IsOutside (turned w).collector.counts (after_moves (turned w) moves).collector.counts (fields_loaded w.config.fields (loaded_over (turned w) moves)) number x }
+{}
+
+/// In every state of every run of a heap with its collector, the zeros are exactly the slots without a count that are neither
+/// released nor Orange.
+pub fn zeros_are_exact()
+    ensures { (w : Core) → IsConfig w.config → EndsRun w → AreTheZeros w.collector.counts }
+{}
+
+/// Where a step of a mutator answers a command, in any state of any run of a heap with its collector, whatever heap that never
+/// frees stood for what was seen gives the answer, and what asking makes of it stands for what is seen afterwards. Full is
+/// answered only where no slot is free. Every other step leaves all that is seen.
+pub fn answers_are_explained()
+    ensures { (w : Core) (t : ℕ) → IsConfig w.config → EndsRun w → IsMutator w.config t → is_busy (mutator w t) ≡ true → IsShown w t (answer_of (mutator (stepped w t) t)) (stepped w t) }
+{}
+
+/// Whatever the machines ask of the heap in which they make a step holds in every state of every run of a heap with its
+/// collector: the word that a step names is there, and is one that the machine may find, and a mailbox that is taken holds what
+/// it has to. So the code that runs them tests none of it.
+pub fn conditions_are_met()
+    ensures steps { (w : Core) (t : ℕ) → IsConfig w.config → EndsRun w → IsMutator w.config t → is_busy (mutator w t) ≡ true → MayStep w t }
+    ensures turns { (w : Core) → IsConfig w.config → EndsRun w → IfSome (collector_next w.collector) (MayTurn w) }
+{}

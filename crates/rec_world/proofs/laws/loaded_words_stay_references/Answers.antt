@@ -1,8 +1,0 @@
-use Rattle.rec_world.proofs.CoreLoads.{all_known, no_trial}
-use Rattle.rec_world.proofs.CoreRuns.{end_kept}
-use Rattle.rec_world.proofs.laws.loaded_words_stay_references.Goals as goal
-
-pub returns : goal.returns
-returns c = λ w moves l config run fit same.
-    let kept = end_kept w config run in
-    all_known w moves l kept fit (no_trial w moves kept fit same)

@@ -1,6 +1,0 @@
--- What holds at the end of every run of a heap with its collector.
-use Rattle.rec_world.proofs.CoreRuns.{run_kept}
-use Rattle.rec_world.proofs.laws.runs_keep.Goals as goal
-
-pub returns : goal.returns
-returns c = run_kept
