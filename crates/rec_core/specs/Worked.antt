@@ -1,9 +1,14 @@
--- A work of a mutator that was made to its end, with nothing between its steps.
+-- No work that isn't finished, and a work that was made to its end, with nothing between its steps.
 use Rattle.std.specs.Prelude.{◌≡◌, ℕ, true, false}
 use Rattle.rec_mutator.specs.Private.{is_busy}
 use Rattle.rec_mutator.specs.declared.work.Work.{Work}
+use Rattle.rec_core.specs.Config.{IsMutator}
 use Rattle.rec_core.specs.Core.{Core, mutator}
 use Rattle.rec_core.specs.Moves.{begun, stepped}
+
+-- no mutator has begun a work that isn't finished
+abbrev pub AreIdle : Core → Type 0
+AreIdle w = (t : ℕ) → IsMutator w.config t → is_busy (mutator w t) ≡ false
 
 -- the states to which steps of a mutator lead, each made while it is busy
 pub data StepsTo (before : Core) (t : ℕ) : Core → Type 0 where

@@ -1,7 +1,3 @@
-ghost use Rattle.std.specs.Prelude.{IsTrue};
-ghost use Rattle.rec_settle.specs.Collecting.{AreIdle};
-
-use crate::happen::is_idle;
 use rec_settle::{EpochsSpent, Settled, settle};
 use rec_word::target;
 use rec_world::{Numbering, World};
@@ -12,7 +8,7 @@ pub fn settled(
     alloc: Global,
     world: &mut World,
 ) -> Result<Option<Result<Settled, EpochsSpent>>, NoMemory> {
-    if !are_idle(world) {
+    if !world.at_rest() {
         return Ok(None);
     }
     let told = settle(world);
@@ -20,18 +16,6 @@ pub fn settled(
         return Ok(None);
     }
     Ok(Some(told))
-}
-
-// Whether no mutator works.
-fn are_idle(world: &World) -> bool
-    ensures { IsTrue result → AreIdle world.now }
-{
-    for index in 0..world.mutators() {
-        if !is_idle(world, index + 1) {
-            return false;
-        }
-    }
-    true
 }
 
 // Whether just the slots that registers reach are taken, each with its true count.

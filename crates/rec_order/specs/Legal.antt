@@ -1,22 +1,18 @@
 -- When what a run told is a legal order of its mutators' journals.
-use Rattle.std.specs.Prelude.{◌≡◌, ℕ, ◌-◌, true, false, List, [], map, length, slice_index_or}
+use Rattle.std.specs.Prelude.{◌≡◌, ℕ, ◌-◌, true, List, [], map, length, slice_index_or}
 use Rattle.std.specs.List.{filter_map}
 use Rattle.rec_model.specs.Heap.{Heap}
 use Rattle.rec_model.specs.LegalOrder.{Line, Limits, Moment, line_by, after_all, IsLegalOrder}
 use Rattle.rec_model.specs.Sight.{StandsBy}
 use Rattle.rec_model.specs.Unfreed.{AreUnfreed}
-use Rattle.rec_mutator.specs.Private.{is_busy}
 use Rattle.rec_core.specs.Asked.{told_in_all}
 use Rattle.rec_core.specs.Config.{IsMutator}
-use Rattle.rec_core.specs.Core.{Core, sight, mutator}
+use Rattle.rec_core.specs.Core.{Core, sight}
 use Rattle.rec_core.specs.Moves.{Move, after_moves}
+pub use Rattle.rec_core.specs.Worked.{AreIdle}
 use Rattle.rec_core.specs.declared.config.Config.{Config}
 use Rattle.rec_order.specs.Naming.{Naming, naming_of, named_after_all}
 use Rattle.rec_order.specs.Events.{events_of}
-
--- no mutator has begun a work that isn't finished
-abbrev pub AreIdle : Core → Type 0
-AreIdle w = (t : ℕ) → IsMutator w.config t → is_busy (mutator w t) ≡ false
 
 -- the numbers that a legal order speaks of
 abbrev pub limits_of : Config → Limits

@@ -10,12 +10,9 @@ use Rattle.rec_core.specs.Config.{IsMutator}
 use Rattle.rec_core.specs.Core.{Core, mutator, crossing_of}
 use Rattle.rec_core.specs.Moves.{offering, turned}
 use Rattle.rec_core.specs.Worked.{IsWorked}
+pub use Rattle.rec_core.specs.Worked.{AreIdle}
 use Rattle.rec_core.specs.declared.config.Config.{Config}
 use Rattle.rec_world.specs.World.{IsQuiet, TurnHasCause}
-
--- no mutator has begun a work that isn't finished
-abbrev pub AreIdle : Core → Type 0
-AreIdle w = (t : ℕ) → IsMutator w.config t → is_busy (mutator w t) ≡ false
 
 -- the collector waits for this mutator: it looks at its mailbox, which isn't handed over
 pub record IsAwaited (w : Core) (t : ℕ) : Type 0 where

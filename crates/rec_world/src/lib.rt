@@ -10,10 +10,9 @@
 //! What the collector frees no register reaches.
 //! A `Numbering` lists the slots that registers reach, in the order of a listing. Its list is the one list of the reached slots
 //! in that order.
-//! A world as plain data is its `Core`; that module and the others of the name under `specs/` say its moves and what it
-//! keeps.
+//! A world as plain data is a `Core` (`rec_core`), which says its moves, its runs and what holds over them; here these are code.
 //! The layer above may use the contracts of `World`, `Journal`, `Order` and `Numbering`, the definitions of `specs/`, and
-//! the laws of all runs, which are the contracts of the functions in `laws`.
+//! all of `rec_core`, which is exported again: its definitions, its numbers, and the laws of all runs.
 //! That mutators run beside each other with a log each is the idea of the paper "Java without the Coffee Breaks" (2001);
 //! the commands, their refusals and the words are this project's profile (`docs/PROFILE.md`).
 #![tactic(auto)]
@@ -32,10 +31,13 @@ pub use laws::worlds_end_runs;
 pub use numbering::Numbering;
 pub use open_error::OpenError;
 pub use order::Order;
+pub use rec_collector::{Sets, Turn};
 pub use rec_core::{
     Config, Part, answers_are_explained, conditions_are_met, failed_allocations_probed_every_slot,
     freed_slots_are_forgotten, loaded_words_stay_references, nothing_reached_is_freed,
     orange_members_stay_untouched, outside_counts_are_of_the_run, runs_go_on, runs_keep,
     sets_that_pass_are_garbage, true_counts_are_the_formula, zeros_are_exact,
 };
+pub use rec_model::{Cmd, Told};
+pub use rec_mutator::{Made, Work};
 pub use world::World;

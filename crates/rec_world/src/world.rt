@@ -28,7 +28,7 @@ ghost use Rattle.rec_mutator.specs.Next.{next_of};
 ghost use Rattle.rec_mutator.specs.Took.{took_of, step_of, left_of};
 ghost use Rattle.rec_core.specs.Cells.{births_of, cell, with_cell};
 ghost use Rattle.rec_core.specs.Unfinished.{HasFound, IsQuiet, OnlyWorks};
-ghost use Rattle.rec_core.specs.Worked.{StepsTo, IsWorked};
+ghost use Rattle.rec_core.specs.Worked.{AreIdle, StepsTo, IsWorked};
 ghost use Rattle.rec_world.specs.Mailbox.{held};
 ghost use Rattle.rec_world.specs.Stepping.{MakesStep};
 ghost use Rattle.rec_world.specs.World.{IsWorld, label_of, IsLogFull, IsFull, IsBusy, IsLowestFree, IsFinished, IsCrossed, TurnHasCause};
@@ -104,6 +104,13 @@ impl World {
         self.machines[usize::from(t) - 1].is_busy()
     }
 
+    /// Whether no mutator has begun a work that isn't finished.
+    pub fn at_rest(&self) -> bool
+        ensures { IsTrue result ↔ AreIdle self.now }
+    {
+        are_idle(self.machines.as_slice())
+    }
+
     /// Begins a work of mutator `t`. No step of it is made.
     pub fn begin(&mut self, t: u8, work: Work)
         requires mutator { IsMutator self.old.config t }
@@ -159,6 +166,9 @@ impl World {
         ensures cause { TurnHasCause self.old self.new result }
         ensures waiting { (t : ℕ) → self.old.collector.phase ≡ phases.Phase.Looking t → crossing_of self.old t ≢ crossing_word self.old.epoch 2 → result ≡ turns.Turn.Waiting t }
         ensures spent { self.old.collector.phase ≡ phases.Phase.Idle → self.old.epoch + 1 ≡ 2 ^ 24 → result ≡ turns.Turn.EpochsSpent }
+
+        // Whoever is waited for is a mutator of this heap, so it may poll where it is idle.
+        ensures awaited { (t : ℕ) → result ≡ turns.Turn.Waiting t → IsMutator self.new.config t }
 
         // No slot that a register reaches is freed or changed, and whatever heap stood for the world still does, by the same
         // numbers of its objects. Within a sweep a turn frees one slot at most.
@@ -506,6 +516,13 @@ impl World {
         let slot = self.memory.lowest_free();
         self.machines[usize::from(t) - 1].skip_to(slot);
     }
+}
+
+// Whether none of the machines works.
+fn are_idle(machines: &[Machine]) -> bool
+    ensures { IsTrue result ↔ All (λ machine. is_busy machine ≡ false) machines.now }
+{
+    machines.iter().all(|machine| !machine.is_busy())
 }
 
 // A heap with these numbers, which are in their ranges.

@@ -12,6 +12,7 @@ use Rattle.rec_collector.specs.Given.{IsGiven, IsSized}
 use Rattle.rec_collector.specs.Next.{next_of}
 use Rattle.rec_collector.specs.Took.{took_of}
 use Rattle.rec_collector.specs.declared.phase.Phase.TheVariants.{Idle, Looking}
+use Rattle.rec_collector.specs.declared.turn.Turn.TheVariants as turns
 use Rattle.rec_core.specs.Cells.{cell}
 use Rattle.rec_core.specs.Core.{Core, cells_of, sight, box, crossing_of}
 use Rattle.rec_core.specs.Freed.{AreGone, IsForgotten}
@@ -21,7 +22,7 @@ use Rattle.rec_core.specs.Reach.{KeepsReached}
 use Rattle.rec_core.specs.Swept.{IsSweep}
 use Rattle.rec_core.proofs.Freed.{freed_is_forgotten, given_up_are_gone}
 use Rattle.rec_core.proofs.Reach.{turned_keeps, keeps_stands_by}
-use Rattle.rec_core.proofs.Runs.{move_kept, move_stays}
+use Rattle.rec_core.proofs.Runs.{looked_is, move_kept, move_stays}
 use Rattle.rec_core.proofs.Swept.{turned_sweeps}
 use Rattle.rec_core.proofs.Words.{may_turn}
 use Rattle.rec_world.specs.Inside.{core}
@@ -161,6 +162,13 @@ pub returns-clause-spent : goal.returns-clause-spent
 returns-clause-spent c = λ idle last.
     let at : After-swap_gathered = (goal.at.returns-clause-spent c).After-swap_gathered in
     absurd (goes_on at (ap (λ (s : Core). s.collector.phase) c.self.view_is ∙ idle) (ap (λ n. n + 1) ((ends at).kept.collector.epoch ∙ ap (λ (s : Core). s.epoch) c.self.view_is) ∙ last))
+
+pub returns-clause-awaited : goal.returns-clause-awaited
+returns-clause-awaited c = λ t is.
+    let at : After-swap_gathered = (goal.at.returns-clause-awaited c).After-swap_gathered in
+    let w : Core = core c.self.inside in
+    let cause : TurnHasCause w (turned w) (turns.Waiting t) = subst (TurnHasCause w (turned w)) is (caused at) in
+    looked_is w (Looking t) (ends at).kept cause.0
 
 pub returns-clause-reached : goal.returns-clause-reached
 returns-clause-reached c =
