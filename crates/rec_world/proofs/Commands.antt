@@ -36,7 +36,7 @@ use Rattle.rec_core.specs.declared.config.Config.{Config}
 use Rattle.rec_core.proofs.Crossings.{giving_of}
 use Rattle.rec_core.proofs.Showing.{Says, mutator_other, stepped_mutator, step_says, step_caused, works_sight}
 use Rattle.rec_core.proofs.Steps.{actor_of}
-use Rattle.rec_core.proofs.Unfinished.{works_both, works_quiet, quiet_both, begun_works, waits_quiet, mutator_there, waits_epoch, answered_idle, waited}
+use Rattle.rec_core.proofs.Unfinished.{works_both, works_quiet, quiet_both, begun_works, waits_quiet, mutator_there, waits_epoch, answered_idle}
 use Rattle.rec_world.specs.World.{IsLogFull, FindsNone, IsFull, IsBusy, IsLowestFree, IsFinished, IsCrossed}
 
 -- A step that answers a command, in a heap in which nothing else moved since its begin.
