@@ -14,8 +14,6 @@ mod finish;
 mod gate;
 mod reading;
 mod run;
-#[cfg(test)]
-mod settling_tests;
 mod status;
 #[cfg(test)]
 mod summary_tests;
