@@ -36,3 +36,4 @@ pub mod UnderTest
 pub mod Verdicts
 pub mod Within
 pub mod Words
+pub mod Sends

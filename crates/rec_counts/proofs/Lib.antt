@@ -6,3 +6,4 @@ pub mod Lessening
 pub mod Parts
 pub mod Times
 pub mod Windows
+pub mod Sends

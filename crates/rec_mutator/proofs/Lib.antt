@@ -6,3 +6,4 @@ pub mod Sizes
 pub mod Scans
 pub mod Steps
 pub mod Words
+pub mod Sends

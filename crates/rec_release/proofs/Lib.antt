@@ -8,3 +8,4 @@ pub mod Runs
 pub mod Sweeping
 pub mod Sweeps
 pub mod TakenOff
+pub mod Sends

@@ -6,3 +6,4 @@ pub mod Moves
 pub mod Refused
 pub mod Renewals
 pub mod Runs
+pub mod Sends

@@ -28,3 +28,4 @@ pub mod Whole
 pub mod Exactly
 pub mod Worked
 pub mod Witnesses
+pub mod Sends

@@ -1,0 +1,10 @@
+-- A buffer may cross threads, and be shared by them.
+use denote.Param.Send.{IsSend, IsSync, sendable}
+use Rattle.std.proofs.Crossing.{crosses}
+use Rattle.rec_log.specs.contracts.buffer.Buffer as buffer
+
+pub buffer_send : IsSend buffer.the_row
+buffer_send = search (sendable, crosses) depth 20
+
+pub buffer_sync : IsSync buffer.the_row
+buffer_sync = search (sendable, crosses) depth 20
