@@ -2,12 +2,13 @@
 use Rattle.std.proofs.Common.{◌≡◌, ℕ, ◌+◌, ◌<◌, Option, None, Some, IfSome, List, [], ◌∷◌, ◌++◌, length, take, drop, get_or, refl, arith, ap, ◌∙◌, subst, inl, inr}
 use Rattle.std.proofs.lemmas.List.Sums.{fold-append, fold_more}
 use Rattle.std.proofs.lemmas.Bool.{cases_lt}
+use Rattle.rec_word.specs.Word.{is_slot}
 use Rattle.rec_counts.specs.Counts.{State, slot_at}
 use Rattle.rec_counts.specs.Lists.{one, times}
 use Rattle.rec_counts.specs.Rest.{AreZeros}
 use Rattle.rec_counts.proofs.Decrementing.{in_range_counted, decremented_count, zeros_kept}
 use Rattle.rec_counts.proofs.Times.{one-same}
-use Rattle.rec_apply.specs.Targets.{named, is_slot}
+use Rattle.rec_apply.specs.Targets.{named}
 use Rattle.rec_apply.specs.Batch.{CanFall, counted_down, all_down}
 use Rattle.rec_apply.proofs.Naming.{named-nil, named-cons, named-append, split_at}
 

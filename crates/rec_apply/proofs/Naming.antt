@@ -4,10 +4,11 @@ use Rattle.std.specs.List.{flat_map, sum_by}
 use Rattle.std.proofs.lemmas.List.{take-append-drop, drop_more, take_more, flat_map_more}
 use Rattle.std.proofs.lemmas.List.Sums.{sum_by-cons, sum_by-append}
 use Rattle.std.proofs.lemmas.List.Concat.{flat_map-append}
+use Rattle.rec_word.specs.Word.{is_slot}
 use Rattle.rec_counts.specs.Lists.{one}
 use Rattle.rec_log.specs.declared.contents.Contents.{Contents}
 use Rattle.rec_log.specs.declared.entry.Entry.{Entry}
-use Rattle.rec_apply.specs.Targets.{named, is_slot, added, taken, new_target, old_target}
+use Rattle.rec_apply.specs.Targets.{named, added, taken, new_target, old_target}
 use Rattle.rec_apply.specs.Batch.{up_targets, down_targets}
 
 pub named-nil : (x : ℕ) → named x [] ≡ 0

@@ -4,12 +4,13 @@ use Rattle.std.proofs.lemmas.List.{length-set, get_or-set_same, get_or-set_other
 use Rattle.std.proofs.lemmas.List.Sums.{fold-append, fold_more}
 use Rattle.std.proofs.lemmas.Bool.{cases_lt}
 use Rattle.std.proofs.lemmas.Bool.Decides.{eqb_tells}
+use Rattle.rec_word.specs.Word.{is_slot}
 use Rattle.rec_counts.specs.declared.slot.Slot.{Slot}
 use Rattle.rec_counts.specs.Counts.{State, slot_at}
 use Rattle.rec_counts.specs.Lists.{one}
 use Rattle.rec_counts.specs.Slot.{absent, raised}
 use Rattle.rec_counts.proofs.Times.{one-same}
-use Rattle.rec_apply.specs.Targets.{named, is_slot}
+use Rattle.rec_apply.specs.Targets.{named}
 use Rattle.rec_apply.specs.Batch.{CanRise, counted_up, all_up}
 use Rattle.rec_apply.proofs.Naming.{named-nil, named-cons, named-append, split_at}
 

@@ -1,6 +1,6 @@
 -- What a buffer names, and how often it names a slot.
-use Rattle.std.specs.Prelude.{ℕ, ◌+◌, ◌==◌, Bool, false, Option, None, Some, List, map, count_by, sum_by}
-use Rattle.rec_word.specs.Word.{target_of}
+use Rattle.std.specs.Prelude.{ℕ, ◌+◌, Option, None, Some, List, map, count_by, sum_by}
+use Rattle.rec_word.specs.Word.{target_of, is_slot}
 use Rattle.rec_log.specs.declared.contents.Contents.{Contents}
 use Rattle.rec_log.specs.declared.entry.Entry.{Entry}
 use Rattle.rec_log.specs.declared.entry.Entry.TheVariants.{Put, Born}
@@ -14,11 +14,6 @@ new_target (Born slot) = None
 abbrev pub old_target : Entry → Option ℕ
 old_target (Put place new old) = target_of old
 old_target (Born slot) = Some slot
-
--- it is this slot, and not null
-abbrev pub is_slot : ℕ → Option ℕ → Bool
-is_slot x None = false
-is_slot x (Some y) = x == y
 
 -- how often the slot stands among these targets
 unfoldable pub named : ℕ → List (Option ℕ) → ℕ

@@ -2,6 +2,7 @@
 use Rattle.std.proofs.Common.{◌≡◌, ℕ, suc, ◌+◌, ◌-◌, ◌<◌, ◌≤◌, eqb, Bool, true, false, cond, Option, List, [], ◌∷◌, filter, length, slice_get, sym, ◌∙◌, ap, subst, arith, inl, inr}
 use Rattle.std.specs.List.{concat}
 use Rattle.std.proofs.lemmas.Bool.{true≢false, cases_Bool}
+use Rattle.rec_word.specs.Word.{is_slot}
 use Rattle.rec_counts.specs.declared.colour.Colour.TheVariants.{Orange}
 use Rattle.rec_counts.specs.declared.slot.Slot.{Slot}
 use Rattle.rec_counts.specs.Counts.{State, IsKept, slot_at}
@@ -12,7 +13,7 @@ use Rattle.rec_counts.proofs.Times.{times-nil, times-cons, times-append}
 use Rattle.rec_release.specs.TakenOff.{IsMember, IsApart}
 use Rattle.rec_sigma.specs.declared.fate.Fate.{Fate}
 use Rattle.rec_sigma.specs.declared.fate.Fate.TheVariants.{Free, Zero, Root, Plain}
-use Rattle.rec_sigma.specs.Refurbish.{fate_at, fate_if, is_first, is_root, is_zero, refurbished, LastRefurbished}
+use Rattle.rec_sigma.specs.Refurbish.{fate_at, fate_if, is_root, is_zero, refurbished, LastRefurbished}
 
 -- what the sets have, the earlier ones and the last have
 times_last : (x : ℕ) (xss : List (List ℕ)) → times x (concat xss) ≡ times x (concat (earlier_sets xss)) + times x (last_set xss)
@@ -54,7 +55,7 @@ apart_refurbished s t k r a = λ x o.
       | inl e ↦ let same : slot_at t x ≡ refurbished (fate_at s first x) v = r.inside x (omega (arith, k.numbers n x, ap one e)) in
           let now : (refurbished (fate_at s first x) v).colour ≡ Orange = ap (λ (w : Slot). w.colour) (sym same) ∙ o in
           let before : IsMember s x = a x (refurbished_orange (fate_at s first x) v now) in
-          absurd (fate_uncolours v.released (eqb v.count 0) (is_root (is_first x first) v.colour) v before.unreleased now)
+          absurd (fate_uncolours v.released (eqb v.count 0) (is_root (is_slot x first) v.colour) v before.unreleased now)
       | inr e ↦ let none : times x (last_set s.sets) ≡ 0 = k.numbers n x ∙ ap one e in
           let before : IsMember s x = a x (ap (λ (w : Slot). w.colour) (sym (r.others x none)) ∙ o) in
           let there : 0 < times x (concat (earlier_sets s.sets)) = omega (arith, before.member, none, times_last x s.sets) in

@@ -1,7 +1,8 @@
 -- Why each answer of a turn comes, by the phase.
 use Rattle.std.proofs.Common.{◌≡◌, ◌≢◌, ℕ, ◌+◌, ◌≤◌, ◌^◌, ◌==◌, Bool, true, false, cond, Option, None, Some, IsSome, IsNone, List, [], ◌∷◌, length, refl, arith, sym, ap, subst, ◌∙◌, inl, inr}
 use Rattle.std.proofs.lemmas.Bool.{false≢true, cond-true, cond-false, eq-eqb, ne_eqb, eqb-true, cases_eq}
-use Rattle.rec_word.specs.Op.{crossing_word}
+use Rattle.rec_word.specs.Mailbox.{crossing_word}
+use Rattle.rec_word.specs.declared.mailbox.Mailbox.TheVariants.{Retired}
 use Rattle.rec_word.specs.declared.op.Op.{Op}
 use Rattle.rec_word.specs.declared.op.Op.TheVariants.{StoreEpoch}
 use Rattle.rec_release.specs.declared.at.At.{At}
@@ -81,9 +82,9 @@ idle_cause : (p : Private) (word : ℕ) (b : Bool) → is_spent p ≡ b → p.ph
 idle_cause p word true e is = (is, eqb-true (p.epoch + 1) (2 ^ 24) e, refl)
 idle_cause p word false e is = (refl, refl, ap (λ f. p.freed + swept_at f) is)
 
-look_cause : (p : Private) (word t : ℕ) (b : Bool) → (word == crossing_word p.epoch 2) ≡ b → p.phase ≡ Looking t → HasCause p word (cond b (moved p (Swapping t)) p) (cond b Moved (Waiting t))
+look_cause : (p : Private) (word t : ℕ) (b : Bool) → (word == crossing_word p.epoch Retired) ≡ b → p.phase ≡ Looking t → HasCause p word (cond b (moved p (Swapping t)) p) (cond b Moved (Waiting t))
 look_cause p word t true e is = (refl, refl, ap (λ f. p.freed + swept_at f) is)
-look_cause p word t false e is = (is, (λ q. false≢true (sym e ∙ eq-eqb word (crossing_word p.epoch 2) q)), refl)
+look_cause p word t false e is = (is, (λ q. false≢true (sym e ∙ eq-eqb word (crossing_word p.epoch Retired) q)), refl)
 
 return_cause : (p : Private) (word t : ℕ) (n : Next) (b : Bool) → p.collections + 1 ≤ p.epoch → p.phase ≡ Returning t → swept_at n.phase ≡ 0 → HasCause p word (cond b (came p n) (moved p (Looking (t + 1)))) (cond b (came_turn p.epoch n.phase) Moved)
 return_cause p word t n true u is none = came_cause p word n u (ap swept_at is) none
@@ -96,7 +97,7 @@ sweep_cause p n (Some x) is = omega (arith, ap swept_at is)
 cause_at : (p : Private) (word : ℕ) (phase : Phase) → p.phase ≡ phase → IsMachine p → HasCause p word (took_at p word phase) (turn_at p word phase)
 unfolding took_at turn_at
 cause_at p word Idle is k = idle_cause p word (is_spent p) refl is
-cause_at p word (Looking t) is k = look_cause p word t (word == crossing_word p.epoch 2) refl is
+cause_at p word (Looking t) is k = look_cause p word t (word == crossing_word p.epoch Retired) refl is
 cause_at p word (Swapping t) is k = (refl, refl, ap (λ f. p.freed + swept_at f) is)
 cause_at p word (Returning t) is k = let w : Parts = zeros_released false (batched p) in return_cause p word t (followed w) (t == length p.newer) (under_way_at p (Returning t) k is) is (followed_none w)
 cause_at p word Releasing is k = let w : Parts = with_released (parts_of p) word in came_cause p word (followed w) (under_way_at p Releasing k is) (ap swept_at is) (followed_none w)
@@ -113,9 +114,9 @@ unfolding took_of turn_of
 has_cause p word k = cause_at p word p.phase refl k
 
 -- a mutator that has not crossed is waited for
-pub waits : (p : Private) (word t : ℕ) → p.phase ≡ Looking t → word ≢ crossing_word p.epoch 2 → turn_of p word ≡ Waiting t
+pub waits : (p : Private) (word t : ℕ) → p.phase ≡ Looking t → word ≢ crossing_word p.epoch Retired → turn_of p word ≡ Waiting t
 unfolding turn_of turn_at
-waits p word t is other = ap (turn_at p word) is ∙ cond-false (word == crossing_word p.epoch 2) _ _ (ne_eqb word (crossing_word p.epoch 2) other)
+waits p word t is other = ap (turn_at p word) is ∙ cond-false (word == crossing_word p.epoch Retired) _ _ (ne_eqb word (crossing_word p.epoch Retired) other)
 
 is_none : {A : Type 0} (x : Option A) → IsSome x → IsNone x → ⊥
 is_none None s n = false≢true s

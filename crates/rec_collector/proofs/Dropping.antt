@@ -1,6 +1,7 @@
 -- What always holds of the counts still does once a set is given up or refurbished, and as a preparation goes on.
 use Rattle.std.proofs.Common.{◌≡◌, ℕ, ◌-◌, ◌<◌, Bool, true, false, ltb, Option, List, [], ◌∷◌, length, map, get_or, slice_get, refl, arith, sym, ◌∙◌, ap}
 use Rattle.std.proofs.lemmas.List.{length-map, length-set}
+use Rattle.rec_word.specs.Word.{is_slot}
 use Rattle.rec_counts.specs.declared.slot.Slot.{Slot}
 use Rattle.rec_counts.specs.Counts.{State, IsKept, slot_at, without_last_set}
 use Rattle.rec_counts.specs.Groups.{last_set}
@@ -15,7 +16,7 @@ use Rattle.rec_release.proofs.Giving.{last_once, mapped}
 use Rattle.rec_sigma.specs.declared.fate.Fate.{Fate}
 use Rattle.rec_sigma.specs.declared.fate.Fate.TheVariants.{Free, Zero, Root, Plain}
 use Rattle.rec_sigma.specs.Prepared.{KeepsOthers}
-use Rattle.rec_sigma.specs.Refurbish.{coloured, fate_at, is_first, IsRefusable}
+use Rattle.rec_sigma.specs.Refurbish.{coloured, fate_at, IsRefusable}
 use Rattle.rec_sigma.specs.Settling.{refurbished_of, settled, settled_all}
 use Rattle.rec_sigma.proofs.Renewals.{dropped, free_unlisted, waiting_first, waiting_rest, zero_unlisted, IsDue, IsWaiting}
 
@@ -58,11 +59,11 @@ given_kept s some work k =
 
 -- a member of a refused set gets its place
 settled_kept : (f : Fate) (s : State) (first : Option ℕ) (x : ℕ) → f ≡ fate_at s first x → IsDue s x → IsKept s → IsKept (settled f s x)
-settled_kept Free s first x e d k = relisted k k.marked_once k.work_once k.zeros_once (once_push _ s.free x k.free_once (free_unlisted s x (is_first x first) Free d e refl) d.in_range)
+settled_kept Free s first x e d k = relisted k k.marked_once k.work_once k.zeros_once (once_push _ s.free x k.free_once (free_unlisted s x (is_slot x first) Free d e refl) d.in_range)
 settled_kept Zero s first x e d k =
     let k' = keep_slot k x (coloured Zero (slot_at s x)) refl refl in
     relisted k' k'.marked_once k'.work_once
-    (once_push _ s.zeros x k'.zeros_once (zero_unlisted s x (is_first x first) Zero d e refl) (omega (arith, d.in_range, length-set s.slots x (coloured Zero (slot_at s x))))) k'.free_once
+    (once_push _ s.zeros x k'.zeros_once (zero_unlisted s x (is_slot x first) Zero d e refl) (omega (arith, d.in_range, length-set s.slots x (coloured Zero (slot_at s x))))) k'.free_once
 settled_kept Root s first x e d k = keep_push_root k x (coloured Root (slot_at s x)) d.in_range d.unbuffered refl refl
 settled_kept Plain s first x e d k = keep_slot k x (coloured Plain (slot_at s x)) refl refl
 

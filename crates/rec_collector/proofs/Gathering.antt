@@ -2,7 +2,8 @@
 use Rattle.std.proofs.Common.{◌≡◌, ◌≢◌, ℕ, ◌+◌, ◌-◌, ◌*◌, ◌^◌, ◌<◌, ◌≤◌, ◌==◌, true, false, Bool, cond, inl, inr, IsNone, length, set, refl, arith, sym, ◌∙◌, ap, subst}
 use Rattle.std.proofs.lemmas.List.{length-set, get_or-set_same, get_or-set_other}
 use Rattle.std.proofs.lemmas.Bool.{cases_eq, cases_lt, eq-eqb, false≢true}
-use Rattle.rec_word.specs.Op.{crossing_word}
+use Rattle.rec_word.specs.Mailbox.{crossing_word}
+use Rattle.rec_word.specs.declared.mailbox.Mailbox.TheVariants.{Retired}
 use Rattle.rec_log.specs.declared.contents.Contents.{Contents}
 use Rattle.rec_release.specs.TakenOff.{IsApart}
 use Rattle.rec_trial.specs.Trial.{next_of}
@@ -80,7 +81,7 @@ idle_keeps p word k e = go (is_spent p) refl
 -- the mailbox of a mutator is held where it has crossed
 pub look_keeps : (p : Private) (word t : ℕ) → IsMachine p → p.phase ≡ Looking t → IsMachine (took_at p word (Looking t))
 unfolding took_at
-look_keeps p word t k e = go (word == crossing_word p.epoch 2)
+look_keeps p word t k e = go (word == crossing_word p.epoch Retired)
   where
     go : (b : Bool) → IsMachine (cond b (moved p (Swapping t)) p)
     go false = k

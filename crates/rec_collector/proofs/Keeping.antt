@@ -1,7 +1,8 @@
 -- What every machine keeps holds after every step, by the phase.
 use Rattle.std.proofs.Common.{◌≡◌, ◌+◌, ℕ, ◌==◌, true, false, Bool, cond, length, refl, sym, ◌∙◌}
 use Rattle.std.proofs.lemmas.Bool.{eq-eqb, eqb-true, false≢true}
-use Rattle.rec_word.specs.Op.{crossing_word}
+use Rattle.rec_word.specs.Mailbox.{crossing_word}
+use Rattle.rec_word.specs.declared.mailbox.Mailbox.TheVariants.{Retired}
 use Rattle.rec_log.specs.declared.contents.Contents.{Contents}
 use Rattle.rec_release.specs.Sweep as sweeps
 use Rattle.rec_collector.specs.Followed.{Next, followed, prepared, relieved, tried, with_freed, with_loaded, with_released, with_tried}
@@ -96,7 +97,7 @@ either_sized p q box false y z = z
 took_sized_at : (p : Private) (word : ℕ) (box : Contents) (phase : Phase) → IsSized p.registers p.capacity box → IsSized (took_at p word phase).registers (took_at p word phase).capacity box
 unfolding took_at
 took_sized_at p word box Idle z = either_sized p (moved (record p { epoch = p.epoch + 1 }) (Looking 1)) box (is_spent p) z z
-took_sized_at p word box (Looking t) z = either_sized (moved p (Swapping t)) p box (word == crossing_word p.epoch 2) z z
+took_sized_at p word box (Looking t) z = either_sized (moved p (Swapping t)) p box (word == crossing_word p.epoch Retired) z z
 took_sized_at p word box (Swapping t) z = z
 took_sized_at p word box (Returning t) z =
     let n : Next = followed (zeros_released false (batched p)) in

@@ -1,7 +1,8 @@
 -- What a step leaves in the mailbox that it looks at.
 use Rattle.std.proofs.Common.{◌≡◌, ◌≢◌, inl, inr, ℕ, ◌+◌, ◌==◌, Bool, true, false, cond, Option, None, Some, List, [], ◌∷◌, length, refl, sym, ap, ◌∙◌}
 use Rattle.std.proofs.lemmas.Bool.{cases_eq, eq-eqb, ne_eqb}
-use Rattle.rec_word.specs.Op.{crossing_word}
+use Rattle.rec_word.specs.Mailbox.{crossing_word}
+use Rattle.rec_word.specs.declared.mailbox.Mailbox.TheVariants.{Retired}
 use Rattle.rec_word.specs.declared.op.Op.{Op}
 use Rattle.rec_log.specs.declared.contents.Contents.{Contents}
 use Rattle.rec_release.specs.declared.at.At.{At}
@@ -80,9 +81,9 @@ leaves_at p word box Idle is between = keeps_in p word box _ Idle is (λ t. λ e
     go : (spent : Bool) → left_of (cond spent p (moved (record p { epoch = p.epoch + 1 }) (Looking 1))) box ≡ box
     go true = ap (left_at p box) is
     go false = refl
-leaves_at p word box (Looking t) is between = elim (cases_eq word (crossing_word p.epoch 2)) [
-  | inl e ↦ LeavesBox.empties t is e (ap (λ b. left_of (cond b (moved p (Swapping t)) p) box) (eq-eqb word (crossing_word p.epoch 2) e))
-  | inr e ↦ LeavesBox.keeps (λ u looks same. e same) (ap (λ b. left_of (cond b (moved p (Swapping t)) p) box) (ne_eqb word (crossing_word p.epoch 2) e) ∙ ap (left_at p box) is)
+leaves_at p word box (Looking t) is between = elim (cases_eq word (crossing_word p.epoch Retired)) [
+  | inl e ↦ LeavesBox.empties t is e (ap (λ b. left_of (cond b (moved p (Swapping t)) p) box) (eq-eqb word (crossing_word p.epoch Retired) e))
+  | inr e ↦ LeavesBox.keeps (λ u looks same. e same) (ap (λ b. left_of (cond b (moved p (Swapping t)) p) box) (ne_eqb word (crossing_word p.epoch Retired) e) ∙ ap (left_at p box) is)
 ]
 leaves_at p word box (Swapping t) is between = absurd between
 leaves_at p word box (Returning t) is between = keeps_in p word box _ (Returning t) is (λ t. λ e. cc) (go (t == length p.newer))

@@ -1,7 +1,8 @@
 -- What comes next and what is learnt are a step, by the phase.
 use Rattle.std.proofs.Common.{◌≡◌, ◌≢◌, inl, inr, ℕ, zero, suc, ◌+◌, ◌-◌, ◌^◌, ◌<◌, ◌==◌, true, false, Bool, Option, None, Some, List, [], ◌∷◌, length, refl, arith, sym, ap, subst, ◌∙◌}
 use Rattle.std.proofs.lemmas.Bool.{cond-true, cond-false, eq-eqb, ne_eqb, cases_eq}
-use Rattle.rec_word.specs.Op.{crossing_word}
+use Rattle.rec_word.specs.Mailbox.{crossing_word}
+use Rattle.rec_word.specs.declared.mailbox.Mailbox.TheVariants.{Retired}
 use Rattle.rec_word.specs.declared.op.Op.{Op}
 use Rattle.rec_log.specs.declared.contents.Contents.{Contents}
 use Rattle.rec_counts.specs.Counts.{IsKept as IsKeptCounts}
@@ -166,16 +167,16 @@ idle_step p word box is = elim (cases_eq (p.epoch + 1) (2 ^ 24)) [
 
 look_step : (p : Private) (word : ℕ) (box : Contents) (t : ℕ) → p.phase ≡ Looking t → Step p word box (next_at p (Looking t)) (swapped_of (took_at p word (Looking t)) box) (turn_at p word (Looking t))
 unfolding next_at took_at turn_at swapped_of swapped_at
-look_step p word box t is = elim (cases_eq word (crossing_word p.epoch 2)) [
+look_step p word box t is = elim (cases_eq word (crossing_word p.epoch Retired)) [
   | inl e ↦
-      let b : (word == crossing_word p.epoch 2) ≡ true = eq-eqb word (crossing_word p.epoch 2) e in
+      let b : (word == crossing_word p.epoch Retired) ≡ true = eq-eqb word (crossing_word p.epoch Retired) e in
       Step.gather t is e refl (record {
-        after = ap (λ (q : Private). swapped_of q box) (cond-true (word == crossing_word p.epoch 2) _ _ b);
-        answer = cond-true (word == crossing_word p.epoch 2) _ _ b;
+        after = ap (λ (q : Private). swapped_of q box) (cond-true (word == crossing_word p.epoch Retired) _ _ b);
+        answer = cond-true (word == crossing_word p.epoch Retired) _ _ b;
       })
   | inr e ↦
-      let b : (word == crossing_word p.epoch 2) ≡ false = ne_eqb word (crossing_word p.epoch 2) e in
-      Step.wait t is e refl (ap (λ (q : Private). swapped_of q box) (cond-false (word == crossing_word p.epoch 2) _ _ b) ∙ same_swapped p box (Looking t) is tt) (cond-false (word == crossing_word p.epoch 2) _ _ b)
+      let b : (word == crossing_word p.epoch Retired) ≡ false = ne_eqb word (crossing_word p.epoch Retired) e in
+      Step.wait t is e refl (ap (λ (q : Private). swapped_of q box) (cond-false (word == crossing_word p.epoch Retired) _ _ b) ∙ same_swapped p box (Looking t) is tt) (cond-false (word == crossing_word p.epoch Retired) _ _ b)
 ]
 
 -- with the last mailbox the batch is applied

@@ -4,6 +4,7 @@ use Rattle.std.proofs.Common.{◌≡◌, ℕ, ◌+◌, ◌-◌, ◌<◌, Bool, t
 use Rattle.std.proofs.lemmas.List.{length-set}
 use Rattle.std.proofs.lemmas.Bool.{cases_lt, eq-eqb, false≢true}
 use Rattle.std.proofs.lemmas.Bool.Decides.{eqb_tells}
+use Rattle.rec_word.specs.Word.{is_slot}
 use Rattle.rec_counts.specs.declared.colour.Colour.{Colour}
 use Rattle.rec_counts.specs.declared.colour.Colour.TheVariants.{Black, Purple}
 use Rattle.rec_counts.specs.declared.slot.Slot.{Slot}
@@ -27,7 +28,7 @@ use Rattle.rec_release.proofs.Orange.{given_apart, given_zeros, lists_keep, next
 use Rattle.rec_release.proofs.TakenOff.{off_most, KeepsMost}
 use Rattle.rec_sigma.specs.declared.fate.Fate.{Fate}
 use Rattle.rec_sigma.specs.declared.fate.Fate.TheVariants as fates
-use Rattle.rec_sigma.specs.Refurbish.{fate_at, fate_if, is_first, is_free, is_root, is_zero, refurbished, IsRefusable, LastRefurbished}
+use Rattle.rec_sigma.specs.Refurbish.{fate_at, fate_if, is_free, is_root, is_zero, refurbished, IsRefusable, LastRefurbished}
 use Rattle.rec_sigma.proofs.Refused.{released_after, same_count, same_released}
 use Rattle.rec_trial.specs.Moves.{is_gray, is_white}
 use Rattle.rec_trial.proofs.Worked.{kept_by_all, lessened_colour}
@@ -226,11 +227,11 @@ filter_passed p x (y ∷ ys) e = elim (eqb_tells x y) [
 
 -- a released member is free once it is refurbished
 freed_member : (s : State) (first : Option ℕ) (x : ℕ) → (slot_at s x).released ≡ true → fate_at s first x ≡ fates.Free
-freed_member s first x r = ap (λ b. fate_if b (eqb (slot_at s x).count 0) (is_root (is_first x first) (slot_at s x).colour)) r
+freed_member s first x r = ap (λ b. fate_if b (eqb (slot_at s x).count 0) (is_root (is_slot x first) (slot_at s x).colour)) r
 
 -- a member without a count that isn't released goes to the zeros
 zero_member : (s : State) (first : Option ℕ) (x : ℕ) → (slot_at s x).released ≡ false → (slot_at s x).count ≡ 0 → fate_at s first x ≡ fates.Zero
-zero_member s first x r n = ap (λ b. fate_if b (eqb (slot_at s x).count 0) (is_root (is_first x first) (slot_at s x).colour)) r ∙ ap (λ b. fate_if false b (is_root (is_first x first) (slot_at s x).colour)) (eq-eqb (slot_at s x).count 0 n)
+zero_member s first x r n = ap (λ b. fate_if b (eqb (slot_at s x).count 0) (is_root (is_slot x first) (slot_at s x).colour)) r ∙ ap (λ b. fate_if false b (is_root (is_slot x first) (slot_at s x).colour)) (eq-eqb (slot_at s x).count 0 n)
 
 zeros_refurbished : (s t : State) → LastRefurbished s t → AllZerosButOrange s → AllZerosButOrange t
 zeros_refurbished s t r a = λ x u n o.

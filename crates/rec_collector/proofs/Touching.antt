@@ -3,6 +3,7 @@ use Rattle.std.proofs.Common.{◌≡◌, ◌≢◌, ◌↔◌, inl, inr, ℕ, �
 use Rattle.std.proofs.lemmas.List.{get_or-set_same, get_or-set_other, set_past, get_or_past}
 use Rattle.std.proofs.lemmas.Bool.{cases_lt, false≢true}
 use Rattle.std.proofs.lemmas.Bool.Decides.{eqb_tells}
+use Rattle.rec_word.specs.Word.{is_slot}
 use Rattle.rec_log.specs.declared.contents.Contents.{Contents}
 use Rattle.rec_counts.specs.declared.colour.Colour.TheVariants.{Black, Orange}
 use Rattle.rec_counts.specs.declared.slot.Slot.{Slot}
@@ -13,7 +14,7 @@ use Rattle.rec_counts.specs.Lists.{one}
 use Rattle.rec_counts.specs.Slot.{absent, due_of, lessened, lessened_if, raised}
 use Rattle.rec_counts.proofs.Decrementing.{rest_decremented}
 use Rattle.rec_apply.specs.Batch.{all_down, all_up, batch, counted_down, counted_up, down_targets, up_targets}
-use Rattle.rec_apply.specs.Targets.{added, is_slot, named, taken}
+use Rattle.rec_apply.specs.Targets.{added, named, taken}
 use Rattle.rec_apply.proofs.Naming.{added_is, named-cons, named-nil, taken_is}
 use Rattle.rec_apply.proofs.Resting.{rest_all_up}
 use Rattle.rec_collector.specs.Kept.{IsAt, IsMachine}

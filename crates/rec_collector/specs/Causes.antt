@@ -1,6 +1,7 @@
 -- What each answer of a turn says: why it comes, and what the turn changed.
 use Rattle.std.specs.Prelude.{◌≡◌, ◌≢◌, ℕ, ◌+◌, ◌^◌}
-use Rattle.rec_word.specs.Op.{crossing_word}
+use Rattle.rec_word.specs.Mailbox.{crossing_word}
+use Rattle.rec_word.specs.declared.mailbox.Mailbox.TheVariants.{Retired}
 use Rattle.rec_collector.specs.Kept.{swept_at}
 use Rattle.rec_collector.specs.Private.{Private}
 use Rattle.rec_collector.specs.declared.phase.Phase.TheVariants.{Idle, Looking}
@@ -12,6 +13,6 @@ use Rattle.rec_collector.specs.declared.turn.Turn.TheVariants.{Moved, Waiting, C
 -- counts, and a slot that it frees counts in the sweep and in all.
 abbrev pub HasCause : (p : Private) (word : ℕ) (q : Private) → Turn → Type 0
 HasCause p word q Moved = (q.turns ≡ p.turns + 1) × (q.collections ≡ p.collections) × (q.freed + swept_at p.phase ≡ p.freed + swept_at q.phase)
-HasCause p word q (Waiting t) = (p.phase ≡ Looking t) × (word ≢ crossing_word p.epoch 2) × (q ≡ p)
+HasCause p word q (Waiting t) = (p.phase ≡ Looking t) × (word ≢ crossing_word p.epoch Retired) × (q ≡ p)
 HasCause p word q (Collected epoch freed) = (epoch + 1 ≡ p.epoch) × (freed ≡ swept_at p.phase) × (q.phase ≡ Idle) × (q.collections ≡ p.collections + 1) × (q.freed ≡ p.freed) × (q.turns ≡ 0)
 HasCause p word q EpochsSpent = (p.phase ≡ Idle) × (p.epoch + 1 ≡ 2 ^ 24) × (q ≡ p)

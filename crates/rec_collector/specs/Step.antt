@@ -1,6 +1,7 @@
 -- What a step of the collector may be: the rules of its phases.
 use Rattle.std.specs.Prelude.{◌≡◌, ◌≢◌, ℕ, ◌+◌, ◌-◌, ◌*◌, ◌^◌, ◌<◌, ◌≤◌, false, true, Option, None, Some, [], length, replicate, map, slice_set}
-use Rattle.rec_word.specs.Op.{crossing_word}
+use Rattle.rec_word.specs.Mailbox.{crossing_word}
+use Rattle.rec_word.specs.declared.mailbox.Mailbox.TheVariants.{Retired}
 use Rattle.rec_word.specs.declared.op.Op.{Op}
 use Rattle.rec_word.specs.declared.op.Op.TheVariants.{StoreEpoch, LookBox, ReturnBox, LoadChild, ClearField, FreeHeader, AddFreed}
 use Rattle.rec_log.specs.declared.contents.Contents.{Contents}
@@ -77,9 +78,9 @@ pub data Step (p : Private) (word : ℕ) (box : Contents) (op : Option Op) (q : 
   spent : p.phase ≡ Idle → p.epoch + 1 ≡ 2 ^ 24 → op ≡ None → q ≡ p → turn ≡ EpochsSpent → Step p word box op q turn
   request : p.phase ≡ Idle → p.epoch + 1 ≢ 2 ^ 24 → op ≡ Some (StoreEpoch (p.epoch + 1))
       → GoesOn (record p { epoch = p.epoch + 1 }) q turn (Looking 1) → Step p word box op q turn
-  wait : (t : ℕ) → p.phase ≡ Looking t → word ≢ crossing_word p.epoch 2 → op ≡ Some (LookBox t p.epoch)
+  wait : (t : ℕ) → p.phase ≡ Looking t → word ≢ crossing_word p.epoch Retired → op ≡ Some (LookBox t p.epoch)
       → q ≡ p → turn ≡ Waiting t → Step p word box op q turn
-  gather : (t : ℕ) → p.phase ≡ Looking t → word ≡ crossing_word p.epoch 2 → op ≡ Some (LookBox t p.epoch)
+  gather : (t : ℕ) → p.phase ≡ Looking t → word ≡ crossing_word p.epoch Retired → op ≡ Some (LookBox t p.epoch)
       → GoesOn (record p { newer = slice_set p.newer (t - 1) box }) q turn (Returning t) → Step p word box op q turn
   give_back : (t : ℕ) → p.phase ≡ Returning t → t ≢ length p.newer → op ≡ Some (ReturnBox t p.epoch)
       → GoesOn p q turn (Looking (t + 1)) → Step p word box op q turn
@@ -100,9 +101,9 @@ pub data Step (p : Private) (word : ℕ) (box : Contents) (op : Option Op) (q : 
 -- What a step leaves in the mailbox that it looks at, which held `box`: where it takes the buffer there, a buffer without entries, with
 -- a null snapshot; else what was there.
 pub data LeavesBox (p : Private) (word : ℕ) (box left : Contents) : Type 0 where
-  empties : (t : ℕ) → p.phase ≡ Looking t → word ≡ crossing_word p.epoch 2
+  empties : (t : ℕ) → p.phase ≡ Looking t → word ≡ crossing_word p.epoch Retired
       → left ≡ record { entries = []; snapshot = replicate p.registers None; capacity = p.capacity } → LeavesBox p word box left
-  keeps : ((t : ℕ) → p.phase ≡ Looking t → word ≢ crossing_word p.epoch 2) → left ≡ box → LeavesBox p word box left
+  keeps : ((t : ℕ) → p.phase ≡ Looking t → word ≢ crossing_word p.epoch Retired) → left ≡ box → LeavesBox p word box left
 
 -- A whole step: what it leaves of the private record and answers, and what it leaves in the mailbox.
 pub record WholeStep (p : Private) (word : ℕ) (box : Contents) (op : Option Op) (q : Private) (turn : Turn) (left : Contents) : Type 0 where

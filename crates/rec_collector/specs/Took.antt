@@ -1,6 +1,7 @@
 -- What is learnt, and what a turn answers: functions of the private record and of the word found.
 use Rattle.std.specs.Prelude.{ℕ, ◌+◌, ◌-◌, ◌==◌, false, Option, None, Some, [], if◌then◌else◌, length, map, replicate, slice_set}
-use Rattle.rec_word.specs.Op.{crossing_word}
+use Rattle.rec_word.specs.Mailbox.{crossing_word}
+use Rattle.rec_word.specs.declared.mailbox.Mailbox.TheVariants.{Retired}
 use Rattle.rec_log.specs.declared.contents.Contents.{Contents}
 use Rattle.rec_apply.specs.Batch.{batch}
 use Rattle.rec_release.specs.Sweep as sweeps
@@ -59,7 +60,7 @@ swept_one p swept w = moved (record (with_sweep p w) { freed = p.freed + 1 }) (s
 -- what is learnt, by phase
 unfoldable pub took_at : Private → (word : ℕ) → Phase → Private
 took_at p word Idle = if is_spent p then p else moved (record p { epoch = p.epoch + 1 }) (Looking 1)
-took_at p word (Looking t) = if word == crossing_word p.epoch 2 then moved p (Swapping t) else p
+took_at p word (Looking t) = if word == crossing_word p.epoch Retired then moved p (Swapping t) else p
 took_at p word (Swapping t) = moved p (Swapping t)
 took_at p word (Returning t) = returned p t
 took_at p word Releasing = came p (followed (with_released (parts_of p) word))
@@ -104,7 +105,7 @@ came_turn epoch phase = Moved
 -- what a turn answers, by phase
 unfoldable pub turn_at : Private → (word : ℕ) → Phase → Turn
 turn_at p word Idle = if is_spent p then EpochsSpent else Moved
-turn_at p word (Looking t) = if word == crossing_word p.epoch 2 then Moved else Waiting t
+turn_at p word (Looking t) = if word == crossing_word p.epoch Retired then Moved else Waiting t
 turn_at p word (Swapping t) = Moved
 turn_at p word (Returning t) = if t == length p.newer then came_turn p.epoch (followed (zeros_released false (batched p))).phase else Moved
 turn_at p word Releasing = came_turn p.epoch (followed (with_released (parts_of p) word)).phase

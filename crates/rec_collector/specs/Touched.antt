@@ -1,7 +1,7 @@
 -- What names a slot from one step to the next: a batch, and what is taken off afterwards.
 use Rattle.std.specs.Prelude.{◌≡◌, ℕ, ◌+◌, ◌-◌, ◌==◌, ◌&&◌, not, if◌then◌else◌, Bool, true, Option, Some, length}
-use Rattle.rec_word.specs.Word.{target_of}
-use Rattle.rec_apply.specs.Targets.{added, is_slot, taken}
+use Rattle.rec_word.specs.Word.{target_of, is_slot}
+use Rattle.rec_apply.specs.Targets.{added, taken}
 use Rattle.rec_counts.specs.declared.colour.Colour.TheVariants.{Orange}
 use Rattle.rec_counts.specs.Counts.{State, slot_at}
 use Rattle.rec_counts.specs.Lists.{one}

@@ -1,5 +1,6 @@
 ghost use Rattle.std.specs.Prelude.{◌≡◌, ◌≢◌, ◌+◌, ◌*◌, ◌^◌, ◌<◌, ◌≤◌, ◌↔◌, ℕ, None, [], length, IfOk, IfSome, IsNone, IsTrue, true};
-ghost use Rattle.rec_word.specs.Op.{crossing_word};
+ghost use Rattle.rec_word.specs.Mailbox.{crossing_word};
+ghost use Rattle.rec_word.specs.declared.mailbox.Mailbox.TheVariants.{Retired};
 ghost use Rattle.rec_word.specs.Word.{target_of};
 ghost use Rattle.rec_counts.specs.Counts.{slot_at};
 ghost use Rattle.rec_trial.specs.Rules.{LeadsToUnreleased};
@@ -19,7 +20,7 @@ use rec_counts::Counts;
 use rec_frame::Frame;
 use rec_log::Buffer;
 use rec_release::Sweep;
-use rec_word::{Op, crossing};
+use rec_word::{Mailbox, Op, crossing};
 use std::alloc::{AllocError as NoMemory, Global};
 use std::marker::Model;
 use std::mem;
@@ -137,7 +138,7 @@ impl Machine {
         // Why each answer comes. Waiting for a mutator comes exactly where its crossing word was looked at and says that it
         // hasn't crossed, and the epochs are spent exactly where no step comes next.
         ensures cause { HasCause self.old word self.new result }
-        ensures waiting { (t : ℕ) → self.old.phase ≡ Phase.Looking t → word ≢ crossing_word self.old.epoch 2 → result ≡ Turn.Waiting t }
+        ensures waiting { (t : ℕ) → self.old.phase ≡ Phase.Looking t → word ≢ crossing_word self.old.epoch Retired → result ≡ Turn.Waiting t }
         ensures spent { IsNone (next_of self.old) → result ≡ Turn.EpochsSpent }
 
         // No collection takes more turns than this, beside those in which it waits.
@@ -288,7 +289,7 @@ impl Machine {
         ensures same { KeepsSizes self.old self.new }
         ensures kept { IsMachine self.new }
     {
-        if word != crossing(self.epoch, 2) {
+        if word != crossing(self.epoch, Mailbox::Retired) {
             return Turn::Waiting { mutator };
         }
         self.phase = Phase::Swapping { mutator };

@@ -3,7 +3,8 @@ use Rattle.std.proofs.Common.{◌≡◌, ◌≢◌, ◌⊎◌, inl, inr, ℕ, �
 use Rattle.std.proofs.lemmas.Bool.{false≢true, cases_eq}
 use Rattle.std.proofs.lemmas.List.{length-set, set-get_or, get_or-set_same, get_or-set_other, length-replicate}
 use Rattle.std.proofs.lemmas.List.Elements.{All-append, All-cons, All-nil}
-use Rattle.rec_word.specs.Op.{crossing_word}
+use Rattle.rec_word.specs.Mailbox.{crossing_word}
+use Rattle.rec_word.specs.declared.mailbox.Mailbox.TheVariants.{Spare}
 use Rattle.rec_word.specs.declared.op.Op.{Op}
 use Rattle.rec_model.specs.Reach.{named}
 use Rattle.rec_log.specs.declared.contents.Contents.{Contents}
@@ -63,7 +64,7 @@ handshake_stays config requested p q crossing box Stand.Done here settled epoch 
 handshake_stays config requested p q crossing box Stand.Held here settled epoch is =
     (record { epoch = epoch ∙ is.0.epoch; word = is.0.word; settled = settled }, is.1)
 handshake_stays config requested p q crossing box Stand.Due here settled epoch (inl behind) =
-    inl (record { epoch = ap (λ n. n + 1) epoch ∙ behind.epoch; word = behind.word ∙ ap (λ n. crossing_word n 0) (sym epoch); here = settled_here q.phase settled; spare = behind.spare })
+    inl (record { epoch = ap (λ n. n + 1) epoch ∙ behind.epoch; word = behind.word ∙ ap (λ n. crossing_word n Spare) (sym epoch); here = settled_here q.phase settled; spare = behind.spare })
 handshake_stays config requested p q crossing box Stand.Due here settled epoch (inr (inl crosses)) = absurd (false≢true (sym here ∙ ap is_giving crosses.phase))
 handshake_stays config requested p q crossing box Stand.Due here settled epoch (inr (inr crossed)) =
     inr (inr (record { epoch = epoch ∙ crossed.epoch; word = crossed.word; settled = settled }))

@@ -6,6 +6,7 @@ use Rattle.std.proofs.lemmas.Bool.{cases_eq, cases_lt, eq-eqb, lt-ltb, lt-leb, c
 use Rattle.std.proofs.lemmas.List.{get_or_past, get_or_default}
 use Rattle.std.proofs.lemmas.List.Concat.{length-flat_map}
 use Rattle.std.proofs.lemmas.List.Sums.{sum_by-cons, sum_by-append}
+use Rattle.rec_word.specs.declared.mailbox.Mailbox.TheVariants.{Spare, WithCollector}
 use Rattle.rec_model.specs.Accounted.{is_dead}
 use Rattle.rec_model.specs.Moves.{Applies, is_up_to, puts_in, replaces_in, added, taken}
 use Rattle.rec_model.specs.Pending.{Write, Dated, dated, is_at}
@@ -121,11 +122,11 @@ module _ (w : Core) (t : ℕ) (kept : IsKept w) (phase : w.collector.phase ≡ R
   last_is = let some : 1 ≤ w.config.mutators = kept.config.some_mutators in (omega (arith, many), omega (arith, many))
 
   -- every mutator has crossed
-  pub crossed : (s : ℕ) → IsMutator w.config s → (HasCrossed w.epoch (mutator w s) (crossing_of w s) 0 ⊎ HasCrossed w.epoch (mutator w s) (crossing_of w s) 3) × (box w s ≡ spare_of w.config)
+  pub crossed : (s : ℕ) → IsMutator w.config s → (HasCrossed w.epoch (mutator w s) (crossing_of w s) Spare ⊎ HasCrossed w.epoch (mutator w s) (crossing_of w s) WithCollector) × (box w s ≡ spare_of w.config)
   crossed s there = elim (cases_eq s t) [
     | inl same ↦
         let home = returned_home w t kept phase last_is in
-        (inr (subst (λ n. HasCrossed w.epoch (mutator w n) (crossing_of w n) 3) (sym same) home.0), ap (box w) same ∙ home.1)
+        (inr (subst (λ n. HasCrossed w.epoch (mutator w n) (crossing_of w n) WithCollector) (sym same) home.0), ap (box w) same ∙ home.1)
     | inr other ↦
         let up : s ≤ t = omega (arith, there.1, many) in
         let below : s < t = omega arith in

@@ -4,7 +4,7 @@ use Rattle.std.specs.List.{All, sum_by}
 use Rattle.std.proofs.lemmas.Bool.{cases_eq, eq-eqb, ne_eqb}
 use Rattle.std.proofs.lemmas.List.Elements.{All-head, All-tail}
 use Rattle.std.proofs.lemmas.List.Sums.{sum_by-cons}
-use Rattle.rec_word.specs.Word.{target_of}
+use Rattle.rec_word.specs.Word.{target_of, is_slot}
 use Rattle.rec_model.specs.Moves.{puts_in, replaces_in}
 use Rattle.rec_model.specs.Pending.{node_of, epoch_of, dated, is_at}
 use Rattle.rec_model.specs.Sums.{only_if, one_if_same}
@@ -13,7 +13,7 @@ use Rattle.rec_log.specs.declared.contents.Contents.{Contents}
 use Rattle.rec_log.specs.declared.entry.Entry.{Entry}
 use Rattle.rec_log.specs.declared.entry.Entry.TheVariants as entries
 use Rattle.rec_counts.specs.Lists.{one}
-use Rattle.rec_apply.specs.Targets.{new_target, old_target, is_slot, named}
+use Rattle.rec_apply.specs.Targets.{new_target, old_target, named}
 use Rattle.rec_apply.proofs.Naming.{named-nil, named-cons}
 use Rattle.rec_core.specs.Kept.{IsMadeIn, IsBufferOf}
 use Rattle.rec_core.specs.Pending.{code, writes_in, births_in, dated_names}

@@ -3,7 +3,8 @@ use Rattle.std.proofs.Common.{◌≡◌, inl, inr, ℕ, ◌+◌, ◌-◌, ◌<�
 use Rattle.std.specs.List.{concat}
 use Rattle.std.proofs.lemmas.Bool.{cases_lt, cond-true, false≢true, lt-ltb}
 use Rattle.std.proofs.lemmas.List.{get_or_past}
-use Rattle.rec_word.specs.Op.{crossing_word}
+use Rattle.rec_word.specs.Mailbox.{crossing_word}
+use Rattle.rec_word.specs.declared.mailbox.Mailbox.TheVariants.{Spare}
 use Rattle.rec_model.specs.Moves.{Move}
 use Rattle.rec_model.proofs.Consequences.{move_uncounted}
 use Rattle.rec_model.proofs.Moving.{move_accounted}
@@ -72,7 +73,7 @@ module _ (w : Core) (t : ℕ) (kept : IsKept w) (phase : w.collector.phase ≡ R
       let there : x < length c.counts.slots = member_there c.counts x kept.collector.machine.counts member in
       ap (λ (v : Slot). v.released) (counted_slot c.counts x there) ∙ rest.none x there
 
-  pub batch_comes : HasCome w (slice_set w.crossing (t - 1) (crossing_word w.epoch 0)) w.words batched
+  pub batch_comes : HasCome w (slice_set w.crossing (t - 1) (crossing_word w.epoch Spare)) w.words batched
   batch_comes =
       let is : IsMutator w.config t = last_is w t kept phase last in
       let move = Move.batch (applies w t kept phase last) in
@@ -110,5 +111,5 @@ module _ (w : Core) (t : ℕ) (kept : IsKept w) (phase : w.collector.phase ≡ R
       batched_clear (parts_of c) c.newer c.older (falls w t kept phase last) rest.still rest.unfreed before
 
   -- The batch is applied, and the first of its zeros is released.
-  pub applied_lands : HasCleared w (slice_set w.crossing (t - 1) (crossing_word w.epoch 0)) w.words (zeros_released false batched)
+  pub applied_lands : HasCleared w (slice_set w.crossing (t - 1) (crossing_word w.epoch Spare)) w.words (zeros_released false batched)
   applied_lands = cleared (zeros_come false batch_comes rest.still rest.unfreed ready) (zeros_clear false batched kept.collector.machine.fields rest.still rest.unfreed batch_clear)

@@ -5,7 +5,8 @@ use Rattle.std.proofs.Math.Nat.{add-mul}
 use Rattle.std.proofs.lemmas.Bool.{false≢true, cases_Bool}
 use Rattle.std.proofs.lemmas.List.{set-get_or}
 use Rattle.std.proofs.lemmas.List.Elements.{All-get_or}
-use Rattle.rec_word.specs.Op.{crossing_word}
+use Rattle.rec_word.specs.Mailbox.{crossing_word}
+use Rattle.rec_word.specs.declared.mailbox.Mailbox.TheVariants.{Retired, WithMutator}
 use Rattle.rec_word.specs.declared.op.Op.TheVariants as ops
 use Rattle.rec_model.specs.Accounted.{IsAccounted, HasUncountedReleased}
 use Rattle.rec_model.specs.Moves.{Move}
@@ -137,19 +138,19 @@ taken_kept w t kept is busy may phase =
     let first : 1 ≤ w.config.first_epoch = kept.config.some_epoch in
     let last : w.epoch - 1 ≡ p.epoch = omega arith in
     let unapplied : (pending w).applied < p.epoch = omega (arith, gathers, way) in
-    let crossings : List ℕ = slice_set w.crossing (p.number - 1) (crossing_word (p.epoch + 1) 1) in
+    let crossings : List ℕ = slice_set w.crossing (p.number - 1) (crossing_word (p.epoch + 1) WithMutator) in
     let v : Core = record (with_mutator w t q) { crossing = crossings; boxes = slice_set w.boxes (t - 1) b } in
     let own : IsOwn w.config t q = own_stepped actor.own (its_box w t kept is) may (step_made p word (box w t) busy actor.own.between) (subst HasLabelAt (sym q_phase) tt) in
     let retired_log : IsBufferOf w.config (w.epoch - 1) b
     = subst (IsBufferOf w.config (w.epoch - 1)) (sym left) (record { snapshot = actor.own.registers; capacity = actor.log.capacity; few = actor.log.few; made = subst (λ (e : ℕ). All (IsMadeIn e) p.log.entries) (at_p ∙ sym last) actor.log.made }) in
-    let q_actor : IsActor w.config w.epoch w.collector.phase t q (crossing_word (p.epoch + 1) 1) b
+    let q_actor : IsActor w.config w.epoch w.collector.phase t q (crossing_word (p.epoch + 1) WithMutator) b
     = record {
       own = own;
       log = subst (IsBufferOf w.config (epoch_at q)) (sym q_log) (spare_buffer w.config (epoch_at q));
       unwritten = ap (λ (x : Contents). named x.snapshot) q_log ∙ none_named w.config.registers;
       mailbox = retired_log;
-      handshake = subst (IsHandshake w.config w.epoch q (crossing_word (p.epoch + 1) 1) b) (sym due)
-          (inr (inl (record { epoch = ap (λ n. n + 1) q_epoch ∙ epoch; phase = q_phase; word = ap (λ n. crossing_word n 1) epoch; spare = q_log })));
+      handshake = subst (IsHandshake w.config w.epoch q (crossing_word (p.epoch + 1) WithMutator) b) (sym due)
+          (inr (inl (record { epoch = ap (λ n. n + 1) q_epoch ∙ epoch; phase = q_phase; word = ap (λ n. crossing_word n WithMutator) epoch; spare = q_log })));
     } in
     let amid = crossing_amid w t q b crossings (in_list w t kept is) (boxed w t kept is) p.epoch epoch unapplied at_p at_q q_registers behind.spare q_log left in
     let drops = crossing_drops w t q b crossings (in_list w t kept is) (boxed w t kept is) p.epoch last actor.unwritten behind.spare q_log left in
@@ -164,8 +165,8 @@ taken_kept w t kept is busy may phase =
       config = kept.config;
       headers = kept.headers;
       labels = kept.labels;
-      mutators = subst (λ (n : ℕ). HasMutators w.config w.epoch w.collector.phase (slice_set w.mutators (t - 1) q) (slice_set w.crossing (n - 1) (crossing_word (p.epoch + 1) 1)) (slice_set w.boxes (t - 1) b)) (sym number)
-          (others_stay t q (crossing_word (p.epoch + 1) 1) b kept.mutators is q_actor);
+      mutators = subst (λ (n : ℕ). HasMutators w.config w.epoch w.collector.phase (slice_set w.mutators (t - 1) q) (slice_set w.crossing (n - 1) (crossing_word (p.epoch + 1) WithMutator)) (slice_set w.boxes (t - 1) b)) (sym number)
+          (others_stay t q (crossing_word (p.epoch + 1) WithMutator) b kept.mutators is q_actor);
       collector = kept.collector;
       sweeps = kept.sweeps;
       scans = scans_stay w t q w.headers kept is (subst (IsScanning w.config.slots w.headers w.freed) (sym q_phase) tt) (λ s taken. taken);
@@ -203,17 +204,17 @@ given_kept w t kept is busy may phase same =
     let at_p : epoch_at p ≡ p.epoch + 1 = ap (λ (b : Bool). if b then p.epoch + 1 else p.epoch) gives_ in
     let at_q : epoch_at q ≡ p.epoch + 1 = ap (λ (b : Bool). if b then q.epoch + 1 else q.epoch) (ap is_giving q_phase) ∙ q_epoch in
     let number : p.number ≡ t = actor.own.number in
-    let crossings : List ℕ = slice_set w.crossing (p.number - 1) (crossing_word (p.epoch + 1) 2) in
+    let crossings : List ℕ = slice_set w.crossing (p.number - 1) (crossing_word (p.epoch + 1) Retired) in
     let v : Core = record (with_mutator w t q) { crossing = crossings } in
     let own : IsOwn w.config t q = own_stepped actor.own (its_box w t kept is) may (step_made p word (box w t) busy actor.own.between) (subst HasLabelAt (sym q_phase) tt) in
-    let q_actor : IsActor w.config w.epoch w.collector.phase t q (crossing_word (p.epoch + 1) 2) (box w t)
+    let q_actor : IsActor w.config w.epoch w.collector.phase t q (crossing_word (p.epoch + 1) Retired) (box w t)
     = record {
       own = own;
       log = subst (λ (e : ℕ). IsBufferOf w.config e q.log) (at_p ∙ sym at_q) (subst (IsBufferOf w.config (epoch_at p)) (sym q_log) actor.log);
       unwritten = ap (λ (x : Contents). named x.snapshot) q_log ∙ actor.unwritten;
       mailbox = actor.mailbox;
-      handshake = subst (IsHandshake w.config w.epoch q (crossing_word (p.epoch + 1) 2) (box w t)) (sym due)
-          (inr (inr (record { epoch = q_epoch ∙ epoch; word = ap (λ n. crossing_word n 2) epoch; settled = subst IsSettledIn (sym q_phase) tt })));
+      handshake = subst (IsHandshake w.config w.epoch q (crossing_word (p.epoch + 1) Retired) (box w t)) (sym due)
+          (inr (inr (record { epoch = q_epoch ∙ epoch; word = ap (λ n. crossing_word n Retired) epoch; settled = subst IsSettledIn (sym q_phase) tt })));
     } in
     let quiet : pending v ≡ pending w = same_pending w t q q_log q_registers (at_q ∙ sym at_p) in
     let made : ℕ → Contents → ℕ = λ e x. (e - w.config.first_epoch) * w.config.log_entries + length x.entries in
@@ -222,9 +223,9 @@ given_kept w t kept is busy may phase same =
       config = kept.config;
       headers = kept.headers;
       labels = kept.labels;
-      mutators = subst (λ (n : ℕ). HasMutators w.config w.epoch w.collector.phase (slice_set w.mutators (t - 1) q) (slice_set w.crossing (n - 1) (crossing_word (p.epoch + 1) 2)) w.boxes) (sym number)
-          (subst (λ (bs : List Contents). HasMutators w.config w.epoch w.collector.phase (slice_set w.mutators (t - 1) q) (slice_set w.crossing (t - 1) (crossing_word (p.epoch + 1) 2)) bs) (set-get_or w.boxes (t - 1) (blank 0 0))
-          (others_stay t q (crossing_word (p.epoch + 1) 2) (box w t) kept.mutators is q_actor));
+      mutators = subst (λ (n : ℕ). HasMutators w.config w.epoch w.collector.phase (slice_set w.mutators (t - 1) q) (slice_set w.crossing (n - 1) (crossing_word (p.epoch + 1) Retired)) w.boxes) (sym number)
+          (subst (λ (bs : List Contents). HasMutators w.config w.epoch w.collector.phase (slice_set w.mutators (t - 1) q) (slice_set w.crossing (t - 1) (crossing_word (p.epoch + 1) Retired)) bs) (set-get_or w.boxes (t - 1) (blank 0 0))
+          (others_stay t q (crossing_word (p.epoch + 1) Retired) (box w t) kept.mutators is q_actor));
       collector = kept.collector;
       sweeps = kept.sweeps;
       scans = scans_stay w t q w.headers kept is (subst (IsScanning w.config.slots w.headers w.freed) (sym q_phase) tt) (λ s taken. taken);

@@ -4,6 +4,7 @@ use Rattle.std.specs.List.{concat}
 use Rattle.std.proofs.lemmas.List.{get_or-set_same, get_or-set_other, set_past, get_or_past}
 use Rattle.std.proofs.lemmas.Bool.{cases_lt, lt-ltb, ltb-true}
 use Rattle.std.proofs.lemmas.Bool.Decides.{eqb_tells}
+use Rattle.rec_word.specs.Word.{is_slot}
 use Rattle.rec_model.specs.Sums.{sum_at}
 use Rattle.rec_model.specs.Pending.{Pending}
 use Rattle.rec_model.specs.Moves as moves
@@ -16,7 +17,7 @@ use Rattle.rec_counts.specs.Counts.{State, slot_at, with_slot}
 use Rattle.rec_counts.specs.Lists.{one, times}
 use Rattle.rec_counts.specs.Slot.{absent, raised}
 use Rattle.rec_log.specs.declared.contents.Contents.{Contents}
-use Rattle.rec_apply.specs.Targets.{added, named, is_slot}
+use Rattle.rec_apply.specs.Targets.{added, named}
 use Rattle.rec_apply.specs.Batch.{all_down, all_up, batch, counted_down, counted_up, down_targets, up_targets}
 use Rattle.rec_apply.proofs.Naming.{added_is, named-nil, named-cons}
 use Rattle.rec_core.specs.Cycles.{is_member, is_member_of, word_loaded, word_seen, SetsWait, SetsTest}

@@ -3,7 +3,7 @@ use Rattle.std.proofs.Common.{◌≡◌, ◌≢◌, inl, inr, ℕ, zero, suc, �
 use Rattle.std.specs.List.{range_with_len}
 use Rattle.std.proofs.lemmas.Bool.{cases_eq}
 use Rattle.std.proofs.lemmas.Nat.{div-mul-add, mod-mul-add}
-use Rattle.rec_word.specs.Word.{target_of, slot_of_bits}
+use Rattle.rec_word.specs.Word.{target_of, predecessor}
 use Rattle.rec_counts.specs.Counts.{State, slot_at}
 use Rattle.rec_counts.specs.Lists.{times}
 use Rattle.rec_model.specs.Sums.{one_if_same, sum_at}
@@ -55,7 +55,7 @@ node_code x word = grind arith
 
 node_leads : (x word : ℕ) → node_of word ≡ suc x → target_of word ≡ Some x
 unfolding node_of
-node_leads x word e = ap slot_of_bits e ∙ bits_suc x
+node_leads x word e = ap predecessor e ∙ bits_suc x
 
 module _ (loads : List Load) (x : ℕ) where
   -- counted where the word that was loaded from the field leads to the slot

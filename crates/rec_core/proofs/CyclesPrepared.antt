@@ -8,7 +8,7 @@ use Rattle.std.proofs.lemmas.List.{get_or_past}
 use Rattle.std.proofs.lemmas.List.Elements.{All-nil, All-cons, All-head, All-tail, All-append}
 use Rattle.std.proofs.lemmas.List.Sums.{sum_by-cons}
 use Rattle.std.proofs.lemmas.Nat.{div-mul-add}
-use Rattle.rec_word.specs.Word.{target_of}
+use Rattle.rec_word.specs.Word.{target_of, is_slot}
 use Rattle.rec_model.specs.Sums.{only_if, one_if_same, sum_at}
 use Rattle.rec_model.specs.Pending.{node_of, home, Pending}
 use Rattle.rec_model.specs.Sets.{seen_in}
@@ -23,7 +23,7 @@ use Rattle.rec_counts.specs.Slot.{is_in}
 use Rattle.rec_counts.proofs.Keeping.{members_once}
 use Rattle.rec_counts.proofs.Times.{times-nil, times-cons, times-append, one-same, one-le, in_range_once}
 use Rattle.rec_sigma.specs.declared.at.At.{At}
-use Rattle.rec_sigma.specs.Prepared.{Load, PreparedTo, leads_to, loaded_at, place_loaded, places_from, places_of, seen}
+use Rattle.rec_sigma.specs.Prepared.{Load, PreparedTo, loaded_at, place_loaded, places_from, places_of, seen}
 use Rattle.rec_core.specs.Cycles.{AreFields, is_member_of, word_seen, SetsStand, SetsWait}
 
 pub fields_begun : (fields : ℕ) → AreFields fields []
@@ -109,13 +109,13 @@ unloaded fields (l ∷ loads) p none = go (eqb p (place_loaded fields l)) refl (
     go false e behind = behind (omega (arith, both))
 
 -- a word leads to a slot just where it names its node
-leads_names : (word x : ℕ) → one (leads_to x (target_of word)) ≡ one_if_same (x + 1) (node_of word)
+leads_names : (word x : ℕ) → one (is_slot x (target_of word)) ≡ one_if_same (x + 1) (node_of word)
 unfolding node_of
 leads_names word x = grind (arith, nat_tests)
 
 -- counted where the load was of a field of one of these slots and its word leads to this one
 abbrev leading : (x : ℕ) (chosen : ℕ → Bool) → Load → ℕ
-leading x chosen l = one (leads_to x (target_of l.word) && chosen l.slot)
+leading x chosen l = one (is_slot x (target_of l.word) && chosen l.slot)
 
 -- counted where the field is of one of these slots, and the word that was seen there leads to this one
 abbrev seen_at : (fields x : ℕ) (chosen : ℕ → Bool) (loads : List Load) → ℕ → ℕ
@@ -134,7 +134,7 @@ module _ (fields x : ℕ) (chosen : ℕ → Bool) (l : Load) (loads : List Load)
   gained_there : leading x chosen l ≡ gained x chosen l.word fields (place_loaded fields l)
   gained_there =
       let e : chosen (home fields (place_loaded fields l) - 1) ≡ chosen l.slot = ap chosen (slot_of_load fields l below) in
-      rw e (both (leads_to x (target_of l.word)) (chosen l.slot) (leads_names l.word x))
+      rw e (both (is_slot x (target_of l.word)) (chosen l.slot) (leads_names l.word x))
     where
       both : (a b : Bool) → one a ≡ one_if_same (x + 1) (node_of l.word) → one (a && b) ≡ only_if b (one_if_same (x + 1) (node_of l.word))
       both true true e = e

@@ -6,7 +6,9 @@ use Rattle.std.proofs.lemmas.Bool.Decides.{nat_tests}
 use Rattle.std.proofs.lemmas.List.{set-get_or, get_or-set_other, get_or_past}
 use Rattle.std.proofs.lemmas.List.Elements.{Contains-append_left, Contains-append_right, Contains-append_cases, Contains-get_or}
 use Rattle.std.proofs.lemmas.List.Sums.{sum_by-cons, sum_by-set}
-use Rattle.rec_word.specs.Op.{written, crossing_word}
+use Rattle.rec_word.specs.Mailbox.{crossing_word}
+use Rattle.rec_word.specs.declared.mailbox.Mailbox.TheVariants.{Retired}
+use Rattle.rec_word.specs.Op.{written}
 use Rattle.rec_word.specs.Place.{place_of}
 use Rattle.rec_word.specs.declared.op.Op.{Op}
 use Rattle.rec_word.specs.declared.op.Op.TheVariants as ops
@@ -350,15 +352,7 @@ op_goes w v (ops.ClearField x) epoch place slots fields mutators is names = elim
 ]
 op_goes w v (ops.FreeHeader x) epoch place slots fields mutators is names = Goes.stays (ap (λ ws. slice_index_or ws place 0) is)
 op_goes w v ops.AddFreed epoch place slots fields mutators is names = Goes.stays (ap (λ ws. slice_index_or ws place 0) is)
-op_goes w v (ops.LoadField x) epoch place slots fields mutators is names = absurd names
-op_goes w v (ops.SwapField x y) epoch place slots fields mutators is names = absurd names
-op_goes w v (ops.LoadHeader x) epoch place slots fields mutators is names = absurd names
-op_goes w v ops.LoadEpoch epoch place slots fields mutators is names = absurd names
-op_goes w v (ops.LoadCross t) epoch place slots fields mutators is names = absurd names
-op_goes w v (ops.ClaimHeader x l) epoch place slots fields mutators is names = absurd names
-op_goes w v ops.LoadFreed epoch place slots fields mutators is names = absurd names
-op_goes w v (ops.TakeBox t e) epoch place slots fields mutators is names = absurd names
-op_goes w v (ops.GiveBox t e) epoch place slots fields mutators is names = absurd names
+op_goes w v _ epoch place slots fields mutators is names = absurd names
 
 -- a turn of the collector
 module _ (w : Core) (op : Op) (kept : IsKept w) (named : ◌≡◌ {A = Option Op} (collectors_next.next_of w.collector) (Some op)) where
@@ -395,7 +389,7 @@ module _ (w : Core) (op : Op) (kept : IsKept w) (named : ◌≡◌ {A = Option O
   rows_keep boxes (Rows.turned_rows newer older) g early = omega (arith, writes_sum g v, writes_sum g w, ap (sum_by (wrote g)) boxes, ap (sum_by (wrote g)) newer, ap (sum_by (wrote g)) older, cleared_none g c.older, older_none g early)
 
   -- a mailbox is gathered: its buffer is one of the newer ones, in the place of a spare
-  gathered_keep : (t : ℕ) → c.phase ≡ Looking t → found ≡ crossing_word c.epoch 2 → q.newer ≡ slice_set c.newer (t - 1) its_box → q.older ≡ c.older → (g : Write → ℕ) → sum_by g (writes_of w) ≤ sum_by g (writes_of v)
+  gathered_keep : (t : ℕ) → c.phase ≡ Looking t → found ≡ crossing_word c.epoch Retired → q.newer ≡ slice_set c.newer (t - 1) its_box → q.older ≡ c.older → (g : Write → ℕ) → sum_by g (writes_of w) ≤ sum_by g (writes_of v)
   gathered_keep t at crossed newer older g =
       let now = now_at w (Looking t) kept at in
       let many : length c.newer ≡ w.config.mutators = kept.collector.mutators in
@@ -404,7 +398,7 @@ module _ (w : Core) (op : Op) (kept : IsKept w) (named : ◌≡◌ {A = Option O
       let there : t ≤ length c.newer = now.there in
       let looked : looked_at c.phase ≡ t = ap looked_at at in
       let b : its_box ≡ box w t = ap (box w) looked in
-      let left : left_by c found its_box c.phase ≡ collectors.spare c = ap (left_by c found its_box) at ∙ cond-true (found == crossing_word c.epoch 2) _ _ (eq-eqb found (crossing_word c.epoch 2) crossed) in
+      let left : left_by c found its_box c.phase ≡ collectors.spare c = ap (left_by c found its_box) at ∙ cond-true (found == crossing_word c.epoch Retired) _ _ (eq-eqb found (crossing_word c.epoch Retired) crossed) in
       let filled : v.boxes ≡ slice_set w.boxes (t - 1) (collectors.spare c) = ap (λ n. slice_set w.boxes (n - 1) (left_by c found its_box c.phase)) looked ∙ ap (slice_set w.boxes (t - 1)) left in
       let was : slice_index_or c.newer (t - 1) (collectors.blank 0 0) ≡ collectors.spare c = now.spares (t - 1) (omega arith) (omega (arith, first, there)) in
       omega (
@@ -422,7 +416,7 @@ module _ (w : Core) (op : Op) (kept : IsKept w) (named : ◌≡◌ {A = Option O
   writes_keep : {turn : Turn} → collectors_step.Step c found its_box (Some op) q turn → (g : Write → ℕ) → ((x : Write) → epoch_of x.new < tried_in w → g x ≡ 0) → sum_by g (writes_of w) ≤ sum_by g (writes_of v)
   writes_keep (collectors_step.Step.spent at last none is turn) = let n : ◌≡◌ {A = Option Op} (Some op) None = none in absurd (cc)
   writes_keep (collectors_step.Step.request at more is g) = rows_keep (boxes_stay at refl) (Rows.kept_rows (ap (λ (x : collectors.Private). x.newer) g.after) (ap (λ (x : collectors.Private). x.older) g.after))
-  writes_keep (collectors_step.Step.wait t at other is same turn) = rows_keep (boxes_stay at (cond-false (found == crossing_word c.epoch 2) _ _ (ne_eqb found (crossing_word c.epoch 2) other))) (Rows.kept_rows (ap (λ (x : collectors.Private). x.newer) same) (ap (λ (x : collectors.Private). x.older) same))
+  writes_keep (collectors_step.Step.wait t at other is same turn) = rows_keep (boxes_stay at (cond-false (found == crossing_word c.epoch Retired) _ _ (ne_eqb found (crossing_word c.epoch Retired) other))) (Rows.kept_rows (ap (λ (x : collectors.Private). x.newer) same) (ap (λ (x : collectors.Private). x.older) same))
   writes_keep (collectors_step.Step.gather t at crossed is g) = λ weight early. gathered_keep t at crossed (ap (λ (x : collectors.Private). x.newer) g.after) (ap (λ (x : collectors.Private). x.older) g.after) weight
   writes_keep (collectors_step.Step.give_back t at other is g) = rows_keep (boxes_stay at refl) (Rows.kept_rows (ap (λ (x : collectors.Private). x.newer) g.after) (ap (λ (x : collectors.Private). x.older) g.after))
   writes_keep (collectors_step.Step.apply t at last is on) = rows_keep (boxes_stay at refl) (clears_rows c q _ on)

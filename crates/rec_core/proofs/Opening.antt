@@ -7,6 +7,8 @@ use Rattle.std.proofs.lemmas.List.{get_or_past, get_or-replicate, get_or-set_sam
 use Rattle.std.proofs.lemmas.List.Elements.{All-nil, All-from_get_or}
 use Rattle.std.proofs.lemmas.List.Folds.{sum_by-replicate}
 use Rattle.std.proofs.lemmas.List.Sums.{sum_by-cons, sum_by-append}
+use Rattle.rec_word.specs.Mailbox.{crossing_word}
+use Rattle.rec_word.specs.declared.mailbox.Mailbox.TheVariants.{Spare}
 use Rattle.rec_model.specs.Accounted.{is_wrong_register, is_late_snapshot}
 use Rattle.rec_model.specs.Opened.{IsOpening}
 use Rattle.rec_model.specs.Pending.{Write, Dated, dated}
@@ -53,7 +55,7 @@ own_kept config t is there =
     }
 
 -- its crossing word and its mailbox
-actor_kept : (config : Config) (t : ℕ) → IsConfig config → IsMutator config t → IsActor config config.first_epoch Idle t (opened_mutator config t) (4 * config.first_epoch) (spare_of config)
+actor_kept : (config : Config) (t : ℕ) → IsConfig config → IsMutator config t → IsActor config config.first_epoch Idle t (opened_mutator config t) (crossing_word config.first_epoch Spare) (spare_of config)
 actor_kept config t is there =
     record {
       own = own_kept config t is there;
@@ -81,8 +83,8 @@ each_kept : (config : Config) (t : ℕ) → IsConfig config → IsMutator config
 each_kept config t is there =
     let at = place_there config t there in
     subst (λ (p : Private). IsActor config config.first_epoch Idle t p (slice_index_or (opened config).crossing (t - 1) 0) (slice_index_or (opened config).boxes (t - 1) (collectors.blank 0 0))) (sym (one_of config t there))
-    (subst (λ (n : ℕ). IsActor config config.first_epoch Idle t (opened_mutator config t) n (slice_index_or (opened config).boxes (t - 1) (collectors.blank 0 0))) (sym (get_or-replicate config.mutators (t - 1) (4 * config.first_epoch) 0 at))
-    (subst (λ (b : Contents). IsActor config config.first_epoch Idle t (opened_mutator config t) (4 * config.first_epoch) b) (sym (get_or-replicate config.mutators (t - 1) (spare_of config) (collectors.blank 0 0) at))
+    (subst (λ (n : ℕ). IsActor config config.first_epoch Idle t (opened_mutator config t) n (slice_index_or (opened config).boxes (t - 1) (collectors.blank 0 0))) (sym (get_or-replicate config.mutators (t - 1) (crossing_word config.first_epoch Spare) 0 at))
+    (subst (λ (b : Contents). IsActor config config.first_epoch Idle t (opened_mutator config t) (crossing_word config.first_epoch Spare) b) (sym (get_or-replicate config.mutators (t - 1) (spare_of config) (collectors.blank 0 0) at))
     (actor_kept config t is there)))
 
 -- the collector
@@ -274,7 +276,7 @@ opened_kept config is =
       labels = All-from_get_or (λ header. header ≤ 2 ^ 32) (1 ∷ replicate (config.slots - 1) 0) 0 (λ i there. small_header config.slots i);
       mutators = record {
         many = length-opened config config.mutators;
-        words = length-replicate config.mutators (4 * config.first_epoch);
+        words = length-replicate config.mutators (crossing_word config.first_epoch Spare);
         mailboxes = length-replicate config.mutators (spare_of config);
         each = λ t there. each_kept config t is there;
       };

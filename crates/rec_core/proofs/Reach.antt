@@ -211,19 +211,7 @@ taken_keeps w p (ops.ClaimHeader s label) slot f taken = elim (cases_eq slot s) 
 ]
 taken_keeps w p (ops.LoadHeader s) slot f taken = ap (λ xs. slice_index_or xs slot 0) (set-get_or w.headers s 0)
 taken_keeps w p (ops.FreeHeader s) slot f taken = absurd f
-taken_keeps w p (ops.LoadField place) slot f taken = refl
-taken_keeps w p (ops.SwapField place word) slot f taken = refl
-taken_keeps w p ops.LoadEpoch slot f taken = refl
-taken_keeps w p (ops.LoadCross t) slot f taken = refl
-taken_keeps w p ops.LoadFreed slot f taken = refl
-taken_keeps w p (ops.LoadChild place) slot f taken = refl
-taken_keeps w p (ops.ClearField place) slot f taken = refl
-taken_keeps w p (ops.TakeBox t e) slot f taken = refl
-taken_keeps w p (ops.GiveBox t e) slot f taken = refl
-taken_keeps w p (ops.StoreEpoch e) slot f taken = refl
-taken_keeps w p (ops.LookBox t e) slot f taken = refl
-taken_keeps w p (ops.ReturnBox t e) slot f taken = refl
-taken_keeps w p ops.AddFreed slot f taken = refl
+taken_keeps w p _ slot f taken = refl
 
 -- No step of a mutator claims or frees a slot that is taken.
 pub steps_keep_taken : (w : Core) (t slot : ℕ) → IsTaken (sight w) slot → slice_index_or (stepped w t).headers slot 0 ≡ slice_index_or w.headers slot 0

@@ -2,7 +2,8 @@
 use Rattle.std.proofs.Common.{◌≡◌, ◌≢◌, ℕ, ◌+◌, ◌-◌, List, slice_set, sym, ap, subst, ◌∙◌, add-zero}
 use Rattle.std.proofs.lemmas.Bool.{eq-eqb, ne_eqb}
 use Rattle.std.proofs.lemmas.List.{set-get_or}
-use Rattle.rec_word.specs.Op.{crossing_word}
+use Rattle.rec_word.specs.Mailbox.{crossing_word}
+use Rattle.rec_word.specs.declared.mailbox.Mailbox.TheVariants.{Retired, WithMutator}
 use Rattle.rec_word.specs.declared.op.Op.{Op}
 use Rattle.rec_word.specs.declared.op.Op.TheVariants as ops
 use Rattle.rec_log.specs.declared.contents.Contents.{Contents}
@@ -71,10 +72,10 @@ after_claim P w t slot label word q op is free p = subst (λ o. P (performed w t
 
 -- what holds with crossing word, mutator and mailbox replaced holds after the mailbox was taken
 pub after_take : (P : Core → Type 0) (w : Core) (t n epoch word : ℕ) (q : Private) (b : Contents) (op : Op) → op ≡ ops.TakeBox n epoch
-    → P (record (with_mutator w t q) { crossing = slice_set w.crossing (n - 1) (crossing_word epoch 1); boxes = slice_set w.boxes (t - 1) b }) → P (performed w t op word q b)
+    → P (record (with_mutator w t q) { crossing = slice_set w.crossing (n - 1) (crossing_word epoch WithMutator); boxes = slice_set w.boxes (t - 1) b }) → P (performed w t op word q b)
 after_take P w t n epoch word q b op is p = subst (λ o. P (performed w t o word q b)) (sym is) (rw (add-zero w.made) p)
 
 -- after it was given back
 pub after_give : (P : Core → Type 0) (w : Core) (t n epoch word : ℕ) (q : Private) (op : Op) → op ≡ ops.GiveBox n epoch
-    → P (record (with_mutator w t q) { crossing = slice_set w.crossing (n - 1) (crossing_word epoch 2) }) → P (performed w t op word q (box w t))
+    → P (record (with_mutator w t q) { crossing = slice_set w.crossing (n - 1) (crossing_word epoch Retired) }) → P (performed w t op word q (box w t))
 after_give P w t n epoch word q op is p = subst (λ o. P (performed w t o word q (box w t))) (sym is) (rw (same_box w t, add-zero w.made) p)

@@ -7,7 +7,8 @@ use Rattle.std.proofs.lemmas.Bool.{false≢true, cases_eq, cases_lt}
 use Rattle.std.proofs.lemmas.List.{map-set, get_or-set_same, get_or-set_other, get_or_past, get_or_default}
 use Rattle.std.proofs.lemmas.List.Sums.{sum_by-set}
 use Rattle.std.proofs.lemmas.Nat.{same_from_place}
-use Rattle.rec_word.specs.Op.{crossing_word}
+use Rattle.rec_word.specs.Mailbox.{crossing_word}
+use Rattle.rec_word.specs.declared.mailbox.Mailbox.TheVariants.{Spare}
 use Rattle.rec_word.specs.Place.{place_of}
 use Rattle.rec_word.specs.Word.{target_of}
 use Rattle.rec_word.specs.declared.op.Op.{Op}
@@ -353,6 +354,6 @@ about_to_cross {w = w} {t = t} {word = word} {q = q} m other g =
       unwritten = ap (λ (b : Contents). named b.snapshot) log ∙ actor.unwritten;
       mailbox = actor.mailbox;
       handshake = subst (IsHandshake w.config w.epoch q (crossing_of w t) (box w t)) (sym due)
-          (inl (record { epoch = ap (λ n. n + 1) epoch ∙ behind.epoch; word = behind.word ∙ ap (λ n. crossing_word n 0) (sym epoch); here = stays; spare = behind.spare }));
+          (inl (record { epoch = ap (λ n. n + 1) epoch ∙ behind.epoch; word = behind.word ∙ ap (λ n. crossing_word n Spare) (sym epoch); here = stays; spare = behind.spare }));
     })
     log (ap (λ (x : Private). x.registers) g.after) (subst (IsScanning w.config.slots w.headers w.freed) (sym phase) tt)

@@ -3,7 +3,9 @@ use Rattle.std.proofs.Common.{◌≡◌, ℕ, ◌+◌, ◌-◌, ◌*◌, ◌%◌
 use Rattle.std.specs.List.{slice_get}
 use Rattle.std.proofs.lemmas.Bool.{eq-eqb, ne_eqb, cond-true, cond-false}
 use Rattle.std.proofs.lemmas.List.{set-get_or}
-use Rattle.rec_word.specs.Op.{written, crossing_word}
+use Rattle.rec_word.specs.Mailbox.{crossing_word}
+use Rattle.rec_word.specs.declared.mailbox.Mailbox.TheVariants.{Retired, Spare, WithCollector}
+use Rattle.rec_word.specs.Op.{written}
 use Rattle.rec_word.specs.Place.{place_of}
 use Rattle.rec_word.specs.declared.op.Op.{Op}
 use Rattle.rec_word.specs.declared.op.Op.TheVariants as ops
@@ -96,8 +98,8 @@ rule_kept w op word q turn m (Step.request idle more named g) =
 rule_kept w op word q turn m (Step.wait t looking other named same answer) =
     let its : op ≡ ops.LookBox t w.collector.epoch = some_op op (ops.LookBox t w.collector.epoch) named in
     let at : word ≡ slice_index_or w.crossing (t - 1) 0 = m.found ∙ ap (cell (cells_of w)) its in
-    let left : left_by w.collector word (box w t) (Looking t) ≡ box w t = cond-false (word == crossing_word w.collector.epoch 2) (collectors.spare w.collector) (box w t) (ne_eqb word (crossing_word w.collector.epoch 2) other) in
-    let stays : written (ops.LookBox t w.collector.epoch) word ≡ word = cond-false (word == crossing_word w.collector.epoch 2) (crossing_word w.collector.epoch 3) word (ne_eqb word (crossing_word w.collector.epoch 2) other) in
+    let left : left_by w.collector word (box w t) (Looking t) ≡ box w t = cond-false (word == crossing_word w.collector.epoch Retired) (collectors.spare w.collector) (box w t) (ne_eqb word (crossing_word w.collector.epoch Retired) other) in
+    let stays : written (ops.LookBox t w.collector.epoch) word ≡ word = cond-false (word == crossing_word w.collector.epoch Retired) (crossing_word w.collector.epoch WithCollector) word (ne_eqb word (crossing_word w.collector.epoch Retired) other) in
     let crossing : slice_set w.crossing (t - 1) (written (ops.LookBox t w.collector.epoch) word) ≡ w.crossing = ap (slice_set w.crossing (t - 1)) (stays ∙ at) ∙ set-get_or w.crossing (t - 1) 0 in
     subst IsKept (sym (plain_left w op word q (Looking t) looking left))
     (subst (λ o. IsKept (record (collected w o word q (box w 1)) { boxes = w.boxes })) (sym its)
@@ -108,10 +110,10 @@ rule_kept w op word q turn m (Step.gather t looking crossed named g) =
     let epoch : w.collector.epoch ≡ w.epoch = m.kept.collector.epoch in
     let now = now_at w (Looking t) m.kept looking in
     let is : IsMutator w.config t = mutator_at w t (Looking t) m.kept looking (now.first, now.there) in
-    let has : crossing_of w t ≡ crossing_word w.epoch 2 = sym at ∙ crossed ∙ ap (λ n. crossing_word n 2) epoch in
-    let b : Bool = word == crossing_word w.collector.epoch 2 in
-    let yes : b ≡ true = eq-eqb word (crossing_word w.collector.epoch 2) crossed in
-    let next : written (ops.LookBox t w.collector.epoch) word ≡ crossing_word w.epoch 3 = cond-true b (crossing_word w.collector.epoch 3) word yes ∙ ap (λ n. crossing_word n 3) epoch in
+    let has : crossing_of w t ≡ crossing_word w.epoch Retired = sym at ∙ crossed ∙ ap (λ n. crossing_word n Retired) epoch in
+    let b : Bool = word == crossing_word w.collector.epoch Retired in
+    let yes : b ≡ true = eq-eqb word (crossing_word w.collector.epoch Retired) crossed in
+    let next : written (ops.LookBox t w.collector.epoch) word ≡ crossing_word w.epoch WithCollector = cond-true b (crossing_word w.collector.epoch WithCollector) word yes ∙ ap (λ n. crossing_word n WithCollector) epoch in
     let after : q ≡ record w.collector { newer = slice_set w.collector.newer (t - 1) (box w t); phase = Returning t; turns = w.collector.turns + 1 }
     = g.after ∙ ap (λ (phase : Phase). record w.collector { newer = slice_set w.collector.newer (t - 1) (box w (looked_at phase)); phase = Returning t; turns = w.collector.turns + 1 }) looking in
     let whole = gathered_kept w t m.kept looking is has (subst collector_kept.IsMachine after m.machine) in
@@ -120,7 +122,7 @@ rule_kept w op word q turn m (Step.gather t looking crossed named g) =
     (subst (λ o. IsKept (collected (record w { collector = record w.collector { phase = Looking t } }) o word q (left_by w.collector word (box w t) (Looking t)))) (sym its)
     (subst (λ (x : Contents). IsKept (record w { crossing = slice_set w.crossing (t - 1) (written (ops.LookBox t w.collector.epoch) word); boxes = slice_set w.boxes (t - 1) x; collector = q })) (sym (cond-true b (collectors.spare w.collector) (box w t) yes))
     (subst (λ (n : ℕ). IsKept (record w { crossing = slice_set w.crossing (t - 1) n; boxes = slice_set w.boxes (t - 1) (collectors.spare w.collector); collector = q })) (sym next)
-    (subst (λ x. IsKept (record w { crossing = slice_set w.crossing (t - 1) (crossing_word w.epoch 3); boxes = slice_set w.boxes (t - 1) (collectors.spare w.collector); collector = x })) (sym after) whole))))
+    (subst (λ x. IsKept (record w { crossing = slice_set w.crossing (t - 1) (crossing_word w.epoch WithCollector); boxes = slice_set w.boxes (t - 1) (collectors.spare w.collector); collector = x })) (sym after) whole))))
 rule_kept w op word q turn m (Step.give_back t returning more named g) =
     let its : op ≡ ops.ReturnBox t w.collector.epoch = some_op op (ops.ReturnBox t w.collector.epoch) named in
     let epoch : w.collector.epoch ≡ w.epoch = m.kept.collector.epoch in
@@ -129,15 +131,15 @@ rule_kept w op word q turn m (Step.give_back t returning more named g) =
     let whole = returned_kept w t m.kept returning is (subst collector_kept.IsMachine g.after m.machine) in
     subst IsKept (sym (plain_left w op word q (Returning t) returning refl))
     (subst (λ o. IsKept (record (collected w o word q (box w 1)) { boxes = w.boxes })) (sym its)
-    (subst (λ n. IsKept (record w { crossing = slice_set w.crossing (t - 1) (crossing_word n 0); collector = q })) (sym epoch)
-    (subst (λ x. IsKept (record w { crossing = slice_set w.crossing (t - 1) (crossing_word w.epoch 0); collector = x })) (sym g.after) whole)))
+    (subst (λ n. IsKept (record w { crossing = slice_set w.crossing (t - 1) (crossing_word n Spare); collector = q })) (sym epoch)
+    (subst (λ x. IsKept (record w { crossing = slice_set w.crossing (t - 1) (crossing_word w.epoch Spare); collector = x })) (sym g.after) whole)))
 rule_kept w op word q turn m (Step.apply t returning last named on) =
     let its : op ≡ ops.ReturnBox t w.collector.epoch = some_op op (ops.ReturnBox t w.collector.epoch) named in
     let epoch : w.collector.epoch ≡ w.epoch = m.kept.collector.epoch in
-    let whole = clears_kept w (slice_set w.crossing (t - 1) (crossing_word w.epoch 0)) w.words q m.machine turn (applied_lands w t m.kept returning last) on in
+    let whole = clears_kept w (slice_set w.crossing (t - 1) (crossing_word w.epoch Spare)) w.words q m.machine turn (applied_lands w t m.kept returning last) on in
     subst IsKept (sym (plain_left w op word q (Returning t) returning refl))
     (subst (λ o. IsKept (record (collected w o word q (box w 1)) { boxes = w.boxes })) (sym its)
-    (subst (λ n. IsKept (record w { crossing = slice_set w.crossing (t - 1) (crossing_word n 0); collector = q })) (sym epoch) whole))
+    (subst (λ n. IsKept (record w { crossing = slice_set w.crossing (t - 1) (crossing_word n Spare); collector = q })) (sym epoch) whole))
 rule_kept w op word q turn m (Step.release releasing named on) = go w.collector.release.at refl
   where
     go : (x : Option At) → w.collector.release.at ≡ x → IsKept (collected w op word q (left_by w.collector word (box w (looked_at w.collector.phase)) w.collector.phase))

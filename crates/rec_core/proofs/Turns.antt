@@ -5,7 +5,8 @@ use Rattle.std.specs.List.{sum_by, flat_map}
 use Rattle.std.proofs.lemmas.Bool.{cases_eq, cases_lt, eq-eqb, ne_eqb, lt-ltb, le-ltb, cond-true, cond-false}
 use Rattle.std.proofs.lemmas.List.{set-get_or, length-set, get_or-set_same, get_or-set_other}
 use Rattle.std.proofs.lemmas.List.Sums.{sum_by-set}
-use Rattle.rec_word.specs.Op.{crossing_word}
+use Rattle.rec_word.specs.Mailbox.{crossing_word}
+use Rattle.rec_word.specs.declared.mailbox.Mailbox.TheVariants.{Retired, Spare, WithCollector, WithMutator}
 use Rattle.rec_model.specs.Accounted.{IsAccounted, HasUncountedReleased}
 use Rattle.rec_model.specs.Moves.{Move, Drops, Requests}
 use Rattle.rec_model.specs.Pending.{Write, Dated, Pending}
@@ -161,7 +162,7 @@ module _ (w : Core) (c : collectors.Private) (kept : IsKept w) (idle : w.collect
                 unwritten = a.unwritten;
                 mailbox = subst (IsBufferOf w.config (w.epoch + 1 - 1)) (sym h.1) (spare_buffer w.config (w.epoch + 1 - 1));
                 handshake = subst (IsHandshake w.config (w.epoch + 1) (mutator w t) (crossing_of w t) (box w t)) (sym due)
-                    (inl (record { epoch = ap (λ n. n + 1) h.0.epoch; word = h.0.word ∙ ap (λ n. crossing_word n 0) (sym h.0.epoch); here = settled_here (mutator w t).phase h.0.settled; spare = h.1 }));
+                    (inl (record { epoch = ap (λ n. n + 1) h.0.epoch; word = h.0.word ∙ ap (λ n. crossing_word n Spare) (sym h.0.epoch); here = settled_here (mutator w t).phase h.0.settled; spare = h.1 }));
               };
         };
         collector = record {
@@ -279,12 +280,12 @@ phase_moves {config = config} {requested = requested} {mutators = mutators} {cro
     }
 
 -- A mutator's mailbox is taken: the buffer in it is one of the newer ones now, and a spare is left.
-module _ (w : Core) (t : ℕ) (kept : IsKept w) (phase : w.collector.phase ≡ Looking t) (is : IsMutator w.config t) (crossed : crossing_of w t ≡ crossing_word w.epoch 2) where
+module _ (w : Core) (t : ℕ) (kept : IsKept w) (phase : w.collector.phase ≡ Looking t) (is : IsMutator w.config t) (crossed : crossing_of w t ≡ crossing_word w.epoch Retired) where
   abbrev gathered_by : collectors.Private
   gathered_by = record w.collector { newer = slice_set w.collector.newer (t - 1) (box w t); phase = Returning t; turns = w.collector.turns + 1 }
 
   abbrev gathered : Core
-  gathered = record w { crossing = slice_set w.crossing (t - 1) (crossing_word w.epoch 3); boxes = slice_set w.boxes (t - 1) (collectors.spare w.collector); collector = gathered_by }
+  gathered = record w { crossing = slice_set w.crossing (t - 1) (crossing_word w.epoch WithCollector); boxes = slice_set w.boxes (t - 1) (collectors.spare w.collector); collector = gathered_by }
 
   looking : collector_kept.IsAt w.collector (Looking t)
   looking = now_at w (Looking t) kept phase
@@ -312,15 +313,15 @@ module _ (w : Core) (t : ℕ) (kept : IsKept w) (phase : w.collector.phase ≡ L
       )
 
   -- it has crossed
-  has_crossed : HasCrossed w.epoch (mutator w t) (crossing_of w t) 2
+  has_crossed : HasCrossed w.epoch (mutator w t) (crossing_of w t) Retired
   has_crossed =
       let actor = kept.mutators.each t is in
       let due : IsHandshake w.config w.epoch (mutator w t) (crossing_of w t) (box w t) Stand.Due
       = subst (IsHandshake w.config w.epoch (mutator w t) (crossing_of w t) (box w t)) (ap (λ p. stand_at p t) phase ∙ stand_own t) actor.handshake in
       elim due [
-        | inl behind ↦ let word : crossing_of w t ≡ crossing_word (mutator w t).epoch 0 = behind.word in absurd (omega (arith, word, crossed))
+        | inl behind ↦ let word : crossing_of w t ≡ crossing_word (mutator w t).epoch Spare = behind.word in absurd (omega (arith, word, crossed))
         | inr others ↦ elim others [
-          | inl crosses ↦ let word : crossing_of w t ≡ crossing_word w.epoch 1 = crosses.word in absurd (omega (arith, word, crossed))
+          | inl crosses ↦ let word : crossing_of w t ≡ crossing_word w.epoch WithMutator = crosses.word in absurd (omega (arith, word, crossed))
           | inr done ↦ done
         ]
       ]
@@ -342,13 +343,13 @@ module _ (w : Core) (t : ℕ) (kept : IsKept w) (phase : w.collector.phase ≡ L
         config = kept.config;
         headers = kept.headers;
         labels = kept.labels;
-        mutators = collector_moves t (crossing_word w.epoch 3) (collectors.spare w.collector) kept.mutators is
+        mutators = collector_moves t (crossing_word w.epoch WithCollector) (collectors.spare w.collector) kept.mutators is
             (record {
               own = a.own;
               log = a.log;
               unwritten = a.unwritten;
               mailbox = subst (IsBufferOf w.config (w.epoch - 1)) (sym (its_spare k)) (spare_buffer w.config (w.epoch - 1));
-              handshake = subst (IsHandshake w.config w.epoch (mutator w t) (crossing_word w.epoch 3) (collectors.spare w.collector)) (sym (stand_held t))
+              handshake = subst (IsHandshake w.config w.epoch (mutator w t) (crossing_word w.epoch WithCollector) (collectors.spare w.collector)) (sym (stand_held t))
                   (record { epoch = has_crossed.epoch; word = refl; settled = has_crossed.settled }, its_spare k);
             })
             (λ s there other. stand_looked t s other ∙ sym (ap (λ p. stand_at p s) phase));
@@ -391,14 +392,14 @@ module _ (w : Core) (t : ℕ) (kept : IsKept w) (phase : w.collector.phase ≡ R
   returned_by = record w.collector { phase = Looking (t + 1); turns = w.collector.turns + 1 }
 
   abbrev returned : Core
-  returned = record w { crossing = slice_set w.crossing (t - 1) (crossing_word w.epoch 0); collector = returned_by }
+  returned = record w { crossing = slice_set w.crossing (t - 1) (crossing_word w.epoch Spare); collector = returned_by }
 
   -- its mailbox is home with a spare
-  pub returned_home : HasCrossed w.epoch (mutator w t) (crossing_of w t) 3 × (box w t ≡ spare_of w.config)
+  pub returned_home : HasCrossed w.epoch (mutator w t) (crossing_of w t) WithCollector × (box w t ≡ spare_of w.config)
   returned_home = subst (IsHandshake w.config w.epoch (mutator w t) (crossing_of w t) (box w t)) (ap (λ p. stand_at p t) phase ∙ stand_held t) (kept.mutators.each t is).handshake
 
   -- and says so
-  pub returned_actor : {next : Phase} → stand_at next t ≡ Stand.Done → IsActor w.config w.epoch next t (mutator w t) (crossing_word w.epoch 0) (box w t)
+  pub returned_actor : {next : Phase} → stand_at next t ≡ Stand.Done → IsActor w.config w.epoch next t (mutator w t) (crossing_word w.epoch Spare) (box w t)
   returned_actor done =
       let a = kept.mutators.each t is in
       record {
@@ -406,14 +407,14 @@ module _ (w : Core) (t : ℕ) (kept : IsKept w) (phase : w.collector.phase ≡ R
         log = a.log;
         unwritten = a.unwritten;
         mailbox = a.mailbox;
-        handshake = subst (IsHandshake w.config w.epoch (mutator w t) (crossing_word w.epoch 0) (box w t)) (sym done) (record { epoch = returned_home.0.epoch; word = refl; settled = returned_home.0.settled }, returned_home.1);
+        handshake = subst (IsHandshake w.config w.epoch (mutator w t) (crossing_word w.epoch Spare) (box w t)) (sym done) (record { epoch = returned_home.0.epoch; word = refl; settled = returned_home.0.settled }, returned_home.1);
       }
 
   pub returned_mutators : {next : Phase} → stand_at next t ≡ Stand.Done → ((s : ℕ) → IsMutator w.config s → s ≢ t → stand_at next s ≡ stand_at w.collector.phase s)
-      → HasMutators w.config w.epoch next w.mutators (slice_set w.crossing (t - 1) (crossing_word w.epoch 0)) w.boxes
+      → HasMutators w.config w.epoch next w.mutators (slice_set w.crossing (t - 1) (crossing_word w.epoch Spare)) w.boxes
   returned_mutators {next} done others =
-      subst (λ (bs : List Contents). HasMutators w.config w.epoch next w.mutators (slice_set w.crossing (t - 1) (crossing_word w.epoch 0)) bs) (same_boxes w t)
-      (collector_moves t (crossing_word w.epoch 0) (box w t) kept.mutators is (returned_actor done) others)
+      subst (λ (bs : List Contents). HasMutators w.config w.epoch next w.mutators (slice_set w.crossing (t - 1) (crossing_word w.epoch Spare)) bs) (same_boxes w t)
+      (collector_moves t (crossing_word w.epoch Spare) (box w t) kept.mutators is (returned_actor done) others)
 
   pub returned_kept : collector_kept.IsMachine returned_by → IsKept returned
   returned_kept machine =

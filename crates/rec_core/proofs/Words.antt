@@ -102,13 +102,7 @@ own_within w t (ops.TakeBox n e) kept is own names = crossing_within w t n kept 
 own_within w t (ops.GiveBox n e) kept is own names = crossing_within w t n kept is (own ∙ (actor_of w t kept is).own.number)
 own_within w t ops.LoadEpoch kept is own names = tt
 own_within w t ops.LoadFreed kept is own names = tt
-own_within w t (ops.LoadChild place) kept is own names = absurd own
-own_within w t (ops.ClearField place) kept is own names = absurd own
-own_within w t (ops.FreeHeader slot) kept is own names = absurd own
-own_within w t (ops.StoreEpoch e) kept is own names = absurd own
-own_within w t (ops.LookBox n e) kept is own names = absurd own
-own_within w t (ops.ReturnBox n e) kept is own names = absurd own
-own_within w t ops.AddFreed kept is own names = absurd own
+own_within w t _ kept is own names = absurd own
 
 -- registers name slots of the heap
 names_slots : (w : Core) (t : ℕ) → IsKept w → IsMutator w.config t → NamesSlots (mutator w t)
@@ -171,15 +165,7 @@ collector_within w (ops.LoadChild place) kept names = subst (λ n. place < n) (f
 collector_within w (ops.ClearField place) kept names = subst (λ n. place < n) (fields_many w (length w.collector.counts.slots) w.collector.release.fields kept kept.collector.slots kept.collector.fields) names
 collector_within w (ops.FreeHeader slot) kept names = subst (λ n. slot < n) (kept.collector.slots ∙ sym kept.headers) names
 collector_within w ops.AddFreed kept names = tt
-collector_within w (ops.LoadField place) kept names = absurd names
-collector_within w (ops.SwapField place word) kept names = absurd names
-collector_within w (ops.LoadHeader slot) kept names = absurd names
-collector_within w ops.LoadEpoch kept names = absurd names
-collector_within w (ops.LoadCross t) kept names = absurd names
-collector_within w (ops.ClaimHeader slot label) kept names = absurd names
-collector_within w ops.LoadFreed kept names = absurd names
-collector_within w (ops.TakeBox t e) kept names = absurd names
-collector_within w (ops.GiveBox t e) kept names = absurd names
+collector_within w _ kept names = absurd names
 
 -- The collector may make its next turn.
 pub may_turn : (w : Core) → IsKept w → IfSome (collector_next.next_of w.collector) (MayTurn w)

@@ -1,5 +1,7 @@
 -- The core of a heap with its collector: the shared words, the mailboxes, and the private record of each actor.
-use Rattle.std.specs.Prelude.{ℕ, ◌-◌, ◌*◌, zero, suc, List, [], ◌∷◌, ◌++◌, length, map, replicate, slice_index_or, slice_set}
+use Rattle.std.specs.Prelude.{ℕ, ◌-◌, zero, suc, List, [], ◌∷◌, ◌++◌, length, map, replicate, slice_index_or, slice_set}
+use Rattle.rec_word.specs.Mailbox.{crossing_word}
+use Rattle.rec_word.specs.declared.mailbox.Mailbox.TheVariants.{Spare}
 use Rattle.rec_model.specs.Sight.{Sight, opening_sight}
 use Rattle.rec_log.specs.declared.contents.Contents.{Contents}
 use Rattle.rec_mutator.specs.Private.{Private, opened as opened_machine}
@@ -80,7 +82,7 @@ opened config =
       words = (opening_sight config.slots config.fields config.registers config.mutators).words;
       epoch = config.first_epoch;
       freed = 0;
-      crossing = replicate config.mutators (4 * config.first_epoch);
+      crossing = replicate config.mutators (crossing_word config.first_epoch Spare);
       boxes = replicate config.mutators (spare_of config);
       mutators = opened_mutators config config.mutators;
       collector = collectors.opened config.slots config.fields config.registers config.mutators config.log_entries config.first_epoch;

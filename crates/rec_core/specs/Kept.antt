@@ -1,7 +1,9 @@
 -- What every heap with its collector keeps.
 use Rattle.std.specs.Prelude.{◌≡◌, ◌⊎◌, ℕ, ◌+◌, ◌-◌, ◌*◌, ◌%◌, ◌^◌, ◌<◌, ◌≤◌, ◌==◌, nat_lt, if◌then◌else◌, Bool, true, false, Option, None, Some, List, [], All, length, slice_index_or}
 use Rattle.std.specs.List.{sum_by}
-use Rattle.rec_word.specs.Op.{crossing_word}
+use Rattle.rec_word.specs.Mailbox.{crossing_word}
+use Rattle.rec_word.specs.declared.mailbox.Mailbox.{Mailbox}
+use Rattle.rec_word.specs.declared.mailbox.Mailbox.TheVariants.{Retired, Spare, WithCollector, WithMutator}
 use Rattle.rec_word.specs.Place.{place_of}
 use Rattle.rec_model.specs.Accounted.{IsAccounted, HasUncountedReleased}
 use Rattle.rec_model.specs.Pending.{epoch_of}
@@ -79,16 +81,16 @@ stand_at (Swapping u) t = if nat_lt t u then Stand.Done else (if t == u then Sta
 stand_at (Returning u) t = if nat_lt t u then Stand.Done else (if t == u then Stand.Held else Stand.Due)
 stand_at _ t = Stand.Done
 
--- the mutator is in the requested epoch, and its mailbox is in this state
-pub record HasCrossed (requested : ℕ) (p : Private) (crossing state : ℕ) : Type 0 where
+-- the mutator is in the requested epoch, and its mailbox is there
+pub record HasCrossed (requested : ℕ) (p : Private) (crossing : ℕ) (mailbox : Mailbox) : Type 0 where
   pub epoch : p.epoch ≡ requested
-  pub word : crossing ≡ crossing_word requested state
+  pub word : crossing ≡ crossing_word requested mailbox
   pub settled : IsSettledIn p.phase
 
 -- the mutator is in the epoch before the requested one, and its mailbox is home with a spare
 pub record IsBehind (config : Config) (requested : ℕ) (p : Private) (crossing : ℕ) (box : Contents) : Type 0 where
   pub epoch : p.epoch + 1 ≡ requested
-  pub word : crossing ≡ crossing_word p.epoch 0
+  pub word : crossing ≡ crossing_word p.epoch Spare
   pub here : is_giving p.phase ≡ false
   pub spare : box ≡ spare_of config
 
@@ -96,14 +98,14 @@ pub record IsBehind (config : Config) (requested : ℕ) (p : Private) (crossing 
 pub record IsCrossing (config : Config) (requested : ℕ) (p : Private) (crossing : ℕ) : Type 0 where
   pub epoch : p.epoch + 1 ≡ requested
   pub phase : p.phase ≡ at.Giving
-  pub word : crossing ≡ crossing_word requested 1
+  pub word : crossing ≡ crossing_word requested WithMutator
   pub spare : p.log ≡ spare_of config
 
 -- How a mutator and the collector stand to each other: the mutator's epoch, its crossing word and what its mailbox holds.
 abbrev pub IsHandshake : Config → (requested : ℕ) → Private → (crossing : ℕ) → (box : Contents) → Stand → Type 0
-IsHandshake config requested p crossing box Stand.Done = HasCrossed requested p crossing 0 × (box ≡ spare_of config)
-IsHandshake config requested p crossing box Stand.Held = HasCrossed requested p crossing 3 × (box ≡ spare_of config)
-IsHandshake config requested p crossing box Stand.Due = IsBehind config requested p crossing box ⊎ (IsCrossing config requested p crossing ⊎ HasCrossed requested p crossing 2)
+IsHandshake config requested p crossing box Stand.Done = HasCrossed requested p crossing Spare × (box ≡ spare_of config)
+IsHandshake config requested p crossing box Stand.Held = HasCrossed requested p crossing WithCollector × (box ≡ spare_of config)
+IsHandshake config requested p crossing box Stand.Due = IsBehind config requested p crossing box ⊎ (IsCrossing config requested p crossing ⊎ HasCrossed requested p crossing Retired)
 
 -- What is known of a mutator, of its crossing word and of its mailbox, at this epoch and in this phase of the collector.
 pub record IsActor (config : Config) (requested : ℕ) (phase : Phase) (t : ℕ) (p : Private) (crossing : ℕ) (box : Contents) : Type 0 where

@@ -1,6 +1,8 @@
 -- The moves of mutators and of the collector, and the runs that they make up.
 use Rattle.std.specs.Prelude.{◌≡◌, ℕ, ◌+◌, ◌-◌, ◌==◌, if◌then◌else◌, true, false, Option, None, Some, List, [], ◌∷◌, slice_set}
-use Rattle.rec_word.specs.Op.{written, crossing_word}
+use Rattle.rec_word.specs.Mailbox.{crossing_word}
+use Rattle.rec_word.specs.declared.mailbox.Mailbox.TheVariants.{Retired}
+use Rattle.rec_word.specs.Op.{written}
 use Rattle.rec_word.specs.declared.op.Op.{Op}
 use Rattle.rec_log.specs.declared.contents.Contents.{Contents}
 use Rattle.rec_mutator.specs.Next.{next_of}
@@ -47,7 +49,7 @@ looked_at _ = 1
 
 -- what that mailbox holds after the turn, by phase: a spare, where its buffer was taken
 abbrev pub left_by : collectors.Private → (found : ℕ) → Contents → Phase → Contents
-left_by c found box (Looking t) = if found == crossing_word c.epoch 2 then collectors.spare c else box
+left_by c found box (Looking t) = if found == crossing_word c.epoch Retired then collectors.spare c else box
 left_by c found box _ = box
 
 -- An operation of the collector was carried out: its word was found, what it leaves stands there, the collector is this now, and

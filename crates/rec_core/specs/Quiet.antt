@@ -1,6 +1,7 @@
 -- A heap whose mutators do nothing but cross into the epochs that are requested.
 use Rattle.std.specs.Prelude.{◌≡◌, ℕ, ◌-◌, ◌<◌, ◌≤◌, nat_lt, nat_le, Bool, true, false, Option, List, []}
-use Rattle.rec_word.specs.Op.{crossing_word}
+use Rattle.rec_word.specs.Mailbox.{crossing_word}
+use Rattle.rec_word.specs.declared.mailbox.Mailbox.TheVariants.{Retired}
 use Rattle.rec_log.specs.declared.contents.Contents.{Contents}
 use Rattle.rec_mutator.specs.Private.{is_busy}
 use Rattle.rec_collector.specs.Private.{buffer_at}
@@ -28,7 +29,7 @@ gathered _ t = true
 pub record IsQuietOf (first : ℕ) (w : Core) (t : ℕ) : Type 0 where
   pub idle : is_busy (mutator w t) ≡ false
   pub log : first ≤ (mutator w t).epoch → (mutator w t).log.entries ≡ []
-  pub box : first < w.epoch → crossing_of w t ≡ crossing_word w.epoch 2 → IsRetired (mutator w t).registers (box w t)
+  pub box : first < w.epoch → crossing_of w t ≡ crossing_word w.epoch Retired → IsRetired (mutator w t).registers (box w t)
   pub newer : first < w.epoch → gathered w.collector.phase t ≡ true → IsRetired (mutator w t).registers (buffer_at w.collector.newer (t - 1))
   pub older : first ≤ older_at w.epoch w.collector.phase → IsRetired (mutator w t).registers (buffer_at w.collector.older (t - 1))
 

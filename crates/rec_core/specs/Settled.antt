@@ -1,9 +1,8 @@
 -- When a heap is settled.
 use Rattle.std.specs.Prelude.{◌≡◌, ℕ, ◌+◌, count_by, sum_by}
-use Rattle.rec_word.specs.Word.{target_of}
+use Rattle.rec_word.specs.Word.{target_of, is_slot}
 use Rattle.rec_model.specs.Sight.{IsTaken, IsCollected}
 use Rattle.rec_counts.specs.Counts.{slot_at}
-use Rattle.rec_apply.specs.Targets.{is_slot}
 use Rattle.rec_core.specs.Core.{Core, sight}
 
 -- how many fields hold the slot

@@ -3,14 +3,14 @@
 use Rattle.std.specs.Prelude.{◌≡◌, ℕ, ◌+◌, ◌/◌, ◌<◌, ◌≤◌, true, false, not, None, Some, All, List, length, filter, slice_index_or as item_at}
 use Rattle.std.specs.List.{range_with_len}
 use Rattle.rec_word.specs.Place.{place_of}
-use Rattle.rec_word.specs.Word.{target_of}
+use Rattle.rec_word.specs.Word.{target_of, is_slot}
 use Rattle.rec_model.specs.Sums.{only_if, sum_at}
 use Rattle.rec_counts.specs.declared.colour.Colour.TheVariants.{Orange}
 use Rattle.rec_counts.specs.Counts.{State, slot_at}
 use Rattle.rec_counts.specs.Lists.{one, times}
 use Rattle.rec_counts.specs.Slot.{is_in}
 use Rattle.rec_trial.specs.Still.{IsSeed, references}
-use Rattle.rec_trial.specs.Tried.{leads_to, members}
+use Rattle.rec_trial.specs.Tried.{members}
 use Rattle.rec_sigma.specs.Prepared.{Load, place_loaded}
 
 -- the slots that are not released
@@ -55,7 +55,7 @@ word_in fields words slot field = item_at words (place_of slot field fields) 0
 
 -- counted where the word leads to the slot,
 abbrev pub leading : (x word : ℕ) → ℕ
-leading x word = one (leads_to x (target_of word))
+leading x word = one (is_slot x (target_of word))
 
 -- how many fields lead to the slot,
 abbrev pub heap_sum : (words : List ℕ) (x : ℕ) → ℕ

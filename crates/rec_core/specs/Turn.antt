@@ -1,6 +1,8 @@
 -- What a turn of the collector makes of a heap, rule by rule.
 use Rattle.std.specs.Prelude.{◌≡◌, ◌≢◌, ◌⊎◌, ℕ, ◌+◌, ◌-◌, ◌^◌, false, Option, Some, List, length, drop, slice_get, slice_index_or, slice_set}
-use Rattle.rec_word.specs.Op.{crossing_word}
+use Rattle.rec_word.specs.Mailbox.{crossing_word}
+use Rattle.rec_word.specs.declared.mailbox.Mailbox.{Mailbox}
+use Rattle.rec_word.specs.declared.mailbox.Mailbox.TheVariants.{Retired, Spare, WithCollector}
 use Rattle.rec_word.specs.Place.{place_of}
 use Rattle.rec_word.specs.declared.op.Op.{Op}
 use Rattle.rec_word.specs.declared.op.Op.TheVariants.{LoadChild}
@@ -28,9 +30,9 @@ word_at w slot field = slice_index_or w.words (place_of slot field w.config.fiel
 abbrev pub words_without : Core → (slot field : ℕ) → List ℕ
 words_without w slot field = slice_set w.words (place_of slot field w.config.fields) 0
 
--- with the word of a mutator's crossing replaced
-abbrev pub crossing_with : Core → (t state : ℕ) → List ℕ
-crossing_with w t state = slice_set w.crossing (t - 1) (crossing_word w.epoch state)
+-- with a mutator's crossing word replaced: its mailbox is there now
+abbrev pub crossing_with : Core → (t : ℕ) → Mailbox → List ℕ
+crossing_with w t mailbox = slice_set w.crossing (t - 1) (crossing_word w.epoch mailbox)
 
 -- after the sweep of a slot, with the slot that is swept next, and the phase that follows
 abbrev pub swept_by : Private → (slot : ℕ) → Phase → Private
@@ -43,13 +45,13 @@ header_freed w slot = record w { headers = slice_set w.headers slot 0 }
 pub data IsTurn (w v : Core) : Type 0 where
   spent : w.collector.phase ≡ Idle → w.epoch + 1 ≡ 2 ^ 24 → v ≡ w → IsTurn w v
   requests : w.collector.phase ≡ Idle → v ≡ record w { epoch = w.epoch + 1; collector = moved (record w.collector { epoch = w.collector.epoch + 1 }) (Looking 1) } → IsTurn w v
-  waits : (t : ℕ) → IsMutator w.config t → w.collector.phase ≡ Looking t → crossing_of w t ≢ crossing_word w.epoch 2 → v ≡ w → IsTurn w v
-  gathers : (t : ℕ) → IsMutator w.config t → w.collector.phase ≡ Looking t → crossing_of w t ≡ crossing_word w.epoch 2
-      → v ≡ record w { crossing = crossing_with w t 3; boxes = slice_set w.boxes (t - 1) (spare w.collector); collector = moved (record w.collector { newer = slice_set w.collector.newer (t - 1) (box w t) }) (Returning t) } → IsTurn w v
+  waits : (t : ℕ) → IsMutator w.config t → w.collector.phase ≡ Looking t → crossing_of w t ≢ crossing_word w.epoch Retired → v ≡ w → IsTurn w v
+  gathers : (t : ℕ) → IsMutator w.config t → w.collector.phase ≡ Looking t → crossing_of w t ≡ crossing_word w.epoch Retired
+      → v ≡ record w { crossing = crossing_with w t WithCollector; boxes = slice_set w.boxes (t - 1) (spare w.collector); collector = moved (record w.collector { newer = slice_set w.collector.newer (t - 1) (box w t) }) (Returning t) } → IsTurn w v
   gives_back : (t : ℕ) → IsMutator w.config t → w.collector.phase ≡ Returning t → t ≢ length w.collector.newer
-      → v ≡ record w { crossing = crossing_with w t 0; collector = moved w.collector (Looking (t + 1)) } → IsTurn w v
+      → v ≡ record w { crossing = crossing_with w t Spare; collector = moved w.collector (Looking (t + 1)) } → IsTurn w v
   applies : (t : ℕ) (q : Private) (turn : Turn) → IsMutator w.config t → w.collector.phase ≡ Returning t → t ≡ length w.collector.newer
-      → ClearsOn w.collector q turn (zeros_released false (batched w.collector)) → v ≡ record w { crossing = crossing_with w t 0; collector = q } → IsTurn w v
+      → ClearsOn w.collector q turn (zeros_released false (batched w.collector)) → v ≡ record w { crossing = crossing_with w t Spare; collector = q } → IsTurn w v
   releases : (a : At) (q : Private) (turn : Turn) → w.collector.phase ≡ Releasing → w.collector.release.at ≡ Some a
       → ClearsOn w.collector q turn (with_released (parts_of w.collector) (word_at w a.slot a.field)) → v ≡ record w { words = words_without w a.slot a.field; collector = q } → IsTurn w v
   frees : (a : Member) (q : Private) (turn : Turn) → w.collector.phase ≡ Freeing → w.collector.freeing.at ≡ Some a

@@ -5,7 +5,7 @@ use Rattle.std.proofs.lemmas.Bool.Decides.{nat_tests}
 use Rattle.std.proofs.lemmas.List.{get_or-take, get_or-drop, length-take, length-drop, length-map}
 use Rattle.std.proofs.lemmas.Nat.{div-mul-add}
 use Rattle.std.proofs.Math.ListN.{get_or-map}
-use Rattle.rec_word.specs.Word.{target_of, slot_of_bits}
+use Rattle.rec_word.specs.Word.{target_of, predecessor}
 use Rattle.rec_model.specs.Reach.{named, is_in}
 use Rattle.rec_model.specs.Heap.{roots}
 use Rattle.rec_model.specs.Sight.{Sight, words_of, targets_of, Reaches}
@@ -30,7 +30,7 @@ target_node : (word n : ℕ) → target_of word ≡ Some n → node_of word ≡ 
 unfolding node_of
 target_node word n e = go (word % 2 ^ 16) e
   where
-    go : (k : ℕ) → slot_of_bits k ≡ Some n → k ≡ n + 1
+    go : (k : ℕ) → predecessor k ≡ Some n → k ≡ n + 1
     go k e = grind (arith, nat_tests, e)
 
 -- a target of a slot is that of a word in one of its fields

@@ -1,6 +1,7 @@
 -- The steps of a mutator, one rule for each that it may make: what must hold before, the operation, and what it leaves.
 use Rattle.std.specs.Prelude.{◌≡◌, ◌≢◌, ℕ, ◌+◌, ◌*◌, ◌-◌, ◌%◌, ◌<◌, ◌≤◌, ◌^◌, Option, None, Some, List, [], ◌∷◌, ◌++◌, length, slice_set}
-use Rattle.rec_word.specs.Op.{crossing_word}
+use Rattle.rec_word.specs.Mailbox.{crossing_word}
+use Rattle.rec_word.specs.declared.mailbox.Mailbox.TheVariants.{Spare}
 use Rattle.rec_word.specs.Place.{place_of}
 use Rattle.rec_word.specs.Word.{target_of}
 use Rattle.rec_word.specs.declared.op.Op.{Op}
@@ -124,4 +125,4 @@ NamesSlots p = (r slot : ℕ) → register p r ≡ Some slot → slot < p.slots
 pub record IsFitting (p : Private) (cell : Op → ℕ) : Type 0 where
   pub headers : (r slot : ℕ) → register p r ≡ Some slot → (0 < cell (ops.LoadHeader slot)) × (cell (ops.LoadHeader slot) ≤ 2 ^ 32)
   pub epoch : IsRequested p (cell ops.LoadEpoch)
-  pub home : p.phase ≡ Crossing → cell (ops.TakeBox p.number (p.epoch + 1)) ≡ crossing_word p.epoch 0
+  pub home : p.phase ≡ Crossing → cell (ops.TakeBox p.number (p.epoch + 1)) ≡ crossing_word p.epoch Spare

@@ -1,7 +1,8 @@
 -- What begins, and what is learnt: functions of the private record, of the word found, and of the buffer in the own mailbox.
 use Rattle.std.specs.Prelude.{◌≡◌, ◌⊎◌, ℕ, ◌+◌, ◌-◌, ◌%◌, ◌^◌, ◌<◌, ◌≤◌, ◌==◌, ◌&&◌, Bool, true, false, Option, None, Some, [], ◌∷◌, ◌++◌, if◌then◌else◌, length, replicate, slice_set}
 use Rattle.rec_word.specs.Place.{place_of}
-use Rattle.rec_word.specs.Op.{crossing_word}
+use Rattle.rec_word.specs.Mailbox.{crossing_word}
+use Rattle.rec_word.specs.declared.mailbox.Mailbox.TheVariants.{Spare}
 use Rattle.rec_word.specs.Word.{target_of}
 use Rattle.rec_word.specs.declared.op.Op.{Op}
 use Rattle.rec_word.specs.declared.op.Op.TheVariants as ops
@@ -181,5 +182,5 @@ IsRequested p word = (word ≡ p.epoch) ⊎ ((word ≡ p.epoch + 1) × (word < 2
 abbrev pub IsFound : Private → Op → ℕ → Type 0
 IsFound p (ops.LoadHeader slot) word = (0 < word) × (word ≤ 2 ^ 32)
 IsFound p ops.LoadEpoch word = IsRequested p word
-IsFound p (ops.TakeBox t e) word = word ≡ crossing_word p.epoch 0
+IsFound p (ops.TakeBox t e) word = word ≡ crossing_word p.epoch Spare
 IsFound p _ word = Unit {0}

@@ -1,7 +1,8 @@
 -- The played run: what each turn makes of the world, and what it tells.
 use Rattle.std.specs.Prelude.{◌≡◌, ◌≢◌, ℕ, zero, suc, ◌<◌, ◌≤◌, Some, List, [], ◌∷◌, ◌++◌, length, slice_index_or}
 use Rattle.std.specs.List.{slice_get, filter_map}
-use Rattle.rec_word.specs.Op.{crossing_word}
+use Rattle.rec_word.specs.Mailbox.{crossing_word}
+use Rattle.rec_word.specs.declared.mailbox.Mailbox.TheVariants.{Retired}
 use Rattle.rec_model.specs.declared.command.Cmd.{Cmd}
 use Rattle.rec_model.specs.declared.told.Told.{Told}
 use Rattle.rec_model.specs.LegalOrder.{Event, line_by}
@@ -41,7 +42,7 @@ pub record IsTurnOf (script : Contents) (events : List Event) (t : ℕ) (cmd : C
 -- the collector waits for a mutator that hasn't crossed into the requested epoch
 pub record WaitsFor (w : Core) (t : ℕ) : Type 0 where
   pub looks : w.collector.phase ≡ Looking t
-  pub behind : crossing_of w t ≢ crossing_word w.epoch 2
+  pub behind : crossing_of w t ≢ crossing_word w.epoch Retired
 
 -- How a turn of the collector ends, after its step, where each mutator has made so many commands. One for which it waited, and
 -- that has no command left, polls: no turn of its own comes in which it could cross. Else nothing follows.

@@ -4,7 +4,7 @@ use Rattle.std.proofs.Math.ListN.{drop_of_length-le}
 use Rattle.std.proofs.lemmas.List.{append-nil, length-map, map-append}
 use Rattle.std.proofs.lemmas.Bool.{cases_lt, ltb-true, ltb-false, lt-ltb, le-ltb}
 use Rattle.rec_word.specs.Place.{place_of}
-use Rattle.rec_word.specs.Word.{target_of}
+use Rattle.rec_word.specs.Word.{target_of, is_slot}
 use Rattle.rec_counts.specs.Counts.{State, IsKept}
 use Rattle.rec_counts.specs.Groups.{last_set}
 use Rattle.rec_counts.specs.Lists.{one, times}
@@ -12,7 +12,7 @@ use Rattle.rec_counts.proofs.Times.{times-append, times-nil}
 use Rattle.rec_release.specs.declared.member.Member.{Member}
 use Rattle.rec_release.specs.CycleFree.{first_member, given_up, given_up_slot, listed, next_field, next_field_if, next_member, next_member_if, work_of, took_of, started_of, Next, Work, IsAtWork, IsFreeable, IsHeld}
 use Rattle.rec_release.specs.Freed.{came_out, held_of, listed_of, out_at, places_behind, places_of, taken_in, Freed, FreedTo, HasFreed, Out}
-use Rattle.rec_release.specs.Released.{leading, leads_to, places_from}
+use Rattle.rec_release.specs.Released.{leading, places_from}
 use Rattle.rec_release.proofs.Giving.{given_count, given_is_work, given_released, given_work, first_and_rest, nothing_first}
 use Rattle.rec_release.specs.TakenOff.{taken_off}
 use Rattle.rec_release.proofs.TakenOff.{off_count, off_most, ready_off, KeepsMost}
@@ -30,7 +30,7 @@ taken_on fields before members place left listed held after outs word r =
     let t : Option ℕ = target_of word in
     let o : Out = record { place = place; word = word } in
     let k : KeepsMost after (taken_off true after t) = off_most true after t in
-    let ws : (x : ℕ) → leading x (map (λ (p : Out). p.word) (outs ++ o ∷ [])) ≡ leading x (map (λ (p : Out). p.word) outs) + one (leads_to x t) =
+    let ws : (x : ℕ) → leading x (map (λ (p : Out). p.word) (outs ++ o ∷ [])) ≡ leading x (map (λ (p : Out). p.word) outs) + one (is_slot x t) =
     λ x. ap (leading x) (map-append (λ (p : Out). p.word) outs (o ∷ [])) ∙ leading_push x (map (λ (p : Out). p.word) outs) word in
     record {
       places = ap (λ ps. ps ++ left) (map-append (λ (p : Out). p.place) outs (o ∷ [])) ∙ append_assoc (map (λ (p : Out). p.place) outs) (place ∷ []) left ∙ r.places;

@@ -3,6 +3,7 @@ use Rattle.std.proofs.Common.{◌≡◌, ℕ, ◌-◌, ◌<◌, ◌⊎◌, Bool,
 use Rattle.std.proofs.lemmas.List.{append-nil, length-set, get_or-set_same, get_or-set_other, get_or_past, set_past}
 use Rattle.std.proofs.lemmas.Bool.{cases_lt}
 use Rattle.std.proofs.lemmas.Bool.Decides.{eqb_tells}
+use Rattle.rec_word.specs.Word.{is_slot}
 use Rattle.rec_counts.specs.declared.slot.Slot.{Slot}
 use Rattle.rec_counts.specs.Counts.{State, slot_at, with_slot, decremented}
 use Rattle.rec_counts.specs.Lists.{one, times}
@@ -11,7 +12,6 @@ use Rattle.rec_counts.specs.Slot.{absent, lowered}
 use Rattle.rec_counts.proofs.Decrementing.{all_zeros_kept, buffered_kept, decremented_less, rest_decremented, unbuffered_before, zeros_from, zeros_kept, ZerosFrom}
 use Rattle.rec_counts.proofs.Keeping.{field_kept}
 use Rattle.rec_release.specs.Release.{IsReady}
-use Rattle.rec_release.specs.Released.{leads_to}
 use Rattle.rec_release.specs.TakenOff.{down_if, is_lowered, taken_off}
 
 -- a slot after a write: it was written, or it is as it was
@@ -93,7 +93,7 @@ down_most false s y =
       unbuffered = unbuffered_before s y;
     }
 
-pub off_count : (lowers : Bool) (s : State) (t : Option ℕ) (x : ℕ) → (slot_at (taken_off lowers s t) x).count ≡ (slot_at s x).count - one (leads_to x t)
+pub off_count : (lowers : Bool) (s : State) (t : Option ℕ) (x : ℕ) → (slot_at (taken_off lowers s t) x).count ≡ (slot_at s x).count - one (is_slot x t)
 off_count lowers s None x = omega arith
 off_count lowers s (Some y) x = down_count (is_lowered lowers (slot_at s y).colour) s y x
 

@@ -2,7 +2,7 @@
 use Rattle.std.specs.Prelude.{◌≡◌, ℕ, ◌+◌, ◌-◌, ◌<◌, ◌==◌, Bool, true, false, Option, None, Some, IfSome, List, [], ◌∷◌, ◌++◌, map, take, length, flat_map, fold, count_by}
 use Rattle.std.specs.List.{range_with_len}
 use Rattle.rec_word.specs.Place.{place_of}
-use Rattle.rec_word.specs.Word.{target_of}
+use Rattle.rec_word.specs.Word.{target_of, is_slot}
 use Rattle.rec_counts.specs.Counts.{State, slot_at}
 use Rattle.rec_counts.specs.Lists.{one, times}
 use Rattle.rec_release.specs.declared.at.At.{At}
@@ -22,14 +22,9 @@ abbrev pub is_at : ℕ → Option At → Bool
 is_at x None = false
 is_at x (Some a) = x == a.slot
 
--- the word leads to this slot
-abbrev pub leads_to : ℕ → Option ℕ → Bool
-leads_to x None = false
-leads_to x (Some y) = x == y
-
 -- how many of the words lead to the slot
 unfoldable pub leading : ℕ → (words : List ℕ) → ℕ
-leading x words = count_by (λ word. leads_to x (target_of word)) words
+leading x words = count_by (λ word. is_slot x (target_of word)) words
 
 -- a release after it took in these words, one after another
 unfoldable pub taken_in : Work → (words : List ℕ) → Work

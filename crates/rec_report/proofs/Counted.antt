@@ -6,7 +6,7 @@ use Rattle.std.proofs.lemmas.Bool.{cases_eq, cases_lt, ne_eqb, false≢true}
 use Rattle.std.proofs.lemmas.Bool.Decides.{eqb_tells}
 use Rattle.std.proofs.lemmas.List.{length-drop, take-append-drop, drop-drop, get_or_past}
 use Rattle.std.proofs.lemmas.List.Sums.{sum_by-append, sum_by-cons}
-use Rattle.rec_word.specs.Word.{target_of}
+use Rattle.rec_word.specs.Word.{target_of, is_slot}
 use Rattle.rec_model.specs.Reach.{named, is_in}
 use Rattle.rec_model.specs.Numbering.{times, IsDistinct}
 use Rattle.rec_model.specs.Heap.{roots}
@@ -18,7 +18,6 @@ use Rattle.rec_model.proofs.Places.{sum_at-le-from_get_or, sum_at_only}
 use Rattle.rec_model.proofs.Sums.{sum_at_none, sum_at_same, sum_at_split, sum_by-flat_map, sum_by-map, sum_by_same}
 use Rattle.rec_model.proofs.Words.{named-nulls}
 use Rattle.rec_counts.specs.Counts.{slot_at}
-use Rattle.rec_apply.specs.Targets.{is_slot}
 use Rattle.rec_core.specs.Settled.{IsSettled, fields_holding}
 use Rattle.rec_world.specs.World.{Core, sight, IsWorld}
 use Rattle.rec_report.proofs.AnswerLines.{times-cons}

@@ -2,7 +2,8 @@
 use Rattle.std.proofs.Common.{◌≡◌, ◌↔◌, inl, inr, ℕ, ◌+◌, ◌-◌, ◌*◌, ◌<◌, ◌≤◌, ◌==◌, nat_lt, if◌then◌else◌, Bool, true, false, Option, None, Some, List, length, refl, sym, ap, subst, ◌∙◌, arith}
 use Rattle.std.proofs.lemmas.Bool.Decides.{nat_tests}
 use Rattle.std.proofs.lemmas.Bool.{cases_eq, cond-true, cond-false, eq-eqb, false≢true, ne_eqb}
-use Rattle.rec_word.specs.Op.{crossing_word}
+use Rattle.rec_word.specs.Mailbox.{crossing_word}
+use Rattle.rec_word.specs.declared.mailbox.Mailbox.TheVariants.{Retired}
 use Rattle.rec_mutator.specs.Private as mutators
 use Rattle.rec_mutator.specs.Private.{is_busy}
 use Rattle.rec_mutator.specs.declared.phase.Phase as mutator_phases
@@ -39,7 +40,7 @@ few_turns w kept =
     subst (λ n. w.collector.turns ≤ n) limit (within_limit w.collector kept.collector.machine)
 
 few_waits : (w : Core) (phase : Phase) → waits_at w phase ≤ 1
-few_waits w (Looking t) = go (crossing_of w t == crossing_word w.epoch 2)
+few_waits w (Looking t) = go (crossing_of w t == crossing_word w.epoch Retired)
   where
     go : (b : Bool) → (if b then 0 else 1) ≤ 1
     go true = omega arith
@@ -80,7 +81,7 @@ idle_holds : (phase : mutator_phases.Phase) → mutators.is_busy_at phase ≡ fa
 idle_holds phase idle is = false≢true (sym idle ∙ ap mutators.is_busy_at is)
 
 -- Once a mutator that was waited for has polled, its mailbox is handed over.
-pub polled_over : (w v : Core) (t : ℕ) → IsKept v → IsAwaited w t → HasPolled w t v → crossing_of v t ≡ crossing_word v.epoch 2
+pub polled_over : (w v : Core) (t : ℕ) → IsKept v → IsAwaited w t → HasPolled w t v → crossing_of v t ≡ crossing_word v.epoch Retired
 polled_over w v t kept awaits polled =
     let is : IsMutator v.config t = subst (λ (c : Config). IsMutator c t) (sym polled.quiet.config) awaits.there in
     let phase : v.collector.phase ≡ Looking t = ap (λ (c : Private). c.phase) polled.quiet.collector ∙ awaits.looked in
@@ -95,7 +96,7 @@ polled_over w v t kept awaits polled =
         not_less : (n : ℕ) → nat_lt n n ≡ false
         not_less n = grind (arith, nat_tests)
 
-    go : IsHandshake v.config v.epoch (mutator v t) (crossing_of v t) (box v t) Stand.Due → (mutator v t).epoch ≡ v.epoch → crossing_of v t ≡ crossing_word v.epoch 2
+    go : IsHandshake v.config v.epoch (mutator v t) (crossing_of v t) (box v t) Stand.Due → (mutator v t).epoch ≡ v.epoch → crossing_of v t ≡ crossing_word v.epoch Retired
     go (inl behind) here = absurd (omega (arith, behind.epoch, here))
     go (inr (inl crossing)) here = absurd (idle_holds (mutator v t).phase polled.idle crossing.phase)
     go (inr (inr crossed)) here = crossed.word
@@ -104,8 +105,8 @@ polled_over w v t kept awaits polled =
 pub polled_nearer : (w v : Core) (t : ℕ) → IsKept v → IsAwaited w t → HasPolled w t v → left_of v < left_of w
 polled_nearer w v t kept awaits polled =
     let phase : v.collector.phase ≡ Looking t = ap (λ (c : Private). c.phase) polled.quiet.collector ∙ awaits.looked in
-    let now : waits_at v v.collector.phase ≡ 0 = ap (waits_at v) phase ∙ cond-true (crossing_of v t == crossing_word v.epoch 2) 0 1 (eq-eqb (crossing_of v t) (crossing_word v.epoch 2) (polled_over w v t kept awaits polled)) in
-    let earlier : waits_at w w.collector.phase ≡ 1 = ap (waits_at w) awaits.looked ∙ cond-false (crossing_of w t == crossing_word w.epoch 2) 0 1 (ne_eqb (crossing_of w t) (crossing_word w.epoch 2) awaits.other) in
+    let now : waits_at v v.collector.phase ≡ 0 = ap (waits_at v) phase ∙ cond-true (crossing_of v t == crossing_word v.epoch Retired) 0 1 (eq-eqb (crossing_of v t) (crossing_word v.epoch Retired) (polled_over w v t kept awaits polled)) in
+    let earlier : waits_at w w.collector.phase ≡ 1 = ap (waits_at w) awaits.looked ∙ cond-false (crossing_of w t == crossing_word w.epoch Retired) 0 1 (ne_eqb (crossing_of w t) (crossing_word w.epoch Retired) awaits.other) in
     omega (arith, now, earlier, ap turns_of polled.quiet.config, ap (λ (c : Private). c.turns) polled.quiet.collector)
 
 -- the collection is still under way

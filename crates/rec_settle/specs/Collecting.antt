@@ -1,6 +1,7 @@
 -- What settling does: turns of the collector, with a poll of each mutator that it waits for, collection after collection.
 use Rattle.std.specs.Prelude.{◌≡◌, ◌≢◌, ℕ, ◌+◌, ◌*◌, ◌==◌, nat_lt, false, if◌then◌else◌, count_by}
-use Rattle.rec_word.specs.Op.{crossing_word}
+use Rattle.rec_word.specs.Mailbox.{crossing_word}
+use Rattle.rec_word.specs.declared.mailbox.Mailbox.TheVariants.{Retired}
 use Rattle.rec_mutator.specs.Private.{is_busy}
 use Rattle.rec_mutator.specs.declared.work.Work.TheVariants as works
 use Rattle.rec_collector.specs.declared.phase.Phase.{Phase}
@@ -18,7 +19,7 @@ use Rattle.rec_world.specs.World.{IsQuiet, TurnHasCause}
 pub record IsAwaited (w : Core) (t : ℕ) : Type 0 where
   pub there : IsMutator w.config t
   pub looked : w.collector.phase ≡ Looking t
-  pub other : crossing_of w t ≢ crossing_word w.epoch 2
+  pub other : crossing_of w t ≢ crossing_word w.epoch Retired
 
 -- a mutator polled
 pub record HasPolled (w : Core) (t : ℕ) (v : Core) : Type 0 where
@@ -61,7 +62,7 @@ taken_slots w = count_by (λ header. nat_lt 0 header) w.headers
 
 -- whether the collector waits for a mutator, by phase
 abbrev pub waits_at : Core → Phase → ℕ
-waits_at w (Looking t) = if crossing_of w t == crossing_word w.epoch 2 then 0 else 1
+waits_at w (Looking t) = if crossing_of w t == crossing_word w.epoch Retired then 0 else 1
 waits_at w _ = 0
 
 -- the most turns that a collection takes

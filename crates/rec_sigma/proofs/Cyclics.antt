@@ -5,7 +5,7 @@ use Rattle.std.proofs.lemmas.List.{length-set, length-map, get_or-set_same, get_
 use Rattle.std.proofs.lemmas.List.Sums.{sum_by_push}
 use Rattle.std.proofs.lemmas.Bool.{cases_lt, false≢true, eqb-true, lt-ltb, ne_eqb, eq-eqb}
 use Rattle.std.proofs.lemmas.Bool.Decides.{eqb_tells}
-use Rattle.rec_word.specs.Word.{target_of}
+use Rattle.rec_word.specs.Word.{target_of, is_slot}
 use Rattle.rec_counts.specs.declared.slot.Slot.{Slot}
 use Rattle.rec_counts.specs.Counts.{State, IsKept, slot_at}
 use Rattle.rec_counts.specs.Lists.{one, times}
@@ -13,7 +13,7 @@ use Rattle.rec_counts.specs.Slot.{absent, is_in}
 use Rattle.rec_counts.proofs.Leaving.{all_of}
 use Rattle.rec_counts.proofs.Times.{times_at, times_more}
 use Rattle.rec_sigma.specs.Prepare.{members_of, renewed, renewed_if, less_if, taken_off}
-use Rattle.rec_sigma.specs.Prepared.{KeepsOthers, Load, leads_to, seen}
+use Rattle.rec_sigma.specs.Prepared.{KeepsOthers, Load, seen}
 
 -- the set of a slot that is in the set of this number
 pub in_set : (number : ℕ) (o : Option ℕ) → is_in number o ≡ true → o ≡ Some number
@@ -135,7 +135,7 @@ less_slot false s x y l =
     go false = omega arith
 
 -- a word takes one off the slot that it leads to, where that is in the set
-pub off_slot : (number : ℕ) (s : State) (t : Option ℕ) (x : ℕ) → slot_at (taken_off number s t) x ≡ record (slot_at s x) { cyclic = (slot_at s x).cyclic - one (leads_to x t && is_in number (slot_at s x).set) }
+pub off_slot : (number : ℕ) (s : State) (t : Option ℕ) (x : ℕ) → slot_at (taken_off number s t) x ≡ record (slot_at s x) { cyclic = (slot_at s x).cyclic - one (is_slot x t && is_in number (slot_at s x).set) }
 off_slot number s None x = nothing_off (slot_at s x)
 off_slot number s (Some y) x =
     less_slot (is_in number (slot_at s y).set) s x y (set_in_range s number y)
@@ -196,6 +196,6 @@ pub seen-nil : (s : State) (number x : ℕ) → seen s number [] x ≡ 0
 unfolding seen
 seen-nil s number x = refl
 
-pub seen_push : (s : State) (number : ℕ) (loads : List Load) (l : Load) (x : ℕ) → seen s number (loads ++ l ∷ []) x ≡ seen s number loads x + one (leads_to x (target_of l.word) && is_in number (slot_at s l.slot).set)
+pub seen_push : (s : State) (number : ℕ) (loads : List Load) (l : Load) (x : ℕ) → seen s number (loads ++ l ∷ []) x ≡ seen s number loads x + one (is_slot x (target_of l.word) && is_in number (slot_at s l.slot).set)
 unfolding seen
-seen_push s number loads l x = sum_by_push (λ (m : Load). cond (leads_to x (target_of m.word) && is_in number (slot_at s m.slot).set) 1 0) loads l
+seen_push s number loads l x = sum_by_push (λ (m : Load). cond (is_slot x (target_of m.word) && is_in number (slot_at s m.slot).set) 1 0) loads l

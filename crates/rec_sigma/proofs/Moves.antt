@@ -6,7 +6,7 @@ use Rattle.std.proofs.lemmas.List.{length-drop, map-append}
 use Rattle.std.proofs.lemmas.Bool.{cases_lt, ltb-true, ltb-false}
 use Rattle.std.proofs.lemmas.Bool.Decides.{eqb_tells}
 use Rattle.rec_word.specs.Place.{place_of}
-use Rattle.rec_word.specs.Word.{target_of}
+use Rattle.rec_word.specs.Word.{target_of, is_slot}
 use Rattle.rec_counts.specs.declared.slot.Slot.{Slot}
 use Rattle.rec_counts.specs.Counts.{State, slot_at}
 use Rattle.rec_counts.specs.Lists.{one, times}
@@ -14,7 +14,7 @@ use Rattle.rec_counts.specs.Slot.{is_in}
 use Rattle.rec_counts.proofs.Times.{times-nil}
 use Rattle.rec_sigma.specs.declared.at.At.{At}
 use Rattle.rec_sigma.specs.Prepare.{members_of, renewed, renewed_if, taken_off, first_of, begun_at, next_set, next_member_if, next_member, next_field_if, next_field}
-use Rattle.rec_sigma.specs.Prepared.{Load, Prepared, PreparedTo, leads_to, place_loaded, places_from, places_of, seen}
+use Rattle.rec_sigma.specs.Prepared.{Load, Prepared, PreparedTo, place_loaded, places_from, places_of, seen}
 use Rattle.rec_sigma.proofs.Cyclics.{Tells, other_set, own_set, renewed_slot, renewed_others, off_others, off_slot, others_on, others_same, seen-nil, seen_push}
 use Rattle.rec_sigma.proofs.Firsts.{Behind, behind, rest_from}
 
@@ -43,8 +43,8 @@ pub told_before : {fields : ℕ} {before : State} {begun : ℕ} {left : List ℕ
 told_before p k = λ number x. ap (λ sets. times x (get_or sets number [])) (sym p.others.sets) ∙ k number x ∙ ap (λ o. one (is_in number o)) (set_kept p x)
 
 -- what one word more takes off, of a member of the set of this number
-taken : (before after : State) (set number x : ℕ) (t : Option ℕ) → (slot_at after x).set ≡ Some number → (slot_at (taken_off set after t) x).cyclic ≡ (slot_at after x).cyclic - one (leads_to x t && is_in set (Some number))
-taken before after set number x t e = ap (λ (v : Slot). v.cyclic) (off_slot set after t x) ∙ ap (λ o. (slot_at after x).cyclic - one (leads_to x t && is_in set o)) e
+taken : (before after : State) (set number x : ℕ) (t : Option ℕ) → (slot_at after x).set ≡ Some number → (slot_at (taken_off set after t) x).cyclic ≡ (slot_at after x).cyclic - one (is_slot x t && is_in set (Some number))
+taken before after set number x t e = ap (λ (v : Slot). v.cyclic) (off_slot set after t x) ∙ ap (λ o. (slot_at after x).cyclic - one (is_slot x t && is_in set o)) e
 
 none_taken : (b : Bool) → one (b && false) ≡ 0
 none_taken true = refl
@@ -57,28 +57,28 @@ loaded_on fields before set slot field left after loads word m p =
     let t : Option ℕ = target_of word in
     let l : Load = record { slot = slot; field = field; word = word } in
     let now : State = taken_off set after t in
-    let more : (number x : ℕ) → seen before number (loads ++ l ∷ []) x ≡ seen before number loads x + one (leads_to x t && is_in number (Some set)) =
-    λ number x. seen_push before number loads l x ∙ ap (λ o. seen before number loads x + one (leads_to x t && is_in number o)) m in
-    let less : (number x : ℕ) → (slot_at before x).set ≡ Some number → (slot_at now x).cyclic ≡ (slot_at after x).cyclic - one (leads_to x t && is_in set (Some number)) =
+    let more : (number x : ℕ) → seen before number (loads ++ l ∷ []) x ≡ seen before number loads x + one (is_slot x t && is_in number (Some set)) =
+    λ number x. seen_push before number loads l x ∙ ap (λ o. seen before number loads x + one (is_slot x t && is_in number o)) m in
+    let less : (number x : ℕ) → (slot_at before x).set ≡ Some number → (slot_at now x).cyclic ≡ (slot_at after x).cyclic - one (is_slot x t && is_in set (Some number)) =
     λ number x e. taken before after set number x t (set_kept p x ∙ e) in
     record {
       places = ap (λ ps. ps ++ left) (map-append (place_loaded fields) loads (l ∷ [])) ∙ append_assoc (map (place_loaded fields) loads) (place_of slot field fields ∷ []) left ∙ p.places;
       members = λ number x b e. elim (eqb_tells number set) [
-        | inl q ↦ let u : one (leads_to x t && is_in set (Some number)) ≡ one (leads_to x t && is_in number (Some set)) = ap (λ n. one (leads_to x t && is_in set (Some n))) q.1 ∙ ap (λ n. one (leads_to x t && is_in n (Some set))) (sym q.1) in
+        | inl q ↦ let u : one (is_slot x t && is_in set (Some number)) ≡ one (is_slot x t && is_in number (Some set)) = ap (λ n. one (is_slot x t && is_in set (Some n))) q.1 ∙ ap (λ n. one (is_slot x t && is_in n (Some set))) (sym q.1) in
             omega (arith, less number x e, more number x, u, p.members number x b e)
-        | inr q ↦ let u : one (leads_to x t && is_in set (Some number)) ≡ 0 = ap (λ c. one (leads_to x t && c)) (other_set set number (λ d. q.1 (sym d))) ∙ none_taken (leads_to x t) in
-            let v : one (leads_to x t && is_in number (Some set)) ≡ 0 = ap (λ c. one (leads_to x t && c)) (other_set number set q.1) ∙ none_taken (leads_to x t) in
+        | inr q ↦ let u : one (is_slot x t && is_in set (Some number)) ≡ 0 = ap (λ c. one (is_slot x t && c)) (other_set set number (λ d. q.1 (sym d))) ∙ none_taken (is_slot x t) in
+            let v : one (is_slot x t && is_in number (Some set)) ≡ 0 = ap (λ c. one (is_slot x t && c)) (other_set number set q.1) ∙ none_taken (is_slot x t) in
             omega (arith, less number x e, more number x, u, v, p.members number x b e)
       ];
       later = λ number x b e.
-          let u : one (leads_to x t && is_in set (Some number)) ≡ 0 = ap (λ c. one (leads_to x t && c)) (other_set set number (λ d. absurd (omega (arith, b, d)))) ∙ none_taken (leads_to x t) in
+          let u : one (is_slot x t && is_in set (Some number)) ≡ 0 = ap (λ c. one (is_slot x t && c)) (other_set set number (λ d. absurd (omega (arith, b, d)))) ∙ none_taken (is_slot x t) in
           omega (arith, less number x e, u, p.later number x b e);
       unset = λ x e.
           let f : (slot_at after x).set ≡ None = set_kept p x ∙ e in
-          let n : (slot_at now x).cyclic ≡ (slot_at after x).cyclic - one (leads_to x t && false) = ap (λ (v : Slot). v.cyclic) (off_slot set after t x) ∙ ap (λ o. (slot_at after x).cyclic - one (leads_to x t && is_in set o)) f in
-          omega (arith, n, none_taken (leads_to x t), p.unset x e);
+          let n : (slot_at now x).cyclic ≡ (slot_at after x).cyclic - one (is_slot x t && false) = ap (λ (v : Slot). v.cyclic) (off_slot set after t x) ∙ ap (λ o. (slot_at after x).cyclic - one (is_slot x t && is_in set o)) f in
+          omega (arith, n, none_taken (is_slot x t), p.unset x e);
       unseen = λ number x b.
-          let v : one (leads_to x t && is_in number (Some set)) ≡ 0 = ap (λ c. one (leads_to x t && c)) (other_set number set (λ d. absurd (omega (arith, b, d)))) ∙ none_taken (leads_to x t) in
+          let v : one (is_slot x t && is_in number (Some set)) ≡ 0 = ap (λ c. one (is_slot x t && c)) (other_set number set (λ d. absurd (omega (arith, b, d)))) ∙ none_taken (is_slot x t) in
           omega (arith, more number x, v, p.unseen number x b);
       others = others_on p.others (off_others set after t);
     }

@@ -3,6 +3,7 @@ use Rattle.std.proofs.Common.{◌≡◌, ℕ, ◌<◌, ◌≤◌, Bool, true, fa
 use Rattle.std.specs.List.{filter}
 use Rattle.std.proofs.lemmas.Bool.{cases_lt, eqb-true}
 use Rattle.std.proofs.lemmas.Bool.Decides.{eqb_tells}
+use Rattle.rec_word.specs.Word.{is_slot}
 use Rattle.rec_counts.specs.declared.slot.Slot.{Slot}
 use Rattle.rec_counts.specs.Counts.{State, slot_at}
 use Rattle.rec_counts.specs.Lists.{one, times, EachOnce}
@@ -10,7 +11,7 @@ use Rattle.rec_counts.specs.Rest.{AreZeros}
 use Rattle.rec_counts.proofs.Times.{one-le, times-append, times-cons, times-nil}
 use Rattle.rec_sigma.specs.declared.fate.Fate.{Fate}
 use Rattle.rec_sigma.specs.declared.fate.Fate.TheVariants.{Free, Zero, Root, Plain}
-use Rattle.rec_sigma.specs.Refurbish.{refurbished, fate_at, is_first, is_free, is_root, is_zero, AreReleased, Refurbished}
+use Rattle.rec_sigma.specs.Refurbish.{refurbished, fate_at, is_free, is_root, is_zero, AreReleased, Refurbished}
 use Rattle.rec_sigma.proofs.Renewals.{free_if, zero_if}
 
 -- what a filter has passes the test
@@ -58,7 +59,7 @@ released_after s ms first t r a x h =
     same_released r x ∙ elim (cases_lt 0 (times x s.free)) [
       | inl l ↦ a x l
       | inr l ↦ let q : is_free (fate_at s first x) ≡ true = kept_passes p x ms (omega (arith, h, l, ap (times x) r.free, times-append x s.free (filter p ms))) in
-          free_if (slot_at s x).released (eqb (slot_at s x).count 0) (is_root (is_first x first) (slot_at s x).colour) q
+          free_if (slot_at s x).released (eqb (slot_at s x).count 0) (is_root (is_slot x first) (slot_at s x).colour) q
     ]
 
 -- the zeros are zeros
@@ -67,7 +68,7 @@ zeros_after s ms first t r o a =
     let p : ℕ → Bool = λ y. is_zero (fate_at s first y) in
     let test : (x : ℕ) → 0 < times x t.zeros → times x s.zeros ≤ 0 → ((slot_at s x).released ≡ false) × (eqb (slot_at s x).count 0 ≡ true) = λ x h l.
     let q : is_zero (fate_at s first x) ≡ true = kept_passes p x ms (omega (arith, h, l, ap (times x) r.zeros, times-append x s.zeros (filter p ms))) in
-    zero_if (slot_at s x).released (eqb (slot_at s x).count 0) (is_root (is_first x first) (slot_at s x).colour) q in
+    zero_if (slot_at s x).released (eqb (slot_at s x).count 0) (is_root (is_slot x first) (slot_at s x).colour) q in
     record {
       once = λ x. omega (arith, o x, one-le (ltb x (length t.slots)));
       none = λ x h. same_count r x ∙ elim (cases_lt 0 (times x s.zeros)) [

@@ -5,6 +5,7 @@ use Rattle.std.proofs.Math.ListN.{set}
 use Rattle.std.proofs.lemmas.List.{append-nil, length-set, length-map, set-set, get_or-set_same, get_or-set_other, get_or_past, get_or-map}
 use Rattle.std.proofs.lemmas.Bool.{cases_lt, eqb-true}
 use Rattle.std.proofs.lemmas.Bool.Decides.{eqb_tells}
+use Rattle.rec_word.specs.Word.{is_slot}
 use Rattle.rec_counts.specs.declared.colour.Colour.TheVariants.{Purple}
 use Rattle.rec_counts.specs.declared.slot.Slot.{Slot}
 use Rattle.rec_counts.specs.Counts.{State, IsKept, slot_at, with_slot, without_last_set}
@@ -14,7 +15,7 @@ use Rattle.rec_counts.specs.Slot.{absent, is_in, unbuffered, unbuffered_if, out_
 use Rattle.rec_counts.proofs.Times.{times-nil, times-cons, times-append, one-same, one-le, in_range_once}
 use Rattle.rec_sigma.specs.declared.fate.Fate.{Fate}
 use Rattle.rec_sigma.specs.declared.fate.Fate.TheVariants.{Free, Zero, Root, Plain}
-use Rattle.rec_sigma.specs.Refurbish.{coloured, fate_at, fate_of, is_first, fate_if, is_root, is_free, is_zero, is_rooted, IsRefusable, LastRefurbished, Refurbished}
+use Rattle.rec_sigma.specs.Refurbish.{coloured, fate_at, fate_of, fate_if, is_root, is_free, is_zero, is_rooted, IsRefusable, LastRefurbished, Refurbished}
 use Rattle.rec_sigma.specs.Settling.{refurbished_of, settled, settled_all}
 use Rattle.rec_sigma.proofs.Members.{each_once}
 
@@ -169,7 +170,7 @@ placed_all first (x ∷ xs) s once l =
     let f : Fate = fate_at s first x in
     let now : State = settled f s x in
     let same : (y : ℕ) → 0 < times y xs → slot_at now y ≡ slot_at s y = λ y h. settled_other f s x y (other_than x xs once y h) in
-    let fates : (y : ℕ) → 0 < times y xs → fate_at now first y ≡ fate_at s first y = λ y h. ap (fate_of (is_first y first)) (same y h) in
+    let fates : (y : ℕ) → 0 < times y xs → fate_at now first y ≡ fate_at s first y = λ y h. ap (fate_of (is_slot y first)) (same y h) in
     let i : Placed first now xs (settled_all first xs now) = placed_all first xs now (λ y. omega (arith, once y, times-cons y x xs)) (λ y h. omega (arith, settled_many f s x, l y (omega (arith, h, times-cons y x xs)))) in
     let mine : times x xs ≡ 0 = omega (arith, once x, times-cons x x xs, one-same x) in
     record {
@@ -226,7 +227,7 @@ fate_if_dropped true first v = refl
 fate_if_dropped false first v = refl
 
 dropped_fate : (s : State) (first : Option ℕ) (x : ℕ) → fate_at (dropped s) first x ≡ fate_at s first x
-dropped_fate s first x = ap (fate_of (is_first x first)) (dropped_slot (length s.sets - 1) s.slots x) ∙ fate_if_dropped (is_in (length s.sets - 1) (slot_at s x).set) (is_first x first) (slot_at s x)
+dropped_fate s first x = ap (fate_of (is_slot x first)) (dropped_slot (length s.sets - 1) s.slots x) ∙ fate_if_dropped (is_in (length s.sets - 1) (slot_at s x).set) (is_slot x first) (slot_at s x)
 
 -- the members wait for their places then
 pub waiting_first : (s : State) → IsKept s → IsRefusable s → IsWaiting (dropped s) (last_set s.sets)

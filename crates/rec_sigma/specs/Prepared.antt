@@ -1,8 +1,8 @@
 -- A whole preparation: what it loaded, and what became of the cyclic counts.
-use Rattle.std.specs.Prelude.{◌≡◌, ℕ, ◌+◌, ◌-◌, ◌<◌, ◌≤◌, ◌==◌, ◌&&◌, Bool, false, Option, None, Some, List, [], ◌∷◌, ◌++◌, map, drop, length, flat_map, fold, count_by, slice_index_or as item_at}
+use Rattle.std.specs.Prelude.{◌≡◌, ℕ, ◌+◌, ◌-◌, ◌<◌, ◌≤◌, ◌&&◌, Option, None, Some, List, [], ◌∷◌, ◌++◌, map, drop, length, flat_map, fold, count_by, slice_index_or as item_at}
 use Rattle.std.specs.List.{concat, range_with_len}
 use Rattle.rec_word.specs.Place.{place_of}
-use Rattle.rec_word.specs.Word.{target_of}
+use Rattle.rec_word.specs.Word.{target_of, is_slot}
 use Rattle.rec_word.specs.declared.op.Op.{Op}
 use Rattle.rec_word.specs.declared.op.Op.TheVariants.{LoadChild}
 use Rattle.rec_counts.specs.Counts.{State, slot_at}
@@ -38,14 +38,9 @@ abbrev pub sets_begun : List (List ℕ) → Option At → ℕ
 sets_begun sets None = length sets
 sets_begun sets (Some a) = a.set + 1
 
--- the word leads to this slot
-abbrev pub leads_to : ℕ → Option ℕ → Bool
-leads_to x None = false
-leads_to x (Some y) = x == y
-
 -- how many words were seen in fields of this set's members that lead to the slot
 unfoldable pub seen : State → (number : ℕ) → (loads : List Load) → (x : ℕ) → ℕ
-seen s number loads x = count_by (λ (l : Load). leads_to x (target_of l.word) && is_in number (slot_at s l.slot).set) loads
+seen s number loads x = count_by (λ (l : Load). is_slot x (target_of l.word) && is_in number (slot_at s l.slot).set) loads
 
 -- the outside count of a member of this set: its true count, less the words seen in fields of the set's members that lead
 -- to it, not below zero

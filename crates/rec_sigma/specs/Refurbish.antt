@@ -1,5 +1,6 @@
 -- What becomes of the members of a set that was refused.
-use Rattle.std.specs.Prelude.{◌≡◌, ℕ, ◌<◌, ◌==◌, Bool, true, false, Option, None, Some, List, [], ◌++◌, filter, length, slice_get}
+use Rattle.std.specs.Prelude.{◌≡◌, ℕ, ◌<◌, ◌==◌, Bool, true, false, Option, List, [], ◌++◌, filter, length, slice_get}
+use Rattle.rec_word.specs.Word.{is_slot}
 use Rattle.rec_counts.specs.declared.colour.Colour.{Colour}
 use Rattle.rec_counts.specs.declared.colour.Colour.TheVariants.{Black, Purple, Gray, White, Orange}
 use Rattle.rec_counts.specs.declared.slot.Slot.{Slot}
@@ -28,14 +29,9 @@ fate_if false false false = Plain
 abbrev pub fate_of : (first : Bool) → Slot → Fate
 fate_of first v = fate_if v.released (v.count == 0) (is_root first v.colour)
 
--- the slot is the first member, if there is one
-abbrev pub is_first : ℕ → Option ℕ → Bool
-is_first x None = false
-is_first x (Some first) = x == first
-
 -- where this member belongs
 abbrev pub fate_at : State → (first : Option ℕ) → ℕ → Fate
-fate_at s first x = fate_of (is_first x first) (slot_at s x)
+fate_at s first x = fate_of (is_slot x first) (slot_at s x)
 
 -- a released member keeps its colour; a root is Purple and buffered; any other member is Black
 abbrev pub coloured : Fate → Slot → Slot

@@ -1,8 +1,9 @@
 ghost use Rattle.std.specs.Prelude.{◌≡◌, ◌+◌, ◌<◌, true, false, length};
+ghost use Rattle.rec_word.specs.Word.{is_slot};
 ghost use Rattle.rec_counts.specs.Counts.{slot_at};
 ghost use Rattle.rec_counts.specs.Lists.{times};
 ghost use Rattle.rec_counts.specs.Rest.{AreZeros};
-ghost use Rattle.rec_sigma.specs.Refurbish.{AreReleased, IsRefusable, LastRefurbished, fate_of, is_first, is_free, is_zero};
+ghost use Rattle.rec_sigma.specs.Refurbish.{AreReleased, IsRefusable, LastRefurbished, fate_of, is_free, is_zero};
 ghost use Rattle.rec_sigma.specs.Settling.{refurbished_of, settled};
 
 use crate::fate::Fate;
@@ -35,7 +36,7 @@ pub fn refurbish(counts: &mut Counts, set: u16)
 
 // Whether the slot is the first member.
 fn is_the(first: Option<u16>, slot: u16) -> bool
-    ensures { result ≡ is_first slot first }
+    ensures { result ≡ is_slot slot first }
 {
     match first {
         None => false,

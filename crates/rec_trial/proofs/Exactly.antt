@@ -1,6 +1,6 @@
 -- What a trial promises on words that do not change.
 use Rattle.std.proofs.Common.{◌≡◌, ℕ, suc, Some, List, map, ap, ◌∙◌, arith, inl, inr}
-use Rattle.rec_word.specs.Word.{slot_of_bits, target_of}
+use Rattle.rec_word.specs.Word.{target_of, predecessor}
 use Rattle.rec_counts.specs.Counts.{State}
 use Rattle.rec_trial.specs.Loaded.{Run, run_of}
 use Rattle.rec_trial.specs.Still.{AreStill, IsSeed, IsReached, IsHeld, IsExact, TrialIsExact, references, rest}
@@ -19,7 +19,7 @@ use Rattle.rec_trial.proofs.Whole.{ended, is_over, none_idle, over_of}
 
 -- a word leads to a slot where its code says so
 leads : (word : ℕ → ℕ → ℕ) (n g x : ℕ) → codes word n g ≡ suc x → target_of (word n g) ≡ Some x
-leads word n g x h = ap slot_of_bits h ∙ bits_suc x
+leads word n g x h = ap predecessor h ∙ bits_suc x
 
 module _ (fields : ℕ) (word : ℕ → ℕ → ℕ) (before : State) where
   seed_read : {x : ℕ} → Seed (first_view fields before) x → IsSeed before x

@@ -3,29 +3,29 @@ use Rattle.std.proofs.Common.{◌≡◌, ℕ, zero, suc, ◌+◌, Bool, true, fa
 use Rattle.std.specs.List.{count_by, sum_by, range_with_len}
 use Rattle.std.proofs.lemmas.Bool.Decides.{nat_tests}
 use Rattle.std.proofs.lemmas.List.Sums.{sum_by-cons}
-use Rattle.rec_word.specs.Word.{slot_of_bits, target_of}
+use Rattle.rec_word.specs.Word.{target_of, is_slot, predecessor}
 use Rattle.rec_counts.specs.Lists.{one}
 use Rattle.rec_trial.specs.Loaded.{Load}
 use Rattle.rec_trial.specs.Still.{AreStill}
 use Rattle.rec_trial.specs.Tried as tried
-use Rattle.rec_trial.specs.Tried.{leads_to, is_of}
+use Rattle.rec_trial.specs.Tried.{is_of}
 use Rattle.rec_trial.proofs.Holding.{named, loaded, edges, Tells}
 use Rattle.rec_trial.proofs.Runs.{code_of, seen_of}
 use Rattle.rec_trial.proofs.Steps.{bits_suc}
 use Rattle.rec_trial.proofs.Totals.{guarded, same, total, total_below}
 
 -- a word leads to a slot exactly where its code is the slot's
-null_leads : (x : ℕ) → one (leads_to x (slot_of_bits 0)) ≡ same (suc x) 0
+null_leads : (x : ℕ) → one (is_slot x (predecessor 0)) ≡ same (suc x) 0
 null_leads x = grind (arith, nat_tests)
 
-pub leads_code : (x code : ℕ) → one (leads_to x (slot_of_bits code)) ≡ same (suc x) code
+pub leads_code : (x code : ℕ) → one (is_slot x (predecessor code)) ≡ same (suc x) code
 leads_code x zero = null_leads x
 leads_code x (suc y) = rw (bits_suc y) (next x y)
   where
     next : (x y : ℕ) → one (eqb x y) ≡ same (suc x) (suc y)
     next x y = grind (arith, nat_tests)
 
-pub code_some : (code x : ℕ) → slot_of_bits code ≡ Some x → code ≡ suc x
+pub code_some : (code x : ℕ) → predecessor code ≡ Some x → code ≡ suc x
 code_some zero x h = cc
 code_some (suc y) x h = let k : Some y ≡ Some x = rw (bits_suc y) at h in cc
 
@@ -43,14 +43,14 @@ loaded_read x g (l ∷ loads) =
 pub naming_read : (x : ℕ) (loads : List Load) → tried.naming x loads ≡ named x (map seen_of loads)
 unfolding tried.naming
 naming_read x [] = refl
-naming_read x (l ∷ loads) = omega (arith, sum_by-cons (λ (k : Load). one (leads_to x (target_of k.word))) l loads, leads_code x (code_of l.word), naming_read x loads)
+naming_read x (l ∷ loads) = omega (arith, sum_by-cons (λ (k : Load). one (is_slot x (target_of k.word))) l loads, leads_code x (code_of l.word), naming_read x loads)
 
 pub edges_read : (n x : ℕ) (loads : List Load) → tried.edges n x loads ≡ edges n x (map seen_of loads)
 unfolding tried.edges
 edges_read n x [] = refl
 edges_read n x (l ∷ loads) =
-    let here : one (cond (eqb n l.slot) (leads_to x (target_of l.word)) false) ≡ guarded (eqb n l.slot) (same (suc x) (code_of l.word)) = both (eqb n l.slot) (leads_to x (target_of l.word)) ∙ ap (guarded (eqb n l.slot)) (leads_code x (code_of l.word)) in
-    omega (arith, sum_by-cons (λ (k : Load). one (cond (eqb n k.slot) (leads_to x (target_of k.word)) false)) l loads, here, edges_read n x loads)
+    let here : one (cond (eqb n l.slot) (is_slot x (target_of l.word)) false) ≡ guarded (eqb n l.slot) (same (suc x) (code_of l.word)) = both (eqb n l.slot) (is_slot x (target_of l.word)) ∙ ap (guarded (eqb n l.slot)) (leads_code x (code_of l.word)) in
+    omega (arith, sum_by-cons (λ (k : Load). one (cond (eqb n k.slot) (is_slot x (target_of k.word)) false)) l loads, here, edges_read n x loads)
 
 -- words that do not change
 abbrev pub codes : (word : ℕ → ℕ → ℕ) → ℕ → ℕ → ℕ
@@ -76,12 +76,12 @@ range_read p f a (suc n) h =
     let next : (g : ℕ) → one (p (a + 1 + g)) ≡ f (suc g) = λ g. ap (λ k. one (p k)) (omega arith) ∙ h (suc g) in
     omega (arith, sum_by-cons (λ k. one (p k)) a (range_with_len (a + 1) n), e, range_read p (λ g. f (suc g)) (a + 1) n next, below_front f n)
 
-pub references_read : (fields : ℕ) (word : ℕ → ℕ → ℕ) (marked : List ℕ) (x : ℕ) → sum_by (λ n. count_by (λ field. leads_to x (target_of (word n field))) (range_with_len 0 fields)) marked ≡ total (λ n. total_below (λ g. same (suc x) (codes word n g)) fields) marked
+pub references_read : (fields : ℕ) (word : ℕ → ℕ → ℕ) (marked : List ℕ) (x : ℕ) → sum_by (λ n. count_by (λ field. is_slot x (target_of (word n field))) (range_with_len 0 fields)) marked ≡ total (λ n. total_below (λ g. same (suc x) (codes word n g)) fields) marked
 references_read fields word [] x = refl
 references_read fields word (n ∷ marked) x =
     omega (
       arith,
-      sum_by-cons (λ m. count_by (λ field. leads_to x (target_of (word m field))) (range_with_len 0 fields)) n marked,
-      range_read (λ field. leads_to x (target_of (word n field))) (λ g. same (suc x) (codes word n g)) 0 fields (λ g. ap (λ k. one (leads_to x (target_of (word n k)))) (omega arith) ∙ leads_code x (codes word n g)),
+      sum_by-cons (λ m. count_by (λ field. is_slot x (target_of (word m field))) (range_with_len 0 fields)) n marked,
+      range_read (λ field. is_slot x (target_of (word n field))) (λ g. same (suc x) (codes word n g)) 0 fields (λ g. ap (λ k. one (is_slot x (target_of (word n k)))) (omega arith) ∙ leads_code x (codes word n g)),
       references_read fields word marked x,
     )

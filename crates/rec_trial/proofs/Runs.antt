@@ -2,7 +2,7 @@
 use Rattle.std.proofs.Common.{◌≡◌, ℕ, zero, suc, ◌+◌, ◌%◌, ◌^◌, ◌<◌, Bool, true, false, ltb, Option, None, Some, IfSome, IsSome, List, [], ◌∷◌, ◌++◌, length, map, fold, get_or, refl, sym, ap, subst, ◌∙◌, arith, zero-add}
 use Rattle.std.specs.List.{concat}
 use Rattle.std.proofs.lemmas.Bool.{false≢true}
-use Rattle.rec_word.specs.Word.{slot_of_bits, target_of}
+use Rattle.rec_word.specs.Word.{target_of, predecessor}
 use Rattle.rec_counts.specs.Counts.{State, slot_at}
 use Rattle.rec_counts.specs.Groups.{last_set, earlier_sets}
 use Rattle.rec_trial.specs.declared.phase.Phase.{Phase}
@@ -34,7 +34,7 @@ in_range_if : (s : State) (t : Option ℕ) → IfSome t (λ x. (slot_at s x).rel
 in_range_if s None h = tt
 in_range_if s (Some x) h = in_range s x h
 
-alive_of : (s : State) (code : ℕ) → IfSome (slot_of_bits code) (λ x. (slot_at s x).released ≡ false) → Alive (λ x. (slot_at s x).released) code
+alive_of : (s : State) (code : ℕ) → IfSome (predecessor code) (λ x. (slot_at s x).released ≡ false) → Alive (λ x. (slot_at s x).released) code
 alive_of s zero h = tt
 alive_of s (suc x) h = rw (bits_suc x) at h
 

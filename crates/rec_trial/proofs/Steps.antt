@@ -4,7 +4,7 @@ use Rattle.std.specs.List.{concat}
 use Rattle.std.proofs.lemmas.List.{get_or_past, length-set, length-append}
 use Rattle.std.proofs.lemmas.Bool.{cases_lt, false≢true}
 use Rattle.std.proofs.lemmas.Bool.Decides.{nat_tests}
-use Rattle.rec_word.specs.Word.{slot_of_bits}
+use Rattle.rec_word.specs.Word.{predecessor}
 use Rattle.rec_counts.specs.declared.colour.Colour.{Colour}
 use Rattle.rec_counts.specs.declared.colour.Colour.TheVariants.{Black, Purple, Gray, White, Orange}
 use Rattle.rec_counts.specs.declared.slot.Slot.{Slot}
@@ -25,7 +25,7 @@ in_range s x e = elim (cases_lt x (length s.slots)) [
   | inr l ↦ absurd (false≢true (sym e ∙ ap (λ (v : Slot). v.released) (get_or_past s.slots x absent l)))
 ]
 
-pub bits_suc : (x : ℕ) → slot_of_bits (suc x) ≡ Some x
+pub bits_suc : (x : ℕ) → predecessor (suc x) ≡ Some x
 bits_suc x = go (eqb (suc x) 0) refl
   where
     not_zero : eqb (suc x) 0 ≡ true → ⊥
@@ -34,7 +34,7 @@ bits_suc x = go (eqb (suc x) 0) refl
     less : suc x - 1 ≡ x
     less = omega arith
 
-    go : (b : Bool) → eqb (suc x) 0 ≡ b → slot_of_bits (suc x) ≡ Some x
+    go : (b : Bool) → eqb (suc x) 0 ≡ b → predecessor (suc x) ≡ Some x
     go true e = absurd (not_zero e)
     go false e = rw (e, less) refl
 
@@ -66,15 +66,15 @@ module _ (m : Machine) (s : State) where
       go : (b : Bool) → view_of m (one_off (touched_if b s x) x) ≡ plain.take_one (plain.touch_if b (view_of m s) x) x
       go b = view_one_off m (touched_if b s x) x (omega (arith, l, touched_length s x b)) ∙ ap (λ (v : Deletion). plain.take_one v x) (view_touched m s x l b)
 
-  pub view_marked_by : (code : ℕ) → IfSome (slot_of_bits code) (λ x. x < length s.slots) → view_of m (marked_by s (slot_of_bits code)) ≡ plain.mark_word (view_of m s) code
+  pub view_marked_by : (code : ℕ) → IfSome (predecessor code) (λ x. x < length s.slots) → view_of m (marked_by s (predecessor code)) ≡ plain.mark_word (view_of m s) code
   view_marked_by zero l = refl
   view_marked_by (suc x) l = let h : x < length s.slots = rw (bits_suc x) at l in rw (bits_suc x) (view_marked x h)
 
-  pub view_scanned_by : (code : ℕ) → IfSome (slot_of_bits code) (λ x. x < length s.slots) → view_of m (scanned_by s (slot_of_bits code)) ≡ plain.scan_word (view_of m s) code
+  pub view_scanned_by : (code : ℕ) → IfSome (predecessor code) (λ x. x < length s.slots) → view_of m (scanned_by s (predecessor code)) ≡ plain.scan_word (view_of m s) code
   view_scanned_by zero l = refl
   view_scanned_by (suc x) l = let h : x < length s.slots = rw (bits_suc x) at l in rw (bits_suc x) (view_blackened m s x h (is_gray (slot_at s x).colour))
 
-  pub view_collected_by : (code : ℕ) → IfSome (slot_of_bits code) (λ x. x < length s.slots) → 0 < length s.sets → view_of m (collected_by s (slot_of_bits code)) ≡ plain.find_word (view_of m s) code
+  pub view_collected_by : (code : ℕ) → IfSome (predecessor code) (λ x. x < length s.slots) → 0 < length s.sets → view_of m (collected_by s (predecessor code)) ≡ plain.find_word (view_of m s) code
   view_collected_by zero l some = refl
   view_collected_by (suc x) l some = let h : x < length s.slots = rw (bits_suc x) at l in rw (bits_suc x) (view_joined m s x h some (is_white (slot_at s x).colour))
 

@@ -1,13 +1,13 @@
 -- What a trial promises where two loads of a field always give one word.
 use Rattle.std.specs.Prelude.{◌≡◌, ℕ, ◌-◌, ◌<◌, false, Some, List, [], ◌∷◌, count_by, IsNone}
 use Rattle.std.specs.List.{range_with_len, sum_by}
-use Rattle.rec_word.specs.Word.{target_of}
+use Rattle.rec_word.specs.Word.{target_of, is_slot}
 use Rattle.rec_counts.specs.declared.colour.Colour.TheVariants.{Purple}
 use Rattle.rec_counts.specs.Counts.{State, slot_at}
 use Rattle.rec_counts.specs.Lists.{times}
 use Rattle.rec_trial.specs.Loaded.{Load, Run, run_of}
 use Rattle.rec_trial.specs.Rules.{IsReady, AllLeadToUnreleased}
-use Rattle.rec_trial.specs.Tried.{IsOver, leads_to, members}
+use Rattle.rec_trial.specs.Tried.{IsOver, members}
 use Rattle.rec_trial.specs.Trial.{next_of}
 
 -- each load gave the word of its field
@@ -28,7 +28,7 @@ pub data IsReached (fields : ℕ) (word : (slot field : ℕ) → ℕ) (s : State
 
 -- how many fields of marked slots lead to the slot
 abbrev pub references : (fields : ℕ) (word : (slot field : ℕ) → ℕ) (marked : List ℕ) → ℕ → ℕ
-references fields word marked x = sum_by (λ n. count_by (λ field. leads_to x (target_of (word n field))) (range_with_len 0 fields)) marked
+references fields word marked x = sum_by (λ n. count_by (λ field. is_slot x (target_of (word n field))) (range_with_len 0 fields)) marked
 
 -- the rest of a slot: its true count less those fields, not below zero
 abbrev pub rest : (fields : ℕ) (word : (slot field : ℕ) → ℕ) (marked : List ℕ) (s : State) → ℕ → ℕ

@@ -1,3 +1,5 @@
+pub mod Atom
+pub mod Mailbox
 pub mod Op
 pub mod Place
 pub mod Word

@@ -1,29 +1,60 @@
--- What an operation leaves in the word that it names.
-use Rattle.std.specs.Prelude.{ℕ, ◌+◌, ◌*◌, ◌%◌, ◌^◌, ◌==◌, if◌then◌else◌}
+-- What an operation names, what it does there, and what it leaves.
+use Rattle.std.specs.Prelude.{ℕ, ◌+◌, Option, None, Some}
+use Rattle.rec_word.specs.Atom.{leaves}
+use Rattle.rec_word.specs.Mailbox.{crossing_word}
+use Rattle.rec_word.specs.declared.atom.Atom.{Atom}
+use Rattle.rec_word.specs.declared.atom.Atom.TheVariants.{Load, Exchange, CompareExchange, Add}
+use Rattle.rec_word.specs.declared.cell.Cell.{Cell}
+use Rattle.rec_word.specs.declared.cell.Cell.TheVariants.{Field, Header, Epoch, Freed, Crossing}
+use Rattle.rec_word.specs.declared.mailbox.Mailbox.TheVariants.{Spare, WithMutator, Retired, WithCollector}
 use Rattle.rec_word.specs.declared.op.Op.{Op}
 use Rattle.rec_word.specs.declared.op.Op.TheVariants.{LoadField, SwapField, LoadHeader, LoadEpoch, LoadCross, ClaimHeader, LoadFreed, LoadChild, ClearField, FreeHeader, TakeBox, GiveBox, StoreEpoch, LookBox, ReturnBox, AddFreed}
 
--- the crossing word of a mutator in this epoch, or crossing into it, with its mailbox in this state
-abbrev pub crossing_word : (epoch state : ℕ) → ℕ
-crossing_word epoch state = epoch * 4 + state
+-- the word that it names
+abbrev pub cell_of : Op → Cell
+cell_of (LoadField place) = Field place
+cell_of (SwapField place word) = Field place
+cell_of (LoadHeader slot) = Header slot
+cell_of LoadEpoch = Epoch
+cell_of (LoadCross t) = Crossing t
+cell_of (ClaimHeader slot label) = Header slot
+cell_of LoadFreed = Freed
+cell_of (LoadChild place) = Field place
+cell_of (ClearField place) = Field place
+cell_of (FreeHeader slot) = Header slot
+cell_of (TakeBox t epoch) = Crossing t
+cell_of (GiveBox t epoch) = Crossing t
+cell_of (StoreEpoch epoch) = Epoch
+cell_of (LookBox t epoch) = Crossing t
+cell_of (ReturnBox t epoch) = Crossing t
+cell_of AddFreed = Freed
 
--- a load leaves the word found, an exchange its own; a claim takes a header that is 0; what clears leaves 0;
--- a crossing word tells its next state, and a look changes it only where the mailbox is home with what was retired; the
--- freed word goes round at its greatest value
+-- what it does there: a claim takes a header that is 0; what clears leaves 0; a crossing word tells where its mailbox is
+-- then, and a look changes it only where the mailbox is home with what was retired
+abbrev pub atom_of : Op → Atom
+atom_of (LoadField place) = Load
+atom_of (SwapField place word) = Exchange word
+atom_of (LoadHeader slot) = Load
+atom_of LoadEpoch = Load
+atom_of (LoadCross t) = Load
+atom_of (ClaimHeader slot label) = CompareExchange 0 (label + 1)
+atom_of LoadFreed = Load
+atom_of (LoadChild place) = Load
+atom_of (ClearField place) = Exchange 0
+atom_of (FreeHeader slot) = Exchange 0
+atom_of (TakeBox t epoch) = Exchange (crossing_word epoch WithMutator)
+atom_of (GiveBox t epoch) = Exchange (crossing_word epoch Retired)
+atom_of (StoreEpoch epoch) = Exchange epoch
+atom_of (LookBox t epoch) = CompareExchange (crossing_word epoch Retired) (crossing_word epoch WithCollector)
+atom_of (ReturnBox t epoch) = Exchange (crossing_word epoch Spare)
+atom_of AddFreed = Add 1
+
+-- what it leaves there, where this word was found
 abbrev pub written : Op → ℕ → ℕ
-written (LoadField place) found = found
-written (SwapField place word) found = word
-written (LoadHeader slot) found = found
-written LoadEpoch found = found
-written (LoadCross t) found = found
-written (ClaimHeader slot label) found = if found == 0 then label + 1 else found
-written LoadFreed found = found
-written (LoadChild place) found = found
-written (ClearField place) found = 0
-written (FreeHeader slot) found = 0
-written (TakeBox t epoch) found = crossing_word epoch 1
-written (GiveBox t epoch) found = crossing_word epoch 2
-written (StoreEpoch epoch) found = epoch
-written (LookBox t epoch) found = if found == crossing_word epoch 2 then crossing_word epoch 3 else found
-written (ReturnBox t epoch) found = crossing_word epoch 0
-written AddFreed found = (found + 1) % 2 ^ 64
+written op found = leaves (atom_of op) found
+
+-- the mutator whose mailbox it takes, if it takes one; a look takes it only where the word that it finds lets it
+abbrev pub mailbox_of : Op → Option ℕ
+mailbox_of (TakeBox t epoch) = Some t
+mailbox_of (LookBox t epoch) = Some t
+mailbox_of _ = None

@@ -1,5 +1,5 @@
 -- A field word: bits 0 to 15 the target plus one, 16 to 39 the epoch, 40 to 45 the writer, 46 to 63 the index.
-use Rattle.std.specs.Prelude.{ℕ, ◌+◌, ◌-◌, ◌*◌, ◌/◌, ◌%◌, ◌^◌, ◌<◌, ◌==◌, if◌then◌else◌, Option, None, Some, IfSome}
+use Rattle.std.specs.Prelude.{ℕ, ◌+◌, ◌-◌, ◌*◌, ◌/◌, ◌%◌, ◌^◌, ◌<◌, ◌==◌, if◌then◌else◌, Bool, false, Option, None, Some, IfSome}
 use Rattle.rec_word.specs.declared.stamps.Stamp.{Stamp}
 
 -- 0 for null, else the slot plus one
@@ -11,13 +11,18 @@ low_bits (Some slot) = slot + 1
 abbrev pub packed : Option ℕ → Stamp → ℕ
 packed target stamp = low_bits target + stamp.epoch * 2 ^ 16 + stamp.writer * 2 ^ 40 + stamp.index * 2 ^ 46
 
--- null for 0, else the number before
-abbrev pub slot_of_bits : ℕ → Option ℕ
-slot_of_bits n = if n == 0 then None else Some (n - 1)
+-- the number before; there is none before 0
+abbrev pub predecessor : ℕ → Option ℕ
+predecessor n = if n == 0 then None else Some (n - 1)
 
 -- where a field word leads
 abbrev pub target_of : ℕ → Option ℕ
-target_of word = slot_of_bits (word % 2 ^ 16)
+target_of word = predecessor (word % 2 ^ 16)
+
+-- it is this slot, and not null
+abbrev pub is_slot : ℕ → Option ℕ → Bool
+is_slot x None = false
+is_slot x (Some y) = x == y
 
 -- the stamp in a field word
 abbrev pub stamp_of : ℕ → Stamp

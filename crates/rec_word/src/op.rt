@@ -1,8 +1,8 @@
-ghost use Rattle.std.specs.Prelude.{◌≡◌, ◌<◌, ◌^◌};
-ghost use Rattle.rec_word.specs.Op.{crossing_word};
+ghost use Rattle.std.specs.Prelude.{◌≡◌};
 
-/// One atomic operation on one shared word. A place numbers a field, a slot a header, a mutator's number its crossing word;
-/// the epoch word and the freed word are one each.
+use crate::{Atom, Cell, Mailbox, crossing};
+
+/// One atomic operation on one shared word: `cell` tells which word that is, and `atom` what is done to it.
 #[derive(Clone, Copy, Debug, PartialEq, Eq)]
 pub enum Op {
     /// Load a field.
@@ -41,11 +41,35 @@ pub enum Op {
 }
 
 impl Op {
-    ghost use Rattle.rec_word.specs.Op.{written};
+    ghost use Rattle.rec_word.specs.Op.{atom_of, cell_of, mailbox_of, written};
 
-    /// The word that stands there afterwards, where this one was found.
-    pub fn written(self, found: u64) -> u64
-        ensures { result ≡ written self found }
+    /// The word that it names.
+    #[inline(always)]
+    pub fn cell(self) -> Cell
+        ensures { result ≡ cell_of self }
+    {
+        match self {
+            Op::LoadField(place)
+            | Op::SwapField(place, _)
+            | Op::LoadChild(place)
+            | Op::ClearField(place) => Cell::Field(place),
+            Op::LoadHeader(slot) | Op::ClaimHeader(slot, _) | Op::FreeHeader(slot) => {
+                Cell::Header(slot)
+            }
+            Op::LoadEpoch | Op::StoreEpoch(_) => Cell::Epoch,
+            Op::LoadFreed | Op::AddFreed => Cell::Freed,
+            Op::LoadCross(t)
+            | Op::TakeBox(t, _)
+            | Op::GiveBox(t, _)
+            | Op::LookBox(t, _)
+            | Op::ReturnBox(t, _) => Cell::Crossing(t),
+        }
+    }
+
+    /// What it does to the word that it names.
+    #[inline(always)]
+    pub fn atom(self) -> Atom
+        ensures { result ≡ atom_of self }
     {
         match self {
             Op::LoadField(_)
@@ -53,39 +77,44 @@ impl Op {
             | Op::LoadEpoch
             | Op::LoadCross(_)
             | Op::LoadChild(_)
-            | Op::LoadFreed => found,
-            Op::SwapField(_, word) => word,
-            Op::ClaimHeader(_, label) => {
-                if found == 0 {
-                    u64::from(label) + 1
-                } else {
-                    found
-                }
-            }
-            Op::ClearField(_) | Op::FreeHeader(_) => 0,
-            Op::TakeBox(_, epoch) => crossing(epoch, 1),
-            Op::GiveBox(_, epoch) => crossing(epoch, 2),
-            Op::StoreEpoch(epoch) => u64::from(epoch),
-            Op::LookBox(_, epoch) => {
-                if found == crossing(epoch, 2) {
-                    crossing(epoch, 3)
-                } else {
-                    found
-                }
-            }
-            Op::ReturnBox(_, epoch) => crossing(epoch, 0),
-            Op::AddFreed => found.wrapping_add(1),
+            | Op::LoadFreed => Atom::Load,
+            Op::SwapField(_, word) => Atom::Exchange(word),
+            Op::ClaimHeader(_, label) => Atom::CompareExchange {
+                expected: 0,
+                new: u64::from(label) + 1,
+            },
+            Op::ClearField(_) | Op::FreeHeader(_) => Atom::Exchange(0),
+            Op::TakeBox(_, epoch) => Atom::Exchange(crossing(epoch, Mailbox::WithMutator)),
+            Op::GiveBox(_, epoch) => Atom::Exchange(crossing(epoch, Mailbox::Retired)),
+            Op::StoreEpoch(epoch) => Atom::Exchange(u64::from(epoch)),
+            Op::LookBox(_, epoch) => Atom::CompareExchange {
+                expected: crossing(epoch, Mailbox::Retired),
+                new: crossing(epoch, Mailbox::WithCollector),
+            },
+            Op::ReturnBox(_, epoch) => Atom::Exchange(crossing(epoch, Mailbox::Spare)),
+            Op::AddFreed => Atom::Add(1),
         }
     }
-}
 
-/// The crossing word that says that its mutator is in this epoch, or crossing into it, and where its mailbox is: 0 at home
-/// with a spare, 1 with the mutator, which is crossing, 2 at home with what was retired, 3 with the collector.
-pub fn crossing(epoch: u32, state: u8) -> u64
-    requires { state < 4 }
-    ensures { result ≡ crossing_word epoch state }
-{
-    u64::from(epoch) * 4 + u64::from(state)
+    /// The word that it leaves there, where it found this one.
+    #[inline(always)]
+    pub fn written(self, found: u64) -> u64
+        ensures { result ≡ written self found }
+    {
+        self.atom().leaves(found)
+    }
+
+    /// The mutator whose mailbox it takes, or `None` where it takes none. A look takes it only where the word found says that
+    /// the mailbox is home with what was retired.
+    #[inline(always)]
+    pub fn mailbox(self) -> Option<u8>
+        ensures { result ≡ mailbox_of self }
+    {
+        match self {
+            Op::TakeBox(t, _) | Op::LookBox(t, _) => Some(t),
+            _ => None,
+        }
+    }
 }
 
 #[cfg(test)]

@@ -11,6 +11,8 @@ use Rattle.std.proofs.Math.Nat.{mul-le-mul}
 use Rattle.rec_word.specs.Op.{written}
 use Rattle.rec_word.specs.declared.op.Op.{Op}
 use Rattle.rec_word.specs.declared.op.Op.TheVariants as ops
+use Rattle.rec_word.specs.Mailbox.{crossing_word}
+use Rattle.rec_word.specs.declared.mailbox.Mailbox.TheVariants.{Spare}
 use Rattle.rec_model.specs.declared.command.Cmd.{Cmd}
 use Rattle.rec_model.specs.declared.command.Cmd.TheVariants as commands
 use Rattle.rec_log.specs.declared.contents.Contents.{Contents}
@@ -154,21 +156,7 @@ births_few (ops.ClaimHeader slot label) found = go (found == 0)
     go : (b : Bool) → (if b then 1 else 0) ≤ 1
     go true = omega arith
     go false = omega arith
-births_few (ops.LoadField place) found = omega arith
-births_few (ops.SwapField place word) found = omega arith
-births_few (ops.LoadHeader slot) found = omega arith
-births_few ops.LoadEpoch found = omega arith
-births_few (ops.LoadCross t) found = omega arith
-births_few (ops.LoadChild place) found = omega arith
-births_few (ops.ClearField place) found = omega arith
-births_few (ops.FreeHeader slot) found = omega arith
-births_few ops.LoadFreed found = omega arith
-births_few (ops.TakeBox t e) found = omega arith
-births_few (ops.GiveBox t e) found = omega arith
-births_few (ops.StoreEpoch e) found = omega arith
-births_few (ops.LookBox t e) found = omega arith
-births_few (ops.ReturnBox t e) found = omega arith
-births_few ops.AddFreed found = omega arith
+births_few _ found = omega arith
 
 -- what a step leaves
 pub stepped_is : (w : Core) (t i : ℕ) (boxes : List (Option Contents)) (op : Op) (found births : ℕ) (p q : Private) (mailbox left : Option Contents) (taken new : Private) (cells : Cells)
@@ -216,7 +204,7 @@ opened_home config boxes are i there =
 
 -- its parts make it up
 pub opened_parts : (config : Config) (cells : Cells) (boxes : List (Option Contents)) (mutators : List Private) (collector : collectors.Private)
-    → cells ≡ record { headers = 1 ∷ replicate (config.slots - 1) 0; words = replicate (config.slots * config.fields) 0; epoch = config.first_epoch; freed = 0; crossing = replicate config.mutators (4 * config.first_epoch) }
+    → cells ≡ record { headers = 1 ∷ replicate (config.slots - 1) 0; words = replicate (config.slots * config.fields) 0; epoch = config.first_epoch; freed = 0; crossing = replicate config.mutators (crossing_word config.first_epoch Spare) }
     → boxes ≡ replicate config.mutators (Some (spare_of config)) → mutators ≡ opened_mutators config config.mutators
     → collector ≡ collectors.opened config.slots config.fields config.registers config.mutators config.log_entries config.first_epoch
     → ◌≡◌ {A = Core} (record { config = config; headers = cells.headers; words = cells.words; epoch = cells.epoch; freed = cells.freed; crossing = cells.crossing; boxes = map held boxes; mutators = mutators; collector = collector; made = 1 }) (opened config)
@@ -224,7 +212,7 @@ opened_parts config cells boxes mutators collector is are own counts =
     let make : Cells → List Contents → List Private → collectors.Private → Core
     = λ x b m c. record { config = config; headers = x.headers; words = x.words; epoch = x.epoch; freed = x.freed; crossing = x.crossing; boxes = b; mutators = m; collector = c; made = 1 } in
     let spares : map held boxes ≡ replicate config.mutators (spare_of config) = ap (map held) are ∙ map-replicate held config.mutators (Some (spare_of config)) in
-    let first : Cells = record { headers = 1 ∷ replicate (config.slots - 1) 0; words = replicate (config.slots * config.fields) 0; epoch = config.first_epoch; freed = 0; crossing = replicate config.mutators (4 * config.first_epoch) } in
+    let first : Cells = record { headers = 1 ∷ replicate (config.slots - 1) 0; words = replicate (config.slots * config.fields) 0; epoch = config.first_epoch; freed = 0; crossing = replicate config.mutators (crossing_word config.first_epoch Spare) } in
     ap (λ x. make x (map held boxes) mutators collector) is
     ∙ ap (λ b. make first b mutators collector) spares
     ∙ ap (λ m. make first (replicate config.mutators (spare_of config)) m collector) own

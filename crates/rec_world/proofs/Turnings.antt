@@ -1,8 +1,11 @@
 -- What the fields of a world become in a turn is what the definitions say.
 use Rattle.std.proofs.Common.{◌≡◌, ◌≢◌, ℕ, ◌+◌, ◌-◌, ◌<◌, ◌≤◌, ◌==◌, if◌then◌else◌, List, [], ◌∷◌, Option, None, Some, Bool, true, false, slice_set, slice_index_or, length, map, refl, sym, ap, subst, ◌∙◌, arith}
+use Rattle.std.specs.Option.{IsSome}
 use Rattle.std.proofs.lemmas.Bool.{ne_eqb}
-use Rattle.std.proofs.lemmas.List.{map-set, set-get_or}
-use Rattle.rec_word.specs.Op.{written, crossing_word}
+use Rattle.std.proofs.lemmas.List.{get_or_default, map-set, set-get_or}
+use Rattle.rec_word.specs.Mailbox.{crossing_word}
+use Rattle.rec_word.specs.declared.mailbox.Mailbox.TheVariants.{Retired, WithCollector}
+use Rattle.rec_word.specs.Op.{written, mailbox_of}
 use Rattle.rec_word.specs.declared.op.Op.{Op}
 use Rattle.rec_word.specs.declared.op.Op.TheVariants as ops
 use Rattle.rec_log.specs.declared.contents.Contents.{Contents}
@@ -15,6 +18,7 @@ use Rattle.rec_sigma.specs.Prepare.{op_at as prep_op_at, next_of as prep_next}
 use Rattle.rec_sigma.specs.declared.at.At as loads
 use Rattle.rec_trial.specs.Trial.{next_of as trial_next}
 use Rattle.rec_collector.specs.Causes.{HasCause}
+use Rattle.rec_collector.specs.Given.{IsSwapping}
 use Rattle.rec_collector.specs.Followed.{Next, followed, prep_started, prepared, prepared_at, relieved, sweep_phase, tested_on, trial_started, tried, tried_at, with_freed, with_loaded, with_released, with_tried}
 use Rattle.rec_collector.specs.Kept.{swept_at, under_way}
 use Rattle.rec_collector.specs.Next.{next_of, next_at, is_spent}
@@ -28,7 +32,7 @@ use Rattle.rec_collector.specs.declared.phase.Phase.{Phase}
 use Rattle.rec_collector.specs.declared.phase.Phase.TheVariants.{Idle, Looking, Swapping, Returning, Releasing, Freeing, Trying, Preparing, Opening, Sweeping, Closing}
 use Rattle.rec_collector.specs.declared.turn.Turn.{Turn}
 use Rattle.rec_collector.specs.declared.turn.Turn.TheVariants as turns
-use Rattle.rec_core.specs.Cells.{mailbox_at, Cells, cell, with_cell}
+use Rattle.rec_core.specs.Cells.{Cells, cell, with_cell}
 use Rattle.rec_core.specs.Core.{Core, cells_of, box, crossing_of}
 use Rattle.rec_core.specs.Kept.{IsKept}
 use Rattle.rec_core.specs.Moves.{looked_at, left_by, collected, turned, turned_at, turned_by}
@@ -36,46 +40,52 @@ use Rattle.rec_core.specs.declared.config.Config.{Config}
 use Rattle.rec_core.proofs.Trying.{loads_child}
 use Rattle.rec_core.proofs.Turning.{some_op}
 use Rattle.rec_core.proofs.Turns.{same_boxes}
-use Rattle.rec_world.specs.Mailbox.{held}
+use Rattle.rec_world.specs.Mailbox.{held, held_by, gathered_by, gathered_from}
 use Rattle.rec_world.specs.World.{TurnHasCause}
-use Rattle.rec_world.proofs.Calls.{box_read}
+use Rattle.rec_world.proofs.Calls.{box_read, home_again}
+use Rattle.rec_world.proofs.Mailboxes.{collector_leaves, collector_stays, gathered_stays}
 
--- the operation that comes next takes the mailbox that the collector looks at, by phase
-looks_at_phase : (c : collectors.Private) (op : Op) (phase : Phase) → ◌≡◌ {A = Option Op} (next_at c phase) (Some op) → mailbox_at op ≡ looked_at phase
+-- the mailbox that the collector looks at, by phase, if it looks at one
+abbrev pub looks_for : Phase → Option ℕ
+looks_for (Looking t) = Some t
+looks_for _ = None
+
+-- the operation that comes next takes that one, by phase
+looks_at_phase : (c : collectors.Private) (op : Op) (phase : Phase) → ◌≡◌ {A = Option Op} (next_at c phase) (Some op) → mailbox_of op ≡ looks_for phase
 unfolding next_at release_next freeing_next prep_next sweep_next
 looks_at_phase c op Idle named = stored (is_spent c) named
   where
-    stored : (spent : Bool) → ◌≡◌ {A = Option Op} (if spent then None else Some (ops.StoreEpoch (c.epoch + 1))) (Some op) → mailbox_at op ≡ 1
+    stored : (spent : Bool) → ◌≡◌ {A = Option Op} (if spent then None else Some (ops.StoreEpoch (c.epoch + 1))) (Some op) → mailbox_of op ≡ None
     stored true none = let not_so : ◌≡◌ {A = Option Op} (Some op) None = sym none in absurd (cc)
-    stored false some = ap mailbox_at (sym (some_op (ops.StoreEpoch (c.epoch + 1)) op some))
-looks_at_phase c op (Looking t) named = ap mailbox_at (sym (some_op (ops.LookBox t c.epoch) op named))
-looks_at_phase c op (Swapping t) named = ap mailbox_at (sym (some_op (ops.ReturnBox t c.epoch) op named))
-looks_at_phase c op (Returning t) named = ap mailbox_at (sym (some_op (ops.ReturnBox t c.epoch) op named))
+    stored false some = ap mailbox_of (sym (some_op (ops.StoreEpoch (c.epoch + 1)) op some))
+looks_at_phase c op (Looking t) named = ap mailbox_of (sym (some_op (ops.LookBox t c.epoch) op named))
+looks_at_phase c op (Swapping t) named = ap mailbox_of (sym (some_op (ops.ReturnBox t c.epoch) op named))
+looks_at_phase c op (Returning t) named = ap mailbox_of (sym (some_op (ops.ReturnBox t c.epoch) op named))
 looks_at_phase c op Releasing named = go c.release.at named
   where
-    go : (x : Option At) → ◌≡◌ {A = Option Op} (release_op_at c.release.fields x) (Some op) → mailbox_at op ≡ 1
+    go : (x : Option At) → ◌≡◌ {A = Option Op} (release_op_at c.release.fields x) (Some op) → mailbox_of op ≡ None
     go None none = let not_so : ◌≡◌ {A = Option Op} (Some op) None = sym none in absurd (cc)
-    go (Some a) some = ap mailbox_at (sym (some_op _ op some))
+    go (Some a) some = ap mailbox_of (sym (some_op _ op some))
 looks_at_phase c op Freeing named = go c.freeing.at named
   where
-    go : (x : Option Member) → ◌≡◌ {A = Option Op} (freeing_op_at c.freeing.fields x) (Some op) → mailbox_at op ≡ 1
+    go : (x : Option Member) → ◌≡◌ {A = Option Op} (freeing_op_at c.freeing.fields x) (Some op) → mailbox_of op ≡ None
     go None none = let not_so : ◌≡◌ {A = Option Op} (Some op) None = sym none in absurd (cc)
-    go (Some a) some = ap mailbox_at (sym (some_op _ op some))
-looks_at_phase c op Trying named = ap mailbox_at (loads_child c.trial op (sym named)).1
+    go (Some a) some = ap mailbox_of (sym (some_op _ op some))
+looks_at_phase c op Trying named = ap mailbox_of (loads_child c.trial op (sym named)).1
 looks_at_phase c op Preparing named = go c.prep.at named
   where
-    go : (x : Option loads.At) → ◌≡◌ {A = Option Op} (prep_op_at c.prep.fields x) (Some op) → mailbox_at op ≡ 1
+    go : (x : Option loads.At) → ◌≡◌ {A = Option Op} (prep_op_at c.prep.fields x) (Some op) → mailbox_of op ≡ None
     go None none = let not_so : ◌≡◌ {A = Option Op} (Some op) None = sym none in absurd (cc)
-    go (Some a) some = ap mailbox_at (sym (some_op _ op some))
-looks_at_phase c op Opening named = ap mailbox_at (sym (some_op ops.AddFreed op named))
+    go (Some a) some = ap mailbox_of (sym (some_op _ op some))
+looks_at_phase c op Opening named = ap mailbox_of (sym (some_op ops.AddFreed op named))
 looks_at_phase c op (Sweeping n) named = go c.due named
   where
-    go : (x : Option ℕ) → ◌≡◌ {A = Option Op} (sweep_next x) (Some op) → mailbox_at op ≡ 1
+    go : (x : Option ℕ) → ◌≡◌ {A = Option Op} (sweep_next x) (Some op) → mailbox_of op ≡ None
     go None none = let not_so : ◌≡◌ {A = Option Op} (Some op) None = sym none in absurd (cc)
-    go (Some x) some = ap mailbox_at (sym (some_op (ops.FreeHeader x) op some))
-looks_at_phase c op (Closing n) named = ap mailbox_at (sym (some_op ops.AddFreed op named))
+    go (Some x) some = ap mailbox_of (sym (some_op (ops.FreeHeader x) op some))
+looks_at_phase c op (Closing n) named = ap mailbox_of (sym (some_op ops.AddFreed op named))
 
-pub looks_at : (c : collectors.Private) (op : Op) → ◌≡◌ {A = Option Op} (next_of c) (Some op) → mailbox_at op ≡ looked_at c.phase
+pub looks_at : (c : collectors.Private) (op : Op) → ◌≡◌ {A = Option Op} (next_of c) (Some op) → mailbox_of op ≡ looks_for c.phase
 unfolding next_of
 looks_at c op named = looks_at_phase c op c.phase named
 
@@ -109,75 +119,79 @@ followed_between w = at (tested (length w.counts.sets) w).release.at (tested (le
     at (Some a) None = tt
     at None None = tried_between (trial_started (tested (length w.counts.sets) w))
 
-came_between : (c : collectors.Private) (b : Contents) (n : Next) → IsBetween n.phase → left_of (came c n) b ≡ b
-unfolding left_of left_at
-came_between c b n between = at n.phase between
+came_between : (c : collectors.Private) (n : Next) → IsBetween n.phase → IsBetween (came c n).phase
+came_between c n between = at n.phase between
   where
-    at : (phase : Phase) → IsBetween phase → (let d : collectors.Private = ended_if phase (moved (with_parts c n.parts) phase) in left_at d b d.phase) ≡ b
-    at Idle between = refl
-    at (Looking t) between = refl
+    at : (phase : Phase) → IsBetween phase → IsBetween (ended_if phase (moved (with_parts c n.parts) phase)).phase
     at (Swapping t) between = absurd between
-    at (Returning t) between = refl
-    at Releasing between = refl
-    at Freeing between = refl
-    at Trying between = refl
-    at Preparing between = refl
-    at Opening between = refl
-    at (Sweeping n) between = refl
-    at (Closing n) between = refl
+    at _ between = tt
+
+-- a turn that looks at no mailbox holds none, by phase
+took_between : (c : collectors.Private) (word : ℕ) (phase : Phase) → c.phase ≡ phase → IsBetween phase → looks_for phase ≡ None → IsBetween (took_at c word phase).phase
+unfolding took_at
+took_between c word Idle is between none = go (is_spent c)
+  where
+    go : (spent : Bool) → IsBetween (if spent then c else record c { epoch = c.epoch + 1; phase = Looking 1; turns = c.turns + 1 }).phase
+    go true = subst IsBetween (sym is) tt
+    go false = tt
+took_between c word (Looking t) is between none = let not_so : ◌≡◌ {A = Option ℕ} (Some t) None = none in absurd (cc)
+took_between c word (Swapping t) is between none = absurd between
+took_between c word (Returning t) is between none = go (t == length c.newer)
+  where
+    next : Next
+    next = followed (zeros_released false (batched c))
+
+    go : (last : Bool) → IsBetween (if last then came c next else record c { phase = Looking (t + 1); turns = c.turns + 1 }).phase
+    go true = came_between c next (followed_between (zeros_released false (batched c)))
+    go false = tt
+took_between c word Releasing is between none = came_between c (followed (with_released (parts_of c) word)) (followed_between (with_released (parts_of c) word))
+took_between c word Freeing is between none = came_between c (followed (relieved (with_freed (parts_of c) word))) (followed_between (relieved (with_freed (parts_of c) word)))
+took_between c word Trying is between none = came_between c (tried (with_tried (parts_of c) word)) (tried_between (with_tried (parts_of c) word))
+took_between c word Preparing is between none = came_between c (prepared (with_loaded (parts_of c) word)) (prepared_between (with_loaded (parts_of c) word))
+took_between c word Opening is between none = tt
+took_between c word (Sweeping n) is between none = go _
+  where
+    go : (x : Option ℕ) → IsBetween (swept_phase (n + 1) x)
+    go None = tt
+    go (Some x) = tt
+took_between c word (Closing n) is between none = tt
+
+-- so nothing is to be swapped then
+none_swaps : (c : collectors.Private) (word : ℕ) → IsBetween c.phase → looks_for c.phase ≡ None → IsSwapping (took_of c word).phase → ⊥
+unfolding took_of
+none_swaps c word between none = unheld (took_at c word c.phase).phase (took_between c word c.phase refl between none)
+  where
+    unheld : (phase : Phase) → IsBetween phase → IsSwapping phase → ⊥
+    unheld (Swapping t) between is = absurd between
+    unheld _ between is = is
 
 -- what the mailbox that was looked at holds after the turn, by phase
-gathers : (c : collectors.Private) (word : ℕ) (b : Contents) (phase : Phase) → c.phase ≡ phase → IsBetween phase → left_of (took_at c word phase) b ≡ left_by c word b phase
-unfolding took_at left_of left_at
-gathers c word b Idle is between = go (is_spent c)
-  where
-    go : (spent : Bool) → (let d : collectors.Private = (if spent then c else record c { epoch = c.epoch + 1; phase = Looking 1; turns = c.turns + 1 }) in left_at d b d.phase) ≡ b
-    go true = ap (left_at c b) is
-    go false = refl
-gathers c word b (Looking t) is between = go (word == crossing_word c.epoch 2)
+gathers : (c : collectors.Private) (word : ℕ) (b : Contents) (phase : Phase) → c.phase ≡ phase → IsBetween phase → left_of (took_of c word) b ≡ left_by c word b phase
+unfolding took_of took_at left_of left_at
+gathers c word b (Looking t) is between = ap (λ f. left_of (took_at c word f) b) is ∙ go (word == crossing_word c.epoch Retired)
   where
     go : (held_ : Bool) → (let d : collectors.Private = (if held_ then record c { phase = Swapping t; turns = c.turns + 1 } else c) in left_at d b d.phase) ≡ (if held_ then collectors.spare c else b)
     go true = refl
     go false = ap (left_at c b) is
 gathers c word b (Swapping t) is between = absurd between
-gathers c word b (Returning t) is between = go (t == length c.newer)
-  where
-    next : Next
-    next = followed (zeros_released false (batched c))
-
-    go : (last : Bool) → (let d : collectors.Private = (if last then came c next else record c { phase = Looking (t + 1); turns = c.turns + 1 }) in left_at d b d.phase) ≡ b
-    go true = came_between c b next (followed_between (zeros_released false (batched c)))
-    go false = refl
-gathers c word b Releasing is between = came_between c b (followed (with_released (parts_of c) word)) (followed_between (with_released (parts_of c) word))
-gathers c word b Freeing is between = came_between c b (followed (relieved (with_freed (parts_of c) word))) (followed_between (relieved (with_freed (parts_of c) word)))
-gathers c word b Trying is between = came_between c b (tried (with_tried (parts_of c) word)) (tried_between (with_tried (parts_of c) word))
-gathers c word b Preparing is between = came_between c b (prepared (with_loaded (parts_of c) word)) (prepared_between (with_loaded (parts_of c) word))
-gathers c word b Opening is between = refl
-gathers c word b (Sweeping n) is between = go _
-  where
-    go : (x : Option ℕ) → left_at c b (swept_phase (n + 1) x) ≡ b
-    go None = refl
-    go (Some x) = refl
-gathers c word b (Closing n) is between = refl
+gathers c word b phase is between = collector_leaves (took_of c word) b (none_swaps c word (subst IsBetween (sym is) between) (ap looks_for is))
 
 pub gathers_so : (c : collectors.Private) (word : ℕ) (b : Contents) → IsBetween c.phase → left_of (took_of c word) b ≡ left_by c word b c.phase
-unfolding took_of
 gathers_so c word b between = gathers c word b c.phase refl between
 
--- what a turn leaves
-pub turned_is : (w : Core) (boxes : List (Option Contents)) (op : Op) (found i : ℕ) (mailbox left : Option Contents) (taken new : collectors.Private) (cells : Cells)
+-- what a turn leaves, with the mailbox that is looked at named
+turned_with : (w : Core) (boxes : List (Option Contents)) (op : Op) (found i : ℕ) (mailbox left : Option Contents) (taken new : collectors.Private) (cells : Cells)
     → IsBetween w.collector.phase → w.boxes ≡ map held boxes → looked_at w.collector.phase - 1 < length boxes
-    → ◌≡◌ {A = Option Op} (next_of w.collector) (Some op) → i ≡ mailbox_at op → mailbox ≡ slice_index_or boxes (i - 1) mailbox
+    → ◌≡◌ {A = Option Op} (next_of w.collector) (Some op) → i ≡ looked_at w.collector.phase → mailbox ≡ slice_index_or boxes (i - 1) mailbox
     → found ≡ cell (cells_of w) op → cells ≡ with_cell (cells_of w) op (written op found)
     → taken ≡ took_of w.collector found → new ≡ swapped_of taken (held mailbox) → left ≡ Some (left_of taken (held mailbox))
     → ◌≡◌ {A = Core} (record w { headers = cells.headers; words = cells.words; epoch = cells.epoch; freed = cells.freed; crossing = cells.crossing; boxes = map held (slice_set boxes (i - 1) left); collector = new }) (turned w)
 unfolding next_of step_of
-turned_is w boxes op found i mailbox left taken new cells between same there named at its_box finds leaves learns swaps gives =
+turned_with w boxes op found i mailbox left taken new cells between same there named number its_box finds leaves learns swaps gives =
     let c : collectors.Private = w.collector in
     let t : ℕ = looked_at c.phase in
     let make : ℕ → Cells → List Contents → collectors.Private → Core
     = λ n x b y. record w { headers = x.headers; words = x.words; epoch = x.epoch; freed = x.freed; crossing = x.crossing; boxes = b; collector = y } in
-    let number : i ≡ t = at ∙ looks_at c op named in
     let was : held mailbox ≡ box w t = box_read boxes t i mailbox number there its_box ∙ ap (λ (bs : List Contents). slice_index_or bs (t - 1) (collectors.blank 0 0)) (sym same) in
     let its_new : new ≡ step_of c found (box w t) = swaps ∙ ap (λ x. swapped_of x (held mailbox)) learns ∙ ap (swapped_of (took_of c found)) was in
     let its_left : left ≡ Some (left_by c found (box w t) c.phase)
@@ -190,6 +204,48 @@ turned_is w boxes op found i mailbox left taken new cells between same there nam
     ∙ ap (λ y. make 0 (with_cell (cells_of w) op (written op found)) (slice_set w.boxes (t - 1) (left_by c found (box w t) c.phase)) y) its_new
     ∙ ap (λ n. turned_by w op n) finds
     ∙ ap (turned_at w) (sym named)
+
+-- what a turn leaves
+pub turned_is : (w : Core) (boxes left : List (Option Contents)) (op : Op) (found : ℕ) (taken new : collectors.Private) (cells : Cells)
+    → IsBetween w.collector.phase → w.boxes ≡ map held boxes → looked_at w.collector.phase - 1 < length boxes → ((i : ℕ) → i < length boxes → IsSome (slice_index_or boxes i None))
+    → ◌≡◌ {A = Option Op} (next_of w.collector) (Some op) → found ≡ cell (cells_of w) op → cells ≡ with_cell (cells_of w) op (written op found)
+    → taken ≡ took_of w.collector found → new ≡ gathered_by taken boxes (mailbox_of op) → left ≡ gathered_from taken boxes (mailbox_of op)
+    → ◌≡◌ {A = Core} (record w { headers = cells.headers; words = cells.words; epoch = cells.epoch; freed = cells.freed; crossing = cells.crossing; boxes = map held left; collector = new }) (turned w)
+turned_is w boxes left op found taken new cells between same there home named finds leaves learns swaps gives = go w.collector.phase refl
+  where
+    at : ℕ
+    at = looked_at w.collector.phase
+
+    its : Option Contents
+    its = slice_index_or boxes (at - 1) None
+
+    made : List (Option Contents) → collectors.Private → Core
+    made bs c = record w { headers = cells.headers; words = cells.words; epoch = cells.epoch; freed = cells.freed; crossing = cells.crossing; boxes = map held bs; collector = c }
+
+    with : (left_there : Option Contents) (q : collectors.Private) → q ≡ swapped_of taken (held its) → left_there ≡ Some (left_of taken (held its)) → made (slice_set boxes (at - 1) left_there) q ≡ turned w
+    with left_there q = turned_with w boxes op found at its left_there taken q cells between same there named refl (get_or_default boxes (at - 1) None its there) finds leaves learns
+
+    none : looks_for w.collector.phase ≡ None → made left new ≡ turned w
+    none un =
+        let not : IsSwapping taken.phase → ⊥ = subst (λ (c : collectors.Private). IsSwapping c.phase → ⊥) (sym learns) (none_swaps w.collector found between un) in
+        let nobody : mailbox_of op ≡ None = looks_at w.collector op named ∙ un in
+        ap (λ x. made x new) (gives ∙ ap (gathered_from taken boxes) nobody ∙ sym (set-get_or boxes (at - 1) None)) ∙ ap (made (slice_set boxes (at - 1) its)) (swaps ∙ ap (gathered_by taken boxes) nobody)
+        ∙ with its taken (collector_stays taken (held its) not) (gathered_stays taken its (home (at - 1) there) not)
+
+    some : (t : ℕ) → w.collector.phase ≡ Looking t → made left new ≡ turned w
+    some t is =
+        let number : mailbox_of op ≡ Some at = looks_at w.collector op named ∙ ap looks_for is ∙ ap (λ f. Some (looked_at f)) (sym is) in
+        ap (λ x. made x new) (gives ∙ ap (gathered_from taken boxes) number) ∙ with (Some (left_of taken (held its))) new (swaps ∙ ap (gathered_by taken boxes) number) refl
+
+    go : (phase : Phase) → w.collector.phase ≡ phase → made left new ≡ turned w
+    go (Looking t) is = some t is
+    go _ is = none (ap looks_for is)
+
+-- every mailbox is home then
+pub home_still : (c : collectors.Private) (boxes : List (Option Contents)) (x : Option ℕ) → ((i : ℕ) → i < length boxes → IsSome (slice_index_or boxes i None))
+    → (i : ℕ) → i < length (gathered_from c boxes x) → IsSome (slice_index_or (gathered_from c boxes x) i None)
+home_still c boxes None home = home
+home_still c boxes (Some t) home = home_again boxes (t - 1) (Some (left_of c (held_by boxes t))) refl home
 
 -- the swap of a mailbox changes no number of the collector
 record KeepsNumbers (p q : collectors.Private) : Type 0 where
@@ -232,14 +288,14 @@ pub looked_word : (w : Core) (t : ℕ) (op : Op) → w.collector.phase ≡ Looki
 looked_word w t op is named = ap (cell (cells_of w)) (looks w t op is named)
 
 -- a turn that waits changes nothing
-waits_same : (w : Core) (t : ℕ) (op : Op) → w.collector.phase ≡ Looking t → ◌≡◌ {A = Option Op} (next_of w.collector) (Some op) → crossing_of w t ≢ crossing_word w.collector.epoch 2 → turned w ≡ w
+waits_same : (w : Core) (t : ℕ) (op : Op) → w.collector.phase ≡ Looking t → ◌≡◌ {A = Option Op} (next_of w.collector) (Some op) → crossing_of w t ≢ crossing_word w.collector.epoch Retired → turned w ≡ w
 unfolding step_of swapped_of swapped_at took_of took_at next_of next_at
 waits_same w t op is named other =
     let c : collectors.Private = w.collector in
     let word : ℕ = crossing_of w t in
-    let no : (word == crossing_word c.epoch 2) ≡ false = ne_eqb word (crossing_word c.epoch 2) other in
+    let no : (word == crossing_word c.epoch Retired) ≡ false = ne_eqb word (crossing_word c.epoch Retired) other in
     let named_so : ◌≡◌ {A = Option Op} (next_of c) (Some (ops.LookBox t c.epoch)) = ap (next_at c) is in
-    let kept_word : written (ops.LookBox t c.epoch) word ≡ word = ap (λ b. if b then crossing_word c.epoch 3 else word) no in
+    let kept_word : written (ops.LookBox t c.epoch) word ≡ word = ap (λ b. if b then crossing_word c.epoch WithCollector else word) no in
     let same_words : slice_set w.crossing (t - 1) (written (ops.LookBox t c.epoch) word) ≡ w.crossing = ap (slice_set w.crossing (t - 1)) kept_word ∙ set-get_or w.crossing (t - 1) 0 in
     let learnt : took_of c word ≡ c = ap (took_at c word) is ∙ ap (λ (b : Bool). let d : collectors.Private = (if b then record c { phase = Swapping t; turns = c.turns + 1 } else c) in d) no in
     let stays : step_of c word (box w t) ≡ c = ap (λ x. swapped_of x (box w t)) learnt ∙ ap (swapped_at c (box w t)) is in
@@ -275,8 +331,8 @@ turn_cause w op taken turns.Moved kept named learns cause none =
     let keeps : KeepsNumbers taken (turned w).collector = subst (KeepsNumbers taken) (sym left) (swapped_keeps taken b) in
     (keeps.turns ∙ cause.0, keeps.collections ∙ cause.1, ap (λ n. n + swept_at w.collector.phase) keeps.freed ∙ cause.2 ∙ ap (λ n. w.collector.freed + n) (sym keeps.swept))
 turn_cause w op taken (turns.Waiting t) kept named learns cause none =
-    let other : crossing_of w t ≢ crossing_word w.collector.epoch 2 = λ is. cause.1 (looked_word w t op cause.0 named ∙ is) in
-    (cause.0, λ is. other (is ∙ ap (λ n. crossing_word n 2) (sym kept.collector.epoch)), waits_same w t op cause.0 named other)
+    let other : crossing_of w t ≢ crossing_word w.collector.epoch Retired = λ is. cause.1 (looked_word w t op cause.0 named ∙ is) in
+    (cause.0, λ is. other (is ∙ ap (λ n. crossing_word n Retired) (sym kept.collector.epoch)), waits_same w t op cause.0 named other)
 turn_cause w op taken (turns.Collected epoch freed) kept named learns cause none =
     let b : Contents = box w (looked_at w.collector.phase) in
     let left : (turned w).collector ≡ taken = collector_left w op named ∙ ap (λ x. swapped_of x b) (sym learns) ∙ swapped_idle taken b cause.2 in

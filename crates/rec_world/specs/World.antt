@@ -1,6 +1,8 @@
 -- What every world is, and what a command, a poll and a turn leave of it.
-use Rattle.std.specs.Prelude.{◌≡◌, ◌≢◌, ℕ, ◌+◌, ◌-◌, ◌%◌, ◌^◌, ◌<◌, ◌≤◌, ◌==◌, true, if◌then◌else◌, Option, None, Some, All, length, slice_index_or}
-use Rattle.rec_word.specs.Op.{crossing_word}
+use Rattle.std.specs.Prelude.{◌≡◌, ◌≢◌, ℕ, ◌+◌, ◌%◌, ◌^◌, ◌<◌, ◌≤◌, true, Option, None, Some, All, length, slice_index_or}
+use Rattle.rec_word.specs.Mailbox.{crossing_word}
+use Rattle.rec_word.specs.declared.mailbox.Mailbox.TheVariants.{Retired}
+use Rattle.rec_word.specs.Word.{predecessor}
 use Rattle.rec_model.specs.declared.command.Cmd.{Cmd}
 use Rattle.rec_model.specs.LegalOrder.{is_new}
 use Rattle.rec_model.specs.Sight.{Sight, IsSound, IsTaken}
@@ -37,7 +39,7 @@ pub record IsWorld (w : Core) : Type 0 where
 
 -- the label in a header: none where the slot is free
 abbrev pub label_of : ℕ → Option ℕ
-label_of header = if header == 0 then None else Some (header - 1)
+label_of header = predecessor header
 
 -- the command needs a log entry, and there is none left
 abbrev pub IsLogFull : Core → ℕ → Cmd → Type 0
@@ -86,6 +88,6 @@ IsCrossed before after t (Some epoch) = (epoch ≡ (mutator before t).epoch + 1)
 -- A collection is complete exactly where it is told, with the slots that its sweep has freed.
 abbrev pub TurnHasCause : (before after : Core) → Turn → Type 0
 TurnHasCause w v turns.Moved = (v.collector.turns ≡ w.collector.turns + 1) × (v.collector.collections ≡ w.collector.collections) × (v.collector.freed + swept w ≡ w.collector.freed + swept v)
-TurnHasCause w v (turns.Waiting t) = (w.collector.phase ≡ Looking t) × (crossing_of w t ≢ crossing_word w.epoch 2) × (v ≡ w)
+TurnHasCause w v (turns.Waiting t) = (w.collector.phase ≡ Looking t) × (crossing_of w t ≢ crossing_word w.epoch Retired) × (v ≡ w)
 TurnHasCause w v (turns.Collected epoch freed) = (epoch + 1 ≡ w.epoch) × (freed ≡ swept w) × (v.collector.phase ≡ Idle) × (v.collector.collections ≡ w.collector.collections + 1) × (v.collector.freed ≡ w.collector.freed)
 TurnHasCause w v turns.EpochsSpent = (w.collector.phase ≡ Idle) × (w.epoch + 1 ≡ 2 ^ 24) × (v ≡ w)

@@ -1,13 +1,13 @@
 //! The mailboxes: each is home between two steps, with a buffer that one step swaps for another.
 
-ghost use Rattle.std.specs.Prelude.{◌≡◌, Some, All, length, replicate, IsSome, IfOk};
+ghost use Rattle.std.specs.Prelude.{◌≡◌, ℕ, ◌-◌, ◌<◌, ◌≤◌, None, Some, All, length, replicate, slice_index_or, IsSome, IfOk, IfSome};
+ghost use Rattle.rec_word.specs.Op.{mailbox_of};
 ghost use Rattle.rec_mutator.specs.Took.{spare, swapped_of, left_of, IsSwapping};
 ghost use Rattle.rec_collector.specs.Given.{IsSized};
 ghost use Rattle.rec_collector.specs.Took.{left_of as left_for, swapped_of as gathered_of};
-ghost use Rattle.rec_core.specs.Cells.{mailbox_at};
 ghost use Rattle.rec_core.specs.Config.{IsConfig};
 ghost use Rattle.rec_core.specs.Core.{spare_of};
-ghost use Rattle.rec_world.specs.Mailbox.{held};
+ghost use Rattle.rec_world.specs.Mailbox.{held, held_by, gathered_by, gathered_from};
 
 use crate::Config;
 use rec_collector::Machine as Collector;
@@ -26,16 +26,6 @@ pub fn open_boxes(alloc: Global, config: &Config) -> Result<Vec<Option<Buffer>>,
         boxes.push_reserved(Some(Buffer::open(alloc, config.log_entries, config.registers as u8)?));
     }
     Ok(boxes)
-}
-
-/// Whose mailbox the operation takes; the first mutator's where it takes none.
-pub fn mailbox_of(op: Op) -> u8
-    ensures { result ≡ mailbox_at op }
-{
-    match op {
-        Op::LookBox(t, _) => t,
-        _ => 1,
-    }
 }
 
 /// Where the mutator holds its mailbox, swaps the buffer in it for the retired log.
@@ -66,5 +56,35 @@ pub fn swap_gathered(collector: &mut Collector, mailbox: &mut Option<Buffer>)
         if let Some(buffer) = mailbox.take() {
             *mailbox = Some(collector.swap_box(buffer));
         }
+    }
+}
+
+/// Where the operation takes the mutator's mailbox, swaps the buffer in it for the retired log.
+#[inline(always)]
+pub fn swap_if_taken(op: Op, machine: &mut Machine, mailbox: &mut Option<Buffer>)
+    requires taken { IsSwapping machine.old.phase → IsSome (mailbox_of op) }
+    requires home { IsSome mailbox.old }
+    requires spare { IsSwapping machine.old.phase → held mailbox.old ≡ spare machine.old }
+
+    ensures machine { machine.new ≡ swapped_of machine.old (held mailbox.old) }
+    ensures mailbox { mailbox.new ≡ Some (left_of machine.old (held mailbox.old)) }
+{
+    if op.mailbox().is_some() {
+        swap_own(machine, mailbox);
+    }
+}
+
+/// Where the operation takes a mailbox and the collector holds it, swaps the retired buffer in it for a spare.
+#[inline(always)]
+pub fn gather(op: Op, collector: &mut Collector, boxes: &mut Vec<Option<Buffer>>)
+    requires there { IfSome (mailbox_of op) (λ t. (1 ≤ t) × (t - 1 < length boxes.old.items)) }
+    requires home { (i : ℕ) → i < length boxes.old.items → IsSome (slice_index_or boxes.old.items i None) }
+    requires sized { IfSome (mailbox_of op) (λ t. IsSized collector.old.registers collector.old.capacity (held_by boxes.old.items t)) }
+
+    ensures collector { collector.new ≡ gathered_by collector.old boxes.old.items (mailbox_of op) }
+    ensures boxes { boxes.new.items ≡ gathered_from collector.old boxes.old.items (mailbox_of op) }
+{
+    if let Some(t) = op.mailbox() {
+        swap_gathered(collector, &mut boxes[usize::from(t) - 1]);
     }
 }

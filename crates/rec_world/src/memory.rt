@@ -1,10 +1,12 @@
 ghost use Rattle.std.specs.Prelude.{◌≡◌, ℕ, ◌-◌, ◌*◌, ◌^◌, ◌<◌, ◌≤◌, length, ◌∷◌, replicate, slice_index_or, IfOk};
 ghost use Rattle.rec_word.specs.Op.{written};
+ghost use Rattle.rec_word.specs.Mailbox.{crossing_word};
+ghost use Rattle.rec_word.specs.declared.mailbox.Mailbox.TheVariants.{Spare};
 ghost use Rattle.rec_core.specs.Cells.{IsWithin, cell, with_cell};
 ghost use Rattle.rec_world.specs.Indexed.{HoldsUpTo};
 
 use rec_index::Index;
-use rec_word::Op;
+use rec_word::{Mailbox, Op, crossing};
 use std::alloc::{AllocError as NoMemory, Global};
 use std::marker::Model;
 
@@ -49,13 +51,13 @@ impl Memory {
           words = replicate places 0;
           epoch = epoch;
           freed = 0;
-          crossing = replicate mutators (4 * epoch);
+          crossing = replicate mutators (crossing_word epoch Spare);
         }) }
     {
         let mut headers = vec![in alloc; 0; slots]?;
         headers[0] = 1;
         let words = vec![in alloc; 0; places]?;
-        let crossing = vec![in alloc; 4 * u64::from(epoch); mutators]?;
+        let crossing = vec![in alloc; crossing(epoch, Mailbox::Spare); mutators]?;
         let free = all_but_first(alloc, slots as u16)?;
         Ok(Memory {
             headers,

@@ -1,5 +1,6 @@
 ghost use Rattle.std.specs.Prelude.{◌≡◌, ◌≢◌, ℕ, ◌+◌, ◌*◌, ◌%◌, ◌^◌, ◌<◌, ◌≤◌, ◌↔◌, if◌then◌else◌, true, false, Some, All, is_none, length, map, slice_index_or, IsTrue, IsNone, IsSome, IfOk, IfErr, IfSome};
-ghost use Rattle.rec_word.specs.Op.{crossing_word};
+ghost use Rattle.rec_word.specs.Mailbox.{crossing_word};
+ghost use Rattle.rec_word.specs.declared.mailbox.Mailbox.TheVariants.{Retired};
 ghost use Rattle.rec_word.specs.declared.op.Op.TheVariants.{FreeHeader};
 ghost use Rattle.rec_word.specs.Word.{stamp_of};
 ghost use Rattle.rec_counts.specs.Counts.{slot_at};
@@ -33,7 +34,7 @@ ghost use Rattle.rec_world.specs.Mailbox.{held};
 ghost use Rattle.rec_world.specs.Stepping.{MakesStep};
 ghost use Rattle.rec_world.specs.World.{IsWorld, label_of, IsLogFull, IsFull, IsBusy, IsLowestFree, IsFinished, IsCrossed, TurnHasCause};
 
-use crate::mailbox::{mailbox_of, open_boxes, swap_gathered, swap_own};
+use crate::mailbox::{gather, open_boxes, swap_if_taken};
 use crate::memory::Memory;
 use crate::{Config, Numbering, OpenError};
 use rec_collector::{Machine as Collector, Sets, Turn};
@@ -164,7 +165,7 @@ impl World {
 
         // Why each answer comes. A turn that waits, or that finds the epochs spent, changes nothing.
         ensures cause { TurnHasCause self.old self.new result }
-        ensures waiting { (t : ℕ) → self.old.collector.phase ≡ phases.Phase.Looking t → crossing_of self.old t ≢ crossing_word self.old.epoch 2 → result ≡ turns.Turn.Waiting t }
+        ensures waiting { (t : ℕ) → self.old.collector.phase ≡ phases.Phase.Looking t → crossing_of self.old t ≢ crossing_word self.old.epoch Retired → result ≡ turns.Turn.Waiting t }
         ensures spent { self.old.collector.phase ≡ phases.Phase.Idle → self.old.epoch + 1 ≡ 2 ^ 24 → result ≡ turns.Turn.EpochsSpent }
 
         // Whoever is waited for is a mutator of this heap, so it may poll where it is idle.
@@ -194,8 +195,7 @@ impl World {
         };
         let found = self.memory.perform(op);
         let turn = self.collector.took(found);
-        let mailbox = &mut self.boxes[usize::from(mailbox_of(op)) - 1];
-        swap_gathered(&mut self.collector, mailbox);
+        gather(op, &mut self.collector, &mut self.boxes);
         turn
     }
 
@@ -613,7 +613,7 @@ fn make_step(machine: &mut Machine, memory: &mut Memory, mailbox: &mut Option<Bu
     let op = machine.next();
     let found = memory.perform(op);
     machine.took(found);
-    swap_own(machine, mailbox);
+    swap_if_taken(op, machine, mailbox);
     births(op, found)
 }
 

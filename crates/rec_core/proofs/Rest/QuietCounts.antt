@@ -4,7 +4,7 @@ use Rattle.std.proofs.Common.{◌≡◌, inl, inr, ℕ, ◌+◌, ◌-◌, ◌<�
 use Rattle.std.specs.List.{sum_by}
 use Rattle.std.proofs.lemmas.Bool.{cases_eq, eq-eqb, ne_eqb}
 use Rattle.std.proofs.lemmas.List.{get_or_default}
-use Rattle.rec_word.specs.Word.{target_of}
+use Rattle.rec_word.specs.Word.{target_of, is_slot}
 use Rattle.rec_model.specs.Accounted.{names, IsAccounted}
 use Rattle.rec_model.specs.Pending.{node_of, Dated, is_at}
 use Rattle.rec_model.specs.Reach.{named as named_slots}
@@ -16,7 +16,6 @@ use Rattle.rec_counts.specs.Counts.{State, slot_at}
 use Rattle.rec_counts.specs.Lists.{one}
 use Rattle.rec_counts.specs.declared.slot.Slot.{Slot}
 use Rattle.rec_apply.specs.Targets.{named}
-use Rattle.rec_trial.specs.Tried.{leads_to}
 use Rattle.rec_mutator.specs.Private.{Private}
 use Rattle.rec_collector.specs.Kept.{under_way}
 use Rattle.rec_collector.specs.Parts.{Parts}
@@ -42,7 +41,7 @@ use Rattle.rec_core.proofs.Turns.{its_spare, now_at, spare_row, snapshots_nothin
 same_word : (x word : ℕ) → one_if_same (x + 1) (node_of word) ≡ leading x word
 same_word x word = ap (one_if_same (x + 1)) (sym (code_target word)) ∙ same_name (target_of word)
   where
-    same_name : (target : Option ℕ) → one_if_same (x + 1) (code target) ≡ one (leads_to x target)
+    same_name : (target : Option ℕ) → one_if_same (x + 1) (code target) ≡ one (is_slot x target)
     same_name None = none_if_differs (x + 1) 0 (λ e. omega arith)
     same_name (Some y) = elim (cases_eq x y) [
       | inl is ↦ ap (λ n. one_if_same (x + 1) (n + 1)) (sym is) ∙ one_if_self (x + 1) ∙ sym (ap one (eq-eqb x y is))

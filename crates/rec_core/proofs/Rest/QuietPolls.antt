@@ -3,7 +3,8 @@
 use Rattle.std.proofs.Common.{◌≡◌, ◌≢◌, inl, inr, ℕ, ◌+◌, ◌-◌, ◌<◌, ◌≤◌, ◌==◌, if◌then◌else◌, Bool, true, false, [], None, Some, length, slice_set, refl, sym, ap, subst, ◌∙◌, arith, add-zero}
 use Rattle.std.proofs.lemmas.Bool.{cases_eq, false≢true}
 use Rattle.std.proofs.lemmas.List.{set-get_or, get_or-set_same, get_or-set_other}
-use Rattle.rec_word.specs.Op.{crossing_word}
+use Rattle.rec_word.specs.Mailbox.{crossing_word}
+use Rattle.rec_word.specs.declared.mailbox.Mailbox.TheVariants.{Retired, WithMutator}
 use Rattle.rec_word.specs.declared.op.Op.TheVariants as ops
 use Rattle.rec_log.specs.declared.contents.Contents.{Contents}
 use Rattle.rec_mutator.specs.Next.{next_of, next_at}
@@ -62,13 +63,13 @@ poll_begins w t is = step_in w t (Begun works.Poll) is ∙ go (w.epoch == (mutat
 
 -- the second one takes the own mailbox: the retired log is left there
 poll_takes : (w : Core) (t : ℕ) → (mutator w t).phase ≡ Crossing → (mutator w t).number ≡ t
-    → stepped w t ≡ with_actor w t (moved (record (mutator w t) { log = box w t }) Giving) (crossing_word ((mutator w t).epoch + 1) 1) (retired (mutator w t))
+    → stepped w t ≡ with_actor w t (moved (record (mutator w t) { log = box w t }) Giving) (crossing_word ((mutator w t).epoch + 1) WithMutator) (retired (mutator w t))
 unfolding next_at took_at swapped_of swapped_at left_of left_at
 poll_takes w t is number = step_in w t Crossing is ∙ rw (number, add-zero w.made) refl
 
 -- the third one gives it back
 poll_gives : (w : Core) (t : ℕ) → (mutator w t).phase ≡ Giving → (mutator w t).number ≡ t
-    → stepped w t ≡ with_actor w t (crossed (mutator w t)) (crossing_word ((mutator w t).epoch + 1) 2) (box w t)
+    → stepped w t ≡ with_actor w t (crossed (mutator w t)) (crossing_word ((mutator w t).epoch + 1) Retired) (box w t)
 unfolding next_at took_at swapped_of swapped_at left_of left_at
 poll_gives w t is number = step_in w t Giving is ∙ rw (number, add-zero w.made) refl
 
@@ -85,7 +86,7 @@ IsOfPoll _ = ⊥
 record IsPolling (first : ℕ) (w : Core) (t : ℕ) (p : Private) (word : ℕ) (b : Contents) : Type 0 where
   polls : IsOfPoll p.phase
   log : first ≤ p.epoch → p.log.entries ≡ []
-  box : first < w.epoch → word ≡ crossing_word w.epoch 2 → IsRetired p.registers b
+  box : first < w.epoch → word ≡ crossing_word w.epoch Retired → IsRetired p.registers b
   held : first < w.epoch → p.phase ≡ Giving → IsRetired p.registers b
   newer : first < w.epoch → gathered w.collector.phase t ≡ true → IsRetired p.registers (buffer_at w.collector.newer (t - 1))
   older : first ≤ older_at w.epoch w.collector.phase → IsRetired p.registers (buffer_at w.collector.older (t - 1))
@@ -167,7 +168,7 @@ on_crossing first t w on busy crosses =
     let own = on.own in
     let (due, behind) = behind_of w t on.kept on.is crosses in
     let epoch : p.epoch + 1 ≡ w.epoch = behind.epoch in
-    steps_on first t w (moved (record p { log = box w t }) Giving) (crossing_word (p.epoch + 1) 1) (retired p) on busy (poll_takes w t crosses (actor_of w t on.kept on.is).own.number)
+    steps_on first t w (moved (record p { log = box w t }) Giving) (crossing_word (p.epoch + 1) WithMutator) (retired p) on busy (poll_takes w t crosses (actor_of w t on.kept on.is).own.number)
     (record {
       polls = tt;
       log = λ from. ap (λ (b : Contents). b.entries) behind.spare;
@@ -183,7 +184,7 @@ on_giving first t w on busy gives =
     let p : Private = mutator w t in
     let own = on.own in
     let (due, crosses) = giving_of w t on.kept on.is gives in
-    steps_on first t w (crossed p) (crossing_word (p.epoch + 1) 2) (box w t) on busy (poll_gives w t gives (actor_of w t on.kept on.is).own.number)
+    steps_on first t w (crossed p) (crossing_word (p.epoch + 1) Retired) (box w t) on busy (poll_gives w t gives (actor_of w t on.kept on.is).own.number)
     (record {
       polls = tt;
       log = λ from. ap (λ (b : Contents). b.entries) crosses.spare;

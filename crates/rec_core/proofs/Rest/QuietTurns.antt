@@ -2,7 +2,9 @@
 use Rattle.std.proofs.Common.{◌≡◌, ◌≢◌, ◌⊎◌, inl, inr, ℕ, ◌+◌, ◌-◌, ◌≤◌, true, false, List, length, slice_get, slice_index_or, slice_set, refl, sym, ap, subst, ◌∙◌, arith}
 use Rattle.std.proofs.lemmas.Bool.{cases_eq, false≢true, ltb-true, lt-ltb, leb-true, le-leb}
 use Rattle.std.proofs.lemmas.List.{get_or-set_same, get_or-set_other}
-use Rattle.rec_word.specs.Op.{crossing_word}
+use Rattle.rec_word.specs.Mailbox.{crossing_word}
+use Rattle.rec_word.specs.declared.mailbox.Mailbox.{Mailbox}
+use Rattle.rec_word.specs.declared.mailbox.Mailbox.TheVariants.{Retired, Spare, WithCollector, WithMutator}
 use Rattle.rec_log.specs.declared.contents.Contents.{Contents}
 use Rattle.rec_mutator.specs.Private.{is_busy}
 use Rattle.rec_mutator.specs.Private as mutators
@@ -109,7 +111,7 @@ clears_comes (ClearsOn.tries unfreed still none on) = tries_comes on
 -- matter, and no crossing word turns into one of a mailbox that waits.
 comes_quiet : (first : ℕ) (w : Core) (headers words crossing : List ℕ) (freed : ℕ) (q : Private) → IsKept w
     → ((t : ℕ) → IsMutator w.config t → gathered w.collector.phase t ≡ true) → older_at w.epoch w.collector.phase ≡ w.epoch - 2
-    → ((t : ℕ) → IsMutator w.config t → slice_index_or crossing (t - 1) 0 ≡ crossing_word w.epoch 2 → crossing_of w t ≡ crossing_word w.epoch 2) → GoesOrEnds w.collector q
+    → ((t : ℕ) → IsMutator w.config t → slice_index_or crossing (t - 1) 0 ≡ crossing_word w.epoch Retired → crossing_of w t ≡ crossing_word w.epoch Retired) → GoesOrEnds w.collector q
     → AreQuiet first w → AreQuiet first (record w { headers = headers; words = words; crossing = crossing; freed = freed; collector = q })
 comes_quiet first w headers words crossing freed q kept all last waits (GoesOrEnds.goes newer older past) quiet t is =
     let k = quiet t is in
@@ -134,18 +136,24 @@ comes_quiet first w headers words crossing freed q kept all last waits (GoesOrEn
     }
 
 -- a crossing word that was replaced by one of no waiting mailbox: a word of a waiting one is another mutator's, and was there
-other_waits : (w : Core) (t state s : ℕ) → IsKept w → IsMutator w.config t → IsMutator w.config s → state ≢ 2
-    → slice_index_or (crossing_with w t state) (s - 1) 0 ≡ crossing_word w.epoch 2 → (s ≢ t) × (crossing_of w s ≡ crossing_word w.epoch 2)
-other_waits w t state s kept is there differs waits = elim (cases_eq s t) [
+other_waits : (w : Core) (t : ℕ) (mailbox : Mailbox) (s : ℕ) → IsKept w → IsMutator w.config t → IsMutator w.config s → mailbox ≢ Retired
+    → slice_index_or (crossing_with w t mailbox) (s - 1) 0 ≡ crossing_word w.epoch Retired → (s ≢ t) × (crossing_of w s ≡ crossing_word w.epoch Retired)
+other_waits w t mailbox s kept is there differs waits = elim (cases_eq s t) [
   | inl same ↦
       let many : length w.crossing ≡ w.config.mutators = kept.mutators.words in
-      let word : slice_index_or (crossing_with w t state) (s - 1) 0 ≡ crossing_word w.epoch state
-      = ap (λ n. slice_index_or (crossing_with w t state) (n - 1) 0) same ∙ get_or-set_same w.crossing (t - 1) (crossing_word w.epoch state) 0 (omega (arith, many, is.0, is.1)) in
-      absurd (differs (omega (arith, waits, word)))
+      let word : slice_index_or (crossing_with w t mailbox) (s - 1) 0 ≡ crossing_word w.epoch mailbox
+      = ap (λ n. slice_index_or (crossing_with w t mailbox) (n - 1) 0) same ∙ get_or-set_same w.crossing (t - 1) (crossing_word w.epoch mailbox) 0 (omega (arith, many, is.0, is.1)) in
+      absurd (differs (only mailbox w.epoch (sym word ∙ waits)))
   | inr other ↦
       let apart : (s - 1) ≢ (t - 1) = λ e. other (omega (arith, e, is.0, there.0)) in
-      (other, sym (get_or-set_other w.crossing (t - 1) (s - 1) (crossing_word w.epoch state) 0 apart) ∙ waits)
+      (other, sym (get_or-set_other w.crossing (t - 1) (s - 1) (crossing_word w.epoch mailbox) 0 apart) ∙ waits)
 ]
+  where
+    only : (m : Mailbox) (epoch : ℕ) → crossing_word epoch m ≡ crossing_word epoch Retired → m ≡ Retired
+    only Spare epoch same = absurd (omega (arith, same))
+    only WithMutator epoch same = absurd (omega (arith, same))
+    only Retired epoch same = refl
+    only WithCollector epoch same = absurd (omega (arith, same))
 
 -- The next epoch is requested: nobody has crossed into it, and no mailbox is gathered.
 requests_quiet : (first : ℕ) (w : Core) → IsKept w → w.collector.phase ≡ Idle → AreQuiet first w
@@ -154,7 +162,7 @@ requests_quiet first w kept idle quiet t is =
     let k = quiet t is in
     let stands : Stand → Type 0 = IsHandshake w.config w.epoch (mutator w t) (crossing_of w t) (box w t) in
     let home : stands Stand.Done = subst stands (ap (λ phase. stand_at phase t) idle) (kept.mutators.each t is).handshake in
-    let word : crossing_of w t ≡ crossing_word w.epoch 0 = home.0.word in
+    let word : crossing_of w t ≡ crossing_word w.epoch Spare = home.0.word in
     let last : older_at w.epoch w.collector.phase ≡ w.epoch - 1 = ap (older_at w.epoch) idle in
     record {
       idle = k.idle;
@@ -165,9 +173,9 @@ requests_quiet first w kept idle quiet t is =
     }
 
 -- A mailbox is gathered: the buffer in it is one of the newer ones.
-gathers_quiet : (first : ℕ) (w : Core) (t : ℕ) → IsKept w → IsMutator w.config t → w.collector.phase ≡ Looking t → crossing_of w t ≡ crossing_word w.epoch 2 → AreQuiet first w
+gathers_quiet : (first : ℕ) (w : Core) (t : ℕ) → IsKept w → IsMutator w.config t → w.collector.phase ≡ Looking t → crossing_of w t ≡ crossing_word w.epoch Retired → AreQuiet first w
     → AreQuiet first (record w {
-      crossing = crossing_with w t 3;
+      crossing = crossing_with w t WithCollector;
       boxes = slice_set w.boxes (t - 1) (spare w.collector);
       collector = moved (record w.collector { newer = slice_set w.collector.newer (t - 1) (box w t) }) (Returning t);
     })
@@ -179,7 +187,7 @@ gathers_quiet first w t kept is looks crossed quiet s there =
       idle = k.idle;
       log = k.log;
       box = λ early waits.
-          let (other, waited) = other_waits w t 3 s kept is there (λ e. omega (arith, e)) waits in
+          let (other, waited) = other_waits w t WithCollector s kept is there (λ e. cc) waits in
           let apart : (s - 1) ≢ (t - 1) = λ e. other (omega (arith, e, is.0, there.0)) in
           subst (IsRetired (mutator w s).registers) (sym (get_or-set_other w.boxes (t - 1) (s - 1) (spare w.collector) (blank 0 0) apart)) (k.box early waited);
       newer = λ early has. elim (cases_eq s t) [
@@ -198,14 +206,14 @@ gathers_quiet first w t kept is looks crossed quiet s there =
 
 -- It is given back, and the next one is looked at.
 gives_back_quiet : (first : ℕ) (w : Core) (t : ℕ) → IsKept w → IsMutator w.config t → w.collector.phase ≡ Returning t → AreQuiet first w
-    → AreQuiet first (record w { crossing = crossing_with w t 0; collector = moved w.collector (Looking (t + 1)) })
+    → AreQuiet first (record w { crossing = crossing_with w t Spare; collector = moved w.collector (Looking (t + 1)) })
 gives_back_quiet first w t kept is returns quiet s there =
     let k = quiet s there in
     let last : older_at w.epoch w.collector.phase ≡ w.epoch - 2 = ap (older_at w.epoch) returns in
     record {
       idle = k.idle;
       log = k.log;
-      box = λ early waits. k.box early (other_waits w t 0 s kept is there (λ e. omega (arith, e)) waits).1;
+      box = λ early waits. k.box early (other_waits w t Spare s kept is there (λ e. cc) waits).1;
       newer = λ early has. k.newer early (ap (λ phase. gathered phase s) returns ∙ le-leb s t (omega (arith, ltb-true s (t + 1) has)));
       older = λ from. k.older (omega (arith, from, last));
     }
@@ -227,14 +235,14 @@ quiet_turned first w v kept after turn quiet = go turn
 
     -- the turn that gives the last mailbox back
     last_back : (t : ℕ) (q : Private) → IsMutator w.config t → w.collector.phase ≡ Returning t → t ≡ length w.collector.newer → GoesOrEnds w.collector q
-        → v ≡ record w { crossing = crossing_with w t 0; collector = q } → AreQuiet first v
+        → v ≡ record w { crossing = crossing_with w t Spare; collector = q } → AreQuiet first v
     last_back t q is returns last comes e =
         let many : length w.collector.newer ≡ w.config.mutators = kept.collector.mutators in
-        becomes (record w { crossing = crossing_with w t 0; collector = q }) e
-        (comes_quiet first w w.headers w.words (crossing_with w t 0) w.freed q kept
+        becomes (record w { crossing = crossing_with w t Spare; collector = q }) e
+        (comes_quiet first w w.headers w.words (crossing_with w t Spare) w.freed q kept
         (λ s there. ap (λ x. gathered x s) returns ∙ le-leb s t (omega (arith, there.1, last, many)))
         (ap (older_at w.epoch) returns)
-        (λ s there waits. (other_waits w t 0 s kept is there (λ n. omega (arith, n)) waits).1)
+        (λ s there waits. (other_waits w t Spare s kept is there (λ e. cc) waits).1)
         comes quiet)
 
     swept : (n : ℕ) (phase : Phase) → (phase ≡ Sweeping (n + 1)) ⊎ (phase ≡ Closing (n + 1)) → IsPast phase

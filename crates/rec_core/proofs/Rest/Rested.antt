@@ -5,7 +5,7 @@ use Rattle.std.proofs.lemmas.Bool.{false≢true, cases_lt}
 use Rattle.std.proofs.lemmas.Bool.Decides.{eqb_tells}
 use Rattle.std.proofs.lemmas.List.{get_or_past, get_or_default}
 use Rattle.std.proofs.lemmas.List.Sums.{sum_by-cons}
-use Rattle.rec_word.specs.Word.{target_of}
+use Rattle.rec_word.specs.Word.{target_of, is_slot}
 use Rattle.rec_model.specs.Heap.{roots}
 use Rattle.rec_model.specs.Reach.{is_in, named as names}
 use Rattle.rec_model.specs.Reach.IsReached.{root, child}
@@ -15,9 +15,8 @@ use Rattle.rec_model.proofs.Standing.{reached_is_taken, word_in}
 use Rattle.rec_model.proofs.Words.{named-nulls}
 use Rattle.rec_counts.specs.Counts.{slot_at}
 use Rattle.rec_counts.specs.Lists.{one}
-use Rattle.rec_apply.specs.Targets.{named, is_slot}
+use Rattle.rec_apply.specs.Targets.{named}
 use Rattle.rec_apply.proofs.Naming.{named-nil, named-cons}
-use Rattle.rec_trial.specs.Tried.{leads_to}
 use Rattle.rec_collector.specs.declared.phase.Phase.TheVariants.{Idle}
 use Rattle.rec_core.specs.Core.{Core, sight}
 use Rattle.rec_core.specs.Kept.{IsKept}
@@ -73,15 +72,11 @@ held_reached w kept x (IsReachable.along {n} from field below leads) =
 -- each field that leads to the slot counts once
 fields_sum : (x : ℕ) (words : List ℕ) → heap_sum words x ≡ count_by (λ word. is_slot x (target_of word)) words
 fields_sum x [] = refl
-fields_sum x (word ∷ words) = omega (arith, fields_sum x words, alike (target_of word), sum_by-cons (λ z. if is_slot x (target_of z) then 1 else 0) word words)
+fields_sum x (word ∷ words) = omega (arith, fields_sum x words, alike (is_slot x (target_of word)), sum_by-cons (λ z. if is_slot x (target_of z) then 1 else 0) word words)
   where
-    alike : (t : Option ℕ) → one (leads_to x t) ≡ (if is_slot x t then 1 else 0)
-    alike None = refl
-    alike (Some y) = go (x == y)
-      where
-        go : (b : Bool) → one b ≡ (if b then 1 else 0)
-        go true = refl
-        go false = refl
+    alike : (b : Bool) → one b ≡ (if b then 1 else 0)
+    alike true = refl
+    alike false = refl
 
 registers_sum : (x : ℕ) (registers : List (List (Option ℕ))) → sum_by (named x) registers ≡ sum_by (count_by (is_slot x)) registers
 unfolding named

@@ -5,7 +5,7 @@ use Rattle.std.proofs.lemmas.Bool.Decides.{eqb_tells}
 use Rattle.std.proofs.lemmas.List.{get_or_default, get_or_past, get_or-set_other}
 use Rattle.std.proofs.lemmas.List.Sums.{sum_by-cons}
 use Rattle.rec_word.specs.Place.{place_of}
-use Rattle.rec_word.specs.Word.{target_of}
+use Rattle.rec_word.specs.Word.{target_of, is_slot}
 use Rattle.rec_model.specs.Accounted.{is_dead}
 use Rattle.rec_model.specs.Heap.{roots}
 use Rattle.rec_model.specs.Pending.{home, node_of, word_in as pending_word}
@@ -24,7 +24,6 @@ use Rattle.rec_apply.specs.Targets.{named}
 use Rattle.rec_apply.proofs.Naming.{named-nil, named-cons}
 use Rattle.rec_release.specs.TakenOff.{IsApart}
 use Rattle.rec_release.proofs.Keeping.{in_range_unreleased}
-use Rattle.rec_trial.specs.Tried.{leads_to}
 use Rattle.rec_core.specs.Core.{Core, sight}
 use Rattle.rec_core.specs.Kept.{IsKept}
 use Rattle.rec_core.specs.Pending.{code, pending}
@@ -41,7 +40,7 @@ use Rattle.rec_core.proofs.Reach.{reached_stays}
 led_counted : (words : List ℕ) (place x : ℕ) → target_of (get_or words place 0) ≡ Some x → 0 < heap_sum words x
 led_counted words place x e = elim (cases_lt place (length words)) [
   | inl inside ↦
-      let here : leading x (get_or words place 0) ≡ 1 = ap (λ t. one (leads_to x t)) e ∙ one-same x in
+      let here : leading x (get_or words place 0) ≡ 1 = ap (λ t. one (is_slot x t)) e ∙ one-same x in
       omega (arith, here, get_or-le-sum_at (λ p word. leading x word) words place 0 inside)
   | inr past ↦ let none : None ≡ Some x = ap target_of (sym (get_or_past words place 0 past)) ∙ e in cc
 ]

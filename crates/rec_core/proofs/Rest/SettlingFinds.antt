@@ -4,7 +4,7 @@ use Rattle.std.specs.List.{count_by, range_with_len}
 use Rattle.std.proofs.lemmas.Bool.Decides.{nat_tests}
 use Rattle.std.proofs.lemmas.Bool.{cases_lt, false≢true}
 use Rattle.std.proofs.lemmas.List.{get_or_past}
-use Rattle.rec_word.specs.Word.{target_of}
+use Rattle.rec_word.specs.Word.{target_of, is_slot}
 use Rattle.rec_model.specs.Sums.{only_if}
 use Rattle.rec_counts.specs.declared.slot.Slot.{Slot}
 use Rattle.rec_counts.specs.Counts.{State, slot_at}
@@ -14,7 +14,7 @@ use Rattle.rec_trial.specs.Loaded.{Run}
 use Rattle.rec_trial.specs.Promised.{IsTrial}
 use Rattle.rec_trial.specs.Still.{AreStill, IsHeld, IsExact, IsReached, references, rest}
 use Rattle.rec_trial.specs.Still as still
-use Rattle.rec_trial.specs.Tried.{IsOver, leads_to}
+use Rattle.rec_trial.specs.Tried.{IsOver}
 use Rattle.rec_trial.specs.Trial.{next_of}
 use Rattle.rec_core.specs.Settling.{unreleased_slots, IsOffered, IsReachable, IsGarbage, FindsGarbage}
 use Rattle.rec_core.specs.Settling as settling
@@ -65,7 +65,7 @@ module _ {fields : ℕ} {before : State} {r : Run} {marked : List ℕ} (word : �
   rest_is : (n : ℕ) → (slot_at before n).released ≡ false → rest fields word marked before n ≡ holds n
   rest_is n e =
       let same : references fields word marked n ≡ references fields word (unreleased_slots before) n =
-      sum_by_alike (λ m. count_by (λ field. leads_to n (target_of (word m field))) (range_with_len 0 fields)) (unreleased_slots before) marked before.slots absent (unreleased_inside before) same_marked in
+      sum_by_alike (λ m. count_by (λ field. is_slot n (target_of (word m field))) (range_with_len 0 fields)) (unreleased_slots before) marked before.slots absent (unreleased_inside before) same_marked in
       omega (arith, same, a.counted n e)
 
   reachable : {n : ℕ} → IsHeld fields word marked before n → IsReachable fields word holds n

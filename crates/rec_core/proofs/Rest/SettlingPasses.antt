@@ -3,7 +3,7 @@ use Rattle.std.proofs.Common.{◌≡◌, ◌≢◌, inl, inr, ℕ, ◌-◌, ◌/
 use Rattle.std.proofs.lemmas.Bool.Decides.{eqb_tells}
 use Rattle.std.proofs.lemmas.Bool.{false≢true}
 use Rattle.std.proofs.lemmas.List.Sums.{sum_by-cons}
-use Rattle.rec_word.specs.Word.{target_of}
+use Rattle.rec_word.specs.Word.{target_of, is_slot}
 use Rattle.rec_model.specs.Sums.{only_if}
 use Rattle.rec_model.proofs.Sums.{sum_at_same}
 use Rattle.rec_model.proofs.Places.{sum_at_none-from_get_or}
@@ -19,7 +19,6 @@ use Rattle.rec_release.proofs.Giving.{given_slot}
 use Rattle.rec_sigma.specs.Judged.{AreOrange, cyclic_sum}
 use Rattle.rec_sigma.specs.Prepare.{members_of}
 use Rattle.rec_sigma.proofs.Cyclics.{in_set, of_one, other_set, own_set}
-use Rattle.rec_trial.specs.Tried.{leads_to}
 use Rattle.rec_core.specs.Settling.{leading, leading_outside, outside_sum, AreUnheld}
 use Rattle.rec_core.proofs.Rest.SettlingPrepared.{set_there}
 use Rattle.rec_core.proofs.Rest.SettlingSums.{times_places}
@@ -111,7 +110,7 @@ module _ (fields : ℕ) (words : List ℕ) (s : State) (k : IsKept s) (u : AreUn
   in_last : (x : ℕ) → 0 < times x (members_of s number) → (slot_at s x).set ≡ Some number
   in_last x m = in_set number (slot_at s x).set (of_one (is_in number (slot_at s x).set) (omega (arith, k.numbers number x, m)))
 
-  leads_some : (x : ℕ) (t : Option ℕ) → leads_to x t ≡ true → t ≡ Some x
+  leads_some : (x : ℕ) (t : Option ℕ) → is_slot x t ≡ true → t ≡ Some x
   leads_some x None e = cc
   leads_some x (Some y) e = elim (eqb_tells x y) [
     | inl q ↦ ap Some (sym q.1)
@@ -120,7 +119,7 @@ module _ (fields : ℕ) (words : List ℕ) (s : State) (k : IsKept s) (u : AreUn
 
   -- no field outside the last set leads to one of its members
   none_outside : (x : ℕ) → (slot_at s x).set ≡ Some number → outside_sum words fields s number x ≡ 0
-  none_outside x e = sum_at_none-from_get_or (leading_outside fields s number x) words 0 (λ p l. at p l (leads_to x (target_of (get_or words p 0))) refl)
+  none_outside x e = sum_at_none-from_get_or (leading_outside fields s number x) words 0 (λ p l. at p l (is_slot x (target_of (get_or words p 0))) refl)
     where
       nothing : (b : Bool) → only_if b 0 ≡ 0
       nothing true = refl
@@ -133,7 +132,7 @@ module _ (fields : ℕ) (words : List ℕ) (s : State) (k : IsKept s) (u : AreUn
           let last : i ≡ number = omega (arith, u.back.earlier p x i number l q e h, set_there s i (p / fields) k q) in
           ap (is_in number) q ∙ ap (λ j. is_in number (Some j)) last ∙ own_set number
 
-      at : (p : ℕ) → p < length words → (b : Bool) → leads_to x (target_of (get_or words p 0)) ≡ b → leading_outside fields s number x p (get_or words p 0) ≡ 0
+      at : (p : ℕ) → p < length words → (b : Bool) → is_slot x (target_of (get_or words p 0)) ≡ b → leading_outside fields s number x p (get_or words p 0) ≡ 0
       at p l false h = ap (λ b. only_if (not (is_in number (slot_at s (p / fields)).set)) (one b)) h ∙ nothing (not (is_in number (slot_at s (p / fields)).set))
       at p l true h = ap (λ b. only_if (not b) (leading x (get_or words p 0))) (from p l (leads_some x (target_of (get_or words p 0)) h) (slot_at s (p / fields)).set refl (slot_at s (p / fields)).released refl)
 

@@ -1,5 +1,5 @@
 -- The outside counts after a preparation at rest.
-use Rattle.std.proofs.Common.{◌≡◌, inl, inr, ℕ, ◌+◌, ◌*◌, ◌/◌, ◌<◌, ◌&&◌, Bool, true, false, not, Option, Some, None, List, [], ◌∷◌, ◌++◌, length, map, get_or, refl, sym, ap, ◌∙◌, arith, sum_by}
+use Rattle.std.proofs.Common.{◌≡◌, inl, inr, ℕ, ◌+◌, ◌*◌, ◌/◌, ◌<◌, ◌&&◌, Bool, true, false, not, Some, None, List, [], ◌∷◌, ◌++◌, length, map, get_or, refl, sym, ap, ◌∙◌, arith, sum_by}
 use Rattle.std.specs.List.{concat}
 use Rattle.std.proofs.lemmas.Bool.{cases_lt}
 use Rattle.std.proofs.lemmas.List.{append-nil, get_or_past}
@@ -7,7 +7,7 @@ use Rattle.std.proofs.lemmas.List.Elements.{All-nil, All-cons, All-append, All-h
 use Rattle.std.proofs.lemmas.List.Sums.{sum_by-cons}
 use Rattle.std.proofs.lemmas.Nat.{div-mul-add}
 use Rattle.rec_word.specs.Place.{place_of}
-use Rattle.rec_word.specs.Word.{target_of}
+use Rattle.rec_word.specs.Word.{target_of, is_slot}
 use Rattle.rec_model.specs.Sums.{only_if, sum_at}
 use Rattle.rec_model.proofs.Sums.{sum_at_split}
 use Rattle.rec_counts.specs.Counts.{State, IsKept, slot_at}
@@ -15,9 +15,8 @@ use Rattle.rec_counts.specs.Lists.{one, times}
 use Rattle.rec_counts.specs.Slot.{is_in}
 use Rattle.rec_counts.proofs.Keeping.{members_once}
 use Rattle.rec_counts.proofs.Times.{in_range_once, one-le, one-same, times-nil, times_part}
-use Rattle.rec_trial.specs.Tried as tried
 use Rattle.rec_sigma.specs.declared.at.At.{At}
-use Rattle.rec_sigma.specs.Prepared.{Load, PreparedTo, leads_to, loaded_at, place_loaded, seen}
+use Rattle.rec_sigma.specs.Prepared.{Load, PreparedTo, loaded_at, place_loaded, seen}
 use Rattle.rec_core.specs.Settling.{leading, heap_sum, leading_outside, outside_sum, IsLoadOf, AreLoadsOf}
 use Rattle.rec_core.proofs.Rest.SettlingSums.{sum_at_same-from_get_or, sum_of_slots}
 
@@ -30,11 +29,6 @@ loads_more fields words loads a word below e h =
     let l : Load = record { slot = a.slot; field = a.field; word = word } in
     let here : IsLoadOf fields words l = record { field = below; word = e } in
     All-append (IsLoadOf fields words) loads (l ∷ []) h (All-cons (IsLoadOf fields words) l [] here (All-nil (IsLoadOf fields words)))
-
--- preparation and trial ask alike where a word leads
-leads_alike : (x : ℕ) (t : Option ℕ) → leads_to x t ≡ tried.leads_to x t
-leads_alike x None = refl
-leads_alike x (Some y) = refl
 
 -- a slot in a set of this number shows that there is one
 pub set_there : (s : State) (number x : ℕ) → IsKept s → (slot_at s x).set ≡ Some number → number < length s.sets
@@ -66,8 +60,8 @@ seen_at_places fields words s number x [] h = refl
 seen_at_places fields words s number x (l ∷ loads) h =
     let f : ℕ → ℕ = λ p. leading_inside fields s number x p (get_or words p 0) in
     let r : seen s number loads x ≡ sum_by f (map (place_loaded fields) loads) = seen_at_places fields words s number x loads (All-tail (IsLoadOf fields words) l loads h) in
-    let e : one (leads_to x (target_of l.word) && is_in number (slot_at s l.slot).set) ≡ f (place_loaded fields l) = here (All-head (IsLoadOf fields words) l loads h) in
-    sum_by-cons (λ (m : Load). one (leads_to x (target_of m.word) && is_in number (slot_at s m.slot).set)) l loads
+    let e : one (is_slot x (target_of l.word) && is_in number (slot_at s l.slot).set) ≡ f (place_loaded fields l) = here (All-head (IsLoadOf fields words) l loads h) in
+    sum_by-cons (λ (m : Load). one (is_slot x (target_of m.word) && is_in number (slot_at s m.slot).set)) l loads
     ∙ omega (arith, e, r)
     ∙ sym (sum_by-cons f (place_loaded fields l) (map (place_loaded fields) loads))
   where
@@ -77,10 +71,9 @@ seen_at_places fields words s number x (l ∷ loads) h =
     both false true = refl
     both false false = refl
 
-    here : IsLoadOf fields words l → one (leads_to x (target_of l.word) && is_in number (slot_at s l.slot).set) ≡ leading_inside fields s number x (place_loaded fields l) (get_or words (place_loaded fields l) 0)
+    here : IsLoadOf fields words l → one (is_slot x (target_of l.word) && is_in number (slot_at s l.slot).set) ≡ leading_inside fields s number x (place_loaded fields l) (get_or words (place_loaded fields l) 0)
     here i =
-        both (leads_to x (target_of l.word)) (is_in number (slot_at s l.slot).set)
-        ∙ ap (λ b. only_if (is_in number (slot_at s l.slot).set) (one b)) (leads_alike x (target_of l.word))
+        both (is_slot x (target_of l.word)) (is_in number (slot_at s l.slot).set)
         ∙ ap (λ w. only_if (is_in number (slot_at s l.slot).set) (leading x w)) i.word
         ∙ ap (λ n. only_if (is_in number (slot_at s n).set) (leading x (get_or words (place_loaded fields l) 0))) (sym (div-mul-add l.slot fields l.field i.field))
 

@@ -7,7 +7,7 @@ use Rattle.std.proofs.lemmas.List.Sums.{sum_by-cons}
 use Rattle.std.proofs.lemmas.Nat.{div-add-mod'}
 use Rattle.std.proofs.Math.Nat.{mod-lt}
 use Rattle.rec_word.specs.Place.{place_of}
-use Rattle.rec_word.specs.Word.{target_of}
+use Rattle.rec_word.specs.Word.{target_of, is_slot}
 use Rattle.rec_model.proofs.Sums.{sum_by_same, sum_by-map, sum_by-flat_map}
 use Rattle.rec_counts.specs.declared.colour.Colour.{Colour}
 use Rattle.rec_counts.specs.declared.colour.Colour.TheVariants.{Black, Purple, Gray, White, Orange}
@@ -20,7 +20,7 @@ use Rattle.rec_trial.specs.Moves.{is_orange}
 use Rattle.rec_trial.specs.Promised.{IsTrial}
 use Rattle.rec_trial.specs.Still.{AreStill, IsExact, references}
 use Rattle.rec_trial.specs.Still as still
-use Rattle.rec_trial.specs.Tried.{IsOver, is_of, loaded, edges, leads_to, members}
+use Rattle.rec_trial.specs.Tried.{IsOver, is_of, loaded, edges, members}
 use Rattle.rec_trial.specs.Trial.{next_of}
 use Rattle.rec_sigma.specs.Prepared.{places_from}
 use Rattle.rec_core.specs.Settling.{unreleased_slots, IsOffered, LeadsToEarlier, LeadsFromMembers, word_in, leading, heap_sum, AreEmptied, LeadBack}
@@ -28,8 +28,8 @@ use Rattle.rec_core.proofs.Rest.SettlingFinds.{all_marked, garbage_unheld, times
 use Rattle.rec_core.proofs.Rest.SettlingSums.{sum_at_same-from_get_or, sum_of_slots}
 
 -- what leads to a slot passes the test
-leads_yes : (x : ℕ) (target : Option ℕ) → target ≡ Some x → leads_to x target ≡ true
-leads_yes x target e = ap (leads_to x) e ∙ eq-eqb x x refl
+leads_yes : (x : ℕ) (target : Option ℕ) → target ≡ Some x → is_slot x target ≡ true
+leads_yes x target e = ap (is_slot x) e ∙ eq-eqb x x refl
 
 -- a field that leads there was loaded no more often than words of its slot that lead there
 edge_of : (word : ℕ → ℕ → ℕ) (n g x : ℕ) (loads : List Load) → AreStill word loads → target_of (word n g) ≡ Some x → loaded n g loads ≤ edges n x loads
@@ -39,15 +39,15 @@ edge_of word n g x (l ∷ loads) a t =
     omega (
       arith,
       sum_by-cons (λ k. one (is_of n g k)) l loads,
-      sum_by-cons (λ (k : Load). one (cond (eqb n k.slot) (leads_to x (target_of k.word)) false)) l loads,
+      sum_by-cons (λ (k : Load). one (cond (eqb n k.slot) (is_slot x (target_of k.word)) false)) l loads,
       edge_of word n g x loads a.1 t,
       here,
     )
   where
-    leads : n ≡ l.slot → g ≡ l.field → leads_to x (target_of l.word) ≡ true
+    leads : n ≡ l.slot → g ≡ l.field → is_slot x (target_of l.word) ≡ true
     leads p q = leads_yes x (target_of l.word) (ap target_of (a.0 ∙ ap (λ k. word k l.field) (sym p) ∙ ap (word n) (sym q)) ∙ t)
 
-    here : one (is_of n g l) ≤ one (cond (eqb n l.slot) (leads_to x (target_of l.word)) false)
+    here : one (is_of n g l) ≤ one (cond (eqb n l.slot) (is_slot x (target_of l.word)) false)
     here = elim (eqb_tells n l.slot) [
       | inl p ↦ elim (eqb_tells g l.field) [
         | inl q ↦ rw (p.0, leads p.1 q.1, q.0) (omega arith)
@@ -76,12 +76,12 @@ references_in_words fields words s x some long empty =
     let word : ℕ → ℕ → ℕ = word_in fields words in
     let f : ℕ → ℕ = λ p. leading x (get_or words p 0) in
     let ns : List ℕ = unreleased_slots s in
-    sum_by_same (λ n. count_by (λ g. leads_to x (target_of (word n g))) (range_with_len 0 fields)) (λ n. sum_by f (places_from fields n 0)) ns row
+    sum_by_same (λ n. count_by (λ g. is_slot x (target_of (word n g))) (range_with_len 0 fields)) (λ n. sum_by f (places_from fields n 0)) ns row
     ∙ sym (sum_by-flat_map f (λ n. places_from fields n 0) ns)
     ∙ sum_of_slots f fields ns words (length s.slots) some long (unreleased_inside s)
     ∙ sum_at_same-from_get_or (λ p (w : ℕ). times (p / fields) ns * f p) (λ p w. leading x w) words 0 (λ p l. there p l (slot_at s (p / fields)).released refl)
   where
-    row : (n : ℕ) → count_by (λ g. leads_to x (target_of (word_in fields words n g))) (range_with_len 0 fields) ≡ sum_by (λ p. leading x (get_or words p 0)) (places_from fields n 0)
+    row : (n : ℕ) → count_by (λ g. is_slot x (target_of (word_in fields words n g))) (range_with_len 0 fields) ≡ sum_by (λ p. leading x (get_or words p 0)) (places_from fields n 0)
     row n =
         let all : fields ≡ fields - 0 = omega arith in
         ap (λ k. sum_by (λ g. leading x (get_or words (place_of n g fields) 0)) (range_with_len 0 k)) all
@@ -90,7 +90,7 @@ references_in_words fields words s x some long empty =
     there : (p : ℕ) → p < length words → (b : Bool) → (slot_at s (p / fields)).released ≡ b → times (p / fields) (unreleased_slots s) * leading x (get_or words p 0) ≡ leading x (get_or words p 0)
     there p l true e =
         let t : target_of (get_or words p 0) ≡ None = empty p l e (times-nil p) in
-        let z : leading x (get_or words p 0) ≡ 0 = ap (λ o. one (leads_to x o)) t in
+        let z : leading x (get_or words p 0) ≡ 0 = ap (λ o. one (is_slot x o)) t in
         rw z (omega arith)
     there p l false e = rw (times_unreleased s (p / fields) ∙ ap (λ b. one (not b)) e) (omega arith)
 

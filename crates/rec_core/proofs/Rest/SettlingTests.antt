@@ -3,7 +3,7 @@ use Rattle.std.proofs.Common.{◌≡◌, ◌≢◌, inl, inr, IsNone, ℕ, ◌+�
 use Rattle.std.proofs.lemmas.Bool.Decides.{eqb_tells}
 use Rattle.std.proofs.lemmas.Bool.{cases_lt, false≢true, ne_eqb}
 use Rattle.std.proofs.lemmas.List.{get_or-set_same, get_or-set_other, get_or_past, length-set}
-use Rattle.rec_word.specs.Word.{target_of}
+use Rattle.rec_word.specs.Word.{target_of, is_slot}
 use Rattle.rec_model.specs.Sums.{only_if}
 use Rattle.rec_model.proofs.Sums.{sum_at_same, sum_at-set}
 use Rattle.rec_counts.specs.declared.colour.Colour.{Colour}
@@ -21,7 +21,6 @@ use Rattle.rec_counts.proofs.Times.{times-cons}
 use Rattle.rec_release.specs.TakenOff.{is_orange, down_if, taken_off}
 use Rattle.rec_sigma.specs.Prepared.{Load, PreparedTo}
 use Rattle.rec_sigma.proofs.Cyclics.{in_set}
-use Rattle.rec_trial.specs.Tried.{leads_to}
 use Rattle.rec_core.specs.Settling.{IsOffered, word_in, AreEmptied, leading, heap_sum, leading_outside, outside_sum, AreLoadsOf, LeadBack, AreUnheld}
 use Rattle.rec_trial.specs.Loaded.{Run}
 use Rattle.rec_trial.specs.Promised.{IsTrial}
@@ -91,7 +90,7 @@ null_leads x = refl
 -- what comes of the counts of a member, where a reference is taken off its target
 record IsOff (s t : State) (target : Option ℕ) : Type 0 where
   alike : AreAlike s t
-  cyclic : (x i : ℕ) → (slot_at s x).set ≡ Some i → (slot_at s x).colour ≡ Orange → (slot_at t x).cyclic ≡ (slot_at s x).cyclic - one (leads_to x target)
+  cyclic : (x i : ℕ) → (slot_at s x).set ≡ Some i → (slot_at s x).colour ≡ Orange → (slot_at t x).cyclic ≡ (slot_at s x).cyclic - one (is_slot x target)
 
 -- an orange target is lowered
 off_lowered : (s : State) (y : ℕ) → (slot_at s y).colour ≡ Orange → IsOff s (with_slot s y (lowered (slot_at s y))) (Some y)

@@ -2,7 +2,9 @@
 use Rattle.std.proofs.Common.{◌≡◌, ◌⊎◌, inl, inr, ℕ, ◌+◌, ◌-◌, ◌%◌, ◌^◌, ◌==◌, Bool, true, Option, None, Some, List, IsNone, drop, slice_get, slice_index_or, slice_set, refl, sym, ap, subst, ◌∙◌}
 use Rattle.std.proofs.lemmas.Bool.{eq-eqb, ne_eqb, cond-true, cond-false}
 use Rattle.std.proofs.lemmas.List.{set-get_or}
-use Rattle.rec_word.specs.Op.{written, crossing_word}
+use Rattle.rec_word.specs.Mailbox.{crossing_word}
+use Rattle.rec_word.specs.declared.mailbox.Mailbox.TheVariants.{Retired, Spare, WithCollector}
+use Rattle.rec_word.specs.Op.{written}
 use Rattle.rec_word.specs.Place.{place_of}
 use Rattle.rec_word.specs.declared.op.Op.{Op}
 use Rattle.rec_word.specs.declared.op.Op.TheVariants as ops
@@ -57,10 +59,10 @@ rule_is w op word q turn kept found (Step.wait t looking other named same answer
     let its : op ≡ ops.LookBox t w.collector.epoch = some_op op (ops.LookBox t w.collector.epoch) named in
     let at : word ≡ slice_index_or w.crossing (t - 1) 0 = found ∙ ap (cell (cells_of w)) its in
     let now = now_at w (Looking t) kept looking in
-    let left : left_by w.collector word (box w t) (Looking t) ≡ box w t = cond-false (word == crossing_word w.collector.epoch 2) (collectors.spare w.collector) (box w t) (ne_eqb word (crossing_word w.collector.epoch 2) other) in
-    let stays : written (ops.LookBox t w.collector.epoch) word ≡ word = cond-false (word == crossing_word w.collector.epoch 2) (crossing_word w.collector.epoch 3) word (ne_eqb word (crossing_word w.collector.epoch 2) other) in
+    let left : left_by w.collector word (box w t) (Looking t) ≡ box w t = cond-false (word == crossing_word w.collector.epoch Retired) (collectors.spare w.collector) (box w t) (ne_eqb word (crossing_word w.collector.epoch Retired) other) in
+    let stays : written (ops.LookBox t w.collector.epoch) word ≡ word = cond-false (word == crossing_word w.collector.epoch Retired) (crossing_word w.collector.epoch WithCollector) word (ne_eqb word (crossing_word w.collector.epoch Retired) other) in
     let crossing : slice_set w.crossing (t - 1) (written (ops.LookBox t w.collector.epoch) word) ≡ w.crossing = ap (slice_set w.crossing (t - 1)) (stays ∙ at) ∙ set-get_or w.crossing (t - 1) 0 in
-    IsTurn.waits t (mutator_at w t (Looking t) kept looking (now.first, now.there)) looking (λ has. other (at ∙ has ∙ ap (λ n. crossing_word n 2) (sym kept.collector.epoch))) (
+    IsTurn.waits t (mutator_at w t (Looking t) kept looking (now.first, now.there)) looking (λ has. other (at ∙ has ∙ ap (λ n. crossing_word n Retired) (sym kept.collector.epoch))) (
     plain w op (ops.LookBox t w.collector.epoch) word q (Looking t) looking left its
     ∙ ap (λ (cs : List ℕ). let v : Core = record w { crossing = cs; collector = q } in v) crossing
     ∙ ap (λ (c : Private). let v : Core = record w { collector = c } in v) same
@@ -70,10 +72,10 @@ rule_is w op word q turn kept found (Step.gather t looking crossed named g) =
     let at : word ≡ slice_index_or w.crossing (t - 1) 0 = found ∙ ap (cell (cells_of w)) its in
     let epoch : w.collector.epoch ≡ w.epoch = kept.collector.epoch in
     let now = now_at w (Looking t) kept looking in
-    let has : crossing_of w t ≡ crossing_word w.epoch 2 = sym at ∙ crossed ∙ ap (λ n. crossing_word n 2) epoch in
-    let b : Bool = word == crossing_word w.collector.epoch 2 in
-    let yes : b ≡ true = eq-eqb word (crossing_word w.collector.epoch 2) crossed in
-    let next : written (ops.LookBox t w.collector.epoch) word ≡ crossing_word w.epoch 3 = cond-true b (crossing_word w.collector.epoch 3) word yes ∙ ap (λ n. crossing_word n 3) epoch in
+    let has : crossing_of w t ≡ crossing_word w.epoch Retired = sym at ∙ crossed ∙ ap (λ n. crossing_word n Retired) epoch in
+    let b : Bool = word == crossing_word w.collector.epoch Retired in
+    let yes : b ≡ true = eq-eqb word (crossing_word w.collector.epoch Retired) crossed in
+    let next : written (ops.LookBox t w.collector.epoch) word ≡ crossing_word w.epoch WithCollector = cond-true b (crossing_word w.collector.epoch WithCollector) word yes ∙ ap (λ n. crossing_word n WithCollector) epoch in
     let after : q ≡ moved (record w.collector { newer = slice_set w.collector.newer (t - 1) (box w t) }) (Returning t)
     = g.after ∙ ap (λ (phase : Phase). moved (record w.collector { newer = slice_set w.collector.newer (t - 1) (box w (looked_at phase)) }) (Returning t)) looking in
     let leaves : Phase → Core = λ f. collected (record w { collector = record w.collector { phase = f } }) op word q (left_by w.collector word (box w (looked_at f)) f) in
@@ -82,22 +84,22 @@ rule_is w op word q turn kept found (Step.gather t looking crossed named g) =
     ∙ ap (λ (o : Op). collected (record w { collector = record w.collector { phase = Looking t } }) o word q (left_by w.collector word (box w t) (Looking t))) its
     ∙ ap (λ (x : Contents). let v : Core = record w { crossing = slice_set w.crossing (t - 1) (written (ops.LookBox t w.collector.epoch) word); boxes = slice_set w.boxes (t - 1) x; collector = q } in v) (cond-true b (collectors.spare w.collector) (box w t) yes)
     ∙ ap (λ (n : ℕ). let v : Core = record w { crossing = slice_set w.crossing (t - 1) n; boxes = slice_set w.boxes (t - 1) (collectors.spare w.collector); collector = q } in v) next
-    ∙ ap (λ (c : Private). let v : Core = record w { crossing = slice_set w.crossing (t - 1) (crossing_word w.epoch 3); boxes = slice_set w.boxes (t - 1) (collectors.spare w.collector); collector = c } in v) after
+    ∙ ap (λ (c : Private). let v : Core = record w { crossing = slice_set w.crossing (t - 1) (crossing_word w.epoch WithCollector); boxes = slice_set w.boxes (t - 1) (collectors.spare w.collector); collector = c } in v) after
     )
 rule_is w op word q turn kept found (Step.give_back t returning more named g) =
     let its : op ≡ ops.ReturnBox t w.collector.epoch = some_op op (ops.ReturnBox t w.collector.epoch) named in
     let now = now_at w (Returning t) kept returning in
     IsTurn.gives_back t (mutator_at w t (Returning t) kept returning (now.first, now.there)) returning more (
     plain w op (ops.ReturnBox t w.collector.epoch) word q (Returning t) returning refl its
-    ∙ ap (λ (n : ℕ). let v : Core = record w { crossing = slice_set w.crossing (t - 1) (crossing_word n 0); collector = q } in v) kept.collector.epoch
-    ∙ ap (λ (c : Private). let v : Core = record w { crossing = slice_set w.crossing (t - 1) (crossing_word w.epoch 0); collector = c } in v) g.after
+    ∙ ap (λ (n : ℕ). let v : Core = record w { crossing = slice_set w.crossing (t - 1) (crossing_word n Spare); collector = q } in v) kept.collector.epoch
+    ∙ ap (λ (c : Private). let v : Core = record w { crossing = slice_set w.crossing (t - 1) (crossing_word w.epoch Spare); collector = c } in v) g.after
     )
 rule_is w op word q turn kept found (Step.apply t returning last named on) =
     let its : op ≡ ops.ReturnBox t w.collector.epoch = some_op op (ops.ReturnBox t w.collector.epoch) named in
     let now = now_at w (Returning t) kept returning in
     IsTurn.applies t q turn (mutator_at w t (Returning t) kept returning (now.first, now.there)) returning last on (
     plain w op (ops.ReturnBox t w.collector.epoch) word q (Returning t) returning refl its
-    ∙ ap (λ (n : ℕ). let v : Core = record w { crossing = slice_set w.crossing (t - 1) (crossing_word n 0); collector = q } in v) kept.collector.epoch
+    ∙ ap (λ (n : ℕ). let v : Core = record w { crossing = slice_set w.crossing (t - 1) (crossing_word n Spare); collector = q } in v) kept.collector.epoch
     )
 rule_is w op word q turn kept found (Step.release releasing named on) = go w.collector.release.at refl
   where

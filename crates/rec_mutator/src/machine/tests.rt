@@ -3,6 +3,7 @@ ghost use Rattle.rec_mutator.specs.Private.{HasOperands, IsValid};
 ghost use Rattle.rec_mutator.specs.Took.{IsFound, IsRequested};
 
 use super::*;
+use rec_word::{Mailbox, crossing};
 use std::process::Abort;
 use std::test::Fail;
 
@@ -25,7 +26,7 @@ fn may_find(machine: &Machine, op: Op, word: u64) -> bool
     match op {
         Op::LoadHeader(_) => 0 < word && word <= 1 << 32,
         Op::LoadEpoch => is_requested(machine, word),
-        Op::TakeBox(..) => word == u64::from(machine.epoch()) * 4,
+        Op::TakeBox(..) => word == crossing(machine.epoch(), Mailbox::Spare),
         _ => true,
     }
 }
