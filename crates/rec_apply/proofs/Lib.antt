@@ -1,4 +1,5 @@
 pub mod Falling
+pub mod Kept
 pub mod Naming
 pub mod Resting
 pub mod Rising

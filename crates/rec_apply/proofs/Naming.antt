@@ -24,7 +24,7 @@ unfolding named
 named-append x ts us = sum_by-append (λ z. cond (is_slot x z) 1 0) ts us
 
 -- in joined lists a slot is named as often as in all of them together
-pub named_parts : (x : ℕ) (f : Contents → List (Option ℕ)) (bs : List Contents) → named x (flat_map f bs) ≡ sum_by (λ b. named x (f b)) bs
+named_parts : (x : ℕ) (f : Contents → List (Option ℕ)) (bs : List Contents) → named x (flat_map f bs) ≡ sum_by (λ b. named x (f b)) bs
 named_parts x f [] = named-nil x
 named_parts x f (b ∷ bs) =
     omega (arith, named-append x (f b) (flat_map f bs), named_parts x f bs, sum_by-cons (λ (b : Contents). named x (f b)) b bs)

@@ -15,7 +15,7 @@ use Rattle.rec_apply.specs.Batch.{CanRise, counted_up, all_up}
 use Rattle.rec_apply.proofs.Naming.{named-nil, named-cons, named-append, split_at}
 
 -- the first of them names a slot that is there, and its count fits
-pub rise_first : (s : State) (t : Option ℕ) (ts : List (Option ℕ)) → CanRise s (t ∷ ts) → IfSome t (λ x. x < length s.slots) × IfSome t (λ x. (slot_at s x).count + 1 < 2 ^ 64)
+rise_first : (s : State) (t : Option ℕ) (ts : List (Option ℕ)) → CanRise s (t ∷ ts) → IfSome t (λ x. x < length s.slots) × IfSome t (λ x. (slot_at s x).count + 1 < 2 ^ 64)
 rise_first s None ts k = (tt, tt)
 rise_first s (Some x) ts k =
     let n : named x (Some x ∷ ts) ≡ 1 + named x ts = named-cons x (Some x) ts ∙ ap (λ m. m + named x ts) (one-same x) in
@@ -52,7 +52,7 @@ rise_all s [] k y = omega (arith, named-nil y)
 rise_all s (t ∷ ts) k y =
     omega (arith, rise_all (counted_up s t) ts (rise_rest s t ts k) y, rise_count s t y (rise_first s t ts k).0, named-cons y t ts)
 
-pub up_length_all : (s : State) (ts : List (Option ℕ)) → length (all_up s ts).slots ≡ length s.slots
+up_length_all : (s : State) (ts : List (Option ℕ)) → length (all_up s ts).slots ≡ length s.slots
 unfolding all_up
 up_length_all s [] = refl
 up_length_all s (t ∷ ts) = up_length_all (counted_up s t) ts ∙ up_length s t

@@ -96,7 +96,7 @@ tries_on w e = go (trials.next_of w.trial) e
     go None e = absurd (false≢true e)
     go (Some o) e = refl
 
-pub tries_no_more : (w : Parts) → is_some (trials.next_of w.trial) ≡ false → prepared (prep_started w) ≡ tried w
+tries_no_more : (w : Parts) → is_some (trials.next_of w.trial) ≡ false → prepared (prep_started w) ≡ tried w
 unfolding tried
 tries_no_more w e = sym (ap (tried_at w) (none_of (trials.next_of w.trial) e))
 
@@ -130,17 +130,6 @@ refused_last w verdict s v sets is refused r e n =
 -- what a refused set leaves can be released
 pub refused_ready : (s t : State) → IsReady s → (AreZeros s → AreZeros t) → (AreReleased s → AreReleased t) → IsReady t
 refused_ready s t r zeros free = record { zeros = zeros r.zeros; free = free r.free }
-
--- after the freeing of a set came so far
-pub frees_on : (w : Parts) → is_some (frees.next_of w.freeing) ≡ true → w ≡ relieved w
-frees_on w e = go w.freeing.at (sym (freeing_next w.freeing) ∙ e)
-  where
-    go : (member : Option Member) → is_some member ≡ true → w ≡ relieved_at w member
-    go None e = absurd (false≢true e)
-    go (Some m) e = refl
-
-pub frees_no_more : (w : Parts) (v : releases.Work) → is_some (frees.next_of w.freeing) ≡ false → v ≡ releases.started_of w.release true w.counts → record w { counts = v.counts; release = v.machine } ≡ relieved w
-frees_no_more w v e s = ap (with_release w) s ∙ sym (ap (relieved_at w) (none_of w.freeing.at (sym (freeing_next w.freeing) ∙ e)))
 
 -- after the tests of sets
 pub tests_free : (w : Parts) → is_some (frees.next_of w.freeing) ≡ true → next_in Freeing w ≡ tested_next w

@@ -10,6 +10,7 @@ use Rattle.rec_counts.specs.Counts.{State, slot_at, with_slot}
 use Rattle.rec_counts.specs.Lists.{times}
 use Rattle.rec_counts.specs.Rest.{KeepsRest}
 use Rattle.rec_counts.specs.Slot.{raised}
+use Rattle.rec_counts.specs.Colour.{is_gray, is_white}
 use Rattle.rec_counts.proofs.Decrementing.{rest_decremented}
 use Rattle.rec_counts.proofs.Keeping.{field_kept}
 use Rattle.rec_counts.proofs.Times.{times-nil}
@@ -22,7 +23,6 @@ use Rattle.rec_release.specs.TakenOff.{AllZerosButOrange, IsApart, IsMember}
 use Rattle.rec_release.specs.declared.at.At.{At}
 use Rattle.rec_release.proofs.Orange.{off_keeps}
 use Rattle.rec_release.proofs.TakenOff.{written}
-use Rattle.rec_trial.specs.Moves.{is_gray, is_white}
 use Rattle.rec_trial.specs.Trial.{next_of as trial_next}
 use Rattle.rec_trial.proofs.Worked.{kept_by_all}
 use Rattle.rec_collector.specs.Clearing.{IsClearing, IsUntried}
@@ -41,16 +41,6 @@ raised_apart s x a y o = elim (written s x (raised (slot_at s x)) y) [
       let m : IsMember s y = a y (ap (λ (v : Slot). v.colour) (sym q) ∙ o) in
       record { member = m.member; no_zero = m.no_zero; unreleased = ap (λ (v : Slot). v.released) q ∙ m.unreleased }
 ]
-
--- the increments
-up_apart : (s : State) (t : Option ℕ) → IsApart s → IsApart (counted_up s t)
-up_apart s None a = a
-up_apart s (Some x) a = raised_apart s x a
-
-all_up_apart : (s : State) (ts : List (Option ℕ)) → IsApart s → IsApart (all_up s ts)
-unfolding all_up
-all_up_apart s [] a = a
-all_up_apart s (t ∷ ts) a = all_up_apart (counted_up s t) ts (up_apart s t a)
 
 -- and has a count
 raised_zeros : (s : State) (x : ℕ) → AllZerosButOrange s → AllZerosButOrange (with_slot s x (raised (slot_at s x)))
@@ -84,16 +74,6 @@ unfolding all_up
 tidy_all_up s [] at i = i
 tidy_all_up s (t ∷ ts) at i = tidy_all_up (counted_up s t) ts at (tidy_up s t at i)
 
--- the decrements
-down_apart : (s : State) (t : Option ℕ) (ts : List (Option ℕ)) → CanFall s (t ∷ ts) → IsApart s → IsApart (counted_down s t)
-down_apart s None ts c a = a
-down_apart s (Some x) ts c a = (off_keeps false s (Some x) (fall_first s (Some x) ts c).0).apart a
-
-all_down_apart : (s : State) (ts : List (Option ℕ)) → CanFall s ts → IsApart s → IsApart (all_down s ts)
-unfolding all_down
-all_down_apart s [] c a = a
-all_down_apart s (t ∷ ts) c a = all_down_apart (counted_down s t) ts (fall_right s (t ∷ []) ts c) (down_apart s t ts c a)
-
 -- what is in the free list, or in the work list, is released
 record AreReleased (s : State) : Type 0 where
   pub free : (x : ℕ) → 0 < times x s.free → (slot_at s x).released ≡ true
@@ -121,10 +101,6 @@ tidy_all_down s (t ∷ ts) at c r i = tidy_all_down (counted_down s t) ts at (fa
 module _ (s : State) (newer older : List Contents) (c : CanFall (all_up s (flat_map up_targets newer)) (flat_map down_targets older)) where
   abbrev up : State
   up = all_up s (flat_map up_targets newer)
-
-  -- the orange slots stay apart from the zeros and from what is released
-  pub batch_apart : IsApart s → IsApart (batch s newer older)
-  batch_apart a = all_down_apart up (flat_map down_targets older) c (all_up_apart s (flat_map up_targets newer) a)
 
   tidy_batch : {fields : ℕ} → (at : Option At) → AreReleased s → IsTidy fields s at → IsTidy fields (batch s newer older) at
   tidy_batch at r i = tidy_all_down up (flat_map down_targets older) at c (released_rests s up (rest_all_up s (flat_map up_targets newer)) r) (tidy_all_up s (flat_map up_targets newer) at i)

@@ -3,12 +3,14 @@
 use Rattle.std.proofs.Common.{◌≡◌, ◌≢◌, ◌⊎◌, ℕ, zero, suc, ◌+◌, ◌-◌, ◌<◌, ◌≤◌, Bool, true, false, cond, Option, None, Some, IsNone, IsSome, IfSome, List, [], ◌∷◌, ◌++◌, length, slice_get, refl, arith, sym, ◌∙◌, ap, subst, inl, inr}
 use Rattle.std.specs.List.{concat}
 use Rattle.std.proofs.lemmas.Bool.{cases_lt, false≢true}
+use Rattle.std.proofs.lemmas.List.{nil_from_length}
 use Rattle.rec_word.specs.Word.{target_of}
 use Rattle.rec_counts.specs.declared.colour.Colour.TheVariants.{Orange}
 use Rattle.rec_counts.specs.Counts.{State, IsKept, slot_at}
 use Rattle.rec_counts.specs.Groups.{last_set}
 use Rattle.rec_counts.specs.Lists.{one, times}
 use Rattle.rec_counts.proofs.Times.{times-append, times-nil}
+use Rattle.rec_counts.proofs.Front.{nothing_first}
 use Rattle.rec_release.specs.CycleFree as frees
 use Rattle.rec_release.specs.CycleFree.{first_member, given_up}
 use Rattle.rec_release.specs.Release as releases
@@ -16,7 +18,7 @@ use Rattle.rec_release.specs.Release.{started_of as zeros_started, emptied, firs
 use Rattle.rec_release.specs.declared.at.At.{At}
 use Rattle.rec_release.specs.declared.member.Member.{Member}
 use Rattle.rec_release.proofs.Freeing.{more_field, off_work}
-use Rattle.rec_release.proofs.Giving.{given_is_work, nothing_first}
+use Rattle.rec_release.proofs.Giving.{given_is_work, first_none}
 use Rattle.rec_release.proofs.Keeping.{held_off, ready_emptied, work_next, work_on}
 use Rattle.rec_release.proofs.TakenOff.{off_most, ready_off, KeepsMost}
 use Rattle.rec_sigma.specs.Refurbish.{IsRefusable, LastRefurbished}
@@ -25,6 +27,7 @@ use Rattle.rec_sigma.proofs.Refused.{released_after, zeros_after}
 use Rattle.rec_sigma.proofs.Renewals.{refurbished_last}
 use Rattle.rec_trial.specs.Rules as trials
 use Rattle.rec_trial.specs.Trial.{next_of as trial_next}
+use Rattle.rec_sigma.proofs.Kept.{refurbished_kept}
 use Rattle.rec_collector.specs.Clearing.{IsClearing, IsDone}
 use Rattle.rec_collector.specs.Followed.{relieved, with_freed, with_released}
 use Rattle.rec_collector.specs.Parts.{Parts}
@@ -33,8 +36,7 @@ use Rattle.rec_collector.specs.Testing.{is_busy, last_tested, tested, verdict_of
 use Rattle.rec_collector.specs.declared.verdict.Verdict.{Verdict}
 use Rattle.rec_collector.specs.declared.verdict.Verdict.TheVariants.{Passed}
 use Rattle.rec_collector.proofs.Counting.{Counted, last_kept}
-use Rattle.rec_collector.proofs.Dropping.{refurbished_kept}
-use Rattle.rec_collector.proofs.Goings.{freed_by, freed_last, freed_more, freed_next, freed_off, first_work, last_by, last_given, last_refused, none_some, released_by, released_emptied, released_last, released_more, released_off, relieved_by, some_none, tested_all}
+use Rattle.rec_collector.proofs.Goings.{freed_by, freed_last, freed_more, freed_next, freed_off, first_work, last_by, last_given, last_refused, none_some, released_by, released_emptied, released_last, released_more, released_off, relieved_by, some_none, tested_all, released_most}
 use Rattle.rec_collector.proofs.Judging.{none_busy}
 use Rattle.rec_collector.proofs.Told.{last_same}
 use Rattle.rec_collector.proofs.Tidy.{tidy_emptied, tidy_given, tidy_listed, tidy_next, tidy_off, tidy_refurbished, IsTidy}
@@ -104,52 +106,47 @@ pub zeros_clear : (lowers : Bool) (w : Parts) → 0 < w.release.fields → w.rel
 unfolding zeros_started
 zeros_clear lowers w wide still unfreed c = next_clear lowers w wide still unfreed c
 
-nothing_in : (xss : List (List ℕ)) → length xss ≡ 0 → xss ≡ []
-nothing_in [] e = refl
-nothing_in (xs ∷ xss) e = absurd (omega (arith, e))
-
 -- another field of the same slot is due
 tidy_more : {fields : ℕ} → (s : State) (a : At) → IsTidy fields s (Some a) → IsTidy fields s (Some (record { slot = a.slot; field = a.field + 1 }))
 tidy_more s a i = record { untried = i.untried; apart = i.apart; all_zeros = i.all_zeros; outside = i.outside; listed = i.listed; unbuffered = i.unbuffered; held = i.held }
 
+-- where a release is at work no set is freed, and the counts are as the release left them
+pub release_alone : (w : Parts) (a : At) → IsClearing w → w.release.at ≡ Some a → w.freeing.at ≡ None
+release_alone w a c e = elim c.one [ inl f ↦ some_none w.release.at a e f | inr f ↦ f ]
+
+pub release_at_work : (w : Parts) (a : At) → IsClearing w → w.release.at ≡ Some a → releases.IsAtWork (record { fields = w.release.fields; at = Some a; lowers = w.release.lowers }) w.counts
+release_at_work w a c e = subst (λ o. releases.IsAtWork (record { fields = w.release.fields; at = o; lowers = w.release.lowers }) w.counts) e c.release
+
+-- where a set is freed the counts are as the freeing left them
+pub freeing_at_work : (w : Parts) (a : Member) → IsClearing w → w.freeing.at ≡ Some a → frees.IsAtWork (record { fields = w.freeing.fields; at = Some a }) w.counts
+freeing_at_work w a c e = subst (λ o. frees.IsAtWork (record { fields = w.freeing.fields; at = o }) w.counts) e c.freeing
+
 -- a word came out of a field of a released slot
 module _ (w : Parts) (word : ℕ) (counted : Counted w.counts word) (c : IsClearing w) where
-  abbrev off : State
-  off = released_off w word
-
-  n : KeepsMost w.counts off
-  n = off_most w.release.lowers w.counts (target_of word)
-
   module _ (a : At) (e : w.release.at ≡ Some a) where
-    unfreed : w.freeing.at ≡ None
-    unfreed = elim c.one [ inl f ↦ some_none w.release.at a e f | inr f ↦ f ]
-
-    at_work : releases.IsAtWork (record { fields = w.release.fields; at = Some a; lowers = w.release.lowers }) w.counts
-    at_work = subst (λ o. releases.IsAtWork (record { fields = w.release.fields; at = o; lowers = w.release.lowers }) w.counts) e c.release
-
-    ready : IsReady off
+    ready : IsReady (released_off w word)
     ready = ready_off w.release.lowers w.counts (target_of word) c.release.ready
 
-    work : off.work ≡ []
-    work = n.work ∙ c.work unfreed
+    work : (released_off w word).work ≡ []
+    work = (released_most w word).work ∙ c.work (release_alone w a c e)
 
-    tidy : IsTidy w.prep.fields off (Some a)
-    tidy = subst (IsTidy w.prep.fields off) e (tidy_off w.release.lowers w.counts (target_of word) w.release.at counted c.release.ready (λ x h. absurd (omega (arith, h, ap (times x) (c.work unfreed), times-nil x))) (tidy_of c))
+    tidy : IsTidy w.prep.fields (released_off w word) (Some a)
+    tidy = subst (IsTidy w.prep.fields (released_off w word)) e (tidy_off w.release.lowers w.counts (target_of word) w.release.at counted c.release.ready (λ x h. absurd (omega (arith, h, ap (times x) (c.work (release_alone w a c e)), times-nil x))) (tidy_of c))
 
     more_clear : a.field + 1 < w.release.fields → IsClearing (released_more w word a)
     more_clear l =
-        let r = work_on w.release.fields w.release.lowers a w.counts (target_of word) at_work l in
-        clearing (released_more w word a) c.idle c.unprepared (tidy_more off a tidy) r (freeing_idle w.freeing off unfreed work ready) (inr unfreed) (λ f. work)
+        let r = work_on w.release.fields w.release.lowers a w.counts (target_of word) (release_at_work w a c e) l in
+        clearing (released_more w word a) c.idle c.unprepared (tidy_more (released_off w word) a tidy) r (freeing_idle w.freeing (released_off w word) (release_alone w a c e) work ready) (inr (release_alone w a c e)) (λ f. work)
 
     emptied_clear : IsClearing (released_emptied w word a)
     emptied_clear =
-        let held : releases.IsHeld off a = held_off w.release.lowers w.counts (target_of word) a at_work.held in
-        let ready' : IsReady (emptied off a.slot) = ready_emptied off a.slot held.released ready in
-        let work' : (emptied off a.slot).work ≡ [] = emptied_work off a.slot ∙ work in
-        clearing (released_emptied w word a) c.idle c.unprepared (tidy_emptied off a tidy) (release_idle (released_emptied w word a).release (emptied off a.slot) refl ready') (freeing_idle w.freeing (emptied off a.slot) unfreed work' ready') (inr unfreed) (λ f. work')
+        let held : releases.IsHeld (released_off w word) a = held_off w.release.lowers w.counts (target_of word) a (release_at_work w a c e).held in
+        let ready' : IsReady (emptied (released_off w word) a.slot) = ready_emptied (released_off w word) a.slot held.released ready in
+        let work' : (emptied (released_off w word) a.slot).work ≡ [] = emptied_work (released_off w word) a.slot ∙ work in
+        clearing (released_emptied w word a) c.idle c.unprepared (tidy_emptied (released_off w word) a tidy) (release_idle (released_emptied w word a).release (emptied (released_off w word) a.slot) refl ready') (freeing_idle w.freeing (emptied (released_off w word) a.slot) (release_alone w a c e) work' ready') (inr (release_alone w a c e)) (λ f. work')
 
     last_clears : IsClearing (released_last w word a) × IsDone (released_last w word a)
-    last_clears = let field : a.field < w.release.fields = at_work.field in next_clear w.release.lowers (released_emptied w word a) (omega (arith, field)) refl unfreed emptied_clear
+    last_clears = let field : a.field < w.release.fields = (release_at_work w a c e).field in next_clear w.release.lowers (released_emptied w word a) (omega (arith, field)) refl (release_alone w a c e) emptied_clear
 
 pub released_clear : (w : Parts) (word : ℕ) → IsSome w.release.at → Counted w.counts word → IsKept w.counts → IsClearing w → IsClearing (with_released w word) × IsDone (with_released w word)
 released_clear w word busy h k c = released_by (λ v. IsClearing v × IsDone v) w word (λ e. none_some w.release.at e busy)
@@ -158,46 +155,40 @@ released_clear w word busy h k c = released_by (λ v. IsClearing v × IsDone v) 
 
 -- a word came out of a field of a member of the set that is freed
 module _ (w : Parts) (word : ℕ) (counted : Counted w.counts word) (c : IsClearing w) (a : Member) (e : w.freeing.at ≡ Some a) where
-  abbrev left : State
-  left = freed_off w word
-
   still : w.release.at ≡ None
   still = elim c.one [ inl f ↦ f | inr f ↦ some_none w.freeing.at a e f ]
 
-  freeing_now : frees.IsAtWork (record { fields = w.freeing.fields; at = Some a }) w.counts
-  freeing_now = subst (λ o. frees.IsAtWork (record { fields = w.freeing.fields; at = o }) w.counts) e c.freeing
+  freeing_left : frees.IsAtWork (record { fields = w.freeing.fields; at = Some a }) (freed_off w word)
+  freeing_left = off_work w.freeing.fields w.counts (target_of word) a (freeing_at_work w a c e)
 
-  freeing_left : frees.IsAtWork (record { fields = w.freeing.fields; at = Some a }) left
-  freeing_left = off_work w.freeing.fields w.counts (target_of word) a freeing_now
-
-  tidy_left : IsTidy w.prep.fields left w.release.at
+  tidy_left : IsTidy w.prep.fields (freed_off w word) w.release.at
   tidy_left = tidy_off true w.counts (target_of word) w.release.at counted c.freeing.ready c.freeing.released (tidy_of c)
 
   freed_more_clear : a.field + 1 < w.freeing.fields → IsClearing (freed_more w word a)
-  freed_more_clear l = clearing (freed_more w word a) c.idle c.unprepared tidy_left (release_idle w.release left still freeing_left.ready) (more_field w.freeing.fields w.counts (target_of word) a l freeing_now) (inl still) (λ f. cc)
+  freed_more_clear l = clearing (freed_more w word a) c.idle c.unprepared tidy_left (release_idle w.release (freed_off w word) still freeing_left.ready) (more_field w.freeing.fields w.counts (target_of word) a l (freeing_at_work w a c e)) (inl still) (λ f. cc)
 
-  freed_next_clear : a.index + 1 < length left.work → IsClearing (freed_next w word a)
+  freed_next_clear : a.index + 1 < length (freed_off w word).work → IsClearing (freed_next w word a)
   freed_next_clear l =
       let field : a.field < w.freeing.fields = freeing_left.field in
-      let f : frees.IsAtWork (freed_next w word a).freeing left = record {
+      let f : frees.IsAtWork (freed_next w word a).freeing (freed_off w word) = record {
         field = omega (arith, field);
         held = record { index = l; slot = refl };
         unlisted = freeing_left.unlisted;
         released = freeing_left.released;
         ready = freeing_left.ready;
       } in
-      clearing (freed_next w word a) c.idle c.unprepared tidy_left (release_idle w.release left still freeing_left.ready) f (inl still) (λ g. cc)
+      clearing (freed_next w word a) c.idle c.unprepared tidy_left (release_idle w.release (freed_off w word) still freeing_left.ready) f (inl still) (λ g. cc)
 
   freed_last_clear : IsClearing (freed_last w word)
   freed_last_clear =
-      let ready : IsReady (frees.listed left) = record {
+      let ready : IsReady (frees.listed (freed_off w word)) = record {
         zeros = record { once = freeing_left.ready.zeros.once; none = freeing_left.ready.zeros.none; unreleased = freeing_left.ready.zeros.unreleased };
-        free = λ x h. elim (cases_lt 0 (times x left.free)) [
+        free = λ x h. elim (cases_lt 0 (times x (freed_off w word).free)) [
           | inl l ↦ freeing_left.ready.free x l
-          | inr l ↦ freeing_left.released x (omega (arith, h, l, times-append x left.free left.work))
+          | inr l ↦ freeing_left.released x (omega (arith, h, l, times-append x (freed_off w word).free (freed_off w word).work))
         ];
       } in
-      clearing (freed_last w word) c.idle c.unprepared (subst (IsTidy w.prep.fields (frees.listed left)) (sym still) (tidy_listed left (subst (IsTidy w.prep.fields left) still tidy_left))) (release_idle w.release (frees.listed left) still ready) (freeing_idle (freed_last w word).freeing (frees.listed left) refl refl ready) (inl still) (λ f. refl)
+      clearing (freed_last w word) c.idle c.unprepared (subst (IsTidy w.prep.fields (frees.listed (freed_off w word))) (sym still) (tidy_listed (freed_off w word) (subst (IsTidy w.prep.fields (freed_off w word)) still tidy_left))) (release_idle w.release (frees.listed (freed_off w word)) still ready) (freeing_idle (freed_last w word).freeing (frees.listed (freed_off w word)) refl refl ready) (inl still) (λ f. refl)
 
 pub freed_clear : (w : Parts) (word : ℕ) → IsSome w.freeing.at → Counted w.counts word → IsKept w.counts → IsClearing w → IsClearing (with_freed w word)
 freed_clear w word busy h k c = freed_by IsClearing w word (λ e. none_some w.freeing.at e busy)
@@ -210,11 +201,6 @@ relieved_clear w word wide busy h k c =
     let d : IsClearing v = freed_clear w word busy h k c in
     let rest : w.release.at ≡ None = elim c.one [ inl f ↦ f | inr f ↦ none_some w.freeing.at f busy ] in
     relieved_by (λ u. IsClearing u × IsDone u) v (λ e. zeros_clear true v wide rest e d) (λ m e. (d, λ f g. some_none v.freeing.at m e g))
-
--- the last set is tested
-first_none : (o : Option ℕ) → first_member o ≡ None → o ≡ None
-first_none None e = refl
-first_none (Some x) e = cc
 
 given_clear : (w : Parts) → 0 < w.freeing.fields → 0 < length w.counts.sets → is_busy w ≡ false → verdict_of w.counts (length w.counts.sets - 1) ≡ Passed → IsKept w.counts → IsClearing w → IsDone w → IsClearing (last_given w) × IsDone (last_given w)
 given_clear w wide some idle passed k c d =
@@ -276,7 +262,7 @@ tested_kept n w wide freed l c d k = (tested_stays n w l (record { wide = wide; 
 -- where nothing is at work after as many tests as there were sets, no set is left
 ends_after : (n : ℕ) (w : Parts) → length w.counts.sets ≡ n → is_busy (tested n w) ≡ false → (tested n w).counts.sets ≡ []
 unfolding tested
-ends_after zero w e idle = nothing_in w.counts.sets e
+ends_after zero w e idle = nil_from_length w.counts.sets e
 ends_after (suc n) w e idle = go (is_busy w) refl idle (ends_after n (last_tested w) (omega (arith, e, last_sets w (omega (arith, e)))))
   where
     go : (b : Bool) → is_busy w ≡ b → is_busy (cond b w (tested n (last_tested w))) ≡ false → (is_busy (tested n (last_tested w)) ≡ false → (tested n (last_tested w)).counts.sets ≡ []) → (cond b w (tested n (last_tested w))).counts.sets ≡ []

@@ -19,7 +19,7 @@ none_exact s z c x = (
 )
 
 -- while slots are released and sets tested
-pub clear_exact : (w : Parts) → IsClearing w → AreTheZeros w.counts
+clear_exact : (w : Parts) → IsClearing w → AreTheZeros w.counts
 clear_exact w c x = (
   λ h. (c.release.ready.zeros.unreleased x h, c.release.ready.zeros.none x h, λ o. absurd (omega (arith, h, (c.apart x o).no_zero))),
   λ q. c.all_zeros x q.0 q.1 q.2,

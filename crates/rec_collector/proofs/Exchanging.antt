@@ -11,13 +11,14 @@ use Rattle.rec_counts.specs.Groups.{last_set}
 use Rattle.rec_counts.specs.Lists.{one, times, EachOnce}
 use Rattle.rec_counts.specs.Slot.{absent}
 use Rattle.rec_counts.proofs.Times.{length-once, one-le, times-append, times-cons, times-nil}
+use Rattle.rec_counts.proofs.Front.{first_and_rest}
 use Rattle.rec_release.specs.CycleFree as frees
 use Rattle.rec_release.specs.CycleFree.{first_member, given_up}
 use Rattle.rec_release.specs.Release as releases
 use Rattle.rec_release.specs.Release.{started_of as zeros_started, emptied, first_of, with_next, without_first, IsReady}
 use Rattle.rec_release.specs.declared.at.At.{At}
 use Rattle.rec_release.specs.declared.member.Member.{Member}
-use Rattle.rec_release.proofs.Giving.{first_and_rest, given_many, given_released}
+use Rattle.rec_release.proofs.Giving.{given_many, given_released}
 use Rattle.rec_release.proofs.Keeping.{emptied_length, first_zero, next_length, ready_emptied, released_first, released_same, FirstZero}
 use Rattle.rec_release.proofs.TakenOff.{off_most, ready_off, KeepsMost}
 use Rattle.rec_sigma.specs.Refurbish.{LastRefurbished}
@@ -29,9 +30,9 @@ use Rattle.rec_collector.specs.Followed.{relieved, with_freed, with_released}
 use Rattle.rec_collector.specs.Parts.{Parts}
 use Rattle.rec_collector.specs.Testing.{is_busy, last_tested, tested, with_release, zeros_released}
 use Rattle.rec_collector.specs.declared.verdict.Verdict.{Verdict}
-use Rattle.rec_collector.proofs.Clearing.{freed_clear, last_stays, refused_clear, StaysClear}
+use Rattle.rec_collector.proofs.Clearing.{freed_clear, last_stays, refused_clear, StaysClear, release_alone, release_at_work, freeing_at_work}
 use Rattle.rec_collector.proofs.Counting.{Counted}
-use Rattle.rec_collector.proofs.Goings.{freed_by, freed_last, freed_more, freed_next, freed_off, last_by, last_given, last_refused, none_some, released_by, released_emptied, released_last, released_more, released_off, relieved_by, some_none, tested_all}
+use Rattle.rec_collector.proofs.Goings.{freed_by, freed_last, freed_more, freed_next, freed_off, last_by, last_given, last_refused, none_some, released_by, released_emptied, released_last, released_more, released_off, relieved_by, some_none, tested_all, released_most, freed_most}
 use Rattle.rec_collector.proofs.Told.{last_same}
 use Rattle.rec_collector.proofs.Judging.{last_freeable, last_refusable, none_busy}
 
@@ -99,75 +100,54 @@ listed_at false s x y = refl
 
 -- a word came out of a field of a released slot
 module _ (w : Parts) (word n : ℕ) (c : IsClearing w) (h : HasExchanged w n) (a : At) (e : w.release.at ≡ Some a) where
-  abbrev off : State
-  off = released_off w word
-
-  keeps : KeepsMost w.counts off
-  keeps = off_most w.release.lowers w.counts (target_of word)
-
-  unfreed : w.freeing.at ≡ None
-  unfreed = elim c.one [ inl f ↦ some_none w.release.at a e f | inr f ↦ f ]
-
-  at_work : releases.IsAtWork (record { fields = w.release.fields; at = Some a; lowers = w.release.lowers }) w.counts
-  at_work = subst (λ o. releases.IsAtWork (record { fields = w.release.fields; at = o; lowers = w.release.lowers }) w.counts) e c.release
-
   -- nothing is left to free
   none_left : (work : List ℕ) → freeing_left w.freeing.fields work w.freeing.at ≡ 0
-  none_left work = ap (freeing_left w.freeing.fields work) unfreed
+  none_left work = ap (freeing_left w.freeing.fields work) (release_alone w a c e)
 
   left : release_left w.release.fields w.release.at ≡ w.release.fields - a.field
   left = ap (release_left w.release.fields) e
 
   more_exchanged : a.field + 1 < w.release.fields → HasExchanged (released_more w word a) (n + 1)
-  more_exchanged l = exchanged_as w (released_more w word a) n (n + 1) keeps.slots keeps.released refl (omega (arith, l, none_left off.work, none_left w.counts.work, left)) h
+  more_exchanged l = exchanged_as w (released_more w word a) n (n + 1) (released_most w word).slots (released_most w word).released refl (omega (arith, l, none_left (released_off w word).work, none_left w.counts.work, left)) h
 
   emptied_exchanged : HasExchanged (released_emptied w word a) (n + 1)
   emptied_exchanged =
-      let field : a.field < w.release.fields = at_work.field in
-      exchanged_as w (released_emptied w word a) n (n + 1) (emptied_length off a.slot ∙ keeps.slots) (λ x. ap (λ (v : Slot). v.released) (listed_at (slot_at off a.slot).buffered off a.slot x) ∙ keeps.released x) refl
-      (omega (arith, field, none_left (emptied off a.slot).work, none_left w.counts.work, left)) h
+      let field : a.field < w.release.fields = (release_at_work w a c e).field in
+      exchanged_as w (released_emptied w word a) n (n + 1) (emptied_length (released_off w word) a.slot ∙ (released_most w word).slots) (λ x. ap (λ (v : Slot). v.released) (listed_at (slot_at (released_off w word) a.slot).buffered (released_off w word) a.slot x) ∙ (released_most w word).released x) refl
+      (omega (arith, field, none_left (emptied (released_off w word) a.slot).work, none_left w.counts.work, left)) h
 
   last_exchanges : HasExchanged (released_last w word a) (n + 1)
   last_exchanges =
-      let released : (slot_at off a.slot).released ≡ true = keeps.released a.slot ∙ at_work.held.released in
-      next_exchanged w.release.lowers (released_emptied w word a) (n + 1) refl (ready_emptied off a.slot released (ready_off w.release.lowers w.counts (target_of word) c.release.ready)) emptied_exchanged
+      let released : (slot_at (released_off w word) a.slot).released ≡ true = (released_most w word).released a.slot ∙ (release_at_work w a c e).held.released in
+      next_exchanged w.release.lowers (released_emptied w word a) (n + 1) refl (ready_emptied (released_off w word) a.slot released (ready_off w.release.lowers w.counts (target_of word) c.release.ready)) emptied_exchanged
 
 pub released_exchanged : (w : Parts) (word n : ℕ) → IsSome w.release.at → IsClearing w → HasExchanged w n → HasExchanged (with_released w word) (n + 1)
 released_exchanged w word n busy c h = released_by (λ v. HasExchanged v (n + 1)) w word (λ e. none_some w.release.at e busy) (λ a e l. more_exchanged w word n c h a e l) (λ a e l. last_exchanges w word n c h a e)
 
 -- a word came out of a field of a member of the set that is freed
 module _ (w : Parts) (word n : ℕ) (c : IsClearing w) (h : HasExchanged w n) (a : Member) (e : w.freeing.at ≡ Some a) where
-  abbrev after : State
-  after = freed_off w word
-
-  keeps_all : KeepsMost w.counts after
-  keeps_all = off_most true w.counts (target_of word)
-
-  freeing_now : frees.IsAtWork (record { fields = w.freeing.fields; at = Some a }) w.counts
-  freeing_now = subst (λ o. frees.IsAtWork (record { fields = w.freeing.fields; at = o }) w.counts) e c.freeing
-
   many_left : freeing_left w.freeing.fields w.counts.work w.freeing.at ≡ (length w.counts.work - (a.index + 1)) * w.freeing.fields + (w.freeing.fields - a.field)
   many_left = ap (freeing_left w.freeing.fields w.counts.work) e
 
-  same_work : length after.work ≡ length w.counts.work
-  same_work = ap length keeps_all.work
+  same_work : length (freed_off w word).work ≡ length w.counts.work
+  same_work = ap length (freed_most w word).work
 
   freed_more_exchanged : a.field + 1 < w.freeing.fields → HasExchanged (freed_more w word a) (n + 1)
   freed_more_exchanged l =
-      exchanged_as w (freed_more w word a) n (n + 1) keeps_all.slots keeps_all.released refl (omega (arith, l, many_left, ap (λ k. (k - (a.index + 1)) * w.freeing.fields) same_work)) h
+      exchanged_as w (freed_more w word a) n (n + 1) (freed_most w word).slots (freed_most w word).released refl (omega (arith, l, many_left, ap (λ k. (k - (a.index + 1)) * w.freeing.fields) same_work)) h
 
-  freed_next_exchanged : a.index + 1 < length after.work → HasExchanged (freed_next w word a) (n + 1)
+  freed_next_exchanged : a.index + 1 < length (freed_off w word).work → HasExchanged (freed_next w word a) (n + 1)
   freed_next_exchanged l =
-      let field : a.field < w.freeing.fields = freeing_now.field in
-      let step : length w.counts.work - (a.index + 1) ≡ length after.work - (a.index + 1 + 1) + 1 = omega (arith, l, same_work) in
-      exchanged_as w (freed_next w word a) n (n + 1) keeps_all.slots keeps_all.released refl (omega (arith, field, many_left, ap (λ k. k * w.freeing.fields) step)) h
+      let field : a.field < w.freeing.fields = (freeing_at_work w a c e).field in
+      let step : length w.counts.work - (a.index + 1) ≡ length (freed_off w word).work - (a.index + 1 + 1) + 1 = omega (arith, l, same_work) in
+      exchanged_as w (freed_next w word a) n (n + 1) (freed_most w word).slots (freed_most w word).released refl (omega (arith, field, many_left, ap (λ k. k * w.freeing.fields) step)) h
 
   freed_last_exchanged : HasExchanged (freed_last w word) (n + 1)
   freed_last_exchanged =
-      let field : a.field < w.freeing.fields = freeing_now.field in
-      exchanged_as w (freed_last w word) n (n + 1) keeps_all.slots keeps_all.released refl (omega (arith, field, many_left)) h
+      let field : a.field < w.freeing.fields = (freeing_at_work w a c e).field in
+      exchanged_as w (freed_last w word) n (n + 1) (freed_most w word).slots (freed_most w word).released refl (omega (arith, field, many_left)) h
 
-pub freed_exchanged : (w : Parts) (word n : ℕ) → IsSome w.freeing.at → IsClearing w → HasExchanged w n → HasExchanged (with_freed w word) (n + 1)
+freed_exchanged : (w : Parts) (word n : ℕ) → IsSome w.freeing.at → IsClearing w → HasExchanged w n → HasExchanged (with_freed w word) (n + 1)
 freed_exchanged w word n busy c h = freed_by (λ v. HasExchanged v (n + 1)) w word (λ e. none_some w.freeing.at e busy)
     (λ a e l. freed_more_exchanged w word n c h a e l) (λ a e l m. freed_next_exchanged w word n c h a e m) (λ a e l m. freed_last_exchanged w word n c h a e)
 
@@ -208,7 +188,7 @@ refused_exchanged verdict w n some idle k c d h =
     (omega (arith, ap (freeing_left w.freeing.fields (refurbished_of s).work) e.1, ap (freeing_left w.freeing.fields s.work) e.1)) h
 
 -- the last set is tested
-pub last_exchanged : (w : Parts) (n : ℕ) → w.freeing.fields ≡ w.release.fields → 0 < length w.counts.sets → is_busy w ≡ false → IsKept w.counts → IsClearing w → IsDone w → HasExchanged w n → HasExchanged (last_tested w) n
+last_exchanged : (w : Parts) (n : ℕ) → w.freeing.fields ≡ w.release.fields → 0 < length w.counts.sets → is_busy w ≡ false → IsKept w.counts → IsClearing w → IsDone w → HasExchanged w n → HasExchanged (last_tested w) n
 last_exchanged w n same some idle k c d h = last_by (λ v. HasExchanged v n) w
     (λ e. given_exchanged w n same (none_busy w idle).0 k (last_freeable w some idle e k c d) h)
     (λ verdict. zeros_exchanged true (last_refused verdict w) n (none_busy w idle).0 (refused_clear verdict w some idle k c d) (refused_exchanged verdict w n some idle k c d h))

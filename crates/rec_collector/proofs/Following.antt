@@ -7,6 +7,7 @@ use Rattle.rec_counts.specs.Counts.{State, slot_at, IsKept as IsKeptCounts}
 use Rattle.rec_counts.specs.Rest.{KeepsRest}
 use Rattle.rec_apply.specs.Batch.{CanFall, CanRise, all_up, batch, down_targets, up_targets}
 use Rattle.rec_apply.proofs.Whole.{batch_falls, batch_rests, batch_rises}
+use Rattle.rec_apply.proofs.Kept.{batch_kept}
 use Rattle.rec_release.specs.declared.at.At.{At}
 use Rattle.rec_release.specs.declared.member.Member.{Member}
 use Rattle.rec_collector.specs.Clearing.{HasExchanged, IsClearing, IsDone, IsFewTold, IsWide}
@@ -22,7 +23,7 @@ use Rattle.rec_collector.specs.declared.phase.Phase.{Phase}
 use Rattle.rec_collector.specs.declared.phase.Phase.TheVariants.{Returning, Releasing, Freeing}
 use Rattle.rec_collector.proofs.Batched.{batched_clear, resting_clear}
 use Rattle.rec_collector.proofs.Clearing.{clear_counted, clear_ready, clear_uncoloured, relieved_clear, released_clear, tested_clear, tested_ends, tested_kept, zeros_clear}
-use Rattle.rec_collector.proofs.Counting.{batch_kept, freed_kept, released_kept, relieved_kept, zeros_kept}
+use Rattle.rec_collector.proofs.Counting.{freed_kept, released_kept, relieved_kept, zeros_kept}
 use Rattle.rec_collector.proofs.Exchanging.{exchanged_few, none_exchanged, released_exchanged, relieved_exchanged, tested_exchanged, zeros_exchanged}
 use Rattle.rec_collector.proofs.Landing.{Fits, Lands, fits_all, landed, now_at, told_at}
 use Rattle.rec_collector.proofs.Listing.{clear_listed}
@@ -31,7 +32,7 @@ use Rattle.rec_collector.proofs.Told.{KeepsNumbers, freed_same, freed_told, numb
 use Rattle.rec_collector.proofs.Trying.{started_tried, tried_lands}
 
 -- the numbers of a machine are those of its parts, and stay
-pub fits_self : (p : Private) → IsMachine p → Fits p (parts_of p)
+fits_self : (p : Private) → IsMachine p → Fits p (parts_of p)
 fits_self p k = record { slots = refl; release_fields = refl; freeing_fields = k.freeing_fields; trial_fields = k.trial_fields; prep_fields = k.prep_fields }
 
 fits_on : {p : Private} {w v : Parts} → Fits p w → KeepsNumbers w v → Fits p v
@@ -68,7 +69,7 @@ pub cleared_wide : (p : Private) (w : Parts) → 0 < p.release.fields → Fits p
 cleared_wide p w f fits = (omega (arith, f, fits.release_fields), omega (arith, f, fits.freeing_fields))
 
 -- the sets are tested
-pub tested_clears : (p : Private) (w : Parts) → 0 < p.release.fields → HasCleared p w → HasCleared p (tested (length w.counts.sets) w)
+tested_clears : (p : Private) (w : Parts) → 0 < p.release.fields → HasCleared p w → HasCleared p (tested (length w.counts.sets) w)
 tested_clears p w f h =
     let n : ℕ = length w.counts.sets in
     let all : n ≤ length w.counts.sets = omega arith in
@@ -167,7 +168,7 @@ covered_falls s newer older z c =
 pub covered_clears : (w : Parts) (newer older : List Contents) → w.counts.zeros ≡ [] → IsCovered w.counts newer older → w.release.at ≡ None → w.freeing.at ≡ None → IsClearing w → IsClearing (record w { counts = batch w.counts newer older })
 covered_clears w newer older z c still unfreed i = batched_clear w newer older (covered_falls w.counts newer older z c) still unfreed i
 
-pub batched_clears : (p : Private) (t : ℕ) → IsMachine p → p.phase ≡ Returning t → IsCovered p.counts p.newer p.older → IsClearing (batched p)
+batched_clears : (p : Private) (t : ℕ) → IsMachine p → p.phase ≡ Returning t → IsCovered p.counts p.newer p.older → IsClearing (batched p)
 batched_clears p t k e c =
     let a : IsAt p (Returning t) = now_at p (Returning t) k e in
     covered_clears (parts_of p) p.newer p.older a.rest.zeros c a.rest.still a.rest.unfreed (rest_clears p a.rest)
@@ -198,7 +199,3 @@ begun_clears p t k e last c =
       fits = fits_on (fits_self p k) (numbers_on (batched_same p) (zeros_same false w));
       told = omega (arith, told_at p (Returning t) k e, batched_told p, zeros_told false w);
     }
-
--- the sets can be counted
-pub few_told : (p : Private) (w : Parts) → IsMachine p → told w.sets + length w.counts.sets ≤ 2 ^ 16 * p.collections → IsFewTold w
-few_told p w k t = omega (arith, t, k.collections, k.epoch)

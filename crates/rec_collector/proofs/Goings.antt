@@ -14,6 +14,7 @@ use Rattle.rec_release.specs.TakenOff.{taken_off}
 use Rattle.rec_release.specs.declared.at.At.{At}
 use Rattle.rec_release.specs.declared.member.Member.{Member}
 use Rattle.rec_release.proofs.Keeping.{next_sets}
+use Rattle.rec_release.proofs.TakenOff.{KeepsMost, off_most}
 use Rattle.rec_sigma.specs.declared.fate.Fate.{Fate}
 use Rattle.rec_sigma.specs.declared.fate.Fate.TheVariants.{Free, Zero, Root, Plain}
 use Rattle.rec_sigma.specs.Refurbish.{coloured, fate_at}
@@ -38,6 +39,13 @@ released_off w word = taken_off w.release.lowers w.counts (target_of word)
 
 abbrev pub freed_off : Parts → (word : ℕ) → State
 freed_off w word = taken_off true w.counts (target_of word)
+
+-- what it leaves
+pub released_most : (w : Parts) (word : ℕ) → KeepsMost w.counts (released_off w word)
+released_most w word = off_most w.release.lowers w.counts (target_of word)
+
+pub freed_most : (w : Parts) (word : ℕ) → KeepsMost w.counts (freed_off w word)
+freed_most w word = off_most true w.counts (target_of word)
 
 -- the release goes on with the next field of its slot
 abbrev pub released_more : Parts → (word : ℕ) → At → Parts
@@ -154,7 +162,7 @@ all_many first (x ∷ xs) s = let f : Fate = fate_at s first x in all_many first
     one_many Root = length-set s.slots x (coloured Root (slot_at s x))
     one_many Plain = length-set s.slots x (coloured Plain (slot_at s x))
 
-pub refurbished_sets : (s : State) → (refurbished_of s).sets ≡ earlier_sets s.sets
+refurbished_sets : (s : State) → (refurbished_of s).sets ≡ earlier_sets s.sets
 unfolding refurbished_of
 refurbished_sets s = all_sets (slice_get (last_set s.sets) 0) (last_set s.sets) (dropped s)
 

@@ -5,6 +5,7 @@ use Rattle.rec_word.specs.Mailbox.{crossing_word}
 use Rattle.rec_word.specs.declared.mailbox.Mailbox.TheVariants.{Retired}
 use Rattle.rec_log.specs.declared.contents.Contents.{Contents}
 use Rattle.rec_release.specs.Sweep as sweeps
+use Rattle.rec_release.proofs.Kept.{sweep_kept}
 use Rattle.rec_collector.specs.Followed.{Next, followed, prepared, relieved, tried, with_freed, with_loaded, with_released, with_tried}
 use Rattle.rec_collector.specs.Given.{IsCovered, IsGiven, IsGivenAt, IsSized}
 use Rattle.rec_collector.specs.Kept.{IsMachine, swept_at, under_way}
@@ -16,7 +17,6 @@ use Rattle.rec_collector.specs.Testing.{zeros_released}
 use Rattle.rec_collector.specs.Took.{batched, came, ended_if, moved, step_of, swapped_at, swapped_of, took_at, took_of}
 use Rattle.rec_collector.specs.declared.phase.Phase.{Phase}
 use Rattle.rec_collector.specs.declared.phase.Phase.TheVariants.{Idle, Looking, Swapping, Returning, Releasing, Freeing, Trying, Preparing, Opening, Sweeping, Closing}
-use Rattle.rec_collector.proofs.Counting.{sweep_kept}
 use Rattle.rec_collector.proofs.Following.{begun_clears, followed_lands, freed_clears, released_clears}
 use Rattle.rec_collector.proofs.Gathering.{idle_keeps, look_keeps, next_keeps, swap_keeps}
 use Rattle.rec_collector.proofs.Landing.{Lands, landed, landed_keeps}

@@ -7,6 +7,7 @@ use Rattle.rec_collector.specs.Parts.{Parts}
 use Rattle.rec_collector.specs.Private.{Private, with_parts}
 use Rattle.rec_collector.specs.Took.{moved}
 use Rattle.rec_collector.specs.declared.phase.Phase.{Phase}
+use Rattle.rec_collector.specs.declared.phase.Phase.TheVariants.{Idle}
 
 -- what holds in the phase of a machine
 pub now_at : (p : Private) (phase : Phase) → IsMachine p → p.phase ≡ phase → IsAt p phase
@@ -79,3 +80,8 @@ sizes_on p q r a b = record {
   capacity = b.capacity ∙ a.capacity;
   mutators = b.mutators ∙ a.mutators;
 }
+
+-- at most one collection is under way
+pub under_way_most : (phase : Phase) → under_way phase ≤ 1
+under_way_most Idle = omega arith
+under_way_most _ = omega arith

@@ -4,7 +4,6 @@ pub mod Batched
 pub mod Causes
 pub mod Clearing
 pub mod Counting
-pub mod Dropping
 pub mod Exact
 pub mod Exchanging
 pub mod Following

@@ -23,7 +23,7 @@ use Rattle.rec_collector.specs.declared.phase.Phase.TheVariants.{Idle, Looking, 
 use Rattle.rec_collector.proofs.Steps.{step_made}
 
 -- what follows a word in the middle of a collection holds no mailbox
-prepared_between : (w : Parts) → IsBetween (prepared w).phase
+pub prepared_between : (w : Parts) → IsBetween (prepared w).phase
 unfolding prepared
 prepared_between w = at w.prep.at
   where
@@ -35,7 +35,7 @@ prepared_between w = at w.prep.at
     at (Some a) = tt
     at None = swept w.counts.free
 
-tried_between : (w : Parts) → IsBetween (tried w).phase
+pub tried_between : (w : Parts) → IsBetween (tried w).phase
 unfolding tried
 tried_between w = at (trial_next w.trial)
   where
@@ -43,7 +43,7 @@ tried_between w = at (trial_next w.trial)
     at (Some op) = tt
     at None = prepared_between (prep_started w)
 
-followed_between : (w : Parts) → IsBetween (followed w).phase
+pub followed_between : (w : Parts) → IsBetween (followed w).phase
 unfolding followed
 followed_between w = at (tested (length w.counts.sets) w).release.at (tested (length w.counts.sets) w).freeing.at
   where
@@ -52,7 +52,7 @@ followed_between w = at (tested (length w.counts.sets) w).release.at (tested (le
     at (Some a) None = tt
     at None None = tried_between (trial_started (tested (length w.counts.sets) w))
 
-came_leaves : (p : Private) (box : Contents) (n : Next) → IsBetween n.phase → left_of (came p n) box ≡ box
+pub came_leaves : (p : Private) (box : Contents) (n : Next) → IsBetween n.phase → left_of (came p n) box ≡ box
 unfolding left_of left_at
 came_leaves p box n between = at n.phase between
   where

@@ -9,9 +9,9 @@ use Rattle.rec_counts.specs.declared.slot.Slot.{Slot}
 use Rattle.rec_counts.specs.Counts.{State, IsKept, slot_at}
 use Rattle.rec_counts.specs.Lists.{one, times}
 use Rattle.rec_counts.specs.Slot.{absent, is_in}
+use Rattle.rec_counts.specs.Colour.{is_gray, is_white}
 use Rattle.rec_counts.proofs.Times.{times-append, times-cons, times-nil}
-use Rattle.rec_release.proofs.Giving.{mapped}
-use Rattle.rec_trial.specs.Moves.{is_gray, is_white}
+use Rattle.rec_counts.proofs.Keeping.{map_at}
 use Rattle.rec_trial.specs.Rules.{IsReady}
 use Rattle.rec_trial.specs.Still.{IsSeed}
 use Rattle.rec_collector.specs.Followed.{with_offers}
@@ -21,9 +21,9 @@ use Rattle.rec_collector.proofs.Apart.{times_filter}
 use Rattle.rec_collector.proofs.Listing.{IsListed}
 
 -- a slot that is offered
-pub offered_at : (s : State) (x : ℕ) → slot_at (offered s) x ≡ offered_slot (slot_at s x)
+offered_at : (s : State) (x : ℕ) → slot_at (offered s) x ≡ offered_slot (slot_at s x)
 unfolding offered
-offered_at s x = mapped offered_slot s.slots x refl
+offered_at s x = map_at offered_slot refl s.slots x
 
 offered_true : (v : Slot) → v.released ≡ true → offered_slot v ≡ v
 offered_true v r = ap (λ b. offered_if b v) r
@@ -39,7 +39,7 @@ stays f h s x = ap f (offered_at s x) ∙ go (slot_at s x).released
     go true = refl
     go false = h (slot_at s x)
 
-pub offered_keeps : (s : State) → KeepsOffered s (offered s)
+offered_keeps : (s : State) → KeepsOffered s (offered s)
 unfolding offered
 offered_keeps s = record {
   rest = record {
@@ -99,7 +99,7 @@ once_passed p x a (suc n) l h = elim (cases_eq x a) [
     there false e i = i
 
 -- each slot that is missing from the buffers is added to the roots once
-pub missing_once : (s : State) (x : ℕ) → times x (missing s) ≡ one (is_missing (slot_at s x))
+missing_once : (s : State) (x : ℕ) → times x (missing s) ≡ one (is_missing (slot_at s x))
 missing_once s x = elim (cases_lt x (length s.slots)) [
   | inl l ↦ once_passed (λ y. is_missing (slot_at s y)) x 0 (length s.slots) (omega arith) (omega (arith, l))
   | inr l ↦
@@ -120,7 +120,7 @@ buffered_now v = go v.released v.buffered refl
     go false false e = refl
 
 -- what always holds of the counts
-pub offered_kept : (s : State) → IsKept s → IsKept (offered s)
+offered_kept : (s : State) → IsKept s → IsKept (offered s)
 unfolding offered
 offered_kept s k =
     let keeps : KeepsOffered s (offered s) = offered_keeps s in
@@ -172,7 +172,7 @@ where_kept true s k = offered_kept s k
 where_kept false s k = k
 
 -- the released slots are where they were
-pub offered_listed : (s : State) → IsListed s → IsListed (offered s)
+offered_listed : (s : State) → IsListed s → IsListed (offered s)
 offered_listed s l =
     let keeps : KeepsOffered s (offered s) = offered_keeps s in
     record {

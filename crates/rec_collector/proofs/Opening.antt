@@ -5,10 +5,10 @@ use Rattle.std.proofs.lemmas.List.{get_or-replicate, get_or_past, get_or-set_sam
 use Rattle.rec_counts.specs.declared.slot.Slot.{Slot}
 use Rattle.rec_counts.specs.Counts.{opened as opened_counts, slot_at, IsKept as IsKeptCounts}
 use Rattle.rec_counts.specs.Slot.{absent, fresh}
+use Rattle.rec_counts.specs.Colour.{is_gray, is_white, is_orange}
 use Rattle.rec_counts.proofs.Keeping.{field_kept}
-use Rattle.rec_release.specs.TakenOff.{IsApart, is_orange}
+use Rattle.rec_release.specs.TakenOff.{IsApart}
 use Rattle.rec_release.proofs.TakenOff.{written}
-use Rattle.rec_trial.specs.Moves.{is_gray, is_white}
 use Rattle.rec_trial.specs.Trial.{idle_of, next_of}
 use Rattle.rec_collector.specs.Clearing.{IsUntried}
 use Rattle.rec_collector.specs.Kept.{AreSpare, IsMachine, NoneReleased}

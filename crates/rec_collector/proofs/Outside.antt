@@ -3,6 +3,8 @@ use Rattle.std.proofs.Common.{◌≡◌, ℕ, ◌+◌, ◌-◌, ◌<◌, Bool, t
 use Rattle.std.specs.List.{concat}
 use Rattle.std.proofs.lemmas.Bool.{cases_lt, false≢true}
 use Rattle.std.proofs.lemmas.List.{append-nil, get_or_past}
+use Rattle.std.proofs.lemmas.Option.{none-some}
+use Rattle.rec_word.specs.Place.{places_of}
 use Rattle.rec_counts.specs.declared.colour.Colour.TheVariants.{Orange}
 use Rattle.rec_counts.specs.declared.slot.Slot.{Slot}
 use Rattle.rec_counts.specs.declared.slot.Due.{Due}
@@ -12,6 +14,7 @@ use Rattle.rec_counts.specs.Groups.{last_set}
 use Rattle.rec_counts.specs.Lists.{one, times}
 use Rattle.rec_counts.specs.Slot.{is_in, lessened, lessened_if, lowered, due_of, raised, swept_clean, unbuffered_if}
 use Rattle.rec_counts.proofs.Times.{one-same, times-nil}
+use Rattle.rec_counts.proofs.Keeping.{set_there}
 use Rattle.rec_release.specs.CycleFree.{dead_if, given_up}
 use Rattle.rec_release.specs.Release.{without_first}
 use Rattle.rec_release.specs.Sweep.{swept}
@@ -21,7 +24,7 @@ use Rattle.rec_release.proofs.TakenOff.{written}
 use Rattle.rec_sigma.specs.declared.fate.Fate.{Fate}
 use Rattle.rec_sigma.specs.declared.fate.Fate.TheVariants as fates
 use Rattle.rec_sigma.specs.Refurbish.{refurbished, LastRefurbished}
-use Rattle.rec_sigma.specs.Prepared.{places_of, Load, PreparedTo}
+use Rattle.rec_sigma.specs.Prepared.{Load, PreparedTo}
 use Rattle.rec_collector.specs.Outside.{AreOutside, IsOutside}
 
 -- the member was one before, and so many references were taken off its counts
@@ -130,27 +133,14 @@ refurbished_lowers s t r number x i o = elim (cases_lt 0 (times x (last_set s.se
 pub swept_lowers : (s : State) (x : ℕ) → Lowers s (swept s x)
 swept_lowers s x = written_lowers s x (swept_clean (slot_at s x)) (λ number i o. cc)
 
-none_some : (o : Option ℕ) (number : ℕ) → o ≡ None → o ≡ Some number → ⊥
-none_some o number n e = cc
-
 -- there are no sets
 pub none_outside : (fields : ℕ) (s : State) → s.sets ≡ [] → ((x : ℕ) → (slot_at s x).set ≡ None) → AreOutside fields s
 none_outside fields s e none = record {
   before = s;
   loads = [];
   places = ap (λ sets. places_of fields (concat sets)) (sym e);
-  members = λ number x i o. absurd (none_some (slot_at s x).set number (none x) i);
+  members = λ number x i o. absurd (none-some number (sym (none x) ∙ i));
 }
-
--- a member's set is there
-pub set_there : (s : State) (number x : ℕ) → IsKept s → (slot_at s x).set ≡ Some number → number < length s.sets
-set_there s number x k e = elim (cases_lt number (length s.sets)) [
-  | inl l ↦ l
-  | inr past ↦
-      let in_it : one (is_in number (slot_at s x).set) ≡ 1 = ap (λ o. one (is_in number o)) e ∙ one-same number in
-      let none : times x (get_or s.sets number []) ≡ 0 = ap (times x) (get_or_past s.sets number [] past) ∙ times-nil x in
-      absurd (omega (arith, k.numbers number x, in_it, none))
-]
 
 -- preparation is done
 pub prepared_outside : (fields : ℕ) (before s : State) (loads : List Load) → IsKept before → PreparedTo fields before None s loads → AreOutside fields s

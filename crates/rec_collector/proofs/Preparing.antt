@@ -4,6 +4,7 @@ use Rattle.std.proofs.lemmas.List.{length-append}
 use Rattle.rec_counts.specs.declared.slot.Slot.{Slot}
 use Rattle.rec_counts.specs.Counts.{State, IsKept as IsKeptCounts}
 use Rattle.rec_counts.specs.Lists.{times}
+use Rattle.rec_counts.specs.Colour.{is_gray, is_white}
 use Rattle.rec_counts.proofs.Times.{length-once}
 use Rattle.rec_release.specs.TakenOff.{IsApart, IsMember}
 use Rattle.rec_sigma.specs.declared.at.At.{At}
@@ -11,7 +12,7 @@ use Rattle.rec_sigma.specs.Prepare as preps
 use Rattle.rec_sigma.specs.Prepared.{KeepsOthers, Load, PreparedTo, loaded_at}
 use Rattle.rec_sigma.proofs.Cyclics.{others_same}
 use Rattle.rec_sigma.proofs.Runs.{Came, came_first, came_on, more_others, next_set_others}
-use Rattle.rec_trial.specs.Moves.{is_gray, is_white}
+use Rattle.rec_sigma.proofs.Kept.{others_kept}
 use Rattle.rec_collector.specs.Clearing.{IsUntried}
 use Rattle.rec_collector.specs.Followed.{next_in, prep_started, prepared, prepared_at, sweep_phase, with_loaded, with_prep}
 use Rattle.rec_collector.specs.Kept.{IsMachine, IsPreparing, IsSweeping, IsTried, all_fields}
@@ -20,7 +21,6 @@ use Rattle.rec_collector.specs.Private.{Private, parts_of}
 use Rattle.rec_collector.specs.Testing.{told}
 use Rattle.rec_collector.specs.declared.phase.Phase.{Phase}
 use Rattle.rec_collector.specs.declared.phase.Phase.TheVariants.{Preparing, Opening, Closing}
-use Rattle.rec_collector.proofs.Dropping.{others_kept}
 use Rattle.rec_collector.proofs.Landing.{Fits, Lands, fits_all, landed, now_at, told_at}
 use Rattle.rec_collector.proofs.Limits.{loads_few}
 use Rattle.rec_collector.proofs.Outside.{prepared_outside}

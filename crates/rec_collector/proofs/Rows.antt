@@ -7,14 +7,6 @@ use Rattle.rec_collector.specs.Kept.{AreSized, AreSpare}
 use Rattle.rec_collector.specs.Private.{Private, blank, first_registers, spare, buffer_at}
 use Rattle.rec_collector.specs.Took.{cleared, ended}
 
--- one more of the same
-pub replicate_more : {A : Type 0} (n : ℕ) (a : A) → replicate (n + 1) a ≡ replicate n a ++ a ∷ []
-replicate_more n a = let e : n + 1 ≡ suc n = omega arith in ap (λ m. replicate m a) e ∙ go n
-  where
-    go : (m : ℕ) → replicate (suc m) a ≡ replicate m a ++ a ∷ []
-    go zero = refl
-    go (suc m) = ap (λ xs. a ∷ xs) (go m)
-
 -- the first of these are cleared
 abbrev pub cleared_to : List Contents → ℕ → List Contents
 cleared_to bs i = map cleared (take i bs) ++ drop i bs
@@ -26,12 +18,6 @@ cleared_next (b ∷ bs) (suc i) d l = ap (λ xs. cleared b ∷ xs) (cleared_next
 
 pub cleared_more : (bs : List Contents) (i : ℕ) (d : Contents) → i < length bs → set (cleared_to bs i) i (cleared (get_or (cleared_to bs i) i d)) ≡ cleared_to bs (i + 1)
 cleared_more bs i d l = let e : suc i ≡ i + 1 = omega arith in cleared_next bs i d l ∙ ap (cleared_to bs) e
-
-pub cleared_all : (bs : List Contents) (i : ℕ) → length bs ≤ i → cleared_to bs i ≡ map cleared bs
-cleared_all [] zero l = refl
-cleared_all [] (suc i) l = refl
-cleared_all (b ∷ bs) zero l = absurd (omega (arith, l))
-cleared_all (b ∷ bs) (suc i) l = ap (λ xs. cleared b ∷ xs) (cleared_all bs i (omega (arith, l)))
 
 -- a buffer that is cleared is as large, and is a spare
 cleared_spare : (p : Private) (b : Contents) → IsSized p.registers p.capacity b → cleared b ≡ spare p

@@ -1,6 +1,7 @@
 -- What comes next and what is learnt are a step, by the phase.
 use Rattle.std.proofs.Common.{◌≡◌, ◌≢◌, inl, inr, ℕ, zero, suc, ◌+◌, ◌-◌, ◌^◌, ◌<◌, ◌==◌, true, false, Bool, Option, None, Some, List, [], ◌∷◌, length, refl, arith, sym, ap, subst, ◌∙◌}
 use Rattle.std.proofs.lemmas.Bool.{cond-true, cond-false, eq-eqb, ne_eqb, cases_eq}
+use Rattle.std.proofs.lemmas.List.{nil_from_length}
 use Rattle.rec_word.specs.Mailbox.{crossing_word}
 use Rattle.rec_word.specs.declared.mailbox.Mailbox.TheVariants.{Retired}
 use Rattle.rec_word.specs.declared.op.Op.{Op}
@@ -105,14 +106,10 @@ last_can w some idle c =
 busy_works : (w : Parts) → is_busy w ≡ true → w.release.at ≡ None → w.freeing.at ≡ None → w.counts.sets ≡ []
 busy_works w b e f = let q : true ≡ false = sym b ∙ ap (λ at. is_busy_at at w.freeing.at) e ∙ ap (is_busy_at None) f in cc
 
-no_sets : (sets : List (List ℕ)) → length sets ≡ 0 → sets ≡ []
-no_sets [] e = refl
-no_sets (x ∷ xs) e = absurd (omega (arith, e))
-
 tested_on_from : (n : ℕ) (p : Private) (w : Parts) (box : Contents) → length w.counts.sets ≡ n → CanTest w → ClearsOn p (went p (tested_next (tested n w)) box) (came_turn p.epoch (tested_next (tested n w)).phase) w
 tested_on_from zero p w box e c =
     let same : tested zero w ≡ w = tested_none zero w refl in
-    subst (λ (v : Parts). ClearsOn p (went p (tested_next v) box) (came_turn p.epoch (tested_next v).phase) w) (sym same) (works_on p w box (λ still unfreed. no_sets w.counts.sets e))
+    subst (λ (v : Parts). ClearsOn p (went p (tested_next v) box) (came_turn p.epoch (tested_next v).phase) w) (sym same) (works_on p w box (λ still unfreed. nil_from_length w.counts.sets e))
 tested_on_from (suc n) p w box e c = go (is_busy w) refl (tested_on_from n p (last_tested w) box)
   where
     go : (b : Bool) → is_busy w ≡ b → (length (last_tested w).counts.sets ≡ n → CanTest (last_tested w) → ClearsOn p (went p (tested_next (tested n (last_tested w))) box) (came_turn p.epoch (tested_next (tested n (last_tested w))).phase) (last_tested w))

@@ -8,13 +8,13 @@ use Rattle.rec_counts.specs.declared.slot.Slot.{Slot}
 use Rattle.rec_counts.specs.Lists.{one, times}
 use Rattle.rec_counts.specs.Counts.{State, slot_at, IsKept as IsKeptCounts}
 use Rattle.rec_counts.specs.Slot.{absent, swept_clean}
+use Rattle.rec_counts.specs.Colour.{is_gray, is_white}
 use Rattle.rec_counts.proofs.Times.{times-cons, times-nil}
 use Rattle.rec_release.specs.Sweep as sweeps
 use Rattle.rec_release.specs.Sweep.{AreUnbuffered, swept, took_of, started_of, next_of}
 use Rattle.rec_release.specs.TakenOff.{IsApart, IsMember}
 use Rattle.rec_release.proofs.Sweeping.{unbuffered_swept}
 use Rattle.rec_release.proofs.TakenOff.{written}
-use Rattle.rec_trial.specs.Moves.{is_gray, is_white}
 use Rattle.rec_trial.proofs.Worked.{kept_by_all}
 use Rattle.rec_collector.specs.Clearing.{IsUntried}
 use Rattle.rec_collector.specs.Parts.{Parts}
@@ -209,15 +209,6 @@ sweeping_keeps p n word k e s = go p.counts.free refl
         let r : drop 1 p.counts.free ≡ rest = ap (drop 1) f in
         subst (λ (v : sweeps.Work). IsMachine (swept_one p n v)) (sym w) (swept_keeps_on p n x (drop 1 p.counts.free) k e (ap (λ xs. slice_get xs 0) f) refl (omega (arith, ap length f, ap length r)) t)
 
--- the number of slots stays
-pub sweeping_slots : (p : Private) (n word : ℕ) → KeepsSizes p (took_at p word (Sweeping n))
-unfolding took_at took_of
-sweeping_slots p n word = record { slots = go p.due; fields = refl; registers = refl; capacity = refl; mutators = refl }
-  where
-    go : (due : Option ℕ) → length (sweeps.took_at (record { due = p.due; counts = p.counts }) due).counts.slots ≡ length p.counts.slots
-    go None = refl
-    go (Some x) = length-set p.counts.slots x (swept_clean (slot_at p.counts x))
-
 -- with an empty free list no slot is released
 none_left : (s : State) → s.free ≡ [] → ((y : ℕ) → y < length s.slots → (slot_at s y).released ≡ true → 0 < times y s.free) → NoneReleased s
 none_left s f k = λ y l. elim (cases_Bool (slot_at s y).released) [
@@ -268,9 +259,6 @@ ended_keeps p n k e =
         refl,
       );
     }
-
-pub ended_sizes : (p : Private) → IsMachine p → KeepsSizes p (ended p)
-ended_sizes p k = record { slots = refl; fields = refl; registers = refl; capacity = refl; mutators = length-map p.older cleared ∙ k.both }
 
 -- a sweep that begins, and one that goes on, as their calls tell
 pub opening_on : (p : Private) (w : sweeps.Work) → IsMachine p → p.phase ≡ Opening → w ≡ started_of p.counts → IsMachine (moved (with_sweep p w) (Sweeping 0))

@@ -82,7 +82,7 @@ numbers_on k l = record {
   slots = l.slots ∙ k.slots;
 }
 
-pub numbers_same : (w : Parts) → KeepsNumbers w w
+numbers_same : (w : Parts) → KeepsNumbers w w
 numbers_same w = record { release_fields = refl; freeing_fields = refl; trial = refl; prep = refl; offers = refl; slots = refl }
 
 pub zeros_same : (lowers : Bool) (w : Parts) → KeepsNumbers w (zeros_released lowers w)

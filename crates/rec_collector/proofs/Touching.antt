@@ -17,22 +17,13 @@ use Rattle.rec_apply.specs.Batch.{all_down, all_up, batch, counted_down, counted
 use Rattle.rec_apply.specs.Targets.{added, named, taken}
 use Rattle.rec_apply.proofs.Naming.{added_is, named-cons, named-nil, taken_is}
 use Rattle.rec_apply.proofs.Resting.{rest_all_up}
+use Rattle.rec_release.proofs.Orange.{not_orange_at}
 use Rattle.rec_collector.specs.Kept.{IsAt, IsMachine}
 use Rattle.rec_collector.specs.Outside.{AreOutside, HasSets, IsOutside}
 use Rattle.rec_collector.specs.Private.{Private}
 use Rattle.rec_collector.specs.declared.phase.Phase.{Phase}
 use Rattle.rec_collector.specs.declared.phase.Phase.TheVariants.{Idle, Looking, Swapping, Returning, Releasing, Freeing, Trying, Preparing, Opening, Sweeping, Closing}
 use Rattle.rec_sigma.specs.Prepared.{seen}
-
--- what is written isn't Orange
-not_orange_at : (s : State) (x : ℕ) (v : Slot) → (v.colour ≡ Orange → ⊥) → (slot_at (with_slot s x v) x).colour ≡ Orange → ⊥
-not_orange_at s x v h o = elim (cases_lt x (length s.slots)) [
-  | inl l ↦ h (ap (λ (w : Slot). w.colour) (sym (get_or-set_same s.slots x v absent l)) ∙ o)
-  | inr l ↦
-      let past : slot_at (with_slot s x v) x ≡ absent = ap (λ ss. get_or ss x absent) (set_past s.slots x v l) ∙ get_or_past s.slots x absent l in
-      let black : Black ≡ Orange = ap (λ (w : Slot). w.colour) (sym past) ∙ o in
-      cc
-]
 
 -- of one slot: what it names loses the colour, and nothing else changes
 pub record Names (s t : State) (name : Option ℕ) (y : ℕ) : Type 0 where

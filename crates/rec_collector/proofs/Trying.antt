@@ -8,10 +8,10 @@ use Rattle.rec_counts.specs.declared.colour.Colour.{Colour}
 use Rattle.rec_counts.specs.declared.colour.Colour.TheVariants.{Orange}
 use Rattle.rec_counts.specs.Counts.{State, slot_at, IsKept as IsKeptCounts}
 use Rattle.rec_counts.specs.Lists.{one, times}
-use Rattle.rec_counts.proofs.Times.{one-le, times-append, times-nil}
+use Rattle.rec_counts.specs.Colour.{is_black}
+use Rattle.rec_counts.proofs.Times.{one-le, times-append, times-nil, one-none}
 use Rattle.rec_release.specs.TakenOff.{IsApart}
 use Rattle.rec_trial.specs.Loaded.{IsAtWork, Run, run_of}
-use Rattle.rec_trial.specs.Moves.{is_black}
 use Rattle.rec_trial.specs.Rules.{IsReady, LeadsToUnreleased, released_among}
 use Rattle.rec_trial.specs.Tried.{IsOver, members}
 use Rattle.rec_trial.specs.Trial.{Machine as Trial, Work, next_of, started_of, took_of}
@@ -30,10 +30,6 @@ use Rattle.rec_collector.specs.declared.phase.Phase.TheVariants.{Trying}
 use Rattle.rec_collector.proofs.Landing.{Fits, Lands, fits_all, now_at, told_at}
 use Rattle.rec_collector.proofs.Listing.{IsListed}
 use Rattle.rec_collector.proofs.Preparing.{prepared_lands, started_prepared}
-
-not_buffered : (b : Bool) → 0 ≡ one b → b ≡ false
-not_buffered true h = absurd (omega arith)
-not_buffered false h = refl
 
 module _ (s t : State) (k : KeepsCounts s t) (old : IsKeptCounts s) (new : IsKeptCounts t) (l : IsListed s) where
   -- a released slot goes from the root buffer to the free list
@@ -65,7 +61,7 @@ module _ (s t : State) (k : KeepsCounts s t) (old : IsKeptCounts s) (new : IsKep
     | inr h ↦ omega (arith, h)
   ]
 
-  pub still_listed : IsListed t
+  still_listed : IsListed t
   still_listed = record {
     listed = λ x h r.
         let q : (slot_at s x).released ≡ true = sym (k.released x) ∙ r in
@@ -73,7 +69,7 @@ module _ (s t : State) (k : KeepsCounts s t) (old : IsKeptCounts s) (new : IsKep
     only = λ x h. k.released x ∙ released_alone x h;
     unbuffered = λ x h.
         let r : (slot_at s x).released ≡ true = released_alone x h in
-        not_buffered (slot_at t x).buffered (omega (arith, new.buffers x, no_member x r, released_stays x r, listed_once x, h));
+        one-none (slot_at t x).buffered (omega (arith, new.buffers x, no_member x r, released_stays x r, listed_once x, h));
   }
 
 -- Where no slot was Orange as a trial began, just the members of its sets are once it is over.

@@ -102,10 +102,3 @@ freed_follow w word k busy counted c few wide =
     let clear = relieved_clear w word wide.0 busy counted k c in
     let numbers : KeepsNumbers w (relieved (with_freed w word)) = numbers_on (freed_same w word) (relieved_same (with_freed w word)) in
     record { clearing = clear.0; done = clear.1; told = omega (arith, few, freed_told w word, relieved_told (with_freed w word)); wide = wide_on numbers wide }
-
--- no slot is released while a set is freed
-pub freed_still : (w : Parts) → IsClearing w → IsSome w.freeing.at → w.release.at ≡ None
-freed_still w c busy = elim c.one [
-  | inl e ↦ e
-  | inr e ↦ absurd (false≢true (sym (ap (λ (o : Option Member). is_some o) e) ∙ busy))
-]

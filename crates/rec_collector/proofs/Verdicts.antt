@@ -7,8 +7,8 @@ use Rattle.rec_counts.specs.declared.colour.Colour.{Colour}
 use Rattle.rec_counts.specs.declared.colour.Colour.TheVariants.{Black, Purple, Gray, White, Orange}
 use Rattle.rec_counts.specs.Counts.{State, slot_at}
 use Rattle.rec_counts.specs.Lists.{one, times}
+use Rattle.rec_counts.specs.Colour.{is_orange}
 use Rattle.rec_counts.proofs.Times.{one-same, times-cons, times-nil}
-use Rattle.rec_release.specs.TakenOff.{is_orange}
 use Rattle.rec_sigma.specs.Judged.{AreOrange, cyclic_sum}
 use Rattle.rec_sigma.specs.Prepare.{members_of}
 use Rattle.rec_collector.specs.Testing.{touched, verdict_if, verdict_of}

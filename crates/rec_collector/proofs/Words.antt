@@ -5,6 +5,7 @@ use Rattle.std.proofs.lemmas.Bool.{cases_eq, cond-true, cond-false, eq-eqb, ne_e
 use Rattle.rec_word.specs.Place.{place_of}
 use Rattle.rec_word.specs.declared.op.Op.{Op}
 use Rattle.rec_word.specs.declared.op.Op.TheVariants.{StoreEpoch, LoadChild}
+use Rattle.rec_word.proofs.FieldPlaces.{place_within}
 use Rattle.rec_counts.specs.Counts.{State, IsKept}
 use Rattle.rec_counts.proofs.Times.{in_range_once, times_at}
 use Rattle.rec_release.specs.CycleFree as frees
@@ -29,19 +30,13 @@ use Rattle.rec_collector.specs.declared.phase.Phase.{Phase}
 use Rattle.rec_collector.specs.declared.phase.Phase.TheVariants.{Idle, Looking, Swapping, Returning, Releasing, Freeing, Trying, Preparing, Opening, Sweeping, Closing}
 use Rattle.rec_collector.proofs.Landing.{now_at}
 
--- a field of a slot that is there
-place_there : (slots fields slot field : ℕ) → slot < slots → field < fields → place_of slot field fields < slots * fields
-place_there slots fields slot field s f =
-    let m : (slot + 1) * fields ≤ slots * fields = mul-le-mul {n₁ = slot + 1} {m₁ = fields} {n₂ = slots} {m₂ = fields} (omega (arith, s)) (omega arith) in
-    omega (arith, m, f)
-
 release_names : (m : Machine) (s : State) (mutators : ℕ) → IsAtWork m s → IfSome (release_next m) (NamesWord (length s.slots) m.fields mutators)
 unfolding release_next
 release_names m s mutators k = go m.at k.field k.held
   where
     go : (at : Option At) → IfSome at (λ (a : At). a.field < m.fields) → IfSome at (IsHeld s) → IfSome (op_at m.fields at) (NamesWord (length s.slots) m.fields mutators)
     go None f h = tt
-    go (Some a) f h = place_there (length s.slots) m.fields a.slot a.field h.in_range f
+    go (Some a) f h = place_within (length s.slots) m.fields a.slot a.field h.in_range f
 
 -- the members of a set that is freed are there
 freeing_names : (m : frees.Machine) (s : State) (mutators : ℕ) → IsKept s → frees.IsAtWork m s → IfSome (frees.next_of m) (NamesWord (length s.slots) m.fields mutators)
@@ -52,7 +47,7 @@ freeing_names m s mutators kept k = go m.at k.field k.held
     go None f h = tt
     go (Some a) f h =
         let l : a.slot < length s.slots = in_range_once (length s.slots) s.work a.slot kept.work_once (rw h.slot (times_at s.work a.index h.index)) in
-        place_there (length s.slots) m.fields a.slot a.field l f
+        place_within (length s.slots) m.fields a.slot a.field l f
 
 -- a preparation loads fields of members
 prep_names : (m : preps.Machine) (s : State) (fields mutators : ℕ) → m.fields ≡ fields → IsKept s → preps.IsAtWork m s → IfSome (preps.next_of m) (NamesWord (length s.slots) fields mutators)

@@ -2,6 +2,7 @@
 use Rattle.std.specs.Prelude.{◌≡◌, ◌⊎◌, ℕ, ◌+◌, ◌-◌, ◌*◌, ◌^◌, ◌<◌, ◌≤◌, nat_le, true, false, Option, None, Some, IsNone, List, [], length}
 use Rattle.rec_counts.specs.Counts.{State, slot_at}
 use Rattle.rec_counts.specs.Lists.{one, times}
+use Rattle.rec_counts.specs.Colour.{is_gray, is_white}
 use Rattle.rec_release.specs.CycleFree as frees
 use Rattle.rec_release.specs.Release as releases
 use Rattle.rec_release.specs.Released.{is_at}
@@ -9,7 +10,6 @@ use Rattle.rec_release.specs.Sweep.{AreUnbuffered}
 use Rattle.rec_release.specs.TakenOff.{AllZerosButOrange, IsApart}
 use Rattle.rec_release.specs.declared.at.At.{At}
 use Rattle.rec_release.specs.declared.member.Member.{Member}
-use Rattle.rec_trial.specs.Moves.{is_gray, is_white}
 use Rattle.rec_trial.specs.Trial.{next_of as trial_next}
 use Rattle.rec_collector.specs.Outside.{AreOutside}
 use Rattle.rec_collector.specs.Parts.{Parts}

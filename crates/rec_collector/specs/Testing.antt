@@ -1,9 +1,9 @@
 -- The tests of sets, and what becomes of a set by what they say.
 use Rattle.std.specs.Prelude.{ℕ, zero, suc, ◌+◌, ◌-◌, ◌==◌, Bool, true, false, not, if◌then◌else◌, Option, None, Some, count_by, length}
 use Rattle.rec_counts.specs.Counts.{State, slot_at}
+use Rattle.rec_counts.specs.Colour.{is_orange}
 use Rattle.rec_release.specs.CycleFree as frees
 use Rattle.rec_release.specs.Release as releases
-use Rattle.rec_release.specs.TakenOff.{is_orange}
 use Rattle.rec_release.specs.declared.at.At.{At}
 use Rattle.rec_release.specs.declared.member.Member.{Member}
 use Rattle.rec_sigma.specs.Judged.{cyclic_sum}

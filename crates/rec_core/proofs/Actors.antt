@@ -24,7 +24,7 @@ use Rattle.rec_core.specs.Core.{spare_of, nobody}
 use Rattle.rec_core.specs.Kept.{IsSettledIn, HasLabelAt, IsOwn, IsMadeIn, IsBufferOf, Stand, stand_at, IsBehind, IsCrossing, IsHandshake, IsActor, HasMutators}
 use Rattle.rec_core.specs.Pending.{epoch_at}
 use Rattle.rec_core.specs.declared.config.Config.{Config}
-use Rattle.rec_core.proofs.Machines.{IsBox, step_machine}
+use Rattle.rec_mutator.proofs.Machines.{IsBox, step_machine}
 
 -- the machine of a mutator after its step
 pub own_stepped : {config : Config} {t : ℕ} {p : Private} {word : ℕ} {box : Contents} {op : Op} {q : Private} → IsOwn config t p → IsBox p box → IsFound p op word → Step p word box op q → HasLabelAt q.phase → IsOwn config t q

@@ -111,8 +111,8 @@ by_number : (n i : ℕ) → i < n → (1 ≤ i + 1) × (i + 1 ≤ n)
 by_number n i below = (omega arith, omega arith)
 
 module _ (w : Core) (t : ℕ) (kept : IsKept w) (phase : w.collector.phase ≡ Returning t) (last : t ≡ length w.collector.newer) where
-  abbrev c : collectors.Private
-  c = w.collector
+  open w use {collector as c}
+  open kept use {collector.{slots as slots_are}}
 
   many : length c.newer ≡ w.config.mutators
   many = kept.collector.mutators
@@ -122,7 +122,7 @@ module _ (w : Core) (t : ℕ) (kept : IsKept w) (phase : w.collector.phase ≡ R
   last_is = let some : 1 ≤ w.config.mutators = kept.config.some_mutators in (omega (arith, many), omega (arith, many))
 
   -- every mutator has crossed
-  pub crossed : (s : ℕ) → IsMutator w.config s → (HasCrossed w.epoch (mutator w s) (crossing_of w s) Spare ⊎ HasCrossed w.epoch (mutator w s) (crossing_of w s) WithCollector) × (box w s ≡ spare_of w.config)
+  crossed : (s : ℕ) → IsMutator w.config s → (HasCrossed w.epoch (mutator w s) (crossing_of w s) Spare ⊎ HasCrossed w.epoch (mutator w s) (crossing_of w s) WithCollector) × (box w s ≡ spare_of w.config)
   crossed s there = elim (cases_eq s t) [
     | inl same ↦
         let home = returned_home w t kept phase last_is in
@@ -135,13 +135,13 @@ module _ (w : Core) (t : ℕ) (kept : IsKept w) (phase : w.collector.phase ≡ R
         (inl home.0, home.1)
   ]
 
-  pub in_epoch : (s : ℕ) → IsMutator w.config s → epoch_at (mutator w s) ≡ w.epoch
+  in_epoch : (s : ℕ) → IsMutator w.config s → epoch_at (mutator w s) ≡ w.epoch
   in_epoch s there = elim (crossed s there).0 [
     | inl h ↦ epoch_here (mutator w s) (settled_here (mutator w s).phase h.settled) ∙ h.epoch
     | inr h ↦ epoch_here (mutator w s) (settled_here (mutator w s).phase h.settled) ∙ h.epoch
   ]
 
-  pub some_epochs : 2 ≤ w.epoch
+  some_epochs : 2 ≤ w.epoch
   some_epochs =
       let first : 1 ≤ w.config.first_epoch = kept.config.some_epoch in
       let way : collector_kept.under_way c.phase ≡ 1 = ap collector_kept.under_way phase in
@@ -210,7 +210,7 @@ module _ (w : Core) (t : ℕ) (kept : IsKept w) (phase : w.collector.phase ≡ R
       )
 
   -- what is taken off by the accounts is what the older buffers take
-  pub taken_is : (x : ℕ) → taken (pending w) (x + 1) ≡ targets.taken x c.older
+  taken_is : (x : ℕ) → taken (pending w) (x + 1) ≡ targets.taken x c.older
   taken_is x =
       let e : ℕ = w.epoch - 2 in
       let of_writes : Filed → List Write = λ b. writes_in b.buffer.entries in
@@ -250,9 +250,6 @@ module _ (w : Core) (t : ℕ) (kept : IsKept w) (phase : w.collector.phase ≡ R
       let dead : is_dead (pending w) (x + 1) ≡ true = ap (λ (b : Bool). if b then true else (pending w).released (x + 1)) free in
       let none = unnamed_uncounted (pending w) (x + 1) (kept.accounted.unnamed (x + 1) (omega arith) dead) in
       (sym (added_is x) ∙ none.0, sym (taken_is x) ∙ none.1)
-
-  slots_are : length c.counts.slots ≡ w.config.slots
-  slots_are = kept.collector.slots
 
   -- the count of a slot, by its node
   count_of : (x : ℕ) → x < w.config.slots → (pending w).count (x + 1) ≡ (slot_at c.counts x).count

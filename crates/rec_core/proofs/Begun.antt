@@ -13,6 +13,7 @@ use Rattle.rec_counts.specs.Lists.{one, times}
 use Rattle.rec_counts.specs.Slot.{absent}
 use Rattle.rec_counts.specs.declared.slot.Slot.{Slot}
 use Rattle.rec_counts.proofs.Times.{times-nil}
+use Rattle.rec_apply.proofs.Kept.{batch_kept}
 use Rattle.rec_release.specs.Release.{IsReady}
 use Rattle.rec_collector.specs.Clearing.{IsClearing}
 use Rattle.rec_collector.specs.Kept as collector_kept
@@ -23,7 +24,6 @@ use Rattle.rec_collector.specs.Testing.{zeros_released}
 use Rattle.rec_collector.specs.declared.phase.Phase.TheVariants.{Returning, Releasing}
 use Rattle.rec_collector.proofs.Batched.{batched_clear, resting_clear}
 use Rattle.rec_collector.proofs.Clearing.{zeros_clear}
-use Rattle.rec_collector.proofs.Counting.{batch_kept}
 use Rattle.rec_core.specs.Config.{IsMutator}
 use Rattle.rec_core.specs.Core.{Core}
 use Rattle.rec_core.specs.CyclesAt.{HasCyclesAt}
@@ -44,8 +44,8 @@ member_there s x k member = elim (cases_lt x (length s.slots)) [
 ]
 
 module _ (w : Core) (t : ℕ) (kept : IsKept w) (phase : w.collector.phase ≡ Returning t) (last : t ≡ length w.collector.newer) where
-  abbrev c : collectors.Private
-  c = w.collector
+  open w use {collector as c}
+  open kept use {collector.{slots}}
 
   -- the counts then, and the parts
   abbrev s : State
@@ -55,11 +55,7 @@ module _ (w : Core) (t : ℕ) (kept : IsKept w) (phase : w.collector.phase ≡ R
   batched = record (parts_of c) { counts = s }
 
   -- nothing was at work before
-  rest : collector_kept.IsAtRest c
-  rest = (now_at w (Returning t) kept phase).rest
-
-  slots : length c.counts.slots ≡ w.config.slots
-  slots = kept.collector.slots
+  open (now_at w (Returning t) kept phase) use {rest}
 
   ready : IsReady s
   ready = record { zeros = counted_zeros w t kept phase last; free = λ x there. absurd (omega (arith, there, ap (times x) ((counted_rest w t kept phase last).free ∙ rest.free), times-nil x)) }

@@ -240,7 +240,7 @@ emptied_alike s x = go (slot_at s x).buffered
     go false = refl
 
 -- a sum in which nothing counts, place by place
-pub none_at : {X : Type 0} (f : ℕ → X → ℕ) (xs : List X) (d : X) → ((i : ℕ) → i < length xs → f i (slice_index_or xs i d) ≡ 0) → sum_at f xs ≡ 0
+none_at : {X : Type 0} (f : ℕ → X → ℕ) (xs : List X) (d : X) → ((i : ℕ) → i < length xs → f i (slice_index_or xs i d) ≡ 0) → sum_at f xs ≡ 0
 none_at f [] d none = refl
 none_at f (x ∷ xs) d none =
     let first : f 0 x ≡ 0 = none 0 (omega arith) in

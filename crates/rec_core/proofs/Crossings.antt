@@ -16,6 +16,7 @@ use Rattle.rec_model.specs.Sight.{IsSound, IsTaken}
 use Rattle.rec_model.proofs.Consequences.{move_uncounted}
 use Rattle.rec_model.proofs.Moving.{move_accounted}
 use Rattle.rec_log.specs.declared.contents.Contents.{Contents}
+use Rattle.rec_model.proofs.Opened.{named-nones}
 use Rattle.rec_mutator.specs.Causes.{is_giving}
 use Rattle.rec_mutator.specs.Next.{next_of, next_at}
 use Rattle.rec_mutator.specs.Private.{Private, is_busy, IsMachine, IsValid, is_busy_at}
@@ -45,7 +46,6 @@ use Rattle.rec_core.proofs.Moves.{same_pending, crossing_amid, crossing_drops}
 use Rattle.rec_core.proofs.Rules.{performed_kept}
 use Rattle.rec_core.proofs.Shapes.{after_take, after_give}
 use Rattle.rec_core.proofs.Steps.{Makes, actor_of, in_list, its_box, register_taken, taken_slot, scans_stay, entries_stay, registers_stay, quiet_kept}
-use Rattle.rec_core.proofs.Sums.{none_named}
 
 -- a step that takes the own mailbox
 pub takes : (p : Private) (word : ℕ) (b : Contents) → p.phase ≡ at.Crossing → Crosses p (next_of p) (step_of p word b) at.Crossing (ops.TakeBox p.number (p.epoch + 1)) p.epoch b at.Giving
@@ -114,7 +114,7 @@ giving_of w t kept is phase =
     (due, elim where_ [ inl behind ↦ absurd (false≢true (sym behind.here ∙ gives_)) | inr crosses ↦ crosses ])
 
 -- a mutator takes its mailbox
-pub taken_kept : (w : Core) (t : ℕ) → IsKept w → IsMutator w.config t → is_busy (mutator w t) ≡ true → IsFound (mutator w t) (next_of (mutator w t)) (found_by w t) → (mutator w t).phase ≡ at.Crossing → IsKept (stepped w t)
+taken_kept : (w : Core) (t : ℕ) → IsKept w → IsMutator w.config t → is_busy (mutator w t) ≡ true → IsFound (mutator w t) (next_of (mutator w t)) (found_by w t) → (mutator w t).phase ≡ at.Crossing → IsKept (stepped w t)
 taken_kept w t kept is busy may phase =
     let p : Private = mutator w t in
     let word : ℕ = found_by w t in
@@ -147,7 +147,7 @@ taken_kept w t kept is busy may phase =
     = record {
       own = own;
       log = subst (IsBufferOf w.config (epoch_at q)) (sym q_log) (spare_buffer w.config (epoch_at q));
-      unwritten = ap (λ (x : Contents). named x.snapshot) q_log ∙ none_named w.config.registers;
+      unwritten = ap (λ (x : Contents). named x.snapshot) q_log ∙ named-nones w.config.registers;
       mailbox = retired_log;
       handshake = subst (IsHandshake w.config w.epoch q (crossing_word (p.epoch + 1) WithMutator) b) (sym due)
           (inr (inl (record { epoch = ap (λ n. n + 1) q_epoch ∙ epoch; phase = q_phase; word = ap (λ n. crossing_word n WithMutator) epoch; spare = q_log })));
@@ -186,7 +186,7 @@ taken_kept w t kept is busy may phase =
         omega (arith, product)
 
 -- a mutator gives its mailbox back
-pub given_kept : (w : Core) (t : ℕ) → IsKept w → IsMutator w.config t → is_busy (mutator w t) ≡ true → IsFound (mutator w t) (next_of (mutator w t)) (found_by w t) → (mutator w t).phase ≡ at.Giving
+given_kept : (w : Core) (t : ℕ) → IsKept w → IsMutator w.config t → is_busy (mutator w t) ≡ true → IsFound (mutator w t) (next_of (mutator w t)) (found_by w t) → (mutator w t).phase ≡ at.Giving
     → left_of (took_of (mutator w t) (found_by w t)) (box w t) ≡ box w t → IsKept (stepped w t)
 given_kept w t kept is busy may phase same =
     let p : Private = mutator w t in

@@ -20,19 +20,10 @@ use Rattle.rec_log.specs.declared.contents.Contents.{Contents}
 use Rattle.rec_apply.specs.Targets.{added, named}
 use Rattle.rec_apply.specs.Batch.{all_down, all_up, batch, counted_down, counted_up, down_targets, up_targets}
 use Rattle.rec_apply.proofs.Naming.{added_is, named-nil, named-cons}
+use Rattle.rec_release.proofs.Orange.{not_orange_at}
 use Rattle.rec_core.specs.Cycles.{is_member, is_member_of, word_loaded, word_seen, SetsWait, SetsTest}
 use Rattle.rec_core.proofs.CyclesLess.{TestsLess, member_before, less_same, less_on, less_slot, less_decremented}
 use Rattle.rec_core.proofs.CyclesTest.{counted_less}
-
--- what is written isn't Orange
-not_orange_at : (s : State) (x : ℕ) (v : Slot) → (v.colour ≡ Orange → ⊥) → (slot_at (with_slot s x v) x).colour ≡ Orange → ⊥
-not_orange_at s x v h o =
-    elim (cases_lt x (length s.slots)) [
-      | inl l ↦ h (ap (λ (w : Slot). w.colour) (sym (get_or-set_same s.slots x v absent l)) ∙ o)
-      | inr l ↦ let past : slot_at (with_slot s x v) x ≡ absent = ap (λ ss. get_or ss x absent) (set_past s.slots x v l) ∙ get_or_past s.slots x absent l in
-          let black : Black ≡ Orange = ap (λ (w : Slot). w.colour) (sym past) ∙ o in
-          cc
-    ]
 
 raised_black : (v : Slot) → (raised v).colour ≡ Orange → ⊥
 raised_black v o = cc
@@ -73,7 +64,7 @@ unfolding all_down
 less_down s [] = less_same s
 less_down s (t ∷ ts) = less_on (down_eases s t) (less_down (counted_down s t) ts)
 
-pub less_batch : (s : State) (newer older : List Contents) → TestsLess s (batch s newer older)
+less_batch : (s : State) (newer older : List Contents) → TestsLess s (batch s newer older)
 less_batch s newer older = less_on (less_up s (flat_map up_targets newer)) (less_down (all_up s (flat_map up_targets newer)) (flat_map down_targets older))
 
 -- a slot that is Orange after a batch was so before, and was named by none of its increments

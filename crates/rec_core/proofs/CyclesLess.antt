@@ -12,7 +12,7 @@ use Rattle.rec_counts.specs.Counts.{State, IsKept, slot_at, with_slot, sent, dec
 use Rattle.rec_counts.specs.Groups.{last_set}
 use Rattle.rec_counts.specs.Lists.{one, times}
 use Rattle.rec_counts.specs.Slot.{absent, is_in, lessened, lessened_if, lowered, due_of}
-use Rattle.rec_counts.proofs.Keeping.{field_kept}
+use Rattle.rec_counts.proofs.Keeping.{field_kept, map_at}
 use Rattle.rec_counts.proofs.Times.{times-nil, times-append}
 use Rattle.rec_sigma.specs.declared.fate.Fate.{Fate}
 use Rattle.rec_sigma.specs.declared.fate.Fate.TheVariants as fates
@@ -84,11 +84,11 @@ less_slot s x v e = record {
 }
 
 -- a slot is flagged released
-pub less_released : (s : State) (x : ℕ) → TestsLess s (with_slot s x (record (slot_at s x) { released = true }))
+less_released : (s : State) (x : ℕ) → TestsLess s (with_slot s x (record (slot_at s x) { released = true }))
 less_released s x = less_slot s x (record (slot_at s x) { released = true }) (record { set = refl; orange = λ o. o; exact = λ o r. absurd (false≢true (sym r)) })
 
 -- a count is lowered together with the outside count
-pub less_lowered : (s : State) (x : ℕ) → TestsLess s (with_slot s x (lowered (slot_at s x)))
+less_lowered : (s : State) (x : ℕ) → TestsLess s (with_slot s x (lowered (slot_at s x)))
 less_lowered s x = less_slot s x (lowered (slot_at s x)) (record { set = refl; orange = λ o. o; exact = λ o r. (r, λ k e. omega (arith, e)) })
 
 lessened_eases : (r l : Bool) (v : Slot) → v.released ≡ r → EasesSlot v (lessened_if r l v)
@@ -125,12 +125,6 @@ members_left s t n gone stay number x y e = go (is_in n (slot_at s x).set) (is_i
         let other : eqb number n ≡ false = ap (is_in n) (sym e ∙ stay x f) ∙ f in
         let last : (slot_at s y).set ≡ Some n = in_set n (slot_at s y).set g in
         ap (is_in number) (gone y g) ∙ sym (ap (is_in number) last ∙ ne_eqb n number (λ q. false≢true (sym other ∙ eq-eqb number n (sym q))))
-
--- a map of the slots, at one of them
-map_at : (f : Slot → Slot) → f absent ≡ absent → (slots : List Slot) (y : ℕ) → get_or (map f slots) y absent ≡ f (get_or slots y absent)
-map_at f e [] y = sym e
-map_at f e (v ∷ slots) zero = refl
-map_at f e (v ∷ slots) (suc y) = map_at f e slots y
 
 -- what is given up is in no set and not Orange, and what isn't stays
 given_eases : (n : ℕ) (v : Slot) (b : Bool) → is_in n v.set ≡ b → ((given_up_slot n v).colour ≡ Orange → v.colour ≡ Orange) × ((given_up_slot n v).colour ≡ Orange → (given_up_slot n v).released ≡ false → StaysExact v (given_up_slot n v))
@@ -183,7 +177,7 @@ less_refurbished s t k r =
     }
 
 -- the reference that came out is counted no more
-pub less_down_if : (lowers : Bool) (s : State) (x : ℕ) → TestsLess s (down_if lowers s x)
+less_down_if : (lowers : Bool) (s : State) (x : ℕ) → TestsLess s (down_if lowers s x)
 less_down_if true s x = less_lowered s x
 less_down_if false s x = less_decremented s x
 

@@ -3,9 +3,10 @@ use Rattle.std.proofs.Common.{◌≡◌, ◌≢◌, inl, inr, ℕ, zero, suc, �
 use Rattle.std.specs.List.{range_with_len}
 use Rattle.std.proofs.lemmas.Bool.{cases_eq}
 use Rattle.std.proofs.lemmas.Nat.{div-mul-add, mod-mul-add}
-use Rattle.rec_word.specs.Word.{target_of, predecessor}
+use Rattle.rec_word.specs.Word.{target_of, predecessor, target_bits}
 use Rattle.rec_counts.specs.Counts.{State, slot_at}
 use Rattle.rec_counts.specs.Lists.{times}
+use Rattle.rec_counts.proofs.Keeping.{unreleased_within}
 use Rattle.rec_model.specs.Sums.{one_if_same, sum_at}
 use Rattle.rec_model.specs.Pending.{node_of, home, Pending}
 use Rattle.rec_model.specs.References.{closed_at}
@@ -18,15 +19,10 @@ use Rattle.rec_trial.specs.Trial.{next_of}
 use Rattle.rec_trial.specs.Witnessed.{word_at, fields_leading}
 use Rattle.rec_trial.proofs.Places.{ltb_yes, ltb_no}
 use Rattle.rec_trial.proofs.Readings.{codes, below_front, references_read}
-use Rattle.rec_trial.proofs.Runs.{code_of}
-use Rattle.rec_trial.proofs.Steps.{in_range, bits_suc}
+use Rattle.rec_trial.proofs.Steps.{bits_suc}
 use Rattle.rec_trial.proofs.Totals.{same, total, total_below}
+use Rattle.rec_trial.proofs.Witnesses.{below_alike, total_range}
 use Rattle.rec_core.specs.Cycles.{TrialStands, is_member, word_loaded}
-
--- sums over the numbers below one, which are the places of a heap row by row
-alike_below : (f h : ℕ → ℕ) (k : ℕ) → ((g : ℕ) → g < k → f g ≡ h g) → total_below f k ≡ total_below h k
-alike_below f h zero e = refl
-alike_below f h (suc k) e = omega (arith, e k (omega arith), alike_below f h k (λ g l. e g (omega (arith, l))))
 
 sum_at_below : {X : Type 0} (f : ℕ → ℕ) (xs : List X) → sum_at (λ i x. f i) xs ≡ total_below f (length xs)
 sum_at_below f [] = refl
@@ -42,14 +38,8 @@ below_rows f fields (suc n) =
     let next : suc n * fields ≡ n * fields + fields = omega arith in
     rw next (omega (arith, below_more f (n * fields) fields, below_rows f fields n))
 
-range_below : (f : ℕ → ℕ) (a n : ℕ) → total f (range_with_len a n) ≡ total_below (λ k. f (a + k)) n
-range_below f a zero = refl
-range_below f a (suc n) =
-    let first : f (a + 0) ≡ f a = ap f (omega arith) in
-    omega (arith, first, range_below f (a + 1) n, alike_below (λ k. f (a + 1 + k)) (λ k. f (a + suc k)) n (λ k l. ap f (omega arith)), below_front (λ k. f (a + k)) n)
-
 -- a node is its slot and one more
-node_code : (x word : ℕ) → one_if_same (suc x) (node_of word) ≡ same (suc x) (code_of word)
+node_code : (x word : ℕ) → one_if_same (suc x) (node_of word) ≡ same (suc x) (target_bits word)
 unfolding node_of
 node_code x word = grind arith
 
@@ -72,9 +62,9 @@ module _ (loads : List Load) (x : ℕ) where
   leading_places {X} fields slots xs long =
       let cells : ℕ → ℕ → ℕ = λ n g. same (suc x) (codes (word_at loads) n g) in
       references_read fields (word_at loads) (range_with_len 0 slots) x
-      ∙ range_below (λ n. total_below (cells n) fields) 0 slots
-      ∙ alike_below (λ n. total_below (cells (0 + n)) fields) (λ n. total_below (λ g. leads fields (n * fields + g)) fields) slots
-      (λ n l. ap (λ k. total_below (cells k) fields) (zero-add n) ∙ alike_below (cells n) (λ g. leads fields (n * fields + g)) fields (λ g h. sym (cell fields n g h)))
+      ∙ total_range (λ n. total_below (cells n) fields) 0 slots
+      ∙ below_alike (λ n. total_below (cells (0 + n)) fields) (λ n. total_below (λ g. leads fields (n * fields + g)) fields) slots
+      (λ n l. ap (λ k. total_below (cells k) fields) (zero-add n) ∙ below_alike (cells n) (λ g. leads fields (n * fields + g)) fields (λ g h. sym (cell fields n g h)))
       ∙ sym (below_rows (leads fields) fields slots)
       ∙ ap (total_below (leads fields)) (sym long)
       ∙ sym (sum_at_below (leads fields) xs)
@@ -98,7 +88,7 @@ module _ (w : Pending) (before : State) (words : List ℕ) (r : Run) (t : IsTria
   is_counted long counts zero pos member = absurd (omega (arith, pos))
   is_counted long counts (suc x) pos member =
       let m : 0 < times x (members r.work.counts) = member_slot r.work.counts x member in
-      let inside : x < length before.slots = in_range before x (t.careful.sets_unreleased x m) in
+      let inside : x < length before.slots = unreleased_within before x (t.careful.sets_unreleased x m) in
       let count : w.count (suc x) ≡ (slot_at before x).count = ap w.count (sym (add-one x)) ∙ counts x inside in
       omega (arith, count, (t.witnessed over).enough x m, leading_places r.marking x w.fields (length before.slots) w.words long)
 

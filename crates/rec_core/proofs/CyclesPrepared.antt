@@ -9,6 +9,7 @@ use Rattle.std.proofs.lemmas.List.Elements.{All-nil, All-cons, All-head, All-tai
 use Rattle.std.proofs.lemmas.List.Sums.{sum_by-cons}
 use Rattle.std.proofs.lemmas.Nat.{div-mul-add}
 use Rattle.rec_word.specs.Word.{target_of, is_slot}
+use Rattle.rec_word.specs.Place.{places_from, places_of}
 use Rattle.rec_model.specs.Sums.{only_if, one_if_same, sum_at}
 use Rattle.rec_model.specs.Pending.{node_of, home, Pending}
 use Rattle.rec_model.specs.Sets.{seen_in}
@@ -20,11 +21,12 @@ use Rattle.rec_counts.specs.declared.slot.Slot.{Slot}
 use Rattle.rec_counts.specs.Counts.{State, IsKept, slot_at}
 use Rattle.rec_counts.specs.Lists.{one, times, EachOnce}
 use Rattle.rec_counts.specs.Slot.{is_in}
-use Rattle.rec_counts.proofs.Keeping.{members_once}
+use Rattle.rec_counts.proofs.Keeping.{members_once, set_there}
 use Rattle.rec_counts.proofs.Times.{times-nil, times-cons, times-append, one-same, one-le, in_range_once}
 use Rattle.rec_sigma.specs.declared.at.At.{At}
-use Rattle.rec_sigma.specs.Prepared.{Load, PreparedTo, loaded_at, place_loaded, places_from, places_of, seen}
+use Rattle.rec_sigma.specs.Prepared.{Load, PreparedTo, loaded_at, place_loaded, seen}
 use Rattle.rec_core.specs.Cycles.{AreFields, is_member_of, word_seen, SetsStand, SetsWait}
+use Rattle.rec_core.proofs.Places.{in_row, within_row}
 
 pub fields_begun : (fields : ℕ) → AreFields fields []
 fields_begun fields = All-nil (λ (l : Load). l.field < fields)
@@ -43,13 +45,6 @@ times_row base p field (suc n) =
   where
     more : (base p field n rest all : ℕ) → all ≡ one (eqb p (base + field)) + rest → rest ≤ one (leb (base + (field + 1)) p && ltb p (base + (field + 1) + n)) → all ≤ one (leb (base + field) p && ltb p (base + field + suc n))
     more base p field n rest all e h = grind (arith, nat_tests)
-
--- so a place is among them only of the slot that has it
-in_row : (slot fields p : ℕ) → slot * fields ≤ p → p < slot * fields + fields → p / fields ≡ slot
-in_row slot fields p from to =
-    let split : p ≡ slot * fields + (p - slot * fields) = omega arith in
-    let inside : p - slot * fields < fields = omega arith in
-    ap (λ q. q / fields) split ∙ div-mul-add slot fields (p - slot * fields) inside
 
 times_slot : (slot fields p : ℕ) → times p (places_from fields slot 0) ≤ one (eqb (p / fields) slot)
 times_slot slot fields p = go (leb (slot * fields + 0) p && ltb p (slot * fields + 0 + (fields - 0))) refl (times_row (slot * fields) p 0 (fields - 0))
@@ -73,11 +68,6 @@ times_places fields p (x ∷ xs) = omega (arith, times-append p (places_from fie
 no_places : (slots : List ℕ) (p : ℕ) → times p (places_of 0 slots) ≡ 0
 no_places [] p = times-nil p
 no_places (x ∷ xs) p = no_places xs p
-
-within_row : (fields n p : ℕ) → 0 < fields → p / fields < n → p < n * fields
-within_row fields n p some below =
-    let m : p / fields + 1 ≤ n = omega (arith, below) in
-    omega (arith, mul-le-mul_left fields m)
 
 -- each place is there once, and is one of the heap
 places_once : (fields n : ℕ) (slots : List ℕ) → EachOnce n slots → EachOnce (n * fields) (places_of fields slots)
@@ -192,16 +182,6 @@ loads_seen fields x chosen (l ∷ loads) words h once =
       loads_seen fields x chosen loads words (All-tail field l loads h) later,
       one_more fields x chosen l loads words (All-head field l loads h) inside new,
     )
-
--- a slot in a set of this number shows that there is one
-set_there : (s : State) (number x : ℕ) → IsKept s → (slot_at s x).set ≡ Some number → number < length s.sets
-set_there s number x k is = elim (cases_lt number (length s.sets)) [
-  | inl below ↦ below
-  | inr past ↦
-      let in_it : one (is_in number (slot_at s x).set) ≡ 1 = ap (λ o. one (is_in number o)) is ∙ one-same number in
-      let none : times x (get_or s.sets number []) ≡ 0 = ap (times x) (get_or_past s.sets number [] past) ∙ times-nil x in
-      absurd (omega (arith, k.numbers number x, in_it, none))
-]
 
 -- what was seen, as a sum over loads
 seen_loads : (s : State) (number : ℕ) (loads : List Load) (x : ℕ) → seen s number loads x ≡ sum_by (leading x (λ slot. is_in number (slot_at s slot).set)) loads

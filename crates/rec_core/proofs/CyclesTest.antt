@@ -18,6 +18,7 @@ use Rattle.rec_counts.specs.Lists.{one, times}
 use Rattle.rec_counts.specs.Slot.{is_in}
 use Rattle.rec_counts.proofs.Keeping.{some_set}
 use Rattle.rec_counts.proofs.Times.{times-nil, times-cons}
+use Rattle.rec_model.proofs.Moving.{move_fields}
 use Rattle.rec_sigma.specs.Judged.{AreOrange, cyclic_sum}
 use Rattle.rec_sigma.specs.Prepare.{members_of}
 use Rattle.rec_sigma.proofs.Cyclics.{in_set, set_in_range}
@@ -56,7 +57,7 @@ sets_test_less w s t l h = record {
 pub sets_test_refurbished : (w : Pending) (s t : State) → IsKept s → LastRefurbished s t → SetsTest w s → SetsTest w t
 sets_test_refurbished w s t k r = sets_test_less w s t (less_refurbished s t k r)
 
-pub sets_test_given_up : (w : Pending) (s : State) → SetsTest w s → SetsTest w (given_up s)
+sets_test_given_up : (w : Pending) (s : State) → SetsTest w s → SetsTest w (given_up s)
 sets_test_given_up w s = sets_test_less w s (given_up s) (less_given_up s)
 
 -- so many places weigh the same, whatever words stand there
@@ -64,7 +65,7 @@ abbrev pub HasSamePlaces : (xs ys : List ℕ) → Type 0
 HasSamePlaces xs ys = (weight : ℕ → ℕ) → sum_at (λ p (word : ℕ). weight p) ys ≡ sum_at (λ p (word : ℕ). weight p) xs
 
 -- the tests of the same sets, of words at the same places
-pub sets_test_on : (w v : Pending) (s : State) (h : SetsTest w s) → IsTesting v h.before h.member → v.fields ≡ w.fields → HasSamePlaces w.words v.words → SetsTest v s
+sets_test_on : (w v : Pending) (s : State) (h : SetsTest w s) → IsTesting v h.before h.member → v.fields ≡ w.fields → HasSamePlaces w.words v.words → SetsTest v s
 sets_test_on w v s h testing fields places = record {
   before = h.before;
   member = h.member;
@@ -79,19 +80,6 @@ sets_test_on w v s h testing fields places = record {
   ));
   unput = h.unput;
 }
-
--- what a move leaves
-move_fields : {w v : Pending} → Move w v → v.fields ≡ w.fields
-move_fields (put m) = m.epochs.fields
-move_fields (register m) = m.epochs.fields
-move_fields (birth m) = m.epochs.fields
-move_fields (crossing m) = m.epochs.fields
-move_fields (request m) = m.fields
-move_fields (batch m) = m.fields
-move_fields (release m) = m.epochs.fields
-move_fields (clearing m) = m.epochs.fields
-move_fields (freeing m) = m.epochs.fields
-move_fields (dropping m) = m.epochs.fields
 
 move_places : {w v : Pending} → Move w v → HasSamePlaces w.words v.words
 move_places (put m) f = omega (arith, m.words (λ p word. f p))

@@ -17,6 +17,7 @@ use Rattle.rec_model.specs.Accounted.{IsAccounted}
 use Rattle.rec_model.specs.Sets.{HasLoaded, with_load, IsAfterLoads}
 use Rattle.rec_model.proofs.Weights.{only_if-le, one_if_self}
 use Rattle.rec_model.proofs.Loading.{same_length, replaced_length, nothing_loaded, move_loaded, load_loaded, loaded_replaced, move_replaced}
+use Rattle.rec_model.proofs.Moving.{move_fields}
 use Rattle.rec_trial.specs.declared.phase.Phase.{Phase}
 use Rattle.rec_trial.specs.declared.phase.Phase.TheVariants.{Idle, Marking, Scanning, Collecting}
 use Rattle.rec_trial.specs.Loaded.{Load, Run, load_of, noted_at, noted}
@@ -27,6 +28,7 @@ use Rattle.rec_trial.proofs.Course.{first_view}
 use Rattle.rec_trial.proofs.Holding.{inv_at}
 use Rattle.rec_trial.proofs.Runs.{Told, seen_of, told_run}
 use Rattle.rec_trial.proofs.Views.{view}
+use Rattle.rec_trial.proofs.AtWork.{named_place}
 use Rattle.rec_core.specs.Cycles.{TrialStands, word_loaded}
 
 -- where blackening loaded a field that had another target by then, the word that marking loaded there was replaced
@@ -48,19 +50,6 @@ none_replaced w fields marking place node inside pos l = absurd (omega (arith, l
 
 pub trial_stands_begun : (w : Pending) (k : Work) → TrialStands w (unloaded k)
 trial_stands_begun w k = record { marks = nothing_loaded w; blacks = none_replaced w w.fields [] }
-
--- no move changes how many fields an object has, nor how many there are
-move_fields : {w v : Pending} → Move w v → v.fields ≡ w.fields
-move_fields (put s) = s.epochs.fields
-move_fields (register s) = s.epochs.fields
-move_fields (birth s) = s.epochs.fields
-move_fields (crossing s) = s.epochs.fields
-move_fields (request s) = s.fields
-move_fields (batch s) = s.fields
-move_fields (release s) = s.epochs.fields
-move_fields (clearing s) = s.epochs.fields
-move_fields (freeing s) = s.epochs.fields
-move_fields (dropping s) = s.epochs.fields
 
 move_places : {w v : Pending} → Move w v → length v.words ≡ length w.words
 move_places {w} {v} (put {epoch} {place} {new} s) = replaced_length w.words v.words place (word_in w place) new s.words
@@ -133,17 +122,6 @@ blacks_more w l marking loads h is t b place node inside pos more = elim (eqb_te
 
     other : eqb place (place_of l.slot l.field w.fields) ≡ false → word_loaded w.fields (l ∷ loads) place ≡ word_loaded w.fields loads place
     other e = word_more w.fields l loads place h ∙ ap (λ c. cond c l.word (word_loaded w.fields loads place)) e
-
--- the field that is due is the one that comes next
-named_place : (m : Machine) (p : Phase) (place : ℕ) → m.phase ≡ p → next_of m ≡ Some (LoadChild place) → (p ≡ Idle → ⊥) × (place ≡ place_of m.slot m.field m.fields)
-unfolding next_of
-named_place m Idle place e h = absurd (none place (rw e at h))
-  where
-    none : (place : ℕ) → None ≡ Some (LoadChild place) → ⊥
-    none place h = cc
-named_place m Marking place e h = let k : Some (LoadChild (place_of m.slot m.field m.fields)) ≡ Some (LoadChild place) = rw e at h in (λ q. cc, cc)
-named_place m Scanning place e h = let k : Some (LoadChild (place_of m.slot m.field m.fields)) ≡ Some (LoadChild place) = rw e at h in (λ q. cc, cc)
-named_place m Collecting place e h = let k : Some (LoadChild (place_of m.slot m.field m.fields)) ≡ Some (LoadChild place) = rw e at h in (λ q. cc, cc)
 
 trial_told : {fields : ℕ} {before : State} {words : List ℕ} (r : Run) → IsTrial fields before words r → Told fields before r
 trial_told {fields} {before} {words} r t = subst (λ q. Told fields before q) (sym t.is) (told_run fields before words t.wide t.ready t.named)

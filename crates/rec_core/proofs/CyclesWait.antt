@@ -4,6 +4,7 @@ use Rattle.std.specs.List.{concat}
 use Rattle.std.proofs.lemmas.Bool.Decides.{eqb_tells}
 use Rattle.std.proofs.lemmas.List.{length-set, get_or-set_same, get_or-set_other, get_or_past}
 use Rattle.std.proofs.lemmas.Bool.{cases_eq, cases_lt, false≢true, true≢false}
+use Rattle.std.proofs.lemmas.Option.{none-some}
 use Rattle.rec_word.specs.Place.{place_of}
 use Rattle.rec_model.specs.Sums.{only_if, one_if_same, sum_at}
 use Rattle.rec_model.specs.Pending.{node_of, home, Pending, word_in}
@@ -21,26 +22,14 @@ use Rattle.rec_counts.specs.Lists.{times}
 use Rattle.rec_counts.specs.declared.slot.Slot.{Slot}
 use Rattle.rec_counts.specs.Slot.{absent, is_in}
 use Rattle.rec_counts.proofs.Times.{times-nil}
+use Rattle.rec_model.proofs.Moving.{move_fields}
 use Rattle.rec_sigma.specs.declared.at.At.{At}
 use Rattle.rec_sigma.specs.Prepared.{KeepsOthers, Load, place_loaded, loaded_at}
 use Rattle.rec_trial.specs.Loaded as trials
 use Rattle.rec_core.specs.Cycles.{is_member, is_member_of, word_loaded, word_seen, SetsStand, SetsWait}
 
--- what stays over the moves before the next batch: how many fields there are,
-pub move_fields : {w v : Pending} → (m : Move w v) → IsAfterLoads m → v.fields ≡ w.fields
-move_fields (put s) _ = s.epochs.fields
-move_fields (register s) _ = s.epochs.fields
-move_fields (birth s) _ = s.epochs.fields
-move_fields (crossing s) _ = s.epochs.fields
-move_fields (request s) _ = s.fields
-move_fields (batch s) after = absurd after
-move_fields (release s) _ = s.epochs.fields
-move_fields (clearing s) after = absurd after
-move_fields (freeing s) _ = s.epochs.fields
-move_fields (dropping s) _ = s.epochs.fields
-
 -- how many places,
-pub move_places : {w v : Pending} → (m : Move w v) → IsAfterLoads m → length v.words ≡ length w.words
+move_places : {w v : Pending} → (m : Move w v) → IsAfterLoads m → length v.words ≡ length w.words
 move_places {w} {v} (put {epoch} {place} {new} s) _ = replaced_length w.words v.words place (word_in w place) new s.words
 move_places {w} {v} (register s) _ = same_length w.words v.words s.words
 move_places {w} {v} (birth s) _ = same_length w.words v.words s.words
@@ -53,7 +42,7 @@ move_places {w} {v} (freeing s) _ = same_length w.words v.words s.words
 move_places {w} {v} (dropping s) _ = same_length w.words v.words s.words
 
 -- what places weigh, whatever stands there,
-pub move_weight : {w v : Pending} (weight : ℕ → ℕ) → (m : Move w v) → IsAfterLoads m → sum_at (λ p (word : ℕ). weight p) v.words ≡ sum_at (λ p (word : ℕ). weight p) w.words
+move_weight : {w v : Pending} (weight : ℕ → ℕ) → (m : Move w v) → IsAfterLoads m → sum_at (λ p (word : ℕ). weight p) v.words ≡ sum_at (λ p (word : ℕ). weight p) w.words
 move_weight weight (put s) _ = omega (arith, s.words (λ p word. weight p))
 move_weight weight (register s) _ = s.words (λ p word. weight p)
 move_weight weight (birth s) _ = s.words (λ p word. weight p)
@@ -66,7 +55,7 @@ move_weight weight (freeing s) _ = s.words (λ p word. weight p)
 move_weight weight (dropping s) _ = s.words (λ p word. weight p)
 
 -- and the count of a node that isn't given up
-pub move_count : {w v : Pending} (z : ℕ) → (m : Move w v) → IsAfterLoads m → 0 < z → w.released z ≡ false → v.count z ≡ w.count z
+move_count : {w v : Pending} (z : ℕ) → (m : Move w v) → IsAfterLoads m → 0 < z → w.released z ≡ false → v.count z ≡ w.count z
 move_count z (put s) _ pos alive = s.slots.count z pos
 move_count z (register s) _ pos alive = s.slots.count z pos
 move_count z (birth s) _ pos alive = s.count z pos
@@ -99,22 +88,22 @@ naming_self mark z p = elim (eqb_tells z (node_of (mark p))) [
 ]
 
 -- what a trial left stays so over the moves before the next batch, where no member is given up
-pub marked_moved : {w v : Pending} (member : ℕ → Bool) (mark : ℕ → ℕ) (m : Move w v) → IsAfterLoads m → IsAccounted w → ((node : ℕ) → 0 < node → member node ≡ true → w.released node ≡ false) → IsMarked w member mark → IsMarked v member mark
+marked_moved : {w v : Pending} (member : ℕ → Bool) (mark : ℕ → ℕ) (m : Move w v) → IsAfterLoads m → IsAccounted w → ((node : ℕ) → 0 < node → member node ≡ true → w.released node ≡ false) → IsMarked w member mark → IsMarked v member mark
 marked_moved {w} {v} member mark m after i alive t = record {
   stands = λ p z inside pos is. omega (arith, naming_self mark z p, move_loaded (naming z mark) m after i.epochs (naming_loaded w mark z (λ q there. t.stands q z there pos is)) p z inside pos);
   counted = λ z pos is. omega (arith, t.counted z pos is, move_count z m after pos (alive z pos is), move_weight (λ p. one_if_same z (node_of (mark p))) m after);
   blackened = λ p z inside pos is out.
       let there : p < length w.words = omega (arith, inside, move_places m after) in
-      let outside : member (home w.fields p) ≡ false = subst (λ f. member (home f p) ≡ false) (move_fields m after) out in
+      let outside : member (home w.fields p) ≡ false = subst (λ f. member (home f p) ≡ false) (move_fields m) out in
       omega (arith, t.blackened p z there pos is outside, move_replaced p z m after);
 }
 
 -- so does what was marked by these loads
 marks_moved : {w v : Pending} (member : ℕ → Bool) (marking : List trials.Load) (m : Move w v) → IsAfterLoads m → IsAccounted w → ((node : ℕ) → 0 < node → member node ≡ true → w.released node ≡ false) → IsMarked w member (word_loaded w.fields marking) → IsMarked v member (word_loaded v.fields marking)
-marks_moved {w} {v} member marking m after i alive h = subst (λ f. IsMarked v member (word_loaded f marking)) (sym (move_fields m after)) (marked_moved member (word_loaded w.fields marking) m after i alive h)
+marks_moved {w} {v} member marking m after i alive h = subst (λ f. IsMarked v member (word_loaded f marking)) (sym (move_fields m)) (marked_moved member (word_loaded w.fields marking) m after i alive h)
 
 -- the same members by another test
-pub marked_alike : {w : Pending} (member alike : ℕ → Bool) (mark : ℕ → ℕ) → ((node : ℕ) → 0 < node → alike node ≡ member node) → IsMarked w member mark → IsMarked w alike mark
+marked_alike : {w : Pending} (member alike : ℕ → Bool) (mark : ℕ → ℕ) → ((node : ℕ) → 0 < node → alike node ≡ member node) → IsMarked w member mark → IsMarked w alike mark
 marked_alike {w} member alike mark e t = record {
   stands = λ p z inside pos is. t.stands p z inside pos (sym (e z pos) ∙ is);
   counted = λ z pos is. t.counted z pos (sym (e z pos) ∙ is);
@@ -138,7 +127,7 @@ pub sets_stand_moved : {w v : Pending} (s : State) (loads : List Load) (m : Move
 sets_stand_moved {w} {v} s loads m after i alive h = record {
   marking = h.marking;
   marked = marks_moved (is_member s) h.marking m after i alive h.marked;
-  loaded = subst (λ f. HasLoaded v (word_seen f loads)) (sym (move_fields m after)) (move_loaded (word_seen w.fields loads) m after i.epochs h.loaded);
+  loaded = subst (λ f. HasLoaded v (word_seen f loads)) (sym (move_fields m)) (move_loaded (word_seen w.fields loads) m after i.epochs h.loaded);
 }
 
 -- one word more was seen: it is what was seen before, or the new one at its place
@@ -182,14 +171,10 @@ sets_wait_moved {w} {v} s m after i alive h = record {
   marking = h.marking;
   marked = marks_moved (is_member s) h.marking m after i alive h.marked;
   loads = h.loads;
-  loaded = subst (λ f. HasLoaded v (word_seen f h.loads)) (sym (move_fields m after)) (move_loaded (word_seen w.fields h.loads) m after i.epochs h.loaded);
-  counted = λ number x is. subst (λ f. (slot_at s x).cyclic ≡ (slot_at s x).count - sum_at (seen_in f (is_member_of s number) (word_seen f h.loads) (x + 1)) v.words) (sym (move_fields m after))
+  loaded = subst (λ f. HasLoaded v (word_seen f h.loads)) (sym (move_fields m)) (move_loaded (word_seen w.fields h.loads) m after i.epochs h.loaded);
+  counted = λ number x is. subst (λ f. (slot_at s x).cyclic ≡ (slot_at s x).count - sum_at (seen_in f (is_member_of s number) (word_seen f h.loads) (x + 1)) v.words) (sym (move_fields m))
       (omega (arith, h.counted number x is, move_weight (λ p. only_if (is_member_of s number (home w.fields p)) (one_if_same (x + 1) (node_of (word_seen w.fields h.loads p)))) m after));
 }
-
--- None is not Some
-none_some : (o : Option ℕ) (number : ℕ) → o ≡ None → o ≡ Some number → ⊥
-none_some o number n e = cc
 
 -- slots change that are in no set, and come to none
 pub record KeepsMembers (s t : State) : Type 0 where
@@ -202,7 +187,7 @@ pub slot_keeps_members : (s t : State) (x : ℕ) (v : Slot) → t.slots ≡ set 
 slot_keeps_members s t x v slots sets was is = record {
   sets = sets;
   members = λ number y e. elim (cases_eq y x) [
-    | inl q ↦ absurd (none_some (slot_at s y).set number (ap (λ z. (slot_at s z).set) q ∙ was) e)
+    | inl q ↦ absurd (none-some number (sym (ap (λ z. (slot_at s z).set) q ∙ was) ∙ e))
     | inr other ↦ apart y other
   ];
   others = λ y e. elim (cases_eq y x) [
@@ -229,7 +214,7 @@ keeps_set s t k x = go (slot_at s x).set refl
     go (Some number) e = ap (λ v. v.set) (k.members number x e)
 
 -- sets wait while others change
-pub sets_wait_kept : (w : Pending) (s t : State) → KeepsMembers s t → SetsWait w s → SetsWait w t
+sets_wait_kept : (w : Pending) (s t : State) → KeepsMembers s t → SetsWait w s → SetsWait w t
 sets_wait_kept w s t k h = record {
   marking = h.marking;
   marked = same_members w s t (word_loaded w.fields h.marking) k.sets h.marked;
@@ -261,7 +246,7 @@ sets_wait_none w s empty none = record {
   };
   loads = [];
   loaded = nothing_loaded w;
-  counted = λ number x is. absurd (none_some (slot_at s x).set number (none x) is);
+  counted = λ number x is. absurd (none-some number (sym (none x) ∙ is));
 }
   where
     no_member : (z : ℕ) → is_member s z ≡ true → ⊥

@@ -11,6 +11,7 @@ use Rattle.rec_counts.specs.Counts.{State, slot_at, IsKept as IsKeptCounts}
 use Rattle.rec_counts.specs.Lists.{one, times}
 use Rattle.rec_counts.specs.Slot.{absent, fresh}
 use Rattle.rec_counts.specs.declared.slot.Slot.{Slot}
+use Rattle.rec_model.proofs.Moving.{move_fields}
 use Rattle.rec_release.specs.Sweep.{AreUnbuffered}
 use Rattle.rec_trial.specs.Promised.{IsTrial}
 use Rattle.rec_trial.proofs.Places.{ltb_yes}
@@ -24,7 +25,7 @@ use Rattle.rec_core.specs.CyclesAt.{IsLoading, AreSeen, HasCyclesAt}
 use Rattle.rec_core.proofs.Counts.{slot_in}
 use Rattle.rec_core.proofs.CyclesTest.{sets_test_moved}
 use Rattle.rec_core.proofs.CyclesTrial.{trial_stands_moved}
-use Rattle.rec_core.proofs.CyclesWait.{move_fields, sets_stand_moved, sets_wait_moved}
+use Rattle.rec_core.proofs.CyclesWait.{sets_stand_moved, sets_wait_moved}
 
 -- no member of a set is given up
 abbrev pub AreAlive : (released : ℕ → Bool) → State → Type 0
@@ -49,7 +50,7 @@ pub none_alive : (s : State) → NoneReleased s → AreAlive (λ node. (slot_in 
 none_alive s none node pos member = unreleased_in s node (none (node - 1))
 
 -- where what is released is in the free list, whose slots are in no buffer
-pub listed_alive : (s : State) → IsKeptCounts s → ((x : ℕ) → x < length s.slots → (slot_at s x).released ≡ true → 0 < times x s.free) → AreUnbuffered s → AreAlive (λ node. (slot_in s node).released) s
+listed_alive : (s : State) → IsKeptCounts s → ((x : ℕ) → x < length s.slots → (slot_at s x).released ≡ true → 0 < times x s.free) → AreUnbuffered s → AreAlive (λ node. (slot_in s node).released) s
 listed_alive s k listed unbuffered node pos member = unreleased_in s node (λ below. go (cases_Bool (slot_at s (node - 1)).released) below)
   where
     there : 0 < times (node - 1) (concat s.sets)
@@ -81,7 +82,7 @@ loading_moved {w} {v} c m after i l = record {
   before = l.before;
   words = l.words;
   run = l.run;
-  trial = subst (λ f. IsTrial f l.before l.words l.run) (sym (move_fields m after)) l.trial;
+  trial = subst (λ f. IsTrial f l.before l.words l.run) (sym (move_fields m)) l.trial;
   at = l.at;
   stands = trial_stands_moved l.run m after i l.stands;
 }
@@ -92,8 +93,8 @@ seen_moved {w} {v} c m after i alive l = record {
   before = l.before;
   before_kept = l.before_kept;
   loads = l.loads;
-  prepares = subst (λ f. prepared.PreparedTo f l.before c.prep.at c.counts l.loads) (sym (move_fields m after)) l.prepares;
-  fields = subst (λ f. AreFields f l.loads) (sym (move_fields m after)) l.fields;
+  prepares = subst (λ f. prepared.PreparedTo f l.before c.prep.at c.counts l.loads) (sym (move_fields m)) l.prepares;
+  fields = subst (λ f. AreFields f l.loads) (sym (move_fields m)) l.fields;
   stands = sets_stand_moved c.counts l.loads m after i alive l.stands;
 }
 

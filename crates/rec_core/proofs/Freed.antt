@@ -85,7 +85,7 @@ given_up_are_gone w kept = record {
 }
 
 -- A slot that is swept next.
-pub swept_is_forgotten : (w : Core) (n slot : ℕ) → IsKept w → w.collector.phase ≡ Sweeping n → w.collector.due ≡ Some slot → IsForgotten w slot
+swept_is_forgotten : (w : Core) (n slot : ℕ) → IsKept w → w.collector.phase ≡ Sweeping n → w.collector.due ≡ Some slot → IsForgotten w slot
 swept_is_forgotten w n slot kept is due =
     let now = now_at w (Sweeping n) kept is in
     let c = w.collector.counts in

@@ -16,6 +16,10 @@ use Rattle.rec_core.specs.Kept.{HasMutators, IsLeft, IsLeftOf, one_if_sweeping, 
 use Rattle.rec_core.specs.Pending.{older_at, pending}
 use Rattle.rec_core.proofs.Counts.{accounts_with}
 
+-- what is to be accounted for once the batch of the last epoch is applied
+abbrev pub applied_pending : Core → Pending
+applied_pending w = record (pending w) { applied = w.epoch - 1 }
+
 -- what is to be accounted for with these field words and counts, once the batch of the last epoch is applied
 abbrev pub landed_pending : Core → (words : List ℕ) → State → Pending
 landed_pending w words s = record (accounts_with (pending w) words s) { applied = w.epoch - 1 }

@@ -21,6 +21,7 @@ use Rattle.rec_counts.specs.Lists.{times}
 use Rattle.rec_counts.specs.Slot.{absent, fresh}
 use Rattle.rec_counts.specs.declared.slot.Slot.{Slot}
 use Rattle.rec_counts.proofs.Times.{times-append}
+use Rattle.rec_model.proofs.Opened.{named-nones}
 use Rattle.rec_release.specs.declared.member.Member.{Member}
 use Rattle.rec_trial.specs.Promised.{unloaded}
 use Rattle.rec_trial.specs.Rules.{IsReady, released_among}
@@ -33,7 +34,8 @@ use Rattle.rec_trial.proofs.Promised.{begun_promised}
 use Rattle.rec_sigma.specs.Prepare as preps
 use Rattle.rec_sigma.specs.Prepared as prepared
 use Rattle.rec_sigma.specs.Prepared.{KeepsOthers}
-use Rattle.rec_sigma.proofs.Runs.{Came, came_first, next_set_others}
+use Rattle.rec_sigma.proofs.Runs.{Came, came_first, next_set_others, started_is}
+use Rattle.rec_sigma.proofs.Kept.{others_kept}
 use Rattle.rec_collector.specs.Followed.{prep_started, trial_begun, trial_started, with_offers}
 use Rattle.rec_collector.specs.Offered.{KeepsOffered}
 use Rattle.rec_collector.specs.Parts.{Parts}
@@ -45,7 +47,6 @@ use Rattle.rec_collector.specs.Took.{cleared, ended, moved}
 use Rattle.rec_collector.specs.declared.phase.Phase.{Phase}
 use Rattle.rec_collector.specs.declared.phase.Phase.TheVariants.{Idle, Looking, Swapping, Returning, Releasing, Freeing, Trying, Preparing, Opening, Sweeping, Closing}
 use Rattle.rec_collector.specs.declared.turn.Turn.{Turn}
-use Rattle.rec_collector.proofs.Dropping.{others_kept}
 use Rattle.rec_collector.proofs.Offering.{where_keeps, where_kept, where_ready}
 use Rattle.rec_core.specs.Config.{IsMutator}
 use Rattle.rec_core.specs.Core.{Core}
@@ -63,7 +64,7 @@ use Rattle.rec_core.proofs.CyclesWait.{sets_stand_begun, sets_wait_moved}
 use Rattle.rec_core.proofs.Cycling.{none_alive}
 use Rattle.rec_core.proofs.Landed.{landed_pending, HasLanded}
 use Rattle.rec_core.proofs.Steps.{fields_many}
-use Rattle.rec_core.proofs.Sums.{share, buffers_sum, none_named}
+use Rattle.rec_core.proofs.Sums.{share, buffers_sum}
 use Rattle.rec_core.proofs.Turns.{phase_moves}
 
 -- writes of an early epoch weigh nothing, if nothing early does
@@ -119,7 +120,7 @@ module _ (w : Core) (c : collectors.Private) (before : Phase) (some : 2 ≤ w.ep
   )
 
   cleared_names : (g : Dated → ℕ) (e : ℕ) (b : Contents) → sum_by g (dated_names e (cleared b).snapshot) ≡ 0
-  cleared_names g e b = ap (λ (ns : List ℕ). sum_by g (map (λ (slot : ℕ). dated e (slot + 1)) ns)) (none_named (length b.snapshot))
+  cleared_names g e b = ap (λ (ns : List ℕ). sum_by g (map (λ (slot : ℕ). dated e (slot + 1)) ns)) (named-nones (length b.snapshot))
 
   pub complete_drops : (words : List ℕ) (s : State) (turns collections : ℕ)
       → Drops (record (accounts_with (pending amid) words s) { applied = w.epoch - 1 }) (accounts_with (pending (complete turns collections)) words s)
@@ -155,7 +156,7 @@ module _ (w : Core) (c : collectors.Private) (before : Phase) (some : 2 ≤ w.ep
   }
 
 -- counts that count and release alike give the same accounts
-pub alike_drops : (p : Pending) (words : List ℕ) (s t : State) → ((node : ℕ) → ((slot_in t node).count ≡ (slot_in s node).count) × ((slot_in t node).released ≡ (slot_in s node).released)) → Drops (accounts_with p words s) (accounts_with p words t)
+alike_drops : (p : Pending) (words : List ℕ) (s t : State) → ((node : ℕ) → ((slot_in t node).count ≡ (slot_in s node).count) × ((slot_in t node).released ≡ (slot_in s node).released)) → Drops (accounts_with p words s) (accounts_with p words t)
 alike_drops p words s t same = record {
   writes = (λ weight. omega arith, λ weight _. refl);
   births = (λ weight. omega arith, λ weight _ _. refl);
@@ -371,7 +372,7 @@ module _ (w : Core) (crossing words : List ℕ) (q : collectors.Private) (machin
       subst (λ (x : collectors.Private). IsKept (record w { crossing = crossing; words = words; collector = x })) (sym is) whole
 
   -- the collection is complete
-  pub completes : (v : Parts) → HasLanded w crossing words v → v.freeing.at ≡ None → SetsWait (landed_pending w words v.counts) v.counts → q ≡ ended (with_parts w.collector v) → IsKept landed
+  completes : (v : Parts) → HasLanded w crossing words v → v.freeing.at ≡ None → SetsWait (landed_pending w words v.counts) v.counts → q ≡ ended (with_parts w.collector v) → IsKept landed
   completes v l unfreed waits is =
       let k = l.kept.collector in
       let c : collectors.Private = ended (with_parts w.collector v) in
@@ -432,19 +433,14 @@ module _ (w : Core) (crossing words : List ℕ) (q : collectors.Private) (machin
       go (PreparesOn.sweeps_next none some g) = goes_on v Opening l (record { way = refl; still = refl; applied = refl; older = refl; stands = λ s. refl; between = tt; some = tt }) (waits none) g.after
       go (PreparesOn.completes none free e) = completes v l unfreed (waits none) e.after
 
-  -- as a trial is over, the preparation of its sets begins
-  prep_is : (m : preps.Machine) (s : State) → preps.started_of m s ≡ preps.work_of m.fields (preps.next_set s 0)
-  unfolding preps.started_of
-  prep_is m s = refl
-
   prep_others : (m : preps.Machine) (s : State) → KeepsOthers s (preps.started_of m s).counts
-  prep_others m s = subst (λ (x : preps.Work). KeepsOthers s x.counts) (sym (prep_is m s)) (next_set_others s 0)
+  prep_others m s = subst (λ (x : preps.Work). KeepsOthers s x.counts) (sym (started_is m s)) (next_set_others s 0)
 
   pub prep_lands : (v : Parts) → HasLanded w crossing words v → v.freeing.at ≡ None → HasLanded w crossing words (prep_started v)
   prep_lands v l unfreed =
       let u : preps.Work = preps.started_of v.prep v.counts in
       let others : KeepsOthers v.counts u.counts = prep_others v.prep v.counts in
-      landed_alike l unfreed u.counts v.trial u.machine (prepared_alike v.counts u.counts others) (others_kept v.counts u.counts others l.counts) l.trial_fields (ap (λ (x : preps.Work). x.machine.fields) (prep_is v.prep v.counts) ∙ l.prep_fields)
+      landed_alike l unfreed u.counts v.trial u.machine (prepared_alike v.counts u.counts others) (others_kept v.counts u.counts others l.counts) l.trial_fields (ap (λ (x : preps.Work). x.machine.fields) (started_is v.prep v.counts) ∙ l.prep_fields)
 
   prep_seen : (v : Parts) → HasLanded w crossing words v → IsLoading (landed_pending w words v.counts) (with_parts w.collector v) → trials.next_of v.trial ≡ None
       → AreSeen (landed_pending w words (prep_started v).counts) (with_parts w.collector (prep_started v))
@@ -465,7 +461,7 @@ module _ (w : Core) (crossing words : List ℕ) (q : collectors.Private) (machin
         before = v.counts;
         before_kept = l.counts;
         loads = [];
-        prepares = subst (λ (x : preps.Work). prepared.PreparedTo w.config.fields v.counts x.machine.at x.counts []) (sym (prep_is v.prep v.counts)) came.law;
+        prepares = subst (λ (x : preps.Work). prepared.PreparedTo w.config.fields v.counts x.machine.at x.counts []) (sym (started_is v.prep v.counts)) came.law;
         fields = fields_begun w.config.fields;
         stands = sets_stand_begun p v.counts u.counts loading.run.marking others (subst (λ (y : State). IsMarked p (is_member y) (word_loaded w.config.fields loading.run.marking)) counts marked);
       }

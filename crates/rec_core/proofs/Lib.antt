@@ -18,8 +18,6 @@ pub mod Freeing
 pub mod Landed
 pub mod Landings
 pub mod Loads
-pub mod LogStamps
-pub mod Machines
 pub mod Moves
 pub mod Offering
 pub mod OpenedMutators
@@ -30,13 +28,13 @@ pub mod Preparing
 pub mod Reach
 pub mod Releasing
 pub mod Rest
+pub mod Row
 pub mod Rules
 pub mod Runs
 pub mod Scans
 pub mod SetTests
 pub mod Shapes
 pub mod Showing
-pub mod Stamps
 pub mod Steps
 pub mod Sums
 pub mod Sweeping

@@ -62,12 +62,13 @@ use Rattle.rec_core.specs.Pending.{older_at, writes_in, writes_of}
 use Rattle.rec_core.specs.declared.config.Config.{Config}
 use Rattle.rec_core.proofs.Batches.{none_of}
 use Rattle.rec_core.proofs.Landings.{early_writes}
-use Rattle.rec_core.proofs.LogStamps.{word_stamp}
+use Rattle.rec_mutator.proofs.LogStamps.{word_stamp}
 use Rattle.rec_core.proofs.Rules.{epoch_of_stamp}
 use Rattle.rec_core.proofs.Runs.{given_is, move_kept}
 use Rattle.rec_core.proofs.Steps.{actor_of, in_list}
 use Rattle.rec_core.proofs.Sums.{buffers_sum, writes_more, writes_same}
-use Rattle.rec_core.proofs.Turns.{now_at, same_boxes}
+use Rattle.rec_core.proofs.Turns.{now_at}
+use Rattle.rec_core.proofs.Shapes.{same_boxes}
 
 -- what the writes in a buffer weigh
 abbrev wrote : (Write → ℕ) → Contents → ℕ
@@ -356,8 +357,7 @@ op_goes w v _ epoch place slots fields mutators is names = absurd names
 
 -- a turn of the collector
 module _ (w : Core) (op : Op) (kept : IsKept w) (named : ◌≡◌ {A = Option Op} (collectors_next.next_of w.collector) (Some op)) where
-  abbrev c : collectors.Private
-  c = w.collector
+  open w use {collector as c}
 
   abbrev found : ℕ
   found = cell (cells_of w) op

@@ -16,11 +16,12 @@ use Rattle.rec_model.proofs.Sums.{sum_at-set, sum_by-map, sum_by-flat_map}
 use Rattle.rec_model.proofs.Weights.{only_if_self, one_if_self}
 use Rattle.rec_log.specs.declared.contents.Contents.{Contents}
 use Rattle.rec_log.specs.declared.entry.Entry.TheVariants as entries
+use Rattle.rec_model.proofs.Opened.{named-nones}
 use Rattle.rec_mutator.specs.Private.{Private, register}
 use Rattle.rec_core.specs.Core.{Core, mutator, box, spare_of, nobody, with_mutator}
 use Rattle.rec_core.specs.Pending.{Filed, filed, code, writes_in, births_in, dated_names, dated_all, epoch_at, buffers, snapshots_of, registers_of, older_at, pending}
 use Rattle.rec_core.specs.declared.config.Config.{Config}
-use Rattle.rec_core.proofs.Sums.{share, buffers_sum, own_sum, registers_sum, register_sum, writes_more, writes_same, births_more, births_same, names_most, names_all, none_named}
+use Rattle.rec_core.proofs.Sums.{share, buffers_sum, own_sum, registers_sum, register_sum, writes_more, writes_same, births_more, births_same, names_most, names_all}
 
 -- the node of a word is that of its target
 pub code_target : (word : ℕ) → code (target_of word) ≡ node_of word
@@ -48,7 +49,7 @@ has_register w t r there within =
     )
 
 -- a mutator with the same log, in the same epoch, leaves all buffers as they are
-pub same_buffers : (w : Core) (t : ℕ) (q : Private) → q.log ≡ (mutator w t).log → epoch_at q ≡ epoch_at (mutator w t) → buffers (with_mutator w t q) ≡ buffers w
+same_buffers : (w : Core) (t : ℕ) (q : Private) → q.log ≡ (mutator w t).log → epoch_at q ≡ epoch_at (mutator w t) → buffers (with_mutator w t q) ≡ buffers w
 same_buffers w t q log epoch =
     let file : Private → Filed = λ p. filed (epoch_at p) p.log in
     let same : file q ≡ file (mutator w t) = ap (λ (e : ℕ). filed e q.log) epoch ∙ ap (filed (epoch_at (mutator w t))) log in
@@ -171,7 +172,7 @@ birth_moves w t r slot label q there within inside free registers epoch log =
 
 -- the spare buffer names nothing
 pub spare_names : (config : Config) (epoch : ℕ) → dated_names epoch (spare_of config).snapshot ≡ []
-spare_names config epoch = ap (map (λ (slot : ℕ). dated epoch (slot + 1))) (none_named config.registers)
+spare_names config epoch = ap (map (λ (slot : ℕ). dated epoch (slot + 1))) (named-nones config.registers)
 
 -- Mutator t leaves its epoch for the requested one: its registers are written as a snapshot into its log, which goes into its
 -- mailbox, and the spare there becomes its log. Null in the snapshot is left out of the accounts afterwards.

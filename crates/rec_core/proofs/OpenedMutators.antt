@@ -6,23 +6,16 @@ use Rattle.std.proofs.lemmas.List.Elements.{All-cons, All-replicate}
 use Rattle.rec_word.specs.Word.{IsTarget}
 use Rattle.rec_model.specs.Heap.{opening}
 use Rattle.rec_model.specs.Sight.{StandsFor, opening_sight}
-use Rattle.rec_model.proofs.Opened.{opening_stands}
+use Rattle.rec_model.proofs.Opened.{opening_stands, nulls_at}
 use Rattle.rec_mutator.specs.Private.{Private, IsMachine}
 use Rattle.rec_core.specs.Config.{IsConfig, IsMutator}
 use Rattle.rec_core.specs.Core.{sight, mutator, nobody, opened, opened_mutator, opened_mutators}
 use Rattle.rec_core.specs.declared.config.Config.{Config}
 
--- a list of one value, within and past its end
-pub free_at : (n s : ℕ) → slice_index_or {A = ℕ} (replicate n 0) s 0 ≡ 0
-free_at n s = elim (cases_lt s n) [
-  | inl there ↦ get_or-replicate n s 0 0 there
-  | inr past ↦ get_or_past (replicate n 0) s 0 (subst (λ m. m ≤ s) (sym (length-replicate n 0)) past)
-]
-
 -- a header at opening
 pub small_header : (slots s : ℕ) → slice_index_or {A = ℕ} (1 ∷ replicate (slots - 1) 0) s 0 ≤ 2 ^ 32
 small_header slots zero = lit≤ tt
-small_header slots (suc s) = let free : slice_index_or {A = ℕ} (replicate (slots - 1) 0) s 0 ≡ 0 = free_at (slots - 1) s in omega arith
+small_header slots (suc s) = let free : slice_index_or {A = ℕ} (replicate (slots - 1) 0) s 0 ≡ 0 = nulls_at (slots - 1) s in omega arith
 
 -- the registers of a mutator at opening
 abbrev own_opened : Config → List (Option ℕ)

@@ -14,7 +14,7 @@ use Rattle.rec_model.specs.Opened.{IsOpening}
 use Rattle.rec_model.specs.Pending.{Write, Dated, dated}
 use Rattle.rec_model.proofs.Beginning.{opening_accounted}
 use Rattle.rec_model.proofs.Consequences.{opening_uncounted}
-use Rattle.rec_model.proofs.Opened.{opening_sound}
+use Rattle.rec_model.proofs.Opened.{opening_sound, named-nones, nulls_at}
 use Rattle.rec_model.proofs.Sums.{sum_at-replicate_none, sum_by-flat_map}
 use Rattle.rec_log.specs.declared.contents.Contents.{Contents}
 use Rattle.rec_counts.specs.Counts.{State, slot_at, IsKept as IsKeptCounts}
@@ -36,8 +36,8 @@ use Rattle.rec_core.specs.declared.config.Config.{Config}
 use Rattle.rec_core.proofs.Actors.{spare_buffer}
 use Rattle.rec_core.proofs.Batches.{none_of}
 use Rattle.rec_core.proofs.CyclesWait.{sets_wait_none}
-use Rattle.rec_core.proofs.OpenedMutators.{free_at, small_header, registers_opened, length-opened, opened_at, registers_many, machine_opened as mutator_opened}
-use Rattle.rec_core.proofs.Sums.{share, log_share, buffers_sum, none_named}
+use Rattle.rec_core.proofs.OpenedMutators.{small_header, registers_opened, length-opened, opened_at, registers_many, machine_opened as mutator_opened}
+use Rattle.rec_core.proofs.Sums.{share, log_share, buffers_sum}
 use Rattle.rec_core.proofs.Turns.{AddsNothing, writes_nothing, births_nothing, snapshots_nothing}
 
 -- a mutator as it is opened
@@ -60,7 +60,7 @@ actor_kept config t is there =
     record {
       own = own_kept config t is there;
       log = spare_buffer config config.first_epoch;
-      unwritten = none_named config.registers;
+      unwritten = named-nones config.registers;
       mailbox = spare_buffer config (config.first_epoch - 1);
       handshake = (record { epoch = refl; word = omega arith; settled = tt }, refl);
     }
@@ -148,7 +148,7 @@ older_sum {Y} g f config nothing =
 one_named : (g : Dated → ℕ) (epoch : ℕ) (config : Config) → sum_by g (dated_names epoch (collectors.first_registers config.registers)) ≡ g (dated epoch 1)
 one_named g epoch config = omega (
   arith,
-  ap (λ (ns : List ℕ). sum_by g (dated epoch 1 ∷ map (λ (slot : ℕ). dated epoch (slot + 1)) ns)) (none_named (config.registers - 1)),
+  ap (λ (ns : List ℕ). sum_by g (dated epoch 1 ∷ map (λ (slot : ℕ). dated epoch (slot + 1)) ns)) (named-nones (config.registers - 1)),
   sum_by-cons g (dated epoch 1) [],
 )
 
@@ -223,7 +223,7 @@ module _ (config : Config) (is : IsConfig config) where
   not_wrong : (x : ℕ) → is_wrong_register last config.first_epoch (dated config.first_epoch x) ≡ 0
   not_wrong x = grind (arith, nat_tests, some_epoch)
 
-  pub pending_opens : IsOpening (pending start) config.first_epoch config.mutators
+  pending_opens : IsOpening (pending start) config.first_epoch config.mutators
   pending_opens = record {
     applied = omega (arith, some_epoch);
     requested = refl;
@@ -247,7 +247,7 @@ module _ (config : Config) (is : IsConfig config) where
       free_header (suc zero) more = absurd (omega (arith, more))
       free_header (suc (suc n)) more =
           let before : suc (suc n) - 1 ≡ suc n = omega arith in
-          ap (λ i. slice_index_or start.headers i 0) before ∙ free_at (config.slots - 1) n
+          ap (λ i. slice_index_or start.headers i 0) before ∙ nulls_at (config.slots - 1) n
 
       unreleased : (node : ℕ) → 0 < node → (slice_index_or start.collector.counts.slots (node - 1) fresh).released ≡ false
       unreleased zero pos = absurd (omega (arith, pos))

@@ -4,7 +4,7 @@ use Rattle.std.specs.List.{concat}
 use Rattle.std.proofs.Math.Nat.{div-add-mod, mul_comm}
 use Rattle.std.proofs.lemmas.List.{append-nil, map-append}
 use Rattle.std.proofs.lemmas.Nat.{div-mul-add, mod-mul-add}
-use Rattle.rec_word.specs.Place.{place_of}
+use Rattle.rec_word.specs.Place.{place_of, places_of}
 use Rattle.rec_word.specs.declared.op.Op.{Op}
 use Rattle.rec_word.specs.declared.op.Op.TheVariants as ops
 use Rattle.rec_log.specs.declared.contents.Contents.{Contents}
@@ -13,6 +13,7 @@ use Rattle.rec_counts.specs.Lists.{one, times}
 use Rattle.rec_counts.specs.Slot.{is_in}
 use Rattle.rec_counts.specs.declared.slot.Slot.{Slot}
 use Rattle.rec_counts.proofs.Times.{one-same}
+use Rattle.rec_counts.proofs.Keeping.{set_there}
 use Rattle.rec_release.specs.CycleFree.{op_at as freeing_op_at, next_of as freeing_next}
 use Rattle.rec_release.specs.Release.{op_at as release_op_at, next_of as release_next}
 use Rattle.rec_release.specs.Sweep.{op_at as sweep_op_at, next_of as sweep_next}
@@ -21,9 +22,9 @@ use Rattle.rec_release.specs.declared.member.Member.{Member}
 use Rattle.rec_sigma.specs.declared.at.At.{At}
 use Rattle.rec_sigma.specs.Prepare as preps
 use Rattle.rec_sigma.specs.Prepare.{members_of}
-use Rattle.rec_sigma.specs.Prepared.{Load, PreparedTo, loaded_at, place_loaded, places_left, places_of, seen, sets_begun}
+use Rattle.rec_sigma.specs.Prepared.{Load, PreparedTo, loaded_at, place_loaded, places_left, seen, sets_begun}
 use Rattle.rec_sigma.proofs.Cyclics.{seen-nil}
-use Rattle.rec_sigma.proofs.Runs.{Came, came_first, came_on}
+use Rattle.rec_sigma.proofs.Runs.{Came, came_first, came_on, started_is}
 use Rattle.rec_collector.specs.Followed.{prep_started, with_loaded, with_tried}
 use Rattle.rec_collector.specs.Given.{IsGiven}
 use Rattle.rec_collector.specs.Next.{next_of, next_at, is_spent}
@@ -35,7 +36,7 @@ use Rattle.rec_collector.specs.Took.{step_of}
 use Rattle.rec_collector.specs.Touched.{IsOrangeIn, named_by, tried_at, WasUntouched}
 use Rattle.rec_collector.specs.declared.phase.Phase.{Phase}
 use Rattle.rec_collector.specs.declared.phase.Phase.TheVariants.{Idle, Looking, Swapping, Returning, Releasing, Freeing, Trying, Preparing, Opening, Sweeping, Closing}
-use Rattle.rec_collector.proofs.Outside as machine_outside
+
 use Rattle.rec_collector.proofs.Touched.{begins_on, has_on, loads_on, LoadsOn, outside_later, untouched, untouched_on, untouched_same}
 use Rattle.rec_core.specs.Cells.{cell}
 use Rattle.rec_core.specs.Core.{Core, cells_of, box}
@@ -54,8 +55,7 @@ use Rattle.rec_core.proofs.Turns.{now_at}
 
 -- a turn with an operation, up to the next trial
 module _ (w : Core) (op : Op) (kept : IsKept w) (later : IsKept (turned_by w op (cell (cells_of w) op))) (named : ◌≡◌ {A = Option Op} (next_of w.collector) (Some op)) where
-  abbrev c : collectors.Private
-  c = w.collector
+  open w use {collector as c}
 
   abbrev found : ℕ
   found = cell (cells_of w) op
@@ -164,7 +164,7 @@ done_members : (fields : ℕ) (before s : State) (loads : List Load) → IsKeptC
 done_members fields before s loads k p number x o =
     let was : (slot_at before x).set ≡ Some number = ap (λ (v : Slot). v.set) (sym (p.others.slots x)) ∙ o.0 in
     let same : (slot_at s x).count ≡ (slot_at before x).count = ap (λ (v : Slot). v.count) (p.others.slots x) in
-    record { member = was; fewer = omega (arith, same); cyclic = omega (arith, p.members number x (machine_outside.set_there before number x k was) was, same) }
+    record { member = was; fewer = omega (arith, same); cyclic = omega (arith, p.members number x (set_there before number x k was) was, same) }
 
 -- a preparation that took in a word goes on, or is done
 stage_of : (fields : ℕ) (before : State) (v : Core) (loads : List Load) (u : Parts) → IsKeptCounts before → LoadsOn u v.collector → Came fields before (record { machine = v.collector.prep; counts = v.collector.counts }) loads → Stage fields before v loads
@@ -189,8 +189,7 @@ load_same w op a fields its below =
 
 -- a turn
 module _ (w : Core) (before : State) (loads : List Load) (tells : IsKeptCounts before) (kept : IsKept w) (later : IsKept (turned w)) (same : tried_in (turned w) ≡ tried_in w) where
-  abbrev fields : ℕ
-  fields = w.config.fields
+  open w use {config.{fields}}
 
   abbrev more : List Load
   more = loads ++ fields_loaded fields (loaded_in w Move.Turns)
@@ -273,10 +272,6 @@ renewed fields b s at p = record {
   unseen = λ number x l. seen-nil s number x;
   others = record { slots = λ x. refl; many = refl; roots = refl; sets = refl; marked = refl; work = refl; zeros = refl; free = refl };
 }
-
-started_is : (m : preps.Machine) (s : State) → preps.started_of m s ≡ preps.work_of m.fields (preps.next_set s 0)
-unfolding preps.started_of
-started_is m s = refl
 
 begun_stage : (w : Core) → IsKept w → IsKept (turned w) → BeginsPreparing w → Stage w.config.fields (turned w).collector.counts (turned w) []
 unfolding next_of next_at

@@ -13,13 +13,13 @@ use Rattle.rec_sigma.specs.Prepare.{Machine, Work, next_of, op_at, took_of}
 use Rattle.rec_sigma.specs.Prepared.{KeepsOthers, LoadsWithin, loaded_at}
 use Rattle.rec_sigma.proofs.Bounds.{names_place}
 use Rattle.rec_sigma.proofs.Runs.{Came, came_on}
+use Rattle.rec_sigma.proofs.Kept.{others_kept}
 use Rattle.rec_collector.specs.Followed.{with_loaded}
 use Rattle.rec_collector.specs.Kept as collector_kept
 use Rattle.rec_collector.specs.Private.{Private, parts_of, with_parts}
 use Rattle.rec_collector.specs.Step.{PreparesOn}
 use Rattle.rec_collector.specs.declared.phase.Phase.TheVariants.{Preparing}
 use Rattle.rec_collector.specs.declared.turn.Turn.{Turn}
-use Rattle.rec_collector.proofs.Dropping.{others_kept}
 use Rattle.rec_collector.proofs.Preparing.{took_others}
 use Rattle.rec_core.specs.Core.{Core}
 use Rattle.rec_core.specs.Cycles.{AreFields, SetsStand}

@@ -95,11 +95,11 @@ released_unreached w x slot kept released from same =
     true≢false (sym released ∙ ap (λ s. (slot_at w.collector.counts s).released) (sym same) ∙ stays)
 
 -- nothing changed
-pub keeps_all : (s : Sight) → KeepsReached s s
+keeps_all : (s : Sight) → KeepsReached s s
 keeps_all s = record { fields = refl; registers = refl; reached = λ slot from. (refl, refl); others = λ slot. inl refl }
 
 -- a field of a slot that isn't reached
-pub keeps_others_field : (w : Core) (x f : ℕ) → IsKept w → f < w.config.fields → (slot_at w.collector.counts x).released ≡ true → KeepsReached (sight w) (sight (record w { words = slice_set w.words (place_of x f w.config.fields) 0 }))
+keeps_others_field : (w : Core) (x f : ℕ) → IsKept w → f < w.config.fields → (slot_at w.collector.counts x).released ≡ true → KeepsReached (sight w) (sight (record w { words = slice_set w.words (place_of x f w.config.fields) 0 }))
 keeps_others_field w x f kept within released =
     record {
       fields = refl;
@@ -109,7 +109,7 @@ keeps_others_field w x f kept within released =
     }
 
 -- the header of a slot that isn't reached
-pub keeps_others_header : (w : Core) (x : ℕ) → IsKept w → (slot_at w.collector.counts x).released ≡ true → KeepsReached (sight w) (sight (record w { headers = slice_set w.headers x 0 }))
+keeps_others_header : (w : Core) (x : ℕ) → IsKept w → (slot_at w.collector.counts x).released ≡ true → KeepsReached (sight w) (sight (record w { headers = slice_set w.headers x 0 }))
 keeps_others_header w x kept released =
     record {
       fields = refl;
@@ -148,7 +148,7 @@ turned_at_keeps w op Releasing kept is named = go w.collector.release.at refl
     go None at = let not_so : ◌≡◌ {A = Option Op} (Some op) None = sym named ∙ ap (release_op_at w.collector.release.fields) at in absurd (cc)
     go (Some a) at =
         let its : op ≡ ops.ClearField (place_of a.slot a.field w.config.fields) = some_op op (ops.ClearField (place_of a.slot a.field w.config.fields)) (sym named ∙ ap (release_op_at w.collector.release.fields) at ∙ ap (λ n. Some (ops.ClearField (place_of a.slot a.field n))) kept.collector.fields) in
-        subst (λ o. KeepsReached (sight w) (sight (turned_at w (Some o)))) (sym its) (keeps_others_field w a.slot a.field kept (releasing.within w a kept is at) (releasing.held w a kept is at).released)
+        subst (λ o. KeepsReached (sight w) (sight (turned_at w (Some o)))) (sym its) (keeps_others_field w a.slot a.field kept (releasing.may_empty w a kept is at).within (releasing.may_empty w a kept is at).released)
 turned_at_keeps w op Freeing kept is named = go w.collector.freeing.at refl
   where
     go : (x : Option Member) → w.collector.freeing.at ≡ x → KeepsReached (sight w) (sight (turned_at w (Some op)))
@@ -156,7 +156,7 @@ turned_at_keeps w op Freeing kept is named = go w.collector.freeing.at refl
     go (Some a) at =
         let fields : w.collector.freeing.fields ≡ w.config.fields = kept.collector.machine.freeing_fields ∙ kept.collector.fields in
         let its : op ≡ ops.ClearField (place_of a.slot a.field w.config.fields) = some_op op (ops.ClearField (place_of a.slot a.field w.config.fields)) (sym named ∙ ap (freeing_op_at w.collector.freeing.fields) at ∙ ap (λ n. Some (ops.ClearField (place_of a.slot a.field n))) fields) in
-        subst (λ o. KeepsReached (sight w) (sight (turned_at w (Some o)))) (sym its) (keeps_others_field w a.slot a.field kept (freeing.within w a kept is at) (freeing.released w a kept is at))
+        subst (λ o. KeepsReached (sight w) (sight (turned_at w (Some o)))) (sym its) (keeps_others_field w a.slot a.field kept (freeing.may_empty w a kept is at).within (freeing.may_empty w a kept is at).released)
 turned_at_keeps w op Trying kept is named = let (place, its) = loads_child w.collector.trial op (sym named) in load_keeps w op place its
 turned_at_keeps w op Preparing kept is named = let (a, at, its) = loads_due w.collector.prep op named in load_keeps w op (place_of a.slot a.field w.collector.prep.fields) its
 turned_at_keeps w op Opening kept is named = subst (λ o. KeepsReached (sight w) (sight (turned_at w (Some o)))) (sym (some_op op ops.AddFreed (sym named))) (keeps_all (sight w))
@@ -196,9 +196,6 @@ keeps_stands_by heap before after number keeps by =
       registers = by.registers ∙ ap (map (map (option_map number))) (sym keeps.registers);
       fields = λ s later. let from = reached_before after before keeps s later in by.fields s from ∙ ap (map (field_of number)) (sym (keeps.reached s from).1);
     }
-
-pub keeps_stands : (heap : Heap) (before after : Sight) → KeepsReached before after → StandsFor heap before → StandsFor heap after
-keeps_stands heap before after keeps (number, by) = (number, keeps_stands_by heap before after number keeps by)
 
 -- after an operation of a mutator a taken slot has the header that it had: a claim of it fails
 taken_keeps : (w : Core) (p : Private) (op : Op) (slot : ℕ) → IsOwnOp p op → IsTaken (sight w) slot → slice_index_or (with_cell (cells_of w) op (written op (cell (cells_of w) op))).headers slot 0 ≡ slice_index_or w.headers slot 0

@@ -11,13 +11,13 @@ use Rattle.rec_release.specs.declared.at.At.{At}
 use Rattle.rec_release.specs.Release.{Machine, IsHeld, IsReady, emptied, next_of, started_of}
 use Rattle.rec_release.proofs.Keeping.{emptied_sets, ready_emptied}
 use Rattle.rec_release.proofs.TakenOff.{KeepsMost, off_most, ready_off}
+use Rattle.rec_release.proofs.Kept.{emptied_kept}
 use Rattle.rec_collector.specs.Clearing.{IsClearing}
 use Rattle.rec_collector.specs.Followed.{with_released}
 use Rattle.rec_collector.specs.Private as collectors
 use Rattle.rec_collector.specs.Private.{parts_of}
 use Rattle.rec_collector.specs.declared.phase.Phase.TheVariants.{Releasing}
 use Rattle.rec_collector.proofs.Clearing.{released_clear}
-use Rattle.rec_collector.proofs.Counting.{emptied_kept}
 use Rattle.rec_collector.proofs.Goings.{released_by, released_last, released_more}
 use Rattle.rec_core.specs.Core.{Core}
 use Rattle.rec_core.specs.CyclesAt.{HasCyclesAt}
@@ -31,73 +31,51 @@ use Rattle.rec_core.proofs.Turns.{now_at}
 use Rattle.rec_core.proofs.Zeros.{HasCome, cleared, listed_come, zeros_come}
 
 module _ (w : Core) (a : At) (kept : IsKept w) (phase : w.collector.phase ≡ Releasing) (at : w.collector.release.at ≡ Some a) where
-  abbrev c : collectors.Private
-  c = w.collector
-
-  abbrev place : ℕ
-  place = place_of a.slot a.field w.config.fields
-
-  abbrev word : ℕ
-  word = slice_index_or w.words place 0
-
-  abbrev words : List ℕ
-  words = slice_set w.words place 0
+  open w use {collector as c}
+  open (taken.emptied_at w a.slot a.field) use {place, word, words}
 
   clearing : IsClearing (parts_of c)
   clearing = (now_at w Releasing kept phase).0.clearing
 
-  pub held : IsHeld c.counts a
+  held : IsHeld c.counts a
   held = subst (λ o. IfSome o (IsHeld c.counts)) at clearing.release.held
 
-  pub below : a.slot < w.config.slots
-  below = omega (arith, held.in_range, kept.collector.slots)
-
-  pub within : a.field < w.config.fields
-  within = let due : a.field < c.release.fields = subst (λ o. IfSome o (λ (b : At). b.field < c.release.fields)) at clearing.release.field in omega (arith, due, kept.collector.fields)
+  -- its field may be emptied
+  pub may_empty : taken.MayEmpty w a.slot a.field
+  may_empty =
+      let due : a.field < c.release.fields = subst (λ o. IfSome o (λ (b : At). b.field < c.release.fields)) at clearing.release.field in
+      record {
+        kept = kept;
+        unswept = subst (IsUnswept w.epoch) (sym phase) (record { way = refl; still = refl; applied = refl; older = refl; stands = λ s. refl; between = tt; some = tt });
+        below = omega (arith, held.in_range, kept.collector.slots);
+        within = omega (arith, due, kept.collector.fields);
+        released = held.released;
+      }
 
   unfreed : c.freeing.at ≡ None
   unfreed = elim clearing.one [ inl still ↦ let none : ◌≡◌ {A = Option At} None (Some a) = sym still ∙ at in absurd (cc) | inr none ↦ none ]
-
-  unswept : IsUnswept w.epoch c.phase
-  unswept = subst (λ q. IsUnswept w.epoch q) (sym phase) (record { way = refl; still = refl; applied = refl; older = refl; stands = λ s. refl; between = tt; some = tt })
-
-  pub inside : place < length w.words
-  inside = taken.inside w a.slot a.field kept unswept below within held.released
-
-  -- the slot at work was given up, and the field is one of its own
-  pub held_released : (a.field < w.config.fields) × ((slot_at c.counts a.slot).released ≡ true)
-  held_released = (within, held.released)
-
-  -- the field that is exchanged next
-  pub exchanges : next_of c.release ≡ Some (ClearField place)
-  unfolding next_of
-  exchanges = rw (at, kept.collector.fields) refl
-
-  pub counted_word : IfSome (target_of word) (λ slot. 0 < (slot_at c.counts slot).count)
-  counted_word = taken.counted_word w a.slot a.field kept unswept below within held.released
 
   abbrev lowers : Bool
   lowers = c.release.lowers
 
   -- the counts then
   abbrev off : State
-  off = taken.off w a.slot a.field kept unswept below within held.released lowers
+  off = taken.off w a.slot a.field may_empty lowers
 
-  most : KeepsMost c.counts off
-  most = off_most lowers c.counts (target_of word)
+  open (taken.most w a.slot a.field may_empty lowers) use {free as still_free, released as still_released, slots as still_slots}
 
   -- what is left to be emptied: less by this field
   left : (x f : ℕ) → x < w.config.slots → f < w.config.fields → (slot_at off x).released ≡ true → IsLeft (Some (record { slot = a.slot; field = a.field + 1 })) x f ⊎ (slice_index_or words (place_of x f w.config.fields) 0 ≡ 0)
-  left x f there in_range is = elim (kept.collector.emptied x f there in_range (sym (most.released x) ∙ is)) [
+  left x f there in_range is = elim (kept.collector.emptied x f there in_range (sym (still_released x) ∙ is)) [
     | inl due ↦
         let own : IsLeft (Some a) x f = subst (λ o. IsLeft o x f) at due in
         elim (cases_eq f a.field) [
-          | inl same ↦ inr (ap (λ n. slice_index_or words n 0) (ap (λ n. place_of n f w.config.fields) own.0 ∙ ap (λ n. place_of a.slot n w.config.fields) same) ∙ taken.own_empty w a.slot a.field kept unswept below within held.released)
+          | inl same ↦ inr (ap (λ n. slice_index_or words n 0) (ap (λ n. place_of n f w.config.fields) own.0 ∙ ap (λ n. place_of a.slot n w.config.fields) same) ∙ taken.own_empty w a.slot a.field may_empty)
           | inr other ↦ inl (own.0, omega (arith, own.1))
         ]
     | inr rest ↦ elim rest [
       | inl due ↦ absurd (subst (λ o. IsLeftOf c.counts.work o x f) unfreed due)
-      | inr none ↦ inr (taken.still_empty w a.slot a.field kept unswept below within held.released x f none)
+      | inr none ↦ inr (taken.still_empty w a.slot a.field may_empty x f none)
     ]
   ]
 
@@ -105,8 +83,8 @@ module _ (w : Core) (a : At) (kept : IsKept w) (phase : w.collector.phase ≡ Re
       → ((x f : ℕ) → x < w.config.slots → f < w.config.fields → (slot_at off x).released ≡ true → IsLeft m.at x f ⊎ (slice_index_or words (place_of x f w.config.fields) 0 ≡ 0))
       → HasCome w w.crossing words (record (parts_of c) { counts = off; release = m })
   came m fields due =
-      taken.off_comes w a.slot a.field kept unswept below within held.released lowers m c.freeing fields (kept.collector.machine.freeing_fields ∙ kept.collector.fields)
-      (λ none. taken.off_uncounted w a.slot a.field kept unswept below within held.released lowers (kept.uncounted none)) clearing.release.ready.zeros (subst (HasCyclesAt (pending w) c) phase kept.cycles)
+      taken.off_comes w a.slot a.field may_empty lowers m c.freeing fields (kept.collector.machine.freeing_fields ∙ kept.collector.fields)
+      (λ none. taken.off_uncounted w a.slot a.field may_empty lowers (kept.uncounted none)) clearing.release.ready.zeros (subst (HasCyclesAt (pending w) c) phase kept.cycles)
       (λ x f there in_range is. elim (due x f there in_range is) [ inl l ↦ inl l | inr none ↦ inr (inr none) ])
 
   -- the next field of the slot follows
@@ -119,9 +97,9 @@ module _ (w : Core) (a : At) (kept : IsKept w) (phase : w.collector.phase ≡ Re
   next last =
       let none : Machine = record { fields = c.release.fields; at = None; lowers = lowers } in
       let h = came none kept.collector.fields (λ x f there in_range is. elim (left x f there in_range is) [ inl due ↦ absurd (omega (arith, due.1, in_range, last, kept.collector.fields)) | inr e ↦ inr e ]) in
-      let ready : IsReady (emptied off a.slot) = ready_emptied off a.slot (most.released a.slot ∙ held.released) (ready_off lowers c.counts (target_of word) clearing.release.ready) in
-      let many : length off.slots ≡ w.config.slots = most.slots ∙ kept.collector.slots in
-      zeros_come lowers (listed_come (emptied off a.slot) h unfreed (emptied_alike off a.slot) (emptied_sets off a.slot) ready.free (emptied_kept off a.slot (omega (arith, below, many)) (ap (times a.slot) most.free ∙ held.unlisted) h.landed.counts)) refl unfreed ready
+      let ready : IsReady (emptied off a.slot) = ready_emptied off a.slot (still_released a.slot ∙ held.released) (ready_off lowers c.counts (target_of word) clearing.release.ready) in
+      let many : length off.slots ≡ w.config.slots = still_slots ∙ kept.collector.slots in
+      zeros_come lowers (listed_come (emptied off a.slot) h unfreed (emptied_alike off a.slot) (emptied_sets off a.slot) ready.free (emptied_kept off a.slot (omega (arith, may_empty.below, many)) (ap (times a.slot) still_free ∙ held.unlisted) h.landed.counts)) refl unfreed ready
 
   released_comes : HasCome w w.crossing words (with_released (parts_of c) word)
   released_comes = released_by (HasCome w w.crossing words) (parts_of c) word
@@ -134,4 +112,4 @@ module _ (w : Core) (a : At) (kept : IsKept w) (phase : w.collector.phase ≡ Re
 
   -- where the release comes to
   pub released_lands : HasCleared w w.crossing words (with_released (parts_of c) word)
-  released_lands = cleared released_comes (released_clear (parts_of c) word (now_at w Releasing kept phase).1 counted_word kept.collector.machine.counts clearing)
+  released_lands = cleared released_comes (released_clear (parts_of c) word (now_at w Releasing kept phase).1 (taken.counted_word w a.slot a.field may_empty) kept.collector.machine.counts clearing)

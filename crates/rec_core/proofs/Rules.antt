@@ -3,6 +3,7 @@ use Rattle.std.proofs.Common.{◌≡◌, inl, inr, ℕ, ◌+◌, ◌-◌, ◌*�
 use Rattle.std.proofs.lemmas.Bool.{false≢true, cases_eq}
 use Rattle.std.proofs.lemmas.List.{length-set, get_or-set_same, get_or-set_other}
 use Rattle.std.proofs.lemmas.List.Elements.{All-set}
+use Rattle.std.proofs.lemmas.Option.{same_Some}
 use Rattle.rec_word.specs.Place.{place_of}
 use Rattle.rec_word.specs.Word.{target_of, stamp_of}
 use Rattle.rec_word.specs.declared.stamps.Stamp.{Stamp}
@@ -17,6 +18,7 @@ use Rattle.rec_model.proofs.Standing.{register_sound, birth_sound, write_sound}
 use Rattle.rec_log.specs.declared.contents.Contents.{Contents}
 use Rattle.rec_log.specs.declared.entry.Entry.{Entry}
 use Rattle.rec_log.specs.declared.entry.Entry.TheVariants as entries
+use Rattle.rec_model.specs.Asking.{plain}
 use Rattle.rec_mutator.specs.Causes.{is_giving}
 use Rattle.rec_mutator.specs.Private.{Private, register, word_for, next_stamp}
 use Rattle.rec_mutator.specs.Step.{Step, Decides, HasRoom}
@@ -24,7 +26,7 @@ use Rattle.rec_mutator.specs.declared.phase.Phase as phases
 use Rattle.rec_mutator.specs.declared.phase.Phase.TheVariants as at
 use Rattle.rec_mutator.specs.declared.work.Work.TheVariants as works
 use Rattle.rec_mutator.proofs.Steps.{TakesNone}
-use Rattle.rec_mutator.specs.Took.{plain}
+use Rattle.rec_mutator.proofs.Refusals.{at_phase}
 use Rattle.rec_core.specs.Cells.{cell}
 use Rattle.rec_core.specs.Config.{IsMutator}
 use Rattle.rec_core.specs.Core.{Core, cells_of, sight, mutator, box, crossing_of, with_mutator}
@@ -32,12 +34,12 @@ use Rattle.rec_core.specs.Kept.{HasLabelAt, HasPassed, IsScanning, entries_made,
 use Rattle.rec_core.specs.Moves.{performed}
 use Rattle.rec_core.specs.Pending.{code, epoch_at, pending}
 use Rattle.rec_core.proofs.Actors.{one_entry, epoch_here}
-use Rattle.rec_core.proofs.LogStamps.{word_stamp}
-use Rattle.rec_core.proofs.Machines.{at_phase, has_room, register_target}
+use Rattle.rec_mutator.proofs.LogStamps.{word_stamp}
+use Rattle.rec_mutator.proofs.Machines.{has_room, register_target}
 use Rattle.rec_core.proofs.Moves.{code_target, home_of, has_register, put_moves, birth_moves}
 use Rattle.rec_core.proofs.Places.{place_within}
 use Rattle.rec_core.proofs.Shapes.{after_cross, after_field, after_header, after_epoch, after_freed, after_probe, after_swap, after_claim}
-use Rattle.rec_core.proofs.Stamps.{target_of-packed}
+use Rattle.rec_word.proofs.Packing.{target_of-packed}
 use Rattle.rec_core.proofs.Steps.{Makes, actor_of, in_list, register_taken, target_taken, taken_slot, held_stays, emptied_stays, changed_kept, moved_accounts, answers, answered_actor, unchanged, sets, goes_on, about_to_cross, registers_stay, registers_set, Answers}
 
 -- the epoch of a word is that of its stamp
@@ -145,14 +147,11 @@ module _ {w : Core} {t word : ℕ} {op : Op} {q : Private} (m : Makes w t word o
       (All-set (λ header. header ≤ 2 ^ 32) w.headers slot (label + 1) (omega arith) m.kept.labels) m.kept.collector (a.scans w.config.slots w.freed (slice_set w.headers slot (label + 1))) (more slot label inside)
       (entries_grow (slice_set p.registers reg (Some slot)) (entries.Born slot ∷ []) a)
       (subst (λ (rss : List (List (Option ℕ))). IsSound (record seen { registers = rss })) (sym (registers_set w t reg (Some slot) q a.registers_are))
-      (register_sound seen t reg (Some slot) (λ n is. subst (IsTaken seen) (some_same slot n is) taken) (birth_sound (sight w) slot (label + 1) inside empty m.kept.sound)))
+      (register_sound seen t reg (Some slot) (λ n is. subst (IsTaken seen) (same_Some slot n is) taken) (birth_sound (sight w) slot (label + 1) inside empty m.kept.sound)))
       (moved_accounts w _ m.kept (Move.birth (birth_moves w t reg slot label q (in_list w t m.kept m.is) within inside empty a.registers_are a.same a.log)) tt tt)
     where
       kept_headers : length w.headers ≡ w.config.slots
       kept_headers = m.kept.headers
-
-      some_same : (x y : ℕ) → ◌≡◌ {A = Option ℕ} (Some x) (Some y) → x ≡ y
-      some_same x y is = cc
 
       more : (x header : ℕ) → x < length w.headers → (s : ℕ) → 0 < slice_index_or w.headers s 0 → 0 < slice_index_or (slice_set w.headers x (header + 1)) s 0
       more x header inside s some = elim (cases_eq s x) [

@@ -34,6 +34,7 @@ use Rattle.rec_core.proofs.Opening.{opened_kept}
 use Rattle.rec_core.proofs.Preparing.{loads_due, seen_there}
 use Rattle.rec_core.proofs.Releasing as releasing
 use Rattle.rec_core.proofs.Trying.{loads_child, loaded_leads}
+use Rattle.rec_core.proofs.Taken as taken
 use Rattle.rec_core.proofs.Turning.{mutator_at, some_op, rule_kept}
 use Rattle.rec_core.proofs.Turns.{now_at}
 
@@ -72,7 +73,7 @@ given_at w op Releasing kept is named = go w.collector.release.at refl
         let place : ℕ = place_of a.slot a.field w.config.fields in
         let its : op ≡ ops.ClearField place = some_op op (ops.ClearField place) (sym named ∙ ap (release_op_at w.collector.release.fields) at ∙ ap (λ n. Some (ops.ClearField (place_of a.slot a.field n))) kept.collector.fields) in
         let found : cell (cells_of w) op ≡ slice_index_or w.words place 0 = ap (cell (cells_of w)) its in
-        subst (λ n. IfSome (target_of n) (λ slot. 0 < (slot_at w.collector.counts slot).count)) (sym found) (releasing.counted_word w a kept is at)
+        subst (λ n. IfSome (target_of n) (λ slot. 0 < (slot_at w.collector.counts slot).count)) (sym found) (taken.counted_word w a.slot a.field (releasing.may_empty w a kept is at))
 given_at w op Freeing kept is named = go w.collector.freeing.at refl
   where
     go : (x : Option Member) → w.collector.freeing.at ≡ x → IfSome (target_of (cell (cells_of w) op)) (λ slot. 0 < (slot_at w.collector.counts slot).count)
@@ -82,7 +83,7 @@ given_at w op Freeing kept is named = go w.collector.freeing.at refl
         let fields : w.collector.freeing.fields ≡ w.config.fields = kept.collector.machine.freeing_fields ∙ kept.collector.fields in
         let its : op ≡ ops.ClearField place = some_op op (ops.ClearField place) (sym named ∙ ap (freeing_op_at w.collector.freeing.fields) at ∙ ap (λ n. Some (ops.ClearField (place_of a.slot a.field n))) fields) in
         let found : cell (cells_of w) op ≡ slice_index_or w.words place 0 = ap (cell (cells_of w)) its in
-        subst (λ n. IfSome (target_of n) (λ slot. 0 < (slot_at w.collector.counts slot).count)) (sym found) (freeing.counted_word w a kept is at)
+        subst (λ n. IfSome (target_of n) (λ slot. 0 < (slot_at w.collector.counts slot).count)) (sym found) (taken.counted_word w a.slot a.field (freeing.may_empty w a kept is at))
 given_at w op Trying kept is named =
     let (place, its) = loads_child w.collector.trial op (sym named) in
     subst (λ o. LeadsToUnreleased w.collector.counts (cell (cells_of w) o)) (sym its) (loaded_leads w kept is place (named ∙ ap (λ o. Some o) its))
@@ -102,7 +103,7 @@ unfolding IsGiven next_of
 given_is w op kept named = given_at w op w.collector.phase kept refl named
 
 -- the collector's turn
-turned_kept : (w : Core) → IsKept w → IsKept (turned w)
+pub turned_kept : (w : Core) → IsKept w → IsKept (turned w)
 turned_kept w kept = go (next_of w.collector) refl
   where
     go : (x : Option Op) → next_of w.collector ≡ x → IsKept (turned_at w x)

@@ -9,14 +9,17 @@ use Rattle.rec_counts.specs.Groups.{last_set}
 use Rattle.rec_counts.specs.Lists.{one, times}
 use Rattle.rec_counts.specs.declared.slot.Slot.{Slot}
 use Rattle.rec_counts.proofs.Times.{times-nil, times-cons}
+use Rattle.rec_counts.proofs.Front.{nothing_first}
 use Rattle.rec_release.specs.CycleFree.{IsFreeable, first_member, given_up}
 use Rattle.rec_release.specs.Release.{IsReady}
-use Rattle.rec_release.proofs.Giving.{given_many, given_released, given_work, nothing_first}
+use Rattle.rec_release.proofs.Giving.{given_many, given_released, given_work, first_none}
+use Rattle.rec_release.proofs.Kept.{given_kept}
 use Rattle.rec_sigma.specs.Refurbish.{IsRefusable, LastRefurbished}
 use Rattle.rec_sigma.specs.Settling.{refurbished_of}
 use Rattle.rec_sigma.specs.Judged.{AreOrange, cyclic_sum}
 use Rattle.rec_sigma.proofs.Refused.{same_count, same_released}
 use Rattle.rec_sigma.proofs.Renewals.{refurbished_last}
+use Rattle.rec_sigma.proofs.Kept.{refurbished_kept}
 use Rattle.rec_collector.specs.Parts.{Parts}
 use Rattle.rec_collector.specs.Private as collectors
 use Rattle.rec_collector.specs.Private.{with_parts}
@@ -27,7 +30,6 @@ use Rattle.rec_collector.specs.Testing.{counted_by, is_busy, last_tested}
 use Rattle.rec_collector.specs.declared.phase.Phase.TheVariants.{Releasing, Freeing}
 use Rattle.rec_collector.specs.declared.turn.Turn.{Turn}
 use Rattle.rec_collector.proofs.Clearing.{clear_ready, last_clear, last_freeable, last_refusable, refused_clear}
-use Rattle.rec_collector.proofs.Dropping.{given_kept, refurbished_kept}
 use Rattle.rec_collector.proofs.Goings.{last_by, last_given}
 use Rattle.rec_collector.proofs.Tested.{is_last_tested}
 use Rattle.rec_collector.proofs.Verdicts.{verdict_passed}
@@ -36,7 +38,7 @@ use Rattle.rec_core.specs.Kept.{IsLeftOf, IsKept}
 use Rattle.rec_core.specs.Pending.{pending}
 use Rattle.rec_core.proofs.Counts.{alike_slots, counted_slot, none_release, set_release}
 use Rattle.rec_core.proofs.CyclesTest.{IsJudged, set_given_up, sets_test_alike, sets_test_refurbished}
-use Rattle.rec_core.proofs.Landed.{landed_pending, HasLanded, HasCleared}
+use Rattle.rec_core.proofs.Landed.{landed_pending, HasLanded, HasCleared, applied_pending}
 use Rattle.rec_core.proofs.Landings.{goes_on, trial_begins}
 use Rattle.rec_core.proofs.Zeros.{HasCome, AreEmpty, cleared, empty_uncounted, landed_empty, some_fields, zeros_come}
 
@@ -64,21 +66,12 @@ first_left members x f some = go (slice_get members 0) refl
     go None is = absurd (omega (arith, some, ap (times x) (nothing_first members is), times-nil x))
     go (Some y) is = let at = stands x members some in (at.place, omega arith, at.within, at.is, λ e. omega arith)
 
--- where nothing comes next, there are no members
-none_first : (first : Option ℕ) → first_member first ≡ None → first ≡ None
-none_first None is = refl
-none_first (Some x) is = cc
-
 -- Nothing is at work, and a set is left.
 module _ (w : Core) (crossing words : List ℕ) (v : Parts) (h : HasCleared w crossing words v) (unfreed : v.freeing.at ≡ None) (still : v.release.at ≡ None) (some : 0 < length v.counts.sets) where
-  abbrev s : State
-  s = v.counts
+  open v use {counts as s}
 
   abbrev number : ℕ
   number = length s.sets - 1
-
-  abbrev p : Pending
-  p = record (pending w) { applied = w.epoch - 1 }
 
   l : HasLanded w crossing words v
   l = h.landed
@@ -105,7 +98,7 @@ module _ (w : Core) (crossing words : List ℕ) (v : Parts) (h : HasCleared w cr
   -- a set that passes is given up
   given_comes : AreOrange s number → cyclic_sum s number ≡ 0 → IsFreeable s → HasCome w crossing words (last_given v)
   given_comes orange none f =
-      let given = set_given_up (landed_pending w words s) (landed_pending w words (given_up s)) s number l.accounted h.tests (judged orange none) (set_release p words s) in
+      let given = set_given_up (landed_pending w words s) (landed_pending w words (given_up s)) s number l.accounted h.tests (judged orange none) (set_release (applied_pending w) words s) in
       let released : (x : ℕ) → one (slot_at (given_up s) x).released ≡ one (slot_at s x).released + times x (last_set s.sets) = λ x. given_released s x l.counts f in
       let many : length (given_up s).slots ≡ w.config.slots = given_many s ∙ l.slots in
       let before : (x : ℕ) → (slot_at (given_up s) x).released ≡ true → ((slot_at s x).released ≡ true) ⊎ (0 < times x (last_set s.sets))
@@ -124,8 +117,8 @@ module _ (w : Core) (crossing words : List ℕ) (v : Parts) (h : HasCleared w cr
           mutators = l.mutators;
           accounted = given.0;
           uncounted = λ unstarted.
-              let no_members : last_set s.sets ≡ [] = nothing_first (last_set s.sets) (none_first (slice_get (last_set s.sets) 0) unstarted) in
-              empty_uncounted p words w.config.slots (given_up s) (some_fields l) many places (λ x f below within is. elim (before x is) [
+              let no_members : last_set s.sets ≡ [] = nothing_first (last_set s.sets) (first_none (slice_get (last_set s.sets) 0) unstarted) in
+              empty_uncounted (applied_pending w) words w.config.slots (given_up s) (some_fields l) many places (λ x f below within is. elim (before x is) [
                 | inl old ↦ empty x f below within old
                 | inr member ↦ absurd (omega (arith, member, ap (times x) no_members, times-nil x))
               ]) given.0;
@@ -152,7 +145,7 @@ module _ (w : Core) (crossing words : List ℕ) (v : Parts) (h : HasCleared w cr
       let t : State = refurbished_of s in
       let r : LastRefurbished s t = refurbished_last s l.counts refusable in
       let same = alike_slots s t r.many (λ x. same_count r x) (λ x. same_released r x) in
-      let alike = sets_test_alike (landed_pending w words s) (landed_pending w words t) s l.accounted h.tests (none_release p words s t same) in
+      let alike = sets_test_alike (landed_pending w words s) (landed_pending w words t) s l.accounted h.tests (none_release (applied_pending w) words s t same) in
       record {
         landed = record {
           kept = l.kept;
@@ -177,7 +170,7 @@ module _ (w : Core) (crossing words : List ℕ) (v : Parts) (h : HasCleared w cr
       }
 
   -- where the test of the last set comes to
-  pub last_lands : HasCleared w crossing words (last_tested v)
+  last_lands : HasCleared w crossing words (last_tested v)
   last_lands =
       let wide : 0 < v.release.fields = omega (arith, some_fields l, l.fields) in
       let freed : 0 < v.freeing.fields = omega (arith, some_fields l, l.freeing_fields) in

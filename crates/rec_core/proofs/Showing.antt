@@ -6,7 +6,7 @@ use Rattle.rec_word.specs.Place.{place_of}
 use Rattle.rec_word.specs.Word.{target_of, stamp_of}
 use Rattle.rec_word.specs.declared.op.Op.{Op}
 use Rattle.rec_word.specs.declared.stamps.Stamp.{Stamp}
-use Rattle.rec_model.specs.Asking.{null_or_object, same, yes_or_no}
+use Rattle.rec_model.specs.Asking.{null_or_object, same, yes_or_no, plain}
 use Rattle.rec_model.specs.Explained.{IsExplained}
 use Rattle.rec_model.specs.Heap.{register}
 use Rattle.rec_model.specs.LegalOrder.{is_birth, word_left}
@@ -23,13 +23,13 @@ use Rattle.rec_mutator.specs.Causes.{HasCause, is_refusal, is_giving}
 use Rattle.rec_mutator.specs.Private.{Private, register as register_of, word_for, is_busy, work_of, work_at, answer_of, answer_at}
 use Rattle.rec_mutator.specs.Step.{Step, Decides, GoesOn}
 use Rattle.rec_mutator.specs.Next.{next_of}
-use Rattle.rec_mutator.specs.Took.{plain, moved, took_of, step_of, left_of, IsBetween}
+use Rattle.rec_mutator.specs.Took.{moved, took_of, step_of, left_of, IsBetween}
 use Rattle.rec_mutator.specs.declared.made.Made.{Made}
 use Rattle.rec_mutator.specs.declared.made.Made.TheVariants as makes
 use Rattle.rec_mutator.specs.declared.phase.Phase as phases
 use Rattle.rec_mutator.specs.declared.phase.Phase.TheVariants as at
 use Rattle.rec_mutator.specs.declared.work.Work.TheVariants as works
-use Rattle.rec_mutator.proofs.Refusals.{answer_cause, read_made, compare_made}
+use Rattle.rec_mutator.proofs.Refusals.{answer_cause, read_made, compare_made, at_phase}
 use Rattle.rec_mutator.proofs.Steps.{TakesNone, step_made, learnt_made, step_between}
 use Rattle.rec_core.specs.Cells.{cell}
 use Rattle.rec_core.specs.Config.{IsMutator}
@@ -39,8 +39,7 @@ use Rattle.rec_core.specs.Moves.{performed, stepped, found_by}
 use Rattle.rec_core.specs.Shown.{IsFilled, may_answer, entries_of, sight_told, sight_after_get, sight_after_put, Leaves, IsDecided, IsShown, probed_at}
 use Rattle.rec_core.specs.Unfinished.{OnlyWorks, IsQuiet, HasFound}
 use Rattle.rec_core.proofs.Crossings.{takes, left_same}
-use Rattle.rec_core.proofs.LogStamps.{word_stamp}
-use Rattle.rec_core.proofs.Machines.{at_phase}
+use Rattle.rec_mutator.proofs.LogStamps.{word_stamp}
 use Rattle.rec_core.proofs.Rules.{word_found, probe_found, scanned, leads_to}
 use Rattle.rec_core.proofs.Shapes.{after_cross, after_field, after_header, after_epoch, after_freed, after_probe, after_swap, after_claim, after_take, after_give}
 use Rattle.rec_core.proofs.Steps.{actor_of, in_list, own_register, registers_stay, registers_set}

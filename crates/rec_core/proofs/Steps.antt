@@ -48,7 +48,7 @@ use Rattle.rec_core.specs.Pending.{code, epoch_at, slot_of, pending}
 use Rattle.rec_core.specs.declared.config.Config.{Config}
 use Rattle.rec_core.proofs.Actors.{own_stepped, settled_here, epoch_here, behind_due, actor_stays, mutator_changes}
 use Rattle.rec_core.proofs.Cycling.{cycles_moved, machine_alive}
-use Rattle.rec_core.proofs.Machines.{IsBox}
+use Rattle.rec_mutator.proofs.Machines.{IsBox}
 use Rattle.rec_core.proofs.Moves.{same_pending, register_moves}
 
 -- A step of mutator `t` that takes no mailbox, of a heap with its collector.
@@ -75,7 +75,7 @@ its_box w t kept is =
     record { snapshot = a.mailbox.snapshot ∙ sym a.own.registers; capacity = a.mailbox.capacity ∙ sym a.own.capacity; entries = a.mailbox.few }
 
 -- what is seen of a mutator's registers
-pub own_registers : (w : Core) (t : ℕ) → registers_of (sight w).registers t ≡ (mutator w t).registers
+own_registers : (w : Core) (t : ℕ) → registers_of (sight w).registers t ≡ (mutator w t).registers
 own_registers w t = get_or-map (λ (p : Private). p.registers) w.mutators (t - 1) nobody
 
 pub own_register : (w : Core) (t r : ℕ) → register_in (sight w).registers t r ≡ register (mutator w t) r
@@ -226,7 +226,7 @@ moved_accounts w v kept move after among = record {
 }
 
 -- all that is pending stayed
-pub stayed_accounts : (w : Core) (v : Pending) → IsKept w → v ≡ pending w → HasAccounts w v
+stayed_accounts : (w : Core) (v : Pending) → IsKept w → v ≡ pending w → HasAccounts w v
 stayed_accounts w v kept same = subst (HasAccounts w) (sym same) (record { accounted = kept.accounted; uncounted = kept.uncounted; cycles = kept.cycles })
 
 -- no more entries where epoch and log stay

@@ -124,8 +124,3 @@ pub names_all : (g : Dated → ℕ) (epoch : ℕ) (xs : List (Option ℕ)) → (
 names_all g epoch [] null = refl
 names_all g epoch (None ∷ xs) null = omega (arith, null epoch, sum_by-cons g (dated epoch 0) (dated_all epoch xs), names_all g epoch xs null)
 names_all g epoch (Some n ∷ xs) null = omega (arith, sum_by-cons g (dated epoch (n + 1)) (dated_names epoch xs), sum_by-cons g (dated epoch (n + 1)) (dated_all epoch xs), names_all g epoch xs null)
-
--- nothing is named by registers that are all null
-pub none_named : (n : ℕ) → named (replicate n None) ≡ []
-none_named zero = refl
-none_named (suc n) = none_named n

@@ -7,6 +7,7 @@ use Rattle.std.proofs.lemmas.Bool.{false≢true, cases_eq, cond-false, cond-true
 use Rattle.std.proofs.lemmas.List.{length-set, length-map, get_or-set_same, get_or-set_other, get_or_default, get_or-replicate, length-replicate, length-take, length-drop, ext_get_or}
 use Rattle.std.proofs.lemmas.List.Sums.{sum_by-append, sum_by-cons}
 use Rattle.std.proofs.lemmas.List.Elements.{All-set}
+use Rattle.std.proofs.lemmas.Option.{same_Some}
 use Rattle.rec_word.specs.Place.{place_of}
 use Rattle.rec_model.specs.Accounted.{IsAccounted, HasUncountedReleased, is_dead, names, is_node}
 use Rattle.rec_model.specs.Heap.{roots}
@@ -17,8 +18,7 @@ use Rattle.rec_model.specs.Sums.{one_if_same, sum_at}
 use Rattle.rec_model.specs.Sight.{Sight, IsTaken, IsSound, words_of, targets_of, sight_with_header}
 use Rattle.rec_model.proofs.Consequences.{move_uncounted, released_count}
 use Rattle.rec_model.proofs.Moving.{move_accounted}
-use Rattle.rec_model.proofs.Members.{is_in-cons}
-use Rattle.rec_model.proofs.Names.{is_in_cases}
+use Rattle.rec_model.proofs.Members.{is_in-cons, is_in-cases}
 use Rattle.rec_model.proofs.Seen.{field_target}
 use Rattle.rec_model.proofs.Standing.{word_in}
 use Rattle.rec_model.proofs.Sums.{get_or-le-sum_at}
@@ -175,7 +175,7 @@ root_named n [] there = absurd (false≢true there)
 root_named n (p ∷ ps) there =
     let rest : List Dated = flat_map (λ (q : Private). dated_all (epoch_at q) q.registers) ps in
     let parts = sum_by-append (is_node (n + 1)) (dated_all (epoch_at p) p.registers) rest in
-    elim (is_in_cases n (named p.registers) (roots (map (λ (q : Private). q.registers) ps)) there) [
+    elim (is_in-cases n (named p.registers) (roots (map (λ (q : Private). q.registers) ps)) there) [
       | inl own ↦ omega (arith, parts, own_named (epoch_at p) p.registers own)
       | inr others ↦ omega (arith, parts, root_named n ps others)
     ]
@@ -187,10 +187,6 @@ root_named n (p ∷ ps) there =
       | inl same ↦ omega (arith, sum_by-cons (is_node (n + 1)) (dated e (m + 1)) (dated_all e rs), ap (λ k. one_if_same (n + 1) (k + 1)) same, one_if_self (n + 1))
       | inr rest ↦ omega (arith, sum_by-cons (is_node (n + 1)) (dated e (m + 1)) (dated_all e rs), own_named e rs rest)
     ]
-
--- one value in two options
-some_same : (a b : ℕ) → ◌≡◌ {A = Option ℕ} (Some a) (Some b) → a ≡ b
-some_same a b is = cc
 
 -- The slot of a node that was given up and emptied, and that has no count, is freed.
 slot_freed : (p : Pending) (headers : List ℕ) (s : State) (x : ℕ) → x < length s.slots → x < length headers → (slot_at s x).released ≡ true → (slot_at s x).count ≡ 0
@@ -242,20 +238,14 @@ slot_freed p headers s x there header released none empty =
 
 -- A slot of the free list is swept: its header is 0 and its count one.
 module _ (w : Core) (done : ℕ) (x : ℕ) (kept : IsKept w) (phase : w.collector.phase ≡ Sweeping done) (first : w.collector.due ≡ Some x) where
-  abbrev c : collectors.Private
-  c = w.collector
+  open w use {collector as c}
+  open kept use {headers, collector.{slots}}
 
   sweeping : collector_kept.IsAt c (Sweeping done)
   sweeping = now_at w (Sweeping done) kept phase
 
   listed : 0 < times x c.counts.free
   listed = first_in c.counts.free x (sym sweeping.2 ∙ first)
-
-  slots : length c.counts.slots ≡ w.config.slots
-  slots = kept.collector.slots
-
-  headers : length w.headers ≡ w.config.slots
-  headers = kept.headers
 
   pub swept_below : x < w.config.slots
   swept_below = let there : x < length c.counts.slots = in_range_once (length c.counts.slots) c.counts.free x kept.collector.machine.counts.free_once listed in omega (arith, slots)
@@ -388,7 +378,7 @@ module _ (w : Core) (done : ℕ) (x : ℕ) (kept : IsKept w) (phase : w.collecto
       go : (xs : List ℕ) → slice_get xs 0 ≡ Some x → times y xs ≤ one (nat_lt y (length c.counts.slots)) → 0 < times y (drop 1 xs) → y ≢ x
       go [] is few there_ same = absurd (omega (arith, there_, times-nil y))
       go (z ∷ zs) is few there_ same =
-          let head : z ≡ x = some_same z x is in
+          let head : z ≡ x = same_Some z x is in
           omega (arith, few, there_, times-cons y z zs, ap (λ n. one (y == n)) head, ap (λ n. one (n == x)) same, one-same x, one-le (nat_lt y (length c.counts.slots)))
 
   -- it is in no set: what is in the free list is in no buffer

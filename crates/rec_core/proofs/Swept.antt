@@ -37,7 +37,7 @@ use Rattle.rec_core.proofs.Trying.{loads_child}
 use Rattle.rec_core.proofs.Turning.{some_op, freed_more}
 
 -- a slot that was given up holds an object
-pub released_taken : (w : Core) (x : ℕ) → IsKept w → x < w.config.slots → (slot_at w.collector.counts x).released ≡ true → IsTaken (sight w) x
+released_taken : (w : Core) (x : ℕ) → IsKept w → x < w.config.slots → (slot_at w.collector.counts x).released ≡ true → IsTaken (sight w) x
 released_taken w x kept below released = go (slice_index_or w.headers x 0) refl
   where
     one_less : x + 1 - 1 ≡ x

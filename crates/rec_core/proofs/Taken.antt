@@ -23,41 +23,46 @@ use Rattle.rec_release.specs.CycleFree as frees
 use Rattle.rec_release.specs.Release as releases
 use Rattle.rec_release.specs.TakenOff.{taken_off}
 use Rattle.rec_release.proofs.TakenOff.{KeepsMost, off_most}
+use Rattle.rec_release.proofs.Kept.{off_kept}
 use Rattle.rec_collector.specs.Private as collectors
 use Rattle.rec_collector.specs.Private.{parts_of}
-use Rattle.rec_collector.proofs.Counting.{off_kept}
 use Rattle.rec_core.specs.Core.{Core, sight}
 use Rattle.rec_core.specs.Cycles.{SetsTest}
 use Rattle.rec_core.specs.Kept.{IsLeft, IsLeftOf, IsKept}
 use Rattle.rec_core.specs.Pending.{code, pending}
+use Rattle.rec_core.specs.Turn.{word_at, words_without}
 use Rattle.rec_core.proofs.Counts.{slot_in, accounts_with, clears, counted_slot}
 use Rattle.rec_core.proofs.CyclesLess.{less_taken_off}
 use Rattle.rec_core.proofs.CyclesTest.{sets_test_taken}
-use Rattle.rec_core.proofs.Landed.{landed_pending}
+use Rattle.rec_core.proofs.Landed.{landed_pending, applied_pending}
 use Rattle.rec_core.proofs.Landings.{IsUnswept}
 use Rattle.rec_core.proofs.Moves.{code_target, home_of}
 use Rattle.rec_core.proofs.Places.{place_within}
 use Rattle.rec_core.proofs.Turns.{phase_moves}
 use Rattle.rec_core.proofs.Zeros.{HasCome}
 
-module _ (w : Core) (slot field : ℕ) (kept : IsKept w) (phase : IsUnswept w.epoch w.collector.phase) (below : slot < w.config.slots) (within : field < w.config.fields) (released : (slot_at w.collector.counts slot).released ≡ true) where
-  abbrev c : collectors.Private
-  c = w.collector
+-- the place of a field that the collector empties, the word there, and the words without it
+pub record Emptied : Type 0 where
+  pub place : ℕ
+  pub word : ℕ
+  pub words : List ℕ
 
-  abbrev place : ℕ
-  place = place_of slot field w.config.fields
+abbrev pub emptied_at : Core → (slot field : ℕ) → Emptied
+emptied_at w slot field = record { place = place_of slot field w.config.fields; word = word_at w slot field; words = words_without w slot field }
 
-  abbrev word : ℕ
-  word = slice_index_or w.words place 0
+-- a field may be emptied: it is one of a slot that was given up, and no sweep runs
+pub record MayEmpty (w : Core) (slot field : ℕ) : Type 0 where
+  pub kept : IsKept w
+  pub unswept : IsUnswept w.epoch w.collector.phase
+  pub below : slot < w.config.slots
+  pub within : field < w.config.fields
+  pub released : (slot_at w.collector.counts slot).released ≡ true
 
-  abbrev words : List ℕ
-  words = slice_set w.words place 0
-
-  slots : length c.counts.slots ≡ w.config.slots
-  slots = kept.collector.slots
-
-  headers : length w.headers ≡ w.config.slots
-  headers = kept.headers
+module _ (w : Core) (slot field : ℕ) (may : MayEmpty w slot field) where
+  open w use {collector as c}
+  open may use {kept, unswept as phase, below, within, released}
+  open (emptied_at w slot field) use {place, word, words}
+  open may.kept use {headers, collector.{slots}}
 
   pub inside : place < length w.words
   inside = place_within w.config.fields (length w.headers) (length w.words) slot field kept.sound.places (omega (arith, below, headers)) within
@@ -114,20 +119,20 @@ module _ (w : Core) (slot field : ℕ) (kept : IsKept w) (phase : IsUnswept w.ep
     | inr other ↦ get_or-set_other w.words place (place_of x f w.config.fields) 0 0 other ∙ none
   ]
 
-  abbrev p : Pending
-  p = record (pending w) { applied = w.epoch - 1 }
-
-  same_then : pending w ≡ accounts_with p w.words c.counts
+  same_then : pending w ≡ accounts_with (applied_pending w) w.words c.counts
   same_then = ap (λ (n : ℕ). let q : Pending = record (pending w) { applied = n } in q) phase.applied
 
   -- the counts then
   abbrev pub off : Bool → State
   off lowers = taken_off lowers c.counts (target_of word)
 
-  rule : (lowers : Bool) → Clears (accounts_with p w.words c.counts) (accounts_with p words (off lowers)) place
-  rule lowers = clears lowers p c.counts place (omega (arith, kept.config.some_epoch, kept.collector.begun, phase.way)) inside home_released counted_target
+  pub most : (lowers : Bool) → KeepsMost c.counts (off lowers)
+  most lowers = off_most lowers c.counts (target_of word)
 
-  accounted : IsAccounted (accounts_with p w.words c.counts)
+  rule : (lowers : Bool) → Clears (accounts_with (applied_pending w) w.words c.counts) (accounts_with (applied_pending w) words (off lowers)) place
+  rule lowers = clears lowers (applied_pending w) c.counts place (omega (arith, kept.config.some_epoch, kept.collector.begun, phase.way)) inside home_released counted_target
+
+  accounted : IsAccounted (accounts_with (applied_pending w) w.words c.counts)
   accounted = subst IsAccounted same_then kept.accounted
 
   -- what is released stays uncounted
@@ -146,7 +151,6 @@ module _ (w : Core) (slot field : ℕ) (kept : IsKept w) (phase : IsUnswept w.ep
   pub off_comes : (lowers : Bool) (m : releases.Machine) (n : frees.Machine) → m.fields ≡ w.config.fields → n.fields ≡ w.config.fields → (n.at ≡ None → HasUncountedReleased (landed_pending w words (off lowers))) → AreZeros c.counts
       → SetsTest (pending w) c.counts → IsLeftBy lowers m n → HasCome w w.crossing words (record (parts_of c) { counts = off lowers; release = m; freeing = n })
   off_comes lowers m n release_fields freeing_fields uncounted zeros tests left =
-      let most : KeepsMost c.counts (off lowers) = off_most lowers c.counts (target_of word) in
       record {
         landed = record {
           kept = kept;
@@ -158,15 +162,15 @@ module _ (w : Core) (slot field : ℕ) (kept : IsKept w) (phase : IsUnswept w.ep
           uncounted = uncounted;
           sound = sound;
           many_words = length-set w.words place 0;
-          slots = most.slots ∙ slots;
+          slots = (most lowers).slots ∙ slots;
           fields = release_fields;
           freeing_fields = freeing_fields;
           trial_fields = kept.collector.machine.trial_fields ∙ kept.collector.fields;
           prep_fields = kept.collector.machine.prep_fields ∙ kept.collector.fields;
           counts = off_kept lowers c.counts (target_of word) counted_word zeros kept.collector.machine.counts;
-          listed = λ x there. most.released x ∙ kept.collector.listed x (subst (λ xs. 0 < times x xs) most.free there);
+          listed = λ x there. (most lowers).released x ∙ kept.collector.listed x (subst (λ xs. 0 < times x xs) (most lowers).free there);
           emptied = left;
         };
-        tests = sets_test_taken (accounts_with p w.words c.counts) (landed_pending w words (off lowers)) c.counts (off lowers) place (rule lowers) (less_taken_off lowers c.counts (target_of word)) accounted
+        tests = sets_test_taken (accounts_with (applied_pending w) w.words c.counts) (landed_pending w words (off lowers)) c.counts (off lowers) place (rule lowers) (less_taken_off lowers c.counts (target_of word)) accounted
             (subst (λ q. SetsTest q c.counts) same_then tests);
       }

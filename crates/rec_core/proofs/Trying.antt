@@ -114,7 +114,7 @@ module _ (w : Core) (place : ℕ) (kept : IsKept w) (still : w.collector.release
             absurd (false≢true (sym lives.0 ∙ free))
       ]
 
-  pub unreleased_target : LeadsToUnreleased w.collector.counts word
+  unreleased_target : LeadsToUnreleased w.collector.counts word
   unreleased_target = go (target_of word) refl
     where
       go : (t : Option ℕ) → target_of word ≡ t → IfSome t (λ slot. (slot_at w.collector.counts slot).released ≡ false)

@@ -35,7 +35,8 @@ use Rattle.rec_core.proofs.Releasing.{released_lands}
 use Rattle.rec_core.proofs.SetTests.{clears_kept}
 use Rattle.rec_core.proofs.Sweeping.{began_kept, ended_kept, swept_kept, IsStillSweeping}
 use Rattle.rec_core.proofs.Trying.{loads_child, trying_kept}
-use Rattle.rec_core.proofs.Turns.{now_at, same_boxes, requested_kept, gathered_kept, returned_kept}
+use Rattle.rec_core.proofs.Turns.{now_at, requested_kept, gathered_kept, returned_kept}
+use Rattle.rec_core.proofs.Shapes.{same_boxes}
 
 -- one operation in two options
 pub some_op : (x y : Op) → ◌≡◌ {A = Option Op} (Some x) (Some y) → x ≡ y

@@ -31,10 +31,7 @@ use Rattle.rec_core.proofs.CyclesWait.{sets_wait_moved}
 use Rattle.rec_core.proofs.Cycling.{AreAliveAt, machine_alive}
 use Rattle.rec_core.proofs.Moves.{spare_names}
 use Rattle.rec_core.proofs.Sums.{share, buffers_sum}
-
--- the mailbox that nobody takes is as it was
-pub same_boxes : (w : Core) (t : ℕ) → slice_set w.boxes (t - 1) (box w t) ≡ w.boxes
-same_boxes w t = set-get_or w.boxes (t - 1) (collectors.blank 0 0)
+use Rattle.rec_core.proofs.Shapes.{same_boxes}
 
 -- a spare of the collector is one of the heap
 pub its_spare : {config : Config} {requested : ℕ} {words : List ℕ} {c : collectors.Private} → HasCollector config requested words c → collectors.spare c ≡ spare_of config
@@ -74,7 +71,7 @@ pub numbered : (w : Core) (i : ℕ) → IsKept w → i < w.config.mutators → I
 numbered w i kept below = (omega arith, omega arith)
 
 -- all mailboxes are home with spares where nobody is due
-pub all_home : (w : Core) → IsKept w → ((t : ℕ) → IsMutator w.config t → stand_at w.collector.phase t ≡ Stand.Done) → (i : ℕ) → i < length w.boxes → slice_index_or w.boxes i (collectors.blank 0 0) ≡ spare_of w.config
+all_home : (w : Core) → IsKept w → ((t : ℕ) → IsMutator w.config t → stand_at w.collector.phase t ≡ Stand.Done) → (i : ℕ) → i < length w.boxes → slice_index_or w.boxes i (collectors.blank 0 0) ≡ spare_of w.config
 all_home w kept done i below =
     let many : length w.boxes ≡ w.config.mutators = kept.mutators.mailboxes in
     let is : IsMutator w.config (i + 1) = (omega arith, omega arith) in
@@ -192,7 +189,7 @@ module _ (w : Core) (c : collectors.Private) (kept : IsKept w) (idle : w.collect
       }
 
 -- a turn that moves what is pending and loses nothing
-pub same_drops : (p q : Pending) → ((weight : Write → ℕ) → sum_by weight q.writes ≡ sum_by weight p.writes) → ((weight : Dated → ℕ) → sum_by weight q.births ≡ sum_by weight p.births) → ((weight : Dated → ℕ) → sum_by weight q.snapshots ≡ sum_by weight p.snapshots)
+same_drops : (p q : Pending) → ((weight : Write → ℕ) → sum_by weight q.writes ≡ sum_by weight p.writes) → ((weight : Dated → ℕ) → sum_by weight q.births ≡ sum_by weight p.births) → ((weight : Dated → ℕ) → sum_by weight q.snapshots ≡ sum_by weight p.snapshots)
     → Drops p (record p { writes = q.writes; births = q.births; snapshots = q.snapshots })
 same_drops p q writes births snapshots = record {
   writes = (λ weight. omega (arith, writes weight), λ weight _. writes weight);
@@ -226,7 +223,7 @@ stand_done : (t : ℕ) → stand_at (Looking (t + 1)) t ≡ Stand.Done
 stand_done t = cond-true (nat_lt t (t + 1)) Stand.Done Stand.Due (lt-ltb t (t + 1) (omega arith))
 
 -- all mutators, where the collector changes one's crossing word and mailbox, and moves on to another phase
-pub collector_moves : {config : Config} {requested : ℕ} {phase next : Phase} {mutators : List Private} {crossing : List ℕ} {boxes : List Contents} (t word : ℕ) (b : Contents)
+collector_moves : {config : Config} {requested : ℕ} {phase next : Phase} {mutators : List Private} {crossing : List ℕ} {boxes : List Contents} (t word : ℕ) (b : Contents)
     → HasMutators config requested phase mutators crossing boxes → IsMutator config t
     → IsActor config requested next t (slice_index_or mutators (t - 1) nobody) word b
     → ((s : ℕ) → IsMutator config s → s ≢ t → stand_at next s ≡ stand_at phase s)
@@ -399,7 +396,7 @@ module _ (w : Core) (t : ℕ) (kept : IsKept w) (phase : w.collector.phase ≡ R
   returned_home = subst (IsHandshake w.config w.epoch (mutator w t) (crossing_of w t) (box w t)) (ap (λ p. stand_at p t) phase ∙ stand_held t) (kept.mutators.each t is).handshake
 
   -- and says so
-  pub returned_actor : {next : Phase} → stand_at next t ≡ Stand.Done → IsActor w.config w.epoch next t (mutator w t) (crossing_word w.epoch Spare) (box w t)
+  returned_actor : {next : Phase} → stand_at next t ≡ Stand.Done → IsActor w.config w.epoch next t (mutator w t) (crossing_word w.epoch Spare) (box w t)
   returned_actor done =
       let a = kept.mutators.each t is in
       record {

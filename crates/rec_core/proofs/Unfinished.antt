@@ -27,7 +27,7 @@ use Rattle.rec_core.proofs.Showing.{Says, mutator_left, mutator_other, stepped_m
 use Rattle.rec_core.proofs.Steps.{actor_of, its_box}
 
 -- nothing changed
-pub works_none : (w : Core) (t : ℕ) → OnlyWorks w w t
+works_none : (w : Core) (t : ℕ) → OnlyWorks w w t
 works_none w t = record { others = ap (λ ms. let x : Core = record w { mutators = ms } in x) (sym (set-get_or w.mutators (t - 1) nobody)); own = refl }
 
 -- first these steps and then those
@@ -97,7 +97,7 @@ waits_quiet before w t first (Waits.works only found) = works_quiet before w t f
 waits_quiet before w t first (Waits.holds phase still epoch) = still
 
 -- they leave the numbers
-pub waits_config : (before w : Core) (t : ℕ) → Waits before w t → w.config ≡ before.config
+waits_config : (before w : Core) (t : ℕ) → Waits before w t → w.config ≡ before.config
 waits_config before w t (Waits.works only found) = ap (λ (x : Core). x.config) only.others
 waits_config before w t (Waits.holds phase still epoch) = still.config
 
@@ -190,7 +190,7 @@ most_at slots steps (Some (works.Command (commands.Value reg))) work some is few
 most_at slots steps (Some (works.Command (commands.Same a b))) work some is few = let one : steps ≤ 1 = few in omega arith
 most_at slots steps (Some works.Poll) work some is few = let three : steps ≤ 3 = few in omega arith
 
-pub most_steps : (w : Core) (t : ℕ) → IsKept w → IsMutator w.config t → is_busy (mutator w t) ≡ true → (mutator w t).steps ≤ w.config.slots + 2
+most_steps : (w : Core) (t : ℕ) → IsKept w → IsMutator w.config t → is_busy (mutator w t) ≡ true → (mutator w t).steps ≤ w.config.slots + 2
 most_steps w t kept is busy =
     let (work, its) = busy_work (mutator w t).phase busy in
     most_at w.config.slots (mutator w t).steps (work_of (mutator w t)) work kept.config.some_slots its (steps_limited w t kept is)

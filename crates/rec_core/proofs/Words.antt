@@ -92,7 +92,7 @@ crossing_within : (w : Core) (t n : ℕ) → IsKept w → IsMutator w.config t �
 crossing_within w t n kept is own = let all : length w.crossing ≡ w.config.mutators = kept.mutators.words in (omega (arith, is.0, own), omega (arith, is.1, own))
 
 -- what a mutator names is there
-own_within : (w : Core) (t : ℕ) (op : Op) → IsKept w → IsMutator w.config t → IsOwnOp (mutator w t) op → NamesWord (mutator w t).slots (mutator w t).fields op → IsWithin (cells_of w) op
+pub own_within : (w : Core) (t : ℕ) (op : Op) → IsKept w → IsMutator w.config t → IsOwnOp (mutator w t) op → NamesWord (mutator w t).slots (mutator w t).fields op → IsWithin (cells_of w) op
 own_within w t (ops.LoadField place) kept is own names = let o = (actor_of w t kept is).own in subst (λ n. place < n) (fields_many w (mutator w t).slots (mutator w t).fields kept o.slots o.fields) names
 own_within w t (ops.SwapField place word) kept is own names = let o = (actor_of w t kept is).own in subst (λ n. place < n) (fields_many w (mutator w t).slots (mutator w t).fields kept o.slots o.fields) names
 own_within w t (ops.LoadHeader slot) kept is own names = subst (λ n. slot < n) ((actor_of w t kept is).own.slots ∙ sym kept.headers) names
@@ -105,7 +105,7 @@ own_within w t ops.LoadFreed kept is own names = tt
 own_within w t _ kept is own names = absurd own
 
 -- registers name slots of the heap
-names_slots : (w : Core) (t : ℕ) → IsKept w → IsMutator w.config t → NamesSlots (mutator w t)
+pub names_slots : (w : Core) (t : ℕ) → IsKept w → IsMutator w.config t → NamesSlots (mutator w t)
 names_slots w t kept is = λ r slot names. subst (λ n. slot < n) (sym (actor_of w t kept is).own.slots) (taken_slot w kept slot (register_taken w kept t r slot names))
 
 -- a mailbox that waits to be swapped isn't one that doesn't
@@ -157,7 +157,7 @@ may_step w t kept is busy =
     spared (at.Finished work made) here between = none (subst TakesNone (sym here) tt)
 
 -- what the collector names is there
-collector_within : (w : Core) (op : Op) → IsKept w → collector_step.NamesWord (length w.collector.counts.slots) w.collector.release.fields (length w.collector.newer) op → IsWithin (cells_of w) op
+pub collector_within : (w : Core) (op : Op) → IsKept w → collector_step.NamesWord (length w.collector.counts.slots) w.collector.release.fields (length w.collector.newer) op → IsWithin (cells_of w) op
 collector_within w (ops.StoreEpoch e) kept names = tt
 collector_within w (ops.LookBox t e) kept names = (names.0, subst (λ n. t ≤ n) (kept.collector.mutators ∙ sym kept.mutators.words) names.1)
 collector_within w (ops.ReturnBox t e) kept names = (names.0, subst (λ n. t ≤ n) (kept.collector.mutators ∙ sym kept.mutators.words) names.1)

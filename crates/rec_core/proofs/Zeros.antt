@@ -15,8 +15,9 @@ use Rattle.rec_counts.specs.Lists.{times}
 use Rattle.rec_counts.specs.Slot.{absent}
 use Rattle.rec_counts.specs.declared.slot.Slot.{Slot}
 use Rattle.rec_counts.proofs.Times.{times-cons, one-same}
+use Rattle.rec_counts.proofs.Keeping.{unreleased_within}
 use Rattle.rec_release.specs.Release.{IsReady, first_of, started_of, without_first}
-use Rattle.rec_release.proofs.Keeping.{in_range_unreleased, released_same, work_next, next_length}
+use Rattle.rec_release.proofs.Keeping.{released_same, work_next, next_length}
 use Rattle.rec_collector.specs.Clearing.{IsClearing, IsDone}
 use Rattle.rec_collector.specs.Parts.{Parts}
 use Rattle.rec_collector.specs.Testing.{zeros_released}
@@ -79,7 +80,7 @@ next_released : (p : Pending) (words : List ℕ) (s : State) (zs : List ℕ) →
 next_released p words s [] is done ready accounted uncounted = record { accounted = accounted; uncounted = uncounted; tests = λ h. h }
 next_released p words s (z ∷ zs) is done ready accounted uncounted =
     let there : 0 < times z s.zeros = omega (arith, ap (times z) is, times-cons z z zs, one-same z) in
-    let rule = releases p words s z zs done (in_range_unreleased s z (ready.zeros.unreleased z there)) (ready.zeros.none z there) in
+    let rule = releases p words s z zs done (unreleased_within s z (ready.zeros.unreleased z there)) (ready.zeros.none z there) in
     record {
       accounted = move_accounted (Move.release rule) accounted;
       uncounted = move_uncounted (Move.release rule) accounted uncounted;
@@ -91,7 +92,7 @@ pub some_fields : {w : Core} {crossing words : List ℕ} {v : Parts} → HasLand
 some_fields l = omega (arith, l.kept.collector.machine.fields, l.kept.collector.fields)
 
 -- the collection is of the second epoch at least
-pub some_epochs : {w : Core} {crossing words : List ℕ} {v : Parts} → HasLanded w crossing words v → w.epoch - 1 + 1 ≡ w.epoch
+some_epochs : {w : Core} {crossing words : List ℕ} {v : Parts} → HasLanded w crossing words v → w.epoch - 1 + 1 ≡ w.epoch
 some_epochs l = omega (arith, l.kept.config.some_epoch, l.kept.collector.begun, l.way)
 
 -- The zeros are released.

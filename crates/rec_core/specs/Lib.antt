@@ -13,6 +13,7 @@ pub mod Pending
 pub mod Quiet
 pub mod Reach
 pub mod Resting
+pub mod Row
 pub mod Scans
 pub mod Settled
 pub mod Settling

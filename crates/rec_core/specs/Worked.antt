@@ -1,9 +1,12 @@
 -- No work that isn't finished, and a work that was made to its end, with nothing between its steps.
-use Rattle.std.specs.Prelude.{◌≡◌, ℕ, true, false}
+use Rattle.std.specs.Prelude.{◌≡◌, ◌≢◌, ℕ, true, false}
+use Rattle.rec_word.specs.Mailbox.{crossing_word}
+use Rattle.rec_word.specs.declared.mailbox.Mailbox.TheVariants.{Retired}
 use Rattle.rec_mutator.specs.Private.{is_busy}
 use Rattle.rec_mutator.specs.declared.work.Work.{Work}
+use Rattle.rec_collector.specs.declared.phase.Phase.TheVariants.{Looking}
 use Rattle.rec_core.specs.Config.{IsMutator}
-use Rattle.rec_core.specs.Core.{Core, mutator}
+use Rattle.rec_core.specs.Core.{Core, mutator, crossing_of}
 use Rattle.rec_core.specs.Moves.{begun, stepped}
 
 -- no mutator has begun a work that isn't finished
@@ -23,3 +26,8 @@ pub record IsWorked (before : Core) (t : ℕ) (work : Work) (after : Core) : Typ
   pub busy : is_busy (mutator last t) ≡ true
   pub steps : after ≡ stepped last t
   pub idle : is_busy (mutator after t) ≡ false
+
+-- the collector waits for a mutator that hasn't crossed into the requested epoch
+pub record WaitsFor (w : Core) (t : ℕ) : Type 0 where
+  pub looks : w.collector.phase ≡ Looking t
+  pub behind : crossing_of w t ≢ crossing_word w.epoch Retired

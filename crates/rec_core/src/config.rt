@@ -3,6 +3,7 @@ ghost use Rattle.rec_core.specs.Config.{IsConfig, IsFirstWrong, HasOperands};
 
 use crate::Part;
 use rec_model::Cmd;
+use rec_word::LAST_EPOCH;
 
 /// The numbers of a heap, which never change.
 #[derive(Clone, Copy, Debug, PartialEq, Eq)]
@@ -37,7 +38,7 @@ impl Config {
             Some(Part::Mutators)
         } else if !is_from_one(self.log_entries, 262_143) {
             Some(Part::LogEntries)
-        } else if !is_from_one(self.first_epoch, 16_777_215) {
+        } else if !is_from_one(self.first_epoch, LAST_EPOCH) {
             Some(Part::FirstEpoch)
         } else {
             None

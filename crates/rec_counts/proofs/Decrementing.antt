@@ -6,12 +6,12 @@ use Rattle.std.proofs.lemmas.Bool.Decides.{eqb_tells}
 use Rattle.rec_counts.specs.declared.slot.Slot.{Slot}
 use Rattle.rec_counts.specs.declared.slot.Due.{Due}
 use Rattle.rec_counts.specs.declared.slot.Due.TheVariants.{Nothing, Zero, Root}
-use Rattle.rec_counts.specs.Counts.{State, slot_at, with_slot, sent, decremented}
+use Rattle.rec_counts.specs.Counts.{State, slot_at, with_slot, sent, decremented, IsKept}
 use Rattle.rec_counts.specs.Lists.{one, times}
 use Rattle.rec_counts.specs.Rest.{KeepsRest, AreZeros, AllZeros}
 use Rattle.rec_counts.specs.Slot.{absent, lessened, lessened_if, due_of, due_if}
-use Rattle.rec_counts.proofs.Keeping.{field_kept}
-use Rattle.rec_counts.proofs.Lessening.{to_zeros}
+use Rattle.rec_counts.proofs.Keeping.{field_kept, keep_slot}
+use Rattle.rec_counts.proofs.Lessening.{to_zeros, to_roots, keep_zero, keep_root, ToNothing, to_nothing}
 use Rattle.rec_counts.proofs.Times.{times-nil, times-cons, times-append, times_push, one-le, one-same}
 
 pub rest_same : (s : State) → KeepsRest s s
@@ -65,7 +65,7 @@ sent_slots Nothing s x = refl
 sent_slots Zero s x = refl
 sent_slots Root s x = refl
 
-same_slot : (s : State) (x y : ℕ) → slot_at (decremented s x) y ≡ slot_at (with_slot s x (lessened (slot_at s x))) y
+pub same_slot : (s : State) (x y : ℕ) → slot_at (decremented s x) y ≡ slot_at (with_slot s x (lessened (slot_at s x))) y
 same_slot s x y = ap (λ ss. get_or ss y absent) (sent_slots (due_of (slot_at s x)) (with_slot s x (lessened (slot_at s x))) x)
 
 -- past the last slot nothing is written
@@ -192,7 +192,7 @@ unbuffered_before s x y b =
     ]
 
 -- a slot whose last reference goes stands in the zeros
-zero_found : (s : State) (x : ℕ) → (slot_at s x).released ≡ false → (slot_at s x).count ≡ 1 → 0 < times x (decremented s x).zeros
+pub zero_found : (s : State) (x : ℕ) → (slot_at s x).released ≡ false → (slot_at s x).count ≡ 1 → 0 < times x (decremented s x).zeros
 zero_found s x r o =
     let due : due_of (slot_at s x) ≡ Zero = ap (λ c. due_if c (eqb (slot_at s x).count 1) (slot_at s x).buffered) r ∙ ap (λ c. due_if false c (slot_at s x).buffered) (eq-eqb (slot_at s x).count 1 o) in
     let z : (decremented s x).zeros ≡ s.zeros ++ x ∷ [] = ap (λ d. (sent d (with_slot s x (lessened (slot_at s x))) x).zeros) due in
@@ -213,3 +213,15 @@ all_zeros_kept s x k = λ y r n.
       ]
       | inr l ↦ omega (arith, k y u (omega (arith, l)), more)
     ]
+
+-- one reference less, of a slot that is counted: it isn't among the zeros yet
+pub decremented_kept : (s : State) (x : ℕ) → 0 < (slot_at s x).count → AreZeros s → IsKept s → IsKept (decremented s x)
+decremented_kept s x h z k = go (due_of (slot_at s x)) refl
+  where
+    new : times x s.zeros ≡ 0
+    new = elim (cases_lt 0 (times x s.zeros)) [ inl l ↦ absurd (omega (arith, h, z.none x l)) | inr l ↦ omega (arith, l) ]
+
+    go : (d : Due) → due_of (slot_at s x) ≡ d → IsKept (sent d (with_slot s x (lessened (slot_at s x))) x)
+    go Nothing e = let n : ToNothing (slot_at s x) = to_nothing (slot_at s x) e in keep_slot k x (lessened (slot_at s x)) n.buffered n.set
+    go Zero e = keep_zero k x (slot_at s x) (in_range_counted s x h) (to_zeros (slot_at s x) e) refl new
+    go Root e = keep_root k x (slot_at s x) (in_range_counted s x h) (to_roots (slot_at s x) e) refl

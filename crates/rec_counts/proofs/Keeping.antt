@@ -5,12 +5,13 @@ use Rattle.std.specs.List.{concat}
 use Rattle.std.proofs.lemmas.List.{length-set, length-map, length_push, get_or-set_same, get_or-set_other, set_past, get_or_past, get_or-take, take_all, take_more, length-take, get_or-replicate, length-replicate}
 use Rattle.std.proofs.lemmas.List.Folds.{concat-append}
 use Rattle.std.proofs.lemmas.Bool.Decides.{eqb_tells}
-use Rattle.std.proofs.lemmas.Bool.{cases_lt, lt-ltb, le-ltb, eqb-true, ne_eqb}
+use Rattle.std.proofs.lemmas.Bool.{cases_lt, lt-ltb, le-ltb, eqb-true, ne_eqb, false≢true}
 use Rattle.rec_counts.specs.declared.slot.Slot.{Slot}
 use Rattle.rec_counts.specs.Slot.{absent, fresh, is_in, unrooted, unrooted_if, unbuffered_if, out_of_set}
 use Rattle.rec_counts.specs.Lists.{one, times, EachOnce}
 use Rattle.rec_counts.specs.Groups.{with_member, earlier_sets, last_set}
 use Rattle.rec_counts.specs.Kept.{Kept}
+use Rattle.rec_counts.specs.Counts.{State, slot_at, IsKept, without_last_set}
 use Rattle.rec_counts.proofs.Times.{times-nil, times-append, times_push, times_part, times_parts, times-cons, one-le, one-same, in_range_once, once_none, room_once}
 
 -- what a slot has, after a write that keeps it there
@@ -85,7 +86,7 @@ members_once {slots = slots} {roots = roots} {sets = sets} k x =
     ]
 
 -- what is unbuffered stands in neither buffer
-pub in_neither : {slots : List Slot} {roots : List ℕ} {sets : List (List ℕ)} {marked work zeros free : List ℕ} → Kept slots roots sets marked work zeros free →
+in_neither : {slots : List Slot} {roots : List ℕ} {sets : List (List ℕ)} {marked work zeros free : List ℕ} → Kept slots roots sets marked work zeros free →
     (x : ℕ) → (get_or slots x absent).buffered ≡ false → (times x roots ≡ 0) × (times x (concat sets) ≡ 0)
 in_neither {slots = slots} k x b = let none : one (get_or slots x absent).buffered ≡ 0 = ap one b in (omega (arith, k.buffers x), omega (arith, k.buffers x))
 
@@ -118,7 +119,7 @@ keep_push_root {slots = slots} {roots = roots} {sets = sets} k x v l b b' s =
     k.few_sets
 
 -- each root is in range
-pub root_in_range : {slots : List Slot} {roots : List ℕ} {sets : List (List ℕ)} {marked work zeros free : List ℕ} → Kept slots roots sets marked work zeros free →
+root_in_range : {slots : List Slot} {roots : List ℕ} {sets : List (List ℕ)} {marked work zeros free : List ℕ} → Kept slots roots sets marked work zeros free →
     (x : ℕ) → 0 < times x roots → x < length slots
 root_in_range {slots = slots} k x h = in_range_once (length slots) _ x (roots_once k) h
 
@@ -146,7 +147,7 @@ keep_pop_root {slots = slots} {roots = roots} {sets = sets} k x rest v r b s =
     k.few_sets
 
 -- a map of the slots, at one of them
-map_at : (f : Slot → Slot) → f absent ≡ absent → (slots : List Slot) (y : ℕ) → get_or (map f slots) y absent ≡ f (get_or slots y absent)
+pub map_at : (f : Slot → Slot) → f absent ≡ absent → (slots : List Slot) (y : ℕ) → get_or (map f slots) y absent ≡ f (get_or slots y absent)
 map_at f e [] y = sym e
 map_at f e (s ∷ slots) zero = refl
 map_at f e (s ∷ slots) (suc y) = map_at f e slots y
@@ -330,3 +331,43 @@ keep_open n first l = record {
   free_once = once_none _;
   few_slots = omega (arith, length-set (replicate n fresh) 0 (record fresh { count = first }), length-replicate n fresh);
 }
+
+-- a slot that is not released is in range
+pub unreleased_within : (s : State) (x : ℕ) → (slot_at s x).released ≡ false → x < length s.slots
+unreleased_within s x e = elim (cases_lt x (length s.slots)) [
+  | inl l ↦ l
+  | inr l ↦ absurd (false≢true (sym e ∙ ap (λ (v : Slot). v.released) (get_or_past s.slots x absent l)))
+]
+
+-- a member's set is there
+pub set_there : (s : State) (number x : ℕ) → IsKept s → (slot_at s x).set ≡ Some number → number < length s.sets
+set_there s number x k e = elim (cases_lt number (length s.sets)) [
+  | inl l ↦ l
+  | inr past ↦
+      let in_it : one (is_in number (slot_at s x).set) ≡ 1 = ap (λ o. one (is_in number o)) e ∙ one-same number in
+      let none : times x (get_or s.sets number []) ≡ 0 = ap (times x) (get_or_past s.sets number [] past) ∙ times-nil x in
+      absurd (omega (arith, k.numbers number x, in_it, none))
+]
+
+-- other slots that stay in the buffers where they are
+pub slots_kept : {slots : List Slot} {roots : List ℕ} {sets : List (List ℕ)} {marked work zeros free : List ℕ} → Kept slots roots sets marked work zeros free →
+    (now : List Slot) → length now ≡ length slots → ((x : ℕ) → (get_or now x absent).buffered ≡ (get_or slots x absent).buffered) → ((x : ℕ) → (get_or now x absent).set ≡ (get_or slots x absent).set) →
+    Kept now roots sets marked work zeros free
+slots_kept k now e b s = record {
+  buffers = λ x. k.buffers x ∙ ap one (sym (b x));
+  numbers = λ number x. k.numbers number x ∙ ap (λ o. one (is_in number o)) (sym (s x));
+  few_sets = rw e k.few_sets;
+  marked_once = rw e k.marked_once;
+  work_once = rw e k.work_once;
+  zeros_once = rw e k.zeros_once;
+  free_once = rw e k.free_once;
+  few_slots = rw e k.few_slots;
+}
+
+-- the last set has each slot at most once
+pub last_once : (s : State) → IsKept s → EachOnce (length s.slots) (last_set s.sets)
+last_once s k x = omega (arith, members_once k x, times_part x s.sets (length s.sets - 1))
+
+-- the last set is dropped, where nothing stands in the work list
+pub dropped_kept : (s : State) → 0 < length s.sets → s.work ≡ [] → IsKept s → IsKept (without_last_set s)
+dropped_kept s some work k = keep_drop k some (λ y. omega (arith, ap (times y) work, times-nil y, last_once s k y, one-le (ltb y (length s.slots))))

@@ -9,41 +9,20 @@ use Rattle.rec_counts.specs.Slot.{absent, is_in, unbuffered, unrooted, unrooted_
 use Rattle.rec_counts.specs.Lists.{one, times}
 use Rattle.rec_counts.specs.Groups.{last_set}
 use Rattle.rec_counts.specs.Kept.{Kept}
-use Rattle.rec_counts.proofs.Times.{times_more, one-le, length-once}
+use Rattle.rec_counts.proofs.Times.{times_more, one-le, length-once, one-none, test_of}
 use Rattle.rec_counts.proofs.Keeping.{no_set, some_set, keep_drop}
 
-unbuffered_twice : (b : Bool) (v : Slot) → unbuffered (unbuffered_if b v) ≡ unbuffered v
+pub unbuffered_twice : (b : Bool) (v : Slot) → unbuffered (unbuffered_if b v) ≡ unbuffered v
 unbuffered_twice true v = refl
 unbuffered_twice false v = refl
-
--- one slot more has left
-pub one_more : (slots old : List Slot) (members : List ℕ) (i m : ℕ) → i < length members → m ≡ get_or members i 0 → m < length slots →
-    ((x : ℕ) → get_or slots x absent ≡ unbuffered_if (ltb 0 (times x (take i members))) (get_or old x absent)) →
-    (v : Slot) → v ≡ unbuffered (get_or slots m absent) →
-    (x : ℕ) → get_or (set slots m v) x absent ≡ unbuffered_if (ltb 0 (times x (take (i + 1) members))) (get_or old x absent)
-one_more slots old members i m l e r h v w x =
-    elim (eqb_tells x m) [
-      | inl q ↦ let t : one (eqb x (get_or members i 0)) ≡ 1 = rw (← e) (ap one q.0) in
-          let n : ltb 0 (times x (take (i + 1) members)) ≡ true = lt-ltb 0 _ (omega (arith, times_more x members i l)) in
-          let a : get_or (set slots m v) x absent ≡ v = rw q.1 (get_or-set_same slots m v absent r) in
-          let b : v ≡ unbuffered (get_or old x absent) = w ∙ ap (λ y. unbuffered (get_or slots y absent)) (sym q.1) ∙ ap unbuffered (h x) ∙ unbuffered_twice (ltb 0 (times x (take i members))) (get_or old x absent) in
-          rw n (a ∙ b)
-      | inr q ↦ let t : one (eqb x (get_or members i 0)) ≡ 0 = rw (← e) (ap one q.0) in
-          let n : times x (take (i + 1) members) ≡ times x (take i members) = omega (arith, times_more x members i l) in
-          rw n (get_or-set_other slots m x v absent q.1 ∙ h x)
-    ]
 
 -- lists with the same changes are one list
 pub all_of : (f : Slot → Slot) (slots slots' : List Slot) → length slots' ≡ length slots → ((x : ℕ) → get_or slots' x absent ≡ f (get_or slots x absent)) → slots' ≡ map f slots
 all_of f slots slots' e h =
     ext_get_or absent slots' (map f slots) (e ∙ sym (length-map slots f)) (λ i l. h i ∙ sym (get_or-map f slots i absent absent (omega arith)))
 
-one-none : (b : Bool) → one b ≡ 0 → b ≡ false
-one-none true h = absurd (omega arith)
-one-none false h = refl
-
 -- what leaves with the root buffer
-pub root_left : {slots : List Slot} {roots : List ℕ} {sets : List (List ℕ)} {marked work zeros free : List ℕ} → Kept slots roots sets marked work zeros free →
+root_left : {slots : List Slot} {roots : List ℕ} {sets : List (List ℕ)} {marked work zeros free : List ℕ} → Kept slots roots sets marked work zeros free →
     (x : ℕ) → unbuffered_if (ltb 0 (times x roots)) (get_or slots x absent) ≡ unrooted (get_or slots x absent)
 root_left {slots = slots} {roots = roots} {sets = sets} k x = go (ltb 0 (times x roots)) (get_or slots x absent).set refl refl
   where
@@ -59,10 +38,6 @@ pub roots_left : {slots : List Slot} {roots : List ℕ} {sets : List (List ℕ)}
 roots_left {slots = slots} k before after members e f l h =
     all_of unrooted slots after (l ∙ ap length e)
     (λ x. h x ∙ ap (λ s. unbuffered_if (ltb 0 (times x members)) (get_or s x absent)) e ∙ ap (λ m. unbuffered_if (ltb 0 (times x m)) (get_or slots x absent)) f ∙ root_left k x)
-
-test_of : (n : ℕ) (b : Bool) → n ≡ one b → ltb 0 n ≡ b
-test_of n true e = rw e refl
-test_of n false e = rw e refl
 
 pub set_left : {slots : List Slot} {roots : List ℕ} {sets : List (List ℕ)} {marked work zeros free : List ℕ} → Kept slots roots sets marked work zeros free →
     (before after : List Slot) (members : List ℕ) → before ≡ slots → members ≡ last_set sets → length after ≡ length before →

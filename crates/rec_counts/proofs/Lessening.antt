@@ -4,7 +4,7 @@ use Rattle.std.proofs.Math.ListN.{set}
 use Rattle.std.proofs.lemmas.List.{length-set}
 use Rattle.std.proofs.lemmas.Bool.{eqb-true}
 use Rattle.rec_counts.specs.declared.slot.Slot.{Slot}
-use Rattle.rec_counts.specs.declared.slot.Due.TheVariants.{Zero, Root}
+use Rattle.rec_counts.specs.declared.slot.Due.TheVariants.{Zero, Root, Nothing}
 use Rattle.rec_counts.specs.Slot.{absent, lessened, due_of, due_if}
 use Rattle.rec_counts.specs.Lists.{times}
 use Rattle.rec_counts.specs.Kept.{Kept, HasRoom}
@@ -67,3 +67,17 @@ new_zero x zeros t e h = h (ap (λ (w : Slot). w.released) (sym e) ∙ t.unrelea
 -- the rooms at opening
 pub room_open : (n m : ℕ) → m ≡ n → HasRoom m (n * 2) n (n * 2) (n * 2) (n * 2) (n * 2)
 room_open n m e = record { roots_room = omega arith; sets_room = sym e; marked_room = omega arith; work_room = omega arith; zeros_room = omega arith; free_room = omega arith }
+
+-- what is known of a slot that is due nowhere
+pub record ToNothing (v : Slot) : Type 0 where
+  pub buffered : (lessened v).buffered ≡ v.buffered
+  pub set : (lessened v).set ≡ v.set
+
+pub to_nothing : (v : Slot) → due_of v ≡ Nothing → ToNothing v
+to_nothing v d = go v.released (eqb v.count 1) v.buffered refl refl refl d
+  where
+    go : (r l b : Bool) → v.released ≡ r → eqb v.count 1 ≡ l → v.buffered ≡ b → due_if r l b ≡ Nothing → ToNothing v
+    go true l b e f g d = record { buffered = rw e refl; set = rw e refl }
+    go false true b e f g d = cc
+    go false false true e f g d = record { buffered = rw (e, f) (sym g); set = rw (e, f) refl }
+    go false false false e f g d = cc

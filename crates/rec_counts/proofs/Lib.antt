@@ -1,5 +1,7 @@
+pub mod Changing
 pub mod Decrementing
 pub mod Empty
+pub mod Front
 pub mod Keeping
 pub mod Leaving
 pub mod Lessening

@@ -9,7 +9,7 @@ length-parts [] ms = refl
 length-parts (s ∷ ss) ms = omega (arith, length-parts ss ms)
 
 -- the first place lies within the list
-pub rising_first : (ss : List ℕ) (n : ℕ) → IsRising ss n → get_or ss 0 n ≤ n
+rising_first : (ss : List ℕ) (n : ℕ) → IsRising ss n → get_or ss 0 n ≤ n
 rising_first [] n h = omega arith
 rising_first (s ∷ ss) n h = omega (arith, h.0, rising_first ss n h.1)
 

@@ -36,6 +36,19 @@ pub one-le : (b : Bool) → one b ≤ 1
 one-le true = omega arith
 one-le false = omega arith
 
+pub one-some : (b : Bool) → 0 < one b → b ≡ true
+one-some true h = refl
+one-some false h = absurd (omega arith)
+
+pub one-none : (b : Bool) → one b ≡ 0 → b ≡ false
+one-none true h = absurd (omega arith)
+one-none false h = refl
+
+-- a number that is 1 where it holds, else 0, tells whether it holds
+pub test_of : (n : ℕ) (b : Bool) → n ≡ one b → ltb 0 n ≡ b
+test_of n true e = rw e refl
+test_of n false e = rw e refl
+
 -- without the first, each stands there no more often
 pub times_rest : (x : ℕ) (xs : List ℕ) → times x (drop 1 xs) ≤ times x xs
 times_rest x [] = omega arith

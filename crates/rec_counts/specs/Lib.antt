@@ -1,3 +1,4 @@
+pub mod Colour
 pub mod Counts
 pub mod Groups
 pub mod Kept

@@ -7,6 +7,8 @@
 #![tactic(auto)]
 
 #[cfg(test)]
+mod apart;
+#[cfg(test)]
 mod collecting;
 #[cfg(test)]
 mod cycles;

@@ -1,25 +1,26 @@
 -- What a level tells of the one below, and where the lowest member is.
-use Rattle.std.proofs.Common.{◌≡◌, ◌≢◌, inl, inr, ℕ, ◌/◌, ◌%◌, ◌<◌, ◌==◌, if◌then◌else◌, Bool, List, length, get_or, replicate, arith, refl, sym, ap, ◌∙◌}
+use Rattle.std.proofs.Common.{◌≡◌, ◌≢◌, inl, inr, ℕ, ◌/◌, ◌%◌, ◌<◌, ◌==◌, if◌then◌else◌, Bool, List, length, get_or, replicate, arith, refl, sym, ap, subst, ◌∙◌}
 use Rattle.std.specs.Prelude.{min}
 use Rattle.std.specs.Int.{bit_at}
 use Rattle.std.proofs.lemmas.Bool.{cases_eq, cases_lt, eq-eqb, ne_eqb}
 use Rattle.std.proofs.lemmas.List.{get_or_past, get_or-replicate, length-replicate}
 use Rattle.std.proofs.lemmas.Nat.Bits.{bit_at-zero}
+use Rattle.rec_index.specs.Inside.{IsWhole}
 use Rattle.rec_index.specs.Sets.{bit, Tells, IsLowestIn, IsLowest}
 
 -- a word that is 0 has no members
-pub none_in : (words : List ℕ) (i : ℕ) → get_or words (i / 64) 0 ≡ 0 → bit words i ≡ 0
+none_in : (words : List ℕ) (i : ℕ) → get_or words (i / 64) 0 ≡ 0 → bit words i ≡ 0
 none_in words i empty = ap (λ x. bit_at x (i % 64)) empty ∙ bit_at-zero (i % 64)
 
 -- a word with a member isn't 0
-pub some_in : (words : List ℕ) (i : ℕ) → bit words i ≡ 1 → 0 < get_or words (i / 64) 0
+some_in : (words : List ℕ) (i : ℕ) → bit words i ≡ 1 → 0 < get_or words (i / 64) 0
 some_in words i holds = elim (cases_eq (get_or words (i / 64) 0) 0) [
   | inl empty ↦ absurd (omega (arith, holds, none_in words i empty))
   | inr some ↦ omega (arith, some)
 ]
 
 -- where a level has no member, the word below is 0
-pub untold : (upper lower : List ℕ) (k : ℕ) → Tells upper lower → bit upper k ≡ 0 → get_or lower k 0 ≡ 0
+untold : (upper lower : List ℕ) (k : ℕ) → Tells upper lower → bit upper k ≡ 0 → get_or lower k 0 ≡ 0
 untold upper lower k tells none = omega (arith, tells k, none)
 
 -- it has the number of a member's word
@@ -108,3 +109,14 @@ module _ (slots words groups : List ℕ) (over_slots : Tells words slots) (over_
         | inl less ↦ none_in slots s (untold words slots (s / 64) over_slots (lower_word (s / 64) less))
         | inr more ↦ third.lower s (omega (arith, third.there)) below
       ]
+
+-- levels without a member are those of an empty index
+pub empty_whole : (slots words groups : List ℕ) → slots ≡ replicate 1024 0 → words ≡ replicate 16 0 → groups ≡ replicate 1 0 → IsWhole (record { slots = slots; words = words; groups = groups })
+empty_whole slots words groups no_slots no_words no_groups =
+    record {
+      words = subst (λ (ws : List ℕ). Tells ws slots) (sym no_words) (subst (Tells (replicate 16 0)) (sym no_slots) (tells_empty 16 1024));
+      groups = subst (λ (ws : List ℕ). Tells ws words) (sym no_groups) (subst (Tells (replicate 1 0)) (sym no_words) (tells_empty 1 16));
+      slots_length = ap length no_slots;
+      words_length = ap length no_words;
+      groups_length = ap length no_groups;
+    }

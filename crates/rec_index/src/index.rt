@@ -58,6 +58,15 @@ impl Index {
         }
     }
 
+    /// Takes every member out. The memory stays.
+    pub fn clear(&mut self)
+        ensures { (s : ℕ) → bit self.new s ≡ 0 }
+    {
+        self.slots.clear();
+        self.words.clear();
+        self.groups.clear();
+    }
+
     /// The lowest member, or `None` where there is none.
     pub fn lowest(&self) -> Option<u16>
         ensures some { IfSome result (IsLowest self.now) }
@@ -86,6 +95,10 @@ mod tests {
         assert_eq!(rt; index.lowest(), Some(4_159));
         index.remove(4_159);
         assert_eq!(rt; index.lowest(), Some(4_160));
+        index.clear();
+        assert_eq!(rt; index.lowest(), None);
+        index.insert(65_535);
+        assert_eq!(rt; index.lowest(), Some(65_535));
         Ok(())
     }
 }

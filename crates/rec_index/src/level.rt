@@ -53,6 +53,13 @@ impl Level {
         *word == 0
     }
 
+    /// Takes every member out.
+    pub fn clear(&mut self)
+        ensures { self.new ≡ replicate (length self.old) 0 }
+    {
+        self.words.fill(0);
+    }
+
     /// The lowest member of those in a word, or `None` where there is none.
     pub fn lowest(&self, word: usize) -> Option<usize>
         requires there { word < length self.now }

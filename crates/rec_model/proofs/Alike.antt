@@ -1,9 +1,9 @@
 -- What every heap that counts late keeps sees the lists through their sums alone.
-use Rattle.std.proofs.Common.{◌≡◌, ℕ, List, ◌<◌, true, cond, not, sym, ap, subst, ◌∙◌, arith}
+use Rattle.std.proofs.Common.{◌≡◌, ℕ, ◌<◌, true, cond, not, sym, ap, subst, ◌∙◌, arith}
 use Rattle.std.proofs.lemmas.Bool.Decides.{nat_tests}
 use Rattle.rec_model.specs.Sums.{only_if, one_if_same, sum_at, HasSameSums, HasSameSumsAt}
 use Rattle.rec_model.specs.Pending.{node_of, epoch_of, home, Write, Dated, dated, Pending, is_at}
-use Rattle.rec_model.specs.Moves.{KeepsEpochs, KeepsSlots, KeepsLogs, KeepsFrom, KeepsNodesFrom, Drops}
+use Rattle.rec_model.specs.Moves.{KeepsEpochs, KeepsSlots, KeepsLogs, Drops}
 use Rattle.rec_model.specs.Accounted.{is_late_word, is_wrong_write, is_wrong_register, is_late_snapshot, names, puts_after, replaces_from, is_from, is_after, is_node, late, put_late, replaced_late, touches, is_dead, names_unreleased, IsAccounted}
 use Rattle.rec_model.proofs.Sums.{sum_at_same}
 use Rattle.rec_model.proofs.Counted.{opened_from, closed_out_of}
@@ -123,10 +123,3 @@ dropping_accounted w v s i =
       single = i.single;
       born = λ x pos. omega (arith, i.born x pos, s.births.1 (is_from a x) (early_from a x) (λ e. null_from a x e pos));
     }
-
--- a list with the same elements, in whatever order, keeps all and gains none
-pub same_keeps : {X : Type 0} (epoch_of : X → ℕ) (epoch : ℕ) (before after : List X) → HasSameSums before after → KeepsFrom epoch_of epoch before after
-same_keeps epoch_of epoch before after same = (λ weight. omega (arith, same weight), λ weight _. same weight)
-
-pub same_nodes : (epoch : ℕ) (before after : List Dated) → HasSameSums before after → KeepsNodesFrom epoch before after
-same_nodes epoch before after same = (λ weight. omega (arith, same weight), λ weight _ _. same weight)

@@ -4,6 +4,7 @@ use Rattle.std.specs.Option.{option_map, is_some}
 use Rattle.std.proofs.Math.ListN.{get_or-map}
 use Rattle.std.proofs.lemmas.Bool.{eq-eqb, eqb-true}
 use Rattle.std.proofs.lemmas.Bool.Decides.{same_from_decides}
+use Rattle.std.proofs.lemmas.Option.{same_Some}
 use Rattle.rec_word.specs.Word.{target_of}
 use Rattle.rec_model.specs.declared.command.Cmd.{Cmd}
 use Rattle.rec_model.specs.declared.command.Cmd.TheVariants as commands
@@ -13,23 +14,12 @@ use Rattle.rec_model.specs.declared.told.Told.{Told}
 use Rattle.rec_model.specs.Reach.{named}
 use Rattle.rec_model.specs.Reach.IsReached.{root, child}
 use Rattle.rec_model.specs.Heap.{Heap, Field, Object, object, field, born, register, with_register, with_field, with_object}
-use Rattle.rec_model.specs.Asking.{Asked, asked, asks, answered, refused, AnswersAs, LeavesWord, IsTold, null_or_object, got, put, value, same, yes_or_no, is_done, refuses_new}
-use Rattle.rec_model.specs.Sight.{Sight, words_of, targets_of, word_at, Reaches, field_of, StandsBy, StandsFor, IsSound, sight_with_register, sight_with_word, sight_with_header}
-use Rattle.rec_model.specs.Explained.{IsExplained, GoesOnBy}
+use Rattle.rec_model.specs.Asking.{Asked, asked, asks, answered, refused, AnswersAs, LeavesWord, IsTold, null_or_object, got, put, value, same, yes_or_no, is_done, refuses_new, plain}
+use Rattle.rec_model.specs.Sight.{Sight, words_of, targets_of, word_at, Reaches, field_of, StandsBy, IsSound, sight_with_register, sight_with_word, sight_with_header}
+use Rattle.rec_model.specs.Explained.{IsExplained, GoesOnBy, with_number}
 use Rattle.rec_model.proofs.Names.{register_root, named_at}
 use Rattle.rec_model.proofs.Words.{named-nulls, null_fields}
-use Rattle.rec_model.proofs.Standing.{MayName, taken_is_other, reached_is_taken, register_stands, register_names, field_agrees, word_in, with_birth, with_birth-same, object_born, birth_stands, birth_numbers, write_stands}
-
--- an answer that leaves and saw no word
-abbrev pub plain : Answer → Told
-plain answer = record { answer = answer; saw = 0; left = 0 }
-
--- so whatever heap stood, by whatever numbers, what it then is stands
-pub explained_stands : (before : Sight) (t : ℕ) (cmd : Cmd) (told : Told) (after : Sight) → IsExplained before t cmd told after → (heap : Heap) → StandsFor heap before
-    → IsTold before.fields heap t cmd told × StandsFor (asked before.fields heap t cmd told).heap after
-explained_stands before t cmd told after explained heap (number, by) =
-    let (is_told, (later, goes_on)) = explained heap number by in
-    (is_told, (later, goes_on.stands))
+use Rattle.rec_model.proofs.Standing.{MayName, taken_is_other, reached_is_taken, register_stands, register_names, field_agrees, word_in, with_number-same, object_born, birth_stands, birth_numbers, write_stands}
 
 -- where headers stay, the numbers stay
 numbers_stay : (heap : Heap) (before after : Sight) (number : ℕ → ℕ) (next : ℕ) → after.headers ≡ before.headers → StandsBy heap after number → GoesOnBy heap before after number number next
@@ -136,23 +126,19 @@ put_explained w t src f val slot word sound in_range is names heap number by =
     refl
     (write_stands heap w number slot f word sound in_range from (λ n there. root n (register_root w.registers t val n (sym names ∙ there))) by)
 
--- one value in two options
-some_same : (m n : ℕ) → ◌≡◌ {A = Option ℕ} (Some m) (Some n) → m ≡ n
-some_same m n is = cc
-
 -- a birth in a free slot
 pub new_explained : (w : Sight) (t reg label slot : ℕ) → IsSound w → slot < length w.headers → slice_index_or w.headers slot 0 ≡ 0
     → IsExplained w t (commands.New reg label) (plain answers.Done) (sight_with_register (sight_with_header w slot (label + 1)) t reg (Some slot))
 new_explained w t reg label slot sound in_range free heap number by =
-    let next : ℕ → ℕ = with_birth number slot (length heap.objects) in
+    let next : ℕ → ℕ = with_number number slot (length heap.objects) in
     let grown : Heap = with_object heap (born w.fields label) in
     let after : Sight = sight_with_header w slot (label + 1) in
-    let is : next slot ≡ length heap.objects = with_birth-same number slot (length heap.objects) in
+    let is : next slot ≡ length heap.objects = with_number-same number slot (length heap.objects) in
     let nulls : words_of w slot ≡ replicate w.fields 0 = sound.free slot in_range (λ taken. taken_is_other w slot slot free taken refl) in
     let fields : (object grown (next slot)).fields ≡ map (field_of next) (words_of after slot)
     = ap (λ n. (object grown n).fields) is ∙ ap (λ (x : Object). x.fields) (object_born heap (born w.fields label)) ∙ null_fields next w.fields ∙ ap (map (field_of next)) (sym nulls) in
     let none : targets_of after slot ≡ [] = ap (λ ws. named (map target_of ws)) nulls ∙ named-nulls w.fields in
-    let may : MayName grown after next (Some slot) = λ n there. inr (subst (λ s. ((object grown (next s)).fields ≡ map (field_of next) (words_of after s)) × (targets_of after s ≡ [])) (some_same slot n there) (fields, none)) in (
+    let may : MayName grown after next (Some slot) = λ n there. inr (subst (λ s. ((object grown (next s)).fields ≡ map (field_of next) (words_of after s)) × (targets_of after s ≡ [])) (same_Some slot n there) (fields, none)) in (
       record { answer = refl; saw = refl; left = refl },
       (
         next,

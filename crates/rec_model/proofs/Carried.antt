@@ -43,13 +43,13 @@ IsOneToOne P f = (m n : ℕ) → P m → P n → f m ≡ f n → m ≡ n
 abbrev pub Each : (P : ℕ → Type 0) → List ℕ → Type 0
 Each P ns = (n : ℕ) → is_in n ns ≡ true → P n
 
-pub eqb-map : (P : ℕ → Type 0) (f : ℕ → ℕ) → IsOneToOne P f → (m n : ℕ) → P m → P n → (f m == f n) ≡ (m == n)
+eqb-map : (P : ℕ → Type 0) (f : ℕ → ℕ) → IsOneToOne P f → (m n : ℕ) → P m → P n → (f m == f n) ≡ (m == n)
 eqb-map P f one m n p q = elim (cases_eq m n) [
   | inl e ↦ eq-eqb (f m) (f n) (ap f e) ∙ sym (eq-eqb m n e)
   | inr apart ↦ ne_eqb (f m) (f n) (λ e. apart (one m n p q e)) ∙ sym (ne_eqb m n apart)
 ]
 
-pub is_in-same : (P : ℕ → Type 0) (f : ℕ → ℕ) → IsOneToOne P f → (n : ℕ) (ns : List ℕ) → P n → Each P ns → is_in (f n) (map f ns) ≡ is_in n ns
+is_in-same : (P : ℕ → Type 0) (f : ℕ → ℕ) → IsOneToOne P f → (n : ℕ) (ns : List ℕ) → P n → Each P ns → is_in (f n) (map f ns) ≡ is_in n ns
 is_in-same P f one n [] p each = refl
 is_in-same P f one n (m ∷ ns) p each =
     ap (λ b. b || is_in (f n) (map f ns)) (eqb-map P f one m n (each m (is_in-head m ns)) p)

@@ -1,5 +1,5 @@
 -- What lists of references and of dated nodes name, as sums of weights.
-use Rattle.std.proofs.Common.{◌≡◌, inl, inr, ℕ, suc, ◌+◌, ◌<◌, ◌&&◌, ◌==◌, nat_lt, nat_le, Bool, true, false, cond, List, [], ◌∷◌, map, filter, sum_by, refl, ap, subst, ◌∙◌, arith}
+use Rattle.std.proofs.Common.{◌≡◌, inl, inr, ℕ, suc, ◌+◌, ◌<◌, ◌&&◌, ◌==◌, nat_lt, nat_le, Bool, true, false, cond, List, [], ◌∷◌, map, filter, sum_by, refl, ap, subst, ◌∙◌, arith, ◌++◌}
 use Rattle.std.specs.List.{enumerate_from}
 use Rattle.std.proofs.lemmas.Bool.Decides.{nat_tests}
 use Rattle.std.proofs.lemmas.Bool.{false≢true, eqb-true}
@@ -13,9 +13,16 @@ use Rattle.rec_model.specs.Accounted.{is_from}
 use Rattle.rec_model.proofs.Sums.{sum_by_same, sum_at_same, sum_by_none, sum_by-filter, sum_by-map}
 use Rattle.rec_model.proofs.Members.{is_in-cons, is_in-head, is_in-tail}
 
--- how often a number stands in a list, from its head on
-times-cons : (x y : ℕ) (ns : List ℕ) → times x (y ∷ ns) ≡ one_if_same x y + times x ns
-times-cons x y ns = omega (arith, sum_by-cons (λ m. cond (m == x) 1 0) y ns, same)
+-- how often a number stands in a list
+pub times-append : (n : ℕ) (xs ys : List ℕ) → times n (xs ++ ys) ≡ times n xs + times n ys
+times-append n xs ys = sum_by-append (λ m. cond (m == n) 1 0) xs ys
+
+pub times-cons : (n m : ℕ) (ns : List ℕ) → times n (m ∷ ns) ≡ cond (m == n) 1 0 + times n ns
+times-cons n m ns = sum_by-cons (λ k. cond (k == n) 1 0) m ns
+
+-- from its head on
+times_from_head : (x y : ℕ) (ns : List ℕ) → times x (y ∷ ns) ≡ one_if_same x y + times x ns
+times_from_head x y ns = omega (arith, times-cons x y ns, same)
   where
     same : cond (y == x) 1 0 ≡ one_if_same x y
     same = grind (arith, nat_tests)
@@ -24,8 +31,8 @@ times-cons x y ns = omega (arith, sum_by-cons (λ m. cond (m == x) 1 0) y ns, sa
 pub is_in-times : (x : ℕ) (ns : List ℕ) → is_in x ns ≡ true → 0 < times x ns
 is_in-times x [] h = absurd (false≢true h)
 is_in-times x (y ∷ ns) h = elim (is_in-cons x y ns h) [
-  | inl e ↦ let one : one_if_same x y ≡ 1 = (grind (arith, nat_tests, e)) in omega (arith, one, times-cons x y ns)
-  | inr r ↦ omega (arith, is_in-times x ns r, times-cons x y ns)
+  | inl e ↦ let one : one_if_same x y ≡ 1 = (grind (arith, nat_tests, e)) in omega (arith, one, times_from_head x y ns)
+  | inr r ↦ omega (arith, is_in-times x ns r, times_from_head x y ns)
 ]
 
 pub is_in-from_times : (x : ℕ) (ns : List ℕ) → 0 < times x ns → is_in x ns ≡ true
@@ -36,12 +43,12 @@ is_in-from_times x (y ∷ ns) h = go (y == x) refl (is_in-from_times x ns)
     go true e rest = subst (λ k. is_in k (y ∷ ns) ≡ true) (eqb-true y x e) (is_in-head y ns)
     go false e rest =
         let none : one_if_same x y ≡ 0 = (grind (arith, nat_tests, e)) in
-        is_in-tail x y ns (rest (omega (arith, h, none, times-cons x y ns)))
+        is_in-tail x y ns (rest (omega (arith, h, none, times_from_head x y ns)))
 
 -- how often a number stands among what some elements name
 times-map : {X : Type 0} (f : X → ℕ) (x : ℕ) (ys : List X) → times x (map f ys) ≡ sum_by (λ y. one_if_same x (f y)) ys
 times-map f x [] = refl
-times-map f x (y ∷ ys) = omega (arith, times-cons x (f y) (map f ys), sum_by-cons (λ z. one_if_same x (f z)) y ys, times-map f x ys)
+times-map f x (y ∷ ys) = omega (arith, times_from_head x (f y) (map f ys), sum_by-cons (λ z. one_if_same x (f z)) y ys, times-map f x ys)
 
 -- a weight over elements with their places
 sum_by-enumerate_from : {X : Type 0} (f : ℕ × X → ℕ) (n : ℕ) (xs : List X) → sum_by f (enumerate_from n xs) ≡ sum_at (λ i x. f (n + i, x)) xs

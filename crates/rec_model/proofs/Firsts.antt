@@ -6,11 +6,11 @@ use Rattle.rec_model.specs.Numbering.{firsts_after, joined, IsDistinct}
 use Rattle.rec_model.proofs.Members.{is_in-left, is_in-right, is_in-cases, is_in-cons, is_in-head, is_in-tail, IsDistinct-push, not_in-left}
 
 -- a number that is met already is left out
-pub joined-met : (met : List ℕ) (n : ℕ) (ns : List ℕ) → is_in n met ≡ true → joined met (n ∷ ns) ≡ joined met ns
+joined-met : (met : List ℕ) (n : ℕ) (ns : List ℕ) → is_in n met ≡ true → joined met (n ∷ ns) ≡ joined met ns
 joined-met met n ns h = rw h refl
 
 -- a new number stands first
-pub joined-new : (met : List ℕ) (n : ℕ) (ns : List ℕ) → is_in n met ≡ false → joined met (n ∷ ns) ≡ joined (met ++ n ∷ []) ns
+joined-new : (met : List ℕ) (n : ℕ) (ns : List ℕ) → is_in n met ≡ false → joined met (n ∷ ns) ≡ joined (met ++ n ∷ []) ns
 joined-new met n ns h = rw h (sym (append_assoc met (n ∷ []) (firsts_after (met ++ n ∷ []) ns)))
 
 -- more numbers join one after another
@@ -22,7 +22,7 @@ joined-append met (x ∷ xs) ys = elim (is_in x met) as (λ b. is_in x met ≡ b
 ] refl
 
 -- What holds along the way holds at last: a fact that each new number keeps.
-pub joined_keeps : (P : List ℕ → Type 0) (met ns : List ℕ) → ((ms : List ℕ) (n : ℕ) → is_in n ns ≡ true → is_in n ms ≡ false → P ms → P (ms ++ n ∷ [])) → P met → P (joined met ns)
+joined_keeps : (P : List ℕ → Type 0) (met ns : List ℕ) → ((ms : List ℕ) (n : ℕ) → is_in n ns ≡ true → is_in n ms ≡ false → P ms → P (ms ++ n ∷ [])) → P met → P (joined met ns)
 joined_keeps P met [] keeps p = rw append-nil p
 joined_keeps P met (n ∷ ns) keeps p = elim (is_in n met) as (λ b. is_in n met ≡ b → P (joined met (n ∷ ns))) [
   | true ↦ λ h. rw (joined-met met n ns h) (joined_keeps P met ns (λ ms m a. keeps ms m (is_in-tail m n ns a)) p)

@@ -23,7 +23,7 @@ pub held_in_reach : (w : Pending) (j epoch x : ℕ) → IsHeldAt w j → Holds w
 held_in_reach w j epoch x h has late pos = h x pos (omega (arith, has, sum_by-le-sum_by (is_at epoch x) (is_after j x) w.registers (λ d. grind (arith, nat_tests))))
 
 -- what stands in a field of a node in reach is in reach
-pub loaded_in_reach : (w : Pending) (j place : ℕ) → StandsOnce w → IsHeldAt w j → w.applied ≤ j → place < length w.words → IsInReach w j (home w.fields place) → 0 < node_of (word_in w place) → IsInReach w j (node_of (word_in w place))
+loaded_in_reach : (w : Pending) (j place : ℕ) → StandsOnce w → IsHeldAt w j → w.applied ≤ j → place < length w.words → IsInReach w j (home w.fields place) → 0 < node_of (word_in w place) → IsInReach w j (node_of (word_in w place))
 loaded_in_reach w j place o h from inside reached pos =
     let word : ℕ = word_in w place in
     let x : ℕ = node_of word in

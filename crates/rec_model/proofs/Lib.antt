@@ -4,7 +4,6 @@ pub mod Beginning
 pub mod Births
 pub mod Carried
 pub mod Changed
-pub mod Collected
 pub mod CollectorMoves
 pub mod Consequences
 pub mod Counted

@@ -22,7 +22,8 @@ pub one_listing : (heap : Heap) (xs ys : List Row) → IsListing heap xs → IsL
 one_listing heap xs ys (ns, lists, e) (ms, also, f) =
     e ∙ ap (λ ks. map (row heap ks) ks) (one_numbering (roots heap.registers) (children heap) ns ms lists also) ∙ sym f
 
-abbrev row_of : ℕ → ℕ → List (Option ℕ) → Row
+-- a row with this label, count and fields
+abbrev pub row_of : ℕ → ℕ → List (Option ℕ) → Row
 row_of label count fields = record { label = label; count = count; fields = fields }
 
 module _ (heap : Heap) (w : Sight) (number : ℕ → ℕ) (stands : StandsBy heap w number) (collected : IsCollected w) where

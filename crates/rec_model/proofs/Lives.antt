@@ -36,7 +36,7 @@ module _ (heap : Heap) (w : Sight) (number : ℕ → ℕ) (stands : StandsBy hea
       (k, child s k from in_slot, named_there)
 
   -- what is live is the object of a slot that a register reaches
-  pub live_is_reached : (n : ℕ) → IsLive heap n → (s : ℕ) × Reaches w s × (number s ≡ n)
+  live_is_reached : (n : ℕ) → IsLive heap n → (s : ℕ) × Reaches w s × (number s ≡ n)
   live_is_reached =
       all_reached IsOfReached (roots heap.registers) (children heap)
       (λ n there. let (s, in_roots, is) = in_map number n (roots w.registers) (ap (is_in n) (sym roots_same) ∙ there) in (s, root s in_roots, is))

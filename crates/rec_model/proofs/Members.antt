@@ -13,7 +13,7 @@ use Rattle.rec_model.specs.Reach.{is_in}
 use Rattle.rec_model.specs.Numbering.{IsDistinct}
 
 -- a number stands in one of two parts
-pub is_in-append : (n : ℕ) (xs ys : List ℕ) → is_in n (xs ++ ys) ≡ (is_in n xs || is_in n ys)
+is_in-append : (n : ℕ) (xs ys : List ℕ) → is_in n (xs ++ ys) ≡ (is_in n xs || is_in n ys)
 is_in-append n xs ys = list_any-append (λ m. m == n) xs ys
 
 pub is_in-left : (n : ℕ) (xs ys : List ℕ) → is_in n xs ≡ true → is_in n (xs ++ ys) ≡ true

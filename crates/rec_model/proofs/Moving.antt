@@ -1,4 +1,5 @@
 -- Each move keeps what every heap that counts late keeps.
+use Rattle.std.proofs.Common.{◌≡◌}
 use Rattle.rec_model.specs.Pending.{Pending}
 use Rattle.rec_model.specs.Moves.Move.{put, register, birth, crossing, request, batch, release, clearing, freeing, dropping}
 use Rattle.rec_model.specs.Moves.{Move}
@@ -17,3 +18,16 @@ move_accounted {w} {v} (release {node} s) i = release_accounted w v node s i
 move_accounted {w} {v} (clearing {place} s) i = clearing_accounted w v place s i
 move_accounted {w} {v} (freeing {node} s) i = freeing_accounted w v node s i
 move_accounted {w} {v} (dropping s) i = drop_accounted w v s i
+
+-- no move changes how many fields an object has
+pub move_fields : {w v : Pending} → Move w v → v.fields ≡ w.fields
+move_fields (put s) = s.epochs.fields
+move_fields (register s) = s.epochs.fields
+move_fields (birth s) = s.epochs.fields
+move_fields (crossing s) = s.epochs.fields
+move_fields (request s) = s.fields
+move_fields (batch s) = s.fields
+move_fields (release s) = s.epochs.fields
+move_fields (clearing s) = s.epochs.fields
+move_fields (freeing s) = s.epochs.fields
+move_fields (dropping s) = s.epochs.fields

@@ -7,13 +7,13 @@ use Rattle.rec_model.specs.Numbering.{joined}
 use Rattle.rec_model.proofs.Members.{is_in-head, is_in-tail}
 use Rattle.rec_model.proofs.Firsts.{joined-append}
 
-pub named-append : (xs ys : List (Option ℕ)) → named (xs ++ ys) ≡ named xs ++ named ys
+named-append : (xs ys : List (Option ℕ)) → named (xs ++ ys) ≡ named xs ++ named ys
 named-append [] ys = refl
 named-append (None ∷ xs) ys = named-append xs ys
 named-append (Some n ∷ xs) ys = ap (λ ns. n ∷ ns) (named-append xs ys)
 
 -- the next name joins those before it
-pub joined-next : (met : List ℕ) (xs : List (Option ℕ)) (i : ℕ) → i < length xs → joined (joined met (named (take i xs))) (named (get_or xs i None ∷ [])) ≡ joined met (named (take (i + 1) xs))
+joined-next : (met : List ℕ) (xs : List (Option ℕ)) (i : ℕ) → i < length xs → joined (joined met (named (take i xs))) (named (get_or xs i None ∷ [])) ≡ joined met (named (take (i + 1) xs))
 joined-next met xs i within =
     sym (joined-append met (named (take i xs)) (named (get_or xs i None ∷ [])))
     ∙ ap (joined met) (sym (named-append (take i xs) (get_or xs i None ∷ [])) ∙ ap named (sym (take_more xs i None within)))
@@ -23,7 +23,7 @@ pub joined-step : (first met more : List ℕ) (x : Option ℕ) (xs : List (Optio
 joined-step first met more x xs i so_far at within e = e ∙ ap (λ y. joined met (named (y ∷ []))) at ∙ ap (λ ns. joined ns (named (get_or xs i None ∷ []))) so_far ∙ joined-next first xs i within
 
 -- what one of them names, they all name
-pub is_in-named : (n : ℕ) (xs : List (Option ℕ)) (i : ℕ) → get_or xs i None ≡ Some n → is_in n (named xs) ≡ true
+is_in-named : (n : ℕ) (xs : List (Option ℕ)) (i : ℕ) → get_or xs i None ≡ Some n → is_in n (named xs) ≡ true
 is_in-named n [] i e = cc
 is_in-named n (None ∷ xs) zero e = cc
 is_in-named n (None ∷ xs) (suc i) e = is_in-named n xs i e

@@ -21,10 +21,10 @@ closed_has_reached roots children ns of_roots of_children k (child m n from ther
 abbrev pub front : (roots : List ℕ) (children : ℕ → List ℕ) → List ℕ → List ℕ
 front roots children ns = firsts (roots ++ flat_map children ns)
 
-pub has_roots : (roots : List ℕ) (children : ℕ → List ℕ) (ns : List ℕ) (n : ℕ) → is_in n roots ≡ true → is_in n (front roots children ns) ≡ true
+has_roots : (roots : List ℕ) (children : ℕ → List ℕ) (ns : List ℕ) (n : ℕ) → is_in n roots ≡ true → is_in n (front roots children ns) ≡ true
 has_roots roots children ns n there = is_in-joined n [] (roots ++ flat_map children ns) (is_in-left n roots (flat_map children ns) there)
 
-pub has_children : (roots : List ℕ) (children : ℕ → List ℕ) (ns : List ℕ) (m n : ℕ) → is_in m ns ≡ true → is_in n (children m) ≡ true → is_in n (front roots children ns) ≡ true
+has_children : (roots : List ℕ) (children : ℕ → List ℕ) (ns : List ℕ) (m n : ℕ) → is_in m ns ≡ true → is_in n (children m) ≡ true → is_in n (front roots children ns) ≡ true
 has_children roots children ns m n from there = is_in-joined n [] (roots ++ flat_map children ns) (is_in-right n roots (flat_map children ns) (is_in-flat_map children m n ns from there))
 
 -- a numbering lists just what is reached

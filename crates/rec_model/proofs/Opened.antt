@@ -9,17 +9,16 @@ use Rattle.rec_model.specs.Reach.{named, is_in}
 use Rattle.rec_model.specs.Heap.{opening, roots}
 use Rattle.rec_model.specs.Sight.{Sight, IsTaken, words_of, targets_of, field_of, StandsBy, StandsFor, IsSound, opening_sight}
 use Rattle.rec_model.specs.Unfreed.{AreUnfreed}
-use Rattle.rec_model.proofs.Members.{is_in-head, is_in-cons}
-use Rattle.rec_model.proofs.Names.{is_in_cases}
+use Rattle.rec_model.proofs.Members.{is_in-head, is_in-cons, is_in-cases}
 use Rattle.rec_model.proofs.Standing.{reached_is_taken}
 use Rattle.rec_model.proofs.Words.{named-nulls, null_fields}
 
--- the registers of a mutator at opening name slot 0
 -- nulls name nothing
-named-nones : (n : ℕ) → named (replicate n None) ≡ []
+pub named-nones : (n : ℕ) → named (replicate n None) ≡ []
 named-nones zero = refl
 named-nones (suc n) = named-nones n
 
+-- the registers of a mutator at opening name slot 0
 first_register : (registers n : ℕ) → is_in n (named (Some 0 ∷ replicate (registers - 1) None)) ≡ true → n ≡ 0
 first_register registers n there = elim (or_cases (0 == n) (is_in n (named (replicate (registers - 1) None))) there) [
   | inl is ↦ sym (eqb-true 0 n is)
@@ -30,13 +29,13 @@ first_register registers n there = elim (or_cases (0 == n) (is_in n (named (repl
 first_registers : (registers mutators n : ℕ) → is_in n (roots (replicate mutators (Some 0 ∷ replicate (registers - 1) None))) ≡ true → n ≡ 0
 first_registers registers zero n there = absurd (false≢true there)
 first_registers registers (suc mutators) n there =
-    elim (is_in_cases n (named (Some 0 ∷ replicate (registers - 1) None)) (roots (replicate mutators (Some 0 ∷ replicate (registers - 1) None))) there) [
+    elim (is_in-cases n (named (Some 0 ∷ replicate (registers - 1) None)) (roots (replicate mutators (Some 0 ∷ replicate (registers - 1) None))) there) [
       | inl own ↦ first_register registers n own
       | inr others ↦ first_registers registers mutators n others
     ]
 
 -- a free slot's header
-nulls_at : (n s : ℕ) → slice_index_or {A = ℕ} (replicate n 0) s 0 ≡ 0
+pub nulls_at : (n s : ℕ) → slice_index_or {A = ℕ} (replicate n 0) s 0 ≡ 0
 nulls_at n s = elim (cases_lt s n) [
   | inl there ↦ get_or-replicate n s 0 0 there
   | inr past ↦ get_or_past (replicate n 0) s 0 (subst (λ m. m ≤ s) (sym (length-replicate n 0)) past)
@@ -75,7 +74,7 @@ opening_sound slots fields registers mutators some =
     }
 
 -- a list of one value, under a function
-map-replicate : {A B : Type 0} (f : A → B) (n : ℕ) (x : A) → map f (replicate n x) ≡ replicate n (f x)
+pub map-replicate : {A B : Type 0} (f : A → B) (n : ℕ) (x : A) → map f (replicate n x) ≡ replicate n (f x)
 map-replicate f zero x = refl
 map-replicate f (suc n) x = ap (λ xs. f x ∷ xs) (map-replicate f n x)
 

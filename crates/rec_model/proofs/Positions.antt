@@ -8,14 +8,14 @@ use Rattle.rec_model.specs.Listing.{number_in}
 use Rattle.rec_model.proofs.Members.{is_in-cases, is_in-cons, or_none}
 
 -- a number that isn't in the list has the place behind it
-pub place-none : (n : ℕ) (ns : List ℕ) → is_in n ns ≡ false → position_or_len (λ m. m == n) ns ≡ length ns
+place-none : (n : ℕ) (ns : List ℕ) → is_in n ns ≡ false → position_or_len (λ m. m == n) ns ≡ length ns
 place-none n [] h = refl
 place-none n (m ∷ ns) h =
     let parts : ((m == n) ≡ false) × (is_in n ns ≡ false) = or_none (m == n) (is_in n ns) h in
     rw parts.0 (ap (λ k. 1 + k) (place-none n ns parts.1) ∙ omega arith)
 
 -- one that is has a place within
-pub place-some : (n : ℕ) (ns : List ℕ) → is_in n ns ≡ true → position_or_len (λ m. m == n) ns < length ns
+place-some : (n : ℕ) (ns : List ℕ) → is_in n ns ≡ true → position_or_len (λ m. m == n) ns < length ns
 place-some n [] h = absurd (false≢true h)
 place-some n (m ∷ ns) h = elim (m == n) as (λ b. (m == n) ≡ b → position_or_len (λ k. k == n) (m ∷ ns) < length (m ∷ ns)) [
   | true ↦ λ e. rw e (omega arith)

@@ -31,7 +31,7 @@ module _ (w v u : Pending) (member : ℕ → Bool) (gone : List Cleared) (s : Is
         safe = λ z pos is r. t.safe z pos is (sym (s.slots.released z pos) ∙ r);
       }
 
-  pub since_alike : IsSince w u member gone → IsSince v u member gone
+  since_alike : IsSince w u member gone → IsSince v u member gone
   since_alike t =
       let with_fields : IsSince (record v { applied = w.applied; requested = w.requested }) u member gone = subst (λ f. IsSince (record v { fields = f; applied = w.applied; requested = w.requested }) u member gone) (sym s.epochs.fields) (with_epochs_since t) in
       let with_applied : IsSince (record v { requested = w.requested }) u member gone = subst (λ a. IsSince (record v { applied = a; requested = w.requested }) u member gone) (sym s.epochs.applied) with_fields in

@@ -1,5 +1,5 @@
 -- A heap goes on standing for what is seen: one lemma for each thing that a command does to registers, headers and words.
-use Rattle.std.proofs.Common.{◌≡◌, ◌≢◌, ◌⊎◌, inl, inr, ℕ, ◌+◌, ◌-◌, ◌*◌, ◌<◌, List, [], ◌∷◌, ◌++◌, Option, None, Some, true, ◌==◌, if◌then◌else◌, slice_index_or, slice_set, length, map, drop, replicate, refl, sym, ap, subst, ◌∙◌, arith}
+use Rattle.std.proofs.Common.{◌≡◌, ◌≢◌, ◌⊎◌, inl, inr, ℕ, ◌+◌, ◌-◌, ◌*◌, ◌<◌, List, [], ◌∷◌, ◌++◌, Option, None, Some, true, ◌==◌, slice_index_or, slice_set, length, map, drop, replicate, refl, sym, ap, subst, ◌∙◌, arith}
 use Rattle.std.proofs.lemmas.Bool.{false≢true, cond-true, cond-false, eq-eqb, ne_eqb, cases_eq}
 use Rattle.std.specs.Option.{option_map}
 use Rattle.rec_word.specs.Word.{target_of}
@@ -8,12 +8,13 @@ use Rattle.rec_model.specs.Reach.{named, is_in}
 use Rattle.rec_model.specs.Reach.IsReached.{root, child}
 use Rattle.rec_model.specs.Heap.{Heap, Field, Object, object, field, born, null_field, nothing, register, set_register, roots, with_register, with_field, with_object}
 use Rattle.rec_model.specs.Sight.{Sight, IsTaken, words_of, targets_of, word_at, Reaches, field_of, StandsBy, IsSound, sight_with_register, sight_with_word, sight_with_header}
-use Rattle.rec_model.specs.Explained.{GoesOnBy}
+use Rattle.rec_model.specs.Explained.{GoesOnBy, with_number}
 use Rattle.std.proofs.Math.ListN.{get_or-map}
 use Rattle.std.proofs.lemmas.List.{get_or-take, get_or-drop, get_or-set_same, get_or-set_other, get_or_append_left, get_or_push, length_push, length-set, map-set}
-use Rattle.rec_model.proofs.Names.{named_at, named_set, named_tail, is_in_head, is_in_tail, is_in_left, is_in_right, set_register_roots, set_register-map, register-map}
+use Rattle.rec_model.proofs.Names.{named_at, named_set, named_tail, set_register_roots, set_register-map, register-map}
 use Rattle.rec_model.proofs.Within.{all_reached}
 use Rattle.rec_model.proofs.Words.{words_of-set_same, words_of-set_other, named-nulls}
+use Rattle.rec_model.proofs.Members.{is_in-left, is_in-right, is_in-head, is_in-tail}
 
 -- what a register reaches is taken
 pub reached_is_taken : (w : Sight) → IsSound w → (slot : ℕ) → Reaches w slot → IsTaken w slot
@@ -82,16 +83,16 @@ names_agree : (number next : ℕ → ℕ) (xs : List (Option ℕ)) → ((n : ℕ
 names_agree number next [] same = refl
 names_agree number next (None ∷ xs) same = ap (λ ys. None ∷ ys) (names_agree number next xs same)
 names_agree number next (Some n ∷ xs) same =
-    let head : number n ≡ next n = same n (is_in_head n (named xs)) in
-    let tail : map (option_map number) xs ≡ map (option_map next) xs = names_agree number next xs (λ m there. same m (is_in_tail m n (named xs) there)) in
+    let head : number n ≡ next n = same n (is_in-head n (named xs)) in
+    let tail : map (option_map number) xs ≡ map (option_map next) xs = names_agree number next xs (λ m there. same m (is_in-tail m n (named xs) there)) in
     (cc)
 
 -- registers, under two numberings that agree on all that they name
 pub registers_agree : (number next : ℕ → ℕ) (rss : List (List (Option ℕ))) → ((n : ℕ) → is_in n (roots rss) ≡ true → number n ≡ next n) → map (map (option_map number)) rss ≡ map (map (option_map next)) rss
 registers_agree number next [] same = refl
 registers_agree number next (rs ∷ rss) same =
-    let head : map (option_map number) rs ≡ map (option_map next) rs = names_agree number next rs (λ n there. same n (is_in_left n (named rs) (roots rss) there)) in
-    let tail : map (map (option_map number)) rss ≡ map (map (option_map next)) rss = registers_agree number next rss (λ n there. same n (is_in_right n (named rs) (roots rss) there)) in
+    let head : map (option_map number) rs ≡ map (option_map next) rs = names_agree number next rs (λ n there. same n (is_in-left n (named rs) (roots rss) there)) in
+    let tail : map (map (option_map number)) rss ≡ map (map (option_map next)) rss = registers_agree number next rss (λ n there. same n (is_in-right n (named rs) (roots rss) there)) in
     (cc)
 
 -- a name, under two numberings that agree on it
@@ -110,16 +111,12 @@ fields_agree number next (word ∷ words) same =
     let head : field_of number word ≡ field_of next word = ap (λ (x : Option ℕ). let y : Field = record { target = x; word = word } in y) first in
     ap (λ (x : Field). x ∷ map (field_of number) words) head ∙ ap (λ (xs : List Field). field_of next word ∷ xs) rest
 
--- a numbering with one slot more
-abbrev pub with_birth : (ℕ → ℕ) → (slot object : ℕ) → ℕ → ℕ
-with_birth number slot object s = if s == slot then object else number s
-
-pub with_birth-same : (number : ℕ → ℕ) (slot object : ℕ) → with_birth number slot object slot ≡ object
-with_birth-same number slot object = cond-true (slot == slot) object (number slot) (eq-eqb slot slot refl)
+pub with_number-same : (number : ℕ → ℕ) (slot object : ℕ) → with_number number slot object slot ≡ object
+with_number-same number slot object = cond-true (slot == slot) object (number slot) (eq-eqb slot slot refl)
 
 -- another slot keeps its number
-pub with_birth-other : (number : ℕ → ℕ) (slot object s : ℕ) → s ≢ slot → with_birth number slot object s ≡ number s
-with_birth-other number slot object s other = cond-false (s == slot) object (number s) (ne_eqb s slot other)
+pub with_number-other : (number : ℕ → ℕ) (slot object s : ℕ) → s ≢ slot → with_number number slot object s ≡ number s
+with_number-other number slot object s other = cond-false (s == slot) object (number s) (ne_eqb s slot other)
 
 -- what was taken is another slot than a free one
 pub taken_is_other : (w : Sight) (slot s : ℕ) → slice_index_or w.headers slot 0 ≡ 0 → IsTaken w s → s ≢ slot
@@ -132,10 +129,10 @@ taken_before : (w : Sight) (slot header s : ℕ) → s ≢ slot → IsTaken (sig
 taken_before w slot header s other taken = subst (λ n. 0 < n) (get_or-set_other w.headers slot s header 0 other) taken
 
 -- the new object has a number of its own
-born_apart : (number : ℕ → ℕ) (slot object s t : ℕ) → number t < object → with_birth number slot object s ≡ with_birth number slot object t → s ≡ slot → t ≢ slot → ⊥
+born_apart : (number : ℕ → ℕ) (slot object s t : ℕ) → number t < object → with_number number slot object s ≡ with_number number slot object t → s ≡ slot → t ≢ slot → ⊥
 born_apart number slot object s t below same s_is t_other =
-    let new : with_birth number slot object s ≡ object = ap (with_birth number slot object) s_is ∙ with_birth-same number slot object in
-    let old : with_birth number slot object t ≡ number t = with_birth-other number slot object t t_other in
+    let new : with_number number slot object s ≡ object = ap (with_number number slot object) s_is ∙ with_number-same number slot object in
+    let old : with_number number slot object t ≡ number t = with_number-other number slot object t t_other in
     omega arith
 
 -- the last object
@@ -148,15 +145,15 @@ object_old heap x n there = get_or_append_left heap.objects (x ∷ []) nothing n
 
 -- every numbered object is there after a birth
 there_after : (heap : Heap) (x : Object) (number : ℕ → ℕ) (slot s : ℕ) → (s ≢ slot → number s < length heap.objects)
-    → with_birth number slot (length heap.objects) s < length (heap.objects ++ x ∷ [])
+    → with_number number slot (length heap.objects) s < length (heap.objects ++ x ∷ [])
 there_after heap x number slot s there =
     let more : length (heap.objects ++ x ∷ []) ≡ length heap.objects + 1 = length_push heap.objects x in
     elim (cases_eq s slot) [
       | inl is ↦
-          let new : with_birth number slot (length heap.objects) s ≡ length heap.objects = ap (with_birth number slot (length heap.objects)) is ∙ with_birth-same number slot (length heap.objects) in
+          let new : with_number number slot (length heap.objects) s ≡ length heap.objects = ap (with_number number slot (length heap.objects)) is ∙ with_number-same number slot (length heap.objects) in
           omega arith
       | inr other ↦
-          let old : with_birth number slot (length heap.objects) s ≡ number s = with_birth-other number slot (length heap.objects) s other in
+          let old : with_number number slot (length heap.objects) s ≡ number s = with_number-other number slot (length heap.objects) s other in
           let below : number s < length heap.objects = there other in
           omega arith
     ]
@@ -164,10 +161,10 @@ there_after heap x number slot s there =
 -- an object is born in a free slot, on both sides; nothing names it yet
 pub birth_stands : (heap : Heap) (w : Sight) (number : ℕ → ℕ) (slot label : ℕ) → IsSound w → slot < length w.headers → slice_index_or w.headers slot 0 ≡ 0
     → StandsBy heap w number
-    → StandsBy (with_object heap (born w.fields label)) (sight_with_header w slot (label + 1)) (with_birth number slot (length heap.objects))
+    → StandsBy (with_object heap (born w.fields label)) (sight_with_header w slot (label + 1)) (with_number number slot (length heap.objects))
 birth_stands heap w number slot label sound in_range free by =
-    let next : ℕ → ℕ = with_birth number slot (length heap.objects) in
-    let old : (s : ℕ) → s ≢ slot → next s ≡ number s = with_birth-other number slot (length heap.objects) in
+    let next : ℕ → ℕ = with_number number slot (length heap.objects) in
+    let old : (s : ℕ) → s ≢ slot → next s ≡ number s = with_number-other number slot (length heap.objects) in
     let apart : (s : ℕ) → IsTaken w s → number s ≡ next s = λ s taken. sym (old s (taken_is_other w slot s free taken)) in
     let before : (s : ℕ) → s ≢ slot → IsTaken (sight_with_header w slot (label + 1)) s → IsTaken w s = taken_before w slot (label + 1) in
     record {
@@ -187,7 +184,7 @@ birth_stands heap w number slot label sound in_range free by =
             let P : ℕ → Type 0 = λ n. slice_index_or (slice_set w.headers slot (label + 1)) n 0 ≡ (object (with_object heap (born w.fields label)) (next n)).label + 1 in
             subst P (sym s_is)
             (get_or-set_same w.headers slot (label + 1) 0 in_range
-            ∙ sym (ap (λ n. (object (with_object heap (born w.fields label)) n).label + 1) (with_birth-same number slot (length heap.objects)) ∙ ap (λ (x : Object). x.label + 1) (object_born heap (born w.fields label))))
+            ∙ sym (ap (λ n. (object (with_object heap (born w.fields label)) n).label + 1) (with_number-same number slot (length heap.objects)) ∙ ap (λ (x : Object). x.label + 1) (object_born heap (born w.fields label))))
         | inr s_other ↦
             get_or-set_other w.headers slot s (label + 1) 0 s_other ∙ by.label s (before s s_other s_taken)
             ∙ sym (ap (λ n. (object (with_object heap (born w.fields label)) n).label + 1) (old s s_other) ∙ ap (λ (x : Object). x.label + 1) (object_old heap (born w.fields label) (number s) (by.there s (before s s_other s_taken))))
@@ -207,14 +204,14 @@ taken_stays w slot header s free taken = subst (λ n. 0 < n) (sym (get_or-set_ot
 
 -- every object keeps its number at a birth, and the new one has its own
 pub birth_numbers : (heap : Heap) (w : Sight) (number : ℕ → ℕ) (slot header object t r : ℕ) (x : Option ℕ) → slice_index_or w.headers slot 0 ≡ 0
-    → StandsBy heap (sight_with_register (sight_with_header w slot header) t r x) (with_birth number slot object)
-    → GoesOnBy heap w (sight_with_register (sight_with_header w slot header) t r x) number (with_birth number slot object) object
+    → StandsBy heap (sight_with_register (sight_with_header w slot header) t r x) (with_number number slot object)
+    → GoesOnBy heap w (sight_with_register (sight_with_header w slot header) t r x) number (with_number number slot object) object
 birth_numbers heap w number slot header object t r x free by =
     record {
       stands = by;
-      kept = λ s taken. (taken_stays w slot header s free taken, with_birth-other number slot object s (taken_is_other w slot s free taken));
+      kept = λ s taken. (taken_stays w slot header s free taken, with_number-other number slot object s (taken_is_other w slot s free taken));
       born = λ s taken new. elim (cases_eq s slot) [
-        | inl is ↦ ap (with_birth number slot object) is ∙ with_birth-same number slot object
+        | inl is ↦ ap (with_number number slot object) is ∙ with_number-same number slot object
         | inr other ↦ absurd (new (taken_before w slot header s other taken))
       ];
     }

@@ -1,6 +1,6 @@
 -- Sums of weights: a change of one element, and comparisons of weights.
 use Rattle.std.proofs.Common.{◌≡◌, ℕ, zero, suc, ◌+◌, ◌<◌, ◌≤◌, List, [], ◌∷◌, length, get_or, set, replicate, flat_map, sum_by, refl, arith, Bool, true, false, cond, map, filter}
-use Rattle.std.proofs.lemmas.List.Sums.{sum_by-cons, sum_by-append, sum_by-set, get_or-le-sum_by}
+use Rattle.std.proofs.lemmas.List.Sums.{sum_by-cons, sum_by-append}
 use Rattle.rec_model.specs.Sums.{only_if, sum_at}
 
 pub sum_at-set : {X : Type 0} (f : ℕ → X → ℕ) (xs : List X) (i : ℕ) (y d : X) → i < length xs → sum_at f (set xs i y) + f i (get_or xs i d) ≡ sum_at f xs + f i y
@@ -82,10 +82,3 @@ sum_by-map f g (x ∷ xs) = omega (arith, sum_by-cons f (g x) (map g xs), sum_by
 pub sum_by-flat_map : {X Y : Type 0} (f : Y → ℕ) (g : X → List Y) (xs : List X) → sum_by f (flat_map g xs) ≡ sum_by (λ x. sum_by f (g x)) xs
 sum_by-flat_map f g [] = refl
 sum_by-flat_map f g (x ∷ xs) = omega (arith, sum_by-append f (g x) (flat_map g xs), sum_by-cons (λ y. sum_by f (g y)) x xs, sum_by-flat_map f g xs)
-
-pub sum_by-flat_map-set : {X Y : Type 0} (f : Y → ℕ) (g : X → List Y) (xs : List X) (i : ℕ) (y d : X) → i < length xs → sum_by f (flat_map g (set xs i y)) + sum_by f (g (get_or xs i d)) ≡ sum_by f (flat_map g xs) + sum_by f (g y)
-sum_by-flat_map-set f g xs i y d inside = omega (arith, sum_by-flat_map f g xs, sum_by-flat_map f g (set xs i y), sum_by-set (λ x. sum_by f (g x)) xs i y d inside)
-
--- one of the lists weighs at most what all do
-pub sum_by-flat_map-part : {X Y : Type 0} (f : Y → ℕ) (g : X → List Y) (xs : List X) (i : ℕ) (d : X) → i < length xs → sum_by f (g (get_or xs i d)) ≤ sum_by f (flat_map g xs)
-sum_by-flat_map-part f g xs i d inside = omega (arith, sum_by-flat_map f g xs, get_or-le-sum_by (λ x. sum_by f (g x)) xs i d inside)

@@ -108,3 +108,7 @@ pub record IsTold (fields : ℕ) (heap : Heap) (t : ℕ) (cmd : Cmd) (told : Tol
   pub answer : AnswersAs cmd (asked fields heap t cmd told).answer told.answer
   pub saw : told.saw ≡ (asked fields heap t cmd told).saw
   pub left : LeavesWord heap t cmd told
+
+-- an answer that saw and left no word
+abbrev pub plain : Answer → Told
+plain answer = record { answer = answer; saw = 0; left = 0 }

@@ -1,10 +1,14 @@
 -- When every heap that stood for what was seen explains what a command was told.
-use Rattle.std.specs.Prelude.{◌≡◌, ℕ, length}
+use Rattle.std.specs.Prelude.{◌≡◌, ℕ, ◌==◌, if◌then◌else◌, length}
 use Rattle.rec_model.specs.declared.command.Cmd.{Cmd}
 use Rattle.rec_model.specs.declared.told.Told.{Told}
 use Rattle.rec_model.specs.Heap.{Heap}
 use Rattle.rec_model.specs.Asking.{asked, IsTold}
 use Rattle.rec_model.specs.Sight.{Sight, IsTaken, StandsBy}
+
+-- a numbering with another number for one slot
+abbrev pub with_number : (ℕ → ℕ) → (slot object : ℕ) → ℕ → ℕ
+with_number number slot object s = if s == slot then object else number s
 
 -- A heap stands for what is seen after a command by numbers that go on from those before: each object keeps its own, and
 -- what stands in a slot that was free is the next object.

@@ -1,6 +1,6 @@
 -- When journals, frees and sweep marks have one order that the heap that never frees explains.
-use Rattle.std.specs.Prelude.{◌≡◌, ◌⊎◌, ℕ, ◌+◌, ◌-◌, ◌%◌, ◌<◌, ◌≤◌, ◌==◌, ◌&&◌, not, if◌then◌else◌, Bool, true, false, Option, None, Some, List, [], ◌∷◌, ◌++◌, length, take, filter, slice_index_or, slice_set}
-use Rattle.std.specs.List.{slice_get, filter_map}
+use Rattle.std.specs.Prelude.{◌≡◌, ◌≢◌, ◌⊎◌, ℕ, ◌+◌, ◌-◌, ◌%◌, ◌<◌, ◌≤◌, ◌==◌, ◌&&◌, not, if◌then◌else◌, Bool, true, false, Option, None, Some, List, [], ◌∷◌, ◌++◌, length, take, filter, slice_index_or, slice_set}
+use Rattle.std.specs.List.{All, slice_get, filter_map}
 use Rattle.rec_word.specs.Word.{stamp_of}
 use Rattle.rec_model.specs.declared.command.Cmd.{Cmd}
 use Rattle.rec_model.specs.declared.command.Cmd.TheVariants as commands
@@ -159,3 +159,7 @@ pub record IsLegalOrder (limits : Limits) (start : Moment) (journals : List (Lis
   pub fits : (i : ℕ) (e : Event) → slice_get events i ≡ Some e → Fits limits (moment limits start events i) e
   pub busy : (i t before after : ℕ) (line : Line) → slice_get events i ≡ Some (Answers t line) → line.1.answer ≡ answers.Busy before after → BusyFits limits start events t i before after
   pub stamped : Stamped events
+
+-- no answer is that a log is full
+abbrev pub NoLogFull : List (List Line) → Type 0
+NoLogFull journals = All (All (λ (line : Line). line.1.answer ≢ answers.LogFull)) journals

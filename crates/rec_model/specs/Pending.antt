@@ -1,13 +1,13 @@
 -- What a heap that counts late has to account for: its field words, its registers, and what is not counted yet.
-use Rattle.std.specs.Prelude.{ℕ, ◌+◌, ◌/◌, ◌%◌, ◌^◌, ◌<◌, ◌==◌, Bool, List, slice_index_or}
+use Rattle.std.specs.Prelude.{ℕ, ◌+◌, ◌/◌, ◌<◌, ◌==◌, Bool, List, slice_index_or}
 use Rattle.std.specs.List.{sum_by}
-use Rattle.rec_word.specs.Word.{stamp_of}
+use Rattle.rec_word.specs.Word.{stamp_of, target_bits}
 use Rattle.rec_model.specs.Sums.{only_if, one_if_same}
 
 -- A node is the object that a slot holds, from its birth to its freeing. It is numbered by its slot plus one; 0 is null.
 -- The node that a field word names.
 unfoldable pub node_of : (word : ℕ) → ℕ
-node_of word = word % 2 ^ 16
+node_of word = target_bits word
 
 -- the epoch in which a field word was put: that of its stamp
 unfoldable pub epoch_of : (word : ℕ) → ℕ

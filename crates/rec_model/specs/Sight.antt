@@ -90,14 +90,3 @@ opening_sight slots fields registers mutators =
       words = replicate (slots * fields) 0;
       registers = replicate mutators (Some 0 ∷ replicate (registers - 1) None);
     }
-
--- with these headers and words in place of its own
-abbrev pub sight_with : Sight → (headers words : List ℕ) → Sight
-sight_with w headers words = record w { headers = headers; words = words }
-
--- just what a register reaches is kept: every other slot is free and null
-pub record Collects (w : Sight) (headers words : List ℕ) : Type 0 where
-  pub slots : length headers ≡ length w.headers
-  pub places : length words ≡ length w.words
-  pub kept : (s : ℕ) → Reaches w s → (slice_index_or headers s 0 ≡ slice_index_or w.headers s 0) × (words_of (sight_with w headers words) s ≡ words_of w s)
-  pub freed : (s : ℕ) → s < length w.headers → (Reaches w s → ⊥) → (slice_index_or headers s 0 ≡ 0) × (words_of (sight_with w headers words) s ≡ replicate w.fields 0)

@@ -1,9 +1,11 @@
 pub mod Found
+pub mod LogStamps
+pub mod Machines
 pub mod Polls
 pub mod Refusals
-pub mod Skips
-pub mod Sizes
 pub mod Scans
+pub mod Sizes
+pub mod Skips
 pub mod Steps
 pub mod Words
 pub mod Sends

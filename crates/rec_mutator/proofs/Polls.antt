@@ -7,7 +7,7 @@ use Rattle.rec_model.specs.declared.told.Told.{Told}
 use Rattle.rec_log.specs.declared.contents.Contents.{Contents}
 use Rattle.rec_log.specs.declared.entry.Entry.{Entry}
 use Rattle.rec_mutator.specs.Causes.{PollHasCause, is_giving}
-use Rattle.rec_mutator.specs.Private.{Private, is_busy, answer_of, answer_at}
+use Rattle.rec_mutator.specs.Private.{Private, is_busy, answer_of, answer_at, is_busy_at}
 use Rattle.rec_mutator.specs.Step.{Step, Decides, GoesOn}
 use Rattle.rec_mutator.specs.Took.{took_of, swapped_at, swapped_of, step_of, IsBetween}
 use Rattle.rec_mutator.specs.declared.made.Made.{Made}
@@ -57,7 +57,7 @@ same_epoch : (x y : ℕ) → ◌≡◌ {A = Option Made} (Some (makes.Crossed (S
 same_epoch x y is = cc
 
 -- every step that ends a poll has its cause
-pub poll_cause : {p : Private} {word : ℕ} {box : Contents} {op : Op} {q : Private} → Step p word box op q → PollHasCause p q word
+poll_cause : {p : Private} {word : ℕ} {box : Contents} {op : Op} {q : Private} → Step p word box op q → PollHasCause p q word
 unfolding is_polled is_polling
 poll_cause {word = word} (Step.null reg d) = decided word refl refl d
 poll_cause {word = word} (Step.copy dst src d) = decided word refl refl d
@@ -132,3 +132,8 @@ before_swap p q word box (Finished work made) is cause = cause
 pub took_polled : (p : Private) (word : ℕ) → is_busy p ≡ true → IsBetween p.phase → PollHasCause p (took_of p word) word
 unfolding step_of swapped_of
 took_polled p word busy between = before_swap p (took_of p word) word p.log (took_of p word).phase refl (poll_cause (step_made p word p.log busy between))
+
+-- a busy mutator has answered nothing
+pub busy_none : (phase : Phase) → is_busy_at phase ≡ true → answer_at phase ≡ None
+busy_none (Finished work made) busy = cc
+busy_none _ busy = refl

@@ -108,7 +108,7 @@ has_room : (p : Private) (reg : ℕ) → IsScan p reg → IsLogFull p → ⊥
 has_room p reg scan full = let room : length p.log.entries < p.log.capacity = scan.room in omega arith
 
 -- what holds in the phase of a machine
-at_phase : (p : Private) (at : Phase) → IsMachine p → p.phase ≡ at → IsAt p at
+pub at_phase : (p : Private) (at : Phase) → IsMachine p → p.phase ≡ at → IsAt p at
 at_phase p at kept is = subst (IsAt p) is kept.now
 
 -- the freed word stays the same along an equation

@@ -9,9 +9,10 @@ use Rattle.rec_model.specs.declared.command.Cmd.TheVariants as commands
 use Rattle.rec_model.specs.declared.told.Told.{Told}
 use Rattle.rec_log.specs.declared.contents.Contents.{Contents}
 use Rattle.rec_log.specs.declared.entry.Entry.{Entry}
+use Rattle.rec_model.specs.Asking.{plain}
 use Rattle.rec_mutator.specs.Private.{Private, register, is_full, is_busy_at, is_busy}
 use Rattle.rec_mutator.specs.Next.{next_of, next_at, read_op, write_op, label_op}
-use Rattle.rec_mutator.specs.Took.{took_of, took_at, plain, moved, answered, read_by, written_by, label_by, polled, swapped_at, swapped_of, step_of, left_at, left_of, IsBetween}
+use Rattle.rec_mutator.specs.Took.{took_of, took_at, moved, answered, read_by, written_by, label_by, polled, swapped_at, swapped_of, step_of, left_at, left_of, IsBetween}
 use Rattle.rec_mutator.specs.Step.{Step, Decides, GoesOn, Crosses, IsStill, LeavesBox, WholeStep}
 use Rattle.rec_mutator.specs.declared.phase.Phase.{Phase}
 use Rattle.rec_mutator.specs.declared.phase.Phase.TheVariants.{Idle, Begun, Scanning, Scanned, Crossing, Swapping, Giving, Finished}
@@ -207,17 +208,6 @@ here_same p word box busy none = unswapped (took_of p word) box (step_between (l
 -- it is a whole step
 here_made : (p : Private) (word : ℕ) (box : Contents) → is_busy p ≡ true → TakesNone p.phase → Step p word box (next_of p) (step_of p word box)
 here_made p word box busy none = subst (Step p word box (next_of p)) (sym (here_same p word box busy none)) (learnt_made p word box busy none)
-
--- no mailbox waits to be swapped where none is taken
-pub none_between : (phase : Phase) → TakesNone phase → IsBetween phase
-none_between Idle none = tt
-none_between (Begun work) none = tt
-none_between (Scanning reg label before slot) none = tt
-none_between (Scanned reg label before) none = tt
-none_between Crossing none = tt
-none_between Swapping none = none
-none_between Giving none = tt
-none_between (Finished work made) none = tt
 
 -- a step that takes the own mailbox
 crossing_made : (p : Private) (word : ℕ) (box : Contents) → p.phase ≡ Crossing → Step p word box (next_of p) (step_of p word box)

@@ -3,6 +3,7 @@ use Rattle.std.proofs.Common.{◌≡◌, ℕ, ◌+◌, ◌*◌, ◌<◌, ◌≤�
 use Rattle.std.proofs.Math.Nat.{mul-le-mul_left}
 use Rattle.rec_word.specs.Place.{place_of}
 use Rattle.rec_word.specs.declared.op.Op.TheVariants as ops
+use Rattle.rec_word.proofs.FieldPlaces.{place_within}
 use Rattle.rec_model.specs.declared.command.Cmd.{Cmd}
 use Rattle.rec_model.specs.declared.command.Cmd.TheVariants as commands
 use Rattle.rec_mutator.specs.Private.{Private, register, is_full, HasOperands, IsValid, IsAt, IsMachine}
@@ -12,12 +13,6 @@ use Rattle.rec_mutator.specs.declared.phase.Phase.{Phase}
 use Rattle.rec_mutator.specs.declared.phase.Phase.TheVariants.{Idle, Begun, Scanning, Scanned, Crossing, Swapping, Giving, Finished}
 use Rattle.rec_mutator.specs.declared.work.Work.{Work}
 use Rattle.rec_mutator.specs.declared.work.Work.TheVariants as works
-
--- a field of a slot is one of the places
-place_within : (slots fields slot f : ℕ) → slot < slots → f < fields → place_of slot f fields < slots * fields
-place_within slots fields slot f there in_range =
-    let next : fields * (slot + 1) ≤ fields * slots = mul-le-mul_left fields (omega arith) in
-    omega (arith, next)
 
 -- what is null or a slot of the heap
 abbrev IsSlot : Private → Option ℕ → Type 0

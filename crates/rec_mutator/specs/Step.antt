@@ -10,12 +10,12 @@ use Rattle.rec_model.specs.declared.answer.Answer.TheVariants as answers
 use Rattle.rec_model.specs.declared.command.Cmd.{Cmd}
 use Rattle.rec_model.specs.declared.command.Cmd.TheVariants as commands
 use Rattle.rec_model.specs.declared.told.Told.{Told}
-use Rattle.rec_model.specs.Asking.{null_or_object, same, yes_or_no}
+use Rattle.rec_model.specs.Asking.{null_or_object, same, yes_or_no, plain}
 use Rattle.rec_log.specs.declared.contents.Contents.{Contents}
 use Rattle.rec_log.specs.declared.entry.Entry.{Entry}
 use Rattle.rec_log.specs.declared.entry.Entry.TheVariants as entries
 use Rattle.rec_mutator.specs.Private.{Private, register, word_for}
-use Rattle.rec_mutator.specs.Took.{plain, moved, answered, IsRequested}
+use Rattle.rec_mutator.specs.Took.{moved, answered, IsRequested}
 use Rattle.rec_mutator.specs.declared.made.Made.TheVariants as makes
 use Rattle.rec_mutator.specs.declared.phase.Phase.{Phase}
 use Rattle.rec_mutator.specs.declared.phase.Phase.TheVariants.{Begun, Scanning, Scanned, Crossing, Giving, Finished}

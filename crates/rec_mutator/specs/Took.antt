@@ -11,7 +11,7 @@ use Rattle.rec_model.specs.declared.answer.Answer.TheVariants as answers
 use Rattle.rec_model.specs.declared.command.Cmd.{Cmd}
 use Rattle.rec_model.specs.declared.command.Cmd.TheVariants as commands
 use Rattle.rec_model.specs.declared.told.Told.{Told}
-use Rattle.rec_model.specs.Asking.{null_or_object, same, yes_or_no}
+use Rattle.rec_model.specs.Asking.{null_or_object, same, yes_or_no, plain}
 use Rattle.rec_log.specs.declared.contents.Contents.{Contents}
 use Rattle.rec_log.specs.declared.entry.Entry.{Entry}
 use Rattle.rec_log.specs.declared.entry.Entry.TheVariants as entries
@@ -25,10 +25,6 @@ use Rattle.rec_mutator.specs.declared.work.Work.TheVariants as works
 -- a work begins; no step of it is made
 unfoldable pub begun_of : Private → Work → Private
 begun_of p work = record p { phase = Begun work; steps = 0 }
-
--- an answer that saw and left no word
-abbrev pub plain : Answer → Told
-plain answer = record { answer = answer; saw = 0; left = 0 }
 
 -- one step was made, and this comes next
 abbrev pub moved : Private → Phase → Private

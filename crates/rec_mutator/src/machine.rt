@@ -2,13 +2,13 @@ ghost use Rattle.std.specs.Prelude.{◌≡◌, ◌⊎◌, ◌+◌, ◌^◌, ◌<
 ghost use Rattle.rec_word.specs.Place.{place_of};
 ghost use Rattle.rec_mutator.specs.Private.{Private, opened, register, is_full, word_for, is_busy, work_of, answer_of, HasOperands, IsValid, limit_of, IsScan, IsMachine, KeepsSizes};
 ghost use Rattle.rec_mutator.specs.Next.{next_of, begun_op, first_op, own_word};
-ghost use Rattle.rec_model.specs.Asking.{null_or_object, same, yes_or_no};
+ghost use Rattle.rec_model.specs.Asking.{null_or_object, same, yes_or_no, plain};
 ghost use Rattle.rec_mutator.specs.Causes.{HasCause, PollHasCause};
 ghost use Rattle.rec_mutator.specs.declared.made.Made.TheVariants as makes;
 ghost use Rattle.rec_mutator.specs.declared.work.Work.TheVariants as works;
 ghost use Rattle.rec_model.specs.declared.command.Cmd.{Cmd as Command};
 ghost use Rattle.rec_model.specs.declared.told.Told.{Told as Answered};
-ghost use Rattle.rec_mutator.specs.Took.{begun_of, begun_by, took_of, took_at, plain, moved, answered, with_register, first_by, polled, probed, none_free, skipped_to, spare, swapped_of, IsAhead, IsFound, IsRequested, IsSwapping, IsBetween};
+ghost use Rattle.rec_mutator.specs.Took.{begun_of, begun_by, took_of, took_at, moved, answered, with_register, first_by, polled, probed, none_free, skipped_to, spare, swapped_of, IsAhead, IsFound, IsRequested, IsSwapping, IsBetween};
 
 use crate::phase::Phase;
 use crate::{Made, Work};

@@ -6,7 +6,7 @@ use Rattle.rec_model.specs.Sight.{Sight, IsTaken, words_of, StandsBy, IsSound}
 use Rattle.rec_model.proofs.Standing.{fields_agree, reached_is_taken, registers_agree}
 
 -- It stands by a numbering that agrees.
-pub agree_stands : (heap : Heap) (w : Sight) (number next : ℕ → ℕ) → IsSound w → ((s : ℕ) → IsTaken w s → number s ≡ next s) → StandsBy heap w number → StandsBy heap w next
+agree_stands : (heap : Heap) (w : Sight) (number next : ℕ → ℕ) → IsSound w → ((s : ℕ) → IsTaken w s → number s ≡ next s) → StandsBy heap w number → StandsBy heap w next
 agree_stands heap w number next sound agree by =
     record {
       one_to_one = λ s t s_taken t_taken same. by.one_to_one s t s_taken t_taken (agree s s_taken ∙ same ∙ sym (agree t t_taken));

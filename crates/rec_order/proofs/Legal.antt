@@ -11,6 +11,7 @@ use Rattle.rec_model.specs.Heap.{Heap}
 use Rattle.rec_model.specs.LegalOrder.{Line, Event, Limits, Moment, line_by, IsLegalOrder}
 use Rattle.rec_model.specs.Sight.{Sight, IsTaken, StandsBy}
 use Rattle.rec_model.specs.Unfreed.{AreUnfreed}
+use Rattle.rec_model.specs.Explained.{with_number}
 use Rattle.rec_model.proofs.Growing.{legal_empty}
 use Rattle.rec_model.proofs.Unfreed.{taken_or_free, taken_within}
 use Rattle.rec_mutator.specs.Private.{Private, is_busy_at}
@@ -21,11 +22,11 @@ use Rattle.rec_core.specs.Asked.{told_in, told_in_all}
 use Rattle.rec_core.specs.Core.{Core, sight, mutator, nobody, log_length}
 use Rattle.rec_core.specs.Kept.{IsKept}
 use Rattle.rec_core.specs.Moves.{Move, AllFit, after_move, after_moves}
-use Rattle.rec_order.specs.Naming.{Naming, with_number, named_after, naming_of}
+use Rattle.rec_order.specs.Naming.{Naming, named_after, naming_of}
 use Rattle.rec_order.specs.Events.{swept_by, events_in, events_of}
 use Rattle.rec_order.specs.Legal.{limits_of, moment_of, AreIdle, AreJournals, HasLegalOrder}
 use Rattle.rec_order.proofs.Orders.{HasOrder, moves_order}
-use Rattle.rec_model.proofs.Standing.{with_birth-same, with_birth-other}
+use Rattle.rec_model.proofs.Standing.{with_number-same, with_number-other}
 use Rattle.rec_order.proofs.Steps.{Meets}
 use Rattle.rec_core.specs.declared.config.Config.{Config}
 use Rattle.rec_core.proofs.Runs.{move_stays}
@@ -39,8 +40,8 @@ has_homes w number apart (suc bound) =
       | inl here ↦ (
         with_number home (number bound) bound,
         λ s below taken. elim (cases_eq s bound) [
-          | inl same ↦ ap (λ x. with_number home (number bound) bound (number x)) same ∙ with_birth-same home (number bound) bound ∙ sym same
-          | inr other ↦ with_birth-other home (number bound) bound (number s) (λ same. other (apart s bound taken here same)) ∙ so s (omega (arith, below, other)) taken
+          | inl same ↦ ap (λ x. with_number home (number bound) bound (number x)) same ∙ with_number-same home (number bound) bound ∙ sym same
+          | inr other ↦ with_number-other home (number bound) bound (number s) (λ same. other (apart s bound taken here same)) ∙ so s (omega (arith, below, other)) taken
         ],
       )
       | inr none ↦ (

@@ -85,7 +85,7 @@ module _ (limits : Limits) (start : Moment) (lines : List (List Line)) (events :
       ∙ kept.headers ∙ sym slots_are
 
   -- the answer fits
-  pub step_fits : IsSound (sight (stepped w t)) → log_length w t ≤ slice_index_or (after_all limits start events).done (t - 1) 0 → AnswerFits limits (after_all limits start events) t (cmd, told)
+  step_fits : IsSound (sight (stepped w t)) → log_length w t ≤ slice_index_or (after_all limits start events).done (t - 1) 0 → AnswerFits limits (after_all limits start events) t (cmd, told)
   step_fits sound logged =
       record {
         told = (explained limits w (stepped w t) (after_all limits start events) n home t cmd told (ap (λ (l : Limits). l.fields) numbers) kept.headers sound refl said so).0;
@@ -103,7 +103,7 @@ module _ (limits : Limits) (start : Moment) (lines : List (List Line)) (events :
       }
 
   -- a busy answer has its evidence
-  pub step_busy : Meets limits start events home n.next t (mutator w t).phase → (before after : ℕ) → told.answer ≡ answers.Busy before after
+  step_busy : Meets limits start events home n.next t (mutator w t).phase → (before after : ℕ) → told.answer ≡ answers.Busy before after
       → BusyFits limits start (events ++ Answers t (cmd, told) ∷ []) t (length events) before after
   step_busy meets before after answer =
       let (none, word, moves) = (cause.busy before after).0 answer in
@@ -121,7 +121,7 @@ module _ (limits : Limits) (start : Moment) (lines : List (List Line)) (events :
   epoch_is = epoch_here (mutator w t) (commanded_here (mutator w t) cmd work)
 
   -- its word is stamped anew
-  pub step_anew : ((i v : ℕ) (d : Event) → slice_get events i ≡ Some d → left_by d ≡ Some v → HasEntry w (stamp_of v)) → StampsAnew events t (cmd, told)
+  step_anew : ((i v : ℕ) (d : Event) → slice_get events i ≡ Some d → left_by d ≡ Some v → HasEntry w (stamp_of v)) → StampsAnew events t (cmd, told)
   step_anew stamps =
       record {
         writer = λ word leaves. ap (λ (s : Stamp). s.writer) (stamp_is cmd told _ word said.stamp leaves);

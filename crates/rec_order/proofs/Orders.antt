@@ -331,7 +331,7 @@ module _ (limits : Limits) (start : Moment) where
       go (Says.crossed answer work phase still epoch log) = silent_order lines events w n home t numbers kept is busy (crossed_silent w t kept is busy ((mutator w t).epoch + 1) answer still log) so
 
   -- One move more.
-  pub move_order : (events : List Event) (w : Core) (n : Naming) (m : Move) → limits ≡ limits_of w.config → IsKept w → Fits w m → HasOrder events w n → HasOrder (events ++ events_in n w m) (after_move w m) (named_after n w m)
+  move_order : (events : List Event) (w : Core) (n : Naming) (m : Move) → limits ≡ limits_of w.config → IsKept w → Fits w m → HasOrder events w n → HasOrder (events ++ events_in n w m) (after_move w m) (named_after n w m)
   move_order events w n (Move.Begins t work) numbers kept fits (lines, home, so) =
       let P : List Event → Type 0 = λ es. HasOrder es (begun w t work) n in
       subst P (sym (append-nil events)) (lines, home, begun_order lines events w n home t work kept fits.0 fits.1 so)

@@ -17,6 +17,7 @@ use Rattle.rec_mutator.specs.declared.phase.Phase.TheVariants as at
 use Rattle.rec_mutator.specs.declared.work.Work.{Work}
 use Rattle.rec_mutator.specs.declared.work.Work.TheVariants as works
 use Rattle.rec_collector.specs.Next.{next_of}
+use Rattle.rec_mutator.proofs.Polls.{busy_none}
 use Rattle.rec_core.specs.Asked.{told_by}
 use Rattle.rec_core.specs.Cells.{births_of}
 use Rattle.rec_core.specs.Config.{IsMutator, HasLabel}
@@ -36,12 +37,12 @@ use Rattle.rec_order.proofs.Stands.{NamesOn, born_taken}
 use Rattle.rec_order.proofs.Steps.{same_names, step_names}
 
 -- where the moves of two lists lead
-pub after_both : (w : Core) (ms ns : List Move) → after_moves w (ms ++ ns) ≡ after_moves (after_moves w ms) ns
+after_both : (w : Core) (ms ns : List Move) → after_moves w (ms ++ ns) ≡ after_moves (after_moves w ms) ns
 after_both w [] ns = refl
 after_both w (m ∷ ms) ns = after_both (after_move w m) ms ns
 
 -- two lists of moves fit one after the other
-pub fit_both : (w : Core) (ms ns : List Move) → AllFit w ms → AllFit (after_moves w ms) ns → AllFit w (ms ++ ns)
+fit_both : (w : Core) (ms ns : List Move) → AllFit w ms → AllFit (after_moves w ms) ns → AllFit w (ms ++ ns)
 fit_both w [] ns fit more = more
 fit_both w (m ∷ ms) ns fit more = (fit.0, fit_both (after_move w m) ms ns fit.1 more)
 
@@ -51,7 +52,7 @@ names_both n w [] ns = refl
 names_both n w (m ∷ ms) ns = names_both (named_after n w m) (after_move w m) ms ns
 
 -- what two lists tell
-pub events_both : (n : Naming) (w : Core) (ms ns : List Move) → events_of n w (ms ++ ns) ≡ events_of n w ms ++ events_of (named_after_all n w ms) (after_moves w ms) ns
+events_both : (n : Naming) (w : Core) (ms ns : List Move) → events_of n w (ms ++ ns) ≡ events_of n w ms ++ events_of (named_after_all n w ms) (after_moves w ms) ns
 events_both n w [] ns = refl
 events_both n w (m ∷ ms) ns =
     ap (λ es. events_in n w m ++ es) (events_both (named_after n w m) (after_move w m) ms ns)
@@ -88,11 +89,6 @@ moves_made n w (m ∷ ms) =
     let rest : (named_after_all (named_after n w m) (after_move w m) ms).next + (after_move w m).made ≡ (named_after n w m).next + (after_moves (after_move w m) ms).made = moves_made (named_after n w m) (after_move w m) ms in
     let first : (named_after n w m).next + w.made ≡ n.next + (after_move w m).made = move_made n w m in
     omega (arith, rest, first)
-
--- what is at work has no answer
-busy_none : (phase : Phase) → is_busy_at phase ≡ true → answer_at phase ≡ None
-busy_none (at.Finished work made) busy = cc
-busy_none _ busy = refl
 
 -- A run from one state to another that tells these events, and takes one naming to another.
 pub record Runs (w v : Core) (told : List Event) (n k : Naming) : Type 0 where

@@ -7,13 +7,13 @@ use Rattle.rec_model.specs.LegalOrder.{Line, Event, Limits, Moment, after, after
 use Rattle.rec_model.specs.LegalOrder.Event.{Answers}
 use Rattle.rec_model.specs.Numbering.{IsDistinct}
 use Rattle.rec_model.specs.Reach.{is_in}
+use Rattle.rec_model.specs.Explained.{with_number}
 use Rattle.rec_model.proofs.Growing.{get_cases, moment-grow, moment-last, quiet_grow}
 use Rattle.rec_model.proofs.Members.{is_in-cons}
-use Rattle.rec_model.proofs.Standing.{with_birth-other}
-use Rattle.rec_order.specs.Naming.{with_number}
+use Rattle.rec_model.proofs.Standing.{with_number-other}
 
 -- the moment at the old end
-pub moment-here : (limits : Limits) (start : Moment) (events : List Event) → moment limits start events (length events) ≡ after_all limits start events
+moment-here : (limits : Limits) (start : Moment) (events : List Event) → moment limits start events (length events) ≡ after_all limits start events
 moment-here limits start events = let end : length events ≤ length events = omega arith in ap (after_all limits start) (take_all (length events) events end)
 
 -- This was so at some moment since the mutator's last event, or since the start.
@@ -24,7 +24,7 @@ pub record Since (limits : Limits) (start : Moment) (events : List Event) (t : �
   pub holds : P (moment limits start events at)
 
 -- it is so now
-pub since_now : (limits : Limits) (start : Moment) (events : List Event) (t : ℕ) (P : Moment → Type 0) → P (after_all limits start events) → Since limits start events t P
+since_now : (limits : Limits) (start : Moment) (events : List Event) (t : ℕ) (P : Moment → Type 0) → P (after_all limits start events) → Since limits start events t P
 since_now limits start events t P holds =
     record {
       at = length events;
@@ -34,7 +34,7 @@ since_now limits start events t P holds =
     }
 
 -- and it stays so while the mutator has no event
-pub since_grow : (limits : Limits) (start : Moment) (events : List Event) (t : ℕ) (P : Moment → Type 0) (e : Event) → is_by t e ≡ false → Since limits start events t P → Since limits start (events ++ e ∷ []) t P
+since_grow : (limits : Limits) (start : Moment) (events : List Event) (t : ℕ) (P : Moment → Type 0) (e : Event) → is_by t e ≡ false → Since limits start events t P → Since limits start (events ++ e ∷ []) t P
 since_grow limits start events t P e other since =
     let longer : length (events ++ e ∷ []) ≡ length events + 1 = length_push events e in
     let within : since.at ≤ length events = since.within in
@@ -97,7 +97,7 @@ met_born limits start events home next t before slot place has =
       began = has.began;
       met = λ s passed.
           let (n, is, below, since) = has.met s passed in
-          (n, with_birth-other home next place n (λ same. omega (arith, below, same)) ∙ is, omega (arith, below), since);
+          (n, with_number-other home next place n (λ same. omega (arith, below, same)) ∙ is, omega (arith, below), since);
     }
 
 -- the objects that were met in the first slots

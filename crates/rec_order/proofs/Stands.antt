@@ -6,7 +6,7 @@ use Rattle.rec_model.specs.declared.command.Cmd.{Cmd}
 use Rattle.rec_model.specs.declared.command.Cmd.TheVariants as commands
 use Rattle.rec_model.specs.declared.told.Told.{Told}
 use Rattle.rec_model.specs.Asking.{asked, IsTold}
-use Rattle.rec_model.specs.Explained.{GoesOnBy}
+use Rattle.rec_model.specs.Explained.{GoesOnBy, with_number}
 use Rattle.rec_model.specs.Heap.{Heap}
 use Rattle.rec_model.specs.LegalOrder.{Limits, Moment, after_answer, after as moment_after, is_birth, Fits}
 use Rattle.rec_model.specs.LegalOrder.Event.{Frees, Marks}
@@ -19,9 +19,9 @@ use Rattle.rec_model.proofs.Unfreed.{taken_or_free, unfreed_after, unfreed_after
 use Rattle.rec_core.specs.Core.{Core, sight}
 use Rattle.rec_core.specs.Shown.{IsDecided, IsBirthplace, sight_told, sight_with_birth}
 use Rattle.rec_core.specs.Swept.{swept}
-use Rattle.rec_order.specs.Naming.{Naming, with_number, born_in}
+use Rattle.rec_order.specs.Naming.{Naming, born_in}
 use Rattle.rec_order.proofs.Agreement.{agree_goes_on}
-use Rattle.rec_model.proofs.Standing.{with_birth-same, with_birth-other}
+use Rattle.rec_model.proofs.Standing.{with_number-same, with_number-other}
 use Rattle.rec_collector.specs.Kept.{swept_at}
 
 -- The moment's heap stands for the world by this naming, and the unfreed objects are those in taken slots; marks are counted as
@@ -151,8 +151,8 @@ module _ (limits : Limits) (w v : Core) (m : Moment) (n : Naming) (home : ℕ �
       let later : ℕ → ℕ = explained.1.0 in
       let on : GoesOnBy (asked limits.fields m.heap t cmd told).heap (sight w) (sight v) n.number later (length m.heap.objects) = explained.1.1 in
       let agree : (s : ℕ) → IsTaken (sight v) s → later s ≡ with_number n.number slot n.next s = λ s taken. elim (taken_or_free (sight w) s) [
-        | inl old ↦ (on.kept s old).1 ∙ sym (with_birth-other n.number slot n.next s (taken_is_other (sight w) slot s place.free old))
-        | inr new ↦ on.born s taken new ∙ sym so.next ∙ sym (with_birth-same n.number slot n.next) ∙ ap (with_number n.number slot n.next) (sym (born_here slot s birth seen taken new))
+        | inl old ↦ (on.kept s old).1 ∙ sym (with_number-other n.number slot n.next s (taken_is_other (sight w) slot s place.free old))
+        | inr new ↦ on.born s taken new ∙ sym so.next ∙ sym (with_number-same n.number slot n.next) ∙ ap (with_number n.number slot n.next) (sym (born_here slot s birth seen taken new))
       ] in
       let goes : GoesOnBy (asked limits.fields m.heap t cmd told).heap (sight w) (sight v) n.number (with_number n.number slot n.next) (length m.heap.objects)
       = agree_goes_on (asked limits.fields m.heap t cmd told).heap (sight w) (sight v) n.number later (with_number n.number slot n.next) (length m.heap.objects) sound agree on in
@@ -160,18 +160,18 @@ module _ (limits : Limits) (w v : Core) (m : Moment) (n : Naming) (home : ℕ �
         stands = goes.stands;
         next = let more : length (asked limits.fields m.heap t cmd told).heap.objects ≡ length m.heap.objects + 1 = grown ∙ ap (λ (b : Bool). length m.heap.objects + (if b then 1 else 0)) birth in ap (λ x. x + 1) so.next ∙ sym more;
         unfreed = unfreed_after limits.fields m.heap (sight w) (sight v) n.number (with_number n.number slot n.next) t cmd told m.unfreed so.stands goes
-            (λ _. (slot, born_taken w v slot t cmd told headers birth place seen, with_birth-same n.number slot n.next ∙ so.next)) so.unfreed;
+            (λ _. (slot, born_taken w v slot t cmd told headers birth place seen, with_number-same n.number slot n.next ∙ so.next)) so.unfreed;
         marks = so.marks ∙ sym said.freed;
         frees = λ some. so.frees (subst (λ c. 0 < swept_at c.phase) collector some);
         homes = λ s taken. elim (taken_or_free (sight w) s) [
           | inl old ↦
-              let here : with_number n.number slot n.next s ≡ n.number s = with_birth-other n.number slot n.next s (taken_is_other (sight w) slot s place.free old) in
+              let here : with_number n.number slot n.next s ≡ n.number s = with_number-other n.number slot n.next s (taken_is_other (sight w) slot s place.free old) in
               let below : n.number s < length m.heap.objects = so.stands.there s old in
               let next_is : n.next ≡ length m.heap.objects = so.next in
-              ap (with_number home n.next slot) here ∙ with_birth-other home n.next slot (n.number s) (λ same. omega (arith, below, next_is, same)) ∙ so.homes s old
+              ap (with_number home n.next slot) here ∙ with_number-other home n.next slot (n.number s) (λ same. omega (arith, below, next_is, same)) ∙ so.homes s old
           | inr new ↦
               let is : s ≡ slot = born_here slot s birth seen taken new in
-              ap (λ x. with_number home n.next slot (with_number n.number slot n.next x)) is ∙ ap (with_number home n.next slot) (with_birth-same n.number slot n.next) ∙ with_birth-same home n.next slot ∙ sym is
+              ap (λ x. with_number home n.next slot (with_number n.number slot n.next x)) is ∙ ap (with_number home n.next slot) (with_number-same n.number slot n.next) ∙ with_number-same home n.next slot ∙ sym is
         ];
       }
   stands_answered k homes (NamesOn.same unborn) =

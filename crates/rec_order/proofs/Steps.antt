@@ -22,10 +22,11 @@ use Rattle.rec_core.specs.Moves.{Move, found_by, stepped}
 use Rattle.rec_core.specs.Shown.{IsDecided, IsBirthplace, probed_at}
 use Rattle.rec_core.proofs.Showing.{stepped_mutator}
 use Rattle.rec_core.proofs.Steps.{actor_of}
-use Rattle.rec_order.specs.Naming.{Naming, with_number, born_in, named_by, named_after}
+use Rattle.rec_order.specs.Naming.{Naming, born_in, named_by, named_after}
 use Rattle.rec_order.proofs.Scans.{HasMet, met_begins, met_more, met_grows, met_born}
 use Rattle.rec_order.proofs.Stands.{Stands, NamesOn}
 use Rattle.rec_log.specs.declared.entry.Entry.{Entry}
+use Rattle.rec_model.specs.Explained.{with_number}
 
 -- what a scan has met, by phase
 abbrev pub Meets : Limits → Moment → List Event → (home : ℕ → ℕ) → (next t : ℕ) → Phase → Type 0

@@ -5,6 +5,7 @@ use Rattle.rec_word.specs.declared.op.Op.TheVariants.{ClaimHeader}
 use Rattle.rec_model.specs.Heap.{Heap}
 use Rattle.rec_model.specs.LegalOrder.{Line, is_birth}
 use Rattle.rec_model.specs.Sight.{IsTaken}
+use Rattle.rec_model.specs.Explained.{with_number}
 use Rattle.rec_mutator.specs.Next.{next_of}
 use Rattle.rec_core.specs.Core.{Core, sight, mutator}
 use Rattle.rec_core.specs.Moves.{Move, after_move, found_by}
@@ -21,10 +22,6 @@ naming_of heap number = record { number = number; next = length heap.objects }
 -- the naming of a newly opened heap: slot 0 holds object 0, and there is no other
 abbrev pub first_naming : Naming
 first_naming = record { number = λ slot. 0; next = 1 }
-
--- with another number for one slot
-abbrev pub with_number : (ℕ → ℕ) → (slot object : ℕ) → ℕ → ℕ
-with_number number slot object s = if s == slot then object else number s
 
 -- after the next object was born in this slot
 abbrev pub born_in : Naming → (slot : ℕ) → Naming

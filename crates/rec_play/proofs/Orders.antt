@@ -9,6 +9,7 @@ use Rattle.std.proofs.lemmas.List.Sums.{sum_by-append, sum_by-cons, sum_by-set}
 use Rattle.rand_pcg.specs.Lcg.{Lcg}
 use Rattle.rand_pcg.specs.Pcg.{pcg32}
 use Rattle.rec_model.specs.Numbering.{times}
+use Rattle.rec_model.proofs.Counted.{times-append, times-cons}
 use Rattle.rec_play.specs.declared.actor.Actor.{Actor}
 use Rattle.rec_play.specs.declared.actor.Actor.TheVariants.{Mutator, Collector}
 use Rattle.rec_play.specs.Playing.{generator_of, unfinished, mutator_or_collector, actor_drawn, left_after_turn, left_after, drawn_from, drawn, number_of_actor, mutators_of, by_mutator, order, to_come, IsOrderFor}
@@ -18,13 +19,6 @@ use Rattle.rec_play.proofs.Turns.{drawn_none, drawn_one, drawn_nothing, zero_or_
 -- one where the numbers are the same
 abbrev hit : (s t : ℕ) → ℕ
 hit s t = if s == t then 1 else 0
-
--- how often a number stands in two lists after each other
-pub times-append : (t : ℕ) (xs ys : List ℕ) → times t (xs ++ ys) ≡ times t xs + times t ys
-times-append t xs ys = sum_by-append (λ m. if m == t then 1 else 0) xs ys
-
-pub times-cons : (t s : ℕ) (xs : List ℕ) → times t (s ∷ xs) ≡ hit s t + times t xs
-times-cons t s xs = sum_by-cons (λ m. if m == t then 1 else 0) s xs
 
 -- a list of one number
 times-own : (t n : ℕ) → times t (replicate n t) ≡ n

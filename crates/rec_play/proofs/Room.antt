@@ -9,7 +9,7 @@ use Rattle.rec_model.specs.declared.answer.Answer.TheVariants.{LogFull}
 use Rattle.rec_model.specs.Asking.{is_done}
 use Rattle.rec_model.specs.LegalOrder.{Line, Event, Limits, Moment, Fits, after, bump, line_by, moment, IsLegalOrder}
 use Rattle.rec_model.specs.LegalOrder.Event.{Answers, Frees, Marks}
-use Rattle.rec_core.proofs.OpenedMutators.{free_at}
+use Rattle.rec_model.proofs.Opened.{nulls_at}
 use Rattle.rec_script.specs.Script.{Contents}
 use Rattle.rec_play.specs.Played.{limits_of, log_room, longest, opening_moment}
 use Rattle.rec_play.proofs.Ready.{fits_longest}
@@ -79,7 +79,7 @@ no_log_full script journals events commands legal = All-from_get_or (All HasRoom
     each : (i : ℕ) → i < length journals → All HasRoom (slice_index_or journals i [])
     each i there =
         let own : filter_map (line_by (suc i)) events ≡ slice_index_or journals i [] = legal.own (suc i) (omega arith) ∙ ap (λ n. slice_index_or journals n []) (let same : suc i - 1 ≡ i = omega arith in same) in
-        let none : slice_index_or (opening_moment script).done (suc i - 1) 0 ≡ 0 = free_at (length script.commands) (suc i - 1) in
+        let none : slice_index_or (opening_moment script).done (suc i - 1) 0 ≡ 0 = nulls_at (length script.commands) (suc i - 1) in
         let many : length (filter_map (line_by (suc i)) events) ≡ length (slice_index_or script.commands i []) = ap (λ (ls : List Line). length ls) own ∙ long i there in
         let most : length (slice_index_or script.commands i []) ≤ longest script.commands = fits_longest script.commands i in
         let room : longest script.commands ≤ log_room script = omega arith in

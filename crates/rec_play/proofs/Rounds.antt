@@ -25,16 +25,17 @@ use Rattle.rec_play.specs.Run.IsPlayedRun.{starts}
 use Rattle.rec_core.specs.Config.{IsMutator}
 use Rattle.rec_core.proofs.Runs.{looked_is}
 use Rattle.rec_collector.specs.declared.phase.Phase.TheVariants.{Looking}
-use Rattle.rec_play.specs.Run.{WaitsFor}
 use Rattle.rec_collector.specs.Next.{next_of}
 use Rattle.rec_order.specs.Events.{swept_by}
 use Rattle.rec_order.specs.Naming.{Naming, NamesGoOn, first_naming}
 use Rattle.rec_core.specs.declared.config.Config.{Config}
 use Rattle.rec_model.specs.Sight.{Sight, IsTaken}
+use Rattle.rec_model.proofs.Counted.{times-append, times-cons}
+use Rattle.rec_core.specs.Worked.{WaitsFor}
 use Rattle.rec_play.proofs.Going.{PlayedSo, own, commands_at, begun, one_more, poll_more, turn_more, made_is_named, is_mutator, world_kept}
 use Rattle.rec_play.proofs.Opened.{IsPlayedLegally, played_legally}
 use Rattle.rec_play.proofs.Room.{no_log_full}
-use Rattle.rec_play.proofs.Orders.{times-append, times-cons, order_names, order_length, order_comes, collectors, collectors_few}
+use Rattle.rec_play.proofs.Orders.{order_names, order_length, order_comes, collectors, collectors_few}
 
 -- the notes of a mutator, by its index
 abbrev pub notes_at : List Notes → ℕ → Notes

@@ -34,7 +34,7 @@ pub drawn_one : (turns : ℕ) (left : List ℕ) (generator : Lcg) → 0 < length
 unfolding drawn_from
 drawn_one turns left generator busy = rw (ne_eqb (length (unfinished left)) 0 (λ none. omega arith)) refl
 
-pub drawn_next : (turns : ℕ) (left : List ℕ) (generator : Lcg) (actor : Actor) → 0 < turns → 0 < length (unfinished left) → actor_drawn (unfinished left) (pcg32 generator).0 ≡ actor
+drawn_next : (turns : ℕ) (left : List ℕ) (generator : Lcg) (actor : Actor) → 0 < turns → 0 < length (unfinished left) → actor_drawn (unfinished left) (pcg32 generator).0 ≡ actor
     → drawn_from turns left generator ≡ actor ∷ drawn_from (turns - 1) (left_after_turn left actor) (pcg32 generator).1
 drawn_next zero left generator actor some busy is = absurd (omega (arith, some))
 drawn_next (suc turns) left generator actor some busy is =
@@ -48,12 +48,12 @@ ended rest none =
     rw (drawn_none rest.turns rest.left rest.generator none) (ap (map (λ t. Mutator t)) (none_left 1 rest.left none))
 
 -- a turn that is drawn comes first
-pub drawn_comes : (rest : Rest) (actor : Actor) → 0 < rest.turns → 0 < length (unfinished rest.left) → actor_drawn (unfinished rest.left) (pcg32 rest.generator).0 ≡ actor
+drawn_comes : (rest : Rest) (actor : Actor) → 0 < rest.turns → 0 < length (unfinished rest.left) → actor_drawn (unfinished rest.left) (pcg32 rest.generator).0 ≡ actor
     → to_come rest ≡ actor ∷ to_come (record { left = left_after_turn rest.left actor; generator = (pcg32 rest.generator).1; turns = rest.turns - 1 })
 drawn_comes rest actor some busy is = rw (drawn_next rest.turns rest.left rest.generator actor some busy is) refl
 
 -- once all turns are drawn, the first unfinished mutator comes
-pub first_comes : (rest : Rest) (i : ℕ) → rest.turns ≡ 0 → slice_get (unfinished rest.left) 0 ≡ Some (i + 1)
+first_comes : (rest : Rest) (i : ℕ) → rest.turns ≡ 0 → slice_get (unfinished rest.left) 0 ≡ Some (i + 1)
     → to_come rest ≡ Mutator (i + 1) ∷ to_come (record rest { left = slice_set rest.left i (slice_index_or rest.left i 0 - 1) })
 first_comes rest i none first =
     let next : i + 1 ≡ 1 + i = omega arith in
@@ -62,7 +62,7 @@ first_comes rest i none first =
     (ap (map (λ t. Mutator t)) (rest_first 1 rest.left i (first ∙ ap (λ t. Some t) next) ∙ ap (λ t. t ∷ by_mutator left) (sym next)))
 
 -- the index of a mutator among all, by its number
-pub numbered : (left : List ℕ) (i : ℕ) → left_after_turn left (Mutator (i + 1)) ≡ slice_set left i (slice_index_or left i 0 - 1)
+numbered : (left : List ℕ) (i : ℕ) → left_after_turn left (Mutator (i + 1)) ≡ slice_set left i (slice_index_or left i 0 - 1)
 numbered left i = ap (λ n. slice_set left n (slice_index_or left n 0 - 1)) (let same : i + 1 - 1 ≡ i = omega arith in same)
 
 -- the place that a word names
@@ -70,14 +70,14 @@ abbrev pub place_of : Rest → ℕ
 place_of rest = (pcg32 rest.generator).0 % (length (unfinished rest.left) + 1)
 
 -- the collector's turn is drawn
-pub collector_comes : (rest : Rest) (place : ℕ) → 0 < rest.turns → 0 < length (unfinished rest.left) → place ≡ place_of rest → place ≡ length (unfinished rest.left)
+collector_comes : (rest : Rest) (place : ℕ) → 0 < rest.turns → 0 < length (unfinished rest.left) → place ≡ place_of rest → place ≡ length (unfinished rest.left)
     → to_come rest ≡ Collector ∷ to_come (record rest { generator = (pcg32 rest.generator).1; turns = rest.turns - 1 })
 collector_comes rest place some busy drawn last =
     drawn_comes rest Collector some busy
     (ap mutator_or_collector (slice_get_past (unfinished rest.left) (place_of rest) (omega arith)))
 
 -- a mutator's turn is drawn
-pub mutator_comes : (rest : Rest) (place i : ℕ) → 0 < rest.turns → 0 < length (unfinished rest.left) → place ≡ place_of rest → slice_get (unfinished rest.left) place ≡ Some (i + 1)
+mutator_comes : (rest : Rest) (place i : ℕ) → 0 < rest.turns → 0 < length (unfinished rest.left) → place ≡ place_of rest → slice_get (unfinished rest.left) place ≡ Some (i + 1)
     → to_come rest ≡ Mutator (i + 1) ∷ to_come (record { left = slice_set rest.left i (slice_index_or rest.left i 0 - 1); generator = (pcg32 rest.generator).1; turns = rest.turns - 1 })
 mutator_comes rest place i some busy drawn named =
     drawn_comes rest (Mutator (i + 1)) some busy (ap mutator_or_collector (ap (slice_get (unfinished rest.left)) (sym drawn) ∙ named))

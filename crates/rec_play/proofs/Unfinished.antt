@@ -7,12 +7,6 @@ use Rattle.rec_play.specs.Playing.{if_unfinished}
 abbrev pub from : ℕ → List ℕ → List ℕ
 from k left = filter_map (λ p. if_unfinished p.0 p.1) (enumerate_from k left)
 
--- no more than there are mutators
-pub few : (k : ℕ) (left : List ℕ) → length (from k left) ≤ length left
-few k [] = omega arith
-few k (zero ∷ left) = let rest : length (from (k + 1) left) ≤ length left = few (k + 1) left in omega arith
-few k (suc n ∷ left) = let rest : length (from (k + 1) left) ≤ length left = few (k + 1) left in omega arith
-
 -- a mutator that is named has commands left
 pub record IsDue (k : ℕ) (left : List ℕ) (t : ℕ) : Type 0 where
   pub index : ℕ

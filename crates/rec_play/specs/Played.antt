@@ -4,7 +4,7 @@ use Rattle.std.specs.List.{All}
 use Rattle.rec_model.specs.declared.command.Cmd.{Cmd}
 use Rattle.rec_model.specs.declared.answer.Answer.TheVariants.{LogFull}
 use Rattle.rec_model.specs.Heap.{opening}
-use Rattle.rec_model.specs.LegalOrder.{Line, Event, Limits, Moment, after_all, actors, IsLegalOrder}
+use Rattle.rec_model.specs.LegalOrder.{Line, Event, Limits, Moment, after_all, actors, IsLegalOrder, NoLogFull}
 use Rattle.rec_model.specs.Sight.{StandsBy}
 use Rattle.rec_core.specs.Core.{Core, sight}
 use Rattle.rec_world.specs.Journal.{Notes}
@@ -63,4 +63,4 @@ pub record IsPlayed (script : Contents) (seed turns : ℕ) (journals : List (Lis
   pub run : IsPlayedRun script (all_turns (lengths_of script) seed turns) events names world
   pub stands : StandsBy (last_moment script events).heap (sight world) names.number
   -- no answer is that a log is full
-  pub no_log_full : All (All (λ (line : Line). line.1.answer ≢ LogFull)) journals
+  pub no_log_full : NoLogFull journals

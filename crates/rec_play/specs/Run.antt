@@ -14,7 +14,7 @@ use Rattle.rec_collector.specs.Next.{next_of}
 use Rattle.rec_collector.specs.declared.phase.Phase.TheVariants.{Looking}
 use Rattle.rec_core.specs.Core.{Core, mutator, crossing_of, opened}
 use Rattle.rec_core.specs.Moves.{turned}
-use Rattle.rec_core.specs.Worked.{IsWorked}
+use Rattle.rec_core.specs.Worked.{IsWorked, WaitsFor}
 use Rattle.rec_order.specs.Events.{swept_by}
 use Rattle.rec_order.specs.Naming.{Naming, NamesGoOn, first_naming}
 use Rattle.rec_script.specs.Script.{Contents}
@@ -38,11 +38,6 @@ pub record IsTurnOf (script : Contents) (events : List Event) (t : ℕ) (cmd : C
   pub poll : IsWorked before t works.Poll polled
   pub command : IsWorked polled t (works.Command cmd) after
   pub answer : answer_of (mutator after t) ≡ Some (makes.Answered told)
-
--- the collector waits for a mutator that hasn't crossed into the requested epoch
-pub record WaitsFor (w : Core) (t : ℕ) : Type 0 where
-  pub looks : w.collector.phase ≡ Looking t
-  pub behind : crossing_of w t ≢ crossing_word w.epoch Retired
 
 -- How a turn of the collector ends, after its step, where each mutator has made so many commands. One for which it waited, and
 -- that has no command left, polls: no turn of its own comes in which it could cross. Else nothing follows.

@@ -1,22 +1,24 @@
 -- The freeing of a set goes on move by move: a reference is taken off, the next member is at work, all are listed.
-use Rattle.std.proofs.Common.{◌≡◌, ℕ, ◌+◌, ◌-◌, ◌<◌, ◌≤◌, Bool, true, false, ltb, Option, Some, None, IfSome, List, [], ◌∷◌, ◌++◌, length, map, drop, get_or, slice_get, refl, arith, sym, ◌∙◌, ap, subst, inl, inr, append_assoc, drop-cons, add-one}
+use Rattle.std.proofs.Common.{◌≡◌, ℕ, ◌+◌, ◌-◌, ◌<◌, ◌≤◌, Bool, true, false, ltb, Option, Some, None, IfSome, List, [], ◌∷◌, ◌++◌, length, map, drop, get_or, slice_get, refl, arith, sym, ◌∙◌, ap, subst, inl, inr, append_assoc, drop-cons, add-one, fold}
 use Rattle.std.proofs.Math.ListN.{drop_of_length-le}
 use Rattle.std.proofs.lemmas.List.{append-nil, length-map, map-append}
 use Rattle.std.proofs.lemmas.Bool.{cases_lt, ltb-true, ltb-false, lt-ltb, le-ltb}
-use Rattle.rec_word.specs.Place.{place_of}
+use Rattle.rec_word.specs.Place.{place_of, places_from, places_of}
 use Rattle.rec_word.specs.Word.{target_of, is_slot}
+use Rattle.rec_word.proofs.FieldPlaces.{places_step, places_end}
 use Rattle.rec_counts.specs.Counts.{State, IsKept}
 use Rattle.rec_counts.specs.Groups.{last_set}
 use Rattle.rec_counts.specs.Lists.{one, times}
 use Rattle.rec_counts.proofs.Times.{times-append, times-nil}
+use Rattle.rec_counts.proofs.Front.{first_and_rest, nothing_first}
 use Rattle.rec_release.specs.declared.member.Member.{Member}
 use Rattle.rec_release.specs.CycleFree.{first_member, given_up, given_up_slot, listed, next_field, next_field_if, next_member, next_member_if, work_of, took_of, started_of, Next, Work, IsAtWork, IsFreeable, IsHeld}
-use Rattle.rec_release.specs.Freed.{came_out, held_of, listed_of, out_at, places_behind, places_of, taken_in, Freed, FreedTo, HasFreed, Out}
-use Rattle.rec_release.specs.Released.{leading, places_from}
-use Rattle.rec_release.proofs.Giving.{given_count, given_is_work, given_released, given_work, first_and_rest, nothing_first}
+use Rattle.rec_release.specs.Freed.{came_out, held_of, listed_of, out_at, places_behind, Freed, FreedTo, HasFreed, Out}
+use Rattle.rec_release.specs.Released.{leading}
+use Rattle.rec_release.proofs.Giving.{given_count, given_is_work, given_released, given_work}
 use Rattle.rec_release.specs.TakenOff.{taken_off}
 use Rattle.rec_release.proofs.TakenOff.{off_count, off_most, ready_off, KeepsMost}
-use Rattle.rec_release.proofs.Places.{leading-nil, leading_push, places_end, places_step}
+use Rattle.rec_release.proofs.Places.{leading-nil, leading_push}
 
 -- the same freeing, with its parts told otherwise
 retold : {fields : ℕ} {before : State} {members left left' listed listed' held held' : List ℕ} {after : State} {outs : List Out} → left' ≡ left → listed' ≡ listed → held' ≡ held → Freed fields before members left listed held after outs → Freed fields before members left' listed' held' after outs
@@ -84,8 +86,7 @@ field_if : (b : Bool) (fields : ℕ) (before : State) (members : List ℕ) (a : 
     FreedAt fields before members (next_field_if b after a).at (next_field_if b after a).counts outs
 field_if true fields before members a after outs t l r = r
 field_if false fields before members a after outs t l r =
-    let q : a.field + 1 ≡ fields = omega (arith, l, ltb-false (a.field + 1) fields t) in
-    next_member_on fields before members a after outs (retold (ap (λ ps. ps ++ places_of fields (drop (a.index + 1) members)) (sym (ap (places_from fields a.slot) q ∙ places_end fields a.slot))) refl refl r)
+    next_member_on fields before members a after outs (retold (ap (λ ps. ps ++ places_of fields (drop (a.index + 1) members)) (sym (places_end fields a.slot (a.field + 1) (ltb-false (a.field + 1) fields t)))) refl refl r)
 
 -- the set is given up, and nothing is exchanged yet
 begun : (fields : ℕ) (s : State) → IsKept s → IsFreeable s → Freed fields s (last_set s.sets) (places_of fields (last_set s.sets)) [] (last_set s.sets) (given_up s) []
@@ -176,11 +177,11 @@ field_work true fields s a t w = record {
 }
 field_work false fields s a t w = member_work (ltb (a.index + 1) (length s.work)) fields s a refl w
 
-pub next_field_work : (fields : ℕ) (s : State) (a : Member) → IsAtWork (record { fields = fields; at = Some a }) s → IsAtWork (work_of fields (next_field fields s a)).machine (next_field fields s a).counts
+next_field_work : (fields : ℕ) (s : State) (a : Member) → IsAtWork (record { fields = fields; at = Some a }) s → IsAtWork (work_of fields (next_field fields s a)).machine (next_field fields s a).counts
 next_field_work fields s a w = field_work (ltb (a.field + 1) fields) fields s a refl w
 
 -- one word more
-pub came_more : (fields : ℕ) (before : State) (a : Member) (after : State) (outs : List Out) (word : ℕ) → IsAtWork (record { fields = fields; at = Some a }) after → FreedTo fields before (Some a) after outs →
+came_more : (fields : ℕ) (before : State) (a : Member) (after : State) (outs : List Out) (word : ℕ) → IsAtWork (record { fields = fields; at = Some a }) after → FreedTo fields before (Some a) after outs →
     Came fields before (work_of fields (next_field fields (taken_off true after (target_of word)) a)) (outs ++ out_at fields (Some a) word)
 came_more fields before a after outs word w r =
     let ms : List ℕ = last_set before.sets in
@@ -200,19 +201,11 @@ unfolding took_of
 word_in None fields before after outs word c = subst (Came fields before (at_work fields None after)) (sym (append-nil outs)) c
 word_in (Some a) fields before after outs word c = came_more fields before a after outs word c.work c.law
 
-pub came_on : (fields : ℕ) (before : State) (w : Work) (outs : List Out) (word : ℕ) → Came fields before w outs → Came fields before (took_of w word) (outs ++ out_at w.machine.fields w.machine.at word)
+came_on : (fields : ℕ) (before : State) (w : Work) (outs : List Out) (word : ℕ) → Came fields before w outs → Came fields before (took_of w word) (outs ++ out_at w.machine.fields w.machine.at word)
 came_on fields before w outs word c =
     let e : w ≡ at_work fields w.machine.at w.counts = ap (λ n. record { machine = record { fields = n; at = w.machine.at }; counts = w.counts }) c.fields_kept in
     let d : Came fields before (at_work fields w.machine.at w.counts) outs = subst (λ v. Came fields before v outs) e c in
     subst (λ v. Came fields before (took_of v word) (outs ++ out_at v.machine.fields v.machine.at word)) (sym e) (word_in w.machine.at fields before w.counts outs word d)
-
-taken_none : (w : Work) → taken_in w [] ≡ w
-unfolding taken_in
-taken_none w = refl
-
-taken_more : (w : Work) (word : ℕ) (words : List ℕ) → taken_in w (word ∷ words) ≡ taken_in (took_of w word) words
-unfolding taken_in
-taken_more w word words = refl
 
 out_none : (w : Work) → came_out w [] ≡ []
 unfolding came_out
@@ -223,15 +216,15 @@ unfolding came_out
 out_more w word words = refl
 
 -- words more
-pub came_by : (words : List ℕ) (fields : ℕ) (before : State) (w : Work) (outs : List Out) → Came fields before w outs → Came fields before (taken_in w words) (outs ++ came_out w words)
+came_by : (words : List ℕ) (fields : ℕ) (before : State) (w : Work) (outs : List Out) → Came fields before w outs → Came fields before (fold took_of w words) (outs ++ came_out w words)
 came_by [] fields before w outs c =
-    subst (λ v. Came fields before v (outs ++ came_out w [])) (sym (taken_none w)) (subst (Came fields before w) (sym (ap (λ os. outs ++ os) (out_none w) ∙ append-nil outs)) c)
+    subst (Came fields before w) (sym (ap (λ os. outs ++ os) (out_none w) ∙ append-nil outs)) c
 came_by (word ∷ words) fields before w outs c =
     let v : Work = took_of w word in
     let os : List Out = outs ++ out_at w.machine.fields w.machine.at word in
-    let i : Came fields before (taken_in v words) (os ++ came_out v words) = came_by words fields before v os (came_on fields before w outs word c) in
+    let i : Came fields before (fold took_of v words) (os ++ came_out v words) = came_by words fields before v os (came_on fields before w outs word c) in
     let e : outs ++ came_out w (word ∷ words) ≡ os ++ came_out v words = ap (λ ms. outs ++ ms) (out_more w word words) ∙ sym (append_assoc outs (out_at w.machine.fields w.machine.at word) (came_out v words)) in
-    subst (λ u. Came fields before u (outs ++ came_out w (word ∷ words))) (sym (taken_more w word words)) (subst (Came fields before (taken_in v words)) (sym e) i)
+    subst (Came fields before (fold took_of v words)) (sym e) i
 
 -- a whole freeing
 pub whole_freeing : (fields : ℕ) (before : State) (words : List ℕ) → 0 < fields → IsKept before → IsFreeable before → HasFreed fields before words

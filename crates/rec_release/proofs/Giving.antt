@@ -1,70 +1,39 @@
 -- A set is given up, and its members are listed.
-use Rattle.std.proofs.Common.{◌≡◌, ℕ, ◌+◌, ◌-◌, ◌<◌, ◌≤◌, Bool, true, false, eqb, ltb, Option, Some, None, IfSome, List, [], ◌∷◌, ◌++◌, length, map, take, drop, get_or, slice_get, refl, arith, sym, ◌∙◌, ap, subst, inl, inr, append_assoc}
+use Rattle.std.proofs.Common.{◌≡◌, ℕ, ◌+◌, ◌-◌, ◌<◌, ◌≤◌, Bool, true, false, eqb, ltb, Option, Some, None, IfSome, List, [], ◌∷◌, ◌++◌, length, take, drop, get_or, slice_get, refl, arith, sym, ◌∙◌, ap, subst, inl, inr, append_assoc}
 use Rattle.std.proofs.Math.ListN.{set}
-use Rattle.std.proofs.lemmas.List.{append-nil, length-set, length-map, get_or-set_same, get_or-set_other, get_or_past, get_or-map, set-set, take_all}
-use Rattle.std.proofs.lemmas.Bool.{cases_lt, lt-ltb}
+use Rattle.std.proofs.lemmas.List.{length-set, length-map, get_or-set_same, set-set, take_all}
+use Rattle.std.proofs.lemmas.Bool.{cases_lt}
 use Rattle.std.proofs.lemmas.Bool.Decides.{eqb_tells}
 use Rattle.rec_counts.specs.declared.colour.Colour.TheVariants.{Black}
 use Rattle.rec_counts.specs.declared.slot.Slot.{Slot}
 use Rattle.rec_counts.specs.Counts.{State, IsKept, slot_at, with_slot, without_last_set}
 use Rattle.rec_counts.specs.Groups.{last_set}
-use Rattle.rec_counts.specs.Lists.{one, times, EachOnce}
+use Rattle.rec_counts.specs.Lists.{one, times}
 use Rattle.rec_counts.specs.Slot.{absent, is_in, unbuffered_if, out_of_set}
-use Rattle.rec_counts.proofs.Keeping.{members_once}
+use Rattle.rec_counts.proofs.Keeping.{map_at, last_once}
 use Rattle.rec_counts.proofs.Leaving.{all_of}
-use Rattle.rec_counts.proofs.Times.{in_range_once, one-le, one-same, times-append, times-cons, times-nil, times_at, times_more, times_part}
+use Rattle.rec_counts.proofs.Times.{in_range_once, one-le, one-same, times-append, times-cons, times-nil, times_at, times_more, test_of, one-some, one-none}
+use Rattle.rec_counts.proofs.Front.{first_and_rest}
+use Rattle.rec_counts.proofs.Changing.{changed_more}
 use Rattle.rec_release.specs.declared.member.Member.{Member}
 use Rattle.rec_release.specs.CycleFree.{dead_if, first_member, given_up, given_up_slot, listed, IsAtWork, IsFreeable, IsHeld}
-
--- the last set has each slot at most once
-pub last_once : (s : State) → IsKept s → EachOnce (length s.slots) (last_set s.sets)
-last_once s k x = omega (arith, members_once k x, times_part x s.sets (length s.sets - 1))
 
 dead_twice : (b : Bool) (v : Slot) → dead_if true (dead_if b v) ≡ dead_if true v
 dead_twice true v = refl
 dead_twice false v = refl
 
--- one slot more is dead
-pub dead_more : (slots old : List Slot) (members : List ℕ) (i : ℕ) → i < length members → get_or members i 0 < length slots →
-    ((x : ℕ) → get_or slots x absent ≡ dead_if (ltb 0 (times x (take i members))) (get_or old x absent)) →
-    (x : ℕ) → get_or (set slots (get_or members i 0) (dead_if true (get_or slots (get_or members i 0) absent))) x absent ≡ dead_if (ltb 0 (times x (take (i + 1) members))) (get_or old x absent)
-dead_more slots old members i l r h x =
-    let m : ℕ = get_or members i 0 in
-    elim (eqb_tells x m) [
-      | inl q ↦ let t : one (eqb x m) ≡ 1 = ap one q.0 in
-          let n : ltb 0 (times x (take (i + 1) members)) ≡ true = lt-ltb 0 (times x (take (i + 1) members)) (omega (arith, t, times_more x members i l)) in
-          ap (λ y. get_or (set slots m (dead_if true (get_or slots m absent))) y absent) q.1
-          ∙ get_or-set_same slots m (dead_if true (get_or slots m absent)) absent r
-          ∙ ap (λ y. dead_if true (get_or slots y absent)) (sym q.1) ∙ ap (dead_if true) (h x)
-          ∙ dead_twice (ltb 0 (times x (take i members))) (get_or old x absent)
-          ∙ ap (λ b. dead_if b (get_or old x absent)) (sym n)
-      | inr q ↦ let t : one (eqb x m) ≡ 0 = ap one q.0 in
-          let n : times x (take (i + 1) members) ≡ times x (take i members) = omega (arith, t, times_more x members i l) in
-          get_or-set_other slots m x (dead_if true (get_or slots m absent)) absent q.1 ∙ h x ∙ ap (λ k. dead_if (ltb 0 k) (get_or old x absent)) (sym n)
-    ]
-
-test_of : (n : ℕ) (b : Bool) → n ≡ one b → ltb 0 n ≡ b
-test_of n true e = lt-ltb 0 n (omega arith)
-test_of n false e = rw e refl
-
-pub mapped : (f : Slot → Slot) (slots : List Slot) (x : ℕ) → f absent ≡ absent → get_or (map f slots) x absent ≡ f (get_or slots x absent)
-mapped f slots x a = elim (cases_lt x (length slots)) [
-  | inl l ↦ get_or-map f slots x absent absent l
-  | inr l ↦ get_or_past (map f slots) x absent (omega (arith, l, length-map slots f)) ∙ sym a ∙ ap f (sym (get_or_past slots x absent l))
-]
-
 -- all members are dead
-pub dead_all : (s : State) (slots : List Slot) → IsKept s → length slots ≡ length s.slots →
+dead_all : (s : State) (slots : List Slot) → IsKept s → length slots ≡ length s.slots →
     ((x : ℕ) → get_or slots x absent ≡ dead_if (ltb 0 (times x (last_set s.sets))) (slot_at (without_last_set s) x)) → slots ≡ (given_up s).slots
 dead_all s slots k l h =
     let n : ℕ = length s.sets - 1 in
     all_of (given_up_slot n) s.slots slots l
     (λ x. h x ∙ ap (λ b. dead_if b (slot_at (without_last_set s) x)) (test_of (times x (last_set s.sets)) (is_in n (slot_at s x).set) (k.numbers n x))
-    ∙ ap (dead_if (is_in n (slot_at s x).set)) (mapped (out_of_set n) s.slots x refl))
+    ∙ ap (dead_if (is_in n (slot_at s x).set)) (map_at (out_of_set n) refl s.slots x))
 
 -- what a slot has then
 pub given_slot : (s : State) (x : ℕ) → slot_at (given_up s) x ≡ given_up_slot (length s.sets - 1) (slot_at s x)
-given_slot s x = mapped (given_up_slot (length s.sets - 1)) s.slots x refl
+given_slot s x = map_at (given_up_slot (length s.sets - 1)) refl s.slots x
 
 given_count_if : (b : Bool) (v : Slot) → (dead_if b (unbuffered_if b v)).count ≡ v.count
 given_count_if true v = refl
@@ -80,14 +49,6 @@ given_released_if false v n e h = omega (arith, e)
 pub given_released : (s : State) (x : ℕ) → IsKept s → IsFreeable s → one (slot_at (given_up s) x).released ≡ one (slot_at s x).released + times x (last_set s.sets)
 given_released s x k f = ap (λ (v : Slot). one v.released) (given_slot s x) ∙ given_released_if (is_in (length s.sets - 1) (slot_at s x).set) (slot_at s x) (times x (last_set s.sets)) (k.numbers (length s.sets - 1) x) (f.unreleased x)
 
-one-true : (b : Bool) → one b ≡ 1 → b ≡ true
-one-true true e = refl
-one-true false e = absurd (omega arith)
-
-one-false : (b : Bool) → one b ≡ 0 → b ≡ false
-one-false true e = absurd (omega arith)
-one-false false e = refl
-
 first_held : (s : State) (ms : List ℕ) (x : ℕ) → s.work ≡ ms → slice_get ms 0 ≡ Some x → IsHeld s (record { index = 0; slot = x; field = 0 })
 first_held s [] x w e = cc
 first_held s (y ∷ ys) x w e = record { index = omega (arith, ap length w); slot = let q : x ≡ y = cc in q ∙ sym (ap (λ xs. get_or xs 0 0) w) }
@@ -101,10 +62,10 @@ first_work o s fields e l k f =
     let ms : List ℕ = last_set s.sets in
     let now : State = given_up s in
     let inside : (x : ℕ) → 0 < times x now.work → 0 < times x ms = λ x h. omega (arith, h, ap (times x) (given_work s f)) in
-    let freed : (x : ℕ) → 0 < times x ms → (slot_at now x).released ≡ true = λ x h. one-true (slot_at now x).released (omega (arith, given_released s x k f, ap one (f.unreleased x h), h, last_once s k x, one-le (ltb x (length s.slots)))) in
+    let freed : (x : ℕ) → 0 < times x ms → (slot_at now x).released ≡ true = λ x h. one-some (slot_at now x).released (omega (arith, given_released s x k f, ap one (f.unreleased x h), h, last_once s k x, one-le (ltb x (length s.slots)))) in
     let others : (x : ℕ) → 0 < times x s.zeros → (slot_at now x).released ≡ false = λ x h.
     let none : times x ms ≡ 0 = elim (cases_lt 0 (times x ms)) [ inl m ↦ absurd (omega (arith, h, f.counted x m)) | inr m ↦ omega (arith, m) ] in
-    one-false (slot_at now x).released (omega (arith, given_released s x k f, none, ap one (f.ready.zeros.unreleased x h))) in
+    one-none (slot_at now x).released (omega (arith, given_released s x k f, none, ap one (f.ready.zeros.unreleased x h))) in
     record {
       field = go_field o;
       held = go_held o e;
@@ -116,7 +77,7 @@ first_work o s fields e l k f =
           none = λ x h. given_count s x ∙ f.ready.zeros.none x h;
           unreleased = others;
         };
-        free = λ x h. one-true (slot_at now x).released (omega (arith, given_released s x k f, ap one (f.ready.free x h), one-le (slot_at now x).released));
+        free = λ x h. one-some (slot_at now x).released (omega (arith, given_released s x k f, ap one (f.ready.free x h), one-le (slot_at now x).released));
       };
     }
   where
@@ -136,21 +97,6 @@ pub record IsListing (s : State) : Type 0 where
   pub in_range : (x : ℕ) → 0 < times x s.work → x < length s.slots
   pub once : (x : ℕ) → times x s.work ≤ 1
   pub unlisted : (x : ℕ) → 0 < times x s.work → times x s.free ≡ 0
-
-pub may_list : (s : State) → IsKept s → ((x : ℕ) → 0 < times x s.work → times x s.free ≡ 0) → IsListing s
-may_list s k u = record {
-  in_range = λ x h. in_range_once (length s.slots) s.work x k.work_once h;
-  once = λ x. omega (arith, k.work_once x, one-le (ltb x (length s.slots)));
-  unlisted = u;
-}
-
-pub first_and_rest : (xs : List ℕ) (x : ℕ) → slice_get xs 0 ≡ Some x → xs ≡ x ∷ drop 1 xs
-first_and_rest [] x e = cc
-first_and_rest (y ∷ ys) x e = cc
-
-pub nothing_first : (xs : List ℕ) → slice_get xs 0 ≡ None → xs ≡ []
-nothing_first [] e = refl
-nothing_first (x ∷ xs) e = cc
 
 -- what is known of the first of them
 pub record IsFirst (s : State) (x : ℕ) : Type 0 where
@@ -185,11 +131,6 @@ lists_one s x t e l h =
       waiting = subst IsListing (sym h) w;
       going = ap listed h ∙ ap {A = List ℕ} {B = State} (λ f. record s { work = []; free = f }) (append_assoc s.free (x ∷ []) ws ∙ ap (λ xs. s.free ++ xs) (sym q));
     }
-
-pub lists_all : (s : State) → slice_get s.work 0 ≡ None → record s { work = drop 1 s.work } ≡ listed s
-lists_all s e =
-    let n : s.work ≡ [] = nothing_first s.work e in
-    ap {A = List ℕ} {B = State} (λ ws. record s { work = drop 1 ws }) n ∙ ap {A = List ℕ} {B = State} (λ f. record s { work = []; free = f }) (sym (ap (λ ws. s.free ++ ws) n ∙ append-nil s.free))
 
 -- a slot that is released and then Black
 pub dead_slot : (s : State) (x : ℕ) → x < length s.slots → (t : State) → t ≡ with_slot s x (record (slot_at s x) { released = true }) → (u : State) → u ≡ with_slot t x (record (slot_at t x) { colour = Black }) → u ≡ with_slot s x (dead_if true (slot_at s x))
@@ -226,7 +167,7 @@ dying_more s t i k l d u e =
     record {
       rest = e ∙ ap (λ (w : State). record w { slots = set t.slots m (dead_if true (slot_at t m)) }) d.rest ∙ ap {A = State} {B = State} (λ w. record (without_last_set s) { slots = w.slots }) (sym e);
       many = ap (λ (w : State). length w.slots) e ∙ length-set t.slots m (dead_if true (slot_at t m)) ∙ d.many;
-      slots = λ x. ap (λ w. slot_at w x) e ∙ dead_more t.slots (without_last_set s).slots (last_set s.sets) i l r d.slots x;
+      slots = λ x. ap (λ w. slot_at w x) e ∙ changed_more dead_if dead_twice t.slots (without_last_set s).slots (last_set s.sets) i l r d.slots x;
     }
 
 pub dying_last : (s t : State) (i : ℕ) → IsKept s → length (last_set s.sets) ≤ i → Dying s t i → t ≡ given_up s
@@ -244,3 +185,8 @@ inside_more P xs i l p h x t = elim (eqb_tells x (get_or xs i 0)) [
   | inl q ↦ subst P (sym q.1) p
   | inr q ↦ let n : one (eqb x (get_or xs i 0)) ≡ 0 = ap one q.0 in h x (omega (arith, t, n, times_more x xs i l))
 ]
+
+-- where no first member is due, there is none
+pub first_none : (o : Option ℕ) → first_member o ≡ None → o ≡ None
+first_none None e = refl
+first_none (Some x) e = cc

@@ -9,7 +9,7 @@ use Rattle.rec_counts.specs.Counts.{State, opened, slot_at, with_slot}
 use Rattle.rec_counts.specs.Lists.{one, times}
 use Rattle.rec_counts.specs.Rest.{AreZeros, AllZeros}
 use Rattle.rec_counts.specs.Slot.{absent}
-use Rattle.rec_counts.proofs.Keeping.{field_kept}
+use Rattle.rec_counts.proofs.Keeping.{field_kept, unreleased_within}
 use Rattle.rec_counts.proofs.Times.{times-nil, times-cons, times_push, one-same}
 use Rattle.rec_release.specs.declared.at.At.{At}
 use Rattle.rec_release.specs.Release.{listed_if, emptied, first_of, without_first, with_next, op_at, next_of, took_of, IsReady, IsHeld, IsAtWork}
@@ -39,17 +39,6 @@ listed_ready false s x r k = record {
 pub ready_emptied : (s : State) (x : ℕ) → (slot_at s x).released ≡ true → IsReady s → IsReady (emptied s x)
 ready_emptied s x r k = listed_ready (slot_at s x).buffered s x r k
 
--- a slot that is not released is there
-pub in_range_unreleased : (s : State) (x : ℕ) → (slot_at s x).released ≡ false → x < length s.slots
-in_range_unreleased s x r =
-    elim (cases_lt x (length s.slots)) [
-      | inl l ↦ l
-      | inr l ↦ absurd (false≢true (sym r ∙ ap (λ (w : Slot). w.released) (get_or_past s.slots x absent l)))
-    ]
-
-released_slot : State → ℕ → Slot
-released_slot s z = record (slot_at s z) { released = true }
-
 -- what is known of the first of the zeros, and of the others
 pub record FirstZero (s : State) (z : ℕ) (zs : List ℕ) : Type 0 where
   pub in_range : z < length s.slots
@@ -63,7 +52,7 @@ first_zero s z zs e k =
     let n : times z s.zeros ≡ 1 + times z zs = ap (times z) e ∙ times-cons z z zs ∙ ap (λ m. m + times z zs) (one-same z) in
     let u : (slot_at s z).released ≡ false = k.zeros.unreleased z (omega (arith, n)) in
     record {
-      in_range = in_range_unreleased s z u;
+      in_range = unreleased_within s z u;
       none = k.zeros.none z (omega (arith, n));
       unreleased = u;
       unlisted = elim (cases_lt 0 (times z s.free)) [ inl l ↦ absurd (false≢true (sym u ∙ k.free z l)) | inr l ↦ omega (arith, l) ];
@@ -170,17 +159,6 @@ pub next_sets : (zs : List ℕ) (s : State) → (without_first zs s).sets ≡ s.
 next_sets [] s = refl
 next_sets (z ∷ zs) s = refl
 
--- at opening there are no zeros, and nothing is in the free list
-pub ready_opened : (slots first : ℕ) → IsReady (opened slots first)
-ready_opened slots first = record {
-  zeros = record {
-    once = λ x. omega (arith, times-nil x);
-    none = λ x h. absurd (omega (arith, h, times-nil x));
-    unreleased = λ x h. absurd (omega (arith, h, times-nil x));
-  };
-  free = λ x h. absurd (omega (arith, h, times-nil x));
-}
-
 all_zeros_listed : (b : Bool) (s : State) (x : ℕ) → AllZeros s → AllZeros (listed_if b s x)
 all_zeros_listed true s x k = k
 all_zeros_listed false s x k = k
@@ -193,7 +171,7 @@ pub record Unzeroed (s : State) (z : ℕ) (zs : List ℕ) (y : ℕ) : Type 0 whe
 pub still_zero : (z : ℕ) (zs : List ℕ) (s : State) → s.zeros ≡ z ∷ zs → AreZeros s → (y : ℕ) → (slot_at (without_first (z ∷ zs) s) y).released ≡ false → Unzeroed s z zs y
 still_zero z zs s e k y r =
     let more : (x : ℕ) → times x s.zeros ≡ one (eqb x z) + times x zs = λ x. ap (times x) e ∙ times-cons x z zs in
-    let l : z < length s.slots = in_range_unreleased s z (k.unreleased z (omega (arith, more z, one-same z))) in
+    let l : z < length s.slots = unreleased_within s z (k.unreleased z (omega (arith, more z, one-same z))) in
     elim (eqb_tells y z) [
       | inl q ↦ absurd (false≢true (sym r ∙ ap (λ w. (slot_at (with_slot s z (record (slot_at s z) { released = true })) w).released) q.1 ∙ released_first s z l))
       | inr q ↦ let o : one (eqb y z) ≡ 0 = ap one q.0 in record { unreleased = sym (released_same s z y q.1) ∙ r; found = λ h. omega (arith, h, more y, o) }

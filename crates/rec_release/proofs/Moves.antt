@@ -3,8 +3,9 @@ use Rattle.std.proofs.Common.{◌≡◌, ℕ, ◌+◌, ◌<◌, Bool, true, fals
 use Rattle.std.proofs.lemmas.List.{append-nil, length_push, flat_map_more}
 use Rattle.std.proofs.lemmas.Bool.{cases_Bool, false≢true}
 use Rattle.std.proofs.lemmas.Bool.Decides.{eqb_tells}
-use Rattle.rec_word.specs.Place.{place_of}
+use Rattle.rec_word.specs.Place.{place_of, places_from}
 use Rattle.rec_word.specs.Word.{target_of}
+use Rattle.rec_word.proofs.FieldPlaces.{places_step, places_end}
 use Rattle.rec_counts.specs.declared.slot.Slot.{Slot}
 use Rattle.rec_counts.specs.Counts.{State, slot_at, with_slot}
 use Rattle.rec_counts.specs.Lists.{one, times}
@@ -12,10 +13,10 @@ use Rattle.rec_counts.proofs.Keeping.{field_kept}
 use Rattle.rec_counts.proofs.Times.{times_push}
 use Rattle.rec_release.specs.declared.at.At.{At}
 use Rattle.rec_release.specs.Release.{listed_if, emptied, first_of, without_first, IsHeld}
-use Rattle.rec_release.specs.Released.{Released, places_from}
+use Rattle.rec_release.specs.Released.{Released}
 use Rattle.rec_release.proofs.Keeping.{FirstZero, first_zero, held_off, listed_ready, next_work, released_first, released_same}
 use Rattle.rec_release.specs.TakenOff.{taken_off}
-use Rattle.rec_release.proofs.Places.{places_step, places_end, leading_push}
+use Rattle.rec_release.proofs.Places.{leading_push}
 use Rattle.rec_release.proofs.TakenOff.{off_count, off_most, ready_off, KeepsMost}
 
 -- a slot that is not released was not released by this release, and is not the one at work
@@ -59,7 +60,7 @@ taken_on lowers fields before a after words from slots word l r =
 emptied_if : (b : Bool) (fields : ℕ) (before : State) (a : At) (after : State) (words from slots : List ℕ) → (slot_at after a.slot).buffered ≡ b → a.field ≡ fields → Released fields before (Some a) after words from slots →
     Released fields before None (listed_if b after a.slot) words from slots
 emptied_if true fields before a after words from slots e l r = record {
-  places = ap (λ ps. from ++ ps) (sym (places_end fields a.slot) ∙ ap (λ f. places_from fields a.slot f) (sym l)) ∙ r.places;
+  places = ap (λ ps. from ++ ps) (sym (places_end fields a.slot a.field (omega (arith, l)))) ∙ r.places;
   each = r.each;
   counts = r.counts;
   zeros = r.zeros;
@@ -74,7 +75,7 @@ emptied_if true fields before a after words from slots e l r = record {
   ready = r.ready;
 }
 emptied_if false fields before a after words from slots e l r = record {
-  places = ap (λ ps. from ++ ps) (sym (places_end fields a.slot) ∙ ap (λ f. places_from fields a.slot f) (sym l)) ∙ r.places;
+  places = ap (λ ps. from ++ ps) (sym (places_end fields a.slot a.field (omega (arith, l)))) ∙ r.places;
   each = r.each;
   counts = r.counts;
   zeros = r.zeros;

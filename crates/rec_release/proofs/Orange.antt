@@ -2,30 +2,36 @@
 use Rattle.std.proofs.Common.{◌≡◌, ◌≢◌, ℕ, ◌+◌, ◌-◌, ◌<◌, ◌⊎◌, Bool, true, false, eqb, ltb, Option, Some, None, IfSome, List, [], ◌∷◌, ◌++◌, length, map, get_or, refl, arith, sym, ◌∙◌, ap, subst, inl, inr}
 use Rattle.std.specs.List.{concat}
 use Rattle.std.proofs.lemmas.Bool.{cases_lt, eq-eqb, false≢true}
+use Rattle.std.proofs.lemmas.List.{get_or-set_same, set_past, get_or_past}
 use Rattle.rec_counts.specs.declared.colour.Colour.{Colour}
 use Rattle.rec_counts.specs.declared.colour.Colour.TheVariants.{Black, Purple, Gray, White, Orange}
 use Rattle.rec_counts.specs.declared.slot.Slot.{Slot}
-use Rattle.rec_counts.specs.declared.slot.Due.{Due}
-use Rattle.rec_counts.specs.declared.slot.Due.TheVariants.{Nothing, Zero, Root}
-use Rattle.rec_counts.specs.Counts.{State, IsKept, slot_at, with_slot, sent, decremented}
+use Rattle.rec_counts.specs.Counts.{State, IsKept, slot_at, with_slot, decremented}
 use Rattle.rec_counts.specs.Groups.{last_set, earlier_sets}
 use Rattle.rec_counts.specs.Lists.{one, times}
-use Rattle.rec_counts.specs.Rest.{AreZeros, AllZeros}
-use Rattle.rec_counts.specs.Slot.{absent, is_in, lessened, lessened_if, lowered, due_of, due_if, out_of_set, unbuffered_if}
-use Rattle.rec_counts.proofs.Decrementing.{rest_decremented, zeros_from, ZerosFrom}
-use Rattle.rec_counts.proofs.Keeping.{field_kept, keep_drop}
-use Rattle.rec_counts.proofs.Times.{times-nil, times-append, times-cons, times_push, one-le, one-same}
+use Rattle.rec_counts.specs.Rest.{AreZeros}
+use Rattle.rec_counts.specs.Slot.{absent, is_in, lessened, lessened_if, lowered, out_of_set, unbuffered_if}
+use Rattle.rec_counts.specs.Colour.{is_orange}
+use Rattle.rec_counts.proofs.Decrementing.{rest_decremented, zeros_from, ZerosFrom, zero_found, same_slot}
+use Rattle.rec_counts.proofs.Keeping.{field_kept, keep_drop, map_at, last_once}
+use Rattle.rec_counts.proofs.Times.{times-nil, times-append, times-cons, one-le, one-same, one-none}
 use Rattle.rec_release.specs.declared.member.Member.{Member}
 use Rattle.rec_release.specs.CycleFree.{dead_if, given_up, next_member, next_member_if, IsFreeable}
 use Rattle.rec_release.specs.Release.{emptied, listed_if, without_first, IsReady}
-use Rattle.rec_release.specs.TakenOff.{down_if, is_lowered, is_orange, taken_off, AllZerosButOrange, IsApart, IsMember, KeepsOrange}
-use Rattle.rec_release.proofs.Giving.{given_slot, last_once, mapped}
+use Rattle.rec_release.specs.TakenOff.{down_if, is_lowered, taken_off, AllZerosButOrange, IsApart, IsMember, KeepsOrange}
+use Rattle.rec_release.proofs.Giving.{given_slot}
 use Rattle.rec_release.proofs.Keeping.{Unzeroed, ready_emptied, still_zero}
 use Rattle.rec_release.proofs.TakenOff.{off_most, ready_off, written}
 
--- where no set is left, the zeros are all of the slots that have no count and are not released
-pub all_zeros_without_sets : (s : State) → s.sets ≡ [] → IsApart s → AllZerosButOrange s → AllZeros s
-all_zeros_without_sets s e a k = λ x r n. k x r n (λ o. absurd (omega (arith, (a x o).member, ap (λ sets. times x (concat sets)) e, times-nil x)))
+-- what is written isn't Orange
+pub not_orange_at : (s : State) (x : ℕ) (v : Slot) → (v.colour ≡ Orange → ⊥) → (slot_at (with_slot s x v) x).colour ≡ Orange → ⊥
+not_orange_at s x v h o = elim (cases_lt x (length s.slots)) [
+  | inl l ↦ h (ap (λ (w : Slot). w.colour) (sym (get_or-set_same s.slots x v absent l)) ∙ o)
+  | inr l ↦
+      let past : slot_at (with_slot s x v) x ≡ absent = ap (λ ss. get_or ss x absent) (set_past s.slots x v l) ∙ get_or_past s.slots x absent l in
+      let black : Black ≡ Orange = ap (λ (w : Slot). w.colour) (sym past) ∙ o in
+      cc
+]
 
 -- what each move keeps
 pub record Keeps (s t : State) : Type 0 where
@@ -33,7 +39,7 @@ pub record Keeps (s t : State) : Type 0 where
   pub apart : IsApart s → IsApart t
   pub before : (x : ℕ) → (slot_at t x).colour ≡ Orange → (slot_at s x).colour ≡ Orange
 
-pub keeps_on : {s t u : State} → Keeps s t → Keeps t u → Keeps s u
+keeps_on : {s t u : State} → Keeps s t → Keeps t u → Keeps s u
 keeps_on k l = record { zeros = λ z. l.zeros (k.zeros z); apart = λ a. l.apart (k.apart a); before = λ x o. k.before x (l.before x o) }
 
 -- and one that leaves the orange slots as they are
@@ -70,7 +76,7 @@ pub same_keeps : (s : State) → KeepsAll s s
 same_keeps s = lists_keep s s.work s.free
 
 -- a slot is emptied
-pub emptied_keeps : (s : State) (x : ℕ) → KeepsAll s (emptied s x)
+emptied_keeps : (s : State) (x : ℕ) → KeepsAll s (emptied s x)
 emptied_keeps s x = listed_keeps (slot_at s x).buffered s x
 
 -- the next zero is released
@@ -102,7 +108,7 @@ pub next_keeps : (s : State) → AreZeros s → KeepsAll s (without_first s.zero
 next_keeps s k = first_keeps s.zeros s refl k
 
 -- the colour of a target that is lowered
-orange_from : (c : Colour) → is_orange c ≡ true → c ≡ Orange
+pub orange_from : (c : Colour) → is_orange c ≡ true → c ≡ Orange
 orange_from Black e = absurd (false≢true e)
 orange_from Purple e = absurd (false≢true e)
 orange_from Gray e = absurd (false≢true e)
@@ -119,27 +125,16 @@ lessened_orange true l v e = e
 lessened_orange false true v e = cc
 lessened_orange false false v e = cc
 
-sent_slot : (d : Due) (s : State) (y x : ℕ) → slot_at (sent d s y) x ≡ slot_at s x
-sent_slot Nothing s y x = refl
-sent_slot Zero s y x = refl
-sent_slot Root s y x = refl
-
 -- a slot after a decrement: it was decremented, or it is as it was
 decremented_at : (s : State) (y x : ℕ) → ((x ≡ y) × (slot_at (decremented s y) x ≡ lessened (slot_at s y))) ⊎ (slot_at (decremented s y) x ≡ slot_at s x)
 decremented_at s y x =
     let v : Slot = lessened (slot_at s y) in
-    let e : slot_at (decremented s y) x ≡ slot_at (with_slot s y v) x = sent_slot (due_of (slot_at s y)) (with_slot s y v) y x in
+    let e : slot_at (decremented s y) x ≡ slot_at (with_slot s y v) x = same_slot s y x in
     elim (written s y v x) [ inl q ↦ inl (q.0, e ∙ q.1) | inr q ↦ inr (e ∙ q) ]
 
 -- a slot whose last reference goes is Black, and stands in the zeros
 last_black : (v : Slot) → v.released ≡ false → v.count ≡ 1 → (lessened v).colour ≡ Black
 last_black v r n = ap (λ b. (lessened_if b (eqb v.count 1) v).colour) r ∙ ap (λ b. (lessened_if false b v).colour) (eq-eqb v.count 1 n)
-
-last_found : (s : State) (y : ℕ) → (slot_at s y).released ≡ false → (slot_at s y).count ≡ 1 → 0 < times y (decremented s y).zeros
-last_found s y r n =
-    let v : Slot = slot_at s y in
-    let due : due_of v ≡ Zero = ap (λ b. due_if b (eqb v.count 1) v.buffered) r ∙ ap (λ b. due_if false b v.buffered) (eq-eqb v.count 1 n) in
-    omega (arith, ap (λ d. times y (sent d (with_slot s y (lessened v)) y).zeros) due, times_push y s.zeros y, one-same y)
 
 -- where it is orange, it does not join the zeros
 unjoined : (s : State) (y x : ℕ) → (slot_at s x).released ≡ false → (slot_at (decremented s y) x).colour ≡ Orange → times x (zeros_from s y).more ≡ 0
@@ -169,7 +164,7 @@ decrement_keeps s y h =
     record {
       zeros = λ a x r c o. elim (decremented_at s y x) [
         | inl q ↦ let last : (slot_at s y).count ≡ 1 = omega (arith, h, c, ap (λ (w : Slot). w.count) q.1, lessened_count s y) in
-            subst (λ z. 0 < times z (decremented s y).zeros) (sym q.0) (last_found s y (ap (λ z. (slot_at s z).released) (sym q.0) ∙ sym (k.released x) ∙ r) last)
+            subst (λ z. 0 < times z (decremented s y).zeros) (sym q.0) (zero_found s y (ap (λ z. (slot_at s z).released) (sym q.0) ∙ sym (k.released x) ∙ r) last)
         | inr q ↦ let old : 0 < times x s.zeros = a x (ap (λ (w : Slot). w.released) (sym q) ∙ r) (ap (λ (w : Slot). w.count) (sym q) ∙ c) (λ p. o (ap (λ (w : Slot). w.colour) q ∙ p)) in omega (arith, n x, old)
       ];
       apart = λ a x o. let m : IsMember s x = a x (orange_before s y x o) in member_on s (decremented s y) x k.sets (omega (arith, n x, m.no_zero, unjoined s y x m.unreleased o)) (k.released x) m;
@@ -254,13 +249,9 @@ given_same s x e = given_slot s x ∙ ap (λ b. dead_if b (unbuffered_if b (slot
 given_before : (s : State) (x : ℕ) → (slot_at (given_up s) x).colour ≡ Orange → (is_in (length s.sets - 1) (slot_at s x).set ≡ false) × ((slot_at s x).colour ≡ Orange)
 given_before s x o = given_orange_if (is_in (length s.sets - 1) (slot_at s x).set) (slot_at s x) (ap (λ (v : Slot). v.colour) (sym (given_slot s x)) ∙ o)
 
-outside : (b : Bool) (n : ℕ) → n ≡ one b → n ≡ 0 → b ≡ false
-outside true n e z = absurd (omega (arith, e, z))
-outside false n e z = refl
-
 pub given_orange : (s : State) → IsKept s → KeepsOrange (last_set s.sets) s (given_up s)
 given_orange s k = record {
-  kept = λ x n o. ap (λ (v : Slot). v.colour) (given_same s x (outside (is_in (length s.sets - 1) (slot_at s x).set) (times x (last_set s.sets)) (k.numbers (length s.sets - 1) x) n)) ∙ o;
+  kept = λ x n o. ap (λ (v : Slot). v.colour) (given_same s x (one-none (is_in (length s.sets - 1) (slot_at s x).set) (sym (k.numbers (length s.sets - 1) x) ∙ n))) ∙ o;
   before = λ x o. let g = given_before s x o in (k.numbers (length s.sets - 1) x ∙ ap one g.0, g.1);
 }
 
@@ -268,7 +259,7 @@ given_orange s k = record {
 other_member : (s : State) (x : ℕ) → IsKept s → IsFreeable s → is_in (length s.sets - 1) (slot_at s x).set ≡ false → times x (concat (earlier_sets s.sets)) ≡ times x (concat s.sets)
 other_member s x k f e =
     let k' = keep_drop k f.some (λ y. omega (arith, ap (times y) f.work, times-nil y, last_once s k y, one-le (ltb y (length s.slots)))) in
-    let same : get_or (map (out_of_set (length s.sets - 1)) s.slots) x absent ≡ slot_at s x = mapped (out_of_set (length s.sets - 1)) s.slots x refl ∙ ap (λ b. unbuffered_if b (slot_at s x)) e in
+    let same : get_or (map (out_of_set (length s.sets - 1)) s.slots) x absent ≡ slot_at s x = map_at (out_of_set (length s.sets - 1)) refl s.slots x ∙ ap (λ b. unbuffered_if b (slot_at s x)) e in
     omega (arith, k'.buffers x, k.buffers x, ap (λ (v : Slot). one v.buffered) same)
 
 given_unreleased_if : (b : Bool) (v : Slot) → (dead_if b (unbuffered_if b v)).released ≡ false → b ≡ false

@@ -1,18 +1,19 @@
 -- Whole releases, word by word.
-use Rattle.std.proofs.Common.{◌≡◌, ℕ, ◌+◌, ◌<◌, Bool, Option, None, Some, IfSome, List, [], ◌∷◌, ◌++◌, length, take, refl, arith, sym, ◌∙◌, ap, subst, inl, inr, append_assoc}
+use Rattle.std.proofs.Common.{◌≡◌, ℕ, ◌+◌, ◌<◌, Bool, Option, None, Some, IfSome, List, [], ◌∷◌, ◌++◌, length, take, refl, arith, sym, ◌∙◌, ap, subst, inl, inr, append_assoc, fold}
 use Rattle.std.proofs.lemmas.List.{append-nil}
 use Rattle.std.proofs.lemmas.Bool.{cases_lt}
-use Rattle.rec_word.specs.Place.{place_of}
+use Rattle.rec_word.specs.Place.{place_of, places_from}
 use Rattle.rec_word.specs.Word.{target_of}
+use Rattle.rec_word.proofs.FieldPlaces.{places_step}
 use Rattle.rec_counts.specs.Counts.{State}
 use Rattle.rec_counts.proofs.Times.{times-nil}
 use Rattle.rec_release.specs.declared.at.At.{At}
 use Rattle.rec_release.specs.Release.{Work, emptied, first_of, without_first, with_next, took_of, started_of, IsReady}
-use Rattle.rec_release.specs.Released.{Released, HasReleased, places_from, taken_in, exchanged}
+use Rattle.rec_release.specs.Released.{Released, HasReleased, exchanged}
 use Rattle.rec_release.specs.TakenOff.{taken_off}
 use Rattle.rec_release.proofs.Keeping.{took_on, took_last, took_none}
 use Rattle.rec_release.proofs.Moves.{taken_on, emptied_on, next_on}
-use Rattle.rec_release.proofs.Places.{places_step, leading-nil}
+use Rattle.rec_release.proofs.Places.{leading-nil}
 
 -- a release with this field due
 abbrev pub at_work : (fields : ℕ) (lowers : Bool) → Option At → State → Work
@@ -32,7 +33,7 @@ first_due [] fields f = tt
 first_due (z ∷ zs) fields f = f
 
 -- a release that has begun
-pub came_first : (fields : ℕ) (lowers : Bool) (before : State) → 0 < fields → IsReady before → Came fields lowers before (with_next fields lowers before) [] []
+came_first : (fields : ℕ) (lowers : Bool) (before : State) → 0 < fields → IsReady before → Came fields lowers before (with_next fields lowers before) [] []
 came_first fields lowers before f k =
     let r : Released fields before None before [] [] [] = record {
       places = refl;
@@ -50,7 +51,7 @@ came_first fields lowers before f k =
     record { at = first_of before.zeros; counts = without_first before.zeros before; is = refl; due = first_due before.zeros fields f; slots = n.0; law = n.1 }
 
 -- one word more
-pub came_more : (fields : ℕ) (lowers : Bool) (before : State) (a : At) (after : State) (words from slots : List ℕ) (word : ℕ) → a.field < fields → Released fields before (Some a) after words from slots →
+came_more : (fields : ℕ) (lowers : Bool) (before : State) (a : At) (after : State) (words from slots : List ℕ) (word : ℕ) → a.field < fields → Released fields before (Some a) after words from slots →
     Came fields lowers before (took_of (at_work fields lowers (Some a) after) word) (words ++ word ∷ []) (from ++ place_of a.slot a.field fields ∷ [])
 came_more fields lowers before a after words from slots word l r =
     let b : At = record { slot = a.slot; field = a.field + 1 } in
@@ -76,18 +77,9 @@ unfolding exchanged
 idle_exchanges fields lowers s [] = refl
 idle_exchanges fields lowers s (word ∷ words) = ap (λ w. exchanged w words) (took_none fields lowers s word) ∙ idle_exchanges fields lowers s words
 
-idle_stays : (fields : ℕ) (lowers : Bool) (s : State) (words : List ℕ) → taken_in (at_work fields lowers None s) words ≡ at_work fields lowers None s
-unfolding taken_in
+idle_stays : (fields : ℕ) (lowers : Bool) (s : State) (words : List ℕ) → fold took_of (at_work fields lowers None s) words ≡ at_work fields lowers None s
 idle_stays fields lowers s [] = refl
-idle_stays fields lowers s (word ∷ words) = ap (λ w. taken_in w words) (took_none fields lowers s word) ∙ idle_stays fields lowers s words
-
-taken_more : (w : Work) (word : ℕ) (words : List ℕ) → taken_in w (word ∷ words) ≡ taken_in (took_of w word) words
-unfolding taken_in
-taken_more w word words = refl
-
-taken_none : (w : Work) → taken_in w [] ≡ w
-unfolding taken_in
-taken_none w = refl
+idle_stays fields lowers s (word ∷ words) = ap (λ w. fold took_of w words) (took_none fields lowers s word) ∙ idle_stays fields lowers s words
 
 exchanged_none : (w : Work) → exchanged w [] ≡ []
 unfolding exchanged
@@ -102,24 +94,24 @@ retold : {fields : ℕ} {lowers : Bool} {before : State} {w v : Work} {words wor
 retold {fields = fields} {lowers = lowers} {before = before} {w = w} {v = v} {words = words} {words' = words'} {from = from} {from' = from'} e f g c =
     subst (λ u. Came fields lowers before u words' from') (sym e) (subst (λ ws. Came fields lowers before w ws from') (sym f) (subst (λ ps. Came fields lowers before w words ps) (sym g) c))
 
-pub came_by : (more : List ℕ) (fields : ℕ) (lowers : Bool) (before : State) (w : Work) (words from : List ℕ) → Came fields lowers before w words from → Came fields lowers before (taken_in w more) (words ++ take (length (exchanged w more)) more) (from ++ exchanged w more)
+came_by : (more : List ℕ) (fields : ℕ) (lowers : Bool) (before : State) (w : Work) (words from : List ℕ) → Came fields lowers before w words from → Came fields lowers before (fold took_of w more) (words ++ take (length (exchanged w more)) more) (from ++ exchanged w more)
 came_by [] fields lowers before w words from c =
-    retold (taken_none w) (ap (λ ps. words ++ take (length ps) []) (exchanged_none w) ∙ append-nil words) (ap (λ ps. from ++ ps) (exchanged_none w) ∙ append-nil from) c
+    retold refl (ap (λ ps. words ++ take (length ps) []) (exchanged_none w) ∙ append-nil words) (ap (λ ps. from ++ ps) (exchanged_none w) ∙ append-nil from) c
 came_by (word ∷ more) fields lowers before w words from c = at (came_by more fields lowers before) c.at c.is c.due c.law
   where
-    at : ((v : Work) (ws ps : List ℕ) → Came fields lowers before v ws ps → Came fields lowers before (taken_in v more) (ws ++ take (length (exchanged v more)) more) (ps ++ exchanged v more)) →
+    at : ((v : Work) (ws ps : List ℕ) → Came fields lowers before v ws ps → Came fields lowers before (fold took_of v more) (ws ++ take (length (exchanged v more)) more) (ps ++ exchanged v more)) →
         (x : Option At) → w ≡ at_work fields lowers x c.counts → IfSome x (λ (a : At). a.field < fields) → Released fields before x c.counts words from c.slots →
-        Came fields lowers before (taken_in w (word ∷ more)) (words ++ take (length (exchanged w (word ∷ more))) (word ∷ more)) (from ++ exchanged w (word ∷ more))
+        Came fields lowers before (fold took_of w (word ∷ more)) (words ++ take (length (exchanged w (word ∷ more))) (word ∷ more)) (from ++ exchanged w (word ∷ more))
     at go None e d r =
         let n : exchanged w (word ∷ more) ≡ [] = ap (λ v. exchanged v (word ∷ more)) e ∙ idle_exchanges fields lowers c.counts (word ∷ more) in
-        retold (ap (λ v. taken_in v (word ∷ more)) e ∙ idle_stays fields lowers c.counts (word ∷ more) ∙ sym e) (ap (λ ps. words ++ take (length ps) (word ∷ more)) n ∙ append-nil words) (ap (λ ps. from ++ ps) n ∙ append-nil from) c
+        retold (ap (λ v. fold took_of v (word ∷ more)) e ∙ idle_stays fields lowers c.counts (word ∷ more) ∙ sym e) (ap (λ ps. words ++ take (length ps) (word ∷ more)) n ∙ append-nil words) (ap (λ ps. from ++ ps) n ∙ append-nil from) c
     at go (Some a) e d r =
         let v : Work = at_work fields lowers (Some a) c.counts in
         let p : ℕ = place_of a.slot a.field fields in
         let x : exchanged w (word ∷ more) ≡ p ∷ exchanged (took_of v word) more = ap (λ u. exchanged u (word ∷ more)) e ∙ exchanged_more fields lowers a c.counts word more d in
         let i = go (took_of v word) (words ++ word ∷ []) (from ++ p ∷ []) (came_more fields lowers before a c.counts words from c.slots word d r) in
         retold
-        (ap (λ u. taken_in u (word ∷ more)) e ∙ taken_more v word more)
+        (ap (λ u. fold took_of u (word ∷ more)) e)
         (ap (λ ps. words ++ take (length ps) (word ∷ more)) x ∙ sym (append_assoc words (word ∷ []) (take (length (exchanged (took_of v word) more)) more)))
         (ap (λ ps. from ++ ps) x ∙ sym (append_assoc from (p ∷ []) (exchanged (took_of v word) more)))
         i
@@ -129,7 +121,7 @@ pub whole_release : (fields : ℕ) (lowers : Bool) (before : State) (words : Lis
 unfolding started_of
 whole_release fields lowers before words f k =
     let w : Work = with_next fields lowers before in
-    let c : Came fields lowers before (taken_in w words) (take (length (exchanged w words)) words) (exchanged w words) = came_by words fields lowers before w [] [] (came_first fields lowers before f k) in
+    let c : Came fields lowers before (fold took_of w words) (take (length (exchanged w words)) words) (exchanged w words) = came_by words fields lowers before w [] [] (came_first fields lowers before f k) in
     (c.slots, subst (λ (v : Work). Released fields before v.machine.at v.counts (take (length (exchanged w words)) words) (exchanged w words) c.slots) (sym c.is) c.law)
 
 -- a release that began, as its call tells

@@ -1,5 +1,5 @@
 -- Whole sweeps, word by word.
-use Rattle.std.proofs.Common.{◌≡◌, ℕ, zero, suc, ◌<◌, Bool, true, false, eqb, ltb, List, [], ◌∷◌, ◌++◌, length, take, drop, slice_get, refl, arith, sym, ◌∙◌, ap, subst, inl, inr, append_assoc}
+use Rattle.std.proofs.Common.{◌≡◌, ℕ, zero, suc, ◌<◌, Bool, true, false, eqb, ltb, List, [], ◌∷◌, ◌++◌, length, take, drop, slice_get, refl, arith, sym, ◌∙◌, ap, subst, inl, inr, append_assoc, fold}
 use Rattle.std.proofs.lemmas.List.{length-set, get_or-set_same, get_or-set_other, append-nil}
 use Rattle.std.proofs.lemmas.Bool.{lt-ltb}
 use Rattle.std.proofs.lemmas.Bool.Decides.{eqb_tells}
@@ -8,7 +8,7 @@ use Rattle.rec_counts.specs.Counts.{State, slot_at}
 use Rattle.rec_counts.specs.Lists.{one, times, EachOnce}
 use Rattle.rec_counts.specs.Slot.{absent, swept_clean}
 use Rattle.rec_counts.proofs.Times.{times-nil, times-cons, times_push, one-same, in_range_once, once_rest}
-use Rattle.rec_release.specs.Sweep.{Work, swept, swept_if, took_at, took_of, started_of, taken_in, freed, Swept, HasSwept}
+use Rattle.rec_release.specs.Sweep.{Work, swept, swept_if, took_at, took_of, started_of, freed, Swept, HasSwept}
 
 -- nothing is swept yet
 swept_none : (s : State) → Swept s s []
@@ -39,25 +39,13 @@ swept_more before after gone x rest e l k = record {
   zeros = k.zeros;
 }
 
--- a sweep before the next word
-abbrev at_first : State → Work
-at_first s = record { due = slice_get s.free 0; counts = s }
+took_first : (s : State) (word x : ℕ) (rest : List ℕ) → s.free ≡ x ∷ rest → took_of (started_of s) word ≡ started_of (swept s x)
+unfolding took_of started_of
+took_first s word x rest e = ap (took_at (started_of s)) (ap (λ f. slice_get f 0) e)
 
-took_first : (s : State) (word x : ℕ) (rest : List ℕ) → s.free ≡ x ∷ rest → took_of (at_first s) word ≡ at_first (swept s x)
-unfolding took_of
-took_first s word x rest e = ap (took_at (at_first s)) (ap (λ f. slice_get f 0) e)
-
-took_last : (s : State) (word : ℕ) → s.free ≡ [] → took_of (at_first s) word ≡ at_first s
-unfolding took_of
-took_last s word e = ap (took_at (at_first s)) (ap (λ f. slice_get f 0) e)
-
-taken_more : (w : Work) (word : ℕ) (words : List ℕ) → taken_in w (word ∷ words) ≡ taken_in (took_of w word) words
-unfolding taken_in
-taken_more w word words = refl
-
-taken_none : (w : Work) → taken_in w [] ≡ w
-unfolding taken_in
-taken_none w = refl
+took_last : (s : State) (word : ℕ) → s.free ≡ [] → took_of (started_of s) word ≡ started_of s
+unfolding took_of started_of
+took_last s word e = ap (took_at (started_of s)) (ap (λ f. slice_get f 0) e)
 
 freed_none : (w : Work) → freed w [] ≡ []
 unfolding freed
@@ -69,28 +57,29 @@ freed_more w word words = refl
 
 -- what a sweep made, from some slots swept before on
 record SweptBy (before after : State) (gone words : List ℕ) : Type 0 where
-  law : Swept before (taken_in (at_first after) words).counts (gone ++ take (length words) after.free)
-  order : freed (at_first after) words ≡ take (length words) after.free
+  law : Swept before (fold took_of (started_of after) words).counts (gone ++ take (length words) after.free)
+  order : freed (started_of after) words ≡ take (length words) after.free
 
 take_nothing : (n : ℕ) → take {A = ℕ} n [] ≡ []
 take_nothing zero = refl
 take_nothing (suc n) = refl
 
 swept_by : (words : List ℕ) (before after : State) (gone : List ℕ) → EachOnce (length after.slots) after.free → Swept before after gone → SweptBy before after gone words
+unfolding started_of
 swept_by [] before after gone o k = record {
-  law = subst (λ (w : Work). Swept before w.counts (gone ++ [])) (sym (taken_none (at_first after))) (subst (Swept before after) (sym (append-nil gone)) k);
-  order = freed_none (at_first after);
+  law = subst (Swept before after) (sym (append-nil gone)) k;
+  order = freed_none (started_of after);
 }
 swept_by (word ∷ words) before after gone o k = at (λ a g p q. swept_by words before a g p q) after.free refl
   where
     at : ((a : State) (g : List ℕ) → EachOnce (length a.slots) a.free → Swept before a g → SweptBy before a g words) → (fs : List ℕ) → after.free ≡ fs → SweptBy before after gone (word ∷ words)
     at go [] e =
         let i : SweptBy before after gone words = go after gone o k in
-        let t : taken_in (at_first after) (word ∷ words) ≡ taken_in (at_first after) words = taken_more (at_first after) word words ∙ ap (λ w. taken_in w words) (took_last after word e) in
+        let t : fold took_of (started_of after) (word ∷ words) ≡ fold took_of (started_of after) words = ap (λ w. fold took_of w words) (took_last after word e) in
         let n : take (length words) after.free ≡ take (length (word ∷ words)) after.free = ap (take (length words)) e ∙ take_nothing (length words) ∙ sym (ap (take (length (word ∷ words))) e ∙ take_nothing (length (word ∷ words))) in
         record {
-          law = subst (λ (w : Work). Swept before w.counts (gone ++ take (length (word ∷ words)) after.free)) (sym t) (subst (λ g. Swept before (taken_in (at_first after) words).counts (gone ++ g)) n i.law);
-          order = freed_more (at_first after) word words ∙ ap (λ f. take 1 f ++ freed (took_of (at_first after) word) words) e ∙ ap (λ w. freed w words) (took_last after word e) ∙ i.order ∙ n;
+          law = subst (λ (w : Work). Swept before w.counts (gone ++ take (length (word ∷ words)) after.free)) (sym t) (subst (λ g. Swept before (fold took_of (started_of after) words).counts (gone ++ g)) n i.law);
+          order = freed_more (started_of after) word words ∙ ap (λ f. take 1 f ++ freed (took_of (started_of after) word) words) e ∙ ap (λ w. freed w words) (took_last after word e) ∙ i.order ∙ n;
         }
     at go (x ∷ rest) e =
         let first : 0 < times x after.free = omega (arith, ap (times x) e, times-cons x x rest, one-same x) in
@@ -99,12 +88,12 @@ swept_by (word ∷ words) before after gone o k = at (λ a g p q. swept_by words
         let r : (swept after x).free ≡ rest = ap (drop 1) e in
         let p : EachOnce (length (swept after x).slots) (swept after x).free = subst (λ n. EachOnce n (drop 1 after.free)) (sym (length-set after.slots x (swept_clean (slot_at after x)))) (once_rest (length after.slots) after.free o) in
         let i : SweptBy before (swept after x) (gone ++ x ∷ []) words = go (swept after x) (gone ++ x ∷ []) p m in
-        let t : taken_in (at_first after) (word ∷ words) ≡ taken_in (at_first (swept after x)) words = taken_more (at_first after) word words ∙ ap (λ w. taken_in w words) (took_first after word x rest e) in
+        let t : fold took_of (started_of after) (word ∷ words) ≡ fold took_of (started_of (swept after x)) words = ap (λ w. fold took_of w words) (took_first after word x rest e) in
         let n : take (length (word ∷ words)) after.free ≡ x ∷ take (length words) (swept after x).free = ap (take (length (word ∷ words))) e ∙ ap (λ f. x ∷ take (length words) f) (sym r) in
         record {
           law = subst (λ (w : Work). Swept before w.counts (gone ++ take (length (word ∷ words)) after.free)) (sym t)
-              (subst (λ g. Swept before (taken_in (at_first (swept after x)) words).counts g) (append_assoc gone (x ∷ []) (take (length words) (swept after x).free) ∙ ap (λ g. gone ++ g) (sym n)) i.law);
-          order = freed_more (at_first after) word words ∙ ap (λ f. take 1 f ++ freed (took_of (at_first after) word) words) e ∙ ap (λ w. x ∷ freed w words) (took_first after word x rest e) ∙ ap (λ g. x ∷ g) i.order ∙ sym n;
+              (subst (λ g. Swept before (fold took_of (started_of (swept after x)) words).counts g) (append_assoc gone (x ∷ []) (take (length words) (swept after x).free) ∙ ap (λ g. gone ++ g) (sym n)) i.law);
+          order = freed_more (started_of after) word words ∙ ap (λ f. take 1 f ++ freed (took_of (started_of after) word) words) e ∙ ap (λ w. x ∷ freed w words) (took_first after word x rest e) ∙ ap (λ g. x ∷ g) i.order ∙ sym n;
         }
 
 -- a whole sweep

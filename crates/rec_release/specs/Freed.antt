@@ -1,21 +1,17 @@
 -- A whole freeing of a set: what it exchanged, and what became of the counts and the free list.
 use Rattle.std.specs.Prelude.{◌≡◌, ℕ, ◌+◌, ◌-◌, Option, None, Some, List, [], ◌∷◌, ◌++◌, drop, map, flat_map, fold, length}
-use Rattle.rec_word.specs.Place.{place_of}
+use Rattle.rec_word.specs.Place.{place_of, places_from, places_of}
 use Rattle.rec_counts.specs.Counts.{State, slot_at}
 use Rattle.rec_counts.specs.Groups.{last_set, earlier_sets}
 use Rattle.rec_counts.specs.Lists.{one, times}
 use Rattle.rec_release.specs.declared.member.Member.{Member}
 use Rattle.rec_release.specs.CycleFree.{Work, took_of, started_of}
-use Rattle.rec_release.specs.Released.{leading, places_from}
+use Rattle.rec_release.specs.Released.{leading}
 
 -- a place that was exchanged for 0, and the word that came out
 pub record Out : Type 0 where
   pub place : ℕ
   pub word : ℕ
-
--- the places of these slots' fields, slot after slot
-abbrev pub places_of : (fields : ℕ) → List ℕ → List ℕ
-places_of fields slots = flat_map (λ slot. places_from fields slot 0) slots
 
 -- the places of these members that are still to be exchanged
 abbrev pub places_behind : (fields : ℕ) → List ℕ → Option Member → List ℕ
@@ -59,10 +55,6 @@ abbrev pub out_at : (fields : ℕ) → Option Member → (word : ℕ) → List O
 out_at fields None word = []
 out_at fields (Some a) word = record { place = place_of a.slot a.field fields; word = word } ∷ []
 
--- the freeing of a set after it took in these words, one after another
-unfoldable pub taken_in : Work → (words : List ℕ) → Work
-taken_in w words = fold took_of w words
-
 -- what came out meanwhile
 unfoldable pub came_out : Work → (words : List ℕ) → List Out
 came_out w [] = []
@@ -72,4 +64,4 @@ came_out w (word ∷ words) = out_at w.machine.fields w.machine.at word ++ came_
 abbrev pub HasFreed : (fields : ℕ) (before : State) (words : List ℕ) → Type 0
 HasFreed fields before words =
     let begun : Work = started_of (record { fields = fields; at = None }) before in
-    FreedTo fields before (taken_in begun words).machine.at (taken_in begun words).counts (came_out begun words)
+    FreedTo fields before (fold took_of begun words).machine.at (fold took_of begun words).counts (came_out begun words)

@@ -1,16 +1,12 @@
 -- A whole release: what it exchanged, and what became of the counts and the free list.
 use Rattle.std.specs.Prelude.{◌≡◌, ℕ, ◌+◌, ◌-◌, ◌<◌, ◌==◌, Bool, true, false, Option, None, Some, IfSome, List, [], ◌∷◌, ◌++◌, map, take, length, flat_map, fold, count_by}
 use Rattle.std.specs.List.{range_with_len}
-use Rattle.rec_word.specs.Place.{place_of}
+use Rattle.rec_word.specs.Place.{place_of, places_from, places_of}
 use Rattle.rec_word.specs.Word.{target_of, is_slot}
 use Rattle.rec_counts.specs.Counts.{State, slot_at}
 use Rattle.rec_counts.specs.Lists.{one, times}
 use Rattle.rec_release.specs.declared.at.At.{At}
 use Rattle.rec_release.specs.Release.{Machine, Work, IsReady, IsHeld, took_of, started_of}
-
--- the places of a slot's fields in order, from this field on
-abbrev pub places_from : (fields slot field : ℕ) → List ℕ
-places_from fields slot field = map (λ f. place_of slot f fields) (range_with_len field (fields - field))
 
 -- the places of the slot at work that are still to be exchanged
 abbrev pub places_left : ℕ → Option At → List ℕ
@@ -26,10 +22,6 @@ is_at x (Some a) = x == a.slot
 unfoldable pub leading : ℕ → (words : List ℕ) → ℕ
 leading x words = count_by (λ word. is_slot x (target_of word)) words
 
--- a release after it took in these words, one after another
-unfoldable pub taken_in : Work → (words : List ℕ) → Work
-taken_in w words = fold took_of w words
-
 abbrev pub place_due : Machine → List ℕ
 place_due m = take 1 (places_left m.fields m.at)
 
@@ -42,7 +34,7 @@ exchanged w (word ∷ words) = place_due w.machine ++ exchanged (took_of w word)
 -- `from`, in order, and `slots` were released, in order.
 pub record Released (fields : ℕ) (before : State) (at : Option At) (after : State) (words from slots : List ℕ) : Type 0 where
   -- each field of each released slot is exchanged once, in order
-  pub places : from ++ places_left fields at ≡ flat_map (λ slot. places_from fields slot 0) slots
+  pub places : from ++ places_left fields at ≡ places_of fields slots
   pub each : length words ≡ length from
   -- each reference that came out takes one off its target's count, and nothing else changes a count
   pub counts : (x : ℕ) → (slot_at after x).count ≡ (slot_at before x).count - leading x words
@@ -61,4 +53,4 @@ abbrev pub HasReleased : (fields : ℕ) (lowers : Bool) (before : State) (words 
 HasReleased fields lowers before words =
     let begun : Work = started_of (record { fields = fields; at = None; lowers = false }) lowers before in
     let places : List ℕ = exchanged begun words in
-    (slots : List ℕ) × Released fields before (taken_in begun words).machine.at (taken_in begun words).counts (take (length places) words) places slots
+    (slots : List ℕ) × Released fields before (fold took_of begun words).machine.at (fold took_of begun words).counts (take (length places) words) places slots

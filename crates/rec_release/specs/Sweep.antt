@@ -45,10 +45,6 @@ pub record IsAtWork (due : Option ℕ) (s : State) : Type 0 where
   pub first : due ≡ slice_get s.free 0
   pub unbuffered : AreUnbuffered s
 
--- a sweep after it took in these words, one after another
-unfoldable pub taken_in : Work → (words : List ℕ) → Work
-taken_in w words = fold took_of w words
-
 -- the slots whose headers it freed meanwhile
 unfoldable pub freed : Work → (words : List ℕ) → List ℕ
 freed w [] = []
@@ -75,4 +71,4 @@ pub record Swept (before after : State) (gone : List ℕ) : Type 0 where
 -- there were words, or all of the free list
 pub record HasSwept (before : State) (words : List ℕ) : Type 0 where
   pub gone : freed (started_of before) words ≡ take (length words) before.free
-  pub swept : Swept before (taken_in (started_of before) words).counts (take (length words) before.free)
+  pub swept : Swept before (fold took_of (started_of before) words).counts (take (length words) before.free)

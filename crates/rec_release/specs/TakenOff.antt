@@ -6,13 +6,7 @@ use Rattle.rec_counts.specs.declared.colour.Colour.TheVariants.{Black, Purple, G
 use Rattle.rec_counts.specs.Counts.{State, slot_at, with_slot, decremented}
 use Rattle.rec_counts.specs.Lists.{times}
 use Rattle.rec_counts.specs.Slot.{lowered}
-
-abbrev pub is_orange : Colour → Bool
-is_orange Black = false
-is_orange Purple = false
-is_orange Gray = false
-is_orange White = false
-is_orange Orange = true
+use Rattle.rec_counts.specs.Colour.{is_orange}
 
 -- a target of this colour is lowered, where orange ones are
 abbrev pub is_lowered : (lowers : Bool) → Colour → Bool

@@ -10,10 +10,11 @@ use Rattle.std.proofs.lemmas.Grind.{flat_map-append}
 use Rattle.rec_model.specs.LegalOrder.{Line}
 use Rattle.rec_world.specs.Journal.{Notes}
 use Rattle.rec_model.specs.Numbering.{times}
+use Rattle.rec_model.proofs.Counted.{times-append, times-cons}
 use Rattle.rec_report.specs.Text.{answer_line, own_lines, lines_by_mutator, turn_line, IsOrderOf, is_refused, refusals}
 
 -- one element more has the next number
-pub enumerate_from-push : {X : Type 0} (n : ℕ) (xs : List X) (x : X) → enumerate_from n (xs ++ x ∷ []) ≡ enumerate_from n xs ++ (n + length xs, x) ∷ []
+enumerate_from-push : {X : Type 0} (n : ℕ) (xs : List X) (x : X) → enumerate_from n (xs ++ x ∷ []) ≡ enumerate_from n xs ++ (n + length xs, x) ∷ []
 enumerate_from-push n [] x = let e : n ≡ n + 0 = omega arith in ap (λ k. (k, x) ∷ []) e
 enumerate_from-push n (y ∷ ys) x =
     let e : n + 1 + length ys ≡ n + length (y ∷ ys) = omega arith in
@@ -28,7 +29,7 @@ next_numbered f n xs i d within =
     ∙ map-append f (enumerate_from n (take i xs)) ((n + length (take i xs), get_or xs i d) ∷ [])
     ∙ ap (λ k. map f (enumerate_from n (take i xs)) ++ f (n + k, get_or xs i d) ∷ []) size
 
-pub next_pieces : {X Y : Type 0} (f : ℕ × X → List Y) (n : ℕ) (xs : List X) (i : ℕ) (d : X) → i < length xs → flat_map f (enumerate_from n (take (i + 1) xs)) ≡ flat_map f (enumerate_from n (take i xs)) ++ f (n + i, get_or xs i d)
+next_pieces : {X Y : Type 0} (f : ℕ × X → List Y) (n : ℕ) (xs : List X) (i : ℕ) (d : X) → i < length xs → flat_map f (enumerate_from n (take (i + 1) xs)) ≡ flat_map f (enumerate_from n (take i xs)) ++ f (n + i, get_or xs i d)
 next_pieces f n xs i d within =
     let size : length (take i xs) ≡ i = length-take-le i xs (omega arith) in
     ap (λ ys. flat_map f (enumerate_from n ys)) (take_more xs i d within)
@@ -50,14 +51,7 @@ own_line t i journal d within =
     ∙ ap (λ p. answer_line t p.0 p.1.1.answer) (get_or-enumerate_from 1 journal i (0, d) within)
     ∙ ap (λ k. answer_line t k (get_or journal i d).1.answer) e
 
--- a mutator's turn is one more than those before it
-pub times-append : (n : ℕ) (xs ys : List ℕ) → times n (xs ++ ys) ≡ times n xs + times n ys
-times-append n xs ys = sum_by-append (λ m. cond (m == n) 1 0) xs ys
-
-pub times-cons : (n m : ℕ) (ns : List ℕ) → times n (m ∷ ns) ≡ cond (m == n) 1 0 + times n ns
-times-cons n m ns = sum_by-cons (λ k. cond (k == n) 1 0) m ns
-
-pub times_before : (order : List ℕ) (p : ℕ) → p < length order → times (get_or order p 0) (take p order) < times (get_or order p 0) order
+times_before : (order : List ℕ) (p : ℕ) → p < length order → times (get_or order p 0) (take p order) < times (get_or order p 0) order
 times_before order p within =
     let t : ℕ = get_or order p 0 in
     let whole : order ≡ take p order ++ t ∷ drop (p + 1) order = sym (take-append-drop p order) ∙ ap (λ ns. take p order ++ ns) (drop_more order p 0 within) in
@@ -72,7 +66,7 @@ pub record HasTurn (journals : List (List Line)) (before t : ℕ) : Type 0 where
   pub there : t - 1 < length journals
   pub line : before < length (get_or journals (t - 1) [])
 
-pub has_turn : (journals : List (List Line)) (order : List ℕ) (p : ℕ) → IsOrderOf journals order → p < length order → HasTurn journals (times (get_or order p 0) (take p order)) (get_or order p 0)
+has_turn : (journals : List (List Line)) (order : List ℕ) (p : ℕ) → IsOrderOf journals order → p < length order → HasTurn journals (times (get_or order p 0) (take p order)) (get_or order p 0)
 has_turn journals order p names within =
     let t : ℕ = get_or order p 0 in
     let more : times t (take p order) < times t order = times_before order p within in

@@ -18,9 +18,9 @@ use Rattle.rec_model.proofs.Places.{sum_at-le-from_get_or, sum_at_only}
 use Rattle.rec_model.proofs.Sums.{sum_at_none, sum_at_same, sum_at_split, sum_by-flat_map, sum_by-map, sum_by_same}
 use Rattle.rec_model.proofs.Words.{named-nulls}
 use Rattle.rec_counts.specs.Counts.{slot_at}
+use Rattle.rec_model.proofs.Counted.{times-cons}
 use Rattle.rec_core.specs.Settled.{IsSettled, fields_holding}
 use Rattle.rec_world.specs.World.{Core, sight, IsWorld}
-use Rattle.rec_report.proofs.AnswerLines.{times-cons}
 
 same_either : (m n : ℕ) → (m == n) ≡ (n == m)
 same_either m n = elim (cases_eq m n) [

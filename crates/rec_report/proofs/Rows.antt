@@ -14,6 +14,7 @@ use Rattle.rec_model.proofs.Members.{is_in-head, is_in-tail}
 use Rattle.rec_model.proofs.Numbered.{lists_reached}
 use Rattle.rec_world.specs.Numbering.{Numbered, number_of}
 use Rattle.rec_counts.specs.Counts.{slot_at}
+use Rattle.rec_model.proofs.Listed.{row_of}
 use Rattle.rec_core.specs.Settled.{IsSettled}
 use Rattle.rec_world.specs.World.{Core, sight, label_of, IsWorld}
 use Rattle.rec_world.proofs.Filled.{reached_below, fields_end}
@@ -69,11 +70,8 @@ words_end w fields n i slot wide again words list world numbered same within at 
 own_words : (w : Core) (fields slot wide again : ℕ) (words : List ℕ) → fields ≡ w.config.fields → wide ≡ fields → again ≡ fields → words ≡ w.words → slice_range words (slot * wide) (slot * wide + again) ≡ words_of (sight w) slot
 own_words w fields slot wide again words size e f all = rw (e, f, size, all) refl
 
-abbrev row_of : ℕ → ℕ → List (Option ℕ) → Row
-row_of label count fields = record { label = label; count = count; fields = fields }
-
 -- the row that is read off a listed slot, with its true count
-pub read_row : (w : Core) (fields : ℕ) (n : Numbered) (i slot wide again label count : ℕ) (found : Option ℕ) (words : List ℕ) → IsWorld w → IsSettled w → IsNumbered w fields n → i < length n.list → slot ≡ get_or n.list i 0 → wide ≡ fields → again ≡ fields → words ≡ w.words → found ≡ label_of (get_or w.headers slot 0) → label ≡ unwrap_or found 0 → count ≡ (slot_at w.collector.counts slot).count → row_of label count (map (λ word. field_number n.list (target_of word)) (slice_range words (slot * wide) (slot * wide + again))) ≡ slot_row (sight w) n.list (get_or n.list i 0)
+read_row : (w : Core) (fields : ℕ) (n : Numbered) (i slot wide again label count : ℕ) (found : Option ℕ) (words : List ℕ) → IsWorld w → IsSettled w → IsNumbered w fields n → i < length n.list → slot ≡ get_or n.list i 0 → wide ≡ fields → again ≡ fields → words ≡ w.words → found ≡ label_of (get_or w.headers slot 0) → label ≡ unwrap_or found 0 → count ≡ (slot_at w.collector.counts slot).count → row_of label count (map (λ word. field_number n.list (target_of word)) (slice_range words (slot * wide) (slot * wide + again))) ≡ slot_row (sight w) n.list (get_or n.list i 0)
 read_row w fields n i slot wide again label count found words world settled numbered within at e f all look opened counted =
     let reached : Reaches (sight w) slot = subst (Reaches (sight w)) (sym at) (All-get_or (Reaches (sight w)) n.list i 0 within numbered.numbers.reached) in
     let listed : is_in slot n.list ≡ true = (lists_reached (roots (sight w).registers) (targets_of (sight w)) n.list numbered.numbers slot).0 reached in

@@ -16,10 +16,6 @@ commands_of journals = sum_by length journals
 abbrev pub sizes_line : (mutators commands : ℕ) → List ℕ
 sizes_line mutators commands = codes "mutators " ++ decimal mutators ++ codes " commands " ++ decimal commands ++ line_feed
 
--- no answer is that a log is full
-abbrev pub NoLogFull : List (List Line) → Type 0
-NoLogFull journals = All (All (λ (line : Line). line.1.answer ≢ answers.LogFull)) journals
-
 -- The place of an answer among the words of the summary's second line. The last one has no word there: a summary is asked for
 -- where no answer is that a log is full.
 abbrev pub place_of : Answer → ℕ

@@ -2,10 +2,11 @@
 
 ghost use Rattle.std.specs.Prelude.{◌≡◌, List, map, length, IfOk, IfSome};
 ghost use Rattle.rec_model.specs.Listing.{Row, ListsSlots};
+ghost use Rattle.rec_model.specs.LegalOrder.{NoLogFull};
 ghost use Rattle.rec_core.specs.Settled.{IsSettled};
 ghost use Rattle.rec_world.specs.World.{sight};
 ghost use Rattle.rec_report.specs.Report.{AreFor};
-ghost use Rattle.rec_report.specs.Summary.{NoLogFull, summary_lines};
+ghost use Rattle.rec_report.specs.Summary.{summary_lines};
 ghost use Rattle.rec_report.specs.Text.{IsOrderOf};
 
 use crate::listing::number_live;

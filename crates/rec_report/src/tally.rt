@@ -3,7 +3,8 @@
 ghost use Rattle.std.specs.Prelude.{◌≡◌, ◌≢◌, ℕ, ◌+◌, ◌*◌, ◌<◌, ◌≤◌, ◌^◌, map, length, slice_index_or};
 ghost use Rattle.std.specs.List.{All};
 ghost use Rattle.rec_model.specs.declared.answer.Answer.TheVariants.{LogFull};
-ghost use Rattle.rec_report.specs.Summary.{NoLogFull, answers_at, commands_of as sum_of, own_answers, place_of};
+ghost use Rattle.rec_model.specs.LegalOrder.{NoLogFull};
+ghost use Rattle.rec_report.specs.Summary.{answers_at, commands_of as sum_of, own_answers, place_of};
 
 use rec_model::{Answer, Cmd, Told};
 use rec_world::Journal;

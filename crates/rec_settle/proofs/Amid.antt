@@ -15,12 +15,8 @@ use Rattle.rec_core.proofs.Rest.QuietTurns.{quiet_turned}
 use Rattle.rec_core.proofs.Rest.RestingSeen.{rests_seen}
 use Rattle.rec_core.proofs.Rest.Rounds.{rests_turned}
 use Rattle.rec_core.proofs.Rest.TurnRules.{turn_is}
-use Rattle.rec_core.proofs.Runs.{move_kept, move_stays}
+use Rattle.rec_core.proofs.Runs.{move_kept, move_stays, turned_kept}
 use Rattle.rec_settle.specs.Collecting.{HasPolled, IsAmid, IsCollection}
-
--- every heap keeps what it keeps over a turn
-pub turn_kept : (w : Core) → IsKept w → IsKept (turned w)
-turn_kept w kept = move_kept w Move.Turns kept tt
 
 -- In the midst of a collection mutators are at rest, and no collection more is complete.
 pub record IsQuietAmid (first : ℕ) (before w : Core) : Type 0 where
@@ -33,7 +29,7 @@ pub quiet_amid : (first : ℕ) (before w : Core) → IsKept before → AreQuiet 
 quiet_amid first before w kept quiet (IsAmid.here _ is) = subst (IsQuietAmid first before) (sym is) (record { kept = kept; quiet = quiet; config = refl; collections = refl })
 quiet_amid first before w kept quiet (IsAmid.turns u _ path is cause) =
     let h = quiet_amid first before u kept quiet path in
-    let after : IsKept (turned u) = turn_kept u h.kept in
+    let after : IsKept (turned u) = turned_kept u h.kept in
     record {
       kept = subst IsKept (sym is) after;
       quiet = subst (AreQuiet first) (sym is) (quiet_turned first u (turned u) h.kept after (turn_is u h.kept) h.quiet);
@@ -59,7 +55,7 @@ pub record IsQuietAfter (first : ℕ) (before after : Core) : Type 0 where
 pub quiet_after : (first : ℕ) (before after : Core) → IsKept before → AreQuiet first before → IsCollection before after → IsQuietAfter first before after
 quiet_after first before after kept quiet c =
     let h = quiet_amid first before c.last kept quiet c.path in
-    let next : IsKept (turned c.last) = turn_kept c.last h.kept in
+    let next : IsKept (turned c.last) = turned_kept c.last h.kept in
     record {
       kept = subst IsKept (sym c.turns) next;
       quiet = subst (AreQuiet first) (sym c.turns) (quiet_turned first c.last (turned c.last) h.kept next (turn_is c.last h.kept) h.quiet);

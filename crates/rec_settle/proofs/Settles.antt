@@ -4,6 +4,7 @@ use Rattle.std.proofs.Math.Nat.{mul-le-mul_right}
 use Rattle.rec_collector.specs.Kept.{under_way}
 use Rattle.rec_collector.specs.declared.phase.Phase.{Phase}
 use Rattle.rec_collector.specs.declared.phase.Phase.TheVariants.{Idle, Looking, Swapping, Returning, Releasing, Freeing, Trying, Preparing, Opening, Sweeping, Closing}
+use Rattle.rec_collector.proofs.Landing.{under_way_most}
 use Rattle.rec_core.specs.Core.{Core}
 use Rattle.rec_core.specs.Kept.{IsKept}
 use Rattle.rec_core.specs.Moves.{offering}
@@ -31,25 +32,6 @@ collection_epoch before after kept idle c =
 -- So the epoch tells whether it was.
 pub was_busy : (before after : Core) → IsKept before → AreIdle before → IsCollection before after → after.epoch ≡ before.epoch → before.collector.phase ≡ Idle → ⊥
 was_busy before after kept idle c same none = omega (arith, collection_epoch before after kept idle c, same, ap under_way none)
-
-pub was_idle : (before after : Core) → IsKept before → AreIdle before → IsCollection before after → after.epoch ≢ before.epoch → before.collector.phase ≡ Idle
-was_idle before after kept idle c other = go before.collector.phase refl
-  where
-    busy : under_way before.collector.phase ≡ 1 → ⊥
-    busy one = other (omega (arith, collection_epoch before after kept idle c, one))
-
-    go : (phase : Phase) → before.collector.phase ≡ phase → before.collector.phase ≡ Idle
-    go Idle is = is
-    go (Looking t) is = absurd (busy (ap under_way is))
-    go (Swapping t) is = absurd (busy (ap under_way is))
-    go (Returning t) is = absurd (busy (ap under_way is))
-    go Releasing is = absurd (busy (ap under_way is))
-    go Freeing is = absurd (busy (ap under_way is))
-    go Trying is = absurd (busy (ap under_way is))
-    go Preparing is = absurd (busy (ap under_way is))
-    go Opening is = absurd (busy (ap under_way is))
-    go (Sweeping n) is = absurd (busy (ap under_way is))
-    go (Closing n) is = absurd (busy (ap under_way is))
 
 -- to offer every slot changes nothing else
 offering_quiet : (first : ℕ) (w : Core) → AreQuiet first w → AreQuiet first (offering w)
@@ -158,23 +140,9 @@ module _ (before after : Core) (kept : IsKept before) (idle : AreIdle before) (s
     settled = settled after three.kept three.idle all_rests (idle_count first after three.kept three.quiet three.idle (omega (arith, epoch_three)));
   }
 
--- at most one collection is under way
-few_way : (phase : Phase) → under_way phase ≤ 1
-few_way Idle = omega arith
-few_way (Looking t) = omega arith
-few_way (Swapping t) = omega arith
-few_way (Returning t) = omega arith
-few_way Releasing = omega arith
-few_way Freeing = omega arith
-few_way Trying = omega arith
-few_way Preparing = omega arith
-few_way Opening = omega arith
-few_way (Sweeping n) = omega arith
-few_way (Closing n) = omega arith
-
 -- What four collections sweep fits a number of 32 bits.
 pub few_freed : (before after : Core) → IsKept before → HasSettled before after → after.collector.freed < before.collector.freed + 2 ^ 32
 few_freed before after kept h =
-    let some : 3 + under_way before.collector.phase ≤ 4 = omega (arith, few_way before.collector.phase) in
+    let some : 3 + under_way before.collector.phase ≤ 4 = omega (arith, under_way_most before.collector.phase) in
     let most : (3 + under_way before.collector.phase) * before.config.slots ≤ 4 * before.config.slots = mul-le-mul_right before.config.slots some in
     omega (arith, h.all.few, most, kept.config.few_slots)

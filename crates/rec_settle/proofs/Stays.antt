@@ -93,7 +93,7 @@ pub record StaysAmid (before w : Core) : Type 0 where
   pub stays : Stays before w
   pub sweeps : w.collector.freed + swept before ≡ before.collector.freed + swept w
 
-pub stays_amid : (first : ℕ) (before w : Core) → IsKept before → AreQuiet first before → IsAmid before w → StaysAmid before w
+stays_amid : (first : ℕ) (before w : Core) → IsKept before → AreQuiet first before → IsAmid before w → StaysAmid before w
 stays_amid first before w kept quiet (IsAmid.here _ is) = subst (StaysAmid before) (sym is) (record { stays = stays_same before; sweeps = refl })
 stays_amid first before w kept quiet (IsAmid.turns u _ path is cause) =
     let h = stays_amid first before u kept quiet path in

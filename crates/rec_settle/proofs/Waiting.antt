@@ -68,7 +68,7 @@ moved_nearer w v before after config cause =
 
 -- whoever is waited for is a mutator
 pub awaited : (w v : Core) (t : ℕ) → IsKept w → TurnHasCause w v (answers.Waiting t) → IsAwaited w t
-awaited w v t kept cause = record { there = looked_is w (Looking t) kept cause.0; looked = cause.0; other = cause.1 }
+awaited w v t kept cause = record { there = looked_is w (Looking t) kept cause.0; waits = record { looks = cause.0; behind = cause.1 } }
 
 -- what a poll leaves
 pub has_polled : (w v : Core) (t : ℕ) (crossed : Option ℕ) → IsWorked w t works.Poll v → IsQuiet w v t → is_busy (mutator v t) ≡ false → IsCrossed w v t crossed → (crossed ≡ None) ↔ (w.epoch ≡ (mutator w t).epoch) → ((epoch : ℕ) → crossed ≡ Some epoch → epoch ≡ w.epoch)
@@ -81,10 +81,10 @@ idle_holds : (phase : mutator_phases.Phase) → mutators.is_busy_at phase ≡ fa
 idle_holds phase idle is = false≢true (sym idle ∙ ap mutators.is_busy_at is)
 
 -- Once a mutator that was waited for has polled, its mailbox is handed over.
-pub polled_over : (w v : Core) (t : ℕ) → IsKept v → IsAwaited w t → HasPolled w t v → crossing_of v t ≡ crossing_word v.epoch Retired
+polled_over : (w v : Core) (t : ℕ) → IsKept v → IsAwaited w t → HasPolled w t v → crossing_of v t ≡ crossing_word v.epoch Retired
 polled_over w v t kept awaits polled =
     let is : IsMutator v.config t = subst (λ (c : Config). IsMutator c t) (sym polled.quiet.config) awaits.there in
-    let phase : v.collector.phase ≡ Looking t = ap (λ (c : Private). c.phase) polled.quiet.collector ∙ awaits.looked in
+    let phase : v.collector.phase ≡ Looking t = ap (λ (c : Private). c.phase) polled.quiet.collector ∙ awaits.waits.looks in
     let actor = actor_of v t kept is in
     let due : stand_at v.collector.phase t ≡ Stand.Due = ap (λ p. stand_at p t) phase ∙ stands t in
     let here : (mutator v t).epoch ≡ v.epoch = polled.epoch ∙ sym polled.quiet.requested in
@@ -104,14 +104,14 @@ polled_over w v t kept awaits polled =
 -- so less is left
 pub polled_nearer : (w v : Core) (t : ℕ) → IsKept v → IsAwaited w t → HasPolled w t v → left_of v < left_of w
 polled_nearer w v t kept awaits polled =
-    let phase : v.collector.phase ≡ Looking t = ap (λ (c : Private). c.phase) polled.quiet.collector ∙ awaits.looked in
+    let phase : v.collector.phase ≡ Looking t = ap (λ (c : Private). c.phase) polled.quiet.collector ∙ awaits.waits.looks in
     let now : waits_at v v.collector.phase ≡ 0 = ap (waits_at v) phase ∙ cond-true (crossing_of v t == crossing_word v.epoch Retired) 0 1 (eq-eqb (crossing_of v t) (crossing_word v.epoch Retired) (polled_over w v t kept awaits polled)) in
-    let earlier : waits_at w w.collector.phase ≡ 1 = ap (waits_at w) awaits.looked ∙ cond-false (crossing_of w t == crossing_word w.epoch Retired) 0 1 (ne_eqb (crossing_of w t) (crossing_word w.epoch Retired) awaits.other) in
+    let earlier : waits_at w w.collector.phase ≡ 1 = ap (waits_at w) awaits.waits.looks ∙ cond-false (crossing_of w t == crossing_word w.epoch Retired) 0 1 (ne_eqb (crossing_of w t) (crossing_word w.epoch Retired) awaits.waits.behind) in
     omega (arith, now, earlier, ap turns_of polled.quiet.config, ap (λ (c : Private). c.turns) polled.quiet.collector)
 
 -- the collection is still under way
 pub polled_busy : (w v : Core) (t : ℕ) → IsAwaited w t → HasPolled w t v → v.collector.phase ≡ Idle → ⊥
-polled_busy w v t awaits polled idle = let is : Looking t ≡ Idle = sym awaits.looked ∙ sym (ap (λ (c : Private). c.phase) polled.quiet.collector) ∙ idle in cc
+polled_busy w v t awaits polled idle = let is : Looking t ≡ Idle = sym awaits.waits.looks ∙ sym (ap (λ (c : Private). c.phase) polled.quiet.collector) ∙ idle in cc
 
 -- a turn leaves the mutators idle,
 pub idle_turned : (w v : Core) → v.mutators ≡ w.mutators → v.config ≡ w.config → AreIdle w → AreIdle v

@@ -10,16 +10,15 @@ use Rattle.rec_collector.specs.declared.turn.Turn.TheVariants as answers
 use Rattle.rec_core.specs.Config.{IsMutator}
 use Rattle.rec_core.specs.Core.{Core, mutator, crossing_of}
 use Rattle.rec_core.specs.Moves.{offering, turned}
-use Rattle.rec_core.specs.Worked.{IsWorked}
+use Rattle.rec_core.specs.Worked.{IsWorked, WaitsFor}
 pub use Rattle.rec_core.specs.Worked.{AreIdle}
 use Rattle.rec_core.specs.declared.config.Config.{Config}
 use Rattle.rec_world.specs.World.{IsQuiet, TurnHasCause}
 
--- the collector waits for this mutator: it looks at its mailbox, which isn't handed over
+-- the collector waits for this mutator, which is one of the heap's
 pub record IsAwaited (w : Core) (t : ℕ) : Type 0 where
   pub there : IsMutator w.config t
-  pub looked : w.collector.phase ≡ Looking t
-  pub other : crossing_of w t ≢ crossing_word w.epoch Retired
+  pub waits : WaitsFor w t
 
 -- a mutator polled
 pub record HasPolled (w : Core) (t : ℕ) (v : Core) : Type 0 where

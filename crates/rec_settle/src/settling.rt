@@ -11,11 +11,9 @@ ghost use Rattle.rec_world.specs.World.{IsWorld};
 ghost use Rattle.rec_settle.specs.Collecting.{AreIdle, IsSettling, taken_slots};
 
 use crate::collection::{collect, finish, live};
+use rec_word::LAST_EPOCH;
 use rec_world::World;
 use thiserror::Error;
-
-// The last epoch that a word can hold.
-const LAST_EPOCH: u32 = 16_777_215;
 
 // The epochs that settling may ask for.
 const SETTLING_EPOCHS: u32 = 4;

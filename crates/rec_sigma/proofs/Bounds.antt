@@ -4,18 +4,18 @@ use Rattle.std.specs.List.{sum_by, concat}
 use Rattle.std.proofs.Math.Nat.{mul-le-mul_left}
 use Rattle.std.proofs.lemmas.List.{length-append, length-map}
 use Rattle.std.proofs.lemmas.List.FromFn.{length-map-range_with_len}
-use Rattle.rec_word.specs.Place.{place_of}
+use Rattle.rec_word.specs.Place.{place_of, places_from, places_of}
 use Rattle.rec_counts.specs.Counts.{State, IsKept, slot_at}
 use Rattle.rec_counts.specs.Slot.{is_in}
 use Rattle.rec_counts.proofs.Keeping.{members_once}
 use Rattle.std.proofs.lemmas.List.Sums.{sum_by-cons}
 use Rattle.rec_counts.specs.Lists.{times}
-use Rattle.rec_counts.proofs.Times.{length-once, one-same, times-cons}
+use Rattle.rec_counts.proofs.Times.{length-once, one-same, times-cons, one-some}
 use Rattle.rec_sigma.specs.Judged.{SumsOutside}
 use Rattle.rec_sigma.specs.declared.at.At.{At}
 use Rattle.rec_sigma.specs.Prepare.{Machine, members_of, next_of, op_at, IsAtWork}
-use Rattle.rec_sigma.specs.Prepared.{Load, LoadsWithin, outside, PreparedTo, place_loaded, places_from, places_left, places_of}
-use Rattle.rec_sigma.proofs.Cyclics.{in_set, of_one, own_set, set_in_range}
+use Rattle.rec_sigma.specs.Prepared.{Load, LoadsWithin, outside, PreparedTo, place_loaded, places_left}
+use Rattle.rec_sigma.proofs.Cyclics.{in_set, own_set, set_in_range}
 use Rattle.rec_sigma.proofs.Runs.{held_set}
 
 -- so many slots have so many places
@@ -57,4 +57,4 @@ pub sums_outside : (fields : ℕ) (before after : State) (loads : List Load) (nu
 sums_outside fields before after loads number k = λ p l.
     ap (λ sets. sum_by (λ x. (slot_at after x).cyclic) (get_or sets number [])) p.others.sets
     ∙ sum_same (λ x. (slot_at after x).cyclic) (λ x. outside before number loads x) (members_of before number)
-    (λ x t. p.members number x l (in_set number (slot_at before x).set (of_one (is_in number (slot_at before x).set) (omega (arith, t, k.numbers number x)))))
+    (λ x t. p.members number x l (in_set number (slot_at before x).set (one-some (is_in number (slot_at before x).set) (omega (arith, t, k.numbers number x)))))

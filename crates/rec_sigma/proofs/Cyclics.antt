@@ -11,7 +11,8 @@ use Rattle.rec_counts.specs.Counts.{State, IsKept, slot_at}
 use Rattle.rec_counts.specs.Lists.{one, times}
 use Rattle.rec_counts.specs.Slot.{absent, is_in}
 use Rattle.rec_counts.proofs.Leaving.{all_of}
-use Rattle.rec_counts.proofs.Times.{times_at, times_more}
+use Rattle.rec_counts.proofs.Times.{times_at, times_more, test_of, one-some}
+use Rattle.rec_counts.proofs.Keeping.{map_at}
 use Rattle.rec_sigma.specs.Prepare.{members_of, renewed, renewed_if, less_if, taken_off}
 use Rattle.rec_sigma.specs.Prepared.{KeepsOthers, Load, seen}
 
@@ -27,11 +28,6 @@ set_in_range s number x e = elim (cases_lt x (length s.slots)) [
   | inr l ↦ absurd (false≢true (ap (λ (v : Slot). is_in number v.set) (sym (get_or_past s.slots x absent l)) ∙ e))
 ]
 
--- what has one holds
-pub of_one : (b : Bool) → 0 < one b → b ≡ true
-of_one true h = refl
-of_one false h = absurd (omega arith)
-
 -- each slot is in the set whose number it has
 abbrev pub Tells : State → Type 0
 Tells s = (number x : ℕ) → times x (members_of s number) ≡ one (is_in number (slot_at s x).set)
@@ -40,7 +36,7 @@ Tells s = (number x : ℕ) → times x (members_of s number) ≡ one (is_in numb
 pub member_set : (s : State) (number i : ℕ) → Tells s → i < length (members_of s number) → (slot_at s (get_or (members_of s number) i 0)).set ≡ Some number
 member_set s number i k l =
     let x : ℕ = get_or (members_of s number) i 0 in
-    in_set number (slot_at s x).set (of_one (is_in number (slot_at s x).set) (omega (arith, k number x, times_at (members_of s number) i l)))
+    in_set number (slot_at s x).set (one-some (is_in number (slot_at s x).set) (omega (arith, k number x, times_at (members_of s number) i l)))
 
 -- in two sets at once is no slot
 pub other_set : (n m : ℕ) → n ≢ m → is_in n (Some m) ≡ false
@@ -51,43 +47,16 @@ own_set n = eq-eqb n n refl
 
 -- what a slot has once a set is begun
 pub renewed_slot : (s : State) (number x : ℕ) → slot_at (renewed s number) x ≡ renewed_if (is_in number (slot_at s x).set) (slot_at s x)
-renewed_slot s number x = elim (cases_lt x (length s.slots)) [
-  | inl l ↦ get_or-map (λ (v : Slot). renewed_if (is_in number v.set) v) s.slots x absent absent l
-  | inr l ↦ get_or_past (map (λ (v : Slot). renewed_if (is_in number v.set) v) s.slots) x absent (omega (arith, l, length-map s.slots (λ (v : Slot). renewed_if (is_in number v.set) v)))
-      ∙ ap (λ (v : Slot). renewed_if (is_in number v.set) v) (sym (get_or_past s.slots x absent l))
-]
+renewed_slot s number x = map_at (λ (v : Slot). renewed_if (is_in number v.set) v) refl s.slots x
 
 -- nothing but the cyclic count changes there
-pub renewed_rest : (b : Bool) (v : Slot) → renewed_if b v ≡ record v { cyclic = (renewed_if b v).cyclic }
+renewed_rest : (b : Bool) (v : Slot) → renewed_if b v ≡ record v { cyclic = (renewed_if b v).cyclic }
 renewed_rest true v = refl
 renewed_rest false v = refl
 
-renewed_twice : (b : Bool) (v : Slot) → renewed_if true (renewed_if b v) ≡ renewed_if true v
+pub renewed_twice : (b : Bool) (v : Slot) → renewed_if true (renewed_if b v) ≡ renewed_if true v
 renewed_twice true v = refl
 renewed_twice false v = refl
-
--- one member more has its true count
-pub renewed_more : (slots old : List Slot) (members : List ℕ) (i : ℕ) → i < length members → get_or members i 0 < length slots →
-    ((x : ℕ) → get_or slots x absent ≡ renewed_if (ltb 0 (times x (take i members))) (get_or old x absent)) →
-    (x : ℕ) → get_or (set slots (get_or members i 0) (renewed_if true (get_or slots (get_or members i 0) absent))) x absent ≡ renewed_if (ltb 0 (times x (take (i + 1) members))) (get_or old x absent)
-renewed_more slots old members i l r h x =
-    let m : ℕ = get_or members i 0 in
-    elim (eqb_tells x m) [
-      | inl q ↦ let t : one (eqb x m) ≡ 1 = ap one q.0 in
-          let n : ltb 0 (times x (take (i + 1) members)) ≡ true = lt-ltb 0 (times x (take (i + 1) members)) (omega (arith, t, times_more x members i l)) in
-          ap (λ y. get_or (set slots m (renewed_if true (get_or slots m absent))) y absent) q.1
-          ∙ get_or-set_same slots m (renewed_if true (get_or slots m absent)) absent r
-          ∙ ap (λ y. renewed_if true (get_or slots y absent)) (sym q.1) ∙ ap (renewed_if true) (h x)
-          ∙ renewed_twice (ltb 0 (times x (take i members))) (get_or old x absent)
-          ∙ ap (λ b. renewed_if b (get_or old x absent)) (sym n)
-      | inr q ↦ let t : one (eqb x m) ≡ 0 = ap one q.0 in
-          let n : times x (take (i + 1) members) ≡ times x (take i members) = omega (arith, t, times_more x members i l) in
-          get_or-set_other slots m x (renewed_if true (get_or slots m absent)) absent q.1 ∙ h x ∙ ap (λ k. renewed_if (ltb 0 k) (get_or old x absent)) (sym n)
-    ]
-
-test_of : (n : ℕ) (b : Bool) → n ≡ one b → ltb 0 n ≡ b
-test_of n true e = lt-ltb 0 n (omega arith)
-test_of n false e = rw e refl
 
 -- all members have their true counts
 pub renewed_all : (s : State) (number : ℕ) (slots : List Slot) → IsKept s → length slots ≡ length s.slots →
@@ -108,7 +77,7 @@ less_many : (b : Bool) (s : State) (y : ℕ) → length (less_if b s y).slots �
 less_many true s y = length-set s.slots y (record (slot_at s y) { cyclic = (slot_at s y).cyclic - 1 })
 less_many false s y = refl
 
-pub off_many : (number : ℕ) (s : State) (t : Option ℕ) → length (taken_off number s t).slots ≡ length s.slots
+off_many : (number : ℕ) (s : State) (t : Option ℕ) → length (taken_off number s t).slots ≡ length s.slots
 off_many number s None = refl
 off_many number s (Some y) = less_many (is_in number (slot_at s y).set) s y
 

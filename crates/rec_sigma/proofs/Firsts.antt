@@ -26,7 +26,7 @@ held_at : (ms : List ℕ) (x : ℕ) → slice_get ms 0 ≡ Some x → (0 < lengt
 held_at [] x e = cc
 held_at (y ∷ ys) x e = (omega arith, cc)
 
-pub first_held : (s : State) (n x : ℕ) → n < length s.sets → slice_get (members_of s n) 0 ≡ Some x → IsHeld s (record { set = n; index = 0; slot = x; field = 0 })
+first_held : (s : State) (n x : ℕ) → n < length s.sets → slice_get (members_of s n) 0 ≡ Some x → IsHeld s (record { set = n; index = 0; slot = x; field = 0 })
 first_held s n x l e = let h = held_at (members_of s n) x e in record { set = l; index = h.0; slot = h.1 }
 
 -- what is held depends on the sets alone
@@ -37,17 +37,12 @@ held_still s t a e h = record {
   slot = subst (λ sets. a.slot ≡ get_or (get_or sets a.set []) a.index 0) (sym e) h.slot;
 }
 
-pub first_is_held : (s : State) (rest : List (List ℕ)) (n : ℕ) → drop n s.sets ≡ rest → IfSome (first_of n rest) (IsHeld s)
+first_is_held : (s : State) (rest : List (List ℕ)) (n : ℕ) → drop n s.sets ≡ rest → IfSome (first_of n rest) (IsHeld s)
 first_is_held s [] n e = tt
 first_is_held s ([] ∷ rest) n e = first_is_held s rest (n + 1) (behind s.sets n [] [] rest e).rest
 first_is_held s ((x ∷ xs) ∷ rest) n e =
     let b : Behind s.sets n [] (x ∷ xs) rest = behind s.sets n [] (x ∷ xs) rest e in
     first_held s n x b.in_range (ap (λ ms. slice_get ms 0) b.item)
-
--- a set that is begun leaves the sets as they are
-pub begun_sets : (s : State) (at : Option At) → (begun_at s at).sets ≡ s.sets
-begun_sets s None = refl
-begun_sets s (Some a) = refl
 
 held_begun : (s : State) (at : Option At) → IfSome at (IsHeld s) → IfSome at (IsHeld (begun_at s at))
 held_begun s None h = tt

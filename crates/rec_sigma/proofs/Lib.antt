@@ -1,6 +1,7 @@
 pub mod Bounds
 pub mod Cyclics
 pub mod Firsts
+pub mod Kept
 pub mod Members
 pub mod Moves
 pub mod Refused

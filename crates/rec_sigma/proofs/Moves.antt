@@ -5,8 +5,9 @@ use Rattle.std.proofs.Math.ListN.{drop_of_length-le}
 use Rattle.std.proofs.lemmas.List.{length-drop, map-append}
 use Rattle.std.proofs.lemmas.Bool.{cases_lt, ltb-true, ltb-false}
 use Rattle.std.proofs.lemmas.Bool.Decides.{eqb_tells}
-use Rattle.rec_word.specs.Place.{place_of}
+use Rattle.rec_word.specs.Place.{place_of, places_from, places_of}
 use Rattle.rec_word.specs.Word.{target_of, is_slot}
+use Rattle.rec_word.proofs.FieldPlaces.{places_end, places_step}
 use Rattle.rec_counts.specs.declared.slot.Slot.{Slot}
 use Rattle.rec_counts.specs.Counts.{State, slot_at}
 use Rattle.rec_counts.specs.Lists.{one, times}
@@ -14,21 +15,9 @@ use Rattle.rec_counts.specs.Slot.{is_in}
 use Rattle.rec_counts.proofs.Times.{times-nil}
 use Rattle.rec_sigma.specs.declared.at.At.{At}
 use Rattle.rec_sigma.specs.Prepare.{members_of, renewed, renewed_if, taken_off, first_of, begun_at, next_set, next_member_if, next_member, next_field_if, next_field}
-use Rattle.rec_sigma.specs.Prepared.{Load, Prepared, PreparedTo, place_loaded, places_from, places_of, seen}
+use Rattle.rec_sigma.specs.Prepared.{Load, Prepared, PreparedTo, place_loaded, seen}
 use Rattle.rec_sigma.proofs.Cyclics.{Tells, other_set, own_set, renewed_slot, renewed_others, off_others, off_slot, others_on, others_same, seen-nil, seen_push}
 use Rattle.rec_sigma.proofs.Firsts.{Behind, behind, rest_from}
-
--- the first of a slot's places, and the others
-pub places_step : (fields slot field : ℕ) → field < fields → places_from fields slot field ≡ place_of slot field fields ∷ places_from fields slot (field + 1)
-places_step fields slot field l =
-    let e : fields - field ≡ suc (fields - (field + 1)) = omega arith in
-    ap (λ n. map (λ f. place_of slot f fields) (range_with_len field n)) e
-
--- past the last field there are none
-pub places_end : (fields slot field : ℕ) → fields ≤ field → places_from fields slot field ≡ []
-places_end fields slot field l =
-    let e : fields - field ≡ 0 = omega arith in
-    ap (λ n. map (λ f. place_of slot f fields) (range_with_len field n)) e
 
 -- the same preparation, with its parts told otherwise
 pub retold : {fields : ℕ} {before : State} {begun begun' : ℕ} {left left' : List ℕ} {after : State} {loads : List Load} → begun' ≡ begun → left' ≡ left → Prepared fields before begun left after loads → Prepared fields before begun' left' after loads
@@ -84,7 +73,7 @@ loaded_on fields before set slot field left after loads word m p =
     }
 
 -- a set without members needs nothing
-pub skipped_on : (fields : ℕ) (before : State) (number : ℕ) (left : List ℕ) (after : State) (loads : List Load) → Tells before → members_of before number ≡ [] → Prepared fields before number left after loads →
+skipped_on : (fields : ℕ) (before : State) (number : ℕ) (left : List ℕ) (after : State) (loads : List Load) → Tells before → members_of before number ≡ [] → Prepared fields before number left after loads →
     Prepared fields before (number + 1) left after loads
 skipped_on fields before number left after loads k empty p =
     let nobody : (x : ℕ) → (slot_at before x).set ≡ Some number → 0 < 0 = λ x e. omega (arith, times-nil x, ap (times x) empty, k number x, ap (λ o. one (is_in number o)) e, ap one (own_set number)) in
@@ -101,7 +90,7 @@ skipped_on fields before number left after loads k empty p =
     }
 
 -- a set is begun
-pub begun_on : (fields : ℕ) (before : State) (number : ℕ) (left : List ℕ) (after : State) (loads : List Load) → Prepared fields before number left after loads →
+begun_on : (fields : ℕ) (before : State) (number : ℕ) (left : List ℕ) (after : State) (loads : List Load) → Prepared fields before number left after loads →
     Prepared fields before (number + 1) left (renewed after number) loads
 begun_on fields before number left after loads p =
     let now : State = renewed after number in
@@ -157,7 +146,7 @@ member_if false fields before a after loads t k l p =
     next_set_on fields before (a.set + 1) after loads k (omega (arith, l)) (retold refl (ap (λ ys. places_of fields (ys ++ concat (drop (a.set + 1) before.sets))) (sym e)) p)
 
 -- the next member is at work, or the next set
-pub next_member_on : (fields : ℕ) (before : State) (a : At) (after : State) (loads : List Load) → Tells before → a.set < length before.sets → Prepared fields before (a.set + 1) (places_behind fields before a) after loads →
+next_member_on : (fields : ℕ) (before : State) (a : At) (after : State) (loads : List Load) → Tells before → a.set < length before.sets → Prepared fields before (a.set + 1) (places_behind fields before a) after loads →
     PreparedTo fields before (next_member after a).at (next_member after a).counts loads
 next_member_on fields before a after loads k l p =
     let e : ltb (a.index + 1) (length (members_of before a.set)) ≡ ltb (a.index + 1) (length (members_of after a.set)) = ap (λ sets. ltb (a.index + 1) (length (get_or sets a.set []))) (sym p.others.sets) in

@@ -12,7 +12,9 @@ use Rattle.rec_counts.specs.Counts.{State, IsKept, slot_at, with_slot, without_l
 use Rattle.rec_counts.specs.Groups.{last_set}
 use Rattle.rec_counts.specs.Lists.{one, times}
 use Rattle.rec_counts.specs.Slot.{absent, is_in, unbuffered, unbuffered_if, out_of_set}
-use Rattle.rec_counts.proofs.Times.{times-nil, times-cons, times-append, one-same, one-le, in_range_once}
+use Rattle.rec_counts.proofs.Times.{times-nil, times-cons, times-append, one-same, one-le, in_range_once, one-some, one-none}
+use Rattle.rec_counts.proofs.Front.{first_and_rest, nothing_first}
+use Rattle.rec_counts.proofs.Keeping.{map_at}
 use Rattle.rec_sigma.specs.declared.fate.Fate.{Fate}
 use Rattle.rec_sigma.specs.declared.fate.Fate.TheVariants.{Free, Zero, Root, Plain}
 use Rattle.rec_sigma.specs.Refurbish.{coloured, fate_at, fate_of, fate_if, is_root, is_free, is_zero, is_rooted, IsRefusable, LastRefurbished, Refurbished}
@@ -68,14 +70,14 @@ settled_marked Zero s x = refl
 settled_marked Root s x = refl
 settled_marked Plain s x = refl
 
-pub settled_work : (f : Fate) (s : State) (x : ℕ) → (settled f s x).work ≡ s.work
+settled_work : (f : Fate) (s : State) (x : ℕ) → (settled f s x).work ≡ s.work
 settled_work Free s x = refl
 settled_work Zero s x = refl
 settled_work Root s x = refl
 settled_work Plain s x = refl
 
 -- the work list doesn't matter to it
-pub settled_idle : (f : Fate) (s : State) (x : ℕ) → settled f (record s { work = [] }) x ≡ record (settled f s x) { work = [] }
+settled_idle : (f : Fate) (s : State) (x : ℕ) → settled f (record s { work = [] }) x ≡ record (settled f s x) { work = [] }
 settled_idle Free s x = refl
 settled_idle Zero s x = refl
 settled_idle Root s x = refl
@@ -154,7 +156,7 @@ one_list p q x xs old new last e f h =
     f ∙ ap (λ ys. ys ++ filter q xs) e ∙ append_assoc old (cond (p x) (x ∷ []) []) (filter q xs)
     ∙ ap (λ ys. old ++ ys) (cond_first (p x) x (filter q xs) ∙ ap (λ ys. cond (p x) (x ∷ ys) ys) (filter_same q p xs h))
 
-pub placed_all : (first : Option ℕ) (xs : List ℕ) (s : State) → ((y : ℕ) → times y xs ≤ 1) → ((y : ℕ) → 0 < times y xs → y < length s.slots) → Placed first s xs (settled_all first xs s)
+placed_all : (first : Option ℕ) (xs : List ℕ) (s : State) → ((y : ℕ) → times y xs ≤ 1) → ((y : ℕ) → 0 < times y xs → y < length s.slots) → Placed first s xs (settled_all first xs s)
 placed_all first [] s once l = record {
   free = sym (append-nil s.free);
   zeros = sym (append-nil s.zeros);
@@ -192,42 +194,27 @@ placed_all first (x ∷ xs) s once l =
       work = i.work ∙ settled_work f s x;
     }
 
--- what a slot has once the last set is dropped
-dropped_slot : (number : ℕ) (slots : List Slot) (x : ℕ) → get_or (map (out_of_set number) slots) x absent ≡ out_of_set number (get_or slots x absent)
-dropped_slot number slots x = elim (cases_lt x (length slots)) [
-  | inl l ↦ get_or-map (out_of_set number) slots x absent absent l
-  | inr l ↦ get_or_past (map (out_of_set number) slots) x absent (omega (arith, l, length-map slots (out_of_set number))) ∙ ap (out_of_set number) (sym (get_or_past slots x absent l))
-]
-
-of_one : (b : Bool) (n : ℕ) → n ≡ one b → 0 < n → b ≡ true
-of_one true n e h = refl
-of_one false n e h = absurd (omega (arith, e, h))
-
-of_none : (b : Bool) (n : ℕ) → n ≡ one b → n ≡ 0 → b ≡ false
-of_none true n e h = absurd (omega (arith, e, h))
-of_none false n e h = refl
-
 -- the state once the last set is dropped, with the work list read off
 abbrev pub dropped : State → State
 dropped s = record (without_last_set s) { work = [] }
 
 -- a member is then in no buffer, and any other slot is as it was
-pub dropped_inside : (s : State) (x : ℕ) → IsKept s → 0 < times x (last_set s.sets) → slot_at (dropped s) x ≡ unbuffered (slot_at s x)
+dropped_inside : (s : State) (x : ℕ) → IsKept s → 0 < times x (last_set s.sets) → slot_at (dropped s) x ≡ unbuffered (slot_at s x)
 dropped_inside s x k h =
     let n : ℕ = length s.sets - 1 in
-    dropped_slot n s.slots x ∙ ap (λ b. unbuffered_if b (slot_at s x)) (of_one (is_in n (slot_at s x).set) (times x (last_set s.sets)) (k.numbers n x) h)
+    map_at (out_of_set n) refl s.slots x ∙ ap (λ b. unbuffered_if b (slot_at s x)) (one-some (is_in n (slot_at s x).set) (omega (arith, k.numbers n x, h)))
 
-pub dropped_outside : (s : State) (x : ℕ) → IsKept s → times x (last_set s.sets) ≡ 0 → slot_at (dropped s) x ≡ slot_at s x
+dropped_outside : (s : State) (x : ℕ) → IsKept s → times x (last_set s.sets) ≡ 0 → slot_at (dropped s) x ≡ slot_at s x
 dropped_outside s x k h =
     let n : ℕ = length s.sets - 1 in
-    dropped_slot n s.slots x ∙ ap (λ b. unbuffered_if b (slot_at s x)) (of_none (is_in n (slot_at s x).set) (times x (last_set s.sets)) (k.numbers n x) h)
+    map_at (out_of_set n) refl s.slots x ∙ ap (λ b. unbuffered_if b (slot_at s x)) (one-none (is_in n (slot_at s x).set) (sym (k.numbers n x) ∙ h))
 
 fate_if_dropped : (b first : Bool) (v : Slot) → fate_of first (unbuffered_if b v) ≡ fate_of first v
 fate_if_dropped true first v = refl
 fate_if_dropped false first v = refl
 
 dropped_fate : (s : State) (first : Option ℕ) (x : ℕ) → fate_at (dropped s) first x ≡ fate_at s first x
-dropped_fate s first x = ap (fate_of (is_slot x first)) (dropped_slot (length s.sets - 1) s.slots x) ∙ fate_if_dropped (is_in (length s.sets - 1) (slot_at s x).set) (is_slot x first) (slot_at s x)
+dropped_fate s first x = ap (fate_of (is_slot x first)) (map_at (out_of_set (length s.sets - 1)) refl s.slots x) ∙ fate_if_dropped (is_in (length s.sets - 1) (slot_at s x).set) (is_slot x first) (slot_at s x)
 
 -- the members wait for their places then
 pub waiting_first : (s : State) → IsKept s → IsRefusable s → IsWaiting (dropped s) (last_set s.sets)
@@ -242,7 +229,7 @@ waiting_first s k r =
     }
 
 -- all members got their places
-pub all_refurbished : (s : State) (first : Option ℕ) → IsKept s → IsRefusable s → (t : State) → t ≡ settled_all first (last_set s.sets) (dropped s) → Refurbished s (last_set s.sets) first t
+all_refurbished : (s : State) (first : Option ℕ) → IsKept s → IsRefusable s → (t : State) → t ≡ settled_all first (last_set s.sets) (dropped s) → Refurbished s (last_set s.sets) first t
 all_refurbished s first k r t e =
     let ms : List ℕ = last_set s.sets in
     let w : IsWaiting (dropped s) ms = waiting_first s k r in
@@ -259,13 +246,8 @@ all_refurbished s first k r t e =
       work = p.work ∙ sym r.work;
     }
 
--- the first of the list, and the others
-first_and_rest : (xs : List ℕ) (x : ℕ) → slice_get xs 0 ≡ Some x → xs ≡ x ∷ drop 1 xs
-first_and_rest [] x e = cc
-first_and_rest (y ∷ ys) x e = cc
-
 -- another work list leaves them waiting
-pub waiting_same : (s : State) (xs ws : List ℕ) → IsWaiting s xs → IsWaiting (record s { work = ws }) xs
+waiting_same : (s : State) (xs ws : List ℕ) → IsWaiting s xs → IsWaiting (record s { work = ws }) xs
 waiting_same s xs ws w = record { once = w.once; in_range = w.in_range; unbuffered = w.unbuffered; free = w.free; zeros = w.zeros }
 
 -- what is known before the first of the work list gets its place
@@ -318,10 +300,6 @@ pub zero_unlisted : (s : State) (x : ℕ) (first : Bool) (f : Fate) → IsDue s 
 zero_unlisted s x first f d e h =
     let z = zero_if (slot_at s x).released (eqb (slot_at s x).count 0) (is_root first (slot_at s x).colour) (ap is_zero (sym e) ∙ h) in
     d.zeros z.0 (eqb-true (slot_at s x).count 0 z.1)
-
-nothing_first : (xs : List ℕ) → slice_get xs 0 ≡ None → xs ≡ []
-nothing_first [] e = refl
-nothing_first (x ∷ xs) e = cc
 
 -- at the end nobody waits
 pub ends : (first : Option ℕ) (s t : State) → IsKept s → IsRefusable s → slice_get t.work 0 ≡ None → settled_all first t.work (record t { work = [] }) ≡ settled_all first (last_set s.sets) (dropped s) → Refurbished s (last_set s.sets) first (record t { work = drop 1 t.work })

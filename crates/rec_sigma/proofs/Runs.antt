@@ -1,15 +1,17 @@
 -- Whole preparations, word by word.
-use Rattle.std.proofs.Common.{drop, ◌≡◌, ℕ, ◌+◌, ◌<◌, ◌≤◌, Bool, true, false, ltb, Option, Some, None, IfSome, List, [], ◌∷◌, ◌++◌, length, refl, arith, sym, ◌∙◌, ap, subst, append_assoc}
+use Rattle.std.proofs.Common.{drop, ◌≡◌, ℕ, ◌+◌, ◌<◌, ◌≤◌, Bool, true, false, ltb, Option, Some, None, IfSome, List, [], ◌∷◌, ◌++◌, length, refl, arith, sym, ◌∙◌, ap, subst, append_assoc, fold}
 use Rattle.std.proofs.lemmas.List.{append-nil}
 use Rattle.std.proofs.lemmas.Bool.{lt-ltb, le-ltb, ltb-true}
 use Rattle.rec_word.specs.Word.{target_of}
+use Rattle.rec_word.specs.Place.{places_from}
+use Rattle.rec_word.proofs.FieldPlaces.{places_step}
 use Rattle.rec_counts.specs.Counts.{State, IsKept, slot_at}
 use Rattle.rec_sigma.specs.declared.at.At.{At}
-use Rattle.rec_sigma.specs.Prepare.{begun_at, first_of, Work, Next, members_of, taken_off, next_set, next_member_if, next_member, next_field_if, next_field, work_of, took_of, started_of, IsHeld, IsAtWork}
-use Rattle.rec_sigma.specs.Prepared.{KeepsOthers, Load, Prepared, PreparedTo, HasPrepared, places_from, loaded_at, loaded, taken_in}
+use Rattle.rec_sigma.specs.Prepare.{begun_at, first_of, Work, Next, members_of, taken_off, next_set, next_member_if, next_member, next_field_if, next_field, work_of, took_of, started_of, IsHeld, IsAtWork, Machine}
+use Rattle.rec_sigma.specs.Prepared.{KeepsOthers, Load, Prepared, PreparedTo, HasPrepared, loaded_at, loaded}
 use Rattle.rec_sigma.proofs.Cyclics.{Tells, member_set, off_is, off_others, others_on, others_same, renewed_others}
 use Rattle.rec_sigma.proofs.Firsts.{held_still, next_set_field, next_set_held}
-use Rattle.rec_sigma.proofs.Moves.{loaded_on, next_field_on, next_set_on, places_behind, places_step, prepared_none, retold, told_before}
+use Rattle.rec_sigma.proofs.Moves.{loaded_on, next_field_on, next_set_on, places_behind, prepared_none, retold, told_before}
 
 -- what comes next is held, and its field is one
 pub record IsNext (fields : ℕ) (n : Next) : Type 0 where
@@ -33,7 +35,7 @@ field_is : (b : Bool) (s : State) (a : At) (fields : ℕ) → ltb (a.field + 1) 
 field_is true s a fields t f h = record { field = ltb-true (a.field + 1) fields t; held = record { set = h.set; index = h.index; slot = h.slot } }
 field_is false s a fields t f h = next_member_is s a fields f h
 
-pub next_field_is : (s : State) (a : At) (fields : ℕ) → 0 < fields → IsHeld s a → IsNext fields (next_field fields s a)
+next_field_is : (s : State) (a : At) (fields : ℕ) → 0 < fields → IsHeld s a → IsNext fields (next_field fields s a)
 next_field_is s a fields f h = field_is (ltb (a.field + 1) fields) s a fields refl f h
 
 -- a word that was loaded leaves the member at work where it stands
@@ -47,6 +49,11 @@ held_set s a k h = ap (λ x. (slot_at s x).set) h.slot ∙ member_set s a.set a.
 -- a preparation with this field due
 abbrev pub at_work : ℕ → Option At → State → Work
 at_work fields at s = record { machine = record { fields = fields; at = at }; counts = s }
+
+-- a preparation begins with the first set that has a member
+pub started_is : (m : Machine) (s : State) → started_of m s ≡ work_of m.fields (next_set s 0)
+unfolding started_of
+started_is m s = refl
 
 -- what a preparation came to
 pub record Came (fields : ℕ) (before : State) (w : Work) (loads : List Load) : Type 0 where
@@ -63,7 +70,7 @@ came_first fields before f k = record {
 }
 
 -- one word more, with this field due
-pub came_more : (fields : ℕ) (before : State) (a : At) (after : State) (loads : List Load) (word : ℕ) → Tells before → a.field < fields → IsHeld after a → PreparedTo fields before (Some a) after loads →
+came_more : (fields : ℕ) (before : State) (a : At) (after : State) (loads : List Load) (word : ℕ) → Tells before → a.field < fields → IsHeld after a → PreparedTo fields before (Some a) after loads →
     Came fields before (work_of fields (next_field fields (taken_off a.set after (target_of word)) a)) (loads ++ loaded_at (Some a) word)
 came_more fields before a after loads word k f h p =
     let b : IsHeld before a = held_still after before a (sym p.others.sets) h in
@@ -89,14 +96,6 @@ came_on fields before w loads word k c =
     let d : Came fields before (at_work fields w.machine.at w.counts) loads = subst (λ v. Came fields before v loads) e c in
     subst (λ v. Came fields before (took_of v word) (loads ++ loaded_at w.machine.at word)) (sym e) (word_in w.machine.at fields before w.counts loads word k d)
 
-taken_none : (w : Work) → taken_in w [] ≡ w
-unfolding taken_in
-taken_none w = refl
-
-taken_more : (w : Work) (word : ℕ) (words : List ℕ) → taken_in w (word ∷ words) ≡ taken_in (took_of w word) words
-unfolding taken_in
-taken_more w word words = refl
-
 loaded_none : (w : Work) → loaded w [] ≡ []
 unfolding loaded
 loaded_none w = refl
@@ -106,15 +105,15 @@ unfolding loaded
 loaded_more w word words = refl
 
 -- words more
-pub came_by : (words : List ℕ) (fields : ℕ) (before : State) (w : Work) (loads : List Load) → Tells before → Came fields before w loads → Came fields before (taken_in w words) (loads ++ loaded w words)
+came_by : (words : List ℕ) (fields : ℕ) (before : State) (w : Work) (loads : List Load) → Tells before → Came fields before w loads → Came fields before (fold took_of w words) (loads ++ loaded w words)
 came_by [] fields before w loads k c =
-    subst (λ v. Came fields before v (loads ++ loaded w [])) (sym (taken_none w)) (subst (Came fields before w) (sym (ap (λ ls. loads ++ ls) (loaded_none w) ∙ append-nil loads)) c)
+    subst (Came fields before w) (sym (ap (λ ls. loads ++ ls) (loaded_none w) ∙ append-nil loads)) c
 came_by (word ∷ words) fields before w loads k c =
     let v : Work = took_of w word in
     let ls : List Load = loads ++ loaded_at w.machine.at word in
-    let i : Came fields before (taken_in v words) (ls ++ loaded v words) = came_by words fields before v ls k (came_on fields before w loads word k c) in
+    let i : Came fields before (fold took_of v words) (ls ++ loaded v words) = came_by words fields before v ls k (came_on fields before w loads word k c) in
     let e : loads ++ loaded w (word ∷ words) ≡ ls ++ loaded v words = ap (λ ms. loads ++ ms) (loaded_more w word words) ∙ sym (append_assoc loads (loaded_at w.machine.at word) (loaded v words)) in
-    subst (λ u. Came fields before u (loads ++ loaded w (word ∷ words))) (sym (taken_more w word words)) (subst (Came fields before (taken_in v words)) (sym e) i)
+    subst (Came fields before (fold took_of v words)) (sym e) i
 
 -- a whole preparation
 pub whole_preparation : (fields : ℕ) (before : State) (words : List ℕ) → 0 < fields → IsKept before → HasPrepared fields before words

@@ -1,7 +1,7 @@
 -- A whole preparation: what it loaded, and what became of the cyclic counts.
 use Rattle.std.specs.Prelude.{◌≡◌, ℕ, ◌+◌, ◌-◌, ◌<◌, ◌≤◌, ◌&&◌, Option, None, Some, List, [], ◌∷◌, ◌++◌, map, drop, length, flat_map, fold, count_by, slice_index_or as item_at}
 use Rattle.std.specs.List.{concat, range_with_len}
-use Rattle.rec_word.specs.Place.{place_of}
+use Rattle.rec_word.specs.Place.{place_of, places_from, places_of}
 use Rattle.rec_word.specs.Word.{target_of, is_slot}
 use Rattle.rec_word.specs.declared.op.Op.{Op}
 use Rattle.rec_word.specs.declared.op.Op.TheVariants.{LoadChild}
@@ -19,14 +19,6 @@ pub record Load : Type 0 where
 -- where it was loaded
 abbrev pub place_loaded : ℕ → Load → ℕ
 place_loaded fields l = place_of l.slot l.field fields
-
--- the places of a slot's fields in order, from this field on
-abbrev pub places_from : (fields slot field : ℕ) → List ℕ
-places_from fields slot field = map (λ f. place_of slot f fields) (range_with_len field (fields - field))
-
--- the places of these slots' fields, slot after slot
-abbrev pub places_of : (fields : ℕ) → List ℕ → List ℕ
-places_of fields slots = flat_map (λ slot. places_from fields slot 0) slots
 
 -- the places that are still to be loaded: of the member at work, of the members behind it, of the sets behind its set
 abbrev pub places_left : (fields : ℕ) → List (List ℕ) → Option At → List ℕ
@@ -81,10 +73,6 @@ abbrev pub loaded_at : Option At → (word : ℕ) → List Load
 loaded_at None word = []
 loaded_at (Some a) word = record { slot = a.slot; field = a.field; word = word } ∷ []
 
--- a preparation after it took in these words, one after another
-unfoldable pub taken_in : Work → (words : List ℕ) → Work
-taken_in w words = fold took_of w words
-
 -- what it loaded meanwhile
 unfoldable pub loaded : Work → (words : List ℕ) → List Load
 loaded w [] = []
@@ -94,7 +82,7 @@ loaded w (word ∷ words) = loaded_at w.machine.at word ++ loaded (took_of w wor
 abbrev pub HasPrepared : (fields : ℕ) (before : State) (words : List ℕ) → Type 0
 HasPrepared fields before words =
     let begun : Work = started_of (record { fields = fields; at = None }) before in
-    PreparedTo fields before (taken_in begun words).machine.at (taken_in begun words).counts (loaded begun words)
+    PreparedTo fields before (fold took_of begun words).machine.at (fold took_of begun words).counts (loaded begun words)
 
 -- what is named is the loading of a field, at a place of the heap
 abbrev pub LoadsWithin : (places : ℕ) → Op → Type 0

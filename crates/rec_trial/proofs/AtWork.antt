@@ -8,6 +8,7 @@ use Rattle.std.proofs.lemmas.Bool.{false≢true}
 use Rattle.rec_word.specs.Place.{place_of}
 use Rattle.rec_word.specs.Word.{target_of}
 use Rattle.rec_word.specs.declared.op.Op.TheVariants.{LoadChild}
+use Rattle.rec_word.proofs.FieldPlaces.{place_within}
 use Rattle.rec_counts.specs.Counts.{State, IsKept}
 use Rattle.rec_counts.specs.Groups.{last_set, earlier_sets}
 use Rattle.rec_counts.proofs.Keeping.{members_once}
@@ -25,12 +26,6 @@ use Rattle.rec_trial.proofs.Places.{ltb_yes}
 use Rattle.rec_trial.proofs.Runs.{Told, node_seen, begun_told, still_unreleased, told_next}
 use Rattle.rec_trial.proofs.Totals.{times_here}
 use Rattle.rec_trial.proofs.Views.{view, concat_last}
-
--- a field of a slot that is there
-place_there : (slots fields slot field : ℕ) → slot < slots → field < fields → place_of slot field fields < slots * fields
-place_there slots fields slot field s f =
-    let m : (slot + 1) * fields ≤ slots * fields = mul-le-mul {n₁ = slot + 1} {m₁ = fields} {n₂ = slots} {m₂ = fields} (omega (arith, s)) (omega arith) in
-    omega (arith, m, f)
 
 -- the field that is due is one of a marked slot
 record Due (w : Work) : Type 0 where
@@ -54,7 +49,8 @@ due_at_work w c Collecting e n d node i =
     let q : w.machine.slot ≡ x = node ∙ node_seen w Collecting e in
     record { slot = rw q (alive_range w.counts x (i.core.base.alive x) (omega (arith, i.core.parts x, times_here (concat w.counts.sets) (view w).at l))); field = i.place.below }
 
-named_place : (m : Machine) (p : Phase) (place : ℕ) → m.phase ≡ p → next_of m ≡ Some (LoadChild place) → (p ≡ Idle → ⊥) × (place ≡ place_of m.slot m.field m.fields)
+-- the field that is due is the one that comes next
+pub named_place : (m : Machine) (p : Phase) (place : ℕ) → m.phase ≡ p → next_of m ≡ Some (LoadChild place) → (p ≡ Idle → ⊥) × (place ≡ place_of m.slot m.field m.fields)
 unfolding next_of
 named_place m Idle place e h = absurd (none place (rw e at h))
   where
@@ -68,13 +64,13 @@ pub told_place : {fields : ℕ} {before : State} (r : Run) → Told fields befor
 told_place r t place h =
     let k = named_place r.work.machine r.work.machine.phase place refl h in
     let d : Due r.work = due_at_work r.work t.course r.work.machine.phase refl k.0 t.due t.node t.course.inv in
-    rw k.1 (place_there (length r.work.counts.slots) r.work.machine.fields r.work.machine.slot r.work.machine.field d.slot d.field)
+    rw k.1 (place_within (length r.work.counts.slots) r.work.machine.fields r.work.machine.slot r.work.machine.field d.slot d.field)
 
 pub at_work_place : (m : Machine) (s : State) → IsAtWork m s → NamesPlace (length s.slots) m
 at_work_place m s a = subst (λ (w : Work). NamesPlace (length w.counts.slots) w.machine) (sym a.is) (told_place (run_of m.fields a.before a.words) (at_work_told m s a))
 
 -- as many slots as at first
-pub at_work_slots : (m : Machine) (s : State) (a : IsAtWork m s) → length s.slots ≡ length a.before.slots
+at_work_slots : (m : Machine) (s : State) (a : IsAtWork m s) → length s.slots ≡ length a.before.slots
 at_work_slots m s a = (at_work_course m s a).rest.slots
 
 -- a list at work is small
@@ -155,10 +151,6 @@ took_before m s a word l n u e = refl
 pub took_words : (m : Machine) (s : State) (a : IsAtWork m s) (word : ℕ) (l : LeadsToUnreleased s word) (n : Machine) (u : State) (e : ◌≡◌ {A = Work} (record { machine = n; counts = u }) (took_of (record { machine = m; counts = s }) word)) → (took_at_work m s a word l n u e).words ≡ a.words ++ word ∷ []
 unfolding took_at_work
 took_words m s a word l n u e = refl
-
-pub started_words : (fields : ℕ) (before : State) (m : Machine) (s : State) (f : 0 < fields) (k : IsKept before) (r : IsReady before) (e : ◌≡◌ {A = Work} (record { machine = m; counts = s }) (started_of fields before)) → (started_at_work fields before m s f k r e).words ≡ []
-unfolding started_at_work
-started_words fields before m s f k r e = refl
 
 pub took_slots : (m : Machine) (s : State) (a : IsAtWork m s) (word : ℕ) → LeadsToUnreleased s word → (n : Machine) (u : State) → ◌≡◌ {A = Work} (record { machine = n; counts = u }) (took_of (record { machine = m; counts = s }) word) → length u.slots ≡ length s.slots
 unfolding took_at_work

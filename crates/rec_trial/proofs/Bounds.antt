@@ -29,10 +29,10 @@ first_same f g (suc at) [] h = refl
 first_same f g (suc at) (x ∷ xs) h = omega (arith, h x, first_same f g at xs h)
 
 -- the loads so far
-pub loads_are : (fields : ℕ) (xs : List ℕ) (at field : ℕ) (ls : List Seen) → Placed fields xs at field ls → length ls ≡ fields * at + field
+loads_are : (fields : ℕ) (xs : List ℕ) (at field : ℕ) (ls : List Seen) → Placed fields xs at field ls → length ls ≡ fields * at + field
 loads_are fields xs at field ls p = omega (arith, p.swept (λ n g. 1), count_all ls, first_same (λ n. total_below (λ g. 1) fields) (λ n. fields) at xs (λ n. below_one fields), first_all_same fields at xs p.inside, below_one field)
 
-pub loads_within : (fields : ℕ) (xs : List ℕ) (at field : ℕ) (ls : List Seen) → Placed fields xs at field ls → length ls ≤ fields * length xs
+loads_within : (fields : ℕ) (xs : List ℕ) (at field : ℕ) (ls : List Seen) → Placed fields xs at field ls → length ls ≤ fields * length xs
 loads_within fields xs at field ls p = go (length xs - at) refl
   where
     go : (k : ℕ) → length xs - at ≡ k → length ls ≤ fields * length xs
@@ -40,7 +40,7 @@ loads_within fields xs at field ls p = go (length xs - at) refl
     go (suc k) h = let l : suc at ≤ length xs = omega arith in omega (arith, loads_are fields xs at field ls p, p.below, mul-le-mul_left fields l)
 
 -- a list that has each number below a bound at most once
-pub few : (most : ℕ) (xs : List ℕ) → ((x : ℕ) → times x xs ≤ 1) → ((x : ℕ) → most ≤ x → times x xs ≡ 0) → length xs ≤ most
+few : (most : ℕ) (xs : List ℕ) → ((x : ℕ) → times x xs ≤ 1) → ((x : ℕ) → most ≤ x → times x xs ≡ 0) → length xs ≤ most
 few most xs once below = length-once most xs (λ x. elim (cases_lt x most) [
   | inl l ↦ let t : one (ltb x most) ≡ 1 = ap one (lt-ltb x most l) in omega (arith, occurs x xs, once x)
   | inr l ↦ omega (arith, occurs x xs, below x l)

@@ -11,16 +11,12 @@ use Rattle.rec_counts.specs.Counts.{State, IsKept, slot_at, with_slot, without_r
 use Rattle.rec_counts.specs.Lists.{one, EachOnce}
 use Rattle.rec_counts.specs.Lists as in_counts
 use Rattle.rec_counts.specs.Slot.{absent}
+use Rattle.rec_counts.specs.Colour.{is_gray, is_white, is_orange}
 use Rattle.rec_counts.proofs.Keeping.{field_kept, member_room, first_root_in_range}
 use Rattle.rec_counts.proofs.Leaving.{all_of}
-use Rattle.rec_counts.proofs.Times.{times-nil, times-cons, times_more, times_at, in_range_once, one-same}
-use Rattle.rec_trial.specs.Moves.{is_gray, is_white, is_orange, with_colour, touched_if, whitened, whitened_if, all_whitened}
+use Rattle.rec_counts.proofs.Times.{times-nil, times-cons, times_more, times_at, in_range_once, one-same, one-none}
+use Rattle.rec_trial.specs.Moves.{with_colour, touched_if, whitened, whitened_if, all_whitened}
 use Rattle.rec_trial.specs.Rules.{CanMark, CanScan, CanCollect}
-
--- a White slot is in no buffer
-none_buffered : (b : Bool) → 0 ≡ one b → b ≡ false
-none_buffered true h = absurd (omega arith)
-none_buffered false h = refl
 
 no_member : (c : Colour) (n : ℕ) → n ≤ one (is_orange c) → is_white c ≡ true → n ≡ 0
 no_member c n h e = grind arith
@@ -29,7 +25,7 @@ pub unbuffered_white : (s : State) → IsKept s → CanCollect s → (x : ℕ) �
 unbuffered_white s k c x e =
     let roots : in_counts.times x s.roots ≡ 0 = ap (in_counts.times x) c.roots ∙ times-nil x in
     let sets : in_counts.times x (concat s.sets) ≡ 0 = no_member (slot_at s x).colour (in_counts.times x (concat s.sets)) (c.members x) e in
-    none_buffered (slot_at s x).buffered (omega (arith, k.buffers x))
+    one-none (slot_at s x).buffered (omega (arith, k.buffers x))
 
 -- so there is room for a set more
 pub set_room : (s : State) → IsKept s → CanCollect s → (x : ℕ) → x < length s.slots → is_white (slot_at s x).colour ≡ true → length s.sets < length s.slots

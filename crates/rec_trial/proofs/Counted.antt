@@ -11,19 +11,19 @@ use Rattle.rec_counts.specs.Groups.{last_set}
 use Rattle.rec_counts.specs.Lists.{one}
 use Rattle.rec_counts.specs.Lists as in_counts
 use Rattle.rec_counts.specs.Slot.{absent, is_in}
-use Rattle.rec_counts.proofs.Keeping.{field_kept, keep_slot, keep_pop_root, keep_begin, keep_join, relisted}
+use Rattle.rec_counts.specs.Colour.{is_black, is_gray, is_white}
+use Rattle.rec_counts.proofs.Keeping.{field_kept, keep_slot, keep_pop_root, keep_begin, keep_join, relisted, unreleased_within}
 use Rattle.rec_counts.proofs.Times.{once_none, once_push}
 use Rattle.rec_trial.specs.declared.phase.Phase.{Phase}
 use Rattle.rec_trial.specs.declared.phase.Phase.TheVariants.{Idle, Marking, Scanning, Collecting}
 use Rattle.rec_trial.specs.Loaded.{IsAtWork, begins, learns}
-use Rattle.rec_trial.specs.Moves.{is_black, is_gray, is_white, touched_if, marked_by, dropped_if, blackened_if, scanned_by, has_rest, whitened, whitened_if, all_whitened, joined_if, collected_by, with_new_set}
+use Rattle.rec_trial.specs.Moves.{touched_if, marked_by, dropped_if, blackened_if, scanned_by, has_rest, whitened, whitened_if, all_whitened, joined_if, collected_by, with_new_set}
 use Rattle.rec_trial.specs.Rules.{CanMark, CanScan, CanCollect, IsReady, LeadsToUnreleased, RulesAt}
 use Rattle.rec_trial.specs.Trial.{Machine, Work, next_of, is_due_at, is_due, roots_moved, scan_moved, set_begun_if, collect_moved, moved_at, moves_left, settled_in, settled, learnt_at, opened_of, started_of, took_of, advanced}
 use Rattle.rec_trial.proofs.Conditions.{unbuffered_white, set_room, marked_in_range, root_range, root_unlisted}
 use Rattle.rec_trial.proofs.Midway.{Midway, at_work_due, at_work_midway, going_midway, moved_midway, rules_midway}
 use Rattle.rec_trial.proofs.Places.{ltb_yes}
-use Rattle.rec_trial.proofs.Runs.{took_busy}
-use Rattle.rec_trial.proofs.Steps.{in_range}
+use Rattle.rec_trial.proofs.Runs.{took_busy, some_set, in_range_if}
 
 -- a slot is marked that is not marked yet
 touched_counted : (s : State) (x : ℕ) (b : Bool) → x < length s.slots → (b ≡ false → in_counts.times x s.marked ≡ 0) → IsKept s → IsKept (touched_if b s x)
@@ -164,15 +164,6 @@ pub started_counted : (fields : ℕ) (s : State) → 0 < fields → IsKept s →
 unfolding started_of
 started_counted fields s f k r = settled_counted (record { machine = opened_of fields; counts = s }) (going_midway (begins f k r)) k
 
--- and after each word
-some_set : (sets : List (List ℕ)) → 0 < length (last_set sets) → 0 < length sets
-some_set [] h = absurd (omega arith)
-some_set (xs ∷ sets) h = omega arith
-
-there : (s : State) (t : Option ℕ) → IfSome t (λ x. (slot_at s x).released ≡ false) → IfSome t (λ x. x < length s.slots)
-there s None h = tt
-there s (Some x) h = in_range s x h
-
 learnt_counted : (p : Phase) (s : State) (done : ℕ) (t : Option ℕ) → RulesAt p s → is_due_at p done s ≡ true → IfSome t (λ x. x < length s.slots) → IsKept s → IsKept (learnt_at p s t)
 learnt_counted Idle s done t r d l k = k
 learnt_counted Marking s done t r d l k = marked_counted s t r l k
@@ -183,5 +174,5 @@ pub took_counted : (m : Machine) (s : State) → IsAtWork m s → IsSome (next_o
 took_counted m s a b word lead k =
     let w : Work = record { machine = m; counts = s } in
     let u : State = learnt_at m.phase s (target_of word) in
-    let k' : IsKept u = learnt_counted m.phase s m.done (target_of word) (rules_midway w (at_work_midway m s a)) (at_work_due m s a) (there s (target_of word) lead) k in
+    let k' : IsKept u = learnt_counted m.phase s m.done (target_of word) (rules_midway w (at_work_midway m s a)) (at_work_due m s a) (in_range_if s (target_of word) lead) k in
     subst (λ (v : Work). IsKept v.counts) (sym (took_busy w word m.phase refl b)) (settled_counted (record { machine = advanced m; counts = u }) (going_midway (learns a b word lead)) k')

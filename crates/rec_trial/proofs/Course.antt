@@ -6,6 +6,7 @@ use Rattle.std.proofs.lemmas.Bool.{false≢true}
 use Rattle.std.proofs.lemmas.Bool.Decides.{nat_tests}
 use Rattle.rec_counts.specs.Counts.{State, slot_at}
 use Rattle.rec_counts.specs.Groups.{last_set, earlier_sets}
+use Rattle.rec_counts.proofs.Keeping.{unreleased_within}
 use Rattle.rec_trial.specs.declared.phase.Phase.{Phase}
 use Rattle.rec_trial.specs.declared.phase.Phase.TheVariants.{Idle, Marking, Scanning, Collecting}
 use Rattle.rec_trial.specs.Trial.{Work, is_due_at, is_due, moved_at, moves_left, settled_in, settled, opened_of}
@@ -17,7 +18,7 @@ use Rattle.rec_trial.proofs.Moving.{one_kept, one_same, same_trans}
 use Rattle.rec_trial.proofs.Totals.{times_here}
 use Rattle.rec_trial.proofs.Places.{ltb_yes, ltb_no}
 use Rattle.rec_trial.proofs.Rest.{Rest, rest_roots, rest_scan, rest_collect}
-use Rattle.rec_trial.proofs.Steps.{in_range, view_roots, view_scan, view_collect}
+use Rattle.rec_trial.proofs.Steps.{view_roots, view_scan, view_collect}
 use Rattle.rec_trial.proofs.Views.{at_of, earlier, view_of, view, view_rootless, concat_last}
 
 -- the trial as it began
@@ -34,7 +35,7 @@ pub record Course (fields : ℕ) (before : State) (w : Work) (marks blacks finds
 shifted : (e a b : ℕ) → ltb (e + a) (e + b) ≡ ltb a b
 shifted e a b = grind (arith, nat_tests)
 
-pub members_are : (s : State) → length (concat s.sets) ≡ earlier s + length (last_set s.sets)
+members_are : (s : State) → length (concat s.sets) ≡ earlier s + length (last_set s.sets)
 members_are s = ap length (concat_last s.sets) ∙ length-append (concat (earlier_sets s.sets)) (last_set s.sets)
 
 pub due_seen : (w : Work) (p : Phase) → w.machine.phase ≡ p → is_due_at p w.machine.done w.counts ≡ due_at p (view w)
@@ -52,7 +53,7 @@ alive_range s x h l = go (slot_at s x).released refl
   where
     go : (b : Bool) → (slot_at s x).released ≡ b → x < length s.slots
     go true e = absurd (omega (arith, h e, l))
-    go false e = in_range s x e
+    go false e = unreleased_within s x e
 
 tried_range : (s : State) (k : ℕ) → ((x : ℕ) → (slot_at s x).released ≡ true → times x s.marked ≡ 0) → ltb k (length s.marked) ≡ true → get_or s.marked k 0 < length s.slots
 tried_range s k h e = alive_range s (get_or s.marked k 0) (h (get_or s.marked k 0)) (times_here s.marked k (ltb_yes k (length s.marked) e))
@@ -100,7 +101,7 @@ module _ {fields : ℕ} {before : State} (w : Work) {marks blacks finds : List S
   moved_course d = moved_course_at w.machine.phase refl d c.inv c.rest
 
 -- so do moves up to the next load
-pub settled_in_course : (n : ℕ) {fields : ℕ} {before : State} (w : Work) {marks blacks finds : List Seen} → Course fields before w marks blacks finds → Course fields before (settled_in n w) marks blacks finds
+settled_in_course : (n : ℕ) {fields : ℕ} {before : State} (w : Work) {marks blacks finds : List Seen} → Course fields before w marks blacks finds → Course fields before (settled_in n w) marks blacks finds
 settled_in_course zero w c = c
 settled_in_course (suc n) {fields} {before} w {marks} {blacks} {finds} c = go (is_due w) refl (λ k. settled_in_course n (moved_at w.machine.phase w) k)
   where

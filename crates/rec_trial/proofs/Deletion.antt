@@ -2,9 +2,9 @@
 use Rattle.std.proofs.Common.{ℕ, zero, suc, ◌-◌, Bool, true, false, cond, ltb, List, [], ◌∷◌, ◌++◌, length, get_or}
 use Rattle.rec_counts.specs.declared.colour.Colour.{Colour}
 use Rattle.rec_counts.specs.declared.colour.Colour.TheVariants.{Black, Purple, Gray, White, Orange}
+use Rattle.rec_counts.specs.Colour.{is_gray, is_white}
 use Rattle.rec_trial.specs.declared.phase.Phase.{Phase}
 use Rattle.rec_trial.specs.declared.phase.Phase.TheVariants.{Idle, Marking, Scanning, Collecting}
-use Rattle.rec_trial.specs.Moves.{is_gray, is_white}
 use Rattle.rec_trial.proofs.Totals.{changed}
 
 -- a field that was loaded, and the word that it gave
@@ -45,9 +45,6 @@ due_at Idle s = true
 due_at Marking s = ltb s.at (length s.marked)
 due_at Scanning s = ltb s.at (length s.work)
 due_at Collecting s = ltb s.at (length s.members)
-
-abbrev pub due : Deletion → Bool
-due s = due_at s.phase s
 
 -- the load that is due
 abbrev pub seen : Phase → Deletion → ℕ → Seen

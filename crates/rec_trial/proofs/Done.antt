@@ -1,66 +1,66 @@
 -- What a trial promises, as functions, from what holds of it.
-use Rattle.std.proofs.Common.{◌≡◌, ℕ, zero, suc, ◌+◌, ◌<◌, ◌≤◌, Bool, true, false, eqb, ltb, List, [], ◌∷◌, length, get_or, refl, arith}
+use Rattle.std.proofs.Common.{◌≡◌, ℕ, zero, suc, ◌+◌, ◌<◌, ◌≤◌, Bool, true, false, eqb, ltb, List, [], ◌∷◌, length, get_or, refl, arith, cond}
 use Rattle.std.proofs.lemmas.Bool.Decides.{nat_tests}
 use native.Mathlib.Decide.{dec_lt}
 use Rattle.rec_counts.specs.Lists.{one}
-use Rattle.rec_trial.proofs.Totals.{total_of_first, total_below, guarded, same, times}
-use Rattle.rec_trial.specs.Moves.{is_black, is_white}
+use Rattle.rec_counts.specs.Colour.{is_black, is_white}
+use Rattle.rec_trial.proofs.Totals.{total_of_first, total_below, same, times}
 use Rattle.rec_trial.proofs.Deletion.{Seen, Deletion, Story}
 use Rattle.rec_trial.specs.declared.phase.Phase.{Phase}
 use Rattle.rec_trial.specs.declared.phase.Phase.TheVariants.{Idle, Marking, Scanning, Collecting}
 use Rattle.rec_trial.proofs.Holding.{Collected, Placed, named, loaded, Finished, inv_at, Inv, Same, Over, Careful, Right}
 use Rattle.rec_trial.proofs.Totals.{first_more, first_whole, first_le}
 
-below_guarded : (b : Bool) (g k : ℕ) → total_below (λ j. guarded b (same g j)) k ≡ guarded b (one (ltb g k))
+below_guarded : (b : Bool) (g k : ℕ) → total_below (λ j. cond b (same g j) 0) k ≡ cond b (one (ltb g k)) 0
 below_guarded b g zero = grind (arith, nat_tests)
-below_guarded b g (suc k) = let r : total_below (λ j. guarded b (same g j)) k ≡ guarded b (one (ltb g k)) = below_guarded b g k in last b g k (total_below (λ j. guarded b (same g j)) k) r
+below_guarded b g (suc k) = let r : total_below (λ j. cond b (same g j) 0) k ≡ cond b (one (ltb g k)) 0 = below_guarded b g k in last b g k (total_below (λ j. cond b (same g j) 0) k) r
   where
-    last : (b : Bool) (g k u : ℕ) → u ≡ guarded b (one (ltb g k)) → u + guarded b (same g k) ≡ guarded b (one (ltb g (suc k)))
+    last : (b : Bool) (g k u : ℕ) → u ≡ cond b (one (ltb g k)) 0 → u + cond b (same g k) 0 ≡ cond b (one (ltb g (suc k))) 0
     last b g k u r = grind (arith, nat_tests)
 
-first_guarded : (n g fields at : ℕ) (xs : List ℕ) → total_of_first (λ m. total_below (λ j. guarded (eqb n m) (same g j)) fields) at xs ≡ guarded (ltb g fields) (total_of_first (same n) at xs)
+first_guarded : (n g fields at : ℕ) (xs : List ℕ) → total_of_first (λ m. total_below (λ j. cond (eqb n m) (same g j) 0) fields) at xs ≡ cond (ltb g fields) (total_of_first (same n) at xs) 0
 first_guarded n g fields zero xs = grind arith
 first_guarded n g fields (suc at) [] = grind arith
 first_guarded n g fields (suc at) (x ∷ xs) = add (first_guarded n g fields at xs) (below_guarded (eqb n x) g fields)
   where
-    add : total_of_first (λ m. total_below (λ j. guarded (eqb n m) (same g j)) fields) at xs ≡ guarded (ltb g fields) (total_of_first (same n) at xs) → total_below (λ j. guarded (eqb n x) (same g j)) fields ≡ guarded (eqb n x) (one (ltb g fields)) → total_below (λ j. guarded (eqb n x) (same g j)) fields + total_of_first (λ m. total_below (λ j. guarded (eqb n m) (same g j)) fields) at xs ≡ guarded (ltb g fields) (same n x + total_of_first (same n) at xs)
+    add : total_of_first (λ m. total_below (λ j. cond (eqb n m) (same g j) 0) fields) at xs ≡ cond (ltb g fields) (total_of_first (same n) at xs) 0 → total_below (λ j. cond (eqb n x) (same g j) 0) fields ≡ cond (eqb n x) (one (ltb g fields)) 0 → total_below (λ j. cond (eqb n x) (same g j) 0) fields + total_of_first (λ m. total_below (λ j. cond (eqb n m) (same g j) 0) fields) at xs ≡ cond (ltb g fields) (same n x + total_of_first (same n) at xs) 0
     add a b = grind (arith, nat_tests)
 
 module _ (fields : ℕ) (xs : List ℕ) (at field : ℕ) (ls : List Seen) (p : Placed fields xs at field ls) where
-  pub loads_of : (n g : ℕ) → loaded n g ls ≡ guarded (ltb g fields) (total_of_first (same n) at xs) + guarded (eqb n (get_or xs at 0)) (one (ltb g field))
-  loads_of n g = omega (arith, p.swept (λ a b. guarded (eqb n a) (same g b)), first_guarded n g fields at xs, below_guarded (eqb n (get_or xs at 0)) g field)
+  pub loads_of : (n g : ℕ) → loaded n g ls ≡ cond (ltb g fields) (total_of_first (same n) at xs) 0 + cond (eqb n (get_or xs at 0)) (one (ltb g field)) 0
+  loads_of n g = omega (arith, p.swept (λ a b. cond (eqb n a) (same g b) 0), first_guarded n g fields at xs, below_guarded (eqb n (get_or xs at 0)) g field)
 
-  pub once_of : (n g : ℕ) → times n xs ≤ 1 → loaded n g ls ≤ 1
+  once_of : (n g : ℕ) → times n xs ≤ 1 → loaded n g ls ≤ 1
   once_of n g h = elim (dec_lt at (length xs)) [
     | yes l ↦ small (guarded_le (ltb g fields) (total_of_first (same n) at xs)) (cut (eqb n (get_or xs at 0)) (ltb g field)) (first_more (same n) at xs l) (first_le (same n) (suc at) xs) h
     | no l ↦ let z : field ≡ 0 = p.rests (omega (arith, p.inside)) in past z (guarded_le (ltb g fields) (total_of_first (same n) at xs)) (first_le (same n) at xs) h (none (eqb n (get_or xs at 0)) g)
   ]
     where
-      guarded_le : (b : Bool) (n : ℕ) → guarded b n ≤ n
+      guarded_le : (b : Bool) (n : ℕ) → cond b n 0 ≤ n
       guarded_le b n = grind arith
 
-      cut : (a b : Bool) → guarded a (one b) ≤ one a
+      cut : (a b : Bool) → cond a (one b) 0 ≤ one a
       cut a b = grind arith
 
-      none : (a : Bool) (g : ℕ) → guarded a (one (ltb g 0)) ≡ 0
+      none : (a : Bool) (g : ℕ) → cond a (one (ltb g 0)) 0 ≡ 0
       none a g = grind (arith, nat_tests)
 
-      small : guarded (ltb g fields) (total_of_first (same n) at xs) ≤ total_of_first (same n) at xs → guarded (eqb n (get_or xs at 0)) (one (ltb g field)) ≤ same n (get_or xs at 0) → total_of_first (same n) (suc at) xs ≡ total_of_first (same n) at xs + same n (get_or xs at 0) → total_of_first (same n) (suc at) xs ≤ times n xs → times n xs ≤ 1 → loaded n g ls ≤ 1
+      small : cond (ltb g fields) (total_of_first (same n) at xs) 0 ≤ total_of_first (same n) at xs → cond (eqb n (get_or xs at 0)) (one (ltb g field)) 0 ≤ same n (get_or xs at 0) → total_of_first (same n) (suc at) xs ≡ total_of_first (same n) at xs + same n (get_or xs at 0) → total_of_first (same n) (suc at) xs ≤ times n xs → times n xs ≤ 1 → loaded n g ls ≤ 1
       small a b c d e = omega (arith, loads_of n g)
 
-      past : field ≡ 0 → guarded (ltb g fields) (total_of_first (same n) at xs) ≤ total_of_first (same n) at xs → total_of_first (same n) at xs ≤ times n xs → times n xs ≤ 1 → guarded (eqb n (get_or xs at 0)) (one (ltb g 0)) ≡ 0 → loaded n g ls ≤ 1
-      past z a b c d = let e : loaded n g ls ≡ guarded (ltb g fields) (total_of_first (same n) at xs) + guarded (eqb n (get_or xs at 0)) (one (ltb g 0)) = rw z at (loads_of n g) in omega arith
+      past : field ≡ 0 → cond (ltb g fields) (total_of_first (same n) at xs) 0 ≤ total_of_first (same n) at xs → total_of_first (same n) at xs ≤ times n xs → times n xs ≤ 1 → cond (eqb n (get_or xs at 0)) (one (ltb g 0)) 0 ≡ 0 → loaded n g ls ≤ 1
+      past z a b c d = let e : loaded n g ls ≡ cond (ltb g fields) (total_of_first (same n) at xs) 0 + cond (eqb n (get_or xs at 0)) (one (ltb g 0)) 0 = rw z at (loads_of n g) in omega arith
 
 pub all_of : (fields : ℕ) (xs : List ℕ) (ls : List Seen) → Placed fields xs (length xs) 0 ls → (n g : ℕ) → g < fields → loaded n g ls ≡ times n xs
 all_of fields xs ls p n g h = fit (loads_of fields xs (length xs) 0 ls p n g) (first_whole (same n) xs)
   where
-    none : (a : Bool) (g : ℕ) → guarded a (one (ltb g 0)) ≡ 0
+    none : (a : Bool) (g : ℕ) → cond a (one (ltb g 0)) 0 ≡ 0
     none a g = grind (arith, nat_tests)
 
-    guarded_true : (m : ℕ) → guarded (ltb g fields) m ≡ m
+    guarded_true : (m : ℕ) → cond (ltb g fields) m 0 ≡ m
     guarded_true m = grind (arith, nat_tests)
 
-    fit : loaded n g ls ≡ guarded (ltb g fields) (total_of_first (same n) (length xs) xs) + guarded (eqb n (get_or xs (length xs) 0)) (one (ltb g 0)) → total_of_first (same n) (length xs) xs ≡ times n xs → loaded n g ls ≡ times n xs
+    fit : loaded n g ls ≡ cond (ltb g fields) (total_of_first (same n) (length xs) xs) 0 + cond (eqb n (get_or xs (length xs) 0)) (one (ltb g 0)) 0 → total_of_first (same n) (length xs) xs ≡ times n xs → loaded n g ls ≡ times n xs
     fit a b = omega (arith, none (eqb n (get_or xs (length xs) 0)) g, guarded_true (total_of_first (same n) (length xs) xs))
 
 none_in : (ls : List Seen) (n g : ℕ) → ls ≡ [] → loaded n g ls ≤ 1

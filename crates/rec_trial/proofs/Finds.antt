@@ -1,8 +1,8 @@
 -- Collecting, as functions: what holds after a word, and after a node joined.
 use Rattle.std.proofs.Common.{◌≡◌, ℕ, suc, ◌<◌, true, false, List, ◌∷◌, length, get_or, arith}
 use Rattle.std.proofs.lemmas.Bool.Decides.{nat_tests}
+use Rattle.rec_counts.specs.Colour.{is_white}
 use Rattle.rec_trial.proofs.Totals.{same}
-use Rattle.rec_trial.specs.Moves.{is_white}
 use Rattle.rec_trial.proofs.Deletion.{Seen, Deletion, join_if}
 use Rattle.rec_trial.proofs.Holding.{Collected}
 use Rattle.rec_trial.proofs.Totals.{first_more}

@@ -1,12 +1,12 @@
 -- What holds of a trial, phase by phase, on any words that name nodes which are not released.
-use Rattle.std.proofs.Common.{◌≡◌, ℕ, zero, suc, ◌+◌, ◌-◌, ◌<◌, ◌≤◌, Bool, true, false, List, [], ◌∷◌, length, get_or, eqb, ◌⊎◌}
+use Rattle.std.proofs.Common.{◌≡◌, ℕ, zero, suc, ◌+◌, ◌-◌, ◌<◌, ◌≤◌, Bool, true, false, List, [], ◌∷◌, length, get_or, eqb, ◌⊎◌, cond}
 use Rattle.rec_counts.specs.declared.colour.Colour.{Colour}
 use Rattle.rec_counts.specs.declared.colour.Colour.TheVariants.{Purple}
 use Rattle.rec_trial.specs.declared.phase.Phase.{Phase}
 use Rattle.rec_trial.specs.declared.phase.Phase.TheVariants.{Idle, Marking, Scanning, Collecting}
-use Rattle.rec_trial.specs.Moves.{is_black, is_gray, is_white, is_orange}
 use Rattle.rec_counts.specs.Lists.{one}
-use Rattle.rec_trial.proofs.Totals.{guarded, total, total_of_first, total_below, same, times}
+use Rattle.rec_counts.specs.Colour.{is_black, is_gray, is_white, is_orange}
+use Rattle.rec_trial.proofs.Totals.{total, total_of_first, total_below, same, times}
 use Rattle.rec_trial.proofs.Deletion.{Seen, Deletion, Story}
 
 -- how many of the loaded words name a node
@@ -15,11 +15,11 @@ named x ls = total (λ l. same (suc x) l.word) ls
 
 -- how often a place was loaded
 abbrev pub loaded : ℕ → ℕ → List Seen → ℕ
-loaded n g ls = total (λ l. guarded (eqb n l.node) (same g l.field)) ls
+loaded n g ls = total (λ l. cond (eqb n l.node) (same g l.field) 0) ls
 
 -- how often a loaded word of a node names another
 abbrev pub edges : ℕ → ℕ → List Seen → ℕ
-edges n x ls = total (λ l. guarded (eqb n l.node) (same (suc x) l.word)) ls
+edges n x ls = total (λ l. cond (eqb n l.node) (same (suc x) l.word) 0) ls
 
 -- a root that is marked from
 pub record Seed (o : Deletion) (x : ℕ) : Type 0 where

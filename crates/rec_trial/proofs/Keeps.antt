@@ -4,8 +4,8 @@ use Rattle.std.specs.List.{filter}
 use Rattle.std.proofs.lemmas.List.{append-nil}
 use Rattle.rec_counts.specs.Counts.{State, slot_at}
 use Rattle.rec_counts.specs.Lists.{times}
+use Rattle.rec_counts.specs.Colour.{is_gray, is_white}
 use Rattle.rec_trial.specs.Loaded.{Run, IsAtWork, run_of}
-use Rattle.rec_trial.specs.Moves.{is_gray, is_white}
 use Rattle.rec_trial.specs.Rules.{IsReady, LeadsToUnreleased, released_among}
 use Rattle.rec_trial.specs.Tried.{IsCareful, IsOver, members}
 use Rattle.rec_trial.specs.Trial.{Machine, Work, next_of, started_of, took_of}
@@ -82,7 +82,3 @@ pub at_work_over : (m : Machine) (s : State) → IsAtWork m s → IsNone (next_o
 at_work_over m s a n =
     let o = whole_over m.fields a.before a.words a.wide a.ready a.named (subst (λ (w : Work). IsNone (next_of w.machine)) a.is n) in
     subst (λ (w : Work). LeavesNothing w.counts) (sym a.is) (over_leaves o.1)
-
--- where no root is left, the free list has got the released ones of all of them
-pub free_without_roots : {s t : State} → KeepsCounts s t → t.roots ≡ [] → t.free ≡ s.free ++ released_among s s.roots
-free_without_roots {s} {t} k none = sym (append-nil t.free) ∙ sym (ap (λ xs. t.free ++ released_among s xs) none) ∙ k.free

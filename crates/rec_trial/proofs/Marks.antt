@@ -3,10 +3,10 @@ use Rattle.std.proofs.Common.{◌≡◌, ℕ, zero, suc, ◌+◌, ◌<◌, true,
 use Rattle.std.proofs.lemmas.Bool.Decides.{nat_tests}
 use Rattle.rec_counts.specs.Lists.{one}
 use Rattle.rec_trial.proofs.Totals.{same, times}
-use Rattle.rec_trial.specs.Moves.{is_gray, is_purple}
 use Rattle.rec_trial.proofs.Deletion.{Seen, Deletion, touch_if, take_one, drop_root}
 use Rattle.rec_counts.specs.declared.colour.Colour.{Colour}
 use Rattle.rec_counts.specs.declared.colour.Colour.TheVariants.{Purple}
+use Rattle.rec_counts.specs.Colour.{is_purple, is_gray}
 use Rattle.rec_trial.proofs.Holding.{Marked, named, edges, Seed, Reached, seed, along}
 use Rattle.rec_trial.proofs.Totals.{total_append}
 

@@ -3,10 +3,10 @@ use Rattle.std.proofs.Common.{◌≡◌, ℕ, zero, suc, ◌+◌, ◌<◌, ◌�
 use Rattle.std.proofs.lemmas.Bool.Decides.{nat_tests}
 use Rattle.rec_counts.specs.Lists.{one}
 use Rattle.rec_trial.proofs.Totals.{times}
-use Rattle.rec_trial.specs.Moves.{is_gray, is_white, is_purple}
 use Rattle.rec_trial.proofs.Deletion.{Seen, Deletion, blacken_if, has_rest, begin_set_if, try_scan, try_collect, one_root, root_if, one_at, due_at, drop_root}
 use Rattle.rec_counts.specs.declared.colour.Colour.{Colour}
 use Rattle.rec_counts.specs.declared.colour.Colour.TheVariants.{Black, Gray, White, Purple, Orange}
+use Rattle.rec_counts.specs.Colour.{is_purple, is_gray, is_white}
 use Rattle.rec_trial.specs.declared.phase.Phase.{Phase}
 use Rattle.rec_trial.specs.declared.phase.Phase.TheVariants.{Idle, Marking, Scanning, Collecting}
 use Rattle.rec_trial.proofs.Holding.{Collected, Placed, named, WhileMarking, WhileScanning, WhileCollecting, inv_at, Inv, Same}

@@ -1,7 +1,7 @@
 -- Sets in order of finding.
-use Rattle.std.proofs.Common.{◌≡◌, ℕ, zero, suc, ◌+◌, ◌<◌, ◌≤◌, Bool, true, false, eqb, List, [], ◌∷◌, ◌++◌, length, get_or, refl, arith, ◌⊎◌, inl, inr}
+use Rattle.std.proofs.Common.{◌≡◌, ℕ, zero, suc, ◌+◌, ◌<◌, ◌≤◌, Bool, true, false, eqb, List, [], ◌∷◌, ◌++◌, length, get_or, refl, arith, ◌⊎◌, inl, inr, cond}
 use Rattle.std.proofs.lemmas.Bool.Decides.{nat_tests}
-use Rattle.rec_trial.proofs.Totals.{guarded, same, times, changed}
+use Rattle.rec_trial.proofs.Totals.{same, times, changed}
 use Rattle.rec_trial.proofs.Deletion.{Seen, next_at}
 use Rattle.rec_trial.proofs.Holding.{OrderedOf, named, edges}
 use Rattle.rec_trial.proofs.Totals.{get_grown, times_here}
@@ -21,7 +21,7 @@ edge_named : (n x : ℕ) (ls : List Seen) → edges n x ls ≤ named x ls
 edge_named n x [] = omega arith
 edge_named n x (l ∷ ls) = omega (arith, edge_named n x ls, cut (eqb n l.node) (same (suc x) l.word))
   where
-    cut : (b : Bool) (m : ℕ) → guarded b m ≤ m
+    cut : (b : Bool) (m : ℕ) → cond b m 0 ≤ m
     cut b m = grind arith
 
 -- the last of a longer list
@@ -46,7 +46,7 @@ module _ (members : List ℕ) (set_of : ℕ → ℕ) (sets at : ℕ) (finds : Li
       before true k a = a
       before false k a = omega arith
 
-      split : (n y m x r : ℕ) → 0 < guarded (eqb n m) (same (suc y) x) + r → ((n ≡ m) × (suc y ≡ x)) ⊎ (0 < r)
+      split : (n y m x r : ℕ) → 0 < cond (eqb n m) (same (suc y) x) 0 + r → ((n ≡ m) × (suc y ≡ x)) ⊎ (0 < r)
       split n y m x r e = grind (arith, nat_tests)
 
       source : (n y : ℕ) → ((n ≡ get_or members at 0) × (suc y ≡ x)) ⊎ (0 < edges n y finds) → 0 < times n members

@@ -3,22 +3,22 @@ use Rattle.std.proofs.Common.{◌≡◌, ℕ, zero, suc, ◌+◌, Bool, true, fa
 use Rattle.std.specs.List.{count_by, sum_by, range_with_len}
 use Rattle.std.proofs.lemmas.Bool.Decides.{nat_tests}
 use Rattle.std.proofs.lemmas.List.Sums.{sum_by-cons}
-use Rattle.rec_word.specs.Word.{target_of, is_slot, predecessor}
+use Rattle.rec_word.specs.Word.{target_of, is_slot, predecessor, target_bits}
 use Rattle.rec_counts.specs.Lists.{one}
 use Rattle.rec_trial.specs.Loaded.{Load}
 use Rattle.rec_trial.specs.Still.{AreStill}
 use Rattle.rec_trial.specs.Tried as tried
 use Rattle.rec_trial.specs.Tried.{is_of}
 use Rattle.rec_trial.proofs.Holding.{named, loaded, edges, Tells}
-use Rattle.rec_trial.proofs.Runs.{code_of, seen_of}
+use Rattle.rec_trial.proofs.Runs.{seen_of}
 use Rattle.rec_trial.proofs.Steps.{bits_suc}
-use Rattle.rec_trial.proofs.Totals.{guarded, same, total, total_below}
+use Rattle.rec_trial.proofs.Totals.{same, total, total_below}
 
 -- a word leads to a slot exactly where its code is the slot's
 null_leads : (x : ℕ) → one (is_slot x (predecessor 0)) ≡ same (suc x) 0
 null_leads x = grind (arith, nat_tests)
 
-pub leads_code : (x code : ℕ) → one (is_slot x (predecessor code)) ≡ same (suc x) code
+leads_code : (x code : ℕ) → one (is_slot x (predecessor code)) ≡ same (suc x) code
 leads_code x zero = null_leads x
 leads_code x (suc y) = rw (bits_suc y) (next x y)
   where
@@ -29,7 +29,7 @@ pub code_some : (code x : ℕ) → predecessor code ≡ Some x → code ≡ suc 
 code_some zero x h = cc
 code_some (suc y) x h = let k : Some y ≡ Some x = rw (bits_suc y) at h in cc
 
-both : (a b : Bool) → one (cond a b false) ≡ guarded a (one b)
+both : (a b : Bool) → one (cond a b false) ≡ cond a (one b) 0
 both true b = refl
 both false b = refl
 
@@ -37,28 +37,28 @@ pub loaded_read : (x g : ℕ) (loads : List Load) → tried.loaded x g loads ≡
 unfolding tried.loaded
 loaded_read x g [] = refl
 loaded_read x g (l ∷ loads) =
-    let here : one (is_of x g l) ≡ guarded (eqb x l.slot) (same g l.field) = both (eqb x l.slot) (eqb g l.field) in
+    let here : one (is_of x g l) ≡ cond (eqb x l.slot) (same g l.field) 0 = both (eqb x l.slot) (eqb g l.field) in
     omega (arith, sum_by-cons (λ k. one (is_of x g k)) l loads, here, loaded_read x g loads)
 
 pub naming_read : (x : ℕ) (loads : List Load) → tried.naming x loads ≡ named x (map seen_of loads)
 unfolding tried.naming
 naming_read x [] = refl
-naming_read x (l ∷ loads) = omega (arith, sum_by-cons (λ (k : Load). one (is_slot x (target_of k.word))) l loads, leads_code x (code_of l.word), naming_read x loads)
+naming_read x (l ∷ loads) = omega (arith, sum_by-cons (λ (k : Load). one (is_slot x (target_of k.word))) l loads, leads_code x (target_bits l.word), naming_read x loads)
 
 pub edges_read : (n x : ℕ) (loads : List Load) → tried.edges n x loads ≡ edges n x (map seen_of loads)
 unfolding tried.edges
 edges_read n x [] = refl
 edges_read n x (l ∷ loads) =
-    let here : one (cond (eqb n l.slot) (is_slot x (target_of l.word)) false) ≡ guarded (eqb n l.slot) (same (suc x) (code_of l.word)) = both (eqb n l.slot) (is_slot x (target_of l.word)) ∙ ap (guarded (eqb n l.slot)) (leads_code x (code_of l.word)) in
+    let here : one (cond (eqb n l.slot) (is_slot x (target_of l.word)) false) ≡ cond (eqb n l.slot) (same (suc x) (target_bits l.word)) 0 = both (eqb n l.slot) (is_slot x (target_of l.word)) ∙ ap (λ m. cond (eqb n l.slot) m 0) (leads_code x (target_bits l.word)) in
     omega (arith, sum_by-cons (λ (k : Load). one (cond (eqb n k.slot) (is_slot x (target_of k.word)) false)) l loads, here, edges_read n x loads)
 
 -- words that do not change
 abbrev pub codes : (word : ℕ → ℕ → ℕ) → ℕ → ℕ → ℕ
-codes word n g = code_of (word n g)
+codes word n g = target_bits (word n g)
 
 pub still_tells : (word : ℕ → ℕ → ℕ) (loads : List Load) → AreStill word loads → Tells (codes word) (map seen_of loads)
 still_tells word [] a = tt
-still_tells word (l ∷ loads) a = (ap code_of a.0, still_tells word loads a.1)
+still_tells word (l ∷ loads) a = (ap target_bits a.0, still_tells word loads a.1)
 
 -- a sum over the numbers below one, from the front
 pub below_front : (f : ℕ → ℕ) (n : ℕ) → total_below f (suc n) ≡ f 0 + total_below (λ g. f (suc g)) n

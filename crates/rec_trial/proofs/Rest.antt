@@ -6,9 +6,10 @@ use Rattle.rec_counts.specs.declared.colour.Colour.{Colour}
 use Rattle.rec_counts.specs.declared.colour.Colour.TheVariants.{Black, Purple, Gray, White, Orange}
 use Rattle.rec_counts.specs.declared.slot.Slot.{Slot}
 use Rattle.rec_counts.specs.Counts.{State, slot_at, with_slot, without_root}
+use Rattle.rec_counts.specs.Colour.{is_gray, is_white}
 use Rattle.rec_trial.specs.declared.phase.Phase.{Phase}
 use Rattle.rec_trial.specs.declared.phase.Phase.TheVariants.{Idle, Marking, Scanning, Collecting}
-use Rattle.rec_trial.specs.Moves.{is_gray, is_white, touched_if, touched, one_off, marked_by, dropped_if, dropped, blackened_if, scanned_by, has_rest, whitened, joined_if, collected_by, with_new_set}
+use Rattle.rec_trial.specs.Moves.{touched_if, touched, one_off, marked_by, dropped_if, dropped, blackened_if, scanned_by, has_rest, whitened, joined_if, collected_by, with_new_set}
 use Rattle.rec_trial.specs.Rules.{released_among}
 use Rattle.rec_trial.specs.Trial.{Work, roots_moved, scan_moved, set_begun_if, collect_moved}
 use Rattle.rec_trial.proofs.Views.{concat_member, length_member, concat_new}
@@ -56,7 +57,7 @@ same_blackened : (s : State) (x : ℕ) (b : Bool) → SameLists s (blackened_if 
 same_blackened s x false = record { slots = refl; zeros = refl; roots = refl; sets = refl; free = refl }
 same_blackened s x true = record { slots = length-set s.slots x (record (slot_at s x) { colour = Black }); zeros = refl; roots = refl; sets = refl; free = refl }
 
-pub same_then : {s t u : State} → SameLists s t → SameLists t u → SameLists s u
+same_then : {s t u : State} → SameLists s t → SameLists t u → SameLists s u
 same_then a b = record { slots = b.slots ∙ a.slots; zeros = b.zeros ∙ a.zeros; roots = b.roots ∙ a.roots; sets = b.sets ∙ a.sets; free = b.free ∙ a.free }
 
 -- what a learnt target leaves
@@ -75,7 +76,7 @@ joined_length s x =
     ∙ length-set s.slots x v
 
 -- a member more
-pub rest_joined : {before : State} {p : Phase} {s : State} (x : ℕ) → 0 < length s.sets → Rest before p s → (b : Bool) → Rest before p (joined_if b s x)
+rest_joined : {before : State} {p : Phase} {s : State} (x : ℕ) → 0 < length s.sets → Rest before p s → (b : Bool) → Rest before p (joined_if b s x)
 rest_joined x some r false = r
 rest_joined {s = s} x some r true = record {
   slots = joined_length s x ∙ r.slots;
@@ -90,7 +91,7 @@ rest_collected some r None = r
 rest_collected {s = s} some r (Some x) = rest_joined x some r (is_white (slot_at s x).colour)
 
 -- a set begins
-pub rest_begun : {before : State} {p : Phase} {s : State} (x : ℕ) → Rest before p s → Rest before p (joined_if true (with_new_set s) x)
+rest_begun : {before : State} {p : Phase} {s : State} (x : ℕ) → Rest before p s → Rest before p (joined_if true (with_new_set s) x)
 rest_begun {s = s} x r = record {
   slots = joined_length (with_new_set s) x ∙ r.slots;
   zeros = r.zeros;
@@ -118,7 +119,7 @@ dropped_lists t x false Gray = record { slots = refl; zeros = refl; roots = refl
 dropped_lists t x false White = record { slots = refl; zeros = refl; roots = refl; sets = refl; free = refl }
 dropped_lists t x false Orange = record { slots = refl; zeros = refl; roots = refl; sets = refl; free = refl }
 
-pub rest_dropped : {before : State} {s : State} (x : ℕ) (xs : List ℕ) → s.roots ≡ x ∷ xs → (slot_at (without_root (x ∷ xs) s) x).released ≡ (slot_at before x).released → Rest before Marking s → Rest before Marking (dropped (without_root (x ∷ xs) s) x)
+rest_dropped : {before : State} {s : State} (x : ℕ) (xs : List ℕ) → s.roots ≡ x ∷ xs → (slot_at (without_root (x ∷ xs) s) x).released ≡ (slot_at before x).released → Rest before Marking s → Rest before Marking (dropped (without_root (x ∷ xs) s) x)
 rest_dropped {before} {s} x xs here same r =
     let t : State = without_root (x ∷ xs) s in
     let d : Dropped t x (slot_at t x).released (dropped t x) = dropped_lists t x (slot_at t x).released (slot_at t x).colour in

@@ -2,9 +2,10 @@
 use Rattle.std.proofs.Common.{◌≡◌, ℕ, zero, suc, ◌+◌, ◌%◌, ◌^◌, ◌<◌, Bool, true, false, ltb, Option, None, Some, IfSome, IsSome, List, [], ◌∷◌, ◌++◌, length, map, fold, get_or, refl, sym, ap, subst, ◌∙◌, arith, zero-add}
 use Rattle.std.specs.List.{concat}
 use Rattle.std.proofs.lemmas.Bool.{false≢true}
-use Rattle.rec_word.specs.Word.{target_of, predecessor}
+use Rattle.rec_word.specs.Word.{target_of, predecessor, target_bits}
 use Rattle.rec_counts.specs.Counts.{State, slot_at}
 use Rattle.rec_counts.specs.Groups.{last_set, earlier_sets}
+use Rattle.rec_counts.proofs.Keeping.{unreleased_within}
 use Rattle.rec_trial.specs.declared.phase.Phase.{Phase}
 use Rattle.rec_trial.specs.declared.phase.Phase.TheVariants.{Idle, Marking, Scanning, Collecting}
 use Rattle.rec_trial.specs.Loaded.{Load, Run, load_of, noted_at, noted, begun, run_of}
@@ -18,27 +19,23 @@ use Rattle.rec_trial.proofs.Moving.{same_trans}
 use Rattle.rec_trial.proofs.Places.{ltb_yes}
 use Rattle.rec_trial.proofs.Rest.{Rest, rest_same, same_marked, same_scanned, rest_collected}
 use Rattle.rec_trial.proofs.Settling.{settled_is_due}
-use Rattle.rec_trial.proofs.Steps.{in_range, bits_suc, view_advanced, view_marked_by, view_scanned_by, view_collected_by}
+use Rattle.rec_trial.proofs.Steps.{bits_suc, view_advanced, view_marked_by, view_scanned_by, view_collected_by}
 use Rattle.rec_trial.proofs.Turns.{told_kept, told_same, opening_kept}
 use Rattle.rec_trial.proofs.Views.{at_of, earlier, view, concat_last}
 
--- the code of a target in a word
-abbrev pub code_of : (word : ℕ) → ℕ
-code_of word = word % 2 ^ 16
-
 abbrev pub seen_of : Load → Seen
-seen_of l = record { node = l.slot; field = l.field; word = code_of l.word }
+seen_of l = record { node = l.slot; field = l.field; word = target_bits l.word }
 
 -- a target that is not released is in range
-in_range_if : (s : State) (t : Option ℕ) → IfSome t (λ x. (slot_at s x).released ≡ false) → IfSome t (λ x. x < length s.slots)
+pub in_range_if : (s : State) (t : Option ℕ) → IfSome t (λ x. (slot_at s x).released ≡ false) → IfSome t (λ x. x < length s.slots)
 in_range_if s None h = tt
-in_range_if s (Some x) h = in_range s x h
+in_range_if s (Some x) h = unreleased_within s x h
 
 alive_of : (s : State) (code : ℕ) → IfSome (predecessor code) (λ x. (slot_at s x).released ≡ false) → Alive (λ x. (slot_at s x).released) code
 alive_of s zero h = tt
 alive_of s (suc x) h = rw (bits_suc x) at h
 
-some_set : (sets : List (List ℕ)) → 0 < length (last_set sets) → 0 < length sets
+pub some_set : (sets : List (List ℕ)) → 0 < length (last_set sets) → 0 < length sets
 some_set [] h = absurd (omega arith)
 some_set (xs ∷ sets) h = omega arith
 
@@ -66,18 +63,18 @@ story w marks blacks finds = record { state = view w; marks = marks; blacks = bl
 abbrev pub learnt : Phase → Work → (word : ℕ) → Work
 learnt p w word = record { machine = advanced w.machine; counts = learnt_at p w.counts (target_of word) }
 
-view_learnt : (w : Work) (p : Phase) (marks blacks finds : List Seen) → w.machine.phase ≡ p → is_due_at p w.machine.done w.counts ≡ true → IsSome (next_of w.machine) → (word : ℕ) → LeadsToUnreleased w.counts word → view (learnt p w word) ≡ (told_at p (story w marks blacks finds) (code_of word)).state
+view_learnt : (w : Work) (p : Phase) (marks blacks finds : List Seen) → w.machine.phase ≡ p → is_due_at p w.machine.done w.counts ≡ true → IsSome (next_of w.machine) → (word : ℕ) → LeadsToUnreleased w.counts word → view (learnt p w word) ≡ (told_at p (story w marks blacks finds) (target_bits word)).state
 unfolding next_of
 view_learnt w Idle marks blacks finds e d b word a = absurd (false≢true (rw e at b))
 view_learnt w Marking marks blacks finds e d b word a =
     view_advanced w.machine (learnt_at Marking w.counts (target_of word)) Marking e
-    ∙ ap (λ (v : Deletion). plain.advance Marking v) (view_marked_by w.machine w.counts (code_of word) (in_range_if w.counts (target_of word) a))
+    ∙ ap (λ (v : Deletion). plain.advance Marking v) (view_marked_by w.machine w.counts (target_bits word) (in_range_if w.counts (target_of word) a))
 view_learnt w Scanning marks blacks finds e d b word a =
     view_advanced w.machine (learnt_at Scanning w.counts (target_of word)) Scanning e
-    ∙ ap (λ (v : Deletion). plain.advance Scanning v) (view_scanned_by w.machine w.counts (code_of word) (in_range_if w.counts (target_of word) a))
+    ∙ ap (λ (v : Deletion). plain.advance Scanning v) (view_scanned_by w.machine w.counts (target_bits word) (in_range_if w.counts (target_of word) a))
 view_learnt w Collecting marks blacks finds e d b word a =
     view_advanced w.machine (learnt_at Collecting w.counts (target_of word)) Collecting e
-    ∙ ap (λ (v : Deletion). plain.advance Collecting v) (view_collected_by w.machine w.counts (code_of word) (in_range_if w.counts (target_of word) a) (some_set w.counts.sets (omega (arith, ltb_yes w.machine.done (length (last_set w.counts.sets)) d))))
+    ∙ ap (λ (v : Deletion). plain.advance Collecting v) (view_collected_by w.machine w.counts (target_bits word) (in_range_if w.counts (target_of word) a) (some_set w.counts.sets (omega (arith, ltb_yes w.machine.done (length (last_set w.counts.sets)) d))))
 
 advanced_phase : (m : Machine) → (advanced m).phase ≡ m.phase
 advanced_phase m = go (ltb (m.field + 1) m.fields)
@@ -94,16 +91,16 @@ rest_learnt w Collecting d word r = rest_collected (some_set w.counts.sets (omeg
 
 -- a word is learnt
 pub learnt_course : {fields : ℕ} {before : State} (w : Work) {marks blacks finds : List Seen} → Course fields before w marks blacks finds → (p : Phase) → w.machine.phase ≡ p → is_due_at p w.machine.done w.counts ≡ true → IsSome (next_of w.machine) → (word : ℕ) → LeadsToUnreleased w.counts word →
-    Course fields before (learnt p w word) (told_at p (story w marks blacks finds) (code_of word)).marks (told_at p (story w marks blacks finds) (code_of word)).blacks (told_at p (story w marks blacks finds) (code_of word)).finds
+    Course fields before (learnt p w word) (told_at p (story w marks blacks finds) (target_bits word)).marks (told_at p (story w marks blacks finds) (target_bits word)).blacks (told_at p (story w marks blacks finds) (target_bits word)).finds
 learnt_course {fields} {before} w {marks} {blacks} {finds} c p e d b word a =
     let v : Story = story w marks blacks finds in
-    let t : Story = told_at p v (code_of word) in
+    let t : Story = told_at p v (target_bits word) in
     let q : view (learnt p w word) ≡ t.state = view_learnt w p marks blacks finds e d b word a in
     let i : inv_at p (first_view fields before) (view w) marks blacks finds = subst (λ k. inv_at k (first_view fields before) (view w) marks blacks finds) e c.inv in
-    let k : Inv (first_view fields before) t.state t.marks t.blacks t.finds = told_kept (first_view fields before) p v i e (sym (due_seen w p e) ∙ d) (code_of word) (alive_of w.counts (code_of word) a) in
+    let k : Inv (first_view fields before) t.state t.marks t.blacks t.finds = told_kept (first_view fields before) p v i e (sym (due_seen w p e) ∙ d) (target_bits word) (alive_of w.counts (target_bits word) a) in
     record {
       inv = subst (λ s. Inv (first_view fields before) s t.marks t.blacks t.finds) (sym q) k;
-      same = same_trans c.same (subst (λ s. Same (view w) s) (sym q) (told_same p v (code_of word)));
+      same = same_trans c.same (subst (λ s. Same (view w) s) (sym q) (told_same p v (target_bits word)));
       rest = subst (λ k. Rest before k (learnt p w word).counts) (sym e ∙ sym (advanced_phase w.machine)) (rest_learnt w p d word (subst (λ k. Rest before k w.counts) e c.rest));
     }
 
@@ -131,14 +128,14 @@ busy_at m Marking e n = rw e refl
 busy_at m Scanning e n = rw e refl
 busy_at m Collecting e n = rw e refl
 
-load_seen : (w : Work) (p : Phase) (word : ℕ) → w.machine.phase ≡ p → w.machine.slot ≡ get_or (list_of w.machine.phase w.counts) w.machine.done 0 → seen p (view w) (code_of word) ≡ seen_of (load_of w.machine word)
+load_seen : (w : Work) (p : Phase) (word : ℕ) → w.machine.phase ≡ p → w.machine.slot ≡ get_or (list_of w.machine.phase w.counts) w.machine.done 0 → seen p (view w) (target_bits word) ≡ seen_of (load_of w.machine word)
 load_seen w p word e n =
     let q : get_or (queue_at p (view w)) (view w).at 0 ≡ w.machine.slot = sym (n ∙ ap (λ k. get_or (list_of k w.counts) w.machine.done 0) e ∙ node_seen w p e) in
-    λ i. record { node = q i; field = w.machine.field; word = code_of word }
+    λ i. record { node = q i; field = w.machine.field; word = target_bits word }
 
 module _ {fields : ℕ} {before : State} (r : Run) (t : Told fields before r) (word : ℕ) (a : LeadsToUnreleased r.work.counts word) where
   after : (p : Phase) → r.work.machine.phase ≡ p → (p ≡ Idle → ⊥) →
-      Course fields before (pointed (settled (learnt p r.work word))) (told_at p (story r.work (map seen_of r.marking) (map seen_of r.blackening) (map seen_of r.collecting)) (code_of word)).marks (told_at p (story r.work (map seen_of r.marking) (map seen_of r.blackening) (map seen_of r.collecting)) (code_of word)).blacks (told_at p (story r.work (map seen_of r.marking) (map seen_of r.blackening) (map seen_of r.collecting)) (code_of word)).finds
+      Course fields before (pointed (settled (learnt p r.work word))) (told_at p (story r.work (map seen_of r.marking) (map seen_of r.blackening) (map seen_of r.collecting)) (target_bits word)).marks (told_at p (story r.work (map seen_of r.marking) (map seen_of r.blackening) (map seen_of r.collecting)) (target_bits word)).blacks (told_at p (story r.work (map seen_of r.marking) (map seen_of r.blackening) (map seen_of r.collecting)) (target_bits word)).finds
   after p e n = went_course (learnt p r.work word) (learnt_course r.work t.course p e (ap (λ k. is_due_at k r.work.machine.done r.work.counts) (sym e) ∙ t.due) (busy_at r.work.machine p e n) word a)
 
   due_after : (p : Phase) → r.work.machine.phase ≡ p → (p ≡ Idle → ⊥) → is_due (took_of r.work word) ≡ true
@@ -203,7 +200,7 @@ pub still_unreleased : (s before : State) (t : Option ℕ) → ((x : ℕ) → (s
 still_unreleased s before None h a = tt
 still_unreleased s before (Some x) h a = h x ∙ a
 
-pub told_all : {fields : ℕ} {before : State} (words : List ℕ) (r : Run) → Told fields before r → AllLeadToUnreleased before words → Told fields before (fold noted r words)
+told_all : {fields : ℕ} {before : State} (words : List ℕ) (r : Run) → Told fields before r → AllLeadToUnreleased before words → Told fields before (fold noted r words)
 told_all [] r t a = t
 told_all {fields} {before} (word ∷ words) r t a = told_all words (noted r word) (told_next r t word (still_unreleased r.work.counts before (target_of word) (released_same r.work t.course) a.0)) a.1
 

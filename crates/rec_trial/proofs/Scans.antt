@@ -2,8 +2,8 @@
 use Rattle.std.proofs.Common.{◌≡◌, ℕ, suc, ◌+◌, ◌<◌, ◌≤◌, true, false, List, [], ◌∷◌, length, get_or, refl, arith, ◌⊎◌, inl, inr}
 use Rattle.std.proofs.lemmas.Bool.Decides.{nat_tests}
 use Rattle.rec_counts.specs.Lists.{one}
+use Rattle.rec_counts.specs.Colour.{is_gray, is_white}
 use Rattle.rec_trial.proofs.Totals.{total_of_first, same, times}
-use Rattle.rec_trial.specs.Moves.{is_gray, is_white}
 use Rattle.rec_trial.proofs.Deletion.{Seen, Deletion, blacken_if, whiten, begin_collect}
 use Rattle.rec_trial.proofs.Holding.{Scanned, Marked, Collected, Placed, named, Hot, warm, along}
 use Rattle.rec_trial.proofs.Totals.{first_more, first_whole}

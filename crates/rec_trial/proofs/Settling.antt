@@ -4,9 +4,10 @@ use Rattle.std.proofs.lemmas.List.{length-append}
 use Rattle.rec_counts.specs.declared.colour.Colour.{Colour}
 use Rattle.rec_counts.specs.declared.colour.Colour.TheVariants.{Black, Purple, Gray, White, Orange}
 use Rattle.rec_counts.specs.Counts.{State, slot_at, without_root}
+use Rattle.rec_counts.specs.Colour.{is_white}
 use Rattle.rec_trial.specs.declared.phase.Phase.{Phase}
 use Rattle.rec_trial.specs.declared.phase.Phase.TheVariants.{Idle, Marking, Scanning, Collecting}
-use Rattle.rec_trial.specs.Moves.{is_white, dropped_if, has_rest, blackened_if}
+use Rattle.rec_trial.specs.Moves.{dropped_if, has_rest, blackened_if}
 use Rattle.rec_trial.specs.Trial.{Work, is_due_at, is_due, roots_moved, scan_moved, set_begun_if, collect_moved, moved_at, moves_left, settled_in, settled}
 use Rattle.rec_trial.proofs.Places.{ltb_yes}
 

@@ -10,20 +10,15 @@ use Rattle.rec_counts.specs.declared.colour.Colour.TheVariants.{Black, Purple, G
 use Rattle.rec_counts.specs.declared.slot.Slot.{Slot}
 use Rattle.rec_counts.specs.Counts.{State, slot_at, without_root}
 use Rattle.rec_counts.specs.Slot.{absent}
+use Rattle.rec_counts.specs.Colour.{is_gray, is_white}
+use Rattle.rec_counts.proofs.Keeping.{unreleased_within}
 use Rattle.rec_trial.specs.declared.phase.Phase.{Phase}
 use Rattle.rec_trial.specs.declared.phase.Phase.TheVariants.{Idle, Marking, Scanning, Collecting}
-use Rattle.rec_trial.specs.Moves.{is_gray, is_white, touched_if, touched, one_off, marked_by, dropped_if, dropped, scanned_by, has_rest, all_whitened, collected_by, with_new_set}
+use Rattle.rec_trial.specs.Moves.{touched_if, touched, one_off, marked_by, dropped_if, dropped, scanned_by, has_rest, all_whitened, collected_by, with_new_set}
 use Rattle.rec_trial.specs.Trial.{Machine, Work, begun_at, roots_moved, scan_moved, set_begun_if, collect_moved, advanced_if, advanced}
 use Rattle.rec_trial.proofs.Deletion.{Deletion, next_at, next_field}
 use Rattle.rec_trial.proofs.Deletion as plain
 use Rattle.rec_trial.proofs.Views.{at_of, earlier, view_of, view, view_touched, view_one_off, view_blackened, view_joined, view_whitened, view_rootless, concat_new, earlier_new}
-
--- a slot that is not released is in range
-pub in_range : (s : State) (x : ℕ) → (slot_at s x).released ≡ false → x < length s.slots
-in_range s x e = elim (cases_lt x (length s.slots)) [
-  | inl l ↦ l
-  | inr l ↦ absurd (false≢true (sym e ∙ ap (λ (v : Slot). v.released) (get_or_past s.slots x absent l)))
-]
 
 pub bits_suc : (x : ℕ) → predecessor (suc x) ≡ Some x
 bits_suc x = go (eqb (suc x) 0) refl
@@ -80,12 +75,6 @@ module _ (m : Machine) (s : State) where
 
 -- a root leaves
 module _ (w : Work) (e : w.machine.phase ≡ Marking) (x : ℕ) (xs : List ℕ) where
-  left : State
-  left = without_root (x ∷ xs) w.counts
-
-  marking : Machine
-  marking = record w.machine { phase = Marking }
-
   view_left : view_of (record w.machine { phase = Marking }) (without_root (x ∷ xs) w.counts) ≡ plain.drop_root (view w) x xs
   view_left =
       view_rootless (record w.machine { phase = Marking }) w.counts x xs
@@ -104,7 +93,7 @@ module _ (w : Work) (e : w.machine.phase ≡ Marking) (x : ℕ) (xs : List ℕ) 
       let t : State = without_root (x ∷ xs) w.counts in
       let out : (slot_at t x).released ≡ (slot_at w.counts x).released = ap (λ (v : Deletion). v.released x) view_left in
       let colour : (slot_at t x).colour ≡ (slot_at w.counts x).colour = ap (λ (v : Deletion). v.colour x) view_left in
-      view_dropped_if t (slot_at t x).released (slot_at t x).colour view_left (λ f. in_range t x f)
+      view_dropped_if t (slot_at t x).released (slot_at t x).colour view_left (λ f. unreleased_within t x f)
       ∙ (λ i. plain.root_if (out i) (colour i) (view w) x xs)
 
 pub view_roots : (w : Work) → w.machine.phase ≡ Marking → (rs : List ℕ) → w.counts.roots ≡ rs → view (roots_moved rs w) ≡ plain.one_root rs (view w)

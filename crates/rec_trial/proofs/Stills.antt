@@ -1,9 +1,9 @@
 -- A trial on words that do not change, as functions.
-use Rattle.std.proofs.Common.{◌≡◌, ℕ, zero, suc, ◌+◌, ◌-◌, ◌<◌, ◌≤◌, false, eqb, ltb, List, [], ◌∷◌, length, get_or, refl, sym, ap, ◌∙◌, arith, ◌⊎◌, inl, inr}
+use Rattle.std.proofs.Common.{◌≡◌, ℕ, zero, suc, ◌+◌, ◌-◌, ◌<◌, ◌≤◌, false, eqb, ltb, List, [], ◌∷◌, length, get_or, refl, sym, ap, ◌∙◌, arith, ◌⊎◌, inl, inr, cond}
 use Rattle.std.proofs.lemmas.Bool.Decides.{nat_tests}
 use Rattle.rec_counts.specs.Lists.{one}
-use Rattle.rec_trial.proofs.Totals.{total, total_of_first, total_below, guarded, same, times}
-use Rattle.rec_trial.specs.Moves.{is_white}
+use Rattle.rec_counts.specs.Colour.{is_white}
+use Rattle.rec_trial.proofs.Totals.{total, total_of_first, total_below, same, times}
 use Rattle.rec_trial.proofs.Deletion.{Seen, Deletion, Story}
 use Rattle.rec_trial.proofs.Holding.{Placed, named, loaded, edges, Finished, Same, Seed, Reached, Hot, Tells, FromRoot, Live, fields_naming, Exact}
 use Rattle.rec_trial.proofs.Holding as law
@@ -14,7 +14,7 @@ use Rattle.rec_trial.proofs.Done.{loads_of, all_of, no_white_left}
 pub within_of : (fields : ℕ) (xs : List ℕ) (at field : ℕ) (ls : List Seen) → Placed fields xs at field ls → (n g : ℕ) → 0 < loaded n g ls → g < fields
 within_of fields xs at field ls p n g h = fit (loads_of fields xs at field ls p n g) p.below
   where
-    fit : loaded n g ls ≡ guarded (ltb g fields) (total_of_first (same n) at xs) + guarded (eqb n (get_or xs at 0)) (one (ltb g field)) → field < fields → g < fields
+    fit : loaded n g ls ≡ cond (ltb g fields) (total_of_first (same n) at xs) 0 + cond (eqb n (get_or xs at 0)) (one (ltb g field)) 0 → field < fields → g < fields
     fit a b = grind (arith, nat_tests)
 
 pub record Edge (word : ℕ → ℕ → ℕ) (n x : ℕ) (ls : List Seen) : Type 0 where
@@ -22,25 +22,25 @@ pub record Edge (word : ℕ → ℕ → ℕ) (n x : ℕ) (ls : List Seen) : Type
   pub names : word n field ≡ suc x
   pub was_loaded : 0 < loaded n field ls
 
-pub edge_from : (word : ℕ → ℕ → ℕ) (n x : ℕ) (ls : List Seen) → Tells word ls → 0 < edges n x ls → Edge word n x ls
+edge_from : (word : ℕ → ℕ → ℕ) (n x : ℕ) (ls : List Seen) → Tells word ls → 0 < edges n x ls → Edge word n x ls
 edge_from word n x [] t h = absurd (omega arith)
 edge_from word n x (l ∷ ls) t h = go (split n x l (edges n x ls) h) (edge_from word n x ls t.1)
   where
-    split : (n x : ℕ) (l : Seen) (m : ℕ) → 0 < guarded (eqb n l.node) (same (suc x) l.word) + m → ((n ≡ l.node) × (suc x ≡ l.word)) ⊎ (0 < m)
+    split : (n x : ℕ) (l : Seen) (m : ℕ) → 0 < cond (eqb n l.node) (same (suc x) l.word) 0 + m → ((n ≡ l.node) × (suc x ≡ l.word)) ⊎ (0 < m)
     split n x l m h = grind (arith, nat_tests)
 
     go : ((n ≡ l.node) × (suc x ≡ l.word)) ⊎ (0 < edges n x ls) → (0 < edges n x ls → Edge word n x ls) → Edge word n x (l ∷ ls)
     go (inl q) r = record { field = l.field; names = let e : word n l.field ≡ word l.node l.field = ap (λ k. word k l.field) q.0 in e ∙ sym t.0 ∙ sym q.1; was_loaded = grind (arith, nat_tests, q.0) }
     go (inr k) r = let e : Edge word n x ls = r k in record { field = e.field; names = e.names; was_loaded = omega (arith, e.was_loaded) }
 
-pub named_from : (word : ℕ → ℕ → ℕ) (n g x : ℕ) (ls : List Seen) → Tells word ls → word n g ≡ suc x → loaded n g ls ≤ named x ls
+named_from : (word : ℕ → ℕ → ℕ) (n g x : ℕ) (ls : List Seen) → Tells word ls → word n g ≡ suc x → loaded n g ls ≤ named x ls
 named_from word n g x [] t q = omega arith
 named_from word n g x (l ∷ ls) t q = omega (arith, named_from word n g x ls t.1 q, here word n g x l t.0 q)
   where
-    here : (word : ℕ → ℕ → ℕ) (n g x : ℕ) (l : Seen) → l.word ≡ word l.node l.field → word n g ≡ suc x → guarded (eqb n l.node) (same g l.field) ≤ same (suc x) l.word
+    here : (word : ℕ → ℕ → ℕ) (n g x : ℕ) (l : Seen) → l.word ≡ word l.node l.field → word n g ≡ suc x → cond (eqb n l.node) (same g l.field) 0 ≤ same (suc x) l.word
     here word n g x l e q = grind (arith, nat_tests)
 
-pub named_sum : (word : ℕ → ℕ → ℕ) (x : ℕ) (ls : List Seen) → Tells word ls → named x ls ≡ total (λ l. same (suc x) (word l.node l.field)) ls
+named_sum : (word : ℕ → ℕ → ℕ) (x : ℕ) (ls : List Seen) → Tells word ls → named x ls ≡ total (λ l. same (suc x) (word l.node l.field)) ls
 named_sum word x [] t = refl
 named_sum word x (l ∷ ls) t = let e : same (suc x) l.word ≡ same (suc x) (word l.node l.field) = ap (same (suc x)) t.0 in omega (arith, e, named_sum word x ls t.1)
 

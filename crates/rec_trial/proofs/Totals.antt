@@ -2,7 +2,7 @@
 use Rattle.std.proofs.Common.{◌≡◌, ℕ, zero, suc, ◌+◌, ◌<◌, ◌≤◌, Bool, true, false, cond, eqb, List, [], ◌∷◌, ◌++◌, length, get_or, refl, arith}
 use Rattle.std.proofs.lemmas.Bool.Decides.{nat_tests}
 use Rattle.rec_counts.specs.Lists.{one, times as count_times}
-use Rattle.rec_counts.proofs.Times.{times-nil, times-cons}
+use Rattle.rec_counts.proofs.Times.{times-nil, times-cons, times_at}
 
 -- the sum of a weight over a list
 abbrev pub total : {A : Type 0} → (A → ℕ) → List A → ℕ
@@ -19,11 +19,6 @@ total_of_first f (suc k) (x ∷ xs) = f x + total_of_first f k xs
 abbrev pub total_below : (ℕ → ℕ) → ℕ → ℕ
 total_below f zero = 0
 total_below f (suc k) = total_below f k + f k
-
--- the number where it holds, else 0
-abbrev pub guarded : Bool → ℕ → ℕ
-guarded true n = n
-guarded false n = 0
 
 -- one where the two are equal
 abbrev pub same : ℕ → ℕ → ℕ
@@ -61,11 +56,6 @@ get_grown [] ys k h = absurd (omega arith)
 get_grown (x ∷ xs) ys zero h = refl
 get_grown (x ∷ xs) ys (suc k) h = get_grown xs ys k (omega arith)
 
-pub times_here : (xs : List ℕ) (k : ℕ) → k < length xs → 0 < times (get_or xs k 0) xs
-times_here [] k h = absurd (omega arith)
-times_here (x ∷ xs) zero h = grind (arith, nat_tests)
-times_here (x ∷ xs) (suc k) h = let r : 0 < times (get_or xs k 0) xs = times_here xs k (omega arith) in omega arith
-
 pub first_le : (f : ℕ → ℕ) (k : ℕ) (xs : List ℕ) → total_of_first f k xs ≤ total f xs
 first_le f zero xs = omega arith
 first_le f (suc k) [] = omega arith
@@ -75,3 +65,7 @@ first_le f (suc k) (x ∷ xs) = omega (arith, first_le f k xs)
 pub occurs : (x : ℕ) (xs : List ℕ) → count_times x xs ≡ times x xs
 occurs x [] = times-nil x
 occurs x (y ∷ ys) = omega (arith, times-cons x y ys, occurs x ys)
+
+-- what stands at a place stands in the list
+pub times_here : (xs : List ℕ) (k : ℕ) → k < length xs → 0 < times (get_or xs k 0) xs
+times_here xs k h = omega (arith, occurs (get_or xs k 0) xs, times_at xs k h)

@@ -1,8 +1,8 @@
 -- One word is learnt, as functions: what holds stays.
 use Rattle.std.proofs.Common.{◌≡◌, ℕ, zero, suc, ◌<◌, Bool, true, false, ltb, List, [], ◌∷◌, ◌++◌, length, get_or, refl, sym, subst, arith, length-append}
 use Rattle.std.proofs.lemmas.Bool.Decides.{nat_tests}
+use Rattle.rec_counts.specs.Colour.{is_gray, is_white}
 use Rattle.rec_trial.proofs.Totals.{changed, times}
-use Rattle.rec_trial.specs.Moves.{is_gray, is_white}
 use Rattle.rec_trial.proofs.Deletion.{Seen, Deletion, Story, blacken_if, join_if, touch_if, take_one, mark_word, scan_word, find_word, advance, seen, due_at, told_at}
 use Rattle.rec_trial.specs.declared.phase.Phase.{Phase}
 use Rattle.rec_trial.specs.declared.phase.Phase.TheVariants.{Idle, Marking, Scanning, Collecting}

@@ -10,10 +10,11 @@ use Rattle.rec_counts.specs.declared.slot.Slot.{Slot}
 use Rattle.rec_counts.specs.Counts.{State, slot_at, with_slot, without_root}
 use Rattle.rec_counts.specs.Groups.{last_set, earlier_sets, with_member}
 use Rattle.rec_counts.specs.Slot.{absent}
+use Rattle.rec_counts.specs.Colour.{is_gray}
 use Rattle.rec_counts.proofs.Keeping.{field_kept}
 use Rattle.rec_trial.specs.declared.phase.Phase.{Phase}
 use Rattle.rec_trial.specs.declared.phase.Phase.TheVariants.{Idle, Marking, Scanning, Collecting}
-use Rattle.rec_trial.specs.Moves.{is_gray, touched_if, one_off, blackened_if, whitened, all_whitened, joined_if}
+use Rattle.rec_trial.specs.Moves.{touched_if, one_off, blackened_if, whitened, all_whitened, joined_if}
 use Rattle.rec_trial.specs.Trial.{Machine, Work}
 use Rattle.rec_trial.proofs.Totals.{changed}
 use Rattle.rec_trial.proofs.Deletion.{Deletion}
@@ -62,7 +63,7 @@ same_functions h = λ i x. h x i
 
 -- what is seen of the slots after a write
 module _ {A : Type 0} (f : Slot → A) (s : State) (x : ℕ) (v : Slot) where
-  pub part_changed : x < length s.slots → (λ y. f (slot_at (with_slot s x v) y)) ≡ changed (λ y. f (slot_at s y)) x (f v)
+  part_changed : x < length s.slots → (λ y. f (slot_at (with_slot s x v) y)) ≡ changed (λ y. f (slot_at s y)) x (f v)
   part_changed l = same_functions (λ y. go y)
     where
       go : (y : ℕ) → f (get_or (set s.slots x v) y absent) ≡ cond (eqb y x) (f v) (f (get_or s.slots y absent))
@@ -71,7 +72,7 @@ module _ {A : Type 0} (f : Slot → A) (s : State) (x : ℕ) (v : Slot) where
         | inr q ↦ rw q.0 (ap f (get_or-set_other s.slots x y v absent q.1))
       ]
 
-  pub part_kept : f v ≡ f (slot_at s x) → ◌≡◌ {A = ℕ → A} (λ y. f (slot_at (with_slot s x v) y)) (λ y. f (slot_at s y))
+  part_kept : f v ≡ f (slot_at s x) → ◌≡◌ {A = ℕ → A} (λ y. f (slot_at (with_slot s x v) y)) (λ y. f (slot_at s y))
   part_kept e = same_functions (field_kept f s.slots x v e)
 
 module _ (m : Machine) (s : State) (x : ℕ) (l : x < length s.slots) where
@@ -115,7 +116,7 @@ concat_member (ys ∷ zs ∷ sets) x l =
     let e : length (ys ∷ zs ∷ sets) - 1 ≡ suc (length (zs ∷ sets) - 1) = omega arith in
     rw e (ap (λ us. ys ++ us) (concat_member (zs ∷ sets) x (omega arith)) ∙ sym (append_assoc ys (concat (zs ∷ sets)) (x ∷ [])))
 
-pub earlier_member : (sets : List (List ℕ)) (x : ℕ) → 0 < length sets → earlier_sets (with_member sets x) ≡ earlier_sets sets
+earlier_member : (sets : List (List ℕ)) (x : ℕ) → 0 < length sets → earlier_sets (with_member sets x) ≡ earlier_sets sets
 earlier_member [] x l = absurd (omega arith)
 earlier_member (ys ∷ []) x l = refl
 earlier_member (ys ∷ zs ∷ sets) x l =

@@ -9,10 +9,10 @@ use Rattle.rec_counts.specs.Counts.{State, slot_at}
 use Rattle.rec_counts.specs.Lists.{one}
 use Rattle.rec_counts.specs.Lists as in_counts
 use Rattle.rec_counts.specs.Slot.{absent}
+use Rattle.rec_counts.specs.Colour.{is_black, is_gray, is_white, is_orange}
 use Rattle.rec_trial.specs.declared.phase.Phase.{Phase}
 use Rattle.rec_trial.specs.declared.phase.Phase.TheVariants.{Idle, Marking, Scanning, Collecting}
 use Rattle.rec_trial.specs.Loaded.{Run, noted_at, noted, begun, run_of}
-use Rattle.rec_trial.specs.Moves.{is_black, is_gray, is_white, is_orange}
 use Rattle.rec_trial.specs.Rules.{IsReady, AllLeadToUnreleased}
 use Rattle.rec_trial.specs.Tried.{IsCareful, IsOver, TrialIsCareful, TrialIsWhole, TrialEnds, members}
 use Rattle.rec_trial.specs.Tried as tried

@@ -2,10 +2,11 @@
 use Rattle.std.proofs.Common.{◌≡◌, ℕ, zero, suc, ◌+◌, ◌<◌, ◌≤◌, Bool, true, false, eqb, ltb, cond, Some, List, [], ◌∷◌, length, map, refl, sym, ap, ◌∙◌, arith, zero-add}
 use Rattle.std.specs.List.{range_with_len}
 use Rattle.std.proofs.lemmas.Bool.Decides.{nat_tests}
-use Rattle.rec_word.specs.Word.{target_of}
+use Rattle.rec_word.specs.Word.{target_of, target_bits}
 use Rattle.rec_counts.specs.Counts.{State}
 use Rattle.rec_counts.specs.Lists.{one}
 use Rattle.rec_counts.specs.Lists as in_counts
+use Rattle.rec_counts.proofs.Keeping.{unreleased_within}
 use Rattle.rec_trial.specs.Loaded.{Load, Run, run_of}
 use Rattle.rec_trial.specs.Still.{references}
 use Rattle.rec_trial.specs.Tried.{IsCareful, IsOver}
@@ -13,13 +14,12 @@ use Rattle.rec_trial.specs.Witnessed.{word_at, TrialIsWitnessed}
 use Rattle.rec_trial.proofs.Deletion.{Seen}
 use Rattle.rec_trial.proofs.Holding.{named, loaded}
 use Rattle.rec_trial.proofs.Readings.{code_some, codes, loaded_read, naming_read, references_read, below_same, below_front}
-use Rattle.rec_trial.proofs.Runs.{code_of, seen_of}
-use Rattle.rec_trial.proofs.Steps.{in_range}
-use Rattle.rec_trial.proofs.Totals.{total, total_below, guarded, same}
+use Rattle.rec_trial.proofs.Runs.{seen_of}
+use Rattle.rec_trial.proofs.Totals.{total, total_below, same}
 use Rattle.rec_trial.proofs.Whole.{whole_careful, whole_over}
 
 -- sums over the numbers below one
-below_alike : (f h : ℕ → ℕ) (k : ℕ) → ((g : ℕ) → g < k → f g ≡ h g) → total_below f k ≡ total_below h k
+pub below_alike : (f h : ℕ → ℕ) (k : ℕ) → ((g : ℕ) → g < k → f g ≡ h g) → total_below f k ≡ total_below h k
 below_alike f h zero e = refl
 below_alike f h (suc k) e = omega (arith, e k (omega arith), below_alike f h k (λ g l. e g (omega arith)))
 
@@ -27,14 +27,14 @@ below_both : (f h : ℕ → ℕ) (k : ℕ) → total_below (λ n. f n + h n) k �
 below_both f h zero = refl
 below_both f h (suc k) = omega (arith, below_both f h k)
 
-below_here : (f : ℕ → ℕ) (x k : ℕ) → total_below (λ n. guarded (eqb n x) (f n)) k ≡ guarded (ltb x k) (f x)
+below_here : (f : ℕ → ℕ) (x k : ℕ) → total_below (λ n. cond (eqb n x) (f n) 0) k ≡ cond (ltb x k) (f x) 0
 below_here f x zero = grind (arith, nat_tests)
-below_here f x (suc k) = fit (total_below (λ n. guarded (eqb n x) (f n)) k) (below_here f x k)
+below_here f x (suc k) = fit (total_below (λ n. cond (eqb n x) (f n) 0) k) (below_here f x k)
   where
-    fit : (u : ℕ) → u ≡ guarded (ltb x k) (f x) → u + guarded (eqb k x) (f k) ≡ guarded (ltb x (suc k)) (f x)
+    fit : (u : ℕ) → u ≡ cond (ltb x k) (f x) 0 → u + cond (eqb k x) (f k) 0 ≡ cond (ltb x (suc k)) (f x) 0
     fit u e = grind (arith, nat_tests)
 
-total_range : (f : ℕ → ℕ) (a n : ℕ) → total f (range_with_len a n) ≡ total_below (λ k. f (a + k)) n
+pub total_range : (f : ℕ → ℕ) (a n : ℕ) → total f (range_with_len a n) ≡ total_below (λ k. f (a + k)) n
 total_range f a zero = refl
 total_range f a (suc n) =
     let e : f (a + 0) ≡ f a = ap f (omega arith) in
@@ -50,7 +50,7 @@ word_read : (loads : List Load) (n g : ℕ) → codes (word_at loads) n g ≡ wo
 word_read [] n g = refl
 word_read (l ∷ loads) n g = go (eqb n l.slot) (eqb g l.field) (word_read loads n g)
   where
-    go : (a b : Bool) → code_of (word_at loads n g) ≡ word_of (map seen_of loads) n g → code_of (cond (cond a b false) l.word (word_at loads n g)) ≡ cond a (cond b (code_of l.word) (word_of (map seen_of loads) n g)) (word_of (map seen_of loads) n g)
+    go : (a b : Bool) → target_bits (word_at loads n g) ≡ word_of (map seen_of loads) n g → target_bits (cond (cond a b false) l.word (word_at loads n g)) ≡ cond a (cond b (target_bits l.word) (word_of (map seen_of loads) n g)) (word_of (map seen_of loads) n g)
     go true true e = refl
     go true false e = e
     go false b e = e
@@ -60,7 +60,7 @@ no_word : (ls : List Seen) (n g : ℕ) → loaded n g ls ≡ 0 → word_of ls n 
 no_word [] n g h = refl
 no_word (l ∷ ls) n g h = fit (eqb n l.node) (eqb g l.field) h (no_word ls n g)
   where
-    fit : (a b : Bool) → guarded a (one b) + loaded n g ls ≡ 0 → (loaded n g ls ≡ 0 → word_of ls n g ≡ 0) → cond a (cond b l.word (word_of ls n g)) (word_of ls n g) ≡ 0
+    fit : (a b : Bool) → cond a (one b) 0 + loaded n g ls ≡ 0 → (loaded n g ls ≡ 0 → word_of ls n g ≡ 0) → cond a (cond b l.word (word_of ls n g)) (word_of ls n g) ≡ 0
     fit true true h k = absurd (omega arith)
     fit true false h k = k (omega arith)
     fit false b h k = k (omega arith)
@@ -78,19 +78,19 @@ leading_more : (slots fields x : ℕ) (l : Seen) (ls : List Seen) → l.node < s
 leading_more slots fields x l ls a b none =
     omega (
       arith,
-      below_alike (λ n. total_below (λ g. same (suc x) (word_of (l ∷ ls) n g)) fields) (λ n. total_below (λ g. same (suc x) (word_of ls n g)) fields + guarded (eqb n l.node) (same (suc x) l.word)) slots (λ n h. row n),
-      below_both (λ n. total_below (λ g. same (suc x) (word_of ls n g)) fields) (λ n. guarded (eqb n l.node) (same (suc x) l.word)) slots,
+      below_alike (λ n. total_below (λ g. same (suc x) (word_of (l ∷ ls) n g)) fields) (λ n. total_below (λ g. same (suc x) (word_of ls n g)) fields + cond (eqb n l.node) (same (suc x) l.word) 0) slots (λ n h. row n),
+      below_both (λ n. total_below (λ g. same (suc x) (word_of ls n g)) fields) (λ n. cond (eqb n l.node) (same (suc x) l.word) 0) slots,
       below_here (λ n. same (suc x) l.word) l.node slots,
       there l.node slots a,
     )
   where
-    there : (a b : ℕ) → a < b → guarded (ltb a b) (same (suc x) l.word) ≡ same (suc x) l.word
+    there : (a b : ℕ) → a < b → cond (ltb a b) (same (suc x) l.word) 0 ≡ same (suc x) l.word
     there a b h = grind (arith, nat_tests)
 
     is_same : (a b : ℕ) → eqb a b ≡ true → a ≡ b
     is_same a b e = grind (arith, nat_tests)
 
-    cell : (g : ℕ) (c : Bool) → eqb g l.field ≡ c → same (suc x) (cond c l.word (word_of ls l.node g)) ≡ same (suc x) (word_of ls l.node g) + guarded c (same (suc x) l.word)
+    cell : (g : ℕ) (c : Bool) → eqb g l.field ≡ c → same (suc x) (cond c l.word (word_of ls l.node g)) ≡ same (suc x) (word_of ls l.node g) + cond c (same (suc x) l.word) 0
     cell g true e =
         let w : word_of ls l.node g ≡ 0 = no_word ls l.node g (rw (is_same g l.field e) none) in
         rw w (null (same (suc x) l.word))
@@ -103,16 +103,16 @@ leading_more slots fields x l ls a b none =
     here =
         omega (
           arith,
-          below_alike (λ g. same (suc x) (cond (eqb g l.field) l.word (word_of ls l.node g))) (λ g. same (suc x) (word_of ls l.node g) + guarded (eqb g l.field) (same (suc x) l.word)) fields (λ g h. cell g (eqb g l.field) refl),
-          below_both (λ g. same (suc x) (word_of ls l.node g)) (λ g. guarded (eqb g l.field) (same (suc x) l.word)) fields,
+          below_alike (λ g. same (suc x) (cond (eqb g l.field) l.word (word_of ls l.node g))) (λ g. same (suc x) (word_of ls l.node g) + cond (eqb g l.field) (same (suc x) l.word) 0) fields (λ g h. cell g (eqb g l.field) refl),
+          below_both (λ g. same (suc x) (word_of ls l.node g)) (λ g. cond (eqb g l.field) (same (suc x) l.word) 0) fields,
           below_here (λ g. same (suc x) l.word) l.field fields,
           there l.field fields b,
         )
 
-    row : (n : ℕ) → total_below (λ g. same (suc x) (word_of (l ∷ ls) n g)) fields ≡ total_below (λ g. same (suc x) (word_of ls n g)) fields + guarded (eqb n l.node) (same (suc x) l.word)
+    row : (n : ℕ) → total_below (λ g. same (suc x) (word_of (l ∷ ls) n g)) fields ≡ total_below (λ g. same (suc x) (word_of ls n g)) fields + cond (eqb n l.node) (same (suc x) l.word) 0
     row n = go (eqb n l.node) refl
       where
-        go : (c : Bool) → eqb n l.node ≡ c → total_below (λ g. same (suc x) (cond c (cond (eqb g l.field) l.word (word_of ls n g)) (word_of ls n g))) fields ≡ total_below (λ g. same (suc x) (word_of ls n g)) fields + guarded c (same (suc x) l.word)
+        go : (c : Bool) → eqb n l.node ≡ c → total_below (λ g. same (suc x) (cond c (cond (eqb g l.field) l.word (word_of ls n g)) (word_of ls n g))) fields ≡ total_below (λ g. same (suc x) (word_of ls n g)) fields + cond c (same (suc x) l.word) 0
         go true e = rw (is_same n l.node e) here
         go false e = omega arith
 
@@ -131,7 +131,7 @@ named_leading slots fields x [] s = sym (none slots)
     none (suc k) = omega (arith, none k, cells fields)
 named_leading slots fields x (l ∷ ls) s = omega (arith, leading_more slots fields x l ls (here.0) (here.1) gone, named_leading slots fields x ls others)
   where
-    self : (a b m : ℕ) → guarded (eqb a a) (same b b) + m ≡ 1 + m
+    self : (a b m : ℕ) → cond (eqb a a) (same b b) 0 + m ≡ 1 + m
     self a b m = grind (arith, nat_tests)
 
     here : (l.node < slots) × (l.field < fields)
@@ -154,7 +154,7 @@ word_here (l ∷ ls) n g x e = go (eqb n l.node) (eqb g l.field) e (word_here ls
     self : (a : ℕ) → l.word ≡ a → same a l.word ≡ 1
     self a q = grind (arith, nat_tests)
 
-    go : (a b : Bool) → cond a (cond b l.word (word_of ls n g)) (word_of ls n g) ≡ suc x → (word_of ls n g ≡ suc x → (0 < loaded n g ls) × (0 < named x ls)) → (0 < guarded a (one b) + loaded n g ls) × (0 < same (suc x) l.word + named x ls)
+    go : (a b : Bool) → cond a (cond b l.word (word_of ls n g)) (word_of ls n g) ≡ suc x → (word_of ls n g ≡ suc x → (0 < loaded n g ls) × (0 < named x ls)) → (0 < cond a (one b) 0 + loaded n g ls) × (0 < same (suc x) l.word + named x ls)
     go true true q k = (omega arith, omega (arith, self (suc x) q))
     go true false q k = let r : (0 < loaded n g ls) × (0 < named x ls) = k q in (omega (arith, r.0), omega (arith, r.1))
     go false b q k = let r : (0 < loaded n g ls) × (0 < named x ls) = k q in (omega (arith, r.0), omega (arith, r.1))
@@ -180,7 +180,7 @@ whole_witnessed fields before words f k a h =
     let marked_at : (n g : ℕ) → 0 < loaded n g (map seen_of r.marking) → 0 < in_counts.times n o.0 = λ n g l. omega (arith, loaded_read n g r.marking, v.marking n g (field_in n g l), l) in
     let spread : Spread (length before.slots) fields (map seen_of r.marking) = record {
       once = λ n g. omega (arith, loaded_read n g r.marking, c.marking_once n g);
-      inside = λ n g l. (in_range before n (v.marked_unreleased n (marked_at n g l)), field_in n g l);
+      inside = λ n g l. (unreleased_within before n (v.marked_unreleased n (marked_at n g l)), field_in n g l);
     } in
     record {
       enough = λ x m. omega (arith, v.enough x m, naming_read x r.marking, named_leading (length before.slots) fields x (map seen_of r.marking) spread, leading_read r.marking (length before.slots) fields x);

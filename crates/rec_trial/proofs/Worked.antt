@@ -9,8 +9,8 @@ use Rattle.rec_counts.specs.declared.slot.Due.TheVariants.{Nothing, Zero, Root}
 use Rattle.rec_counts.specs.Counts.{State, slot_at, with_slot, sent, decremented}
 use Rattle.rec_counts.specs.Lists.{times}
 use Rattle.rec_counts.specs.Slot.{absent, lessened, lessened_if, due_of}
+use Rattle.rec_counts.specs.Colour.{is_gray, is_white}
 use Rattle.rec_counts.proofs.Times.{times-nil}
-use Rattle.rec_trial.specs.Moves.{is_gray, is_white}
 use Rattle.rec_trial.specs.Rules.{IsReady}
 
 -- what every slot has, every slot has after one that has it is written

@@ -4,9 +4,9 @@ use Rattle.std.specs.List.{concat, filter}
 use Rattle.rec_word.specs.Word.{target_of}
 use Rattle.rec_counts.specs.Counts.{State, slot_at}
 use Rattle.rec_counts.specs.Lists.{one, times}
+use Rattle.rec_counts.specs.Colour.{is_black, is_gray, is_white, is_orange}
 use Rattle.rec_trial.specs.declared.phase.Phase.{Phase}
 use Rattle.rec_trial.specs.declared.phase.Phase.TheVariants.{Idle, Marking, Scanning, Collecting}
-use Rattle.rec_trial.specs.Moves.{is_black, is_gray, is_white, is_orange}
 
 -- there is no set, nothing is marked, no slot is Gray or White, and no released root is in the free list
 pub record IsReady (s : State) : Type 0 where

@@ -7,9 +7,10 @@ use Rattle.rec_word.specs.declared.op.Op.{Op}
 use Rattle.rec_word.specs.declared.op.Op.TheVariants.{LoadChild}
 use Rattle.rec_counts.specs.Counts.{State, slot_at, without_root}
 use Rattle.rec_counts.specs.Groups.{last_set}
+use Rattle.rec_counts.specs.Colour.{is_white}
 use Rattle.rec_trial.specs.declared.phase.Phase.{Phase}
 use Rattle.rec_trial.specs.declared.phase.Phase.TheVariants.{Idle, Marking, Scanning, Collecting}
-use Rattle.rec_trial.specs.Moves.{is_white, marked_by, dropped, blackened_if, scanned_by, has_rest, all_whitened, joined_if, collected_by, with_new_set, cleared}
+use Rattle.rec_trial.specs.Moves.{marked_by, dropped, blackened_if, scanned_by, has_rest, all_whitened, joined_if, collected_by, with_new_set, cleared}
 
 -- how many fields a slot has; how many slots of the marked list scanning, or collecting, has looked at; how many slots of
 -- the list at work have had all their fields loaded; the slot and the field that are loaded next

@@ -4,8 +4,8 @@ use Rattle.std.specs.List.{concat}
 use Rattle.rec_word.specs.Word.{target_of, is_slot}
 use Rattle.rec_counts.specs.Counts.{State, slot_at}
 use Rattle.rec_counts.specs.Lists.{one, times}
+use Rattle.rec_counts.specs.Colour.{is_black, is_gray, is_white, is_orange}
 use Rattle.rec_trial.specs.Loaded.{Load, Run, run_of}
-use Rattle.rec_trial.specs.Moves.{is_black, is_gray, is_white, is_orange}
 use Rattle.rec_trial.specs.Rules.{IsReady, AllLeadToUnreleased, released_among}
 use Rattle.rec_trial.specs.Trial.{NamesPlace, next_of}
 

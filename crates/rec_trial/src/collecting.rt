@@ -2,7 +2,8 @@
 ghost use Rattle.std.specs.Prelude.{◌≡◌, ◌<◌, true, false, length, IfSome};
 ghost use Rattle.rec_counts.specs.Counts.{slot_at};
 ghost use Rattle.rec_counts.specs.Groups.{last_set};
-ghost use Rattle.rec_trial.specs.Moves.{collected_by, is_white, joined_if, with_new_set};
+ghost use Rattle.rec_counts.specs.Colour.{is_white};
+ghost use Rattle.rec_trial.specs.Moves.{collected_by, joined_if, with_new_set};
 ghost use Rattle.rec_trial.specs.Rules.{CanCollect};
 
 use rec_counts::{Colour, Counts};

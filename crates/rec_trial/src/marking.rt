@@ -2,7 +2,8 @@
 ghost use Rattle.std.specs.Prelude.{◌≡◌, ◌<◌, true, false, length, IfSome};
 ghost use Rattle.rec_counts.specs.Counts.{slot_at};
 ghost use Rattle.rec_counts.specs.Lists.{times};
-ghost use Rattle.rec_trial.specs.Moves.{dropped, is_gray, marked_by, touched};
+ghost use Rattle.rec_counts.specs.Colour.{is_gray};
+ghost use Rattle.rec_trial.specs.Moves.{dropped, marked_by, touched};
 ghost use Rattle.rec_trial.specs.Rules.{CanMark};
 
 use rec_counts::{Colour, Counts};

@@ -1,1 +1,2 @@
-pub mod OnePlace
+pub mod FieldPlaces
+pub mod Packing

@@ -15,9 +15,13 @@ packed target stamp = low_bits target + stamp.epoch * 2 ^ 16 + stamp.writer * 2 
 abbrev pub predecessor : ℕ → Option ℕ
 predecessor n = if n == 0 then None else Some (n - 1)
 
+-- the bits of a field word that say where it leads
+abbrev pub target_bits : (word : ℕ) → ℕ
+target_bits word = word % 2 ^ 16
+
 -- where a field word leads
 abbrev pub target_of : ℕ → Option ℕ
-target_of word = predecessor (word % 2 ^ 16)
+target_of word = predecessor (target_bits word)
 
 -- it is this slot, and not null
 abbrev pub is_slot : ℕ → Option ℕ → Bool

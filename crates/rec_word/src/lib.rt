@@ -22,4 +22,4 @@ pub use mailbox::{Mailbox, crossing};
 pub use op::Op;
 pub use places::place;
 pub use stamps::Stamp;
-pub use word::{pack, stamp, target};
+pub use word::{LAST_EPOCH, pack, stamp, target};

@@ -7,6 +7,9 @@ const TARGET_BITS: u64 = 1 << 16;
 
 const EPOCH_UNIT: u64 = 1 << 16;
 
+/// The last epoch that a word can hold.
+pub const LAST_EPOCH: u32 = 16_777_215;
+
 const EPOCHS: u64 = 1 << 24;
 
 const WRITER_UNIT: u64 = 1 << 40;

@@ -28,11 +28,11 @@ use Rattle.rec_world.proofs.OneStep.{made_step_is}
 use Rattle.rec_world.proofs.Skipping.{GoesOn, goes_on, path_both, path_waits}
 
 -- the mutator that began
-pub began : (w : Core) (t : ℕ) (work : Work) → IsKept w → IsMutator w.config t → mutator (begun w t work) t ≡ begun_of (mutator w t) work
+began : (w : Core) (t : ℕ) (work : Work) → IsKept w → IsMutator w.config t → mutator (begun w t work) t ≡ begun_of (mutator w t) work
 began w t work kept is = mutator_left w t (begun_of (mutator w t) work) kept is
 
 -- it is busy, with this work
-pub began_busy : (w : Core) (t : ℕ) (work : Work) → IsKept w → IsMutator w.config t → is_busy (mutator (begun w t work) t) ≡ true
+began_busy : (w : Core) (t : ℕ) (work : Work) → IsKept w → IsMutator w.config t → is_busy (mutator (begun w t work) t) ≡ true
 unfolding begun_of
 began_busy w t work kept is = ap is_busy (began w t work kept is)
 
@@ -68,7 +68,7 @@ began_read inside t i work p q whole may at read begins =
     begins ∙ ap (λ x. begun_of x work) (mutator_read (core inside) t i p whole.world.shaped may.was.is at read) ∙ sym may.began
 
 -- the machine that began, as it is read again
-pub began_again : (inside : Inside) (t i : ℕ) (work : Work) (q : Private) → MayBegin inside t work → i ≡ t → q ≡ mutator (begun (core inside) t work) t → q ≡ slice_index_or (begun (core inside) t work).mutators (i - 1) q
+began_again : (inside : Inside) (t i : ℕ) (work : Work) (q : Private) → MayBegin inside t work → i ≡ t → q ≡ mutator (begun (core inside) t work) t → q ≡ slice_index_or (begun (core inside) t work).mutators (i - 1) q
 began_again inside t i work q may at read =
     let b : Core = begun (core inside) t work in
     let many : length b.mutators ≡ (core inside).config.mutators = may.world.shaped.mutators in

@@ -16,6 +16,7 @@ use Rattle.rec_word.specs.declared.mailbox.Mailbox.TheVariants.{Spare}
 use Rattle.rec_model.specs.declared.command.Cmd.{Cmd}
 use Rattle.rec_model.specs.declared.command.Cmd.TheVariants as commands
 use Rattle.rec_log.specs.declared.contents.Contents.{Contents}
+use Rattle.rec_model.proofs.Opened.{map-replicate}
 use Rattle.rec_mutator.specs.Causes.{is_giving}
 use Rattle.rec_mutator.specs.Next.{next_of}
 use Rattle.rec_mutator.specs.Private.{Private, is_busy, IsValid, HasOperands as HasOwnOperands}
@@ -49,7 +50,7 @@ pub world_kept : (w : Core) → IsWorld w → IsKept w
 world_kept w world = end_kept w world.shaped.config world.run
 
 -- what such a heap keeps tells of its words and registers
-pub shaped_of : (w : Core) → IsKept w → IsShaped w
+shaped_of : (w : Core) → IsKept w → IsShaped w
 shaped_of w kept =
     record {
       config = kept.config;
@@ -113,7 +114,7 @@ home_again boxes i x some home j there =
     ]
 
 -- there is a mailbox for each mutator
-pub boxes_many : (w : Core) (t : ℕ) (boxes : List (Option Contents)) → IsKept w → IsMutator w.config t → w.boxes ≡ map held boxes → t - 1 < length boxes
+boxes_many : (w : Core) (t : ℕ) (boxes : List (Option Contents)) → IsKept w → IsMutator w.config t → w.boxes ≡ map held boxes → t - 1 < length boxes
 boxes_many w t boxes kept is same =
     let many : length boxes ≡ w.config.mutators = sym (ap (λ (bs : List Contents). length bs) same ∙ rw length-map refl) ∙ kept.mutators.mailboxes in
     omega (arith, is.0, is.1)
@@ -186,11 +187,6 @@ stepped_is w t i boxes op found births p q mailbox left taken new cells shaped i
     ∙ ap (λ y. make t (with_cell (cells_of w) (next_of m) (written (next_of m) (found_by w t))) y (map held (slice_set boxes (i - 1) left)) births) its_new
     ∙ ap (λ b. make t (with_cell (cells_of w) (next_of m) (written (next_of m) (found_by w t))) (step_of m (found_by w t) (box w t)) b births) boxed
     ∙ ap (λ k. make t (with_cell (cells_of w) (next_of m) (written (next_of m) (found_by w t))) (step_of m (found_by w t) (box w t)) (slice_set w.boxes (t - 1) (left_of (took_of m (found_by w t)) (box w t))) k) its_births
-
--- one value, many times
-map-replicate : {X Y : Type 0} (f : X → Y) (n : ℕ) (x : X) → map f (replicate n x) ≡ replicate n (f x)
-map-replicate f zero x = refl
-map-replicate f (suc n) x = ap (λ ys. f x ∷ ys) (map-replicate f n x)
 
 -- the opened heap is a world
 pub opened_world : (config : Config) → IsConfig config → IsWorld (opened config)

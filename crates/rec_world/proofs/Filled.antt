@@ -43,7 +43,7 @@ pub record IsFilled (w : Sight) (next : ℕ) (list : List ℕ) : Type 0 where
   pub reached : All (Reaches w) list
 
 -- at first the roots are met
-pub filled_first : (w : Sight) (list : List ℕ) → list ≡ firsts (roots w.registers) → IsFilled w 0 list
+filled_first : (w : Sight) (list : List ℕ) → list ≡ firsts (roots w.registers) → IsFilled w 0 list
 filled_first w list e = record {
   within = omega arith;
   order = e ∙ ap firsts (sym (append-nil (roots w.registers)));
@@ -51,7 +51,7 @@ filled_first w list e = record {
 }
 
 -- then the fields of the next slot
-pub filled_next : (w : Sight) (next slot : ℕ) (list more : List ℕ) → IsFilled w next list → next < length list → slot ≡ get_or list next slot → more ≡ joined list (targets_of w slot) → IsFilled w (next + 1) more
+filled_next : (w : Sight) (next slot : ℕ) (list more : List ℕ) → IsFilled w next list → next < length list → slot ≡ get_or list next slot → more ≡ joined list (targets_of w slot) → IsFilled w (next + 1) more
 filled_next w next slot list more filled in_list at_next joins =
     let fields : ℕ → List ℕ = targets_of w in
     let front : List ℕ = flat_map fields (take next list) in

@@ -1,7 +1,7 @@
 -- The index of the free slots goes with the headers.
-use Rattle.std.proofs.Common.{◌≡◌, ◌≢◌, inl, inr, ℕ, ◌<◌, ◌==◌, if◌then◌else◌, Bool, List, length, get_or, arith, sym, ap, ◌∙◌}
+use Rattle.std.proofs.Common.{◌≡◌, ◌≢◌, inl, inr, ℕ, ◌<◌, ◌≤◌, ◌==◌, if◌then◌else◌, Bool, List, length, get_or, set, arith, sym, ap, ◌∙◌}
 use Rattle.std.proofs.lemmas.Bool.{cases_eq, cases_lt, eq-eqb, ne_eqb}
-use Rattle.std.proofs.lemmas.List.{get_or_default, get_or_past}
+use Rattle.std.proofs.lemmas.List.{get_or_default, get_or_past, get_or-set_same, get_or-set_other}
 use Rattle.rec_index.specs.Sets.{bit}
 use Rattle.rec_world.specs.Indexed.{Finds}
 
@@ -10,10 +10,10 @@ abbrev zero_is : ℕ → ℕ
 zero_is n = if n == 0 then 1 else 0
 
 -- what is chosen by a test of a number that is 0, and of one that isn't
-zero_chosen : (n : ℕ) → n ≡ 0 → zero_is n ≡ 1
+pub zero_chosen : (n : ℕ) → n ≡ 0 → zero_is n ≡ 1
 zero_chosen n is = ap (λ (b : Bool). let k : ℕ = if b then 1 else 0 in k) (eq-eqb n 0 is)
 
-some_chosen : (n : ℕ) → n ≢ 0 → zero_is n ≡ 0
+pub some_chosen : (n : ℕ) → n ≢ 0 → zero_is n ≡ 0
 some_chosen n isnt = ap (λ (b : Bool). let k : ℕ = if b then 1 else 0 in k) (ne_eqb n 0 isnt)
 
 -- what was chosen where the number isn't 0, or is
@@ -37,3 +37,20 @@ module _ (headers index : List ℕ) (finds : Finds headers index) where
     | inl there ↦ there
     | inr past ↦ absurd (omega (arith, get_or_past headers s 1 past, chosen_some (get_or headers s 1) (sym (finds s) ∙ some)))
   ]
+
+  -- a header was replaced, and its slot is a member now where the new one is 0
+  pub finds_replaced : (after : List ℕ) (slot word member : ℕ) → slot < length headers → zero_is word ≡ member → ((s : ℕ) → bit after s ≡ (if s == slot then member else bit index s))
+      → Finds (set headers slot word) after
+  finds_replaced after slot word member there is now s = elim (cases_eq s slot) [
+    | inl same ↦
+        now s ∙ ap (λ (b : Bool). if b then member else bit index s) (eq-eqb s slot same) ∙ sym is
+        ∙ ap zero_is (sym (ap (λ k. get_or (set headers slot word) k 1) same ∙ get_or-set_same headers slot word 1 there))
+    | inr other ↦
+        now s ∙ ap (λ (b : Bool). if b then member else bit index s) (ne_eqb s slot other) ∙ finds s
+        ∙ ap zero_is (sym (get_or-set_other headers slot s word 1 other))
+  ]
+
+-- the index lists just the free slots below this one
+pub record ListsUpTo (headers index : List ℕ) (slot : ℕ) : Type 0 where
+  pub listed : (s : ℕ) → s < slot → bit index s ≡ zero_is (get_or headers s 1)
+  pub others : (s : ℕ) → slot ≤ s → bit index s ≡ 0

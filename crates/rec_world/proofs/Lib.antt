@@ -1,8 +1,10 @@
+pub mod Apart
 pub mod Beginnings
 pub mod Calls
 pub mod Commands
 pub mod Filled
 pub mod Frees
+pub mod Indexed
 pub mod Mailboxes
 pub mod Names
 pub mod Numbers

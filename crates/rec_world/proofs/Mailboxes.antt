@@ -1,7 +1,8 @@
 -- A mailbox that is home holds a buffer, and where nobody holds it nothing is swapped.
-use Rattle.std.proofs.Common.{◌≡◌, ℕ, Option, None, Some, true, refl, sym, ap, subst, ◌∙◌}
-use Rattle.std.specs.Option.{IsSome, is_some}
+use Rattle.std.proofs.Common.{◌≡◌, ℕ, ◌-◌, ◌<◌, ◌≤◌, List, Option, None, Some, true, length, slice_index_or, slice_set, refl, sym, ap, subst, ◌∙◌}
+use Rattle.std.specs.Option.{IfSome, IsSome, is_some}
 use Rattle.std.proofs.lemmas.Bool.{false≢true}
+use Rattle.std.proofs.lemmas.List.{set-get_or}
 use Rattle.rec_word.specs.Op.{mailbox_of}
 use Rattle.rec_log.specs.declared.contents.Contents.{Contents}
 use Rattle.rec_mutator.specs.Next.{next_of, next_at}
@@ -16,7 +17,7 @@ use Rattle.rec_collector.specs.Took as collector_took
 use Rattle.rec_collector.specs.declared.phase.Phase.{Phase}
 use Rattle.rec_collector.specs.declared.phase.Phase.TheVariants.{Idle, Looking, Swapping, Returning, Releasing, Freeing, Trying, Preparing, Opening, Sweeping, Closing}
 use Rattle.rec_core.proofs.Crossings.{left_same}
-use Rattle.rec_world.specs.Mailbox.{held}
+use Rattle.rec_world.specs.Mailbox.{held, held_by, gathered_by, gathered_from}
 
 -- a mailbox that is home
 pub held_some : (x : Option Contents) → IsSome x → x ≡ Some (held x)
@@ -24,7 +25,7 @@ held_some (Some b) is = refl
 held_some None is = absurd (false≢true is)
 
 -- a phase in which no mailbox waits
-pub between_if : (phase : phases.Phase) → (IsSwapping phase → ⊥) → IsBetween phase
+between_if : (phase : phases.Phase) → (IsSwapping phase → ⊥) → IsBetween phase
 between_if at.Idle not = tt
 between_if (at.Begun work) not = tt
 between_if (at.Scanning reg label before slot) not = tt
@@ -108,3 +109,12 @@ swapping_took p word busy between = go p.phase refl between
     go at.Crossing is between swaps = ap (λ f. is_some (mailbox_of (next_at p f))) is
     go at.Swapping is between swaps = absurd between
     go _ is between swaps = absurd (unheld (took_of p word).phase (step_between (learnt_made p word p.log busy (subst TakesNone (sym is) tt))) swaps)
+
+-- where the collector holds none, every mailbox stays too
+pub ungathered : (c : collectors.Private) (boxes : List (Option Contents)) (x : Option ℕ) → (collector_given.IsSwapping c.phase → ⊥) → ((i : ℕ) → i < length boxes → IsSome (slice_index_or boxes i None)) → IfSome x (λ t. (1 ≤ t) × (t - 1 < length boxes))
+    → (c ≡ gathered_by c boxes x) × (boxes ≡ gathered_from c boxes x)
+ungathered c boxes None not home there = (refl, refl)
+ungathered c boxes (Some t) not home there = (
+  collector_stays c (held_by boxes t) not,
+  sym (set-get_or boxes (t - 1) None) ∙ ap (slice_set boxes (t - 1)) (gathered_stays c (slice_index_or boxes (t - 1) None) (home (t - 1) there.1) not),
+)

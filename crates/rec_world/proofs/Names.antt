@@ -11,46 +11,15 @@ use Rattle.rec_model.specs.Reach.{named, is_in}
 use Rattle.rec_model.specs.Heap.{roots}
 use Rattle.rec_model.specs.Sight.{Sight, targets_of, words_of, IsTaken, IsSound}
 use Rattle.rec_model.proofs.Members.{is_in-cons, is_in-cases}
+use Rattle.rec_model.proofs.Unfreed.{taken_within}
 use Rattle.rec_core.specs.Core.{Core, sight}
 use Rattle.rec_world.specs.Numbering.{NamesBelow, sight_of}
 use Rattle.rec_world.specs.World.{IsShaped}
-
--- what each of them may name, they all do
-named_all : (P : ℕ → Type 0) (xs : List (Option ℕ)) → All (λ x. IfSome x P) xs → (n : ℕ) → is_in n (named xs) ≡ true → P n
-named_all P [] all n h = absurd (false≢true h)
-named_all P (None ∷ xs) all n h = named_all P xs (All-tail (λ x. IfSome x P) None xs all) n h
-named_all P (Some m ∷ xs) all n h = elim (is_in-cons n m (named xs) h) [
-  | inl e ↦ subst P e (All-head (λ x. IfSome x P) (Some m) xs all)
-  | inr later ↦ named_all P xs (All-tail (λ x. IfSome x P) (Some m) xs all) n later
-]
-
--- what is named stands somewhere
-in_named : (n : ℕ) (xs : List (Option ℕ)) → is_in n (named xs) ≡ true → (r : ℕ) × (get_or xs r None ≡ Some n)
-in_named n [] h = absurd (false≢true h)
-in_named n (None ∷ xs) h = let (r, e) = in_named n xs h in (suc r, e)
-in_named n (Some m ∷ xs) h = elim (is_in-cons n m (named xs) h) [
-  | inl e ↦ (0, ap (λ k. Some k) e)
-  | inr later ↦ let (r, e) = in_named n xs later in (suc r, e)
-]
-
-in_roots : (n : ℕ) (registers : List (List (Option ℕ))) → is_in n (roots registers) ≡ true → (t : ℕ) × (r : ℕ) × (get_or (get_or registers t []) r None ≡ Some n)
-in_roots n [] h = absurd (false≢true h)
-in_roots n (xs ∷ registers) h = elim (is_in-cases n (named xs) (roots registers) h) [
-  | inl here ↦ let (r, e) = in_named n xs here in (0, r, e)
-  | inr later ↦ let (t, r, e) = in_roots n registers later in (suc t, r, e)
-]
 
 -- a free slot's fields name nothing
 nothing_named : (n fields : ℕ) → is_in n (named (map target_of (replicate fields 0))) ≡ false
 nothing_named n zero = refl
 nothing_named n (suc fields) = nothing_named n fields
-
--- a slot that holds an object is one of the slots
-taken_below : (w : Sight) (slot : ℕ) → IsTaken w slot → slot < length w.headers
-taken_below w slot taken = elim (cases_lt slot (length w.headers)) [
-  | inl lt ↦ lt
-  | inr ge ↦ absurd (let e : get_or w.headers slot 0 ≡ 0 = get_or_past w.headers slot 0 ge in omega arith)
-]
 
 -- past the last slot there are no words
 no_words : (w : Sight) (s : ℕ) → IsSound w → length w.headers ≤ s → words_of w s ≡ []
@@ -62,9 +31,9 @@ no_words w s sound ge =
 -- In a sound heap registers and fields name slots that there are.
 pub names_sound : (w : Sight) → IsSound w → NamesBelow w (length w.headers)
 names_sound w sound = record {
-  registers = λ slot h. taken_below w slot (sound.registers slot h);
+  registers = λ slot h. taken_within w slot (sound.registers slot h);
   fields = λ s slot h. elim (cases_lt 0 (get_or w.headers s 0)) [
-    | inl taken ↦ taken_below w slot (sound.fields s slot taken h)
+    | inl taken ↦ taken_within w slot (sound.fields s slot taken h)
     | inr free ↦ elim (cases_lt s (length w.headers)) [
       | inl lt ↦ absurd (both_ways (is_in slot (targets_of w s)) (rw (sound.free s lt (λ (taken : IsTaken w s). omega arith)) (nothing_named slot w.fields)) h)
       | inr ge ↦ absurd (false≢true (rw (no_words w s sound ge) at h))

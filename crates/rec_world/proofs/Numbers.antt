@@ -10,15 +10,15 @@ use Rattle.rec_model.proofs.Positions.{number_in-pushed, number_in-kept, not_in-
 use Rattle.rec_world.specs.Numbering.{number_of, HoldsNumbers}
 
 -- a listed slot has its number
-pub number_of-listed : (list : List ℕ) (slot : ℕ) → is_in slot list ≡ true → unwrap_or (number_of list slot) 0 ≡ number_in list slot
+number_of-listed : (list : List ℕ) (slot : ℕ) → is_in slot list ≡ true → unwrap_or (number_of list slot) 0 ≡ number_in list slot
 number_of-listed list slot h = rw h refl
 
 -- another has 0
-pub number_of-other : (list : List ℕ) (slot : ℕ) → is_in slot list ≡ false → unwrap_or (number_of list slot) 0 ≡ 0
+number_of-other : (list : List ℕ) (slot : ℕ) → is_in slot list ≡ false → unwrap_or (number_of list slot) 0 ≡ 0
 number_of-other list slot h = rw h refl
 
 -- a listed slot is one of the slots
-pub below : (list by_slot : List ℕ) (capacity : ℕ) → HoldsNumbers list by_slot capacity → (slot : ℕ) → is_in slot list ≡ true → slot < length by_slot
+below : (list by_slot : List ℕ) (capacity : ℕ) → HoldsNumbers list by_slot capacity → (slot : ℕ) → is_in slot list ≡ true → slot < length by_slot
 below list by_slot capacity holds slot h = elim (cases_lt slot (length by_slot)) [
   | inl lt ↦ lt
   | inr ge ↦ let none : get_or by_slot slot 0 ≡ 0 = get_or_past by_slot slot 0 ge in
@@ -30,32 +30,25 @@ pub few : (list by_slot : List ℕ) (capacity : ℕ) → HoldsNumbers list by_sl
 few list by_slot capacity holds = distinct_below list (length by_slot) holds.distinct (below list by_slot capacity holds)
 
 -- a slot with number 0 isn't listed
-pub unlisted : (list by_slot : List ℕ) (capacity slot : ℕ) → HoldsNumbers list by_slot capacity → get_or by_slot slot 0 ≡ 0 → is_in slot list ≡ false
+unlisted : (list by_slot : List ℕ) (capacity slot : ℕ) → HoldsNumbers list by_slot capacity → get_or by_slot slot 0 ≡ 0 → is_in slot list ≡ false
 unlisted list by_slot capacity slot holds zero = elim (cases_Bool (is_in slot list)) [
   | inr absent ↦ absent
   | inl there ↦ absurd (let e : get_or by_slot slot 0 ≡ number_in list slot = holds.numbers slot ∙ number_of-listed list slot there in omega arith)
 ]
 
--- a slot with another number is
-pub listed : (list by_slot : List ℕ) (capacity slot : ℕ) → HoldsNumbers list by_slot capacity → (get_or by_slot slot 0 ≡ 0 → ⊥) → is_in slot list ≡ true
-listed list by_slot capacity slot holds some = elim (cases_Bool (is_in slot list)) [
-  | inl there ↦ there
-  | inr absent ↦ absurd (some (holds.numbers slot ∙ number_of-other list slot absent))
-]
-
 -- the number of a slot that is pushed, and of the others
-pub number_of-pushed : (list : List ℕ) (slot : ℕ) → is_in slot list ≡ false → unwrap_or (number_of (list ++ slot ∷ []) slot) 0 ≡ length list + 1
+number_of-pushed : (list : List ℕ) (slot : ℕ) → is_in slot list ≡ false → unwrap_or (number_of (list ++ slot ∷ []) slot) 0 ≡ length list + 1
 number_of-pushed list slot new =
     number_of-listed (list ++ slot ∷ []) slot (is_in-right slot list (slot ∷ []) (is_in-head slot [])) ∙ number_in-pushed list slot new
 
-pub number_of-kept : (list : List ℕ) (slot other : ℕ) → (other ≡ slot → ⊥) → unwrap_or (number_of (list ++ slot ∷ []) other) 0 ≡ unwrap_or (number_of list other) 0
+number_of-kept : (list : List ℕ) (slot other : ℕ) → (other ≡ slot → ⊥) → unwrap_or (number_of (list ++ slot ∷ []) other) 0 ≡ unwrap_or (number_of list other) 0
 number_of-kept list slot other apart = elim (cases_Bool (is_in other list)) [
   | inl there ↦ number_of-listed (list ++ slot ∷ []) other (is_in-left other list (slot ∷ []) there) ∙ number_in-kept list slot other there ∙ sym (number_of-listed list other there)
   | inr absent ↦ number_of-other (list ++ slot ∷ []) other (not_in-pushed list slot other absent apart) ∙ sym (number_of-other list other absent)
 ]
 
 -- the next number for a slot that isn't listed
-pub holds_more : (list by_slot : List ℕ) (capacity slot : ℕ) → HoldsNumbers list by_slot capacity → slot < length by_slot → get_or by_slot slot 0 ≡ 0 → HoldsNumbers (list ++ slot ∷ []) (set by_slot slot (length list + 1)) capacity
+holds_more : (list by_slot : List ℕ) (capacity slot : ℕ) → HoldsNumbers list by_slot capacity → slot < length by_slot → get_or by_slot slot 0 ≡ 0 → HoldsNumbers (list ++ slot ∷ []) (set by_slot slot (length list + 1)) capacity
 holds_more list by_slot capacity slot holds in_range zero =
     let new : is_in slot list ≡ false = unlisted list by_slot capacity slot holds zero in
     record {

@@ -12,6 +12,8 @@ use Rattle.rec_mutator.specs.Took.{took_of, step_of, swapped_of, left_of, skippe
 use Rattle.rec_mutator.specs.declared.phase.Phase.{Phase}
 use Rattle.rec_mutator.specs.declared.phase.Phase.TheVariants.{Idle, Begun, Scanning, Scanned, Crossing, Swapping, Giving, Finished}
 use Rattle.rec_mutator.proofs.Skips.{skipped_next, skipped_none, skipped_further, skipped_alone, skipped_busy}
+use Rattle.rec_mutator.proofs.Refusals.{at_phase}
+use Rattle.rec_mutator.proofs.Polls.{busy_none}
 use Rattle.rec_core.specs.Cells.{cell}
 use Rattle.rec_core.specs.Config.{IsMutator}
 use Rattle.rec_core.specs.Core.{Core, cells_of, sight, mutator, with_mutator, box, nobody}
@@ -20,7 +22,6 @@ use Rattle.rec_core.specs.Moves.{Move, stepped, performed, found_by}
 use Rattle.rec_core.specs.Unfinished.{HasFound, Waits}
 use Rattle.rec_core.specs.Worked.{StepsTo}
 use Rattle.rec_core.specs.declared.config.Config.{Config}
-use Rattle.rec_core.proofs.Machines.{at_phase}
 use Rattle.rec_core.proofs.Runs.{move_stays}
 use Rattle.rec_core.proofs.Showing.{mutator_left}
 use Rattle.rec_core.proofs.Steps.{actor_of}
@@ -77,7 +78,7 @@ module _ (w : Core) (t : ℕ) (kept : IsKept w) (is : IsMutator w.config t) (reg
       )
 
   -- so many slots more
-  pub many_more : (n : ℕ) → at < w.config.slots → at + n ≤ w.config.slots → ((s : ℕ) → s < at + n → IsTaken (sight w) s) → StepsTo w t (skipping w t (at + n))
+  many_more : (n : ℕ) → at < w.config.slots → at + n ≤ w.config.slots → ((s : ℕ) → s < at + n → IsTaken (sight w) s) → StepsTo w t (skipping w t (at + n))
   many_more zero there few taken =
       let none : at + 0 ≡ at = omega arith in
       StepsTo.here (skipping w t (at + 0)) (
@@ -112,12 +113,12 @@ skip_path_at w t slot Giving kept is phase ahead few taken = stays w t slot (ap 
 skip_path_at w t slot (Finished work made) kept is phase ahead few taken = stays w t slot (ap (skipped_at (mutator w t) slot) phase)
 
 -- skips past taken slots are steps
-pub skip_path : (w : Core) (t slot : ℕ) → IsKept w → IsMutator w.config t → IsAhead (mutator w t).phase slot → slot ≤ w.config.slots
+skip_path : (w : Core) (t slot : ℕ) → IsKept w → IsMutator w.config t → IsAhead (mutator w t).phase slot → slot ≤ w.config.slots
     → ((s : ℕ) → s < slot → IsTaken (sight w) s) → StepsTo w t (skipping w t slot)
 skip_path w t slot kept is ahead few taken = skip_path_at w t slot (mutator w t).phase kept is refl ahead few taken
 
 -- a scan has passed taken slots alone, so a free slot is ahead of it, and so is the end
-pub free_ahead : (w : Core) (t slot : ℕ) → IsKept w → IsMutator w.config t → HasFound w (mutator w t).phase → slot ≤ w.config.slots
+free_ahead : (w : Core) (t slot : ℕ) → IsKept w → IsMutator w.config t → HasFound w (mutator w t).phase → slot ≤ w.config.slots
     → (slot < w.config.slots → slice_index_or w.headers slot 0 ≡ 0) → IsAhead (mutator w t).phase slot
 free_ahead w t slot kept is found few free = go (mutator w t).phase refl found
   where
@@ -165,17 +166,6 @@ path_counts w t v world is (StepsTo.further u _ path busy steps) =
       omega (arith, before.0, counted),
       ap (λ (x : Core). work_of (mutator x t)) steps ∙ work_stays u t (world_kept u there.0) there.1 busy ∙ before.1,
     )
-
--- a busy mutator has answered nothing
-busy_none : (phase : Phase) → is_busy_at phase ≡ true → answer_at phase ≡ None
-busy_none Idle busy = refl
-busy_none (Begun work) busy = refl
-busy_none (Scanning reg label before at) busy = refl
-busy_none (Scanned reg label before) busy = refl
-busy_none Crossing busy = refl
-busy_none Swapping busy = refl
-busy_none Giving busy = refl
-busy_none (Finished work made) busy = absurd (false≢true busy)
 
 -- steps after which the work goes on finished nothing
 pub path_waits : (before w : Core) (t : ℕ) (v : Core) → IsWorld w → IsMutator w.config t → Waits before w t → StepsTo w t v → is_busy (mutator v t) ≡ true → Waits before v t

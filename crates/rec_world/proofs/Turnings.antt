@@ -32,6 +32,8 @@ use Rattle.rec_collector.specs.declared.phase.Phase.{Phase}
 use Rattle.rec_collector.specs.declared.phase.Phase.TheVariants.{Idle, Looking, Swapping, Returning, Releasing, Freeing, Trying, Preparing, Opening, Sweeping, Closing}
 use Rattle.rec_collector.specs.declared.turn.Turn.{Turn}
 use Rattle.rec_collector.specs.declared.turn.Turn.TheVariants as turns
+use Rattle.rec_collector.proofs.Mailbox.{prepared_between, tried_between, followed_between, came_leaves}
+use Rattle.rec_collector.proofs.Landing.{under_way_most}
 use Rattle.rec_core.specs.Cells.{Cells, cell, with_cell}
 use Rattle.rec_core.specs.Core.{Core, cells_of, box, crossing_of}
 use Rattle.rec_core.specs.Kept.{IsKept}
@@ -39,7 +41,7 @@ use Rattle.rec_core.specs.Moves.{looked_at, left_by, collected, turned, turned_a
 use Rattle.rec_core.specs.declared.config.Config.{Config}
 use Rattle.rec_core.proofs.Trying.{loads_child}
 use Rattle.rec_core.proofs.Turning.{some_op}
-use Rattle.rec_core.proofs.Turns.{same_boxes}
+use Rattle.rec_core.proofs.Shapes.{same_boxes}
 use Rattle.rec_world.specs.Mailbox.{held, held_by, gathered_by, gathered_from}
 use Rattle.rec_world.specs.World.{TurnHasCause}
 use Rattle.rec_world.proofs.Calls.{box_read, home_again}
@@ -89,36 +91,6 @@ pub looks_at : (c : collectors.Private) (op : Op) → ◌≡◌ {A = Option Op} 
 unfolding next_of
 looks_at c op named = looks_at_phase c op c.phase named
 
--- what follows a word in the middle of a collection holds no mailbox
-prepared_between : (w : Parts) → IsBetween (prepared w).phase
-unfolding prepared
-prepared_between w = at w.prep.at
-  where
-    swept : (free : List ℕ) → IsBetween (sweep_phase free)
-    swept [] = tt
-    swept (x ∷ free) = tt
-
-    at : (x : Option loads.At) → IsBetween (prepared_at w x).phase
-    at (Some a) = tt
-    at None = swept w.counts.free
-
-tried_between : (w : Parts) → IsBetween (tried w).phase
-unfolding tried
-tried_between w = at (trial_next w.trial)
-  where
-    at : (x : Option Op) → IsBetween (tried_at w x).phase
-    at (Some op) = tt
-    at None = prepared_between (prep_started w)
-
-followed_between : (w : Parts) → IsBetween (followed w).phase
-unfolding followed
-followed_between w = at (tested (length w.counts.sets) w).release.at (tested (length w.counts.sets) w).freeing.at
-  where
-    at : (x : Option At) (m : Option Member) → IsBetween (tested_on (tested (length w.counts.sets) w) x m).phase
-    at x (Some m) = tt
-    at (Some a) None = tt
-    at None None = tried_between (trial_started (tested (length w.counts.sets) w))
-
 came_between : (c : collectors.Private) (n : Next) → IsBetween n.phase → IsBetween (came c n).phase
 came_between c n between = at n.phase between
   where
@@ -164,6 +136,14 @@ none_swaps c word between none = unheld (took_at c word c.phase).phase (took_bet
     unheld : (phase : Phase) → IsBetween phase → IsSwapping phase → ⊥
     unheld (Swapping t) between is = absurd between
     unheld _ between is = is
+
+-- a turn that holds a mailbox took it
+pub holding_took : (c : collectors.Private) (op : Op) (word : ℕ) → IsBetween c.phase → ◌≡◌ {A = Option Op} (next_of c) (Some op) → IsSwapping (took_of c word).phase → IsSome (mailbox_of op)
+holding_took c op word between named swaps = subst IsSome (sym (looks_at c op named)) (go c.phase refl)
+  where
+    go : (phase : Phase) → c.phase ≡ phase → IsSome (looks_for phase)
+    go (Looking t) is = refl
+    go _ is = absurd (none_swaps c word between (ap looks_for is) swaps)
 
 -- what the mailbox that was looked at holds after the turn, by phase
 gathers : (c : collectors.Private) (word : ℕ) (b : Contents) (phase : Phase) → c.phase ≡ phase → IsBetween phase → left_of (took_of c word) b ≡ left_by c word b phase
@@ -339,26 +319,13 @@ turn_cause w op taken (turns.Collected epoch freed) kept named learns cause none
     (cause.0 ∙ kept.collector.epoch, cause.1, ap (λ (c : collectors.Private). c.phase) left ∙ cause.2, ap (λ (c : collectors.Private). c.collections) left ∙ cause.3, ap (λ (c : collectors.Private). c.freed) left ∙ cause.4)
 turn_cause w op taken turns.EpochsSpent kept named learns cause none = absurd (none refl)
 
-one_at_most : (phase : Phase) → under_way phase ≤ 1
-one_at_most Idle = omega arith
-one_at_most (Looking t) = omega arith
-one_at_most (Swapping t) = omega arith
-one_at_most (Returning t) = omega arith
-one_at_most Releasing = omega arith
-one_at_most Freeing = omega arith
-one_at_most Trying = omega arith
-one_at_most Preparing = omega arith
-one_at_most Opening = omega arith
-one_at_most (Sweeping n) = omega arith
-one_at_most (Closing n) = omega arith
-
 -- one epoch more is requested at most
 pub turn_requests : (w v : Core) (turn : Turn) → IsKept w → IsKept v → v.config ≡ w.config → TurnHasCause w v turn → v.epoch ≤ w.epoch + 1
 turn_requests w v turns.Moved kept later same cause =
     let before : w.config.first_epoch + w.collector.collections + under_way w.collector.phase ≡ w.epoch = kept.collector.begun in
     let after : v.config.first_epoch + v.collector.collections + under_way v.collector.phase ≡ v.epoch = later.collector.begun in
     let first : v.config.first_epoch ≡ w.config.first_epoch = ap (λ (c : Config). c.first_epoch) same in
-    let one : under_way v.collector.phase ≤ 1 = one_at_most v.collector.phase in
+    let one : under_way v.collector.phase ≤ 1 = under_way_most v.collector.phase in
     omega (arith, cause.1)
 turn_requests w v (turns.Waiting t) kept later same cause = subst (λ n. n ≤ w.epoch + 1) (sym (ap (λ (x : Core). x.epoch) cause.2)) (omega arith)
 turn_requests w v (turns.Collected epoch freed) kept later same cause =

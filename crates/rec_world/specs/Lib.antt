@@ -5,6 +5,7 @@ pub mod Mailbox
 pub mod Numbering
 pub mod OpenError
 pub mod Order
+pub mod Parts
 pub mod Stepping
 pub mod World
 pub use Rattle.rec_core.specs.Asked
@@ -22,6 +23,7 @@ pub use Rattle.rec_core.specs.Pending
 pub use Rattle.rec_core.specs.Quiet
 pub use Rattle.rec_core.specs.Reach
 pub use Rattle.rec_core.specs.Resting
+pub use Rattle.rec_core.specs.Row
 pub use Rattle.rec_core.specs.Scans
 pub use Rattle.rec_core.specs.Settled
 pub use Rattle.rec_core.specs.Settling

@@ -24,13 +24,16 @@ mod memory;
 mod numbering;
 mod open_error;
 mod order;
+mod parts;
 mod world;
 
 pub use journal::Journal;
 pub use laws::worlds_end_runs;
+pub use mailbox::{swap_gathered, swap_own};
 pub use numbering::Numbering;
 pub use open_error::OpenError;
 pub use order::Order;
+pub use parts::Parts;
 pub use rec_collector::{Sets, Turn};
 pub use rec_core::{
     Config, Part, answers_are_explained, conditions_are_met, failed_allocations_probed_every_slot,

@@ -3,7 +3,7 @@
 ghost use Rattle.std.specs.Prelude.{◌≡◌, ℕ, ◌-◌, ◌<◌, ◌≤◌, None, Some, All, length, replicate, slice_index_or, IsSome, IfOk, IfSome};
 ghost use Rattle.rec_word.specs.Op.{mailbox_of};
 ghost use Rattle.rec_mutator.specs.Took.{spare, swapped_of, left_of, IsSwapping};
-ghost use Rattle.rec_collector.specs.Given.{IsSized};
+ghost use Rattle.rec_collector.specs.Given.{IsSized, IsSwapping as IsHeld};
 ghost use Rattle.rec_collector.specs.Took.{left_of as left_for, swapped_of as gathered_of};
 ghost use Rattle.rec_core.specs.Config.{IsConfig};
 ghost use Rattle.rec_core.specs.Core.{spare_of};
@@ -74,9 +74,10 @@ pub fn swap_if_taken(op: Op, machine: &mut Machine, mailbox: &mut Option<Buffer>
     }
 }
 
-/// Where the operation takes a mailbox and the collector holds it, swaps the retired buffer in it for a spare.
+/// Where the collector holds the mailbox that the operation took, swaps the retired buffer in it for a spare.
 #[inline(always)]
 pub fn gather(op: Op, collector: &mut Collector, boxes: &mut Vec<Option<Buffer>>)
+    requires taken { IsHeld collector.old.phase → IsSome (mailbox_of op) }
     requires there { IfSome (mailbox_of op) (λ t. (1 ≤ t) × (t - 1 < length boxes.old.items)) }
     requires home { (i : ℕ) → i < length boxes.old.items → IsSome (slice_index_or boxes.old.items i None) }
     requires sized { IfSome (mailbox_of op) (λ t. IsSized collector.old.registers collector.old.capacity (held_by boxes.old.items t)) }
@@ -84,7 +85,19 @@ pub fn gather(op: Op, collector: &mut Collector, boxes: &mut Vec<Option<Buffer>>
     ensures collector { collector.new ≡ gathered_by collector.old boxes.old.items (mailbox_of op) }
     ensures boxes { boxes.new.items ≡ gathered_from collector.old boxes.old.items (mailbox_of op) }
 {
-    if let Some(t) = op.mailbox() {
+    if collector.is_swapping() {
+        // Only an operation that took a mailbox leaves it held, so others need no look at any.
+        let t = taken_from(op);
         swap_gathered(collector, &mut boxes[usize::from(t) - 1]);
     }
+}
+
+// The mutator whose mailbox the operation takes.
+#[inline(always)]
+fn taken_from(op: Op) -> u8
+    requires { IsSome (mailbox_of op) }
+    ensures { mailbox_of op ≡ Some result }
+{
+    // The default is never answered; with it no kind of the operation is carried along just to be looked at here.
+    op.mailbox().unwrap_or(1)
 }

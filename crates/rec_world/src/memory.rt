@@ -1,23 +1,25 @@
-ghost use Rattle.std.specs.Prelude.{◌≡◌, ℕ, ◌-◌, ◌*◌, ◌^◌, ◌<◌, ◌≤◌, length, ◌∷◌, replicate, slice_index_or, IfOk};
+ghost use Rattle.std.specs.Prelude.{◌≡◌, ℕ, ◌+◌, ◌-◌, ◌*◌, ◌^◌, ◌<◌, ◌≤◌, length, ◌∷◌, replicate, slice_index_or, IfOk};
 ghost use Rattle.rec_word.specs.Op.{written};
 ghost use Rattle.rec_word.specs.Mailbox.{crossing_word};
 ghost use Rattle.rec_word.specs.declared.mailbox.Mailbox.TheVariants.{Spare};
 ghost use Rattle.rec_core.specs.Cells.{IsWithin, cell, with_cell};
-ghost use Rattle.rec_world.specs.Indexed.{HoldsUpTo};
+ghost use Rattle.rec_core.specs.Row.{row, cells_of_row};
+ghost use Rattle.rec_world.specs.Indexed.{Finds};
 
 use rec_index::Index;
 use rec_word::{Mailbox, Op, crossing};
 use std::alloc::{AllocError as NoMemory, Global};
 use std::marker::Model;
 
-/// The shared words of a heap.
+/// The shared words of a heap in one row: the fields by place, a header for each slot, the epoch word, the freed word, and a
+/// crossing word for each mutator.
 #[derive(Debug, Drop)]
 pub struct Memory {
-    pub headers: Vec<u64>,
-    pub words: Vec<u64>,
-    pub epoch: u64,
-    pub freed: u64,
-    pub crossing: Vec<u64>,
+    row: Vec<u64>,
+    places: usize,
+    slots: usize,
+    // Where the freed word stands: just behind the epoch word, and a mutator's crossing word as far behind it as its number says.
+    freed: usize,
     // The slots whose headers are 0.
     free: Index,
 }
@@ -27,11 +29,11 @@ impl Model for Memory {
 
     ghost Value = { Cells };
 
-    ghost use Rattle.rec_world.specs.Indexed.{cells, IsIndexed};
+    ghost use Rattle.rec_world.specs.Indexed.{cells, IsLaidOut};
 
     ghost view = { cells };
 
-    ghost invariant = { IsIndexed };
+    ghost invariant = { IsLaidOut };
 }
 
 impl Memory {
@@ -46,6 +48,8 @@ impl Memory {
     ) -> Result<Memory, NoMemory>
         requires some_slots { 0 < slots }
         requires few_slots { slots < 2 ^ 16 }
+        requires few_places { places < 2 ^ 32 }
+        requires few_mutators { mutators < 2 ^ 8 }
         ensures { IfOk result (λ memory. memory ≡ record {
           headers = 1 ∷ replicate (slots - 1) 0;
           words = replicate places 0;
@@ -54,19 +58,39 @@ impl Memory {
           crossing = replicate mutators (crossing_word epoch Spare);
         }) }
     {
-        let mut headers = vec![in alloc; 0; slots]?;
-        headers[0] = 1;
-        let words = vec![in alloc; 0; places]?;
-        let crossing = vec![in alloc; crossing(epoch, Mailbox::Spare); mutators]?;
-        let free = all_but_first(alloc, slots as u16)?;
-        Ok(Memory {
-            headers,
-            words,
-            epoch: u64::from(epoch),
-            freed: 0,
-            crossing,
+        let words = places + slots + 2 + mutators;
+        let mut row = Vec::with_capacity(alloc, words)?;
+        row.resize(places, 0)?;
+        row.push(1)?;
+        row.resize(places + slots, 0)?;
+        row.push(u64::from(epoch))?;
+        row.push(0)?;
+        row.resize(words, crossing(epoch, Mailbox::Spare))?;
+        let free = Index::open(alloc)?;
+        Ok(Memory::of_row(row, places, slots, free))
+    }
+
+    /// The words that such a row holds. What the index has as its members is of no account.
+    pub fn of_row(row: Vec<u64>, places: usize, slots: usize, mut free: Index) -> Memory
+        requires few_slots { slots < 2 ^ 16 }
+        requires long { places + slots + 2 ≤ length row.items }
+        ensures { result ≡ cells_of_row places slots row.items }
+    {
+        list_free(&mut free, &row[places..places + slots]);
+        Memory {
+            row,
+            places,
+            slots,
+            freed: places + slots + 1,
             free,
-        })
+        }
+    }
+
+    /// The row, and the index for whoever makes these words anew.
+    pub fn into_row(self) -> (Vec<u64>, Index)
+        ensures { result.0.items ≡ row self }
+    {
+        (self.row, self.free)
     }
 
     /// Carries out one operation, and answers the word that it found.
@@ -78,50 +102,34 @@ impl Memory {
         ensures left { self.new ≡ with_cell self.old op (written op result) }
     {
         match op {
-            Op::LoadField(place)
-            | Op::SwapField(place, _)
-            | Op::LoadChild(place)
-            | Op::ClearField(place) => {
-                let word = &mut self.words[place as usize];
-                let found = *word;
-                *word = op.written(found);
-                found
+            Op::LoadField(place) | Op::LoadChild(place) => self.row[place as usize],
+            Op::SwapField(place, _) | Op::ClearField(place) => {
+                exchange(&mut self.row[place as usize], op)
             }
-            Op::LoadHeader(slot) => self.headers[usize::from(slot)],
+            Op::LoadHeader(slot) => self.row[self.places + usize::from(slot)],
             Op::ClaimHeader(slot, _) => {
-                let found = self.headers[usize::from(slot)];
+                let header = &mut self.row[self.places + usize::from(slot)];
+                let found = *header;
                 if found == 0 {
+                    *header = op.written(0);
                     self.free.remove(slot);
-                    self.headers[usize::from(slot)] = op.written(0);
                 }
                 found
             }
             Op::FreeHeader(slot) => {
-                let found = self.headers[usize::from(slot)];
-                self.headers[usize::from(slot)] = 0;
                 self.free.insert(slot);
-                found
+                exchange(&mut self.row[self.places + usize::from(slot)], op)
             }
-            Op::LoadEpoch | Op::StoreEpoch(_) => {
-                let found = self.epoch;
-                self.epoch = op.written(found);
-                found
+            Op::LoadEpoch => self.row[self.freed - 1],
+            Op::StoreEpoch(_) => exchange(&mut self.row[self.freed - 1], op),
+            Op::LoadFreed => self.row[self.freed],
+            Op::AddFreed => exchange(&mut self.row[self.freed], op),
+            Op::LoadCross(t) => self.row[self.freed + usize::from(t)],
+            Op::TakeBox(t, _) | Op::GiveBox(t, _) => {
+                exchange(&mut self.row[self.freed + usize::from(t)], op)
             }
-            Op::LoadCross(t)
-            | Op::TakeBox(t, _)
-            | Op::GiveBox(t, _)
-            | Op::LookBox(t, _)
-            | Op::ReturnBox(t, _) => {
-                let crossing = &mut self.crossing[usize::from(t) - 1];
-                let found = *crossing;
-                *crossing = op.written(found);
-                found
-            }
-            Op::LoadFreed | Op::AddFreed => {
-                let found = self.freed;
-                self.freed = op.written(found);
-                found
-            }
+            Op::LookBox(t, _) => exchange(&mut self.row[self.freed + usize::from(t)], op),
+            Op::ReturnBox(t, _) => exchange(&mut self.row[self.freed + usize::from(t)], op),
         }
     }
 
@@ -129,7 +137,28 @@ impl Memory {
     pub fn words(&self) -> &[u64]
         ensures { result.now ≡ self.now.words }
     {
-        self.words.as_slice()
+        &self.row[..self.places]
+    }
+
+    /// The epoch word.
+    pub fn epoch(&self) -> u64
+        ensures { result ≡ self.now.epoch }
+    {
+        self.row[self.freed - 1]
+    }
+
+    /// The freed word.
+    pub fn freed(&self) -> u64
+        ensures { result ≡ self.now.freed }
+    {
+        self.row[self.freed]
+    }
+
+    /// The crossing words of the mutators, in order.
+    pub fn crossing(&self) -> &[u64]
+        ensures { result.now ≡ self.now.crossing }
+    {
+        &self.row[self.freed + 1..]
     }
 
     /// The lowest slot whose header is 0, or how many slots there are where no header is.
@@ -142,7 +171,7 @@ impl Memory {
     {
         match self.free.lowest() {
             Some(slot) => slot,
-            None => self.headers.len() as u16,
+            None => self.slots as u16,
         }
     }
 
@@ -151,18 +180,30 @@ impl Memory {
         requires { slot < length self.now.headers }
         ensures { result ≡ slice_index_or self.now.headers slot 0 }
     {
-        self.headers[usize::from(slot)]
+        self.row[self.places + usize::from(slot)]
     }
 }
 
-// The slots of a heap in which only slot 0 is taken.
-fn all_but_first(alloc: Global, slots: u16) -> Result<Index, NoMemory>
-    requires { 0 < slots }
-    ensures { IfOk result (λ index. HoldsUpTo index slots) }
+// Puts there what the operation leaves, and answers the word that it found.
+#[inline(always)]
+fn exchange(word: &mut u64, op: Op) -> u64
+    ensures found { result ≡ word.old }
+    ensures left { word.new ≡ written op word.old }
 {
-    let mut free = Index::open(alloc)?;
-    'slots: for slot in 1..slots {
-        free.insert(slot);
+    let found = *word;
+    *word = op.written(found);
+    found
+}
+
+// Makes the slots whose headers are 0 the members of the index, and no others.
+fn list_free(free: &mut Index, headers: &[u64])
+    requires { length headers.now < 2 ^ 16 }
+    ensures { Finds headers.now free.new }
+{
+    free.clear();
+    'slots: for slot in 0..headers.len() as u16 {
+        if headers[usize::from(slot)] == 0 {
+            free.insert(slot);
+        }
     }
-    Ok(free)
 }

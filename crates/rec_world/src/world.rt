@@ -24,6 +24,7 @@ ghost use Rattle.rec_core.specs.Reach.{KeepsReached};
 ghost use Rattle.rec_core.specs.Shown.{IsShown, entries_of, sight_told};
 ghost use Rattle.rec_core.specs.Swept.{IsSweep};
 ghost use Rattle.rec_world.specs.OpenError.{IsRefused};
+ghost use Rattle.rec_world.specs.Parts.{AreParts, MakeWorld};
 ghost use Rattle.rec_word.specs.Op.{written};
 ghost use Rattle.rec_mutator.specs.Next.{next_of};
 ghost use Rattle.rec_mutator.specs.Took.{took_of, step_of, left_of};
@@ -36,7 +37,7 @@ ghost use Rattle.rec_world.specs.World.{IsWorld, label_of, IsLogFull, IsFull, Is
 
 use crate::mailbox::{gather, open_boxes, swap_if_taken};
 use crate::memory::Memory;
-use crate::{Config, Numbering, OpenError};
+use crate::{Config, Numbering, OpenError, Parts};
 use rec_collector::{Machine as Collector, Sets, Turn};
 use rec_log::Buffer;
 use rec_model::{Cmd, Told};
@@ -87,6 +88,46 @@ impl World {
         }
         let world = open_in_range(alloc, config)?;
         Ok(world)
+    }
+
+    /// Takes the heap apart, between any two of its steps. No memory is taken or given back.
+    pub fn into_parts(self) -> Parts
+        ensures parts { AreParts self result }
+
+        // The heap was one: the end of a run from its opening, with all that every heap keeps of its words and machines.
+        ensures kept { IsWorld self }
+    {
+        let (row, free) = self.memory.into_row();
+        Parts {
+            config: self.config,
+            row,
+            boxes: self.boxes,
+            machines: self.machines,
+            collector: self.collector,
+            made: self.made,
+            free,
+        }
+    }
+
+    /// Puts a heap together from its parts, as they were or as further moves left them. No memory is taken: the index of free
+    /// slots is listed anew where it lay.
+    pub fn of_parts(parts: Parts) -> World
+        requires { MakeWorld parts }
+
+        // It is the one world whose parts these are.
+        ensures made { (w : Core) → IsWorld w → AreParts w parts → result ≡ w }
+        ensures kept { IsWorld result }
+    {
+        let slots = parts.config.slots as usize;
+        let places = slots * parts.config.fields as usize;
+        World {
+            config: parts.config,
+            memory: Memory::of_row(parts.row, places, slots, parts.free),
+            boxes: parts.boxes,
+            machines: parts.machines,
+            collector: parts.collector,
+            made: parts.made,
+        }
     }
 
     /// Whether mutator `t` may ask this: its number, the registers and the field are there.
@@ -308,7 +349,7 @@ impl World {
         requires { place < self.now.config.slots * self.now.config.fields }
         ensures { result ≡ slice_index_or self.now.words place 0 }
     {
-        self.memory.words[place as usize]
+        self.memory.words()[place as usize]
     }
 
     /// The true count of the slot: one for a free slot, else how many references to its object were counted, which is an epoch
@@ -364,7 +405,7 @@ impl World {
         ensures epoch { result ≡ self.now.epoch }
         ensures kept { IsWorld self.now }
     {
-        self.memory.epoch as u32
+        self.memory.epoch() as u32
     }
 
     /// The epoch that mutator `t` is in.
@@ -380,7 +421,7 @@ impl World {
         ensures freed { result ≡ self.now.freed }
         ensures kept { IsWorld self.now }
     {
-        self.memory.freed
+        self.memory.freed()
     }
 
     /// How many slots were freed since the opening.
@@ -412,7 +453,7 @@ impl World {
     pub fn boxes_home(&self) -> bool
         ensures { IsTrue result ↔ All (λ word. word % 2 ≡ 0) self.now.crossing }
     {
-        self.memory.crossing.iter().all(|word| word % 2 == 0)
+        self.memory.crossing().iter().all(|word| word % 2 == 0)
     }
 
     /// How many slots there are.

@@ -2,8 +2,8 @@
 ghost use Rattle.std.specs.Prelude.{◌≡◌, ◌≤◌, [], List, map, length, IfOk};
 ghost use Rattle.std.specs.List.{flat_map, sum};
 ghost use Rattle.rec_model.specs.Listing.{Row, ListsSlots};
+ghost use Rattle.rec_model.specs.LegalOrder.{NoLogFull};
 ghost use Rattle.rec_report.specs.Report.{AreFor};
-ghost use Rattle.rec_report.specs.Summary.{NoLogFull};
 ghost use Rattle.rec_report.specs.Text.{IsOrderOf};
 ghost use Rattle.rec_core.specs.Settled.{IsSettled};
 ghost use Rattle.rec_world.specs.World.{opened, sight};

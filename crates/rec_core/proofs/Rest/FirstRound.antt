@@ -36,13 +36,13 @@ use Rattle.rec_core.proofs.Trying.{trying_lands}
 use Rattle.rec_core.proofs.Turns.{now_at}
 
 -- A preparation came so far: it goes on, or its sets rest, and a sweep follows or the second collection.
-pub first_prepares : {w : Core} {crossing words : List ℕ} {v : Parts} {q : Private} {turn : Turn} → HasLanded w crossing words v → PrepRests w words v → PreparesOn w.collector v q turn → ComesTo Round.First w words q
+first_prepares : {w : Core} {crossing words : List ℕ} {v : Parts} {q : Private} {turn : Turn} → HasLanded w crossing words v → PrepRests w words v → PreparesOn w.collector v q turn → ComesTo Round.First w words q
 first_prepares {w} {crossing} {words} {v} l h (PreparesOn.more some g) = subst (ComesTo Round.First w words) (sym g.after) (ComesTo.goes_on refl h)
 first_prepares {w} {crossing} {words} {v} l h (PreparesOn.sweeps_next none some g) = subst (ComesTo Round.First w words) (sym g.after) (ComesTo.goes_on refl (sets_rest_begun l h none))
 first_prepares {w} {crossing} {words} {v} l h (PreparesOn.completes none free e) = subst (ComesTo Round.First w words) (sym e.after) (ComesTo.completes refl refl (sets_rest_begun l h none))
 
 -- A trial came so far: it goes on, or its sets are prepared.
-pub first_tries : {w : Core} {crossing words : List ℕ} {v : Parts} {q : Private} {turn : Turn} → HasLanded w crossing words v → v.freeing.at ≡ None → TrialRests w words v → TriesOn w.collector v q turn → ComesTo Round.First w words q
+first_tries : {w : Core} {crossing words : List ℕ} {v : Parts} {q : Private} {turn : Turn} → HasLanded w crossing words v → v.freeing.at ≡ None → TrialRests w words v → TriesOn w.collector v q turn → ComesTo Round.First w words q
 first_tries {w} {crossing} {words} {v} l unfreed h (TriesOn.more some g) = subst (ComesTo Round.First w words) (sym g.after) (ComesTo.goes_on refl h)
 first_tries {w} {crossing} {words} {v} l unfreed h (TriesOn.prepares over on) = first_prepares (prep_lands w crossing words w.collector l.kept.collector.machine v l unfreed) (prep_rests_begun l h over) on
 
@@ -64,7 +64,7 @@ tested_offers (IsTested.fails_delta s touched last e) = ap (λ (x : Parts). x.of
 tested_offers (IsTested.fails_sigma s orange some last e) = ap (λ (x : Parts). x.offers) e
 
 -- While slots are released and sets tested, it is only waited for the trial.
-pub first_clears : {w : Core} {crossing words : List ℕ} {q : Private} {turn : Turn} {v : Parts} → HasCleared w crossing words v → v.offers ≡ true → ((u : Parts) → HasLanded w crossing words u → AreCounted w words u.counts)
+first_clears : {w : Core} {crossing words : List ℕ} {q : Private} {turn : Turn} {v : Parts} → HasCleared w crossing words v → v.offers ≡ true → ((u : Parts) → HasLanded w crossing words u → AreCounted w words u.counts)
     → ClearsOn w.collector q turn v → ComesTo Round.First w words q
 first_clears {w} {crossing} {words} h asked counted (ClearsOn.frees_on busy g) = subst (ComesTo Round.First w words) (sym g.after) (ComesTo.goes_on refl asked)
 first_clears {w} {crossing} {words} h asked counted (ClearsOn.releases_on unfreed busy g) = subst (ComesTo Round.First w words) (sym g.after) (ComesTo.goes_on refl asked)

@@ -20,7 +20,7 @@ use Rattle.rec_model.proofs.Members.{is_in-head, is_in-left, is_in-right, is_in-
 use Rattle.rec_counts.specs.declared.slot.Slot.{Slot}
 use Rattle.rec_counts.specs.Counts.{State, slot_at, IsKept as IsKeptCounts}
 use Rattle.rec_counts.specs.Lists.{one}
-use Rattle.rec_counts.proofs.Keeping.{no_set, some_set}
+use Rattle.rec_counts.proofs.Keeping.{no_set, some_set, unreleased_within}
 use Rattle.rec_apply.specs.Targets.{named}
 use Rattle.rec_apply.proofs.Naming.{named-nil, named-cons}
 use Rattle.rec_trial.specs.Loaded.{Run, noted, noted_at}
@@ -33,7 +33,7 @@ use Rattle.rec_trial.specs.declared.phase.Phase.TheVariants as trial_at
 use Rattle.rec_trial.proofs.Promised.{begun_promised, took_promised, took_recorded}
 use Rattle.rec_sigma.specs.Prepare as preps
 use Rattle.rec_sigma.specs.Prepared.{PreparedTo}
-use Rattle.rec_sigma.proofs.Runs.{Came, came_first}
+use Rattle.rec_sigma.proofs.Runs.{Came, came_first, started_is}
 use Rattle.rec_collector.specs.Followed.{prep_started, trial_started, with_offers, with_tried}
 use Rattle.rec_collector.specs.Offered.{AreOffered, KeepsOffered}
 use Rattle.rec_collector.specs.Parts.{Parts}
@@ -47,32 +47,16 @@ use Rattle.rec_core.specs.Settling.{word_in, heap_sum, unreleased_slots, IsOffer
 use Rattle.rec_core.proofs.Counts.{counted_slot}
 use Rattle.rec_core.proofs.Landed.{landed_pending, HasLanded}
 use Rattle.rec_core.proofs.Reach.{sight_is}
-use Rattle.rec_core.proofs.Rest.SettlingFinds.{garbage_unheld, trial_finds_garbage, unreleased_within}
+use Rattle.rec_core.proofs.Rest.SettlingFinds.{garbage_unheld, trial_finds_garbage}
 use Rattle.rec_core.proofs.Rest.SettlingPrepared.{loads_begun}
 use Rattle.rec_core.proofs.Rest.SettlingSets.{found_counts, found_lead_back, references_in_words}
 use Rattle.rec_core.proofs.Steps.{fields_many, taken_slot}
 use Rattle.rec_core.proofs.Trying.{loaded_leads}
 use Rattle.rec_core.proofs.Zeros.{landed_empty}
-
--- what a mutator's registers name, they name all together
-row_root : (x : ℕ) (row : List (Option ℕ)) → 0 < named x row → is_in x (reach.named row) ≡ true
-row_root x [] h = absurd (omega (arith, h, named-nil x))
-row_root x (None ∷ row) h = row_root x row (omega (arith, h, named-cons x None row))
-row_root x (Some y ∷ row) h = elim (eqb_tells x y) [
-  | inl q ↦ subst (λ z. is_in x (z ∷ reach.named row) ≡ true) q.1 (is_in-head x (reach.named row))
-  | inr q ↦ let other : one (eqb x y) ≡ 0 = ap one q.0 in is_in-tail x y (reach.named row) (row_root x row (omega (arith, h, named-cons x (Some y) row, other)))
-]
-
-named_root : (x : ℕ) (rows : List (List (Option ℕ))) → 0 < sum_by (named x) rows → is_in x (roots rows) ≡ true
-named_root x [] h = absurd (omega (arith, h))
-named_root x (row ∷ rows) h = elim (cases_lt 0 (named x row)) [
-  | inl here ↦ is_in-left x (reach.named row) (roots rows) (row_root x row here)
-  | inr none ↦ is_in-right x (reach.named row) (roots rows) (named_root x rows (omega (arith, h, none, sum_by-cons (named x) row rows)))
-]
+use Rattle.rec_core.proofs.Rest.Rested.{named_root}
 
 module _ {w : Core} {crossing words : List ℕ} {v : Parts} (l : HasLanded w crossing words v) where
-  abbrev s : State
-  s = v.counts
+  open v use {counts as s}
 
   abbrev p : Pending
   p = landed_pending w words s
@@ -109,7 +93,7 @@ module _ {w : Core} {crossing words : List ℕ} {v : Parts} (l : HasLanded w cro
   ]
 
   -- So what a register names, and what is free, is not released.
-  pub held_unreleased : (x : ℕ) → 0 < holds (sight w) x → (slot_at v.counts x).released ≡ false
+  held_unreleased : (x : ℕ) → 0 < holds (sight w) x → (slot_at v.counts x).released ≡ false
   held_unreleased x h = elim (cases_lt 0 (sum_by (named x) (sight w).registers)) [
     | inl registers ↦ named_unreleased x registers
     | inr none ↦ free (slice_index_or w.headers x 1 == 0) refl (omega (arith, h, none))
@@ -231,11 +215,6 @@ trial_rests_more w place kept phase named h =
       emptied = h.emptied;
     }
 
--- as the preparation begins
-prep_is : (m : preps.Machine) (s : State) → preps.started_of m s ≡ preps.work_of m.fields (preps.next_set s 0)
-unfolding preps.started_of
-prep_is m s = refl
-
 -- The trial is over: it found what is not within reach, and its sets are to be prepared.
 pub prep_rests_begun : {w : Core} {crossing words : List ℕ} {v : Parts} → HasLanded w crossing words v → TrialRests w words v → trial_next v.trial ≡ None → PrepRests w words (prep_started v)
 prep_rests_begun {w} {crossing} {words} {v} l h over =
@@ -254,7 +233,7 @@ prep_rests_begun {w} {crossing} {words} {v} l h over =
       before = v.counts;
       before_kept = l.counts;
       loads = [];
-      prepares = subst (λ (x : preps.Work). PreparedTo fields v.counts x.machine.at x.counts []) (sym (prep_is v.prep v.counts)) came.law;
+      prepares = subst (λ (x : preps.Work). PreparedTo fields v.counts x.machine.at x.counts []) (sym (started_is v.prep v.counts)) came.law;
       are_loads = loads_begun fields words;
       counted = subst (λ (t : State). (x i : ℕ) → (slot_at t x).set ≡ Some i → (slot_at t x).count ≡ heap_sum words x) same
           (found_counts fields h.before h.loaded words h.run (holds (sight w)) h.trial done h.marks h.blacks h.finds h.offered kept long h.emptied);

@@ -10,11 +10,12 @@ use Rattle.rec_model.specs.Heap.{roots}
 use Rattle.rec_model.specs.Reach.{is_in, named as names}
 use Rattle.rec_model.specs.Reach.IsReached.{root, child}
 use Rattle.rec_model.specs.Sight.{IsTaken, Reaches, words_of, targets_of}
-use Rattle.rec_model.proofs.Names.{named_at, is_in_head, is_in_tail, is_in_left, is_in_right}
+use Rattle.rec_model.proofs.Names.{named_at}
 use Rattle.rec_model.proofs.Standing.{reached_is_taken, word_in}
 use Rattle.rec_model.proofs.Words.{named-nulls}
 use Rattle.rec_counts.specs.Counts.{slot_at}
 use Rattle.rec_counts.specs.Lists.{one}
+use Rattle.rec_model.proofs.Members.{is_in-left, is_in-right, is_in-head, is_in-tail}
 use Rattle.rec_apply.specs.Targets.{named}
 use Rattle.rec_apply.proofs.Naming.{named-nil, named-cons}
 use Rattle.rec_collector.specs.declared.phase.Phase.TheVariants.{Idle}
@@ -32,22 +33,22 @@ named_there : (x : ℕ) (targets : List (Option ℕ)) → 0 < named x targets �
 named_there x [] some = absurd (omega (arith, some, named-nil x))
 named_there x (None ∷ targets) some = named_there x targets (omega (arith, some, named-cons x None targets))
 named_there x (Some y ∷ targets) some = elim (eqb_tells x y) [
-  | inl same ↦ subst (λ k. is_in k (y ∷ names targets) ≡ true) (sym same.1) (is_in_head y (names targets))
+  | inl same ↦ subst (λ k. is_in k (y ∷ names targets) ≡ true) (sym same.1) (is_in-head y (names targets))
   | inr other ↦
       let none : one (x == y) ≡ 0 = ap one other.0 in
-      is_in_tail x y (names targets) (named_there x targets (omega (arith, some, none, named-cons x (Some y) targets)))
+      is_in-tail x y (names targets) (named_there x targets (omega (arith, some, none, named-cons x (Some y) targets)))
 ]
 
 -- what registers name is a root
 pub named_root : (x : ℕ) (registers : List (List (Option ℕ))) → 0 < sum_by (named x) registers → is_in x (roots registers) ≡ true
 named_root x [] some = absurd (omega (arith, some))
 named_root x (rs ∷ registers) some = elim (cases_lt 0 (named x rs)) [
-  | inl here ↦ is_in_left x (names rs) (roots registers) (named_there x rs here)
-  | inr none ↦ is_in_right x (names rs) (roots registers) (named_root x registers (omega (arith, some, none, sum_by-cons (named x) rs registers)))
+  | inl here ↦ is_in-left x (names rs) (roots registers) (named_there x rs here)
+  | inr none ↦ is_in-right x (names rs) (roots registers) (named_root x registers (omega (arith, some, none, sum_by-cons (named x) rs registers)))
 ]
 
 -- What is within reach is reached from a register, or is free: fields of free slots lead nowhere.
-pub held_reached : (w : Core) → IsKept w → (x : ℕ) → IsHeldIn w w.words x → Reaches (sight w) x ⊎ (slice_index_or w.headers x 1 ≡ 0)
+held_reached : (w : Core) → IsKept w → (x : ℕ) → IsHeldIn w w.words x → Reaches (sight w) x ⊎ (slice_index_or w.headers x 1 ≡ 0)
 held_reached w kept x (IsReachable.held some) = elim (eqb_tells (slice_index_or w.headers x 1) 0) [
   | inl free ↦ inr free.1
   | inr taken ↦

@@ -15,8 +15,7 @@ abbrev seen_as : Core → Core → Core
 seen_as w v = record v { config = w.config }
 
 module _ (w v : Core) (same : holds (sight v) ≡ holds (sight w)) (words : List ℕ) where
-  abbrev fields : ℕ
-  fields = w.config.fields
+  open w use {config.{fields}}
 
   found_seen : (s : State) → AreFound w words s → AreFound (seen_as w v) words s
   found_seen s h = subst (λ (f : ℕ → ℕ). (x : ℕ) → (slot_at s x).released ≡ false → (slot_at s x).set ≡ None → (IsReachable fields (word_in fields words) f x → ⊥) → ⊥) (sym same) h

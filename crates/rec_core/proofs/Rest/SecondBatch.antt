@@ -53,14 +53,12 @@ taken_by x registers b retired none = omega (arith, ap (λ (es : List Entry). na
 module _ (w : Core) (t : ℕ) (kept : IsKept w) (phase : w.collector.phase ≡ Returning t) (last : t ≡ length w.collector.newer)
     (retired : (s : ℕ) → IsMutator w.config s → IsRetired (mutator w s).registers (buffer_at w.collector.newer (s - 1)) × IsRetired (mutator w s).registers (buffer_at w.collector.older (s - 1)))
     (rested : SetsRest w w.words [] w.collector.counts) where
-  abbrev c : collectors.Private
-  c = w.collector
+  open w use {collector as c}
 
   abbrev s : State
   s = batch c.counts c.newer c.older
 
-  rest : collector_kept.IsAtRest c
-  rest = (now_at w (Returning t) kept phase).rest
+  open (now_at w (Returning t) kept phase) use {rest}
 
   -- no register names a member
   unnamed : (x i m : ℕ) → (slot_at c.counts x).set ≡ Some i → IsMutator w.config m → named x (mutator w m).registers ≡ 0

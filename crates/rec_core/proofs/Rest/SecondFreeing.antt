@@ -2,15 +2,14 @@
 use Rattle.std.proofs.Common.{◌≡◌, ℕ, ◌+◌, ◌/◌, ◌<◌, ◌≤◌, true, Option, Some, None, List, [], ◌∷◌, ◌++◌, drop, length, refl, sym, ap, subst, ◌∙◌, arith}
 use Rattle.std.proofs.lemmas.List.{drop_all, drop_more}
 use Rattle.std.proofs.lemmas.Nat.{div-mul-add}
-use Rattle.rec_word.specs.Place.{place_of}
+use Rattle.rec_word.specs.Place.{place_of, places_from, places_of}
 use Rattle.rec_word.specs.Word.{target_of}
+use Rattle.rec_word.proofs.FieldPlaces.{places_step, places_end}
 use Rattle.rec_counts.specs.Counts.{State, slot_at}
 use Rattle.rec_release.specs.declared.member.Member.{Member}
 use Rattle.rec_release.specs.CycleFree.{listed}
-use Rattle.rec_release.specs.Freed.{places_behind, places_of}
-use Rattle.rec_release.specs.Released.{places_from}
+use Rattle.rec_release.specs.Freed.{places_behind}
 use Rattle.rec_release.specs.TakenOff.{taken_off}
-use Rattle.rec_release.proofs.Places.{places_end, places_step}
 use Rattle.rec_release.proofs.TakenOff.{KeepsMost, off_most}
 use Rattle.rec_collector.specs.Clearing.{IsClearing}
 use Rattle.rec_collector.specs.Followed.{relieved, with_freed}
@@ -26,6 +25,7 @@ use Rattle.rec_core.specs.Resting.{AreCounted, FreesRest, SetsRest}
 use Rattle.rec_core.specs.Settling.{AreUnheld}
 use Rattle.rec_core.specs.Turn.{word_at, words_without}
 use Rattle.rec_core.proofs.Freeing as freeing
+use Rattle.rec_core.proofs.Taken as taken
 use Rattle.rec_core.proofs.Rest.SecondBatch.{no_zeros_released}
 use Rattle.rec_core.proofs.Rest.SecondReach.{no_zeros_rest, reached_still}
 use Rattle.rec_core.proofs.Rest.SettlingTests.{unheld_alike, unheld_cleared}
@@ -52,33 +52,18 @@ rest_listed w words s rested = record {
 
 module _ (w : Core) (a : Member) (kept : IsKept w) (phase : w.collector.phase ≡ Freeing) (at : w.collector.freeing.at ≡ Some a)
     (counted : AreCounted w (words_without w a.slot a.field) (taken_off true w.collector.counts (target_of (word_at w a.slot a.field)))) (rested : FreesRest w w.words (parts_of w.collector)) where
-  abbrev c : collectors.Private
-  c = w.collector
-
-  abbrev word : ℕ
-  word = word_at w a.slot a.field
-
-  abbrev words : List ℕ
-  words = words_without w a.slot a.field
-
-  abbrev place : ℕ
-  place = place_of a.slot a.field w.config.fields
+  open w use {collector as c}
+  open (taken.emptied_at w a.slot a.field) use {place, word, words}
+  open (freeing.may_empty w a kept phase at) use {within, released}
 
   -- the counts then
   abbrev off : State
   off = taken_off true c.counts (target_of word)
 
-  most : KeepsMost c.counts off
-  most = off_most true c.counts (target_of word)
+  open (taken.most w a.slot a.field (freeing.may_empty w a kept phase at) true) use {released as still_released, set as still_set, slots as still_slots, work as still_work}
 
   same_fields : c.freeing.fields ≡ w.config.fields
   same_fields = kept.collector.machine.freeing_fields ∙ kept.collector.fields
-
-  within : a.field < w.config.fields
-  within = freeing.within w a kept phase at
-
-  released : (slot_at c.counts a.slot).released ≡ true
-  released = freeing.released w a kept phase at
 
   -- the places that are still to be exchanged
   abbrev behind : List ℕ
@@ -86,7 +71,7 @@ module _ (w : Core) (a : Member) (kept : IsKept w) (phase : w.collector.phase �
 
   were_left : places_behind c.freeing.fields c.counts.work c.freeing.at ≡ place ∷ behind
   were_left =
-      let work : c.counts.work ≡ off.work = sym most.work in
+      let work : c.counts.work ≡ off.work = sym still_work in
       let due : a.field < c.freeing.fields = omega (arith, within, same_fields) in
       ap (places_behind c.freeing.fields c.counts.work) at
       ∙ ap (λ ps. ps ++ places_of c.freeing.fields (drop (a.index + 1) c.counts.work)) (places_step c.freeing.fields a.slot a.field due)
@@ -98,18 +83,18 @@ module _ (w : Core) (a : Member) (kept : IsKept w) (phase : w.collector.phase �
       let of : place / w.config.fields ≡ a.slot = div-mul-add a.slot w.config.fields a.field within in
       let gone : (slot_at c.counts (place / w.config.fields)).released ≡ true = ap (λ n. (slot_at c.counts n).released) of ∙ released in
       let before : AreUnheld w.config.fields w.words (place ∷ behind) c.counts = subst (λ left. AreUnheld w.config.fields w.words left c.counts) were_left rested.sets.unheld in
-      unheld_cleared w.config.fields w.words behind c.counts place (freeing.inside w a kept phase at) gone before
+      unheld_cleared w.config.fields w.words behind c.counts place (taken.inside w a.slot a.field (freeing.may_empty w a kept phase at)) gone before
 
   rested_then : SetsRest w words behind off
   rested_then = record {
     unheld = unheld_then;
-    found = λ x unreleased none unreached. rested.sets.found x (sym (most.released x) ∙ unreleased) (sym (most.set x) ∙ none)
+    found = λ x unreleased none unreached. rested.sets.found x (sym (still_released x) ∙ unreleased) (sym (still_set x) ∙ none)
         (λ reached. unreached (reached_still w kept a.slot a.field within released x reached));
-    unnamed = λ x i is. rested.sets.unnamed x i (sym (most.set x) ∙ is);
+    unnamed = λ x i is. rested.sets.unnamed x i (sym (still_set x) ∙ is);
   }
 
   many : length off.slots ≡ w.config.slots
-  many = most.slots ∙ kept.collector.slots
+  many = still_slots ∙ kept.collector.slots
 
   -- the next field of the member follows
   on : IsExchanged w words (freed_more (parts_of c) word a)
@@ -118,8 +103,7 @@ module _ (w : Core) (a : Member) (kept : IsKept w) (phase : w.collector.phase �
   -- after its last field the others follow
   others : c.freeing.fields ≤ a.field + 1 → behind ≡ places_of c.freeing.fields (drop (a.index + 1) off.work)
   others last =
-      let end : a.field + 1 ≡ c.freeing.fields = omega (arith, last, within, same_fields) in
-      ap (λ ps. ps ++ places_of c.freeing.fields (drop (a.index + 1) off.work)) (ap (places_from c.freeing.fields a.slot) end ∙ places_end c.freeing.fields a.slot)
+      ap (λ ps. ps ++ places_of c.freeing.fields (drop (a.index + 1) off.work)) (places_end c.freeing.fields a.slot (a.field + 1) last)
 
   -- the first field of the next member follows
   next : c.freeing.fields ≤ a.field + 1 → a.index + 1 < length off.work → IsExchanged w words (freed_next (parts_of c) word a)
@@ -147,7 +131,7 @@ module _ (w : Core) (a : Member) (kept : IsKept w) (phase : w.collector.phase �
   frees_rest_more =
       let v : Parts = with_freed (parts_of c) word in
       let due = now_at w Freeing kept phase in
-      let clear : IsClearing v = freed_clear (parts_of c) word due.1 (freeing.counted_word w a kept phase at) kept.collector.machine.counts due.0.clearing in
+      let clear : IsClearing v = freed_clear (parts_of c) word due.1 (taken.counted_word w a.slot a.field (freeing.may_empty w a kept phase at)) kept.collector.machine.counts due.0.clearing in
       let left : List ℕ = places_behind v.freeing.fields v.counts.work v.freeing.at in
       let none : v.counts.zeros ≡ [] = no_zeros_rest w words left v.counts exchanged.many clear.freeing.ready.zeros clear.apart exchanged.counted exchanged.sets in
       relieved_by (FreesRest w words) v (λ e. no_zeros_released w words true v none exchanged.sets) (λ m e. record { sets = exchanged.sets; zeros = none; still = exchanged.still })

@@ -20,10 +20,10 @@ use Rattle.rec_counts.specs.Counts.{State, slot_at}
 use Rattle.rec_counts.specs.Lists.{one, times}
 use Rattle.rec_counts.specs.Rest.{AreZeros}
 use Rattle.rec_counts.proofs.Times.{one-same, times-cons}
+use Rattle.rec_counts.proofs.Keeping.{unreleased_within}
 use Rattle.rec_apply.specs.Targets.{named}
 use Rattle.rec_apply.proofs.Naming.{named-nil, named-cons}
 use Rattle.rec_release.specs.TakenOff.{IsApart}
-use Rattle.rec_release.proofs.Keeping.{in_range_unreleased}
 use Rattle.rec_core.specs.Core.{Core, sight}
 use Rattle.rec_core.specs.Kept.{IsKept}
 use Rattle.rec_core.specs.Pending.{code, pending}
@@ -35,6 +35,7 @@ use Rattle.rec_core.proofs.Counts.{counted_slot}
 use Rattle.rec_core.proofs.Moves.{code_target, home_of}
 use Rattle.rec_core.proofs.Places.{place_within}
 use Rattle.rec_core.proofs.Reach.{reached_stays}
+use Rattle.rec_core.proofs.Rest.Rested.{named_root}
 
 -- what a field leads to is counted
 led_counted : (words : List ℕ) (place x : ℕ) → target_of (get_or words place 0) ≡ Some x → 0 < heap_sum words x
@@ -51,35 +52,18 @@ held_counted w words s x counted below (held h) = omega (arith, counted x below,
 held_counted w words s x counted below (along {n} from field within led) = omega (arith, counted x below, led_counted words (place_of n field w.config.fields) x led)
 
 -- What is within reach has a count.
-pub reached_counted : (w : Core) (words : List ℕ) (s : State) (x : ℕ) → AreCounted w words s → x < w.config.slots → ((IsHeldIn w words x → ⊥) → ⊥) → 0 < (slot_at s x).count
+reached_counted : (w : Core) (words : List ℕ) (s : State) (x : ℕ) → AreCounted w words s → x < w.config.slots → ((IsHeldIn w words x → ⊥) → ⊥) → 0 < (slot_at s x).count
 reached_counted w words s x counted below reached = elim (cases_lt 0 (slot_at s x).count) [
   | inl some ↦ some
   | inr none ↦ absurd (reached (λ h. omega (arith, none, held_counted w words s x counted below h)))
 ]
 
--- a register names the slot where they are counted to
-named_in : (x : ℕ) (registers : List (Option ℕ)) → 0 < named x registers → is_in x (names registers) ≡ true
-named_in x [] some = absurd (omega (arith, some, named-nil x))
-named_in x (None ∷ rest) some = named_in x rest (omega (arith, some, named-cons x None rest))
-named_in x (Some y ∷ rest) some = elim (eqb_tells x y) [
-  | inl q ↦ ap (λ n. is_in n (y ∷ names rest)) q.1 ∙ is_in-head y (names rest)
-  | inr q ↦ let other : one (x == y) ≡ 0 = ap one q.0 in is_in-tail x y (names rest) (named_in x rest (omega (arith, some, named-cons x (Some y) rest, other)))
-]
-
-root_in : (x : ℕ) (registers : List (List (Option ℕ))) → 0 < sum_by (named x) registers → is_in x (roots registers) ≡ true
-root_in x [] some = absurd (omega (arith, some))
-root_in x (rs ∷ rest) some = elim (cases_lt 0 (named x rs)) [
-  | inl here ↦ is_in-left x (names rs) (roots rest) (named_in x rs here)
-  | inr none ↦ is_in-right x (names rs) (roots rest) (root_in x rest (omega (arith, some, none, sum_by-cons (named x) rs rest)))
-]
-
 module _ (w : Core) (kept : IsKept w) where
+  open kept use {headers}
+
   -- a slot that is there, and was not given up
   abbrev IsAlive : ℕ → Type 0
   IsAlive x = (x < w.config.slots) × ((slot_at w.collector.counts x).released ≡ false)
-
-  headers : length w.headers ≡ w.config.slots
-  headers = kept.headers
 
   in_accounts : (x : ℕ) → x < w.config.slots → (pending w).released (x + 1) ≡ (slot_at w.collector.counts x).released
   in_accounts x below = ap (λ (v : Slot). v.released) (counted_slot w.collector.counts x (omega (arith, below, kept.collector.slots)))
@@ -115,7 +99,7 @@ module _ (w : Core) (kept : IsKept w) where
   -- what is held
   held_alive : (x : ℕ) → 0 < holds (sight w) x → IsAlive x
   held_alive x h = elim (cases_lt 0 (sum_by (named x) (sight w).registers)) [
-    | inl some ↦ let stays = reached_stays w kept x (root x (root_in x (sight w).registers some)) in (omega (arith, taken_within (sight w) x stays.0, headers), stays.1)
+    | inl some ↦ let stays = reached_stays w kept x (root x (named_root x (sight w).registers some)) in (omega (arith, taken_within (sight w) x stays.0, headers), stays.1)
     | inr none ↦ free_alive x (slice_index_or w.headers x 1 == 0) refl (omega (arith, h, none))
   ]
 
@@ -123,7 +107,7 @@ module _ (w : Core) (kept : IsKept w) where
   place_there n field below within = place_within w.config.fields (length w.headers) (length w.words) n field kept.sound.places (omega (arith, below, headers)) within
 
   -- What is within reach is there, and was not given up.
-  pub reached_alive : (x : ℕ) → IsHeldIn w w.words x → (x < w.config.slots) × ((slot_at w.collector.counts x).released ≡ false)
+  reached_alive : (x : ℕ) → IsHeldIn w w.words x → (x < w.config.slots) × ((slot_at w.collector.counts x).released ≡ false)
   reached_alive x (held h) = held_alive x h
   reached_alive x (along {n} from field within led) =
       let before : IsAlive n = reached_alive n from in
@@ -158,6 +142,6 @@ no_zeros_rest w words left s many zeros apart counted rest = nothing_in s.zeros 
     go : (x : ℕ) → 0 < times x s.zeros → (set : Option ℕ) → (slot_at s x).set ≡ set → ⊥
     go x there None e =
         let unreleased : (slot_at s x).released ≡ false = zeros.unreleased x there in
-        let below : x < w.config.slots = omega (arith, in_range_unreleased s x unreleased, many) in
+        let below : x < w.config.slots = omega (arith, unreleased_within s x unreleased, many) in
         omega (arith, zeros.none x there, reached_counted w words s x counted below (rest.found x unreleased e))
     go x there (Some i) e = omega (arith, there, (apart x (rest.unheld.back.orange x i e)).no_zero)

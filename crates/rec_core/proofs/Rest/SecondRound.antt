@@ -2,12 +2,14 @@
 -- reach, and a trial begins.
 use Rattle.std.proofs.Common.{◌≡◌, ℕ, ◌+◌, ◌-◌, ◌<◌, Bool, true, false, Option, Some, None, List, [], ◌∷◌, ◌++◌, length, slice_get, refl, sym, ap, subst, ◌∙◌, arith}
 use Rattle.std.proofs.lemmas.Bool.{false≢true}
+use Rattle.rec_word.specs.Place.{places_of}
 use Rattle.rec_counts.specs.declared.slot.Slot.{Slot}
 use Rattle.rec_counts.specs.Counts.{State, IsKept, slot_at}
 use Rattle.rec_counts.specs.Groups.{last_set}
 use Rattle.rec_counts.specs.Slot.{is_in}
+use Rattle.rec_counts.proofs.Keeping.{set_there}
 use Rattle.rec_release.specs.CycleFree.{first_member, given_up, started_of}
-use Rattle.rec_release.specs.Freed.{places_behind, places_of}
+use Rattle.rec_release.specs.Freed.{places_behind}
 use Rattle.rec_sigma.specs.Judged.{AreOrange, cyclic_sum}
 use Rattle.rec_collector.specs.Followed.{trial_started}
 use Rattle.rec_collector.specs.Parts.{Parts}
@@ -21,7 +23,6 @@ use Rattle.rec_core.specs.Resting.{AreWithinReach, ComesTo, FreesRest, Round, Se
 use Rattle.rec_core.specs.Resting.ComesTo.{goes_on}
 use Rattle.rec_core.proofs.Landed.{HasCleared}
 use Rattle.rec_core.proofs.Rest.SettlingPasses.{IsGivenUp, given, still_in, unheld_given_up, unheld_passes}
-use Rattle.rec_core.proofs.Rest.SettlingPrepared.{set_there}
 use Rattle.rec_core.proofs.SetTests.{tested_lands}
 use Rattle.rec_core.proofs.Zeros.{some_fields}
 
@@ -32,8 +33,7 @@ places_begun fields (x ∷ xs) = refl
 
 module _ (w : Core) (words : List ℕ) (v : Parts) (fields : 0 < w.config.fields) (own_fields : v.freeing.fields ≡ w.config.fields) (kept : IsKept v.counts)
     (work : v.counts.work ≡ []) (unfreed : v.freeing.at ≡ None) (rested : FreesRest w words v) where
-  abbrev s : State
-  s = v.counts
+  open v use {counts as s}
 
   abbrev number : ℕ
   number = length s.sets - 1
@@ -74,7 +74,7 @@ module _ (w : Core) (words : List ℕ) (v : Parts) (fields : 0 < w.config.fields
   tested_rests u (IsTested.fails_sigma t orange some last is) = absurd (omega (arith, some, passes.1))
 
 -- The last set passes its tests.
-pub frees_rest_tested : {w : Core} {crossing words : List ℕ} {v u : Parts} → HasCleared w crossing words v → v.freeing.at ≡ None → v.release.at ≡ None → 0 < length v.counts.sets → FreesRest w words v
+frees_rest_tested : {w : Core} {crossing words : List ℕ} {v u : Parts} → HasCleared w crossing words v → v.freeing.at ≡ None → v.release.at ≡ None → 0 < length v.counts.sets → FreesRest w words v
     → IsTested v u → FreesRest w words u
 frees_rest_tested {w} {crossing} {words} {v} {u} h unfreed still some rested tested =
     tested_rests w words v (some_fields h.landed) h.landed.freeing_fields h.landed.counts (h.clearing.work unfreed) unfreed rested u tested

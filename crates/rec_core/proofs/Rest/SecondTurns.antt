@@ -22,7 +22,7 @@ use Rattle.rec_core.specs.Quiet.{AreQuiet, AreGathered}
 use Rattle.rec_core.specs.Resting.{AreCounted, AreWithinReach, Round, RestsIn, ComesTo}
 use Rattle.rec_core.specs.Turn.{IsTurn, word_at, words_without}
 use Rattle.rec_core.proofs.Begun.{applied_lands, batch_comes}
-use Rattle.rec_core.proofs.Freeing.{below, freed_lands, released, within}
+use Rattle.rec_core.proofs.Freeing.{freed_lands, may_empty}
 use Rattle.rec_core.proofs.Landed.{HasCleared}
 use Rattle.rec_core.proofs.Landings.{IsUnswept}
 use Rattle.rec_core.proofs.Rest.FirstRound.{all_gathered, last_gathered}
@@ -31,7 +31,7 @@ use Rattle.rec_core.proofs.Rest.SecondBatch.{frees_rest_applied}
 use Rattle.rec_core.proofs.Rest.SecondFreeing.{frees_rest_more}
 use Rattle.rec_core.proofs.Rest.SecondRound.{second_clears}
 use Rattle.rec_core.proofs.Rest.Within.{within_begun, within_same, within_tries, within_prepares}
-use Rattle.rec_core.proofs.Taken.{off_accounted}
+use Rattle.rec_core.proofs.Taken.{off_accounted, MayEmpty}
 use Rattle.rec_core.proofs.Trying.{loaded_leads}
 use Rattle.rec_core.proofs.Turns.{now_at}
 
@@ -49,10 +49,10 @@ module _ (first : ℕ) (w : Core) (kept : IsKept w) (quiet : AreQuiet first w) w
   exchanged_count : (a : Member) (phase : w.collector.phase ≡ Freeing) (at : w.collector.freeing.at ≡ Some a) → first < w.epoch
       → AreCounted w (words_without w a.slot a.field) (taken_off true w.collector.counts (target_of (word_at w a.slot a.field)))
   exchanged_count a phase at early =
-      let unswept : IsUnswept w.epoch w.collector.phase = subst (IsUnswept w.epoch) (sym phase) (record { way = refl; still = refl; applied = refl; older = refl; stands = λ s. refl; between = tt; some = tt }) in
+      let may : MayEmpty w a.slot a.field = may_empty w a kept phase at in
       let slots : length w.collector.counts.slots ≡ w.config.slots = kept.collector.slots in
-      accounted_count first w (words_without w a.slot a.field) (taken_off true w.collector.counts (target_of (word_at w a.slot a.field))) kept kept.mutators unswept.stands unswept.way unswept.older
-      (off_accounted w a.slot a.field kept unswept (below w a kept phase at) (within w a kept phase at) (released w a kept phase at) true)
+      accounted_count first w (words_without w a.slot a.field) (taken_off true w.collector.counts (target_of (word_at w a.slot a.field))) kept kept.mutators may.unswept.stands may.unswept.way may.unswept.older
+      (off_accounted w a.slot a.field may true)
       ((off_most true w.collector.counts (target_of (word_at w a.slot a.field))).slots ∙ slots)
       quiet (all_gathered w Freeing phase (λ t there. refl)) early
 

@@ -24,10 +24,10 @@ pub record IsQuiet (s t : State) : Type 0 where
   pub alike : AreAlike s t
   pub cyclic : (x i : ℕ) → (slot_at s x).set ≡ Some i → (slot_at t x).cyclic ≡ (slot_at s x).cyclic
 
-pub quiet_same : (s : State) → IsQuiet s s
+quiet_same : (s : State) → IsQuiet s s
 quiet_same s = record { alike = record { set = λ x. refl; released = λ x. refl; colour = λ x i e o. o }; cyclic = λ x i e. refl }
 
-pub quiet_then : {s t u : State} → IsQuiet s t → IsQuiet t u → IsQuiet s u
+quiet_then : {s t u : State} → IsQuiet s t → IsQuiet t u → IsQuiet s u
 quiet_then {s} {t} {u} q r = record {
   alike = record {
     set = λ x. r.alike.set x ∙ q.alike.set x;
@@ -37,7 +37,7 @@ quiet_then {s} {t} {u} q r = record {
   cyclic = λ x i e. r.cyclic x i (q.alike.set x ∙ e) ∙ q.cyclic x i e;
 }
 
-pub unheld_quiet : (fields : ℕ) (words left : List ℕ) (s t : State) → IsQuiet s t → AreUnheld fields words left s → AreUnheld fields words left t
+unheld_quiet : (fields : ℕ) (words left : List ℕ) (s t : State) → IsQuiet s t → AreUnheld fields words left s → AreUnheld fields words left t
 unheld_quiet fields words left s t q u = unheld_alike fields words left s t q.alike q.cyclic u
 
 -- no member is among these targets

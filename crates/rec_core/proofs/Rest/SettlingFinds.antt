@@ -10,6 +10,7 @@ use Rattle.rec_counts.specs.declared.slot.Slot.{Slot}
 use Rattle.rec_counts.specs.Counts.{State, slot_at}
 use Rattle.rec_counts.specs.Lists.{one, times}
 use Rattle.rec_counts.specs.Slot.{absent}
+use Rattle.rec_counts.proofs.Keeping.{unreleased_within}
 use Rattle.rec_trial.specs.Loaded.{Run}
 use Rattle.rec_trial.specs.Promised.{IsTrial}
 use Rattle.rec_trial.specs.Still.{AreStill, IsHeld, IsExact, IsReached, references, rest}
@@ -19,13 +20,6 @@ use Rattle.rec_trial.specs.Trial.{next_of}
 use Rattle.rec_core.specs.Settling.{unreleased_slots, IsOffered, IsReachable, IsGarbage, FindsGarbage}
 use Rattle.rec_core.specs.Settling as settling
 use Rattle.rec_core.proofs.Rest.SettlingSums.{sum_by_alike, times-range, times-filter}
-
--- a slot that is not released is in range
-pub unreleased_within : (s : State) (x : ℕ) → (slot_at s x).released ≡ false → x < length s.slots
-unreleased_within s x e = elim (cases_lt x (length s.slots)) [
-  | inl l ↦ l
-  | inr l ↦ absurd (false≢true (sym e ∙ ap (λ (v : Slot). v.released) (get_or_past s.slots x absent l)))
-]
 
 -- each stands once among them
 pub times_unreleased : (s : State) (x : ℕ) → times x (unreleased_slots s) ≡ one (not (slot_at s x).released)

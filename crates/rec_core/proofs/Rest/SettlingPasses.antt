@@ -4,6 +4,7 @@ use Rattle.std.proofs.lemmas.Bool.Decides.{eqb_tells}
 use Rattle.std.proofs.lemmas.Bool.{false≢true}
 use Rattle.std.proofs.lemmas.List.Sums.{sum_by-cons}
 use Rattle.rec_word.specs.Word.{target_of, is_slot}
+use Rattle.rec_word.specs.Place.{places_of}
 use Rattle.rec_model.specs.Sums.{only_if}
 use Rattle.rec_model.proofs.Sums.{sum_at_same}
 use Rattle.rec_model.proofs.Places.{sum_at_none-from_get_or}
@@ -12,15 +13,14 @@ use Rattle.rec_counts.specs.Counts.{State, IsKept, slot_at}
 use Rattle.rec_counts.specs.Groups.{last_set}
 use Rattle.rec_counts.specs.Lists.{one, times}
 use Rattle.rec_counts.specs.Slot.{is_in, unbuffered_if}
-use Rattle.rec_counts.proofs.Times.{one-same, times-nil, times-cons}
+use Rattle.rec_counts.proofs.Times.{one-same, times-nil, times-cons, one-some}
+use Rattle.rec_counts.proofs.Keeping.{set_there}
 use Rattle.rec_release.specs.CycleFree.{dead_if, given_up}
-use Rattle.rec_release.specs.Freed.{places_of}
 use Rattle.rec_release.proofs.Giving.{given_slot}
 use Rattle.rec_sigma.specs.Judged.{AreOrange, cyclic_sum}
 use Rattle.rec_sigma.specs.Prepare.{members_of}
-use Rattle.rec_sigma.proofs.Cyclics.{in_set, of_one, other_set, own_set}
+use Rattle.rec_sigma.proofs.Cyclics.{in_set, other_set, own_set}
 use Rattle.rec_core.specs.Settling.{leading, leading_outside, outside_sum, AreUnheld}
-use Rattle.rec_core.proofs.Rest.SettlingPrepared.{set_there}
 use Rattle.rec_core.proofs.Rest.SettlingSums.{times_places}
 
 -- a slot that was given up is released, and in no set; any other stays
@@ -108,7 +108,7 @@ module _ (fields : ℕ) (words : List ℕ) (s : State) (k : IsKept s) (u : AreUn
   number = length s.sets - 1
 
   in_last : (x : ℕ) → 0 < times x (members_of s number) → (slot_at s x).set ≡ Some number
-  in_last x m = in_set number (slot_at s x).set (of_one (is_in number (slot_at s x).set) (omega (arith, k.numbers number x, m)))
+  in_last x m = in_set number (slot_at s x).set (one-some (is_in number (slot_at s x).set) (omega (arith, k.numbers number x, m)))
 
   leads_some : (x : ℕ) (t : Option ℕ) → is_slot x t ≡ true → t ≡ Some x
   leads_some x None e = cc

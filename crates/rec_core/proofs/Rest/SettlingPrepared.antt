@@ -13,7 +13,7 @@ use Rattle.rec_model.proofs.Sums.{sum_at_split}
 use Rattle.rec_counts.specs.Counts.{State, IsKept, slot_at}
 use Rattle.rec_counts.specs.Lists.{one, times}
 use Rattle.rec_counts.specs.Slot.{is_in}
-use Rattle.rec_counts.proofs.Keeping.{members_once}
+use Rattle.rec_counts.proofs.Keeping.{members_once, set_there}
 use Rattle.rec_counts.proofs.Times.{in_range_once, one-le, one-same, times-nil, times_part}
 use Rattle.rec_sigma.specs.declared.at.At.{At}
 use Rattle.rec_sigma.specs.Prepared.{Load, PreparedTo, loaded_at, place_loaded, seen}
@@ -29,16 +29,6 @@ loads_more fields words loads a word below e h =
     let l : Load = record { slot = a.slot; field = a.field; word = word } in
     let here : IsLoadOf fields words l = record { field = below; word = e } in
     All-append (IsLoadOf fields words) loads (l ∷ []) h (All-cons (IsLoadOf fields words) l [] here (All-nil (IsLoadOf fields words)))
-
--- a slot in a set of this number shows that there is one
-pub set_there : (s : State) (number x : ℕ) → IsKept s → (slot_at s x).set ≡ Some number → number < length s.sets
-set_there s number x k is = elim (cases_lt number (length s.sets)) [
-  | inl below ↦ below
-  | inr past ↦
-      let in_it : one (is_in number (slot_at s x).set) ≡ 1 = ap (λ o. one (is_in number o)) is ∙ one-same number in
-      let none : times x (get_or s.sets number []) ≡ 0 = ap (times x) (get_or_past s.sets number [] past) ∙ times-nil x in
-      absurd (omega (arith, k.numbers number x, in_it, none))
-]
 
 -- counted where the word leads to the slot, and the slot that has the field is in the set of this number
 abbrev leading_inside : (fields : ℕ) → State → (number x place word : ℕ) → ℕ

@@ -6,23 +6,22 @@ use Rattle.std.proofs.lemmas.Bool.{eq-eqb}
 use Rattle.std.proofs.lemmas.List.Sums.{sum_by-cons}
 use Rattle.std.proofs.lemmas.Nat.{div-add-mod'}
 use Rattle.std.proofs.Math.Nat.{mod-lt}
-use Rattle.rec_word.specs.Place.{place_of}
+use Rattle.rec_word.specs.Place.{place_of, places_from}
 use Rattle.rec_word.specs.Word.{target_of, is_slot}
 use Rattle.rec_model.proofs.Sums.{sum_by_same, sum_by-map, sum_by-flat_map}
 use Rattle.rec_counts.specs.declared.colour.Colour.{Colour}
 use Rattle.rec_counts.specs.declared.colour.Colour.TheVariants.{Black, Purple, Gray, White, Orange}
 use Rattle.rec_counts.specs.Counts.{State, IsKept, slot_at}
 use Rattle.rec_counts.specs.Lists.{one, times}
+use Rattle.rec_counts.specs.Colour.{is_orange}
 use Rattle.rec_counts.proofs.Keeping.{no_set, some_set}
 use Rattle.rec_counts.proofs.Times.{times-nil}
 use Rattle.rec_trial.specs.Loaded.{Load, Run}
-use Rattle.rec_trial.specs.Moves.{is_orange}
 use Rattle.rec_trial.specs.Promised.{IsTrial}
 use Rattle.rec_trial.specs.Still.{AreStill, IsExact, references}
 use Rattle.rec_trial.specs.Still as still
 use Rattle.rec_trial.specs.Tried.{IsOver, is_of, loaded, edges, members}
 use Rattle.rec_trial.specs.Trial.{next_of}
-use Rattle.rec_sigma.specs.Prepared.{places_from}
 use Rattle.rec_core.specs.Settling.{unreleased_slots, IsOffered, LeadsToEarlier, LeadsFromMembers, word_in, leading, heap_sum, AreEmptied, LeadBack}
 use Rattle.rec_core.proofs.Rest.SettlingFinds.{all_marked, garbage_unheld, times_unreleased, trial_finds_garbage, unreleased_inside}
 use Rattle.rec_core.proofs.Rest.SettlingSums.{sum_at_same-from_get_or, sum_of_slots}
@@ -57,14 +56,14 @@ edge_of word n g x (l ∷ loads) a t =
     ]
 
 -- Words between sets lead from later sets to earlier ones.
-pub words_lead_to_earlier_sets : (fields : ℕ) (before : State) (words : List ℕ) (r : Run) (word : (slot field : ℕ) → ℕ) → IsTrial fields before words r → IsNone (next_of r.work.machine) → AreStill word r.collecting → LeadsToEarlier fields word r.work.counts
+words_lead_to_earlier_sets : (fields : ℕ) (before : State) (words : List ℕ) (r : Run) (word : (slot field : ℕ) → ℕ) → IsTrial fields before words r → IsNone (next_of r.work.machine) → AreStill word r.collecting → LeadsToEarlier fields word r.work.counts
 words_lead_to_earlier_sets fields before words r word t none c n g x i j below from to is_i is_j leads =
     let w = t.whole none in
     let o : IsOver fields before r w.0 = w.1 in
     o.none_later n x i j (omega (arith, edge_of word n g x r.collecting c leads, o.collecting n g below, from)) to is_i is_j
 
 -- Of the slots that are not released, members alone lead to members.
-pub only_members_lead_to_members : (fields : ℕ) (before : State) (words : List ℕ) (r : Run) (word : (slot field : ℕ) → ℕ) (holds : ℕ → ℕ) → IsTrial fields before words r → IsNone (next_of r.work.machine) → AreStill word r.marking → AreStill word r.blackening → IsOffered fields word holds before → LeadsFromMembers fields word r.work.counts
+only_members_lead_to_members : (fields : ℕ) (before : State) (words : List ℕ) (r : Run) (word : (slot field : ℕ) → ℕ) (holds : ℕ → ℕ) → IsTrial fields before words r → IsNone (next_of r.work.machine) → AreStill word r.marking → AreStill word r.blackening → IsOffered fields word holds before → LeadsFromMembers fields word r.work.counts
 only_members_lead_to_members fields before words r word holds t none m b a n g x below unreleased leads to =
     let e = t.exact word none m b in
     let exact : IsExact fields word before r e.0 = e.2 in

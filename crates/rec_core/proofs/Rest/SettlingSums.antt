@@ -6,12 +6,13 @@ use Rattle.std.proofs.lemmas.Bool.Decides.{nat_tests, eqb_tells}
 use Rattle.std.proofs.lemmas.Bool.{cases_lt, eq-eqb, ne_eqb}
 use Rattle.std.proofs.lemmas.List.Sums.{sum_by-cons}
 use Rattle.std.proofs.lemmas.Nat.{div-mul-add, div-add-mod'}
+use Rattle.rec_word.specs.Place.{places_from, places_of}
 use Rattle.rec_model.specs.Sums.{only_if, sum_at}
 use Rattle.rec_model.proofs.Places.{sum_at_only, sum_at-le-from_get_or}
 use Rattle.rec_model.proofs.Sums.{sum_at_none, sum_at_same, sum_at_split}
 use Rattle.rec_counts.specs.Lists.{one, times}
 use Rattle.rec_counts.proofs.Times.{times-nil, times-cons, times-append, one-same}
-use Rattle.rec_sigma.specs.Prepared.{places_from, places_of}
+use Rattle.rec_core.proofs.Places.{in_row, within_row}
 
 -- equal weights have equal sums, compared where each element stands
 pub sum_at_same-from_get_or : {X : Type 0} (f g : ℕ → X → ℕ) (xs : List X) (d : X) → ((i : ℕ) → i < length xs → f i (get_or xs i d) ≡ g i (get_or xs i d)) → sum_at f xs ≡ sum_at g xs
@@ -19,7 +20,7 @@ sum_at_same-from_get_or f g xs d h =
     omega (arith, sum_at-le-from_get_or f g xs d (λ i l. omega (arith, h i l)), sum_at-le-from_get_or g f xs d (λ i l. omega (arith, h i l)))
 
 -- a weight over numbers, as a sum over the places that they name
-pub sum_by_places : {X : Type 0} (f : ℕ → ℕ) (ns : List ℕ) (xs : List X) (d : X) → ((n : ℕ) → 0 < times n ns → n < length xs) → sum_by f ns ≡ sum_at (λ i (x : X). times i ns * f i) xs
+sum_by_places : {X : Type 0} (f : ℕ → ℕ) (ns : List ℕ) (xs : List X) (d : X) → ((n : ℕ) → 0 < times n ns → n < length xs) → sum_by f ns ≡ sum_at (λ i (x : X). times i ns * f i) xs
 sum_by_places {X} f [] xs d inside = sym (sum_at_none (λ i (x : X). times i [] * f i) xs (λ i x. ap (λ k. k * f i) (times-nil i) ∙ omega arith))
 sum_by_places {X} f (n ∷ ns) xs d inside =
     let here : n < length xs = inside n (omega (arith, times-cons n n ns, one-same n)) in
@@ -90,13 +91,6 @@ times_row base p field (suc n) =
     more : (base p field n rest all : ℕ) → all ≡ one (eqb p (base + field)) + rest → rest ≡ one (leb (base + (field + 1)) p && ltb p (base + (field + 1) + n)) → all ≡ one (leb (base + field) p && ltb p (base + field + suc n))
     more base p field n rest all e h = grind (arith, nat_tests)
 
--- a place is of the slot that has it, and of no other
-in_row : (slot fields p : ℕ) → slot * fields ≤ p → p < slot * fields + fields → p / fields ≡ slot
-in_row slot fields p from to =
-    let split : p ≡ slot * fields + (p - slot * fields) = omega arith in
-    let inside : p - slot * fields < fields = omega arith in
-    ap (λ q. q / fields) split ∙ div-mul-add slot fields (p - slot * fields) inside
-
 row_of : (slot fields p : ℕ) → 0 < fields → p / fields ≡ slot → (slot * fields ≤ p) × (p < slot * fields + fields)
 row_of slot fields p some e =
     let split : slot * fields + p % fields ≡ p = ap (λ q. q * fields + p % fields) (sym e) ∙ div-add-mod' p fields in
@@ -123,15 +117,8 @@ times_places fields p [] some = times-nil p ∙ sym (times-nil (p / fields))
 times_places fields p (n ∷ ns) some =
     omega (arith, times-append p (places_from fields n 0) (places_of fields ns), times-cons (p / fields) n ns, times_slot n fields p some, times_places fields p ns some)
 
--- a place of a slot is a place of the heap
-pub within_heap : (fields slots p : ℕ) → 0 < fields → p / fields < slots → p < slots * fields
-within_heap fields slots p some below =
-    let m : p / fields + 1 ≤ slots = omega (arith, below) in
-    let r = row_of (p / fields) fields p some refl in
-    omega (arith, mul-le-mul_left fields m, r.1)
-
 -- a weight over the places of these slots, as a sum over all words
 pub sum_of_slots : (f : ℕ → ℕ) (fields : ℕ) (ns words : List ℕ) (slots : ℕ) → 0 < fields → length words ≡ slots * fields → ((n : ℕ) → 0 < times n ns → n < slots) → sum_by f (places_of fields ns) ≡ sum_at (λ p (word : ℕ). times (p / fields) ns * f p) words
 sum_of_slots f fields ns words slots some long inside =
-    sum_by_places f (places_of fields ns) words 0 (λ p h. omega (arith, long, within_heap fields slots p some (inside (p / fields) (omega (arith, h, times_places fields p ns some)))))
+    sum_by_places f (places_of fields ns) words 0 (λ p h. omega (arith, long, within_row fields slots p some (inside (p / fields) (omega (arith, h, times_places fields p ns some)))))
     ∙ sum_at_same (λ p (word : ℕ). times p (places_of fields ns) * f p) (λ p word. times (p / fields) ns * f p) words (λ p word. ap (λ k. k * f p) (times_places fields p ns some))

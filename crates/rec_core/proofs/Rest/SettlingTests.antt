@@ -15,10 +15,12 @@ use Rattle.rec_counts.specs.Rest.{KeepsRest}
 use Rattle.rec_counts.specs.Slot.{absent, is_in, lessened, lowered, due_of}
 use Rattle.rec_counts.specs.declared.slot.Due.{Due}
 use Rattle.rec_counts.specs.declared.slot.Due.TheVariants.{Nothing, Zero, Root}
-use Rattle.rec_counts.proofs.Decrementing.{rest_decremented}
+use Rattle.rec_counts.specs.Colour.{is_orange}
+use Rattle.rec_counts.proofs.Decrementing.{rest_decremented, same_slot}
 use Rattle.rec_counts.proofs.Keeping.{field_kept}
 use Rattle.rec_counts.proofs.Times.{times-cons}
-use Rattle.rec_release.specs.TakenOff.{is_orange, down_if, taken_off}
+use Rattle.rec_release.specs.TakenOff.{down_if, taken_off}
+use Rattle.rec_release.proofs.Orange.{orange_from}
 use Rattle.rec_sigma.specs.Prepared.{Load, PreparedTo}
 use Rattle.rec_sigma.proofs.Cyclics.{in_set}
 use Rattle.rec_core.specs.Settling.{IsOffered, word_in, AreEmptied, leading, heap_sum, leading_outside, outside_sum, AreLoadsOf, LeadBack, AreUnheld}
@@ -76,17 +78,6 @@ unheld_prepared fields words before after loads some k long still p counted b = 
       colour = λ x i e o. ap (λ (v : Slot). v.colour) (p.others.slots x) ∙ o;
     }
 
--- So it is after a trial that was offered every slot, and the preparation of the sets that it found.
-pub unheld_found : (fields : ℕ) (before after : State) (words heap : List ℕ) (r : Run) (holds : ℕ → ℕ) (loads : List Load) → IsTrial fields before words r → IsNone (next_of r.work.machine) →
-    AreStill (word_in fields heap) r.marking → AreStill (word_in fields heap) r.blackening → AreStill (word_in fields heap) r.collecting → IsOffered fields (word_in fields heap) holds before → IsKept r.work.counts →
-    length heap ≡ length before.slots * fields → AreEmptied fields heap [] before → AreLoadsOf fields heap loads → PreparedTo fields r.work.counts None after loads → AreUnheld fields heap [] after
-unheld_found fields before after words heap r holds loads t none marks blacks finds a kept long empty still p =
-    unheld_prepared fields heap r.work.counts after loads t.wide kept (long ∙ ap (λ n. n * fields) (sym t.careful.slots)) still p (found_counts fields before words heap r holds t none marks blacks finds a kept long empty) (found_lead_back fields before words heap r holds t none marks blacks finds a kept long empty)
-
--- null leads nowhere
-null_leads : (x : ℕ) → leading x 0 ≡ 0
-null_leads x = refl
-
 -- what comes of the counts of a member, where a reference is taken off its target
 record IsOff (s t : State) (target : Option ℕ) : Type 0 where
   alike : AreAlike s t
@@ -119,15 +110,9 @@ off_lowered s y o = record {
       | inr l ↦ let black : Black ≡ Orange = ap (λ (v : Slot). v.colour) (sym (get_or_past s.slots y absent l)) ∙ o in cc
     ]
 
--- where it goes changes no slot
-sent_slot : (d : Due) (s : State) (y x : ℕ) → slot_at (sent d s y) x ≡ slot_at s x
-sent_slot Nothing s y x = refl
-sent_slot Zero s y x = refl
-sent_slot Root s y x = refl
-
 -- another slot keeps all
 pub decremented_other : (s : State) (y x : ℕ) → x ≢ y → slot_at (decremented s y) x ≡ slot_at s x
-decremented_other s y x d = sent_slot (due_of (slot_at s y)) (with_slot s y (lessened (slot_at s y))) y x ∙ get_or-set_other s.slots y x (lessened (slot_at s y)) absent d
+decremented_other s y x d = same_slot s y x ∙ get_or-set_other s.slots y x (lessened (slot_at s y)) absent d
 
 -- a target that is not orange is decremented
 off_decremented : (s : State) (y : ℕ) → ((slot_at s y).colour ≡ Orange → ⊥) → IsOff s (decremented s y) (Some y)
@@ -145,13 +130,6 @@ off_decremented s y d =
     apart : (x : ℕ) → (slot_at s x).colour ≡ Orange → x ≢ y
     apart x h e = d (ap (λ z. (slot_at s z).colour) (sym e) ∙ h)
 
-orange_is : (c : Colour) → is_orange c ≡ true → c ≡ Orange
-orange_is Black e = cc
-orange_is Purple e = cc
-orange_is Gray e = cc
-orange_is White e = cc
-orange_is Orange e = refl
-
 orange_not : (c : Colour) → is_orange c ≡ false → c ≡ Orange → ⊥
 orange_not Orange e h = cc
 orange_not Black e h = cc
@@ -164,7 +142,7 @@ off s None = record { alike = record { set = λ x. refl; released = λ x. refl; 
 off s (Some y) = go (is_orange (slot_at s y).colour) refl
   where
     go : (b : Bool) → is_orange (slot_at s y).colour ≡ b → IsOff s (down_if b s y) (Some y)
-    go true e = off_lowered s y (orange_is (slot_at s y).colour e)
+    go true e = off_lowered s y (orange_from (slot_at s y).colour e)
     go false e = off_decremented s y (orange_not (slot_at s y).colour e)
 
 -- a slot that is released is in no set

@@ -88,7 +88,7 @@ module _ (w : Core) (n slot : ℕ) (kept : IsKept w) (phase : w.collector.phase 
   free_held = omega (arith, ap (λ k. one (k == 0)) header_free)
 
   -- and what was held is
-  pub holds_other : (x : ℕ) → x ≢ slot → holds (sight after) x ≡ holds (sight w) x
+  holds_other : (x : ℕ) → x ≢ slot → holds (sight after) x ≡ holds (sight w) x
   holds_other x other = ap (λ k. sum_by (named x) (sight w).registers + one (k == 0)) (get_or-set_other w.headers slot x 0 1 other)
 
   still_held : (x : ℕ) → IsHeldIn w w.words x → IsHeldIn after w.words x

@@ -8,11 +8,12 @@ use Rattle.rec_collector.specs.declared.turn.Turn.TheVariants.{Waiting}
 use Rattle.rec_core.specs.Config.{IsMutator}
 use Rattle.rec_core.specs.Core.{Core}
 use Rattle.rec_core.specs.declared.config.Config.{Config}
+use Rattle.rec_core.specs.Worked.{WaitsFor}
 use Rattle.rec_world.specs.Journal.{Notes}
 use Rattle.rec_world.specs.World.{TurnHasCause}
 use Rattle.rec_script.specs.Script.{Contents}
 use Rattle.rec_play.specs.Commanded.{Turned, noted}
-use Rattle.rec_play.specs.Run.{WaitsFor, commands_of}
+use Rattle.rec_play.specs.Run.{commands_of}
 use Rattle.rec_play.proofs.Commands.{polled_by, turned_idle, waits_for_one}
 use Rattle.rec_play.proofs.Rounds.{journal_is, commands_are}
 use Rattle.rec_play.proofs.playing.give_collector_turn.Goals as goal

@@ -3,8 +3,9 @@ use Rattle.rec_counts.specs.Counts.{State, slot_at, with_slot}
 use Rattle.rec_counts.specs.Groups.{last_set}
 use Rattle.rec_counts.specs.Lists.{times}
 use Rattle.rec_counts.proofs.Times.{one-le, times-nil}
+use Rattle.rec_counts.proofs.Keeping.{last_once}
 use Rattle.rec_release.specs.CycleFree.{dead_if}
-use Rattle.rec_release.proofs.Giving.{dying_first, dying_last, dying_more, dying_work, last_in_range, last_once}
+use Rattle.rec_release.proofs.Giving.{dying_first, dying_last, dying_more, dying_work, last_in_range}
 use Rattle.rec_release.proofs.cycle_free.give_up.Goals as goal
 
 pub drop_set-requires-clause-new : goal.drop_set-requires-clause-new

@@ -5,9 +5,10 @@ use Rattle.rec_counts.specs.declared.slot.Slot.{Slot}
 use Rattle.rec_counts.specs.Counts.{State, slot_at, with_slot}
 use Rattle.rec_counts.specs.Lists.{times}
 use Rattle.rec_counts.proofs.Times.{times-nil}
+use Rattle.rec_counts.proofs.Changing.{changed_more}
 use Rattle.rec_sigma.specs.Prepare.{members_of, renewed_if}
 use Rattle.rec_sigma.proofs.Members.{member_in_range}
-use Rattle.rec_sigma.proofs.Cyclics.{renewed_more, renewed_all}
+use Rattle.rec_sigma.proofs.Cyclics.{renewed_all, renewed_twice}
 use Rattle.rec_sigma.proofs.prepare.renew.Goals as goal
 
 pub loop-index-init : goal.loop-index-init
@@ -35,7 +36,7 @@ loop-index-preserved c =
     record {
       rest = w ∙ ap (λ (st : State). record st { slots = set s.slots m (renewed_if true (slot_at s m)) }) c.loop-index.invariant.rest ∙ ap {A = State} {B = State} (λ st. record old { slots = st.slots }) (sym w);
       many = ap (λ st. length st.slots) w ∙ length-set s.slots m (renewed_if true (slot_at s m)) ∙ c.loop-index.invariant.many;
-      slots = λ x. ap (λ st. slot_at st x) w ∙ renewed_more s.slots old.slots ms i l r c.loop-index.invariant.slots x;
+      slots = λ x. ap (λ st. slot_at st x) w ∙ changed_more renewed_if renewed_twice s.slots old.slots ms i l r c.loop-index.invariant.slots x;
     }
 
 pub returns : goal.returns

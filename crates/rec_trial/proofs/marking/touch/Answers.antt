@@ -1,6 +1,6 @@
 use Rattle.std.proofs.Common.{◌≡◌, false, rules}
 use Rattle.rec_counts.specs.Counts.{slot_at}
-use Rattle.rec_trial.specs.Moves.{is_gray}
+use Rattle.rec_counts.specs.Colour.{is_gray}
 use Rattle.rec_trial.proofs.Conditions.{touched_made}
 use Rattle.rec_trial.proofs.marking.touch.Goals as goal
 

@@ -1,5 +1,5 @@
 -- The place returned is that of the arguments, and no other field has it.
-use Rattle.rec_word.proofs.OnePlace.{one_place}
+use Rattle.rec_word.proofs.FieldPlaces.{one_place}
 use Rattle.rec_word.proofs.places.place.Goals as goal
 
 pub returns-clause-only : goal.returns-clause-only

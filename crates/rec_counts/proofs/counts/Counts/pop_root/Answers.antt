@@ -1,25 +1,21 @@
-use Rattle.std.proofs.Common.{◌≡◌, ℕ, ◌<◌, List, length, get_or, Some, [], ◌∷◌, drop, slice_get, rules, sym, ◌∙◌, ap, refl}
+use Rattle.std.proofs.Common.{◌≡◌, ◌<◌, length, get_or, ◌∷◌, drop, rules, sym, ◌∙◌, ap, refl}
 use Rattle.std.proofs.lemmas.List.{get_or_read, length-set}
 use Rattle.rec_counts.specs.declared.slot.Slot.{Slot}
 use Rattle.rec_counts.specs.Slot.{absent}
 use Rattle.rec_counts.proofs.Keeping as keeping
 use Rattle.rec_counts.proofs.Lessening.{room_kept}
 use Rattle.rec_counts.proofs.counts.Counts.pop_root.Goals as goal
-
--- the first and the rest
-front : (xs : List ℕ) (x : ℕ) → slice_get xs 0 ≡ Some x → xs ≡ x ∷ drop 1 xs
-front [] x e = cc
-front (y ∷ ys) x e = cc
+use Rattle.rec_counts.proofs.Front.{first_and_rest}
 
 pub index_mut-requires : goal.index_mut-requires
 index_mut-requires c =
-    let e : c.self.inside.roots.list ≡ c.in_ok-slot.slot ∷ drop 1 c.self.inside.roots.list = front _ _ (sym c.pop.ensures.first ∙ c.in_ok-slot.was) in
+    let e : c.self.inside.roots.list ≡ c.in_ok-slot.slot ∷ drop 1 c.self.inside.roots.list = first_and_rest _ _ (sym c.pop.ensures.first ∙ c.in_ok-slot.was) in
     let l : c.in_ok-slot.slot < length c.self.inside.slots.items = keeping.first_root_in_range c.self.invariant.0 c.in_ok-slot.slot _ e in
     search rules
 
 pub invariant_of-self-2 : goal.invariant_of-self-2
 invariant_of-self-2 c =
-    let e : c.self.inside.roots.list ≡ c.in_ok-slot.slot ∷ drop 1 c.self.inside.roots.list = front _ _ (sym c.pop.ensures.first ∙ c.in_ok-slot.was) in
+    let e : c.self.inside.roots.list ≡ c.in_ok-slot.slot ∷ drop 1 c.self.inside.roots.list = first_and_rest _ _ (sym c.pop.ensures.first ∙ c.in_ok-slot.was) in
     let l : c.in_ok-slot.slot < length c.self.inside.slots.items = keeping.first_root_in_range c.self.invariant.0 c.in_ok-slot.slot _ e in
     let v : c.index_mut.result.now ≡ get_or c.self.inside.slots.items c.in_ok-slot.slot absent = get_or_read _ _ _ l c.index_mut.ensures.value absent in
     rw c.pop.ensures.rest (keeping.keep_pop_root c.self.invariant.0 c.in_ok-slot.slot _ _ e refl (ap (λ (w : Slot). w.set) v), room_kept c.self.invariant.1 (length-set c.self.inside.slots.items c.in_ok-slot.slot _))

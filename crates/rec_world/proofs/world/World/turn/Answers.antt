@@ -11,8 +11,9 @@ use Rattle.rec_word.specs.declared.op.Op.TheVariants.{FreeHeader}
 use Rattle.rec_model.specs.Sight.{StandsBy}
 use Rattle.rec_log.specs.declared.contents.Contents.{Contents}
 use Rattle.rec_collector.specs.Causes.{HasCause}
-use Rattle.rec_collector.specs.Given.{IsGiven, IsSized}
+use Rattle.rec_collector.specs.Given.{IsGiven, IsSized, IsSwapping}
 use Rattle.rec_collector.specs.Next.{next_of}
+use Rattle.rec_collector.specs.Private.{Private}
 use Rattle.rec_collector.specs.Took.{took_of}
 use Rattle.rec_collector.specs.declared.phase.Phase.{Phase}
 use Rattle.rec_collector.specs.declared.phase.Phase.TheVariants.{Idle, Looking}
@@ -33,7 +34,7 @@ use Rattle.rec_world.specs.Inside.{core}
 use Rattle.rec_world.specs.Mailbox.{held, held_by}
 use Rattle.rec_world.specs.World.{IsWorld, TurnHasCause}
 use Rattle.rec_world.proofs.Calls.{ReadyToTurn, ready_to_turn, box_read, moved_world}
-use Rattle.rec_world.proofs.Turnings.{home_still, looks_at, looks_for, looked_word, turned_is, turn_cause, turn_requests}
+use Rattle.rec_world.proofs.Turnings.{holding_took, home_still, looks_at, looks_for, looked_word, turned_is, turn_cause, turn_requests}
 use Rattle.rec_world.proofs.world.World.turn.Goals as goal
 use Rattle.rec_world.proofs.world.World.turn.Goals.{In_default, In-Some, After-gather}
 
@@ -77,6 +78,11 @@ looked c = subst (λ x. IfSome x (λ t. t ≡ looked_at c.self.inside.collector.
 with_looked : (P : ℕ → Type 0) (x : Option ℕ) (n : ℕ) → IfSome x (λ t. t ≡ n) → P n → IfSome x P
 with_looked P None n same holds = tt
 with_looked P (Some t) n same holds = subst P (sym same) holds
+
+pub gather-requires-clause-taken : goal.gather-requires-clause-taken
+gather-requires-clause-taken c =
+    let at : In-Some = (goal.at.gather-requires-clause-taken c).In-Some in
+    subst (λ (q : Private). IsSwapping q.phase → IsSome (mailbox_of c.in-Some.op)) (sym c.took-turn.ensures.took) (holding_took c.self.inside.collector c.in-Some.op c.perform-found.result (begins at).kept.collector.between (named at))
 
 pub gather-requires-clause-there : goal.gather-requires-clause-there
 gather-requires-clause-there c =

@@ -17,9 +17,10 @@ use Rattle.rec_mutator.specs.Step.{Step, Decides, GoesOn, Crosses, HasRoom}
 use Rattle.rec_mutator.specs.Took.{IsFound}
 use Rattle.rec_mutator.specs.declared.phase.Phase.{Phase}
 use Rattle.rec_mutator.specs.declared.work.Work.TheVariants as works
+use Rattle.rec_mutator.proofs.Refusals.{at_phase}
 
 -- where a field word leads may be a slot
-pub word_target : (word : ℕ) → IsTarget (target_of word)
+word_target : (word : ℕ) → IsTarget (target_of word)
 word_target word = grind arith
 
 -- what a register names may be a slot
@@ -28,10 +29,6 @@ register_target p r m = elim (cases_lt r (length p.registers)) [
   | inl there ↦ All-get_or IsTarget p.registers r None there m.registers
   | inr past ↦ subst IsTarget (sym (get_or_past p.registers r None past)) tt
 ]
-
--- what holds in the phase of a machine
-pub at_phase : (p : Private) (at : Phase) → IsMachine p → p.phase ≡ at → IsAt p at
-at_phase p at m is = subst (IsAt p) is m.now
 
 -- an answer leaves a machine
 decided_machine : {p : Private} {op : Op} {q : Private} {cmd : Cmd} {at : Phase} {its_op : Op} {registers : List (Option ℕ)} {entries : List Entry} {told : Told}
@@ -94,7 +91,7 @@ pub record IsBox (p : Private) (box : Contents) : Type 0 where
   pub entries : length box.entries ≤ box.capacity
 
 -- the log is such a buffer
-pub own_box : (p : Private) → IsMachine p → IsBox p p.log
+own_box : (p : Private) → IsMachine p → IsBox p p.log
 own_box p m = record { snapshot = m.snapshot; capacity = refl; entries = m.entries }
 
 -- so does a step of a crossing

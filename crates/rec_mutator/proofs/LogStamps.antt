@@ -3,8 +3,8 @@ use Rattle.std.proofs.Common.{◌≡◌, ℕ, ◌^◌, ◌<◌, ◌≤◌, lengt
 use Rattle.rec_word.specs.Word.{stamp_of}
 use Rattle.rec_mutator.specs.Private.{Private, register, word_for, next_stamp, IsMachine}
 use Rattle.rec_mutator.specs.Step.{HasRoom}
-use Rattle.rec_core.proofs.Machines.{has_room, register_target}
-use Rattle.rec_core.proofs.Stamps.{stamp_of-packed}
+use Rattle.rec_mutator.proofs.Machines.{has_room, register_target}
+use Rattle.rec_word.proofs.Packing.{stamp_of-packed}
 
 -- the word that a machine would write has the stamp of the next entry
 pub word_stamp : (p : Private) (val : ℕ) → IsMachine p → HasRoom p → stamp_of (word_for p val) ≡ next_stamp p

@@ -1,0 +1,10 @@
+-- The first of a list, and the rest of it.
+use Rattle.std.proofs.Common.{◌≡◌, ℕ, None, Some, List, [], ◌∷◌, drop, slice_get, refl}
+
+pub first_and_rest : (xs : List ℕ) (x : ℕ) → slice_get xs 0 ≡ Some x → xs ≡ x ∷ drop 1 xs
+first_and_rest [] x e = cc
+first_and_rest (y ∷ ys) x e = cc
+
+pub nothing_first : (xs : List ℕ) → slice_get xs 0 ≡ None → xs ≡ []
+nothing_first [] e = refl
+nothing_first (x ∷ xs) e = cc

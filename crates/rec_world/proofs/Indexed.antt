@@ -1,0 +1,62 @@
+-- An operation's word is at its number in the row, and what is written there is the operation's.
+use Rattle.std.proofs.Common.{◌≡◌, ℕ, ◌+◌, ◌-◌, ◌<◌, ◌≤◌, List, [], ◌∷◌, ◌++◌, length, get_or, set, take, replicate, append_assoc, length-set, sym, ap, subst, ◌∙◌, arith}
+use Rattle.std.specs.Vec.{with_item}
+use Rattle.std.proofs.lemmas.List.{get_or_default, set-get_or, take_all, length-replicate}
+use Rattle.rec_word.specs.Op.{written}
+use Rattle.rec_word.specs.declared.op.Op.{Op}
+use Rattle.rec_core.specs.Cells.{Cells, IsWithin, with_cell}
+use Rattle.rec_core.specs.Row.{row, index_of, cells_of_row}
+use Rattle.rec_core.proofs.Row.{cells_row, in_row, left_at, slots_are}
+use Rattle.rec_world.specs.Indexed.{cells, Finds, IsLaidOut}
+use Rattle.rec_world.specs.declared.memory.Memory.TheInside.{Inside}
+
+module _ (m : Inside) (laid : IsLaidOut m) where
+  -- the row is long enough, with a header for each slot
+  pub long : m.places + m.slots + 2 ≤ length m.row.items
+  long = omega (arith, laid.freed, laid.long)
+
+  pub headers_many : length (cells m).headers ≡ m.slots
+  headers_many = slots_are m.places m.slots m.row.items long
+
+  module _ (now : Cells) (view : cells m ≡ now) (op : Op) (within : IsWithin now op) (i : ℕ) (at : i ≡ index_of m.places m.slots op) where
+    is : IsWithin (cells m) op
+    is = subst (λ (c : Cells). IsWithin c op) (sym view) within
+
+    -- what a write of the operation's word leaves
+    pub written_is : (x : ℕ) → cells_of_row m.places m.slots (set m.row.items i x) ≡ with_cell (cells m) op x
+    written_is x = ap (λ n. cells_of_row m.places m.slots (set m.row.items n x)) at ∙ left_at m.places m.slots m.row.items long op x is
+
+    pub left_is : (x found : ℕ) → x ≡ written op found → cells_of_row m.places m.slots (set m.row.items i x) ≡ with_cell now op (written op found)
+    left_is x found leaves = written_is x ∙ (λ j. with_cell (view j) op (leaves j))
+
+    -- a load leaves all as it was
+    pub loaded_is : (found : ℕ) → written op found ≡ found → found ≡ get_or m.row.items i found → now ≡ with_cell now op (written op found)
+    loaded_is found leaves read =
+        let there : i < length m.row.items = subst (λ n. n < length m.row.items) (sym at) (in_row m.places m.slots m.row.items long op is) in
+        let same : set m.row.items i found ≡ m.row.items = ap (set m.row.items i) (read ∙ get_or_default m.row.items i found 0 there) ∙ set-get_or m.row.items i 0 in
+        sym view ∙ ap (cells_of_row m.places m.slots) (sym same) ∙ left_is found found (sym leaves)
+
+    -- the row is laid out as before where the index goes with the headers
+    pub laid_again : (x : ℕ) (free : List ℕ) → Finds (with_cell (cells m) op x).headers free → IsLaidOut (record m { row = with_item m.row i x; free = free })
+    laid_again x free finds =
+        record {
+          freed = laid.freed;
+          long = omega (arith, laid.long, length-set m.row.items i x);
+          few = laid.few;
+          free = subst (λ (c : Cells). Finds c.headers free) (sym (written_is x)) finds;
+        }
+
+-- a row that is filled up to this length
+pub filled_up : (n len x many : ℕ) (old now : List ℕ) → old ≡ now → length now ≤ n → n - len ≡ many → take n old ++ replicate (n - len) x ≡ now ++ replicate many x
+filled_up n len x many old now is few rest = (λ i. take n (is i) ++ replicate (rest i) x) ∙ ap (λ l. l ++ replicate many x) (take_all n now few)
+
+-- the row of a heap as it is opened
+pub opened_cells : (places slots mutators epoch word : ℕ) → 0 < slots
+    → cells_of_row places slots (((((replicate places 0 ++ 1 ∷ []) ++ replicate (slots - 1) 0) ++ epoch ∷ []) ++ 0 ∷ []) ++ replicate mutators word)
+    ≡ record { headers = 1 ∷ replicate (slots - 1) 0; words = replicate places 0; epoch = epoch; freed = 0; crossing = replicate mutators word }
+opened_cells places slots mutators epoch word some =
+    let c : Cells = record { headers = 1 ∷ replicate (slots - 1) 0; words = replicate places 0; epoch = epoch; freed = 0; crossing = replicate mutators word } in
+    let laid : ((((replicate places 0 ++ 1 ∷ []) ++ replicate (slots - 1) 0) ++ epoch ∷ []) ++ 0 ∷ []) ++ replicate mutators word ≡ row c = simp append_assoc in
+    let many_places : length c.words ≡ places = length-replicate places 0 in
+    let many_slots : length c.headers ≡ slots = omega (arith, some, length-replicate {A = ℕ} (slots - 1) 0) in
+    (λ i. cells_of_row (sym many_places i) (sym many_slots i) (laid i)) ∙ cells_row c
