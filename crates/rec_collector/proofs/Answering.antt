@@ -14,9 +14,9 @@ use Rattle.rec_sigma.specs.declared.at.At as loads
 use Rattle.rec_sigma.specs.Refurbish.{AreReleased}
 use Rattle.rec_sigma.specs.Settling.{refurbished_of}
 use Rattle.rec_trial.specs.Trial as trials
-use Rattle.rec_collector.specs.Followed.{Next, followed, next_in, prep_started, prepared, prepared_at, relieved, relieved_at, sweep_phase, tested_next, tested_on, trial_started, tried, tried_at, with_prep}
+use Rattle.rec_collector.specs.Followed.{Next, followed, next_in, prep_started, prepared, prepared_at, sweep_phase, tested_next, tested_on, trial_started, tried, tried_at, with_prep}
 use Rattle.rec_collector.specs.Parts.{Parts}
-use Rattle.rec_collector.specs.Testing.{counted_by, last_tested, tested, tested_as, verdict_of, with_freeing, with_release, zeros_released}
+use Rattle.rec_collector.specs.Testing.{counted_by, last_tested, tested, tested_as, verdict_of, with_freeing, zeros_released}
 use Rattle.rec_collector.specs.declared.sets.Sets.{Sets}
 use Rattle.rec_collector.specs.declared.verdict.Verdict.{Verdict}
 use Rattle.rec_collector.specs.declared.verdict.Verdict.TheVariants.{Passed, Touched, Held}

@@ -21,7 +21,6 @@ use Rattle.rec_apply.proofs.Whole.{batch_rests}
 use Rattle.rec_release.specs.Release.{IsReady}
 use Rattle.rec_release.specs.TakenOff.{AllZerosButOrange, IsApart, IsMember}
 use Rattle.rec_release.specs.declared.at.At.{At}
-use Rattle.rec_release.proofs.Orange.{off_keeps}
 use Rattle.rec_release.proofs.TakenOff.{written}
 use Rattle.rec_trial.specs.Trial.{next_of as trial_next}
 use Rattle.rec_trial.proofs.Worked.{kept_by_all}

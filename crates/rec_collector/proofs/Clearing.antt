@@ -1,6 +1,6 @@
 -- From a batch to the next trial: what holds of the parts while slots are released and sets tested stays, move by move, and at the
 -- end a trial can begin.
-use Rattle.std.proofs.Common.{◌≡◌, ◌≢◌, ◌⊎◌, ℕ, zero, suc, ◌+◌, ◌-◌, ◌<◌, ◌≤◌, Bool, true, false, cond, Option, None, Some, IsNone, IsSome, IfSome, List, [], ◌∷◌, ◌++◌, length, slice_get, refl, arith, sym, ◌∙◌, ap, subst, inl, inr}
+use Rattle.std.proofs.Common.{◌≡◌, ◌≢◌, ◌⊎◌, ℕ, zero, suc, ◌+◌, ◌-◌, ◌<◌, ◌≤◌, Bool, true, false, cond, None, Some, IsNone, IsSome, IfSome, List, [], ◌∷◌, ◌++◌, length, slice_get, refl, arith, sym, ◌∙◌, ap, subst, inl, inr}
 use Rattle.std.specs.List.{concat}
 use Rattle.std.proofs.lemmas.Bool.{cases_lt, false≢true}
 use Rattle.std.proofs.lemmas.List.{nil_from_length}
@@ -20,7 +20,7 @@ use Rattle.rec_release.specs.declared.member.Member.{Member}
 use Rattle.rec_release.proofs.Freeing.{more_field, off_work}
 use Rattle.rec_release.proofs.Giving.{given_is_work, first_none}
 use Rattle.rec_release.proofs.Keeping.{held_off, ready_emptied, work_next, work_on}
-use Rattle.rec_release.proofs.TakenOff.{off_most, ready_off, KeepsMost}
+use Rattle.rec_release.proofs.TakenOff.{ready_off}
 use Rattle.rec_sigma.specs.Refurbish.{IsRefusable, LastRefurbished}
 use Rattle.rec_sigma.specs.Settling.{refurbished_of}
 use Rattle.rec_sigma.proofs.Refused.{released_after, zeros_after}

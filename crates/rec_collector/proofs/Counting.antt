@@ -4,7 +4,6 @@ use Rattle.rec_word.specs.Word.{target_of}
 use Rattle.rec_counts.specs.Counts.{State, slot_at, IsKept}
 use Rattle.rec_counts.specs.Lists.{times}
 use Rattle.rec_release.specs.Release.{emptied, started_of as zeros_started, IsHeld}
-use Rattle.rec_release.specs.Sweep as sweeps
 use Rattle.rec_release.proofs.Keeping.{held_off}
 use Rattle.rec_release.proofs.TakenOff.{off_most, KeepsMost}
 use Rattle.rec_release.proofs.Kept.{off_kept, emptied_kept, first_kept, members_listed, given_kept}

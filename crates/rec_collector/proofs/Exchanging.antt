@@ -20,7 +20,7 @@ use Rattle.rec_release.specs.declared.at.At.{At}
 use Rattle.rec_release.specs.declared.member.Member.{Member}
 use Rattle.rec_release.proofs.Giving.{given_many, given_released}
 use Rattle.rec_release.proofs.Keeping.{emptied_length, first_zero, next_length, ready_emptied, released_first, released_same, FirstZero}
-use Rattle.rec_release.proofs.TakenOff.{off_most, ready_off, KeepsMost}
+use Rattle.rec_release.proofs.TakenOff.{ready_off}
 use Rattle.rec_sigma.specs.Refurbish.{LastRefurbished}
 use Rattle.rec_sigma.specs.Settling.{refurbished_of}
 use Rattle.rec_sigma.proofs.Refused.{same_released}
@@ -32,7 +32,7 @@ use Rattle.rec_collector.specs.Testing.{is_busy, last_tested, tested, with_relea
 use Rattle.rec_collector.specs.declared.verdict.Verdict.{Verdict}
 use Rattle.rec_collector.proofs.Clearing.{freed_clear, last_stays, refused_clear, StaysClear, release_alone, release_at_work, freeing_at_work}
 use Rattle.rec_collector.proofs.Counting.{Counted}
-use Rattle.rec_collector.proofs.Goings.{freed_by, freed_last, freed_more, freed_next, freed_off, last_by, last_given, last_refused, none_some, released_by, released_emptied, released_last, released_more, released_off, relieved_by, some_none, tested_all, released_most, freed_most}
+use Rattle.rec_collector.proofs.Goings.{freed_by, freed_last, freed_more, freed_next, freed_off, last_by, last_given, last_refused, none_some, released_by, released_emptied, released_last, released_more, released_off, relieved_by, tested_all, released_most, freed_most}
 use Rattle.rec_collector.proofs.Told.{last_same}
 use Rattle.rec_collector.proofs.Judging.{last_freeable, last_refusable, none_busy}
 

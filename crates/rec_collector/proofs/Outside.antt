@@ -1,8 +1,8 @@
 -- What each move leaves of the outside counts: an orange member is as it was, or was lowered.
-use Rattle.std.proofs.Common.{◌≡◌, ℕ, ◌+◌, ◌-◌, ◌<◌, Bool, true, false, eqb, Option, None, Some, IfSome, List, [], ◌∷◌, length, get_or, refl, arith, sym, ◌∙◌, ap, subst, inl, inr}
+use Rattle.std.proofs.Common.{◌≡◌, ℕ, ◌+◌, ◌-◌, ◌<◌, Bool, true, false, eqb, Option, None, Some, IfSome, List, [], ◌∷◌, length, refl, arith, sym, ◌∙◌, ap, subst, inl, inr}
 use Rattle.std.specs.List.{concat}
 use Rattle.std.proofs.lemmas.Bool.{cases_lt, false≢true}
-use Rattle.std.proofs.lemmas.List.{append-nil, get_or_past}
+use Rattle.std.proofs.lemmas.List.{append-nil}
 use Rattle.std.proofs.lemmas.Option.{none-some}
 use Rattle.rec_word.specs.Place.{places_of}
 use Rattle.rec_counts.specs.declared.colour.Colour.TheVariants.{Orange}
@@ -11,9 +11,8 @@ use Rattle.rec_counts.specs.declared.slot.Due.{Due}
 use Rattle.rec_counts.specs.declared.slot.Due.TheVariants.{Nothing, Zero, Root}
 use Rattle.rec_counts.specs.Counts.{State, IsKept, slot_at, with_slot, sent}
 use Rattle.rec_counts.specs.Groups.{last_set}
-use Rattle.rec_counts.specs.Lists.{one, times}
+use Rattle.rec_counts.specs.Lists.{times}
 use Rattle.rec_counts.specs.Slot.{is_in, lessened, lessened_if, lowered, due_of, raised, swept_clean, unbuffered_if}
-use Rattle.rec_counts.proofs.Times.{one-same, times-nil}
 use Rattle.rec_counts.proofs.Keeping.{set_there}
 use Rattle.rec_release.specs.CycleFree.{dead_if, given_up}
 use Rattle.rec_release.specs.Release.{without_first}

@@ -19,7 +19,7 @@ use Rattle.rec_trial.proofs.Worked.{kept_by_all}
 use Rattle.rec_collector.specs.Clearing.{IsUntried}
 use Rattle.rec_collector.specs.Parts.{Parts}
 use Rattle.rec_collector.specs.Private.{Private, parts_of}
-use Rattle.rec_collector.specs.Kept.{IsAt, IsMachine, IsTried, NoneReleased, KeepsSizes}
+use Rattle.rec_collector.specs.Kept.{IsAt, IsMachine, IsTried, NoneReleased}
 use Rattle.rec_collector.specs.Zeros.{AreCounted}
 use Rattle.rec_collector.specs.Took.{cleared, ended, moved, swept_phase, swept_one, took_at, with_sweep}
 use Rattle.rec_collector.specs.declared.phase.Phase.{Phase}

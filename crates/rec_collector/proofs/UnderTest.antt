@@ -1,9 +1,7 @@
 -- The sets are tested one after another.
-use Rattle.std.proofs.Common.{◌≡◌, ℕ, zero, suc, ◌+◌, ◌-◌, ◌<◌, ◌≤◌, true, false, cond, inl, inr, Option, None, IfSome, IsSome, is_some, length, refl, arith, sym, ◌∙◌, ap, subst}
-use Rattle.std.proofs.lemmas.Bool.{false≢true}
+use Rattle.std.proofs.Common.{◌≡◌, ℕ, zero, suc, ◌+◌, ◌-◌, ◌<◌, ◌≤◌, true, false, cond, None, IfSome, IsSome, length, refl, arith, sym, ◌∙◌, ap, subst}
 use Rattle.rec_word.specs.Word.{target_of}
 use Rattle.rec_counts.specs.Counts.{slot_at, IsKept as IsKeptCounts}
-use Rattle.rec_release.specs.declared.member.Member.{Member}
 use Rattle.rec_trial.specs.Rules.{IsReady as IsReadyForTrial}
 use Rattle.rec_collector.specs.Clearing.{IsClearing, IsDone, IsFewTold, IsWide}
 use Rattle.rec_collector.specs.Followed.{relieved, with_freed, with_released}

@@ -1,15 +1,13 @@
 -- Slots leave their buffer together.
-use Rattle.std.proofs.Common.{◌≡◌, ℕ, ◌+◌, ◌-◌, ◌<◌, ◌≤◌, Bool, true, false, eqb, ltb, Option, Some, None, List, ◌++◌, length, map, take, get_or, refl, arith, sym, ◌∙◌, ap, inl, inr}
-use Rattle.std.proofs.Math.ListN.{set}
-use Rattle.std.proofs.lemmas.List.{length-map, get_or-set_same, get_or-set_other, get_or-map, ext_get_or, length-append}
-use Rattle.std.proofs.lemmas.Bool.Decides.{eqb_tells}
-use Rattle.std.proofs.lemmas.Bool.{ltb-true, ltb-false, lt-ltb}
+use Rattle.std.proofs.Common.{◌≡◌, ℕ, ◌+◌, ◌-◌, ◌<◌, ◌≤◌, Bool, true, false, ltb, Option, Some, None, List, ◌++◌, length, map, get_or, refl, arith, sym, ◌∙◌, ap}
+use Rattle.std.proofs.lemmas.List.{length-map, get_or-map, ext_get_or, length-append}
+use Rattle.std.proofs.lemmas.Bool.{ltb-true, ltb-false}
 use Rattle.rec_counts.specs.declared.slot.Slot.{Slot}
 use Rattle.rec_counts.specs.Slot.{absent, is_in, unbuffered, unrooted, unrooted_if, unbuffered_if, out_of_set}
-use Rattle.rec_counts.specs.Lists.{one, times}
+use Rattle.rec_counts.specs.Lists.{times}
 use Rattle.rec_counts.specs.Groups.{last_set}
 use Rattle.rec_counts.specs.Kept.{Kept}
-use Rattle.rec_counts.proofs.Times.{times_more, one-le, length-once, one-none, test_of}
+use Rattle.rec_counts.proofs.Times.{one-le, length-once, one-none, test_of}
 use Rattle.rec_counts.proofs.Keeping.{no_set, some_set, keep_drop}
 
 pub unbuffered_twice : (b : Bool) (v : Slot) → unbuffered (unbuffered_if b v) ≡ unbuffered v

@@ -1,7 +1,5 @@
 -- The operation that comes next names a word of the heap, if the registers name its slots.
-use Rattle.std.proofs.Common.{◌≡◌, ℕ, ◌+◌, ◌*◌, ◌<◌, ◌≤◌, Bool, true, false, Option, None, Some, if◌then◌else◌, refl, arith}
-use Rattle.std.proofs.Math.Nat.{mul-le-mul_left}
-use Rattle.rec_word.specs.Place.{place_of}
+use Rattle.std.proofs.Common.{◌≡◌, ℕ, ◌<◌, Bool, true, false, Option, None, Some, if◌then◌else◌, refl}
 use Rattle.rec_word.specs.declared.op.Op.TheVariants as ops
 use Rattle.rec_word.proofs.FieldPlaces.{place_within}
 use Rattle.rec_model.specs.declared.command.Cmd.{Cmd}

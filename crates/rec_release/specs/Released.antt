@@ -1,7 +1,6 @@
 -- A whole release: what it exchanged, and what became of the counts and the free list.
-use Rattle.std.specs.Prelude.{◌≡◌, ℕ, ◌+◌, ◌-◌, ◌<◌, ◌==◌, Bool, true, false, Option, None, Some, IfSome, List, [], ◌∷◌, ◌++◌, map, take, length, flat_map, fold, count_by}
-use Rattle.std.specs.List.{range_with_len}
-use Rattle.rec_word.specs.Place.{place_of, places_from, places_of}
+use Rattle.std.specs.Prelude.{◌≡◌, ℕ, ◌+◌, ◌-◌, ◌<◌, ◌==◌, Bool, true, false, Option, None, Some, IfSome, List, [], ◌∷◌, ◌++◌, take, length, fold, count_by}
+use Rattle.rec_word.specs.Place.{places_from, places_of}
 use Rattle.rec_word.specs.Word.{target_of, is_slot}
 use Rattle.rec_counts.specs.Counts.{State, slot_at}
 use Rattle.rec_counts.specs.Lists.{one, times}

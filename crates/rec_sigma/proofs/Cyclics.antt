@@ -1,9 +1,8 @@
 -- What a begun set and a loaded word do to the cyclic counts.
-use Rattle.std.proofs.Common.{◌≡◌, ◌≢◌, ℕ, ◌+◌, ◌-◌, ◌<◌, Bool, true, false, eqb, ltb, cond, ◌&&◌, Option, Some, None, List, [], ◌∷◌, ◌++◌, length, map, take, get_or, refl, arith, sym, ◌∙◌, ap, inl, inr}
-use Rattle.std.proofs.Math.ListN.{set}
-use Rattle.std.proofs.lemmas.List.{length-set, length-map, get_or-set_same, get_or-set_other, get_or_past, get_or-map}
+use Rattle.std.proofs.Common.{◌≡◌, ◌≢◌, ℕ, ◌+◌, ◌-◌, ◌<◌, Bool, true, false, eqb, ltb, cond, ◌&&◌, Option, Some, None, List, [], ◌∷◌, ◌++◌, length, get_or, refl, arith, sym, ◌∙◌, ap, inl, inr}
+use Rattle.std.proofs.lemmas.List.{length-set, length-map, get_or-set_same, get_or-set_other, get_or_past}
 use Rattle.std.proofs.lemmas.List.Sums.{sum_by_push}
-use Rattle.std.proofs.lemmas.Bool.{cases_lt, false≢true, eqb-true, lt-ltb, ne_eqb, eq-eqb}
+use Rattle.std.proofs.lemmas.Bool.{cases_lt, false≢true, eqb-true, ne_eqb, eq-eqb}
 use Rattle.std.proofs.lemmas.Bool.Decides.{eqb_tells}
 use Rattle.rec_word.specs.Word.{target_of, is_slot}
 use Rattle.rec_counts.specs.declared.slot.Slot.{Slot}
@@ -11,7 +10,7 @@ use Rattle.rec_counts.specs.Counts.{State, IsKept, slot_at}
 use Rattle.rec_counts.specs.Lists.{one, times}
 use Rattle.rec_counts.specs.Slot.{absent, is_in}
 use Rattle.rec_counts.proofs.Leaving.{all_of}
-use Rattle.rec_counts.proofs.Times.{times_at, times_more, test_of, one-some}
+use Rattle.rec_counts.proofs.Times.{times_at, test_of, one-some}
 use Rattle.rec_counts.proofs.Keeping.{map_at}
 use Rattle.rec_sigma.specs.Prepare.{members_of, renewed, renewed_if, less_if, taken_off}
 use Rattle.rec_sigma.specs.Prepared.{KeepsOthers, Load, seen}

@@ -1,5 +1,5 @@
 -- What always holds of the counts still does once a set is refurbished, and as a preparation goes on.
-use Rattle.std.proofs.Common.{◌≡◌, ℕ, Option, List, [], slice_get, refl, arith, ap, ◌-◌, ◌<◌, ◌∷◌}
+use Rattle.std.proofs.Common.{◌≡◌, ℕ, Option, List, [], slice_get, refl, arith, ap, ◌<◌, ◌∷◌}
 use Rattle.std.proofs.lemmas.List.{length-set}
 use Rattle.rec_word.specs.Word.{is_slot}
 use Rattle.rec_counts.specs.declared.slot.Slot.{Slot}

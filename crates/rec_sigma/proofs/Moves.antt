@@ -1,13 +1,13 @@
 -- A preparation goes on move by move: a word is taken off, the next member is at work, the next set is begun.
-use Rattle.std.proofs.Common.{◌≡◌, ℕ, suc, ◌+◌, ◌-◌, ◌<◌, ◌≤◌, Bool, true, false, ltb, ◌&&◌, Option, Some, None, List, [], ◌∷◌, ◌++◌, length, map, drop, get_or, refl, arith, sym, ◌∙◌, ap, subst, inl, inr, append_assoc}
-use Rattle.std.specs.List.{concat, range_with_len}
+use Rattle.std.proofs.Common.{◌≡◌, ℕ, ◌+◌, ◌-◌, ◌<◌, ◌≤◌, Bool, true, false, ltb, ◌&&◌, Option, Some, None, List, [], ◌∷◌, ◌++◌, length, map, drop, get_or, refl, arith, sym, ◌∙◌, ap, subst, inl, inr, append_assoc}
+use Rattle.std.specs.List.{concat}
 use Rattle.std.proofs.Math.ListN.{drop_of_length-le}
 use Rattle.std.proofs.lemmas.List.{length-drop, map-append}
 use Rattle.std.proofs.lemmas.Bool.{cases_lt, ltb-true, ltb-false}
 use Rattle.std.proofs.lemmas.Bool.Decides.{eqb_tells}
 use Rattle.rec_word.specs.Place.{place_of, places_from, places_of}
 use Rattle.rec_word.specs.Word.{target_of, is_slot}
-use Rattle.rec_word.proofs.FieldPlaces.{places_end, places_step}
+use Rattle.rec_word.proofs.FieldPlaces.{places_end}
 use Rattle.rec_counts.specs.declared.slot.Slot.{Slot}
 use Rattle.rec_counts.specs.Counts.{State, slot_at}
 use Rattle.rec_counts.specs.Lists.{one, times}

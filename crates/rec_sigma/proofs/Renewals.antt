@@ -1,9 +1,9 @@
 -- The members of a refused set get their places.
-use Rattle.std.proofs.Common.{◌≡◌, ◌≢◌, ℕ, ◌-◌, ◌<◌, ◌≤◌, Bool, true, false, eqb, ltb, cond, Option, Some, None, List, [], ◌∷◌, ◌++◌, length, map, drop, get_or, slice_get, refl, arith, sym, ◌∙◌, ap, subst, inl, inr, append_assoc}
+use Rattle.std.proofs.Common.{◌≡◌, ◌≢◌, ℕ, ◌-◌, ◌<◌, ◌≤◌, Bool, true, false, eqb, ltb, cond, Option, Some, None, List, [], ◌∷◌, ◌++◌, length, drop, slice_get, refl, arith, sym, ◌∙◌, ap, subst, inl, inr, append_assoc}
 use Rattle.std.specs.List.{filter}
 use Rattle.std.proofs.Math.ListN.{set}
-use Rattle.std.proofs.lemmas.List.{append-nil, length-set, length-map, set-set, get_or-set_same, get_or-set_other, get_or_past, get_or-map}
-use Rattle.std.proofs.lemmas.Bool.{cases_lt, eqb-true}
+use Rattle.std.proofs.lemmas.List.{append-nil, length-set, length-map, set-set, get_or-set_same, get_or-set_other}
+use Rattle.std.proofs.lemmas.Bool.{eqb-true}
 use Rattle.std.proofs.lemmas.Bool.Decides.{eqb_tells}
 use Rattle.rec_word.specs.Word.{is_slot}
 use Rattle.rec_counts.specs.declared.colour.Colour.TheVariants.{Purple}

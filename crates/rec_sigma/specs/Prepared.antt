@@ -1,6 +1,6 @@
 -- A whole preparation: what it loaded, and what became of the cyclic counts.
-use Rattle.std.specs.Prelude.{◌≡◌, ℕ, ◌+◌, ◌-◌, ◌<◌, ◌≤◌, ◌&&◌, Option, None, Some, List, [], ◌∷◌, ◌++◌, map, drop, length, flat_map, fold, count_by, slice_index_or as item_at}
-use Rattle.std.specs.List.{concat, range_with_len}
+use Rattle.std.specs.Prelude.{◌≡◌, ℕ, ◌+◌, ◌-◌, ◌<◌, ◌≤◌, ◌&&◌, Option, None, Some, List, [], ◌∷◌, ◌++◌, map, drop, length, fold, count_by, slice_index_or as item_at}
+use Rattle.std.specs.List.{concat}
 use Rattle.rec_word.specs.Place.{place_of, places_from, places_of}
 use Rattle.rec_word.specs.Word.{target_of, is_slot}
 use Rattle.rec_word.specs.declared.op.Op.{Op}

@@ -12,7 +12,7 @@ use Rattle.rec_counts.specs.Lists.{one}
 use Rattle.rec_counts.specs.Lists as in_counts
 use Rattle.rec_counts.specs.Slot.{absent, is_in}
 use Rattle.rec_counts.specs.Colour.{is_black, is_gray, is_white}
-use Rattle.rec_counts.proofs.Keeping.{field_kept, keep_slot, keep_pop_root, keep_begin, keep_join, relisted, unreleased_within}
+use Rattle.rec_counts.proofs.Keeping.{field_kept, keep_slot, keep_pop_root, keep_begin, keep_join, relisted}
 use Rattle.rec_counts.proofs.Times.{once_none, once_push}
 use Rattle.rec_trial.specs.declared.phase.Phase.{Phase}
 use Rattle.rec_trial.specs.declared.phase.Phase.TheVariants.{Idle, Marking, Scanning, Collecting}

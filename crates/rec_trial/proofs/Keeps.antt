@@ -1,7 +1,6 @@
 -- What a trial leaves of the counts as it was, from its start to its end and from word to word.
 use Rattle.std.proofs.Common.{◌≡◌, ℕ, ◌*◌, ◌<◌, ◌≤◌, Bool, false, IsNone, IsSome, List, [], ◌++◌, length, refl, sym, ap, subst, ◌∙◌, arith}
 use Rattle.std.specs.List.{filter}
-use Rattle.std.proofs.lemmas.List.{append-nil}
 use Rattle.rec_counts.specs.Counts.{State, slot_at}
 use Rattle.rec_counts.specs.Lists.{times}
 use Rattle.rec_counts.specs.Colour.{is_gray, is_white}

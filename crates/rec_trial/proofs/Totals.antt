@@ -1,6 +1,5 @@
 -- Sums of weights over lists and over numbers, and tests that guard a weight.
-use Rattle.std.proofs.Common.{◌≡◌, ℕ, zero, suc, ◌+◌, ◌<◌, ◌≤◌, Bool, true, false, cond, eqb, List, [], ◌∷◌, ◌++◌, length, get_or, refl, arith}
-use Rattle.std.proofs.lemmas.Bool.Decides.{nat_tests}
+use Rattle.std.proofs.Common.{◌≡◌, ℕ, zero, suc, ◌+◌, ◌<◌, ◌≤◌, cond, eqb, List, [], ◌∷◌, ◌++◌, length, get_or, refl, arith}
 use Rattle.rec_counts.specs.Lists.{one, times as count_times}
 use Rattle.rec_counts.proofs.Times.{times-nil, times-cons, times_at}
 
