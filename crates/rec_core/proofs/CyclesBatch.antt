@@ -1,8 +1,8 @@
 -- A batch begins the tests of the sets that waited for it.
-use Rattle.std.proofs.Common.{◌≡◌, ℕ, ◌+◌, ◌-◌, ◌<◌, true, false, ltb, Option, None, Some, List, [], ◌∷◌, length, get_or, flat_map, refl, sym, ◌∙◌, ap, subst, arith, inl, inr}
+use Rattle.std.proofs.Common.{◌≡◌, ℕ, ◌+◌, ◌-◌, ◌<◌, true, false, ltb, Option, None, Some, List, [], ◌∷◌, flat_map, refl, sym, ◌∙◌, ap, subst, arith, inl, inr}
 use Rattle.std.specs.List.{concat}
-use Rattle.std.proofs.lemmas.List.{get_or-set_same, get_or-set_other, set_past, get_or_past}
-use Rattle.std.proofs.lemmas.Bool.{cases_lt, lt-ltb, ltb-true}
+use Rattle.std.proofs.lemmas.List.{get_or-set_other}
+use Rattle.std.proofs.lemmas.Bool.{lt-ltb, ltb-true}
 use Rattle.std.proofs.lemmas.Bool.Decides.{eqb_tells}
 use Rattle.rec_word.specs.Word.{is_slot}
 use Rattle.rec_model.specs.Sums.{sum_at}
@@ -11,7 +11,7 @@ use Rattle.rec_model.specs.Moves as moves
 use Rattle.rec_model.specs.Accounted.{IsAccounted}
 use Rattle.rec_model.specs.Sets.{HasLoaded, seen_in}
 use Rattle.rec_model.proofs.Testing.{batch_testing}
-use Rattle.rec_counts.specs.declared.colour.Colour.TheVariants.{Black, Orange}
+use Rattle.rec_counts.specs.declared.colour.Colour.TheVariants.{Orange}
 use Rattle.rec_counts.specs.declared.slot.Slot.{Slot}
 use Rattle.rec_counts.specs.Counts.{State, slot_at, with_slot}
 use Rattle.rec_counts.specs.Lists.{one, times}

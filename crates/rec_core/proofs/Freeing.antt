@@ -1,23 +1,18 @@
 -- A word came out of a field of a member of the set that is freed: its target is lowered or decremented, and the next field follows. With
 -- the last one all members go to the free list, and the first of the zeros is released.
-use Rattle.std.proofs.Common.{◌≡◌, ◌⊎◌, inl, inr, ℕ, ◌+◌, ◌-◌, ◌*◌, ◌<◌, ◌≤◌, true, Option, None, Some, IfSome, List, length, slice_index_or, slice_set, refl, sym, ap, subst, ◌∙◌, arith}
+use Rattle.std.proofs.Common.{◌≡◌, ◌⊎◌, inl, inr, ℕ, ◌+◌, ◌*◌, ◌<◌, ◌≤◌, true, Option, None, Some, IfSome, length, slice_index_or, refl, sym, ap, subst, ◌∙◌, arith}
 use Rattle.std.proofs.lemmas.Bool.{cases_eq}
 use Rattle.std.proofs.lemmas.List.{length-set}
 use Rattle.rec_word.specs.Place.{place_of}
-use Rattle.rec_word.specs.Word.{target_of}
-use Rattle.rec_word.specs.declared.op.Op.TheVariants.{ClearField}
 use Rattle.rec_model.specs.Accounted.{HasUncountedReleased}
-use Rattle.rec_model.specs.Pending.{Pending}
 use Rattle.rec_counts.specs.Counts.{State, slot_at, IsKept as IsKeptCounts}
 use Rattle.rec_counts.specs.Lists.{times}
 use Rattle.rec_counts.proofs.Times.{in_range_once, times_at}
 use Rattle.rec_release.specs.declared.member.Member.{Member}
-use Rattle.rec_release.specs.CycleFree.{Machine, IsHeld, listed, next_of}
-use Rattle.rec_release.proofs.TakenOff.{KeepsMost, off_most}
+use Rattle.rec_release.specs.CycleFree.{Machine, IsHeld, listed}
 use Rattle.rec_collector.specs.Clearing.{IsClearing}
 use Rattle.rec_collector.specs.Followed.{relieved, with_freed}
 use Rattle.rec_collector.specs.Parts.{Parts}
-use Rattle.rec_collector.specs.Private as collectors
 use Rattle.rec_collector.specs.Private.{parts_of}
 use Rattle.rec_collector.specs.declared.phase.Phase.TheVariants.{Freeing}
 use Rattle.rec_collector.proofs.Clearing.{freed_clear, relieved_clear}

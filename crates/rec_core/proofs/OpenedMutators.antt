@@ -1,7 +1,7 @@
 -- What every heap keeps holds as it is opened.
 use Rattle.std.proofs.Common.{◌≡◌, inl, inr, ℕ, ◌+◌, ◌-◌, ◌^◌, ◌<◌, ◌≤◌, zero, suc, List, [], ◌∷◌, ◌++◌, Option, None, Some, slice_index_or, length, map, replicate, refl, sym, ap, subst, ◌∙◌, arith, lit≤, add-one}
 use Rattle.std.proofs.lemmas.Bool.{cases_lt}
-use Rattle.std.proofs.lemmas.List.{get_or_past, get_or-replicate, get_or_append_left, get_or-append_right, length-replicate, length_push, map_push}
+use Rattle.std.proofs.lemmas.List.{get_or_append_left, get_or-append_right, length-replicate, length_push, map_push}
 use Rattle.std.proofs.lemmas.List.Elements.{All-cons, All-replicate}
 use Rattle.rec_word.specs.Word.{IsTarget}
 use Rattle.rec_model.specs.Heap.{opening}

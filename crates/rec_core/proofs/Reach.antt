@@ -17,7 +17,7 @@ use Rattle.rec_model.specs.References.{count_formula}
 use Rattle.rec_model.proofs.Consequences.{counted_by_formula}
 use Rattle.rec_model.specs.Reach.IsReached.{root, child}
 use Rattle.rec_model.specs.Seen.{IsSightOf}
-use Rattle.rec_model.specs.Sight.{Sight, IsTaken, Reaches, StandsBy, StandsFor, field_of, targets_of}
+use Rattle.rec_model.specs.Sight.{Sight, IsTaken, Reaches, StandsBy, field_of, targets_of}
 use Rattle.rec_model.specs.Sums.{one_if_same}
 use Rattle.rec_model.proofs.Seen.{reached_taken}
 use Rattle.rec_model.proofs.Standing.{reached_is_taken}

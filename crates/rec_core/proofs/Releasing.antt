@@ -1,20 +1,18 @@
 -- A word came out of a field of the slot that is released: its target is lowered or decremented, and the next field follows, or the next
 -- of the zeros is released.
-use Rattle.std.proofs.Common.{◌≡◌, ◌⊎◌, inl, inr, ℕ, ◌+◌, ◌<◌, ◌≤◌, Bool, true, Option, None, Some, IfSome, List, length, slice_index_or, slice_set, refl, sym, ap, subst, ◌∙◌, arith}
+use Rattle.std.proofs.Common.{◌≡◌, ◌⊎◌, inl, inr, ℕ, ◌+◌, ◌<◌, ◌≤◌, Bool, true, Option, None, Some, IfSome, length, slice_index_or, refl, sym, ap, subst, ◌∙◌, arith}
 use Rattle.std.proofs.lemmas.Bool.{cases_eq}
 use Rattle.rec_word.specs.Place.{place_of}
 use Rattle.rec_word.specs.Word.{target_of}
-use Rattle.rec_word.specs.declared.op.Op.TheVariants.{ClearField}
 use Rattle.rec_counts.specs.Counts.{State, slot_at}
 use Rattle.rec_counts.specs.Lists.{times}
 use Rattle.rec_release.specs.declared.at.At.{At}
-use Rattle.rec_release.specs.Release.{Machine, IsHeld, IsReady, emptied, next_of, started_of}
+use Rattle.rec_release.specs.Release.{Machine, IsHeld, IsReady, emptied, started_of}
 use Rattle.rec_release.proofs.Keeping.{emptied_sets, ready_emptied}
-use Rattle.rec_release.proofs.TakenOff.{KeepsMost, off_most, ready_off}
+use Rattle.rec_release.proofs.TakenOff.{ready_off}
 use Rattle.rec_release.proofs.Kept.{emptied_kept}
 use Rattle.rec_collector.specs.Clearing.{IsClearing}
 use Rattle.rec_collector.specs.Followed.{with_released}
-use Rattle.rec_collector.specs.Private as collectors
 use Rattle.rec_collector.specs.Private.{parts_of}
 use Rattle.rec_collector.specs.declared.phase.Phase.TheVariants.{Releasing}
 use Rattle.rec_collector.proofs.Clearing.{released_clear}

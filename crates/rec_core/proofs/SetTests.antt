@@ -3,7 +3,6 @@
 use Rattle.std.proofs.Common.{◌≡◌, ◌⊎◌, inl, inr, ℕ, suc, ◌+◌, ◌-◌, ◌*◌, ◌<◌, ◌==◌, true, false, Option, None, Some, List, [], ◌∷◌, length, slice_get, slice_index_or, refl, sym, ap, subst, ◌∙◌, arith}
 use Rattle.std.proofs.lemmas.Bool.{cases_Bool}
 use Rattle.std.proofs.lemmas.Bool.Decides.{eqb_tells}
-use Rattle.rec_model.specs.Pending.{Pending}
 use Rattle.rec_counts.specs.Counts.{State, slot_at}
 use Rattle.rec_counts.specs.Groups.{last_set}
 use Rattle.rec_counts.specs.Lists.{one, times}
@@ -35,7 +34,6 @@ use Rattle.rec_collector.proofs.Tested.{is_last_tested}
 use Rattle.rec_collector.proofs.Verdicts.{verdict_passed}
 use Rattle.rec_core.specs.Core.{Core}
 use Rattle.rec_core.specs.Kept.{IsLeftOf, IsKept}
-use Rattle.rec_core.specs.Pending.{pending}
 use Rattle.rec_core.proofs.Counts.{alike_slots, counted_slot, none_release, set_release}
 use Rattle.rec_core.proofs.CyclesTest.{IsJudged, set_given_up, sets_test_alike, sets_test_refurbished}
 use Rattle.rec_core.proofs.Landed.{landed_pending, HasLanded, HasCleared, applied_pending}

@@ -1,5 +1,5 @@
 -- What an operation of a mutator leaves of a heap.
-use Rattle.std.proofs.Common.{◌≡◌, ◌≢◌, ℕ, ◌+◌, ◌-◌, List, slice_set, sym, ap, subst, ◌∙◌, add-zero}
+use Rattle.std.proofs.Common.{◌≡◌, ◌≢◌, ℕ, ◌+◌, ◌-◌, slice_set, sym, ap, subst, ◌∙◌, add-zero}
 use Rattle.std.proofs.lemmas.Bool.{eq-eqb, ne_eqb}
 use Rattle.std.proofs.lemmas.List.{set-get_or}
 use Rattle.rec_word.specs.Mailbox.{crossing_word}

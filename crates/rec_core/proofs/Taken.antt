@@ -1,5 +1,5 @@
 -- A field of a slot that was given up is emptied: its word came out, and its target is lowered or decremented.
-use Rattle.std.proofs.Common.{◌≡◌, ◌⊎◌, inl, inr, ℕ, ◌+◌, ◌-◌, ◌<◌, ◌==◌, Bool, true, Option, None, Some, IfSome, List, length, slice_index_or, slice_set, refl, sym, ap, subst, ◌∙◌, arith}
+use Rattle.std.proofs.Common.{◌≡◌, ◌⊎◌, inl, inr, ℕ, ◌+◌, ◌-◌, ◌<◌, ◌==◌, Bool, true, Option, None, Some, IfSome, List, length, slice_index_or, refl, sym, ap, subst, ◌∙◌, arith}
 use Rattle.std.proofs.lemmas.Bool.{false≢true, cases_eq, cases_lt, eq-eqb}
 use Rattle.std.proofs.lemmas.List.{get_or-set_same, get_or-set_other, get_or_past, length-set}
 use Rattle.rec_word.specs.Place.{place_of}
@@ -24,7 +24,6 @@ use Rattle.rec_release.specs.Release as releases
 use Rattle.rec_release.specs.TakenOff.{taken_off}
 use Rattle.rec_release.proofs.TakenOff.{KeepsMost, off_most}
 use Rattle.rec_release.proofs.Kept.{off_kept}
-use Rattle.rec_collector.specs.Private as collectors
 use Rattle.rec_collector.specs.Private.{parts_of}
 use Rattle.rec_core.specs.Core.{Core, sight}
 use Rattle.rec_core.specs.Cycles.{SetsTest}

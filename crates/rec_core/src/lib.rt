@@ -8,6 +8,7 @@
 //! when. From it follow the laws: nothing in reach is freed, true counts are the count formula, sets that pass both tests are
 //! garbage, and a command is answered as asking a heap that never frees gives it.
 //! What two whole collections make of a heap at rest, in which no mutator asks anything, is said here too.
+//! Where each shared word stands in a row of all, for whatever heap keeps one, is said in `specs/Row`.
 //! There is no heap here: no list of words in memory, and no code but the ranges of `Config`. A heap whose steps and turns are
 //! those of a core has all the laws.
 //! The layer above may use `Config` and `Part`, the definitions of `specs/`, the laws, which are the contracts of the

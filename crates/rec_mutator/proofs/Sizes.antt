@@ -65,7 +65,7 @@ step_keeps sized (Step.take_box c) = crossing_keeps refl refl sized c
 step_keeps sized (Step.give_box c) = crossing_keeps refl refl refl c
 
 -- so does what is learnt, where no mailbox is taken
-took_keeps : (p : Private) (word : ℕ) → is_busy p ≡ true → TakesNone p.phase → KeepsSizes p (took_of p word) × (work_of (took_of p word) ≡ work_of p)
+pub took_keeps : (p : Private) (word : ℕ) → is_busy p ≡ true → TakesNone p.phase → KeepsSizes p (took_of p word) × (work_of (took_of p word) ≡ work_of p)
 took_keeps p word busy none = step_keeps {box = p.log} refl (learnt_made p word p.log busy none)
 
 -- so does what the first step of a work learns

@@ -8,12 +8,10 @@ use Rattle.rec_model.specs.declared.told.Told.{Told}
 use Rattle.rec_model.specs.LegalOrder.{Event}
 use Rattle.rec_model.specs.Sight.{Sight, IsTaken}
 use Rattle.rec_mutator.specs.Next as mutator_next
-use Rattle.rec_mutator.specs.Private.{is_busy, is_busy_at, work_of, answer_of, answer_at, IsValid}
+use Rattle.rec_mutator.specs.Private.{is_busy, work_of, answer_of, IsValid}
 use Rattle.rec_mutator.specs.Took.{begun_of}
 use Rattle.rec_mutator.specs.declared.made.Made.{Made}
 use Rattle.rec_mutator.specs.declared.made.Made.TheVariants as makes
-use Rattle.rec_mutator.specs.declared.phase.Phase.{Phase}
-use Rattle.rec_mutator.specs.declared.phase.Phase.TheVariants as at
 use Rattle.rec_mutator.specs.declared.work.Work.{Work}
 use Rattle.rec_mutator.specs.declared.work.Work.TheVariants as works
 use Rattle.rec_collector.specs.Next.{next_of}

@@ -1,5 +1,5 @@
 -- What the fields of a world become in a call is what the definitions say of the core that they make up.
-use Rattle.std.proofs.Common.{◌≡◌, inl, inr, ℕ, ◌+◌, ◌-◌, ◌*◌, ◌^◌, ◌<◌, ◌≤◌, ◌==◌, if◌then◌else◌, All, List, ◌∷◌, Option, None, Some, Bool, true, false, slice_index_or, slice_set, length, map, replicate, zero, suc, refl, sym, ap, subst, ◌∙◌, arith}
+use Rattle.std.proofs.Common.{◌≡◌, inl, inr, ℕ, ◌+◌, ◌-◌, ◌*◌, ◌^◌, ◌<◌, ◌≤◌, ◌==◌, if◌then◌else◌, All, List, ◌∷◌, Option, None, Some, Bool, true, false, slice_index_or, slice_set, length, map, replicate, refl, sym, ap, subst, ◌∙◌, arith}
 use Rattle.std.specs.List.{sum_by}
 use Rattle.std.specs.Option.{IsSome}
 use Rattle.std.proofs.lemmas.Bool.{cases_eq}

@@ -1,16 +1,12 @@
 -- What registers and fields name lies below the number of slots: by a test of each, and in every sound heap.
-use Rattle.std.proofs.Common.{◌≡◌, inl, inr, ℕ, zero, suc, ◌+◌, ◌-◌, ◌*◌, ◌<◌, ◌≤◌, Option, None, Some, true, false, List, [], ◌∷◌, All, map, take, length, replicate, get_or, refl, ◌∙◌, ap, subst, arith}
-use Rattle.std.specs.Option.{IfSome}
+use Rattle.std.proofs.Common.{◌≡◌, inl, inr, ℕ, zero, suc, ◌+◌, ◌-◌, ◌*◌, ◌<◌, ◌≤◌, false, [], map, take, length, replicate, get_or, refl, ◌∙◌, ap, subst, arith}
 use Rattle.std.proofs.lemmas.Bool.{false≢true, cases_lt, both_ways}
-use Rattle.std.proofs.lemmas.List.{get_or_past, drop_all}
+use Rattle.std.proofs.lemmas.List.{drop_all}
 use Rattle.std.proofs.Math.Nat.{mul-le-mul_right}
 use Rattle.std.proofs.Math.Seq.{take-nil}
-use Rattle.std.proofs.lemmas.List.Elements.{All-head, All-tail}
 use Rattle.rec_word.specs.Word.{target_of}
 use Rattle.rec_model.specs.Reach.{named, is_in}
-use Rattle.rec_model.specs.Heap.{roots}
 use Rattle.rec_model.specs.Sight.{Sight, targets_of, words_of, IsTaken, IsSound}
-use Rattle.rec_model.proofs.Members.{is_in-cons, is_in-cases}
 use Rattle.rec_model.proofs.Unfreed.{taken_within}
 use Rattle.rec_core.specs.Core.{Core, sight}
 use Rattle.rec_world.specs.Numbering.{NamesBelow, sight_of}

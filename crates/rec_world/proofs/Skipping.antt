@@ -1,13 +1,13 @@
 -- A scan that skips slots which are taken makes the steps that probe them.
 use Rattle.std.proofs.Common.{◌≡◌, ◌≢◌, inl, inr, None, ℕ, zero, suc, ◌+◌, ◌-◌, ◌<◌, ◌≤◌, if◌then◌else◌, Bool, true, List, length, slice_index_or, slice_set, arith, refl, sym, ap, subst, ◌∙◌}
-use Rattle.std.proofs.lemmas.Bool.{false≢true, cases_lt, ne_eqb}
+use Rattle.std.proofs.lemmas.Bool.{cases_lt, ne_eqb}
 use Rattle.std.proofs.lemmas.List.{set-set, set-get_or}
 use Rattle.rec_word.specs.declared.op.Op.{Op}
 use Rattle.rec_word.specs.declared.op.Op.TheVariants as ops
 use Rattle.rec_model.specs.Sight.{IsTaken}
 use Rattle.rec_log.specs.declared.contents.Contents.{Contents}
 use Rattle.rec_mutator.specs.Next.{next_of}
-use Rattle.rec_mutator.specs.Private.{Private, is_busy, is_busy_at, work_of, answer_of, answer_at}
+use Rattle.rec_mutator.specs.Private.{Private, is_busy, work_of, answer_of}
 use Rattle.rec_mutator.specs.Took.{took_of, step_of, swapped_of, left_of, skipped_to, skipped_at, IsAhead}
 use Rattle.rec_mutator.specs.declared.phase.Phase.{Phase}
 use Rattle.rec_mutator.specs.declared.phase.Phase.TheVariants.{Idle, Begun, Scanning, Scanned, Crossing, Swapping, Giving, Finished}

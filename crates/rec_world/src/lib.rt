@@ -8,11 +8,13 @@
 //! The rules that it keeps: a heap is the end of a run from its opening, whoever made which step when; and whatever heap that
 //! never frees stood for it before a step, the heap that asking gives stands for it afterwards, and the answer is the one asked.
 //! What the collector frees no register reaches.
+//! Between any two steps it is taken apart into `Parts`, its shared words one row among them, and put together again.
 //! A `Numbering` lists the slots that registers reach, in the order of a listing. Its list is the one list of the reached slots
 //! in that order.
 //! A world as plain data is a `Core` (`rec_core`), which says its moves, its runs and what holds over them; here these are code.
-//! The layer above may use the contracts of `World`, `Journal`, `Order` and `Numbering`, the definitions of `specs/`, and
-//! all of `rec_core`, which is exported again: its definitions, its numbers, and the laws of all runs.
+//! The layer above may use the contracts of `World`, `Journal`, `Order` and `Numbering`, those of the exchange of a mailbox's
+//! buffer (`swap_own`, `swap_gathered`), the definitions of `specs/`, and all of `rec_core`, which is exported again: its
+//! definitions, its numbers, and the laws of all runs.
 //! That mutators run beside each other with a log each is the idea of the paper "Java without the Coffee Breaks" (2001);
 //! the commands, their refusals and the words are this project's profile (`docs/PROFILE.md`).
 #![tactic(auto)]

@@ -1,10 +1,8 @@
 -- The trial to which every slot is offered, in a heap at rest: as it begins, from load to load, and what it has found.
-use Rattle.std.proofs.Common.{◌≡◌, inl, inr, ℕ, ◌+◌, ◌-◌, ◌*◌, ◌/◌, ◌%◌, ◌<◌, ◌==◌, if◌then◌else◌, Bool, true, false, eqb, Option, None, Some, List, [], ◌∷◌, ◌++◌, length, slice_index_or, sum_by, refl, sym, ap, subst, ◌∙◌, arith, IsNone}
+use Rattle.std.proofs.Common.{◌≡◌, inl, inr, ℕ, ◌+◌, ◌-◌, ◌*◌, ◌/◌, ◌%◌, ◌<◌, ◌==◌, if◌then◌else◌, Bool, true, false, Option, None, Some, List, [], ◌∷◌, ◌++◌, length, slice_index_or, sum_by, refl, sym, ap, subst, ◌∙◌, arith, IsNone}
 use Rattle.std.proofs.Math.Nat.{mod-lt, div-add-mod, mul_comm}
 use Rattle.std.proofs.lemmas.Bool.{cases_lt, eq-eqb, eqb-true, false≢true}
-use Rattle.std.proofs.lemmas.Bool.Decides.{eqb_tells}
 use Rattle.std.proofs.lemmas.List.{get_or_default, get_or_past}
-use Rattle.std.proofs.lemmas.List.Sums.{sum_by-cons}
 use Rattle.std.proofs.lemmas.Nat.{div_below}
 use Rattle.rec_word.specs.Place.{place_of}
 use Rattle.rec_word.specs.Word.{target_of}
@@ -14,15 +12,12 @@ use Rattle.rec_model.specs.Accounted.{is_dead}
 use Rattle.rec_model.specs.Heap.{roots}
 use Rattle.rec_model.specs.Pending.{Pending}
 use Rattle.rec_model.specs.Reach.{is_in}
-use Rattle.rec_model.specs.Reach as reach
 use Rattle.rec_model.proofs.Consequences.{registers_name_the_taken}
-use Rattle.rec_model.proofs.Members.{is_in-head, is_in-left, is_in-right, is_in-tail}
 use Rattle.rec_counts.specs.declared.slot.Slot.{Slot}
 use Rattle.rec_counts.specs.Counts.{State, slot_at, IsKept as IsKeptCounts}
 use Rattle.rec_counts.specs.Lists.{one}
 use Rattle.rec_counts.proofs.Keeping.{no_set, some_set, unreleased_within}
 use Rattle.rec_apply.specs.Targets.{named}
-use Rattle.rec_apply.proofs.Naming.{named-nil, named-cons}
 use Rattle.rec_trial.specs.Loaded.{Run, noted, noted_at}
 use Rattle.rec_trial.specs.Promised.{unloaded}
 use Rattle.rec_trial.specs.Rules.{IsReady}

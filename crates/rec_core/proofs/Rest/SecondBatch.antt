@@ -14,7 +14,6 @@ use Rattle.rec_release.specs.Freed.{places_behind}
 use Rattle.rec_release.specs.Release.{first_of, started_of, without_first}
 use Rattle.rec_mutator.specs.Private.{Private}
 use Rattle.rec_collector.specs.Clearing.{IsClearing}
-use Rattle.rec_collector.specs.Kept as collector_kept
 use Rattle.rec_collector.specs.Parts.{Parts}
 use Rattle.rec_collector.specs.Private as collectors
 use Rattle.rec_collector.specs.Private.{buffer_at, parts_of}

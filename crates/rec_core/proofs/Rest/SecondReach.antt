@@ -3,16 +3,12 @@ use Rattle.std.proofs.Common.{◌≡◌, ◌≢◌, inl, inr, ℕ, ◌+◌, ◌-
 use Rattle.std.proofs.lemmas.Bool.{cases_lt, eq-eqb, false≢true}
 use Rattle.std.proofs.lemmas.Bool.Decides.{eqb_tells}
 use Rattle.std.proofs.lemmas.List.{get_or_default, get_or_past, get_or-set_other}
-use Rattle.std.proofs.lemmas.List.Sums.{sum_by-cons}
 use Rattle.rec_word.specs.Place.{place_of}
 use Rattle.rec_word.specs.Word.{target_of, is_slot}
 use Rattle.rec_model.specs.Accounted.{is_dead}
-use Rattle.rec_model.specs.Heap.{roots}
 use Rattle.rec_model.specs.Pending.{home, node_of, word_in as pending_word}
-use Rattle.rec_model.specs.Reach.{is_in, named as names}
 use Rattle.rec_model.specs.Reach.IsReached.{root}
 use Rattle.rec_model.proofs.Consequences.{fields_name_the_taken}
-use Rattle.rec_model.proofs.Members.{is_in-head, is_in-left, is_in-right, is_in-tail}
 use Rattle.rec_model.proofs.Sums.{get_or-le-sum_at}
 use Rattle.rec_model.proofs.Unfreed.{taken_within}
 use Rattle.rec_counts.specs.declared.slot.Slot.{Slot}
@@ -22,7 +18,6 @@ use Rattle.rec_counts.specs.Rest.{AreZeros}
 use Rattle.rec_counts.proofs.Times.{one-same, times-cons}
 use Rattle.rec_counts.proofs.Keeping.{unreleased_within}
 use Rattle.rec_apply.specs.Targets.{named}
-use Rattle.rec_apply.proofs.Naming.{named-nil, named-cons}
 use Rattle.rec_release.specs.TakenOff.{IsApart}
 use Rattle.rec_core.specs.Core.{Core, sight}
 use Rattle.rec_core.specs.Kept.{IsKept}

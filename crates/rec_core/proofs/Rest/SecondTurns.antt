@@ -24,7 +24,6 @@ use Rattle.rec_core.specs.Turn.{IsTurn, word_at, words_without}
 use Rattle.rec_core.proofs.Begun.{applied_lands, batch_comes}
 use Rattle.rec_core.proofs.Freeing.{freed_lands, may_empty}
 use Rattle.rec_core.proofs.Landed.{HasCleared}
-use Rattle.rec_core.proofs.Landings.{IsUnswept}
 use Rattle.rec_core.proofs.Rest.FirstRound.{all_gathered, last_gathered}
 use Rattle.rec_core.proofs.Rest.QuietCounts.{accounted_count, landed_count}
 use Rattle.rec_core.proofs.Rest.SecondBatch.{frees_rest_applied}

@@ -1,11 +1,11 @@
 -- Sums over some slots' fields as sums over all words of a heap.
 use Rattle.std.proofs.Common.{◌≡◌, inl, inr, ℕ, zero, suc, ◌+◌, ◌-◌, ◌*◌, ◌/◌, ◌%◌, ◌<◌, ◌≤◌, ◌&&◌, Bool, true, false, eqb, ltb, leb, cond, List, [], ◌∷◌, length, map, filter, get_or, sum_by, refl, sym, ap, ◌∙◌, arith}
 use Rattle.std.specs.List.{range_with_len}
-use Rattle.std.proofs.Math.Nat.{mul-le-mul_left, mod-lt}
+use Rattle.std.proofs.Math.Nat.{mod-lt}
 use Rattle.std.proofs.lemmas.Bool.Decides.{nat_tests, eqb_tells}
 use Rattle.std.proofs.lemmas.Bool.{cases_lt, eq-eqb, ne_eqb}
 use Rattle.std.proofs.lemmas.List.Sums.{sum_by-cons}
-use Rattle.std.proofs.lemmas.Nat.{div-mul-add, div-add-mod'}
+use Rattle.std.proofs.lemmas.Nat.{div-add-mod'}
 use Rattle.rec_word.specs.Place.{places_from, places_of}
 use Rattle.rec_model.specs.Sums.{only_if, sum_at}
 use Rattle.rec_model.proofs.Places.{sum_at_only, sum_at-le-from_get_or}

@@ -1,5 +1,5 @@
 -- Where nothing but the collector changes words, every set passes its tests, the last first.
-use Rattle.std.proofs.Common.{◌≡◌, ◌≢◌, inl, inr, IsNone, ℕ, ◌+◌, ◌-◌, ◌*◌, ◌/◌, ◌<◌, Bool, true, false, not, eqb, Option, Some, None, List, [], ◌∷◌, length, get_or, set, refl, sym, ap, ◌∙◌, arith}
+use Rattle.std.proofs.Common.{◌≡◌, ◌≢◌, inl, inr, ℕ, ◌+◌, ◌-◌, ◌*◌, ◌/◌, ◌<◌, Bool, true, false, not, eqb, Option, Some, None, List, [], ◌∷◌, length, get_or, set, refl, sym, ap, ◌∙◌, arith}
 use Rattle.std.proofs.lemmas.Bool.Decides.{eqb_tells}
 use Rattle.std.proofs.lemmas.Bool.{cases_lt, false≢true, ne_eqb}
 use Rattle.std.proofs.lemmas.List.{get_or-set_same, get_or-set_other, get_or_past, length-set}
@@ -9,12 +9,10 @@ use Rattle.rec_model.proofs.Sums.{sum_at_same, sum_at-set}
 use Rattle.rec_counts.specs.declared.colour.Colour.{Colour}
 use Rattle.rec_counts.specs.declared.colour.Colour.TheVariants.{Black, Purple, Gray, White, Orange}
 use Rattle.rec_counts.specs.declared.slot.Slot.{Slot}
-use Rattle.rec_counts.specs.Counts.{State, IsKept, slot_at, with_slot, sent, decremented}
+use Rattle.rec_counts.specs.Counts.{State, IsKept, slot_at, with_slot, decremented}
 use Rattle.rec_counts.specs.Lists.{one}
 use Rattle.rec_counts.specs.Rest.{KeepsRest}
-use Rattle.rec_counts.specs.Slot.{absent, is_in, lessened, lowered, due_of}
-use Rattle.rec_counts.specs.declared.slot.Due.{Due}
-use Rattle.rec_counts.specs.declared.slot.Due.TheVariants.{Nothing, Zero, Root}
+use Rattle.rec_counts.specs.Slot.{absent, is_in, lessened, lowered}
 use Rattle.rec_counts.specs.Colour.{is_orange}
 use Rattle.rec_counts.proofs.Decrementing.{rest_decremented, same_slot}
 use Rattle.rec_counts.proofs.Keeping.{field_kept}
@@ -23,13 +21,8 @@ use Rattle.rec_release.specs.TakenOff.{down_if, taken_off}
 use Rattle.rec_release.proofs.Orange.{orange_from}
 use Rattle.rec_sigma.specs.Prepared.{Load, PreparedTo}
 use Rattle.rec_sigma.proofs.Cyclics.{in_set}
-use Rattle.rec_core.specs.Settling.{IsOffered, word_in, AreEmptied, leading, heap_sum, leading_outside, outside_sum, AreLoadsOf, LeadBack, AreUnheld}
-use Rattle.rec_trial.specs.Loaded.{Run}
-use Rattle.rec_trial.specs.Promised.{IsTrial}
-use Rattle.rec_trial.specs.Still.{AreStill}
-use Rattle.rec_trial.specs.Trial.{next_of}
+use Rattle.rec_core.specs.Settling.{leading, heap_sum, leading_outside, outside_sum, AreLoadsOf, LeadBack, AreUnheld}
 use Rattle.rec_core.proofs.Rest.SettlingPrepared.{prepared_at_rest}
-use Rattle.rec_core.proofs.Rest.SettlingSets.{found_counts, found_lead_back}
 
 -- the same sum, where the same slots are in the set
 pub outside_same : (words : List ℕ) (fields : ℕ) (s t : State) (number x : ℕ) → ((n : ℕ) → is_in number (slot_at t n).set ≡ is_in number (slot_at s n).set) → outside_sum words fields t number x ≡ outside_sum words fields s number x

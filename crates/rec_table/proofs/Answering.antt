@@ -1,0 +1,165 @@
+-- The words that a command's steps found tell why it was answered so.
+use Rattle.std.proofs.Common.{◌≡◌, ℕ, Bool, true, false, true≢false, List, [], ◌∷◌, ◌++◌, Option, Some, None, refl, sym, ap, ◌∙◌, subst, append_assoc}
+use Rattle.std.specs.Prelude.{fold}
+use Rattle.std.proofs.lemmas.List.{map-append}
+use Rattle.std.proofs.lemmas.List.Sums.{fold-append}
+use Rattle.rec_model.specs.declared.command.Cmd.{Cmd}
+use Rattle.rec_model.specs.declared.command.Cmd.TheVariants as commands
+use Rattle.rec_model.specs.declared.told.Told.{Told}
+use Rattle.rec_mutator.specs.Causes.{FoundNone, FoundNoneAt, HasCause}
+use Rattle.rec_mutator.specs.Private.{Private, IsMachine, answer_at, answer_of, is_busy, is_busy_at, work_at, work_of}
+use Rattle.rec_mutator.specs.Scans.{FailsScan, ops_along}
+use Rattle.rec_mutator.specs.Took.{begun_of, spare, took_of}
+use Rattle.rec_mutator.specs.declared.made.Made.{Made}
+use Rattle.rec_mutator.specs.declared.made.Made.TheVariants as makes
+use Rattle.rec_mutator.specs.declared.phase.Phase as phases
+use Rattle.rec_mutator.specs.declared.phase.Phase.TheVariants as at
+use Rattle.rec_mutator.specs.declared.work.Work.{Work}
+use Rattle.rec_mutator.specs.declared.work.Work.TheVariants as works
+use Rattle.rec_mutator.proofs.Refusals.{took_cause}
+use Rattle.rec_mutator.proofs.Steps.{TakesNone, here_same, none_between}
+use Rattle.rec_table.specs.Answered.{FailsProbes, IsAnswered, worked}
+use Rattle.rec_table.specs.Beats.{learnt}
+use Rattle.rec_table.specs.declared.views.Beat.{Beat}
+use Rattle.rec_table.specs.declared.views.Beat.TheVariants.{Begins, Saw}
+
+-- a work that was begun and went on step by step: the words that were found, and the record before the last step
+pub record Path (work : Work) (p : Private) (log log' : List Beat) (q : Private) : Type 0 where
+  pub words : List ℕ
+  pub last : ℕ
+  pub grows : log' ≡ log ++ worked work (words ++ last ∷ [])
+  pub before : Private
+  pub came : (cmd : Cmd) → work ≡ works.Command cmd → before ≡ fold took_of (begun_of p work) words
+  pub machine : IsMachine before
+  pub busy : is_busy before ≡ true
+  pub works_on : work_of before ≡ Some work
+  pub slots : before.slots ≡ p.slots
+  pub made : q ≡ learnt before (Saw last)
+
+is_poll : Option Work → Bool
+is_poll (Some works.Poll) = true
+is_poll _ = false
+
+-- a step of a command takes no mailbox
+command_takes_none : (p : Private) (cmd : Cmd) → work_of p ≡ Some (works.Command cmd) → TakesNone p.phase
+unfolding is_poll
+command_takes_none p cmd work = by p.phase refl
+  where
+    no : (phase : phases.Phase) → p.phase ≡ phase → work_at phase ≡ Some works.Poll → ⊥
+    no phase is poll = true≢false (sym (ap is_poll (sym work ∙ ap work_at is ∙ poll)))
+
+    by : (phase : phases.Phase) → p.phase ≡ phase → TakesNone p.phase
+    by at.Idle is = subst TakesNone (sym is) tt
+    by (at.Begun w) is = subst TakesNone (sym is) tt
+    by (at.Scanning reg label b slot) is = subst TakesNone (sym is) tt
+    by (at.Scanned reg label b) is = subst TakesNone (sym is) tt
+    by at.Crossing is = absurd (no at.Crossing is refl)
+    by at.Swapping is = absurd (no at.Swapping is refl)
+    by at.Giving is = subst TakesNone (sym is) tt
+    by (at.Finished w made) is = subst TakesNone (sym is) tt
+
+-- a work without an answer isn't finished
+pub busy_still : (p : Private) (work : Work) → work_of p ≡ Some work → ((made : Made) → answer_of p ≡ Some made → ⊥) → is_busy p ≡ true
+busy_still p work is none = by p.phase refl
+  where
+    by : (phase : phases.Phase) → p.phase ≡ phase → is_busy p ≡ true
+    by at.Idle e = let bad : ◌≡◌ {A = Option Work} None (Some work) = sym (ap work_at e) ∙ is in cc
+    by (at.Begun w) e = ap is_busy_at e
+    by (at.Scanning reg label b slot) e = ap is_busy_at e
+    by (at.Scanned reg label b) e = ap is_busy_at e
+    by at.Crossing e = ap is_busy_at e
+    by at.Swapping e = ap is_busy_at e
+    by at.Giving e = ap is_busy_at e
+    by (at.Finished w made) e = absurd (none made (ap answer_at e))
+
+begun_at : (p : Private) (work : Work) → (begun_of p work).phase ≡ at.Begun work
+unfolding begun_of
+begun_at p work = refl
+
+pub begun_busy : (p : Private) (work : Work) → is_busy (begun_of p work) ≡ true
+unfolding begun_of
+begun_busy p work = refl
+
+pub begun_slots : (p : Private) (work : Work) → (begun_of p work).slots ≡ p.slots
+unfolding begun_of
+begun_slots p work = refl
+
+pub path_first : (work : Work) (p q : Private) (log log' : List Beat) (word : ℕ) → log' ≡ log ++ worked work (word ∷ []) → IsMachine (begun_of p work) → is_busy (begun_of p work) ≡ true → work_of (begun_of p work) ≡ Some work
+    → (begun_of p work).slots ≡ p.slots → q ≡ learnt (begun_of p work) (Saw word) → Path work p log log' q
+path_first work p q log log' word grows machine busy works_on slots made = record {
+  words = [];
+  last = word;
+  grows = grows;
+  before = begun_of p work;
+  came = λ cmd is. refl;
+  machine = machine;
+  busy = busy;
+  works_on = works_on;
+  slots = slots;
+  made = made;
+}
+
+pub path_on : (work : Work) (p q r : Private) (log log' log'' : List Beat) (word : ℕ) → Path work p log log' q → log'' ≡ log' ++ Saw word ∷ [] → IsMachine q → is_busy q ≡ true → work_of q ≡ Some work → q.slots ≡ p.slots → r ≡ learnt q (Saw word)
+    → Path work p log log'' r
+path_on work p q r log log' log'' word path more machine busy works_on slots made =
+    let ws : List ℕ = path.words ++ path.last ∷ [] in
+    record {
+      words = ws;
+      last = word;
+      grows = more ∙ (λ i. path.grows i ++ Saw word ∷ []) ∙ append_assoc log (worked work ws) (Saw word ∷ []) ∙ ap (λ (l : List Beat). log ++ (Begins work ∷ l)) (sym (map-append (λ (n : ℕ). Saw n) ws (word ∷ [])));
+      before = q;
+      came = λ cmd is.
+          let none : TakesNone path.before.phase = command_takes_none path.before cmd (path.works_on ∙ ap (λ (w : Work). Some w) is) in
+          path.made ∙ here_same path.before path.last (spare (took_of path.before path.last)) path.busy none ∙ ap (λ (x : Private). took_of x path.last) (path.came cmd is) ∙ sym (fold-append took_of (begun_of p work) path.words (path.last ∷ []));
+      machine = machine;
+      busy = busy;
+      works_on = works_on;
+      slots = slots;
+      made = made;
+    }
+
+cmd_of : Cmd → Option Work → Cmd
+cmd_of d (Some (works.Command cmd)) = cmd
+cmd_of d _ = d
+
+-- a scan is over where none was found
+scanned_at : (q : Private) (cmd : Cmd) (before : ℕ) → work_of q ≡ Some (works.Command cmd) → FoundNoneAt q.phase before → (reg : ℕ) × (label : ℕ) × (cmd ≡ commands.New reg label)
+unfolding cmd_of
+scanned_at q cmd before work found = by q.phase refl found
+  where
+    by : (phase : phases.Phase) → q.phase ≡ phase → FoundNoneAt phase before → (reg : ℕ) × (label : ℕ) × (cmd ≡ commands.New reg label)
+    by at.Idle e f = absurd f
+    by (at.Begun w) e f = absurd f
+    by (at.Scanning reg label b slot) e f = absurd f
+    by (at.Scanned reg label b) e f = (reg, label, ap (cmd_of cmd) (sym work ∙ ap work_at e))
+    by at.Crossing e f = absurd f
+    by at.Swapping e f = absurd f
+    by at.Giving e f = absurd f
+    by (at.Finished w made) e f = absurd f
+
+fails_probes : (p q : Private) (cmd : Cmd) (before : ℕ) (words : List ℕ) → q ≡ fold took_of (begun_of p (works.Command cmd)) words → q.slots ≡ p.slots → work_of q ≡ Some (works.Command cmd) → FoundNone q before → FailsProbes p cmd before words
+fails_probes p q cmd before words came slots work found =
+    let (reg, label, is) = scanned_at q cmd before work found.scanned in
+    record {
+      reg = reg;
+      label = label;
+      is = is;
+      fails = subst (λ n. FailsScan label n before (ops_along (begun_of p (works.Command cmd)) words) words) slots
+          (found.every (begun_of p (works.Command cmd)) words (record { reg = reg; label = label; begun = begun_at p (works.Command cmd) ∙ ap (λ (c : Cmd). at.Begun (works.Command c)) is; came = came }));
+    }
+
+pub answered : (p q : Private) (cmd : Cmd) (log log' : List Beat) (told : Told) → Path (works.Command cmd) p log log' q → answer_of q ≡ Some (makes.Answered told) → IsAnswered p cmd log log' q told
+answered p q cmd log log' told path answer =
+    let pre : Private = path.before in
+    let none : TakesNone pre.phase = command_takes_none pre cmd path.works_on in
+    let took : q ≡ took_of pre path.last = path.made ∙ here_same pre path.last (spare (took_of pre path.last)) path.busy none in
+    let cause : HasCause pre (took_of pre path.last) cmd path.last told.answer = took_cause pre path.last cmd told path.machine path.busy (none_between pre.phase none) path.works_on (ap answer_of (sym took) ∙ answer) in
+    let came : pre ≡ fold took_of (begun_of p (works.Command cmd)) path.words = path.came cmd refl in
+    record {
+      words = path.words;
+      last = path.last;
+      grows = path.grows;
+      cause = subst (λ (y : Private × Private). HasCause y.0 y.1 cmd path.last told.answer) (λ i. (came i, sym took i)) cause;
+      full = λ is. let (before, found, still) = cause.full.0 is in (before, fails_probes p pre cmd before path.words came path.slots path.works_on found, still);
+      busy = λ before after is. let (found, same, still) = (cause.busy before after).0 is in (fails_probes p pre cmd before path.words came path.slots path.works_on found, same, still);
+    }

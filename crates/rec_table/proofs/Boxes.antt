@@ -1,0 +1,159 @@
+-- A mutator takes its mailbox, and gives it back.
+use Rattle.std.proofs.Common.{◌≡◌, ℕ, zero, suc, ◌+◌, ◌-◌, ◌%◌, ◌<◌, true, true≢false, cond, eq-eqb, ne_eqb, List, [], ◌∷◌, ◌++◌, length, get_or, set, Option, Some, None, refl, sym, ap, ◌∙◌, subst, arith, get_or-set_same}
+use mathlib.Core.Option.{some, none}
+use lib.ListN.{get_elem?}
+use Rattle.atomic_table.specs.Table.{Step, Allows, takes, gives}
+use Rattle.rec_word.specs.Op.{written}
+use Rattle.rec_word.specs.Mailbox.{crossing_word}
+use Rattle.rec_word.specs.declared.mailbox.Mailbox.TheVariants.{Retired, Spare, WithCollector, WithMutator}
+use Rattle.rec_word.specs.declared.op.Op.{Op}
+use Rattle.rec_word.specs.declared.op.Op.TheVariants as ops
+use Rattle.rec_log.specs.declared.contents.Contents.{Contents}
+use Rattle.rec_mutator.specs.Causes.{is_giving}
+use Rattle.rec_mutator.specs.Next.{next_of, next_at}
+use Rattle.rec_mutator.specs.Private.{Private, is_busy}
+use Rattle.rec_mutator.specs.Took.{took_of, took_at, retiring, crossed, left_of, spare, IsFound, IsSwapping}
+use Rattle.rec_mutator.specs.declared.phase.Phase.TheVariants as at
+use Rattle.rec_mutator.proofs.Steps.{TakesNone, learnt_made, step_between, here_same}
+use Rattle.rec_collector.specs.Private as collectors
+use Rattle.rec_core.specs.Core.{Core, cells_of, mutator, box, crossing_of}
+use Rattle.rec_core.specs.Kept.{IsKept}
+use Rattle.rec_core.specs.Moves.{after_moves, found_by, stepped}
+use Rattle.rec_core.specs.Cells.{with_cell}
+use Rattle.rec_world.proofs.Calls.{world_kept}
+use Rattle.rec_core.proofs.Crossings.{behind_of, left_same}
+use Rattle.rec_core.proofs.Steps.{actor_of}
+use Rattle.rec_core.proofs.Words.{may_step}
+use Rattle.rec_world.proofs.Mailboxes.{left_log}
+use Rattle.rec_table.specs.Beats.{told, learnt}
+use Rattle.rec_table.specs.Homes.{home_of, homes_of}
+use Rattle.rec_core.specs.Row.{index_of}
+use Rattle.rec_table.specs.Rule.{Holds, beats, TakenBy, GivenBy}
+use Rattle.rec_table.specs.declared.views.Beat.TheVariants.{Saw}
+use Rattle.rec_table.specs.declared.views.Seated.{Seated}
+use Rattle.rec_table.specs.declared.views.View.TheVariants.{Mutates}
+use Rattle.rec_table.proofs.Steps.{before, before_none, Here, here_at, goes_on, stepped_learns}
+
+pub homes_set : (ws : List ℕ) (bs : List Contents) (i c : ℕ) (b : Contents) → homes_of (set ws i c) (set bs i b) ≡ set (homes_of ws bs) i (home_of c b)
+homes_set [] bs i c b = refl
+homes_set (w ∷ ws) [] zero c b = refl
+homes_set (w ∷ ws) [] (suc i) c b = refl
+homes_set (w ∷ ws) (d ∷ bs) zero c b = refl
+homes_set (w ∷ ws) (d ∷ bs) (suc i) c b = ap (λ l. home_of w d ∷ l) (homes_set ws bs i c b)
+
+pub homes_at : (ws : List ℕ) (bs : List Contents) (i : ℕ) (d : Contents) → i < length ws → i < length bs → get_elem? (homes_of ws bs) i ≡ some (home_of (get_or ws i 0) (get_or bs i d))
+homes_at [] bs i d a b = absurd (omega arith)
+homes_at (w ∷ ws) [] i d a b = absurd (omega arith)
+homes_at (w ∷ ws) (x ∷ bs) zero d a b = refl
+homes_at (w ∷ ws) (x ∷ bs) (suc i) d a b = homes_at ws bs i d (omega arith) (omega arith)
+
+pub home_even : (c : ℕ) (b : Contents) → c % 2 ≡ 0 → home_of c b ≡ some (Some b)
+home_even c b even = ap (λ t. cond t (some (Some b)) none) (eq-eqb (c % 2) 0 even)
+
+pub home_odd : (c : ℕ) (b : Contents) → c % 2 ≡ 1 → home_of c b ≡ none
+home_odd c b odd = ap (λ t. cond t (some (Some b)) none) (ne_eqb (c % 2) 0 (λ e. omega (arith, e, odd)))
+
+pub even_zero : (e : ℕ) → crossing_word e Spare % 2 ≡ 0
+even_zero e = omega arith
+
+odd_one : (e : ℕ) → crossing_word e WithMutator % 2 ≡ 1
+odd_one e = omega arith
+
+pub odd_three : (e : ℕ) → crossing_word e WithCollector % 2 ≡ 1
+odd_three e = omega arith
+
+pub even_two : (e : ℕ) → crossing_word e Retired % 2 ≡ 0
+even_two e = omega arith
+
+pub takes_op : (p : Private) → p.phase ≡ at.Crossing → next_of p ≡ ops.TakeBox p.number (p.epoch + 1)
+unfolding next_of next_at
+takes_op p is = ap (next_at p) is
+
+gives_op : (p : Private) → p.phase ≡ at.Giving → next_of p ≡ ops.GiveBox p.number (p.epoch + 1)
+unfolding next_of next_at
+gives_op p is = ap (next_at p) is
+
+pub retires : (p : Private) (word : ℕ) → p.phase ≡ at.Crossing → took_of p word ≡ retiring p
+unfolding took_of took_at
+retires p word is = ap (took_at p word) is
+
+pub crosses : (p : Private) (word : ℕ) → p.phase ≡ at.Giving → took_of p word ≡ crossed p
+unfolding took_of took_at
+crosses p word is = ap (took_at p word) is
+
+swaps : (p : Private) (word : ℕ) → p.phase ≡ at.Crossing → IsSwapping (took_of p word).phase
+swaps p word is = subst (λ (q : Private). IsSwapping q.phase) (sym (retires p word is)) tt
+
+pub takes_box : (key : Core) (slots id : ℕ) (t : Seated) (p : Private) (op : Op) (f : ℕ → ℕ) (st : Step (Option Contents))
+    → p ≡ told (mutator key t.number) t.log → is_busy p ≡ true → p.phase ≡ at.Crossing → op ≡ next_of p → ((n : ℕ) → f n ≡ written op n)
+    → Allows (Holds key) slots id (Mutates t, []) (index_of (length key.words) (length key.headers) op) f (TakenBy p st (Mutates t, []))
+takes_box key slots id t p op f st is_p busy crossing is_op does s h len at_id fit =
+    let x : ℕ = t.number in
+    let here : Here key s h t None p op = here_at key s h id t None p op at_id is_p busy is_op in
+    let v : Core = before (after_moves key h.run) x None in
+    let kept : IsKept v = world_kept v here.world in
+    let n : ℕ = get_or s.words (index_of (length key.words) (length key.headers) op) 0 in
+    let m : Private = mutator v x in
+    let phase : m.phase ≡ at.Crossing = ap (λ (q : Private). q.phase) here.is ∙ crossing in
+    let number : m.number ≡ x = (actor_of v x kept here.here).own.number in
+    let at_x : p.number - 1 ≡ x - 1 = ap (λ (q : Private). q.number - 1) (sym here.is) ∙ ap (λ k. k - 1) number in
+    let took : took_of m (found_by v x) ≡ took_of p n = λ j. took_of (here.is j) (sym here.found j) in
+    let is_spare : box v x ≡ spare (took_of p n) = (may_step v x kept here.here here.busy).spare (swaps m (found_by v x) phase) ∙ ap spare took in
+    let words_many = kept.mutators.words in
+    let boxes_many = kept.mutators.mailboxes in
+    let home : get_elem? s.homes (p.number - 1) ≡ some (some (Some (spare (took_of p n)))) =
+    (λ j. get_elem? (here.homes j) (at_x j))
+    ∙ homes_at v.crossing v.boxes (x - 1) (collectors.blank 0 0) (omega (arith, words_many, here.here.0, here.here.1)) (omega (arith, boxes_many, here.here.0, here.here.1))
+    ∙ ap (λ k. some k) (home_even (crossing_of v x) (box v x) (ap (λ k. k % 2) (behind_of v x kept here.here phase).1.word ∙ even_zero m.epoch) ∙ ap (λ b. some (Some b)) is_spare) in
+    let left : left_of (took_of m (found_by v x)) (box v x) ≡ (took_of p n).log = left_log (took_of m (found_by v x)) (box v x) (swaps m (found_by v x) phase) ∙ ap (λ (q : Private). q.log) took in
+    let crossing_after : (stepped v x).crossing ≡ set v.crossing (x - 1) (crossing_word (m.epoch + 1) WithMutator) =
+    ap (λ o. (with_cell (cells_of v) o (written o (found_by v x))).crossing) (takes_op m phase) ∙ ap (λ k. set v.crossing (k - 1) (crossing_word (m.epoch + 1) WithMutator)) number in
+    let homes' : set s.homes (p.number - 1) none ≡ homes_of (stepped v x).crossing (stepped v x).boxes =
+    (λ j. set (here.homes j) (at_x j) none)
+    ∙ ap (λ k. set (homes_of v.crossing v.boxes) (x - 1) k) (sym (home_odd (crossing_word (m.epoch + 1) WithMutator) (left_of (took_of m (found_by v x)) (box v x)) (odd_one (m.epoch + 1))))
+    ∙ sym (homes_set v.crossing v.boxes (x - 1) (crossing_word (m.epoch + 1) WithMutator) (left_of (took_of m (found_by v x)) (box v x)))
+    ∙ ap (λ l. homes_of l (stepped v x).boxes) (sym crossing_after) in
+    let hand : (mutator (stepped v x) x).phase ≡ at.Giving → (took_of p n).log ≡ box (stepped v x) x = λ giving.
+    sym left ∙ sym (get_or-set_same v.boxes (x - 1) (left_of (took_of m (found_by v x)) (box v x)) (collectors.blank 0 0) (omega (arith, boxes_many, here.here.0, here.here.1))) in (
+      Mutates (record t { log = t.log ++ beats None n; hand = (took_of p n).log }),
+      takes (p.number - 1) (Some (spare (took_of p n))),
+      home,
+      goes_on key s h id t None p op (f n) (set s.homes (p.number - 1) none) (took_of p n).log at_id here (does n) homes' hand,
+      (refl, subst (λ (o : Op). IsFound p o n) is_op here.may, here.names),
+    )
+
+pub gives_box : (key : Core) (slots id : ℕ) (t : Seated) (p : Private) (op : Op) (f : ℕ → ℕ) (st : Step (Option Contents))
+    → p ≡ told (mutator key t.number) t.log → is_busy p ≡ true → p.phase ≡ at.Giving → op ≡ next_of p → ((n : ℕ) → f n ≡ written op n)
+    → Allows (Holds key) slots id (Mutates t, (p.number - 1, Some t.hand) ∷ []) (index_of (length key.words) (length key.headers) op) f (GivenBy p st (Mutates t, (p.number - 1, Some t.hand) ∷ []))
+gives_box key slots id t p op f st is_p busy giving is_op does s h len at_id fit =
+    let x : ℕ = t.number in
+    let now : Core = after_moves key h.run in
+    let here : Here key s h t None p op = here_at key s h id t None p op at_id is_p busy is_op in
+    let v : Core = before now x None in
+    let kept : IsKept v = world_kept v here.world in
+    let n : ℕ = get_or s.words (index_of (length key.words) (length key.headers) op) 0 in
+    let m : Private = mutator v x in
+    let phase : m.phase ≡ at.Giving = ap (λ (q : Private). q.phase) here.is ∙ giving in
+    let number : m.number ≡ x = (actor_of v x kept here.here).own.number in
+    let at_x : p.number - 1 ≡ x - 1 = ap (λ (q : Private). q.number - 1) (sym here.is) ∙ ap (λ k. k - 1) number in
+    let none_taken : TakesNone m.phase = subst TakesNone (sym phase) tt in
+    let left : left_of (took_of m (found_by v x)) (box v x) ≡ box v x = left_same (took_of m (found_by v x)) (box v x) (step_between (learnt_made m (found_by v x) (box v x) here.busy none_taken)) in
+    let mine = h.each id (Mutates t) at_id in
+    let same : v ≡ now = before_none now x in
+    let hand : t.hand ≡ box v x = mine.4 (ap (λ (c : Core). (mutator c x).phase) (sym same) ∙ phase) ∙ ap (λ (c : Core). box c x) (sym same) in
+    let crossing_after : (stepped v x).crossing ≡ set v.crossing (x - 1) (crossing_word (m.epoch + 1) Retired) =
+    ap (λ o. (with_cell (cells_of v) o (written o (found_by v x))).crossing) (gives_op m phase) ∙ ap (λ k. set v.crossing (k - 1) (crossing_word (m.epoch + 1) Retired)) number in
+    let homes' : set s.homes (p.number - 1) (some (Some t.hand)) ≡ homes_of (stepped v x).crossing (stepped v x).boxes =
+    (λ j. set (here.homes j) (at_x j) (some (Some ((hand ∙ sym left) j))))
+    ∙ ap (λ k. set (homes_of v.crossing v.boxes) (x - 1) k) (sym (home_even (crossing_word (m.epoch + 1) Retired) (left_of (took_of m (found_by v x)) (box v x)) (even_two (m.epoch + 1))))
+    ∙ sym (homes_set v.crossing v.boxes (x - 1) (crossing_word (m.epoch + 1) Retired) (left_of (took_of m (found_by v x)) (box v x)))
+    ∙ ap (λ l. homes_of l (stepped v x).boxes) (sym crossing_after) in
+    let learnt_is : learnt p (Saw n) ≡ crossed p = here_same p n (spare (took_of p n)) busy (subst TakesNone (sym giving) tt) ∙ crosses p n giving in
+    let over : (mutator (stepped v x) x).phase ≡ at.Giving → t.hand ≡ box (stepped v x) x = λ again.
+    absurd (true≢false (ap is_giving (sym again) ∙ ap (λ (q : Private). is_giving q.phase) (stepped_learns key s h t None p op here ∙ learnt_is))) in (
+      Mutates (record t { log = t.log ++ beats None n }),
+      gives,
+      tt,
+      goes_on key s h id t None p op (f n) (set s.homes (p.number - 1) (some (Some t.hand))) t.hand at_id here (does n) homes' over,
+      (refl, subst (λ (o : Op). IsFound p o n) is_op here.may, here.names),
+    )

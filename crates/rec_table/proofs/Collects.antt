@@ -1,0 +1,103 @@
+-- What the collector's list makes up is its record.
+use Rattle.std.proofs.Common.{◌≡◌, ◌≢◌, ℕ, ◌+◌, ◌≤◌, false, cond, eqb, eq-eqb, ne_eqb, List, [], ◌∷◌, ◌++◌, Option, Some, None, refl, sym, ap, ◌∙◌, subst, arith}
+use mathlib.Core.Logic.{dite}
+use native.Mathlib.Decide.{ℕ_discrete}
+use Rattle.rec_word.specs.Mailbox.{crossing_word}
+use Rattle.rec_word.specs.declared.mailbox.Mailbox.TheVariants.{Retired}
+use Rattle.rec_word.specs.declared.op.Op.{Op}
+use Rattle.rec_log.specs.declared.contents.Contents.{Contents}
+use Rattle.rec_collector.specs.Given as given
+use Rattle.rec_collector.specs.Next.{next_of}
+use Rattle.rec_collector.specs.Private.{Private, spare}
+use Rattle.rec_collector.specs.Step.{IsBetween}
+use Rattle.rec_collector.specs.Took.{took_of, step_of, left_of, left_at}
+use Rattle.rec_collector.specs.declared.phase.Phase.{Phase}
+use Rattle.rec_collector.specs.declared.phase.Phase.TheVariants.{Idle, Looking, Swapping, Returning, Releasing, Freeing, Trying, Preparing, Opening, Sweeping, Closing}
+use Rattle.rec_core.specs.Core.{Core, cells_of, box}
+use Rattle.rec_core.specs.Kept.{IsKept}
+use Rattle.rec_core.specs.Moves.{Move, after_move, after_moves, AllFit, found_by, looked_at, left_by, turned, turned_at}
+use Rattle.rec_core.specs.Cells.{cell}
+use Rattle.rec_world.specs.World.{IsWorld}
+use Rattle.rec_world.proofs.Calls.{moved_world, world_kept}
+use Rattle.rec_world.proofs.Mailboxes.{collector_stays}
+use Rattle.rec_world.proofs.Turnings.{gathers_so}
+use Rattle.rec_table.specs.Beats.{beats_of, looked, turn_at, gathered, gathered_all, Offerless}
+use Rattle.rec_table.specs.declared.views.Beat.{Beat}
+use Rattle.rec_table.specs.declared.views.Beat.TheVariants.{Begins, Saw, Took}
+
+pub gathered_both : (c : Private) (cs bs : List Beat) → gathered_all c (cs ++ bs) ≡ gathered_all (gathered_all c cs) bs
+gathered_both c [] bs = refl
+gathered_both c (b ∷ cs) bs = gathered_both (gathered c b) cs bs
+
+-- a mailbox whose buffer was swapped holds a spare
+pub leaves_spare : (c : Private) (b : Contents) (t : ℕ) → c.phase ≡ Swapping t → left_of c b ≡ spare c
+unfolding left_of left_at
+leaves_spare c b t is = ap (left_at c b) is
+
+-- where whatever lies in the mailbox stays there, no buffer is swapped
+not_swapping : (c : Private) (word : ℕ) → IsBetween c.phase → ((b : Contents) → left_by c word b c.phase ≡ b) → given.IsSwapping (took_of c word).phase → ⊥
+not_swapping c word between stays = by (took_of c word).phase refl
+  where
+    by : (phase : Phase) → (took_of c word).phase ≡ phase → given.IsSwapping phase → ⊥
+    by (Swapping t) is swaps =
+        let same : spare (took_of c word) ≡ record (spare (took_of c word)) { capacity = (spare (took_of c word)).capacity + 1 } =
+        sym (leaves_spare (took_of c word) (record (spare (took_of c word)) { capacity = (spare (took_of c word)).capacity + 1 }) t is)
+        ∙ gathers_so c word (record (spare (took_of c word)) { capacity = (spare (took_of c word)).capacity + 1 }) between
+        ∙ stays (record (spare (took_of c word)) { capacity = (spare (took_of c word)).capacity + 1 }) in
+        let more : (spare (took_of c word)).capacity ≡ (spare (took_of c word)).capacity + 1 = ap (λ (b : Contents). b.capacity) same in
+        omega (arith, more)
+    by Idle is swaps = swaps
+    by (Looking t) is swaps = swaps
+    by (Returning t) is swaps = swaps
+    by Releasing is swaps = swaps
+    by Freeing is swaps = swaps
+    by Trying is swaps = swaps
+    by Preparing is swaps = swaps
+    by Opening is swaps = swaps
+    by (Sweeping n) is swaps = swaps
+    by (Closing n) is swaps = swaps
+
+learns_alone : (c : Private) (word : ℕ) (b : Contents) → IsBetween c.phase → ((d : Contents) → left_by c word d c.phase ≡ d) → step_of c word b ≡ took_of c word
+unfolding step_of
+learns_alone c word b between stays = sym (collector_stays (took_of c word) b (not_swapping c word between stays))
+
+-- what the collector's turn records makes up what it learns
+pub looked_makes : (w : Core) (word : ℕ) (phase : Phase) → IsKept w → w.collector.phase ≡ phase → step_of w.collector word (box w (looked_at phase)) ≡ gathered w.collector (looked w word phase)
+looked_makes w word (Looking t) kept is = dite (ℕ_discrete word (crossing_word w.collector.epoch Retired))
+    (λ (e : word ≡ crossing_word w.collector.epoch Retired). sym (ap (λ b. gathered w.collector (cond b (Took word (box w t)) (Saw word))) (eq-eqb word (crossing_word w.collector.epoch Retired) e)))
+    (λ (ne : word ≢ crossing_word w.collector.epoch Retired).
+    let miss : eqb word (crossing_word w.collector.epoch Retired) ≡ false = ne_eqb word (crossing_word w.collector.epoch Retired) ne in
+    learns_alone w.collector word (box w t) kept.collector.between (λ d. ap (left_by w.collector word d) is ∙ ap (λ b. cond b (spare w.collector) d) miss)
+    ∙ sym (ap (λ b. gathered w.collector (cond b (Took word (box w t)) (Saw word))) miss))
+looked_makes w word Idle kept is = learns_alone w.collector word (box w 1) kept.collector.between (λ d. ap (left_by w.collector word d) is)
+looked_makes w word (Swapping t) kept is = absurd (subst IsBetween is kept.collector.between)
+looked_makes w word (Returning t) kept is = learns_alone w.collector word (box w 1) kept.collector.between (λ d. ap (left_by w.collector word d) is)
+looked_makes w word Releasing kept is = learns_alone w.collector word (box w 1) kept.collector.between (λ d. ap (left_by w.collector word d) is)
+looked_makes w word Freeing kept is = learns_alone w.collector word (box w 1) kept.collector.between (λ d. ap (left_by w.collector word d) is)
+looked_makes w word Trying kept is = learns_alone w.collector word (box w 1) kept.collector.between (λ d. ap (left_by w.collector word d) is)
+looked_makes w word Preparing kept is = learns_alone w.collector word (box w 1) kept.collector.between (λ d. ap (left_by w.collector word d) is)
+looked_makes w word Opening kept is = learns_alone w.collector word (box w 1) kept.collector.between (λ d. ap (left_by w.collector word d) is)
+looked_makes w word (Sweeping n) kept is = learns_alone w.collector word (box w 1) kept.collector.between (λ d. ap (left_by w.collector word d) is)
+looked_makes w word (Closing n) kept is = learns_alone w.collector word (box w 1) kept.collector.between (λ d. ap (left_by w.collector word d) is)
+
+turn_makes : (w : Core) (x : Option Op) → IsKept w → (turned_at w x).collector ≡ gathered_all w.collector (turn_at w x)
+turn_makes w None kept = refl
+turn_makes w (Some op) kept = looked_makes w (cell (cells_of w) op) w.collector.phase kept refl
+
+none_told : (t : ℕ) (b : Beat) → 1 ≤ t → cond (eqb t 0) (b ∷ []) [] ≡ []
+none_told t b le = ap (λ x. cond x (b ∷ []) []) (ne_eqb t 0 (λ e. omega (arith, e, le)))
+
+-- so it is after a run in which the slots are never offered
+pub collector_after : (w : Core) (ms : List Move) → IsWorld w → AllFit w ms → Offerless ms → (after_moves w ms).collector ≡ gathered_all w.collector (beats_of 0 w ms)
+collector_after w [] world fit none = refl
+collector_after w (Move.Offers ∷ ms) world fit none = absurd none
+collector_after w (Move.Begins t work ∷ ms) world fit none =
+    collector_after (after_move w (Move.Begins t work)) ms (moved_world w (Move.Begins t work) world fit.0) fit.1 none
+    ∙ sym (ap (λ l. gathered_all w.collector (l ++ beats_of 0 (after_move w (Move.Begins t work)) ms)) (none_told t (Begins work) fit.0.0.0))
+collector_after w (Move.Steps t ∷ ms) world fit none =
+    collector_after (after_move w (Move.Steps t)) ms (moved_world w (Move.Steps t) world fit.0) fit.1 none
+    ∙ sym (ap (λ l. gathered_all w.collector (l ++ beats_of 0 (after_move w (Move.Steps t)) ms)) (none_told t (Saw (found_by w t)) fit.0.0.0))
+collector_after w (Move.Turns ∷ ms) world fit none =
+    collector_after (turned w) ms (moved_world w Move.Turns world fit.0) fit.1 none
+    ∙ ap (λ c. gathered_all c (beats_of 0 (turned w) ms)) (turn_makes w (next_of w.collector) (world_kept w world))
+    ∙ sym (gathered_both w.collector (turn_at w (next_of w.collector)) (beats_of 0 (turned w) ms))

@@ -1,0 +1,549 @@
+-- The calls of the collector's turn.
+use Rattle.std.proofs.Common.{◌≡◌, ℕ, ◌+◌, ◌-◌, ◌==◌, ◌<◌, arith, Bool, true, false, cond, if◌then◌else◌, eq-eqb, ne_eqb, List, [], ◌∷◌, length, slice_set, length-set, Option, Some, None, refl, sym, ap, ◌∙◌, subst}
+use Rattle.std.specs.Option.{IfSome}
+use Rattle.atomic_table.specs.Table.{Me, Step, Allows, rest}
+use Rattle.rec_word.specs.Op.{written}
+use Rattle.rec_word.specs.Mailbox.{crossing_word}
+use Rattle.rec_word.specs.declared.mailbox.Mailbox.TheVariants.{Retired}
+use Rattle.rec_word.specs.declared.op.Op.{Op}
+use Rattle.rec_word.specs.declared.op.Op.TheVariants as ops
+use Rattle.rec_log.specs.declared.contents.Contents.{Contents}
+use Rattle.rec_release.specs.CycleFree.{op_at as freeing_op_at, next_of as freeing_next}
+use Rattle.rec_release.specs.Release.{op_at as release_op_at, next_of as release_next}
+use Rattle.rec_release.specs.Sweep.{next_of as sweep_next}
+use Rattle.rec_release.specs.declared.at.At.{At}
+use Rattle.rec_release.specs.declared.member.Member.{Member}
+use Rattle.rec_sigma.specs.Prepare.{op_at as prep_op_at, next_of as prep_next}
+use Rattle.rec_sigma.specs.declared.at.At as loads
+use Rattle.rec_trial.specs.Trial.{next_of as trial_next}
+use Rattle.rec_collector.specs.Followed.{Next, followed, prep_started, prepared, prepared_at, relieved, sweep_phase, tested_on, trial_started, tried, tried_at, with_freed, with_loaded, with_released, with_tried}
+use Rattle.rec_collector.specs.Given.{IsGiven, IsGivenAt, IsSized}
+use Rattle.rec_world.specs.Mailbox.{held}
+use Rattle.rec_collector.specs.Kept.{IsMachine, KeepsSizes}
+use Rattle.rec_collector.specs.Next.{next_of, next_at, is_spent}
+use Rattle.rec_collector.specs.Parts.{Parts}
+use Rattle.rec_collector.specs.Private.{Private, parts_of, with_parts, spare}
+use Rattle.rec_collector.specs.Step.{IsBetween, NamesWord}
+use Rattle.rec_collector.specs.Testing.{tested, zeros_released}
+use Rattle.rec_collector.specs.Took.{batched, came, ended_if, left_of, moved, took_of, took_at, step_of, swapped_of, swapped_at, swept_phase}
+use Rattle.rec_collector.specs.declared.phase.Phase.{Phase}
+use Rattle.rec_collector.specs.declared.phase.Phase.TheVariants.{Idle, Looking, Swapping, Returning, Releasing, Freeing, Trying, Preparing, Opening, Sweeping, Closing}
+use Rattle.rec_collector.proofs.Words.{names_word}
+use Rattle.atomic_table.specs.Seated.{TableId}
+use Rattle.rec_core.specs.Core.{Core, cells_of, box}
+use Rattle.rec_world.specs.World.{IsWorld}
+use Rattle.rec_world.proofs.Calls.{world_kept}
+use Rattle.rec_core.proofs.Words.{collector_within}
+use Rattle.rec_table.proofs.Collects.{gathered_both, leaves_spare}
+use Rattle.rec_core.proofs.Row.{row_within}
+use Rattle.rec_table.specs.Held.{Gathers, gathers, gathers_now}
+use Rattle.rec_core.specs.Moves.{looked_at, left_by}
+use Rattle.rec_core.proofs.Trying.{loads_child}
+use Rattle.rec_core.proofs.Turning.{some_op}
+use Rattle.rec_table.specs.Beats.{gathered, gathered_all, looked}
+use Rattle.rec_core.specs.Row.{index_of}
+use Rattle.rec_table.specs.Rule.{IsReturnOp, Holds, TurnedBy, LookedBy, ReturnedBy, records, crew_of, crew_more, boxes_at, boxes_out, NotLooking}
+use Rattle.rec_table.specs.declared.views.Beat.{Beat}
+use Rattle.rec_table.specs.declared.views.Beat.TheVariants.{Saw, Took}
+use Rattle.rec_table.specs.declared.views.Crew.{Crew}
+use Rattle.rec_table.specs.declared.views.View.{View}
+use Rattle.rec_table.specs.declared.views.View.TheVariants.{Collects}
+use Rattle.rec_table.proofs.Steps.{IsPlainOp}
+use Rattle.rec_table.proofs.Turns.{turns, looks, returns_box}
+
+-- an operation of a turn that moves no mailbox
+abbrev pub IsLoneOp : Op → Type 0
+IsLoneOp (ops.LoadChild place) = Unit {0}
+IsLoneOp (ops.ClearField place) = Unit {0}
+IsLoneOp (ops.FreeHeader slot) = Unit {0}
+IsLoneOp (ops.StoreEpoch epoch) = Unit {0}
+IsLoneOp ops.AddFreed = Unit {0}
+IsLoneOp _ = ⊥
+
+pub lone_plain : (op : Op) → IsLoneOp op → IsPlainOp op
+lone_plain (ops.LoadChild place) is = tt
+lone_plain (ops.ClearField place) is = tt
+lone_plain (ops.FreeHeader slot) is = tt
+lone_plain (ops.StoreEpoch epoch) is = tt
+lone_plain ops.AddFreed is = tt
+lone_plain (ops.LoadField x) is = absurd is
+lone_plain (ops.SwapField x y) is = absurd is
+lone_plain (ops.LoadHeader x) is = absurd is
+lone_plain ops.LoadEpoch is = absurd is
+lone_plain (ops.LoadCross x) is = absurd is
+lone_plain (ops.ClaimHeader x y) is = absurd is
+lone_plain ops.LoadFreed is = absurd is
+lone_plain (ops.TakeBox x y) is = absurd is
+lone_plain (ops.GiveBox x y) is = absurd is
+lone_plain (ops.LookBox x y) is = absurd is
+lone_plain (ops.ReturnBox x y) is = absurd is
+
+abbrev pub IsLone : Phase → Type 0
+IsLone (Looking t) = ⊥
+IsLone (Swapping t) = ⊥
+IsLone (Returning t) = ⊥
+IsLone _ = Unit {0}
+
+abbrev pub IsReturning : Phase → Type 0
+IsReturning (Returning t) = Unit {0}
+IsReturning _ = ⊥
+
+-- what a turn does with a mailbox: its phase and its operation agree
+pub data Kind (p : Private) (op : Op) : Type 0 where
+  at_box : (t : ℕ) → p.phase ≡ Looking t → op ≡ ops.LookBox t p.epoch → Kind p op
+  gives_box : (t : ℕ) → p.phase ≡ Returning t → op ≡ ops.ReturnBox t p.epoch → Kind p op
+  lone : IsLone p.phase → IsLoneOp op → Kind p op
+
+is_lone : (o op : Op) → IsLoneOp o → ◌≡◌ {A = Option Op} (Some o) (Some op) → IsLoneOp op
+is_lone o op is e = subst IsLoneOp (some_op o op e) is
+
+not_none : (op : Op) → ◌≡◌ {A = Option Op} None (Some op) → ⊥
+not_none op e = let not_so : ◌≡◌ {A = Option Op} (Some op) None = sym e in cc
+
+kind_at : (p : Private) (op : Op) (phase : Phase) → p.phase ≡ phase → IsBetween phase → ◌≡◌ {A = Option Op} (next_at p phase) (Some op) → Kind p op
+unfolding next_at release_next freeing_next prep_next sweep_next
+kind_at p op Idle is between named = Kind.lone (subst IsLone (sym is) tt) (stored (is_spent p) named)
+  where
+    stored : (spent : Bool) → ◌≡◌ {A = Option Op} (if spent then None else Some (ops.StoreEpoch (p.epoch + 1))) (Some op) → IsLoneOp op
+    stored true e = absurd (not_none op e)
+    stored false e = is_lone (ops.StoreEpoch (p.epoch + 1)) op tt e
+kind_at p op (Looking t) is between named = Kind.at_box t is (sym (some_op (ops.LookBox t p.epoch) op named))
+kind_at p op (Swapping t) is between named = absurd between
+kind_at p op (Returning t) is between named = Kind.gives_box t is (sym (some_op (ops.ReturnBox t p.epoch) op named))
+kind_at p op Releasing is between named = Kind.lone (subst IsLone (sym is) tt) (go p.release.at named)
+  where
+    go : (x : Option At) → ◌≡◌ {A = Option Op} (release_op_at p.release.fields x) (Some op) → IsLoneOp op
+    go None e = absurd (not_none op e)
+    go (Some a) e = is_lone _ op tt e
+kind_at p op Freeing is between named = Kind.lone (subst IsLone (sym is) tt) (go p.freeing.at named)
+  where
+    go : (x : Option Member) → ◌≡◌ {A = Option Op} (freeing_op_at p.freeing.fields x) (Some op) → IsLoneOp op
+    go None e = absurd (not_none op e)
+    go (Some a) e = is_lone _ op tt e
+kind_at p op Trying is between named = Kind.lone (subst IsLone (sym is) tt) (subst IsLoneOp (sym (loads_child p.trial op (sym named)).1) tt)
+kind_at p op Preparing is between named = Kind.lone (subst IsLone (sym is) tt) (go p.prep.at named)
+  where
+    go : (x : Option loads.At) → ◌≡◌ {A = Option Op} (prep_op_at p.prep.fields x) (Some op) → IsLoneOp op
+    go None e = absurd (not_none op e)
+    go (Some a) e = is_lone _ op tt e
+kind_at p op Opening is between named = Kind.lone (subst IsLone (sym is) tt) (is_lone ops.AddFreed op tt named)
+kind_at p op (Sweeping n) is between named = Kind.lone (subst IsLone (sym is) tt) (go p.due named)
+  where
+    go : (x : Option ℕ) → ◌≡◌ {A = Option Op} (sweep_next x) (Some op) → IsLoneOp op
+    go None e = absurd (not_none op e)
+    go (Some x) e = is_lone (ops.FreeHeader x) op tt e
+kind_at p op (Closing n) is between named = Kind.lone (subst IsLone (sym is) tt) (is_lone ops.AddFreed op tt named)
+
+pub kind : (p : Private) (op : Op) → IsBetween p.phase → ◌≡◌ {A = Option Op} (next_of p) (Some op) → Kind p op
+unfolding next_of
+kind p op between named = kind_at p op p.phase refl between named
+
+-- no mailbox is held in this phase
+abbrev pub HoldsNone : Phase → Type 0
+HoldsNone (Swapping t) = ⊥
+HoldsNone (Returning t) = ⊥
+HoldsNone _ = Unit {0}
+
+prepared_none : (w : Parts) → HoldsNone (prepared w).phase
+unfolding prepared
+prepared_none w = go w.prep.at
+  where
+    swept : (free : List ℕ) → HoldsNone (sweep_phase free)
+    swept [] = tt
+    swept (x ∷ free) = tt
+
+    go : (x : Option loads.At) → HoldsNone (prepared_at w x).phase
+    go (Some a) = tt
+    go None = swept w.counts.free
+
+tried_none : (w : Parts) → HoldsNone (tried w).phase
+unfolding tried
+tried_none w = go (trial_next w.trial)
+  where
+    go : (x : Option Op) → HoldsNone (tried_at w x).phase
+    go (Some op) = tt
+    go None = prepared_none (prep_started w)
+
+followed_none : (w : Parts) → HoldsNone (followed w).phase
+unfolding followed
+followed_none w = go (tested (length w.counts.sets) w).release.at (tested (length w.counts.sets) w).freeing.at
+  where
+    go : (x : Option At) (m : Option Member) → HoldsNone (tested_on (tested (length w.counts.sets) w) x m).phase
+    go x (Some m) = tt
+    go (Some a) None = tt
+    go None None = tried_none (trial_started (tested (length w.counts.sets) w))
+
+came_none : (p : Private) (n : Next) → HoldsNone n.phase → HoldsNone (came p n).phase
+came_none p n none = go n.phase none
+  where
+    go : (phase : Phase) → HoldsNone phase → HoldsNone (ended_if phase (moved (with_parts p n.parts) phase)).phase
+    go Idle none = tt
+    go (Looking t) none = tt
+    go (Swapping t) none = absurd none
+    go (Returning t) none = absurd none
+    go Releasing none = tt
+    go Freeing none = tt
+    go Trying none = tt
+    go Preparing none = tt
+    go Opening none = tt
+    go (Sweeping n) none = tt
+    go (Closing n) none = tt
+
+took_none : (p : Private) (word : ℕ) (phase : Phase) → p.phase ≡ phase → IsBetween phase → NotLooking phase → HoldsNone (took_at p word phase).phase
+unfolding took_at
+took_none p word Idle is between looks_none = go (is_spent p)
+  where
+    go : (spent : Bool) → HoldsNone (if spent then p else record p { epoch = p.epoch + 1; phase = Looking 1; turns = p.turns + 1 }).phase
+    go true = subst HoldsNone (sym is) tt
+    go false = tt
+took_none p word (Looking t) is between looks_none = absurd looks_none
+took_none p word (Swapping t) is between looks_none = absurd between
+took_none p word (Returning t) is between looks_none = go (t == length p.newer)
+  where
+    next : Next
+    next = followed (zeros_released false (batched p))
+
+    go : (last : Bool) → HoldsNone (if last then came p next else record p { phase = Looking (t + 1); turns = p.turns + 1 }).phase
+    go true = came_none p next (followed_none (zeros_released false (batched p)))
+    go false = tt
+took_none p word Releasing is between looks_none = came_none p (followed (with_released (parts_of p) word)) (followed_none (with_released (parts_of p) word))
+took_none p word Freeing is between looks_none = came_none p (followed (relieved (with_freed (parts_of p) word))) (followed_none (relieved (with_freed (parts_of p) word)))
+took_none p word Trying is between looks_none = came_none p (tried (with_tried (parts_of p) word)) (tried_none (with_tried (parts_of p) word))
+took_none p word Preparing is between looks_none = came_none p (prepared (with_loaded (parts_of p) word)) (prepared_none (with_loaded (parts_of p) word))
+took_none p word Opening is between looks_none = tt
+took_none p word (Sweeping n) is between looks_none = go _
+  where
+    go : (x : Option ℕ) → HoldsNone (swept_phase (n + 1) x)
+    go None = tt
+    go (Some x) = tt
+took_none p word (Closing n) is between looks_none = tt
+
+pub holds_none : (p : Private) (word : ℕ) → IsBetween p.phase → NotLooking p.phase → HoldsNone (took_of p word).phase
+unfolding took_of
+holds_none p word between looks_none = took_none p word p.phase refl between looks_none
+
+none_out : (p : Private) (phase : Phase) → HoldsNone phase → boxes_at p phase ≡ []
+none_out p Idle is = refl
+none_out p (Looking t) is = refl
+none_out p (Swapping t) is = refl
+none_out p (Returning t) is = absurd is
+none_out p Releasing is = refl
+none_out p Freeing is = refl
+none_out p Trying is = refl
+none_out p Preparing is = refl
+none_out p Opening is = refl
+none_out p (Sweeping n) is = refl
+none_out p (Closing n) is = refl
+
+none_between : (phase : Phase) → HoldsNone phase → IsBetween phase
+none_between Idle is = tt
+none_between (Looking t) is = tt
+none_between (Swapping t) is = is
+none_between (Returning t) is = tt
+none_between Releasing is = tt
+none_between Freeing is = tt
+none_between Trying is = tt
+none_between Preparing is = tt
+none_between Opening is = tt
+none_between (Sweeping n) is = tt
+none_between (Closing n) is = tt
+
+-- what the collector is after a turn that looked at no mailbox
+pub lone_out : (p q : Private) (word : ℕ) → IsBetween p.phase → NotLooking p.phase → q ≡ took_of p word → (boxes_out q ≡ []) × IsBetween q.phase
+lone_out p q word between looks_none took =
+    let none = subst (λ (x : Private). HoldsNone x.phase) (sym took) (holds_none p word between looks_none) in
+    (none_out q q.phase none, none_between q.phase none)
+
+pub lone_boxes : (p : Private) (phase : Phase) → IsLone phase → boxes_at p phase ≡ []
+lone_boxes p Idle is = refl
+lone_boxes p (Looking t) is = refl
+lone_boxes p (Swapping t) is = refl
+lone_boxes p (Returning t) is = absurd is
+lone_boxes p Releasing is = refl
+lone_boxes p Freeing is = refl
+lone_boxes p Trying is = refl
+lone_boxes p Preparing is = refl
+lone_boxes p Opening is = refl
+lone_boxes p (Sweeping n) is = refl
+lone_boxes p (Closing n) is = refl
+
+sees : (w : Core) (n : ℕ) (phase : Phase) → IsLone phase → looked w n phase ≡ Saw n
+sees w n Idle is = refl
+sees w n (Looking t) is = absurd is
+sees w n (Swapping t) is = refl
+sees w n (Returning t) is = refl
+sees w n Releasing is = refl
+sees w n Freeing is = refl
+sees w n Trying is = refl
+sees w n Preparing is = refl
+sees w n Opening is = refl
+sees w n (Sweeping k) is = refl
+sees w n (Closing k) is = refl
+
+stays : (c : Private) (n : ℕ) (b : Contents) (phase : Phase) → IsLone phase → left_by c n b phase ≡ b
+stays c n b Idle is = refl
+stays c n b (Looking t) is = absurd is
+stays c n b (Swapping t) is = refl
+stays c n b (Returning t) is = refl
+stays c n b Releasing is = refl
+stays c n b Freeing is = refl
+stays c n b Trying is = refl
+stays c n b Preparing is = refl
+stays c n b Opening is = refl
+stays c n b (Sweeping k) is = refl
+stays c n b (Closing k) is = refl
+
+-- a lone operation comes in a lone phase
+pub lone_phase : (p : Private) (op : Op) → IsBetween p.phase → ◌≡◌ {A = Option Op} (next_of p) (Some op) → IsLoneOp op → IsLone p.phase
+lone_phase p op between named is = by (kind p op between named)
+  where
+    by : Kind p op → IsLone p.phase
+    by (Kind.at_box t phase o) = absurd (subst IsLoneOp o is)
+    by (Kind.gives_box t phase o) = absurd (subst IsLoneOp o is)
+    by (Kind.lone phase o) = phase
+
+pub allows_lone : (key : Core) (slots id i : ℕ) (me : Me (Option Contents) View) (op : Op) (p : Private) (f : ℕ → ℕ) (st : Step (Option Contents))
+    → me ≡ (Collects (crew_of me.0), boxes_out p) → p ≡ gathered_all key.collector (crew_of me.0).log → IsBetween p.phase → ◌≡◌ {A = Option Op} (next_of p) (Some op) → IsLoneOp op
+    → i ≡ index_of (length key.words) (length key.headers) op → ((n : ℕ) → f n ≡ written op n) → Allows (Holds key) slots id me i f (TurnedBy p st me)
+allows_lone key slots id i me op p f st is is_p between named alone at does =
+    let c : Crew = crew_of me.0 in
+    let phase : IsLone p.phase = lone_phase p op between named alone in
+    let all = turns key slots id c (boxes_out p) p op f st is_p named (lone_plain op alone)
+    (λ w n e. sees w n w.collector.phase (subst (λ (x : Private). IsLone x.phase) (sym e) phase))
+    (λ w n e. stays w.collector n (box w (looked_at w.collector.phase)) w.collector.phase (subst (λ (x : Private). IsLone x.phase) (sym e) phase))
+    does in
+    subst (λ (y : Me (Option Contents) View × ℕ). Allows (Holds key) slots id y.0 y.1 f (TurnedBy p st y.0)) (λ k. (sym is k, sym at k)) all
+
+pub made_lone : (p : Private) (op : Op) (word : ℕ) (me me' : Me (Option Contents) View) → me ≡ (Collects (crew_of me.0), boxes_out p) → IsBetween p.phase → ◌≡◌ {A = Option Op} (next_of p) (Some op) → IsLoneOp op
+    → me' ≡ (records me.0 (Saw word), me.1) → me' ≡ (Collects (crew_more (crew_of me.0) (Saw word)), [])
+made_lone p op word me me' is between named alone now =
+    let c : Crew = crew_of me.0 in
+    now ∙ (λ k. (records (is k).0 (Saw word), (is k).1)) ∙ (λ k. (Collects (crew_more c (Saw word)), lone_boxes p p.phase (lone_phase p op between named alone) k))
+
+not_return : (o : Op) → IsLoneOp o → IsReturnOp o → ⊥
+not_return (ops.LoadChild place) a b = b
+not_return (ops.ClearField place) a b = b
+not_return (ops.FreeHeader slot) a b = b
+not_return (ops.StoreEpoch epoch) a b = b
+not_return ops.AddFreed a b = b
+not_return (ops.LoadField x) a b = a
+not_return (ops.SwapField x y) a b = a
+not_return (ops.LoadHeader x) a b = a
+not_return ops.LoadEpoch a b = a
+not_return (ops.LoadCross x) a b = a
+not_return (ops.ClaimHeader x y) a b = a
+not_return ops.LoadFreed a b = a
+not_return (ops.TakeBox x y) a b = a
+not_return (ops.GiveBox x y) a b = a
+not_return (ops.LookBox x y) a b = a
+not_return (ops.ReturnBox x y) a b = a
+
+pub returns_at : (p : Private) (op : Op) → IsBetween p.phase → ◌≡◌ {A = Option Op} (next_of p) (Some op) → IsReturnOp op → (t : ℕ) × (p.phase ≡ Returning t) × (op ≡ ops.ReturnBox t p.epoch)
+returns_at p op between named is = by (kind p op between named)
+  where
+    by : Kind p op → (t : ℕ) × (p.phase ≡ Returning t) × (op ≡ ops.ReturnBox t p.epoch)
+    by (Kind.at_box t phase o) = absurd (subst IsReturnOp o is)
+    by (Kind.gives_box t phase o) = (t, phase, o)
+    by (Kind.lone phase o) = absurd (not_return op o is)
+
+pub allows_return : (key : Core) (slots id i : ℕ) (me : Me (Option Contents) View) (op : Op) (p : Private) (f : ℕ → ℕ) (st : Step (Option Contents))
+    → me ≡ (Collects (crew_of me.0), boxes_out p) → p ≡ gathered_all key.collector (crew_of me.0).log → IsBetween p.phase → ◌≡◌ {A = Option Op} (next_of p) (Some op) → IsReturnOp op
+    → i ≡ index_of (length key.words) (length key.headers) op → ((n : ℕ) → f n ≡ written op n) → Allows (Holds key) slots id me i f (ReturnedBy p st me)
+allows_return key slots id i me op p f st is is_p between named ret at does =
+    let c : Crew = crew_of me.0 in
+    let (t, phase, o) = returns_at p op between named ret in
+    let all = returns_box key slots id t c p f st is_p phase (λ n. does n ∙ ap (λ (x : Op). written x n) o) in
+    subst (λ (y : Me (Option Contents) View × ℕ). Allows (Holds key) slots id y.0 y.1 f (ReturnedBy p st y.0))
+    (λ k. (sym (is ∙ (λ j. (Collects c, boxes_at p (phase j)))) k, sym (at ∙ ap (index_of (length key.words) (length key.headers)) o) k)) all
+
+pub made_return : (p : Private) (op : Op) (word : ℕ) (me me' : Me (Option Contents) View) → me ≡ (Collects (crew_of me.0), boxes_out p) → IsBetween p.phase → ◌≡◌ {A = Option Op} (next_of p) (Some op) → IsReturnOp op
+    → me' ≡ (records me.0 (Saw word), rest me.1) → me' ≡ (Collects (crew_more (crew_of me.0) (Saw word)), [])
+made_return p op word me me' is between named ret now =
+    let c : Crew = crew_of me.0 in
+    now ∙ (λ k. (records (is k).0 (Saw word), rest (is k).1)) ∙ (λ k. (Collects (crew_more c (Saw word)), rest (boxes_at p ((returns_at p op between named ret).1 k))))
+
+-- A look at a mailbox.
+pub given_looking : (p : Private) (t word : ℕ) → p.phase ≡ Looking t → IsGiven p word
+unfolding IsGiven IsGivenAt
+given_looking p t word is = subst (λ (x : Phase). IsGivenAt p word x) (sym is) tt
+
+pub allows_look : (key : Core) (slots id i : ℕ) (me : Me (Option Contents) View) (t epoch number : ℕ) (p actor : Private) (f : ℕ → ℕ) (st : Step (Option Contents))
+    → me ≡ (Collects (crew_of me.0), []) → actor ≡ p → number ≡ t → p ≡ gathered_all key.collector (crew_of me.0).log → p.phase ≡ Looking t → p.epoch ≡ epoch
+    → i ≡ index_of (length key.words) (length key.headers) (ops.LookBox t epoch) → ((n : ℕ) → f n ≡ written (ops.LookBox t epoch) n) → Allows (Holds key) slots id me i f (LookedBy actor number st me)
+allows_look key slots id i me t epoch number p actor f st is a_is n_is is_p phase e_is at does =
+    let all = looks key slots id t (crew_of me.0) p f st is_p phase (λ n. does n ∙ ap (λ (e : ℕ). written (ops.LookBox t e) n) (sym e_is)) in
+    subst (λ (y : Me (Option Contents) View × ℕ × Private × ℕ). Allows (Holds key) slots id y.0 y.1 f (LookedBy y.2 y.3 st y.0)) (λ k. (sym is k, sym (at ∙ ap (λ (e : ℕ). index_of (length key.words) (length key.headers) (ops.LookBox t e)) (sym e_is)) k, sym a_is k, sym n_is k)) all
+
+abbrev pub Hit : (p : Private) (t word : ℕ) (c : Crew) (me : Me (Option Contents) View) → Type 0
+Hit p t word c me = (b : Contents) × (me ≡ (Collects (crew_more c (Took word b)), (t - 1, Some b) ∷ [])) × IsSized p.registers p.capacity b
+
+pub look_hits : (p actor : Private) (t number epoch word : ℕ) (st : Step (Option Contents)) (me me' : Me (Option Contents) View) → me ≡ (Collects (crew_of me.0), []) → actor ≡ p → number ≡ t → p.epoch ≡ epoch → word ≡ crossing_word epoch Retired
+    → LookedBy actor number st me word me' → Hit p t word (crew_of me.0) me'
+look_hits p actor t number epoch word st me me' is a_is n_is e_is hit by =
+    let (b, now, sized) = by.0 (hit ∙ ap (λ (e : ℕ). crossing_word e Retired) (sym e_is ∙ ap (λ (x : Private). x.epoch) (sym a_is))) in
+    (b, now ∙ (λ k. (records (is k).0 (Took word b), (n_is k - 1, Some b) ∷ (is k).1)), subst (λ (x : Private). IsSized x.registers x.capacity b) a_is sized)
+
+pub look_misses : (p actor : Private) (t number epoch word : ℕ) (st : Step (Option Contents)) (me me' : Me (Option Contents) View) → me ≡ (Collects (crew_of me.0), []) → actor ≡ p → p.epoch ≡ epoch → (word ≡ crossing_word epoch Retired → ⊥)
+    → LookedBy actor number st me word me' → me' ≡ (Collects (crew_more (crew_of me.0) (Saw word)), [])
+look_misses p actor t number epoch word st me me' is a_is e_is miss by =
+    by.1 (λ e. miss (e ∙ ap (λ (x : ℕ). crossing_word x Retired) (ap (λ (x : Private). x.epoch) a_is ∙ e_is))) ∙ (λ k. (records (is k).0 (Saw word), (is k).1))
+
+took_hit : (p : Private) (t word : ℕ) → p.phase ≡ Looking t → word ≡ crossing_word p.epoch Retired → took_of p word ≡ moved p (Swapping t)
+unfolding took_of took_at
+took_hit p t word is hit = ap (took_at p word) is ∙ ap (λ (x : Bool). cond x (moved p (Swapping t)) p) (eq-eqb word (crossing_word p.epoch Retired) hit)
+
+took_miss : (p : Private) (t word : ℕ) → p.phase ≡ Looking t → (word ≡ crossing_word p.epoch Retired → ⊥) → took_of p word ≡ p
+unfolding took_of took_at
+took_miss p t word is miss = ap (took_at p word) is ∙ ap (λ (x : Bool). cond x (moved p (Swapping t)) p) (ne_eqb word (crossing_word p.epoch Retired) miss)
+
+swapped_out : (q : Private) (b : Contents) (t : ℕ) → q.phase ≡ Swapping t → swapped_of q b ≡ record q { phase = Returning t; newer = slice_set q.newer (t - 1) b }
+unfolding swapped_of swapped_at
+swapped_out q b t is = ap (swapped_at q b) is
+
+step_is : (p : Private) (word : ℕ) (b : Contents) → step_of p word b ≡ swapped_of (took_of p word) b
+unfolding step_of
+step_is p word b = refl
+
+pub hit_sized : (p q : Private) (b : Contents) (m : Option Contents) → KeepsSizes p q → m ≡ Some b → IsSized p.registers p.capacity b → IsSized q.registers q.capacity (held m)
+hit_sized p q b m same is sized = subst (λ (y : ℕ × ℕ × Contents). IsSized y.0 y.1 y.2) (λ k. (sym same.registers k, sym same.capacity k, held (sym is k))) sized
+
+pub hit_turn : (p q r : Private) (t word : ℕ) (b : Contents) (m m' : Option Contents) → p.phase ≡ Looking t → word ≡ crossing_word p.epoch Retired → q ≡ took_of p word → m ≡ Some b → r ≡ swapped_of q (held m) → m' ≡ Some (left_of q (held m))
+    → (r ≡ step_of p word b) × ((t - 1, m') ∷ [] ≡ boxes_out r) × KeepsSizes p r × IsBetween r.phase
+hit_turn p q r t word b m m' is hit took is_m swapped left =
+    let q_is : q ≡ moved p (Swapping t) = took ∙ took_hit p t word is hit in
+    let at_swap : q.phase ≡ Swapping t = ap (λ (x : Private). x.phase) q_is in
+    let r_is : r ≡ record p { phase = Returning t; turns = p.turns + 1; newer = slice_set p.newer (t - 1) (held m) } = swapped ∙ swapped_out q (held m) t at_swap ∙ (λ k. record (q_is k) { phase = Returning t; newer = slice_set (q_is k).newer (t - 1) (held m) }) in
+    let m_is : m' ≡ Some (spare r) = left ∙ ap (λ (x : Contents). Some x) (leaves_spare q (held m) t at_swap) ∙ (λ k. Some (spare (q_is k))) ∙ (λ k. Some (spare (sym r_is k))) in (
+      swapped ∙ (λ k. swapped_of (took k) (held (is_m k))) ∙ sym (step_is p word b),
+      (λ k. (t - 1, m_is k) ∷ []) ∙ (λ k. boxes_at r (ap (λ (x : Private). x.phase) (sym r_is) k)),
+      record {
+        slots = ap (λ (x : Private). length x.counts.slots) r_is;
+        fields = ap (λ (x : Private). x.release.fields) r_is;
+        registers = ap (λ (x : Private). x.registers) r_is;
+        capacity = ap (λ (x : Private). x.capacity) r_is;
+        mutators = ap (λ (x : Private). length x.newer) r_is ∙ length-set p.newer (t - 1) (held m);
+      },
+      subst (λ (x : Private). IsBetween x.phase) (sym r_is) tt,
+    )
+
+pub miss_turn : (p q : Private) (t word : ℕ) → p.phase ≡ Looking t → (word ≡ crossing_word p.epoch Retired → ⊥) → q ≡ took_of p word → (boxes_out q ≡ []) × IsBetween q.phase
+miss_turn p q t word is miss took =
+    let at_look : q.phase ≡ Looking t = ap (λ (x : Private). x.phase) (took ∙ took_miss p t word is miss) ∙ is in
+    (ap (boxes_at q) at_look, subst IsBetween (sym at_look) tt)
+
+pub no_else_turn : (p : Private) (op : Op) → IsBetween p.phase → NotLooking p.phase → ◌≡◌ {A = Option Op} (next_of p) (Some op) → ((x : ℕ) → op ≡ ops.LoadChild x → ⊥) → ((x : ℕ) → op ≡ ops.ClearField x → ⊥) → ((x : ℕ) → op ≡ ops.FreeHeader x → ⊥)
+    → ((x : ℕ) → op ≡ ops.StoreEpoch x → ⊥) → (op ≡ ops.AddFreed → ⊥) → ((x y : ℕ) → op ≡ ops.ReturnBox x y → ⊥) → ⊥
+no_else_turn p op between looks_none named load clear free store add give = by (kind p op between named)
+  where
+    alone : (o : Op) → op ≡ o → IsLoneOp o → ⊥
+    alone (ops.LoadChild place) e a = load place e
+    alone (ops.ClearField place) e a = clear place e
+    alone (ops.FreeHeader slot) e a = free slot e
+    alone (ops.StoreEpoch epoch) e a = store epoch e
+    alone ops.AddFreed e a = add e
+    alone (ops.LoadField x) e a = a
+    alone (ops.SwapField x y) e a = a
+    alone (ops.LoadHeader x) e a = a
+    alone ops.LoadEpoch e a = a
+    alone (ops.LoadCross x) e a = a
+    alone (ops.ClaimHeader x y) e a = a
+    alone ops.LoadFreed e a = a
+    alone (ops.TakeBox x y) e a = a
+    alone (ops.GiveBox x y) e a = a
+    alone (ops.LookBox x y) e a = a
+    alone (ops.ReturnBox x y) e a = a
+
+    by : Kind p op → ⊥
+    by (Kind.at_box t phase o) = subst NotLooking phase looks_none
+    by (Kind.gives_box t phase o) = give t p.epoch o
+    by (Kind.lone phase o) = alone op refl o
+
+-- The word of a turn's operation is there.
+pub turn_names : (p : Private) (op : Op) → IsMachine p → ◌≡◌ {A = Option Op} (next_of p) (Some op) → NamesWord (length p.counts.slots) p.release.fields (length p.newer) op
+turn_names p op machine named = subst (λ (x : Option Op). IfSome x (NamesWord (length p.counts.slots) p.release.fields (length p.newer))) named (names_word p machine)
+
+pub turn_there : (key : Core) (op : Op) (opened p : Private) (words : ℕ) → IsWorld key → opened ≡ key.collector → KeepsSizes opened p → IsMachine p → ◌≡◌ {A = Option Op} (next_of p) (Some op)
+    → words ≡ length key.words + length key.headers + 2 + length key.crossing → index_of (length key.words) (length key.headers) op < words
+turn_there key op opened p words world is keeps machine named wide =
+    let names : NamesWord (length key.collector.counts.slots) key.collector.release.fields (length key.collector.newer) op =
+    subst (λ (y : ℕ × ℕ × ℕ). NamesWord y.0 y.1 y.2 op) (λ k. ((keeps.slots ∙ ap (λ (x : Private). length x.counts.slots) is) k, (keeps.fields ∙ ap (λ (x : Private). x.release.fields) is) k, (keeps.mutators ∙ ap (λ (x : Private). length x.newer) is) k)) (turn_names p op machine named) in
+    let low = row_within (cells_of key) op (collector_within key op (world_kept key world) names) in
+    omega (arith, low, wide)
+
+look_number : Op → ℕ
+look_number (ops.LookBox t e) = t
+look_number _ = 0
+
+look_epoch : Op → ℕ
+look_epoch (ops.LookBox t e) = e
+look_epoch _ = 0
+
+abbrev pub IsLookOp : Op → Type 0
+IsLookOp (ops.LookBox t e) = Unit {0}
+IsLookOp _ = ⊥
+
+not_look : (o : Op) → IsLoneOp o → IsLookOp o → ⊥
+not_look (ops.LoadChild place) a b = b
+not_look (ops.ClearField place) a b = b
+not_look (ops.FreeHeader slot) a b = b
+not_look (ops.StoreEpoch epoch) a b = b
+not_look ops.AddFreed a b = b
+not_look (ops.LoadField x) a b = a
+not_look (ops.SwapField x y) a b = a
+not_look (ops.LoadHeader x) a b = a
+not_look ops.LoadEpoch a b = a
+not_look (ops.LoadCross x) a b = a
+not_look (ops.ClaimHeader x y) a b = a
+not_look ops.LoadFreed a b = a
+not_look (ops.TakeBox x y) a b = a
+not_look (ops.GiveBox x y) a b = a
+not_look (ops.LookBox x y) a b = a
+not_look (ops.ReturnBox x y) a b = a
+
+pub looking_of : (p : Private) (op : Op) (t e : ℕ) → IsBetween p.phase → ◌≡◌ {A = Option Op} (next_of p) (Some op) → op ≡ ops.LookBox t e → (p.phase ≡ Looking t) × (p.epoch ≡ e)
+unfolding look_number look_epoch
+looking_of p op t e between named is = by (kind p op between named)
+  where
+    by : Kind p op → (p.phase ≡ Looking t) × (p.epoch ≡ e)
+    by (Kind.at_box u phase o) = (phase ∙ ap (λ k. Looking k) (ap look_number (sym o ∙ is)), ap look_epoch (sym o ∙ is))
+    by (Kind.gives_box u phase o) = absurd (subst IsLookOp (sym is ∙ o) tt)
+    by (Kind.lone phase o) = absurd (not_look op o (subst IsLookOp (sym is) tt))
+
+pub not_looking : (p : Private) (op : Op) → IsBetween p.phase → ◌≡◌ {A = Option Op} (next_of p) (Some op) → ((t e : ℕ) → op ≡ ops.LookBox t e → ⊥) → NotLooking p.phase
+not_looking p op between named no_look = by p.phase refl
+  where
+    by : (phase : Phase) → p.phase ≡ phase → NotLooking p.phase
+    by Idle is = subst NotLooking (sym is) tt
+    by (Looking t) is = absurd (looks_then (kind p op between named))
+      where
+        looks_then : Kind p op → ⊥
+        looks_then (Kind.at_box u phase o) = no_look u p.epoch o
+        looks_then (Kind.gives_box u phase o) = subst (λ (x : Phase). IsReturning x → ⊥) (sym is) (λ r. r) (subst IsReturning (sym phase) tt)
+        looks_then (Kind.lone phase o) = subst IsLone is phase
+    by (Swapping t) is = subst NotLooking (sym is) tt
+    by (Returning t) is = subst NotLooking (sym is) tt
+    by Releasing is = subst NotLooking (sym is) tt
+    by Freeing is = subst NotLooking (sym is) tt
+    by Trying is = subst NotLooking (sym is) tt
+    by Preparing is = subst NotLooking (sym is) tt
+    by Opening is = subst NotLooking (sym is) tt
+    by (Sweeping n) is = subst NotLooking (sym is) tt
+    by (Closing n) is = subst NotLooking (sym is) tt
+
+pub looking_boxes : (p : Private) (t : ℕ) → p.phase ≡ Looking t → boxes_out p ≡ []
+looking_boxes p t is = ap (boxes_at p) is
+
+-- the seat and the list after a turn
+pub turn_me : (c : Crew) (b : Beat) (q : Private) (me' : Me (Option Contents) View) → me' ≡ (Collects (crew_more c b), boxes_out q) → me' ≡ (Collects (crew_of me'.0), boxes_out q)
+turn_me c b q me' now = now ∙ (λ k. (Collects (crew_of (sym now k).0), boxes_out q))
+
+pub turn_log : (o p q : Private) (c : Crew) (b : Beat) (me' : Me (Option Contents) View) → p ≡ gathered_all o c.log → q ≡ gathered p b → me' ≡ (Collects (crew_more c b), boxes_out q) → q ≡ gathered_all o (crew_of me'.0).log
+turn_log o p q c b me' at learns now =
+    learns ∙ ap (λ x. gathered x b) at ∙ sym (gathered_both o c.log (b ∷ [])) ∙ sym (λ k. gathered_all o (crew_of (now k).0).log)
+
+pub turn_end : (z z' : TableId) (o p q : Private) (c : Crew) (b : Beat) (me' : Me (Option Contents) View) (g : Gathers) → gathers z o c ≡ g → z' ≡ z → p ≡ gathered_all o c.log → q ≡ gathered p b → me' ≡ (Collects (crew_more c b), boxes_out q)
+    → (gathers z' o (crew_of me'.0) ≡ record g { crew = crew_more g.crew b }) × (gathered_all o (crew_of me'.0).log ≡ gathered (gathers_now g) b)
+turn_end z z' o p q c b me' g is same at learns now = (
+  (λ k. gathers (same k) o (crew_of (now k).0)) ∙ (λ k. record (is k) { crew = crew_more (is k).crew b }),
+  sym (turn_log o p q c b me' at learns now) ∙ learns ∙ ap (λ x. gathered x b) (at ∙ ap gathers_now is),
+)

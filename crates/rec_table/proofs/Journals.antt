@@ -1,0 +1,115 @@
+-- The journals that the lists tell are those of the run, and they have a legal order.
+use Rattle.std.proofs.Common.{◌≡◌, ◌≢◌, ℕ, zero, suc, ◌+◌, ◌-◌, ◌<◌, length, get_or, ◌==◌, Bool, true, false, if◌then◌else◌, List, [], ◌∷◌, ◌++◌, Option, Some, None, refl, sym, ap, subst, ◌∙◌, arith, append_assoc, eq-eqb, ne_eqb}
+use Rattle.std.proofs.lemmas.Bool.{cases_eq}
+use Rattle.std.proofs.Common.{inl, inr}
+use Rattle.std.proofs.lemmas.List.{append-nil}
+use Rattle.std.proofs.lemmas.List.Elements.{filter_map-append}
+use Rattle.std.specs.List.{filter_map, cons_option}
+use Rattle.rec_model.specs.Heap.{Heap}
+use Rattle.rec_model.specs.LegalOrder.{Line, line_by}
+use Rattle.rec_model.specs.Sight.{StandsBy}
+use Rattle.rec_model.specs.Unfreed.{AreUnfreed}
+use Rattle.rec_mutator.specs.Private.{Private, work_of, answer_of}
+use Rattle.rec_mutator.specs.declared.made.Made.{Made}
+use Rattle.rec_mutator.specs.declared.made.Made.TheVariants as makes
+use Rattle.rec_mutator.specs.declared.work.Work.{Work}
+use Rattle.rec_mutator.specs.declared.work.Work.TheVariants as works
+use Rattle.rec_core.specs.declared.config.Config.{Config}
+use Rattle.rec_core.specs.Config.{IsMutator}
+use Rattle.rec_core.specs.Core.{Core, sight, mutator}
+use Rattle.rec_core.specs.Asked.{told_by, told_in, told_in_all}
+use Rattle.rec_core.specs.Moves.{Move, Fits, AllFit, after_move, stepped, found_by}
+use Rattle.rec_world.specs.World.{IsWorld}
+use Rattle.rec_world.proofs.Calls.{moved_world, world_kept}
+use Rattle.rec_core.proofs.Runs.{move_stays}
+use Rattle.rec_order.specs.Legal.{AreIdle, HasLegalOrder}
+use Rattle.rec_order.proofs.Legal.{run_legal}
+use Rattle.rec_table.specs.Beats.{beats_in, beats_of, learnt, told, turn_at}
+use Rattle.rec_table.specs.Journals.{line_of, line_in, journal, journals_from}
+use Rattle.rec_table.specs.declared.views.Beat.{Beat}
+use Rattle.rec_table.specs.declared.views.Beat.TheVariants.{Begins, Saw}
+use Rattle.rec_table.proofs.Beats as beats
+use Rattle.rec_collector.specs.Next as collector_next
+
+journal_both : (p : Private) (cs bs : List Beat) → journal p (cs ++ bs) ≡ journal p cs ++ journal (told p cs) bs
+journal_both p [] bs = refl
+journal_both p (c ∷ cs) bs = ap (λ l. line_in p c ++ l) (journal_both (learnt p c) cs bs) ∙ sym (append_assoc (line_in p c) (journal (learnt p c) cs) (journal (told (learnt p c) cs) bs))
+
+-- what a step told its own mutator
+own_line : (x : ℕ) (work : Option Work) (answer : Option Made) → filter_map (line_by x) (told_by x work answer) ≡ line_of work answer
+own_line x (Some (works.Command cmd)) (Some (makes.Answered answer)) = ap (λ (b : Bool). cons_option (if b then Some (cmd, answer) else None) []) (eq-eqb x x refl)
+own_line x (Some (works.Command cmd)) (Some (makes.Crossed epoch)) = refl
+own_line x (Some (works.Command cmd)) None = refl
+own_line x (Some works.Poll) answer = refl
+own_line x None answer = refl
+
+-- and what it told another
+other_line : (t x : ℕ) (work : Option Work) (answer : Option Made) → t ≢ x → filter_map (line_by x) (told_by t work answer) ≡ []
+other_line t x (Some (works.Command cmd)) (Some (makes.Answered answer)) other = ap (λ (b : Bool). cons_option (if b then Some (cmd, answer) else None) []) (ne_eqb t x other)
+other_line t x (Some (works.Command cmd)) (Some (makes.Crossed epoch)) other = refl
+other_line t x (Some (works.Command cmd)) None other = refl
+other_line t x (Some works.Poll) answer other = refl
+other_line t x None answer other = refl
+
+-- the lines of one move
+move_lines : (w : Core) (m : Move) (x : ℕ) → IsWorld w → Fits w m → IsMutator w.config x → filter_map (line_by x) (told_in w m) ≡ journal (mutator w x) (beats_in x w m)
+move_lines w (Move.Begins t work) x world fits is = go (t == x)
+  where
+    go : (b : Bool) → [] ≡ journal (mutator w x) (if b then Begins work ∷ [] else [])
+    go true = refl
+    go false = refl
+move_lines w (Move.Steps t) x world fits is = elim (cases_eq t x) [
+  | inl same ↦
+      let here : beats_in x w (Move.Steps t) ≡ Saw (found_by w t) ∷ [] = ap (λ (b : Bool). if b then Saw (found_by w t) ∷ [] else []) (eq-eqb t x same) in
+      let after : mutator (stepped w t) x ≡ learnt (mutator w x) (Saw (found_by w t)) = beats.told_in w (Move.Steps t) x (world_kept w world) fits is ∙ ap (told (mutator w x)) here in
+      ap (λ i. filter_map (line_by x) (told_by i (work_of (mutator w i)) (answer_of (mutator (stepped w t) i)))) same
+      ∙ own_line x (work_of (mutator w x)) (answer_of (mutator (stepped w t) x))
+      ∙ ap (λ (q : Private). line_of (work_of (mutator w x)) (answer_of q)) after
+      ∙ sym (append-nil (line_in (mutator w x) (Saw (found_by w t))))
+      ∙ ap (journal (mutator w x)) (sym here)
+  | inr other ↦
+      other_line t x (work_of (mutator w t)) (answer_of (mutator (stepped w t) t)) other
+      ∙ sym (ap (λ (b : Bool). journal (mutator w x) (if b then Saw (found_by w t) ∷ [] else [])) (ne_eqb t x other))
+]
+move_lines w Move.Turns x world fits is = sym (ap (λ (b : Bool). journal (mutator w x) (if b then turn_at w (collector_next.next_of w.collector) else [])) (ne_eqb x 0 (λ e. omega (arith, e, is.0))))
+move_lines w Move.Offers x world fits is = refl
+
+-- The lines that a run told a mutator are those that its list tells.
+pub run_lines : (w : Core) (ms : List Move) (x : ℕ) → IsWorld w → AllFit w ms → IsMutator w.config x → filter_map (line_by x) (told_in_all w ms) ≡ journal (mutator w x) (beats_of x w ms)
+run_lines w [] x world fit is = refl
+run_lines w (m ∷ ms) x world fit is =
+    filter_map-append (line_by x) (told_in w m) (told_in_all (after_move w m) ms)
+    ∙ ap (λ (ls : List Line). ls ++ filter_map (line_by x) (told_in_all (after_move w m) ms)) (move_lines w m x world fit.0 is)
+    ∙ ap (λ (ls : List Line). journal (mutator w x) (beats_in x w m) ++ ls)
+    (run_lines (after_move w m) ms x (moved_world w m world fit.0) fit.1 (subst (λ (c : Config). IsMutator c x) (sym (move_stays w m)) is)
+    ∙ ap (λ (p : Private). journal p (beats_of x (after_move w m) ms)) (beats.told_in w m x (world_kept w world) fit.0 is))
+    ∙ sym (journal_both (mutator w x) (beats_in x w m) (beats_of x (after_move w m) ms))
+
+at_from : (w : Core) (k : ℕ) (lists : List (List Beat)) (i : ℕ) → i < length lists → get_or (journals_from w k lists) i [] ≡ journal (mutator w (k + i + 1)) (get_or lists i [])
+at_from w k [] i lt = absurd (omega arith)
+at_from w k (l ∷ ls) zero lt = let e : k + 1 ≡ k + 0 + 1 = omega arith in ap (λ n. journal (mutator w n) l) e
+at_from w k (l ∷ ls) (suc i) lt =
+    let e : k + 1 + i + 1 ≡ k + suc i + 1 = omega arith in
+    at_from w (k + 1) ls i (omega arith) ∙ ap (λ n. journal (mutator w n) (get_or ls i [])) e
+
+as_many : (w : Core) (k : ℕ) (lists : List (List Beat)) → length (journals_from w k lists) ≡ length lists
+as_many w k [] = refl
+as_many w k (l ∷ ls) = ap suc (as_many w (k + 1) ls)
+
+-- So the journals that the lists tell have a legal order.
+pub lists_legal : (key : Core) (heap : Heap) (number : ℕ → ℕ) (unfreed : List ℕ) (run : List Move) (lists : List (List Beat)) → IsWorld key → AreIdle key → StandsBy heap (sight key) number → AreUnfreed (sight key) number unfreed
+    → AllFit key run → length lists ≡ key.config.mutators → ((k : ℕ) → k < key.config.mutators → get_or lists k [] ≡ beats_of (k + 1) key run) → HasLegalOrder key heap number unfreed run (journals_from key 0 lists)
+lists_legal key heap number unfreed run lists world idle stands are fit many each =
+    run_legal key heap number unfreed run (journals_from key 0 lists) (world_kept key world) idle stands are fit
+    (record {
+      one_each = as_many key 0 lists ∙ many;
+      lines = λ t is.
+          let i : ℕ = t - 1 in
+          let there : i < length lists = omega (arith, many, is.0, is.1) in
+          let same : 0 + i + 1 ≡ t = omega (arith, is.0) in
+          let next : i + 1 ≡ t = omega (arith, is.0) in
+          at_from key 0 lists i there
+          ∙ (λ j. journal (mutator key (same j)) (each i (omega (arith, there, many)) j))
+          ∙ ap (λ n. journal (mutator key t) (beats_of n key run)) next
+          ∙ sym (run_lines key run t world fit is);
+    })

@@ -1,0 +1,23 @@
+-- Every world is safe, by the laws of the core.
+use Rattle.rec_collector.proofs.Limits.{within_limit}
+use Rattle.rec_core.specs.Core.{Core}
+use Rattle.rec_core.specs.Kept.{IsKept}
+use Rattle.rec_core.proofs.Freed.{freed_is_forgotten, given_up_are_gone, passed_are_garbage}
+use Rattle.rec_core.proofs.Reach.{counted_so, reached_stays, steps_keep_taken, turned_keeps}
+use Rattle.rec_world.specs.World.{IsWorld}
+use Rattle.rec_world.proofs.Calls.{world_kept}
+use Rattle.rec_table.specs.Safe.{IsSafe}
+
+pub safe : (w : Core) → IsWorld w → IsSafe w
+safe w world =
+    let kept : IsKept w = world_kept w world in
+    record {
+      reached = reached_stays w kept;
+      turned = turned_keeps w kept;
+      claimed = steps_keep_taken w;
+      passed = λ number. passed_are_garbage w number kept;
+      gone = given_up_are_gone w kept;
+      forgotten = λ slot. freed_is_forgotten w slot kept;
+      counts = λ slot. counted_so w slot kept;
+      turns = within_limit w.collector kept.collector.machine;
+    }

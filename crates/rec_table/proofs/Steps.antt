@@ -1,0 +1,475 @@
+-- A mutator's step that takes no mailbox keeps the rule.
+use Rattle.std.proofs.Common.{◌≡◌, ◌≢◌, ⊎_elim, ℕ, zero, suc, ◌+◌, ◌-◌, ◌*◌, ◌<◌, ◌≤◌, Bool, true, false, true≢false, cond, eqb, eq-eqb, ne_eqb, List, [], ◌∷◌, ◌++◌, length, get_or, set, Option, Some, None, refl, sym, ap, ◌∙◌, subst, arith, append-nil, get_or-set_same, get_or-set_other}
+use mathlib.Core.Option as maybe
+use mathlib.Core.Option.{some}
+use lib.ListN.{get_elem?}
+use Rattle.atomic_table.specs.Table.{State, Step, Allows, keeps}
+use Rattle.atomic_table.proofs.Lists.{at_set}
+use Rattle.rec_word.specs.Op.{written}
+use Rattle.rec_word.specs.declared.op.Op.{Op}
+use Rattle.rec_word.specs.declared.op.Op.TheVariants as ops
+use Rattle.rec_model.specs.declared.command.Cmd.{Cmd}
+use Rattle.rec_model.specs.declared.command.Cmd.TheVariants as commands
+use Rattle.rec_log.specs.declared.contents.Contents.{Contents}
+use Rattle.rec_mutator.specs.Next.{next_of, next_at, read_op, write_op, label_op, own_word}
+use Rattle.rec_mutator.specs.Private.{Private, is_busy, is_full, register}
+use Rattle.rec_mutator.specs.Step.{NamesSlots}
+use Rattle.rec_model.specs.Asking.{plain as plain_told}
+use Rattle.rec_mutator.specs.Took.{begun_of, took_of, took_at, read_by, written_by, answered, moved, born_in, spare, left_of, step_of, IsFound}
+use Rattle.rec_mutator.specs.declared.phase.Phase as phases
+use Rattle.rec_mutator.specs.declared.phase.Phase.TheVariants as at
+use Rattle.rec_mutator.specs.declared.work.Work.{Work}
+use Rattle.rec_mutator.specs.declared.work.Work.TheVariants as works
+use Rattle.rec_model.specs.declared.answer.Answer.TheVariants as answers
+use Rattle.rec_mutator.specs.declared.made.Made.TheVariants as makes
+use Rattle.rec_mutator.specs.Causes.{is_giving}
+use Rattle.rec_mutator.proofs.Steps.{TakesNone, here_same, learnt_made, step_between}
+use Rattle.rec_collector.specs.Private as collectors
+use Rattle.rec_core.specs.Config.{IsMutator}
+use Rattle.rec_core.specs.Core.{Core, cells_of, mutator, nobody, box}
+use Rattle.rec_core.specs.Kept.{IsKept}
+use Rattle.rec_core.specs.Met.{MayStep}
+use Rattle.rec_core.specs.Moves.{Move, AllFit, after_moves, found_by, stepped, begun}
+use Rattle.rec_core.specs.Cells.{Cells, IsWithin, cell, with_cell}
+use Rattle.rec_world.specs.World.{IsWorld}
+use Rattle.rec_core.specs.declared.config.Config.{Config}
+use Rattle.rec_world.proofs.Calls.{world_kept, moved_world}
+use Rattle.rec_core.proofs.Crossings.{left_same}
+use Rattle.rec_core.proofs.Steps.{in_list, fields_many, actor_of, taken_slot, register_taken}
+use Rattle.rec_core.proofs.Words.{may_step}
+use Rattle.rec_table.specs.Beats.{beats_of, told, learnt, Offerless}
+use Rattle.rec_table.specs.Homes.{homes_of}
+use Rattle.rec_core.specs.Row.{row, index_of}
+use Rattle.rec_table.specs.Rule.{Fits, Holds, ready, MayGo, beats, longer, MadeBy, IsPlain}
+use Rattle.rec_table.specs.declared.views.Beat.TheVariants.{Begins, Saw}
+use Rattle.rec_table.specs.declared.views.Seated.{Seated}
+use Rattle.rec_table.specs.declared.views.View.{View}
+use Rattle.rec_table.specs.declared.views.View.TheVariants.{Collects, Mutates, Spent}
+use Rattle.rec_core.proofs.Row.{row_read, row_write}
+use Rattle.rec_table.proofs.Beats.{after_both, fit_both, beats_both, world_after, config_after, mutator_after, step_same}
+
+-- the moves of a step, with the work that begins first
+moves_of : (t : ℕ) → Option Work → List Move
+moves_of t None = Move.Steps t ∷ []
+moves_of t (Some work) = Move.Begins t work ∷ Move.Steps t ∷ []
+
+-- the state in which the step is made
+pub before : Core → (t : ℕ) → Option Work → Core
+before w t None = w
+before w t (Some work) = begun w t work
+
+pub before_none : (w : Core) (t : ℕ) → before w t None ≡ w
+unfolding before
+before_none w t = refl
+
+ready_is : (w : Core) (t : ℕ) (wk : Option Work) → IsKept w → IsMutator w.config t → mutator (before w t wk) t ≡ ready (mutator w t) wk
+unfolding before
+ready_is w t None kept is = refl
+ready_is w t (Some work) kept is = get_or-set_same w.mutators (t - 1) (begun_of (mutator w t) work) nobody (in_list w t kept is)
+
+is_busy_begun : (p : Private) (work : Work) → is_busy (begun_of p work) ≡ true
+unfolding begun_of
+is_busy_begun p work = refl
+
+before_world : (w : Core) (t : ℕ) (wk : Option Work) → IsWorld w → IsMutator w.config t → MayGo (mutator w t) wk → IsWorld (before w t wk)
+unfolding before
+before_world w t None world is may = world
+before_world w t (Some work) world is may = moved_world w (Move.Begins t work) world (is, may.0, may.1, may.2)
+
+before_busy : (w : Core) (t : ℕ) (wk : Option Work) → IsKept w → IsMutator w.config t → MayGo (mutator w t) wk → is_busy (mutator (before w t wk) t) ≡ true
+unfolding before
+before_busy w t None kept is may = may
+before_busy w t (Some work) kept is may = ap is_busy (ready_is w t (Some work) kept is) ∙ is_busy_begun (mutator w t) work
+
+before_config : (w : Core) (t : ℕ) (wk : Option Work) → (before w t wk).config ≡ w.config
+unfolding before
+before_config w t None = refl
+before_config w t (Some work) = refl
+
+before_cells : (w : Core) (t : ℕ) (wk : Option Work) → cells_of (before w t wk) ≡ cells_of w
+unfolding before
+before_cells w t None = refl
+before_cells w t (Some work) = refl
+
+before_boxes : (w : Core) (t : ℕ) (wk : Option Work) → (before w t wk).boxes ≡ w.boxes
+unfolding before
+before_boxes w t None = refl
+before_boxes w t (Some work) = refl
+
+all_fit : (w : Core) (t : ℕ) (wk : Option Work) → IsKept w → IsMutator w.config t → MayGo (mutator w t) wk → AllFit w (moves_of t wk)
+unfolding moves_of before
+all_fit w t None kept is may = ((is, may), tt)
+all_fit w t (Some work) kept is may = ((is, may.0, may.1, may.2), ((is, before_busy w t (Some work) kept is may), tt))
+
+after_is : (w : Core) (t : ℕ) (wk : Option Work) → after_moves w (moves_of t wk) ≡ stepped (before w t wk) t
+unfolding moves_of before
+after_is w t None = refl
+after_is w t (Some work) = refl
+
+own_beats : (w : Core) (t : ℕ) (wk : Option Work) → beats_of t w (moves_of t wk) ≡ beats wk (found_by (before w t wk) t)
+unfolding moves_of before
+own_beats w t None = ap (λ b. cond b (Saw (found_by w t) ∷ []) [] ++ []) (eq-eqb t t refl)
+own_beats w t (Some work) = ap (λ b. cond b (Begins work ∷ []) [] ++ (cond b (Saw (found_by (begun w t work) t) ∷ []) [] ++ [])) (eq-eqb t t refl)
+
+no_beats : (w : Core) (t x : ℕ) (wk : Option Work) → t ≢ x → beats_of x w (moves_of t wk) ≡ []
+unfolding moves_of
+no_beats w t x None ne = ap (λ b. cond b (Saw (found_by w t) ∷ []) [] ++ []) (ne_eqb t x ne)
+no_beats w t x (Some work) ne = ap (λ b. cond b (Begins work ∷ []) [] ++ (cond b (Saw (found_by (begun w t work) t) ∷ []) [] ++ [])) (ne_eqb t x ne)
+
+pub offerless_both : (ms ns : List Move) → Offerless ms → Offerless ns → Offerless (ms ++ ns)
+offerless_both [] ns a b = b
+offerless_both (Move.Begins t work ∷ ms) ns a b = offerless_both ms ns a b
+offerless_both (Move.Steps t ∷ ms) ns a b = offerless_both ms ns a b
+offerless_both (Move.Turns ∷ ms) ns a b = offerless_both ms ns a b
+offerless_both (Move.Offers ∷ ms) ns a b = absurd a
+
+moves_offerless : (t : ℕ) (wk : Option Work) → Offerless (moves_of t wk)
+unfolding moves_of
+moves_offerless t None = tt
+moves_offerless t (Some work) = tt
+
+-- an operation that moves no mailbox
+abbrev pub IsPlainOp : Op → Type 0
+IsPlainOp (ops.TakeBox t e) = ⊥
+IsPlainOp (ops.GiveBox t e) = ⊥
+IsPlainOp (ops.LookBox t e) = ⊥
+IsPlainOp (ops.ReturnBox t e) = ⊥
+IsPlainOp _ = Unit {0}
+
+pub plain_next : (p : Private) → IsPlain p.phase → IsPlainOp (next_of p)
+unfolding next_of next_at
+plain_next p plain = by p.phase plain
+  where
+    read : (f : ℕ) (x : Option ℕ) → IsPlainOp (read_op p f x)
+    read f None = tt
+    read f (Some slot) = tt
+
+    wrote : (f val : ℕ) (x : Option ℕ) (full : Bool) → IsPlainOp (write_op p f val x full)
+    wrote f val None full = tt
+    wrote f val (Some slot) true = tt
+    wrote f val (Some slot) false = tt
+
+    labelled : (x : Option ℕ) → IsPlainOp (label_op p x)
+    labelled None = tt
+    labelled (Some slot) = tt
+
+    new : (b : Bool) → IsPlainOp (cond b (own_word p) ops.LoadFreed)
+    new true = tt
+    new false = tt
+
+    by : (phase : phases.Phase) → IsPlain phase → IsPlainOp (next_at p phase)
+    by at.Idle is = tt
+    by (at.Begun (works.Command (commands.New reg label))) is = new (is_full p)
+    by (at.Begun (works.Command (commands.Null reg))) is = tt
+    by (at.Begun (works.Command (commands.Copy dst src))) is = tt
+    by (at.Begun (works.Command (commands.Get dst src f))) is = read f (register p src)
+    by (at.Begun (works.Command (commands.Put src f val))) is = wrote f val (register p src) (is_full p)
+    by (at.Begun (works.Command (commands.Value reg))) is = labelled (register p reg)
+    by (at.Begun (works.Command (commands.Same a b))) is = tt
+    by (at.Begun works.Poll) is = tt
+    by (at.Scanning reg label before slot) is = tt
+    by (at.Scanned reg label before) is = tt
+    by at.Crossing is = absurd is
+    by at.Swapping is = absurd is
+    by at.Giving is = absurd is
+    by (at.Finished work made) is = tt
+
+set_word : (l : List ℕ) (i : ℕ) → set l i (get_or l i 0) ≡ l
+set_word [] i = refl
+set_word (x ∷ l) zero = refl
+set_word (x ∷ l) (suc i) = ap (λ k. x ∷ k) (set_word l i)
+
+pub set_box : (l : List Contents) (i : ℕ) (d : Contents) → set l i (get_or l i d) ≡ l
+set_box [] i d = refl
+set_box (x ∷ l) zero d = refl
+set_box (x ∷ l) (suc i) d = ap (λ k. x ∷ k) (set_box l i d)
+
+pub plain_crossing : (cells : Cells) (op : Op) → IsPlainOp op → (with_cell cells op (written op (cell cells op))).crossing ≡ cells.crossing
+plain_crossing cells (ops.LoadField place) is = refl
+plain_crossing cells (ops.SwapField place word) is = refl
+plain_crossing cells (ops.LoadHeader slot) is = refl
+plain_crossing cells ops.LoadEpoch is = refl
+plain_crossing cells (ops.LoadCross t) is = set_word cells.crossing (t - 1)
+plain_crossing cells (ops.ClaimHeader slot label) is = refl
+plain_crossing cells ops.LoadFreed is = refl
+plain_crossing cells (ops.LoadChild place) is = refl
+plain_crossing cells (ops.ClearField place) is = refl
+plain_crossing cells (ops.FreeHeader slot) is = refl
+plain_crossing cells (ops.TakeBox t e) is = absurd is
+plain_crossing cells (ops.GiveBox t e) is = absurd is
+plain_crossing cells (ops.StoreEpoch e) is = refl
+plain_crossing cells (ops.LookBox t e) is = absurd is
+plain_crossing cells (ops.ReturnBox t e) is = absurd is
+plain_crossing cells ops.AddFreed is = refl
+
+pub plain_takes_none : (phase : phases.Phase) → IsPlain phase → TakesNone phase
+plain_takes_none at.Idle is = tt
+plain_takes_none (at.Begun work) is = tt
+plain_takes_none (at.Scanning reg label before slot) is = tt
+plain_takes_none (at.Scanned reg label before) is = tt
+plain_takes_none at.Crossing is = absurd is
+plain_takes_none at.Swapping is = absurd is
+plain_takes_none at.Giving is = absurd is
+plain_takes_none (at.Finished work made) is = tt
+
+-- such a step leaves every mailbox where it is
+plain_homes : (w : Core) (t : ℕ) → is_busy (mutator w t) ≡ true → IsPlain (mutator w t).phase → homes_of (stepped w t).crossing (stepped w t).boxes ≡ homes_of w.crossing w.boxes
+plain_homes w t busy plain =
+    let p : Private = mutator w t in
+    let b : Contents = box w t in
+    let left : left_of (took_of p (found_by w t)) b ≡ b = left_same (took_of p (found_by w t)) b (step_between (learnt_made p (found_by w t) b busy (plain_takes_none p.phase plain))) in
+    let crossing : (stepped w t).crossing ≡ w.crossing = plain_crossing (cells_of w) (next_of p) (plain_next p plain) in
+    let boxes : (stepped w t).boxes ≡ w.boxes = ap (λ x. set w.boxes (t - 1) x) left ∙ set_box w.boxes (t - 1) (collectors.blank 0 0) in
+    λ i. homes_of (crossing i) (boxes i)
+
+-- the lengths of the rows stay
+pub places_after : (w : Core) (ms : List Move) → IsWorld w → AllFit w ms → length (after_moves w ms).words ≡ length w.words
+places_after w ms world fit =
+    let v : Core = after_moves w ms in
+    let config : v.config ≡ w.config = config_after w ms in
+    sym (fields_many v v.config.slots v.config.fields (world_kept v (world_after w ms world fit)) refl refl)
+    ∙ ap (λ (c : Config). c.slots * c.fields) config
+    ∙ fields_many w w.config.slots w.config.fields (world_kept w world) refl refl
+
+pub slots_after : (w : Core) (ms : List Move) → IsWorld w → AllFit w ms → length (after_moves w ms).headers ≡ length w.headers
+slots_after w ms world fit =
+    let v : Core = after_moves w ms in
+    (world_kept v (world_after w ms world fit)).headers ∙ ap (λ (c : Config). c.slots) (config_after w ms) ∙ sym (world_kept w world).headers
+
+-- the fits of all views after the view of one has changed
+pub fits_set : (key : Core) (run : List Move) (made gone : ℕ) (owner : ℕ → ℕ) (views : List View) (id : ℕ) (w : View)
+    → ((j : ℕ) (v : View) → j ≢ id → get_elem? views j ≡ some v → Fits key run made gone owner j v)
+    → Fits key run made gone owner id w
+    → (j : ℕ) (v : View) → get_elem? (set views id w) j ≡ some v → Fits key run made gone owner j v
+fits_set key run made gone owner views id w others mine j v e =
+    ⊎_elim
+    (λ (x : (j ≡ id) × (w ≡ v)). subst (λ (y : ℕ × View). Fits key run made gone owner y.0 y.1) (λ i. (sym x.0 i, x.1 i)) mine)
+    (λ (x : (j ≢ id) × (get_elem? views j ≡ some v)). others j v x.0 x.1)
+    (at_set views id j w v e)
+
+other_beats : (key : Core) (run : List Move) (t x : ℕ) (wk : Option Work) → t ≢ x → beats_of x key run ≡ beats_of x key (run ++ moves_of t wk)
+other_beats key run t x wk ne =
+    sym (beats_both x key run (moves_of t wk) ∙ ap (λ l. beats_of x key run ++ l) (no_beats (after_moves key run) t x wk ne) ∙ append-nil (beats_of x key run))
+
+-- a step of t leaves another mutator's record and mailbox
+else_private : (l : List Private) (t x : ℕ) (q d : Private) → t ≢ x → 1 ≤ t → 1 ≤ x → get_or (set l (t - 1) q) (x - 1) d ≡ get_or l (x - 1) d
+else_private l t x q d ne a b = get_or-set_other l (t - 1) (x - 1) q d (λ e. ne (omega (arith, e)))
+
+else_box : (l : List Contents) (t x : ℕ) (q d : Contents) → t ≢ x → 1 ≤ t → 1 ≤ x → get_or (set l (t - 1) q) (x - 1) d ≡ get_or l (x - 1) d
+else_box l t x q d ne a b = get_or-set_other l (t - 1) (x - 1) q d (λ e. ne (omega (arith, e)))
+
+before_else : (w : Core) (t x : ℕ) (wk : Option Work) → t ≢ x → 1 ≤ t → 1 ≤ x → mutator (before w t wk) x ≡ mutator w x
+unfolding before
+before_else w t x None ne a b = refl
+before_else w t x (Some work) ne a b = else_private w.mutators t x (begun_of (mutator w t) work) nobody ne a b
+
+-- the hand of another
+hand_stays : (now : Core) (t x : ℕ) (wk : Option Work) (hand : Contents) → t ≢ x → 1 ≤ t → 1 ≤ x → ((mutator now x).phase ≡ at.Giving → hand ≡ box now x)
+    → (mutator (stepped (before now t wk) t) x).phase ≡ at.Giving → hand ≡ box (stepped (before now t wk) t) x
+hand_stays now t x wk hand ne a b f giving =
+    let v : Core = before now t wk in
+    let same : mutator (stepped v t) x ≡ mutator now x = else_private v.mutators t x (step_of (mutator v t) (found_by v t) (box v t)) nobody ne a b ∙ before_else now t x wk ne a b in
+    f (ap (λ (p : Private). p.phase) (sym same) ∙ giving)
+    ∙ ap (λ l. get_or l (x - 1) (collectors.blank 0 0)) (sym (before_boxes now t wk))
+    ∙ sym (else_box v.boxes t x (left_of (took_of (mutator v t) (found_by v t)) (box v t)) (collectors.blank 0 0) ne a b)
+
+-- another's view, after a step of t
+fits_on : (key : Core) (run : List Move) (made gone : ℕ) (owner : ℕ → ℕ) (t : ℕ) (wk : Option Work) (id j : ℕ) → owner t ≡ id → gone < t → j ≢ id
+    → (v : View) → Fits key run made gone owner j v → Fits key (run ++ moves_of t wk) made gone owner j v
+fits_on key run made gone owner t wk id j own low ne (Collects c) f =
+    (f.0, f.1, f.2, f.3 ∙ other_beats key run t 0 wk (λ e. omega (arith, e)), λ k lt. f.4 k lt ∙ other_beats key run t (k + 1) wk (λ e. omega (arith, e)))
+fits_on key run made gone owner t wk id j own low ne (Mutates u) f =
+    let apart : t ≢ u.number = λ e. ne (sym f.0 ∙ ap owner (sym e) ∙ own) in
+    let ends : after_moves key (run ++ moves_of t wk) ≡ stepped (before (after_moves key run) t wk) t = after_both key run (moves_of t wk) ∙ after_is (after_moves key run) t wk in (
+      f.0,
+      f.1,
+      f.2,
+      f.3 ∙ other_beats key run t u.number wk apart,
+      subst (λ (c : Core). (mutator c u.number).phase ≡ at.Giving → u.hand ≡ box c u.number) (sym ends)
+          (hand_stays (after_moves key run) t u.number wk u.hand apart (omega arith) (omega (arith, f.1)) f.4),
+    )
+fits_on key run made gone owner t wk id j own low ne Spent f = tt
+
+-- registers name slots of the heap
+pub names_slots : (w : Core) (t : ℕ) → IsKept w → IsMutator w.config t → NamesSlots (mutator w t)
+names_slots w t kept is = λ r slot names. subst (λ n. slot < n) (sym (actor_of w t kept is).own.slots) (taken_slot w kept slot (register_taken w kept t r slot names))
+
+-- What is known as mutator t makes a step: `now` is the end of the run so far, and `v` the state in which the step is made.
+pub record Here (key : Core) (s : State (Option Contents) View) (h : Holds key s) (t : Seated) (wk : Option Work) (p : Private) (op : Op) : Type 0 where
+  pub goes : MayGo (mutator (after_moves key h.run) t.number) wk
+  pub now_world : IsWorld (after_moves key h.run)
+  pub now_here : IsMutator (after_moves key h.run).config t.number
+  pub world : IsWorld (before (after_moves key h.run) t.number wk)
+  pub here : IsMutator (before (after_moves key h.run) t.number wk).config t.number
+  pub busy : is_busy (mutator (before (after_moves key h.run) t.number wk) t.number) ≡ true
+  pub is : mutator (before (after_moves key h.run) t.number wk) t.number ≡ ready p wk
+  pub found : get_or s.words (index_of (length key.words) (length key.headers) op) 0 ≡ found_by (before (after_moves key h.run) t.number wk) t.number
+  pub words : (x : ℕ) → x ≡ written op (get_or s.words (index_of (length key.words) (length key.headers) op) 0)
+      → set s.words (index_of (length key.words) (length key.headers) op) x ≡ row (cells_of (stepped (before (after_moves key h.run) t.number wk) t.number))
+  pub homes : s.homes ≡ homes_of (before (after_moves key h.run) t.number wk).crossing (before (after_moves key h.run) t.number wk).boxes
+  pub may : IsFound (ready p wk) op (get_or s.words (index_of (length key.words) (length key.headers) op) 0)
+  pub names : NamesSlots (learnt (ready p wk) (Saw (get_or s.words (index_of (length key.words) (length key.headers) op) 0)))
+
+pub here_at : (key : Core) (s : State (Option Contents) View) (h : Holds key s) (id : ℕ) (t : Seated) (wk : Option Work) (p : Private) (op : Op)
+    → get_elem? s.views id ≡ some (Mutates t) → p ≡ told (mutator key t.number) t.log → MayGo p wk → op ≡ next_of (ready p wk) → Here key s h t wk p op
+here_at key s h id t wk p op fit is_p may is_op =
+    let x : ℕ = t.number in
+    let now : Core = after_moves key h.run in
+    let mine = h.each id (Mutates t) fit in
+    let there : IsMutator key.config x = (omega (arith, mine.1), omega (arith, mine.2, h.room)) in
+    let world : IsWorld now = world_after key h.run h.world h.fit in
+    let here : IsMutator now.config x = subst (λ (c : Config). IsMutator c x) (sym (config_after key h.run)) there in
+    let actor : mutator now x ≡ p = mutator_after key h.run x h.world h.fit there ∙ (ap (told (mutator key x)) (sym mine.3) ∙ sym is_p) in
+    let goes : MayGo (mutator now x) wk = subst (λ (q : Private). MayGo q wk) (sym actor) may in
+    let v : Core = before now x wk in
+    let v_world : IsWorld v = before_world now x wk world here goes in
+    let v_here : IsMutator v.config x = subst (λ (c : Config). IsMutator c x) (sym (before_config now x wk)) here in
+    let v_busy : is_busy (mutator v x) ≡ true = before_busy now x wk (world_kept now world) here goes in
+    let v_is : mutator v x ≡ ready p wk = ready_is now x wk (world_kept now world) here ∙ ap (λ q. ready q wk) actor in
+    let v_op : next_of (mutator v x) ≡ op = ap next_of v_is ∙ sym is_op in
+    let steps_ : MayStep v x = may_step v x (world_kept v v_world) v_here v_busy in
+    let within : IsWithin (cells_of v) op = subst (IsWithin (cells_of v)) v_op steps_.within in
+    let cells : cells_of v ≡ cells_of now = before_cells now x wk in
+    let i : ℕ = index_of (length key.words) (length key.headers) op in
+    let n : ℕ = get_or s.words i 0 in
+    let words : s.words ≡ row (cells_of v) = h.words ∙ ap row (sym cells) in
+    let places : length (cells_of v).words ≡ length key.words = ap (λ (c : Cells). length c.words) cells ∙ places_after key h.run h.world h.fit in
+    let headers : length (cells_of v).headers ≡ length key.headers = ap (λ (c : Cells). length c.headers) cells ∙ slots_after key h.run h.world h.fit in
+    let at_i : index_of (length (cells_of v).words) (length (cells_of v).headers) op ≡ i = λ j. index_of (places j) (headers j) op in
+    let found : n ≡ cell (cells_of v) op = (λ j. get_or (words j) (sym at_i j) 0) ∙ row_read (cells_of v) op within in
+    let found' : n ≡ found_by v x = found ∙ ap (cell (cells_of v)) (sym v_op) in
+    let u : Core = stepped v x in
+    let u_world : IsWorld u = moved_world v (Move.Steps x) v_world (v_here, v_busy) in
+    let u_is : mutator u x ≡ learnt (ready p wk) (Saw n) =
+    get_or-set_same v.mutators (x - 1) (step_of (mutator v x) (found_by v x) (box v x)) nobody (in_list v x (world_kept v v_world) v_here)
+    ∙ step_same v x (world_kept v v_world) v_here v_busy
+    ∙ (λ j. learnt (v_is j) (Saw (sym found' j))) in
+    record {
+      goes = goes;
+      now_world = world;
+      now_here = here;
+      world = v_world;
+      here = v_here;
+      busy = v_busy;
+      is = v_is;
+      found = found';
+      words = λ z e. (λ j. set (words j) (sym at_i j) ((e ∙ ap (written op) found) j))
+          ∙ row_write (cells_of v) op (written op (cell (cells_of v) op)) within
+          ∙ ap (λ o. row (with_cell (cells_of v) o (written o (cell (cells_of v) o)))) (sym v_op);
+      homes = h.homes ∙ (λ j. homes_of (sym cells j).crossing (sym (before_boxes now x wk) j));
+      may = subst (λ (q : Private). IsFound q op n) v_is (subst (λ (o : Op). IsFound (mutator v x) o n) v_op (subst (IsFound (mutator v x) (next_of (mutator v x))) (sym found') steps_.found));
+      names = subst NamesSlots u_is (names_slots u x (world_kept u u_world) v_here);
+    }
+
+-- the rule after the step, with these mailboxes at home
+pub goes_on : (key : Core) (s : State (Option Contents) View) (h : Holds key s) (id : ℕ) (t : Seated) (wk : Option Work) (p : Private) (op : Op) (z : ℕ) (homes' : List (maybe.Option (Option Contents))) (hand : Contents)
+    → get_elem? s.views id ≡ some (Mutates t) → (here : Here key s h t wk p op)
+    → z ≡ written op (get_or s.words (index_of (length key.words) (length key.headers) op) 0)
+    → homes' ≡ homes_of (stepped (before (after_moves key h.run) t.number wk) t.number).crossing (stepped (before (after_moves key h.run) t.number wk) t.number).boxes
+    → ((mutator (stepped (before (after_moves key h.run) t.number wk) t.number) t.number).phase ≡ at.Giving → hand ≡ box (stepped (before (after_moves key h.run) t.number wk) t.number) t.number)
+    → Holds key (record { words = set s.words (index_of (length key.words) (length key.headers) op) z; homes = homes'; views = set s.views id (Mutates (record t { log = t.log ++ beats wk (get_or s.words (index_of (length key.words) (length key.headers) op) 0); hand = hand })) })
+goes_on key s h id t wk p op z homes' hand fit here does homes_are holds_it =
+    let x : ℕ = t.number in
+    let now : Core = after_moves key h.run in
+    let mine = h.each id (Mutates t) fit in
+    let v : Core = before now x wk in
+    let n : ℕ = get_or s.words (index_of (length key.words) (length key.headers) op) 0 in
+    let ms : List Move = moves_of x wk in
+    let run' : List Move = h.run ++ ms in
+    let ends : after_moves key run' ≡ stepped v x = after_both key h.run ms ∙ after_is now x wk in
+    let longer_ : t.log ++ beats wk n ≡ beats_of x key run' =
+    (λ j. mine.3 j ++ beats wk (here.found j)) ∙ (ap (λ l. beats_of x key h.run ++ l) (sym (own_beats now x wk)) ∙ sym (beats_both x key h.run ms)) in
+    let t' : Seated = record t { log = t.log ++ beats wk n; hand = hand } in
+    record {
+      run = run';
+      made = h.made;
+      gone = h.gone;
+      owner = h.owner;
+      world = h.world;
+      fit = fit_both key h.run ms h.fit (all_fit now x wk (world_kept now here.now_world) here.now_here here.goes);
+      offerless = offerless_both h.run ms h.offerless (moves_offerless x wk);
+      words = here.words z does ∙ ap (λ (c : Core). row (cells_of c)) (sym ends);
+      homes = homes_are ∙ ap (λ (c : Core). homes_of c.crossing c.boxes) (sym ends);
+      order = h.order;
+      room = h.room;
+      fresh = λ k le. sym (other_beats key h.run x k wk (λ e. omega (arith, e, mine.2))) ∙ h.fresh k le;
+      each = fits_set key run' h.made h.gone h.owner s.views id (Mutates t')
+          (λ j u ne e. fits_on key h.run h.made h.gone h.owner x wk id j mine.0 mine.1 ne u (h.each j u e))
+          (mine.0, mine.1, mine.2, longer_, subst (λ (c : Core). (mutator c x).phase ≡ at.Giving → hand ≡ box c x) (sym ends) holds_it);
+    }
+
+pub stepped_learns : (key : Core) (s : State (Option Contents) View) (h : Holds key s) (t : Seated) (wk : Option Work) (p : Private) (op : Op) → (here : Here key s h t wk p op)
+    → mutator (stepped (before (after_moves key h.run) t.number wk) t.number) t.number ≡ learnt (ready p wk) (Saw (get_or s.words (index_of (length key.words) (length key.headers) op) 0))
+stepped_learns key s h t wk p op here =
+    let x : ℕ = t.number in
+    let v : Core = before (after_moves key h.run) x wk in
+    get_or-set_same v.mutators (x - 1) (step_of (mutator v x) (found_by v x) (box v x)) nobody (in_list v x (world_kept v here.world) here.here)
+    ∙ step_same v x (world_kept v here.world) here.here here.busy
+    ∙ (λ j. learnt (here.is j) (Saw (sym here.found j)))
+
+-- what a step that takes no mailbox leads to isn't the phase in which one is given back
+not_giving : (p : Private) (word : ℕ) (phase : phases.Phase) → IsPlain phase → is_giving (took_at p word phase).phase ≡ false
+unfolding took_at
+not_giving p word phase plain = by phase plain
+  where
+    new : (q r : Private) (b : Bool) → is_giving q.phase ≡ false → is_giving r.phase ≡ false → is_giving (cond b q r).phase ≡ false
+    new q r true a b = a
+    new q r false a b = b
+
+    read : (cmd : Cmd) (dst : ℕ) (x : Option ℕ) → is_giving (read_by p cmd dst word x).phase ≡ false
+    read cmd dst None = refl
+    read cmd dst (Some slot) = refl
+
+    wrote : (cmd : Cmd) (f val : ℕ) (x : Option ℕ) (full : Bool) → is_giving (written_by p cmd f val word x full).phase ≡ false
+    wrote cmd f val None full = refl
+    wrote cmd f val (Some slot) true = refl
+    wrote cmd f val (Some slot) false = refl
+
+    goes : (b : Bool) (x y : phases.Phase) → is_giving x ≡ false → is_giving y ≡ false → is_giving (cond b x y) ≡ false
+    goes true x y a c = a
+    goes false x y a c = c
+
+    by : (at_phase : phases.Phase) → IsPlain at_phase → is_giving (took_at p word at_phase).phase ≡ false
+    by at.Idle is = refl
+    by (at.Begun (works.Command (commands.New reg label))) is = new (answered p (commands.New reg label) (plain_told answers.LogFull)) (moved p (at.Scanning reg label word 0)) (is_full p) refl refl
+    by (at.Begun (works.Command (commands.Null reg))) is = refl
+    by (at.Begun (works.Command (commands.Copy dst src))) is = refl
+    by (at.Begun (works.Command (commands.Get dst src f))) is = read (commands.Get dst src f) dst (register p src)
+    by (at.Begun (works.Command (commands.Put src f val))) is = wrote (commands.Put src f val) f val (register p src) (is_full p)
+    by (at.Begun (works.Command (commands.Value reg))) is = refl
+    by (at.Begun (works.Command (commands.Same a b))) is = refl
+    by (at.Begun works.Poll) is = goes (eqb word p.epoch) (at.Finished works.Poll (makes.Crossed None)) at.Crossing refl refl
+    by (at.Scanning reg label before_ slot) is =
+        new (born_in p reg label slot) (moved p (cond (eqb (slot + 1) p.slots) (at.Scanned reg label before_) (at.Scanning reg label before_ (slot + 1)))) (eqb word 0) refl
+        (goes (eqb (slot + 1) p.slots) (at.Scanned reg label before_) (at.Scanning reg label before_ (slot + 1)) refl refl)
+    by (at.Scanned reg label before_) is = refl
+    by at.Crossing is = absurd is
+    by at.Swapping is = absurd is
+    by at.Giving is = absurd is
+    by (at.Finished work made) is = refl
+
+pub left_plain : (p : Private) (word : ℕ) → IsPlain p.phase → is_busy p ≡ true → (learnt p (Saw word)).phase ≡ at.Giving → ⊥
+unfolding took_of
+left_plain p word plain busy giving =
+    let same : learnt p (Saw word) ≡ took_of p word = here_same p word (spare (took_of p word)) busy (plain_takes_none p.phase plain) in
+    let no : is_giving (took_of p word).phase ≡ false = not_giving p word p.phase plain in
+    let yes : is_giving (took_of p word).phase ≡ true = ap is_giving (ap (λ (q : Private). q.phase) (sym same) ∙ giving) in
+    true≢false (sym yes ∙ no)
+
+pub steps : (key : Core) (slots id : ℕ) (t : Seated) (hs : List (ℕ × Option Contents)) (wk : Option Work) (p : Private) (op : Op) (f : ℕ → ℕ) (st : Step (Option Contents))
+    → p ≡ told (mutator key t.number) t.log → MayGo p wk → IsPlain (ready p wk).phase → op ≡ next_of (ready p wk) → ((n : ℕ) → f n ≡ written op n)
+    → Allows (Holds key) slots id (Mutates t, hs) (index_of (length key.words) (length key.headers) op) f (MadeBy p wk st (Mutates t, hs))
+steps key slots id t hs wk p op f st is_p may plain is_op does s h len at_id fit =
+    let x : ℕ = t.number in
+    let here : Here key s h t wk p op = here_at key s h id t wk p op at_id is_p may is_op in
+    let v : Core = before (after_moves key h.run) x wk in
+    let n : ℕ = get_or s.words (index_of (length key.words) (length key.headers) op) 0 in
+    let plain' : IsPlain (mutator v x).phase = subst (λ (q : Private). IsPlain q.phase) (sym here.is) plain in
+    let never : (mutator (stepped v x) x).phase ≡ at.Giving → t.hand ≡ box (stepped v x) x = λ giving. absurd (left_plain (ready p wk) n plain (ap is_busy (sym here.is) ∙ here.busy)
+    (ap (λ (q : Private). q.phase) (sym (stepped_learns key s h t wk p op here)) ∙ giving)) in (
+      Mutates (longer t (beats wk n)),
+      keeps,
+      tt,
+      goes_on key s h id t wk p op (f n) s.homes t.hand at_id here (does n) (here.homes ∙ sym (plain_homes v x here.busy plain')) never,
+      (refl, subst (λ (o : Op). IsFound (ready p wk) o n) is_op here.may, here.names),
+    )

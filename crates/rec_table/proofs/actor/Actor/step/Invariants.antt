@@ -1,0 +1,7 @@
+use Rattle.rec_core.specs.Core.{mutator}
+use Rattle.rec_table.specs.Beats.{told}
+use Rattle.rec_table.specs.Rule.{seated_of}
+use Rattle.rec_table.proofs.actor.Actor.step.Given as goal
+
+abbrev pub ghosts-make : goal.ghosts-make
+ghosts-make a = record { actor = told (mutator a.board.now.table.shared.key.value (seated_of a.seat.now.me.0).number) (seated_of a.seat.now.me.0).log; work = a.work }

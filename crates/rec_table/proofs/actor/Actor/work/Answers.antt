@@ -1,0 +1,44 @@
+use Rattle.std.proofs.Common.{◌∙◌, ap, sym, subst}
+use Rattle.std.proofs.Common.{Some}
+use Rattle.rec_mutator.specs.declared.made.Made.{Made}
+use Rattle.rec_mutator.specs.declared.work.Work.{Work}
+use Rattle.rec_table.specs.Held.{Held}
+use Rattle.rec_table.proofs.Answering.{Path, answered, begun_busy, begun_slots, busy_still, path_first, path_on}
+use Rattle.rec_table.specs.Held.{has}
+use Rattle.rec_table.proofs.Making.{begun_work, keeps_on, works_first, works_on}
+use Rattle.rec_table.proofs.actor.Actor.work.Goals as goal
+
+pub loop-made-init : goal.loop-made-init
+loop-made-init c =
+    let w = works_first c.args.self.now c.step.new.self c.args.work c.step.result c.step.ensures.grows in
+    record {
+      grows = w.0;
+      is = w.1;
+      work = c.step.ensures.work ∙ begun_work (has c.args.self.now) c.args.work;
+      told = c.step.ensures.told;
+      path = path_first c.args.work (has c.args.self.now) (has c.step.new.self) c.args.self.now.log c.step.new.self.log c.step.result (ap (λ (h : Held). h.log) c.step.ensures.grows) c.step.ensures.machine
+          (begun_busy (has c.args.self.now) c.args.work) (begun_work (has c.args.self.now) c.args.work) (begun_slots (has c.args.self.now) c.args.work) c.step.ensures.learns;
+      same = c.step.ensures.same;
+    }
+
+pub loop-made-preserved : goal.loop-made-preserved
+loop-made-preserved c =
+    let i = c.loop-made.invariant in
+    let e = c.step-in-loop-made.ensures in
+    let w = works_on c.args.self.now c.loop-made.self c.step-in-loop-made.new.self c.args.work c.step-in-loop-made.result i.grows i.is e.grows in
+    record {
+      grows = w.0;
+      is = w.1;
+      work = e.work ∙ i.work;
+      told = e.told;
+      path = path_on c.args.work (has c.args.self.now) (has c.loop-made.self) (has c.step-in-loop-made.new.self) c.args.self.now.log c.loop-made.self.log c.step-in-loop-made.new.self.log c.step-in-loop-made.result i.path (ap (λ (h : Held). h.log) e.grows) e.machine
+          (busy_still (has c.loop-made.self) c.args.work i.work (λ m e. c.in_default.not-Some m (c.answer.ensures.answer ∙ e))) i.work i.same.slots e.learns;
+      same = keeps_on (has c.args.self.now) (has c.loop-made.self) (has c.step-in-loop-made.new.self) i.same e.same;
+    }
+
+pub returns-in-Some-clause-causes : goal.returns-in-Some-clause-causes
+returns-in-Some-clause-causes c = λ cmd told is made.
+    let i = c.loop-made.invariant in
+    answered (has c.args.self.now) (has c.loop-made.self) cmd c.args.self.now.log c.loop-made.self.log told
+    (subst (λ (work : Work). Path work (has c.args.self.now) c.args.self.now.log c.loop-made.self.log (has c.loop-made.self)) is i.path)
+    (sym c.answer.ensures.answer ∙ c.in-Some.is ∙ ap (λ (m : Made). Some m) made)

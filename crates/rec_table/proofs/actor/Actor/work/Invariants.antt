@@ -1,0 +1,19 @@
+-- The steps so far are the work's, and a work ends in time.
+use Rattle.std.proofs.Common.{◌≡◌, ◌-◌, Some}
+use Rattle.rec_mutator.specs.Private.{KeepsSizes, work_of, limit_of}
+use Rattle.rec_table.specs.Held.{has, IsTold, Works}
+use Rattle.rec_table.proofs.Answering.{Path}
+use Rattle.rec_table.proofs.actor.Actor.work.Given as goal
+
+abbrev pub invariant-loop-made : goal.invariant-loop-made
+invariant-loop-made l = record {
+  grows : Works l.fn.work l.fn.self.log l.self.log;
+  is : l.self ≡ record l.fn.self { log = l.self.log };
+  work : work_of (has l.self) ≡ Some l.fn.work;
+  told : IsTold (has l.self).phase;
+  path : Path l.fn.work (has l.fn.self) l.fn.self.log l.self.log (has l.self);
+  same : KeepsSizes (has l.fn.self) (has l.self);
+}
+
+abbrev pub decreases-loop-made : goal.decreases-loop-made
+decreases-loop-made l = limit_of (has l.self).slots l.fn.work - (has l.self).steps

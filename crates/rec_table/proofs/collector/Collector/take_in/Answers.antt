@@ -1,0 +1,21 @@
+use Rattle.std.proofs.Common.{◌+◌, length, sym, ap, ◌∙◌, arith}
+use Rattle.rec_table.specs.Held.{Gathers}
+use Rattle.rec_table.specs.Rule.{crew_of, seated_of}
+use Rattle.rec_table.specs.declared.views.Crew.{Crew}
+use Rattle.rec_table.proofs.Seats.{joins_as}
+use Rattle.rec_table.proofs.collector.Collector.take_in.Goals as goal
+
+pub join_seat-requires : goal.join_seat-requires
+join_seat-requires c =
+    let wide = c.args.board.now.wide in
+    let seat = c.self.inside.seat in
+    let theirs = c.stood-machine.result.2 in
+    let e = c.stood-machine.ensures in
+    let crew : Crew = crew_of seat.me.0 in (
+      ap (λ (g : Gathers). g.table) c.self.view_is ∙ c.requires.table.0,
+      e.seat.0 ∙ c.requires.table.1,
+      (λ i. (e.seat.1 i).1),
+      omega (arith, wide.2),
+      joins_as c.args.board.now.table.shared.key.value seat.id seat.me.0 crew _ theirs.me.0 (seated_of theirs.me.0) (λ i. (c.self.invariant.0 i).0) (λ i. (e.seat.1 i).0)
+          (e.list.0 ∙ c.requires.number ∙ ap (λ (g : Gathers). length g.crew.known + 1) (sym c.self.view_is)),
+    )

@@ -1,0 +1,163 @@
+use Rattle.std.proofs.Common.{◌≡◌, ◌<◌, ℕ, length, Option, Some, None, refl, sym, ap, ◌∙◌, subst, arith}
+use Rattle.rec_word.specs.declared.op.Op.{Op}
+use Rattle.rec_word.specs.declared.op.Op.TheVariants as ops
+use Rattle.rec_collector.specs.Given.{IsGiven}
+use Rattle.rec_collector.specs.Causes.{HasCause}
+use Rattle.rec_collector.specs.Kept.{IsMachine, KeepsSizes}
+use Rattle.rec_collector.specs.declared.turn.Turn.{Turn}
+use Rattle.rec_collector.proofs.Causes.{has_cause}
+use Rattle.rec_collector.specs.Next.{next_of}
+use Rattle.rec_collector.specs.Private.{Private}
+use Rattle.rec_collector.specs.Step.{IsBetween}
+use Rattle.rec_collector.specs.Took.{took_of, turn_of}
+use Rattle.rec_collector.specs.declared.phase.Phase.{Phase}
+use Rattle.rec_collector.specs.declared.phase.Phase.TheVariants.{Looking}
+use Rattle.rec_core.specs.Core.{Core}
+use Rattle.rec_table.specs.Beats.{gathered, gathered_all}
+use Rattle.rec_table.specs.Held.{Gathers, gathers_now}
+use Rattle.rec_core.specs.Row.{index_of}
+use Rattle.rec_table.specs.Rule.{crew_of, crew_more, boxes_out, word_of, NotLooking}
+use Rattle.rec_table.specs.declared.views.Beat.TheVariants.{Saw}
+use Rattle.rec_table.specs.declared.views.Crew.{Crew}
+use Rattle.rec_table.specs.declared.views.View.TheVariants.{Collects}
+use Rattle.rec_table.proofs.Gathering.{turn_there, turn_names, looking_of, not_looking, looking_boxes, turn_me, turn_log, turn_end, lone_out}
+use Rattle.rec_table.proofs.collector.Collector.turn_on.Goals as goal
+use Rattle.rec_table.proofs.collector.Collector.turn_on.Goals.{In-Some}
+
+abbrev key : (c : In-Some) → Core
+key c = c.args.board.now.table.shared.key.value
+
+abbrev crew : (c : In-Some) → Crew
+crew c = crew_of c.self.inside.seat.me.0
+
+opened : (c : In-Some) → c.self.inside.opened.value ≡ (key c).collector
+opened c = ap (λ (g : Gathers). g.opened) c.self.view_is ∙ c.requires.own.1
+
+table : (c : In-Some) → c.self.inside.seat.table_id ≡ c.args.board.now.table.shared.table_id
+table c = ap (λ (g : Gathers). g.table) c.self.view_is ∙ c.requires.own.0
+
+machine_is : (c : In-Some) → c.self.inside.machine ≡ gathered_all (key c).collector (crew c).log
+machine_is c = c.self.invariant.1 ∙ ap (λ (p : Private). gathered_all p (crew c).log) (opened c)
+
+named : (c : In-Some) → ◌≡◌ {A = Option Op} (next_of c.self.inside.machine) (Some c.in-Some.op)
+named c = sym c.next.ensures.next ∙ c.in-Some.is
+
+there : (c : In-Some) → index_of (length (key c).words) (length (key c).headers) c.in-Some.op < c.args.board.now.table.shared.table_id.words
+there c =
+    let wide = c.args.board.now.wide in
+    turn_there (key c) c.in-Some.op c.self.inside.opened.value c.self.inside.machine c.args.board.now.table.shared.table_id.words c.requires.world (opened c) c.self.invariant.2 c.turns-turns.ensures.kept (named c) (omega (arith, wide.0, wide.1, wide.2))
+
+keeps : (a b d : Private) → KeepsSizes a b → KeepsSizes b d → KeepsSizes a d
+keeps a b d x y = record { slots = y.slots ∙ x.slots; fields = y.fields ∙ x.fields; registers = y.registers ∙ x.registers; capacity = y.capacity ∙ x.capacity; mutators = y.mutators ∙ x.mutators }
+
+same_op : (c : In-Some) (op : Op) → ◌≡◌ {A = Option Op} (next_of (gathers_now c.args.self.now)) None → ⊥
+same_op c op none = let bad : ◌≡◌ {A = Option Op} None (Some c.in-Some.op) = sym none ∙ ap next_of (sym (c.self.invariant.1 ∙ ap gathers_now c.self.view_is)) ∙ named c in cc
+
+looking : (c : In-Some) (t e : ℕ) → c.in-Some.op ≡ ops.LookBox t e → (c.self.inside.machine.phase ≡ Looking t) × (c.self.inside.machine.epoch ≡ e)
+looking c t e is = looking_of c.self.inside.machine c.in-Some.op t e c.self.invariant.3 (named c) is
+
+-- an answer has its cause
+caused : (g : Gathers) (p : Private) (turn : Turn) → p ≡ gathers_now g → IsMachine p → (word : ℕ) → turn ≡ turn_of (gathers_now g) word → HasCause (gathers_now g) word (took_of (gathers_now g) word) turn
+caused g p turn is machine = λ word told. subst (HasCause (gathers_now g) word (took_of (gathers_now g) word)) (sym told) (has_cause (gathers_now g) word (subst IsMachine is machine))
+
+pub returns-in_default-clause-cause : goal.returns-in_default-clause-cause
+returns-in_default-clause-cause c = caused c.args.self.now c.self.inside.machine _ (c.self.invariant.1 ∙ ap gathers_now c.self.view_is) c.turns-turns.ensures.kept
+
+pub returns-in-LookBox-clause-cause : goal.returns-in-LookBox-clause-cause
+returns-in-LookBox-clause-cause c = caused c.args.self.now c.self.inside.machine c.look.result (c.self.invariant.1 ∙ ap gathers_now c.self.view_is) c.turns-turns.ensures.kept
+
+pub look-requires-clause-table : goal.look-requires-clause-table
+look-requires-clause-table c = table (goal.at.look-requires-clause-table c).In-Some
+
+pub look-requires-clause-seat : goal.look-requires-clause-seat
+look-requires-clause-seat c =
+    let a : In-Some = (goal.at.look-requires-clause-seat c).In-Some in
+    c.self.invariant.0 ∙ (λ k. (Collects (crew a), looking_boxes c.self.inside.machine c.in-LookBox.t (looking a c.in-LookBox.t c.in-LookBox.epoch c.in-LookBox.is).0 k))
+
+pub look-requires-clause-actor : goal.look-requires-clause-actor
+look-requires-clause-actor c = (refl, refl, machine_is (goal.at.look-requires-clause-actor c).In-Some)
+
+pub look-requires-clause-phase : goal.look-requires-clause-phase
+look-requires-clause-phase c =
+    let a : In-Some = (goal.at.look-requires-clause-phase c).In-Some in
+    let l = looking a c.in-LookBox.t c.in-LookBox.epoch c.in-LookBox.is in
+    let n = turn_names c.self.inside.machine (ops.LookBox c.in-LookBox.t c.in-LookBox.epoch) c.turns-turns.ensures.kept (named a ∙ ap (λ (o : Op). Some o) c.in-LookBox.is) in
+    (l.0, l.1, omega (arith, n.0))
+
+pub look-requires-clause-there : goal.look-requires-clause-there
+look-requires-clause-there c =
+    let a : In-Some = (goal.at.look-requires-clause-there c).In-Some in
+    subst (λ (o : Op). index_of (length (key a).words) (length (key a).headers) o < c.args.board.now.table.shared.table_id.words) c.in-LookBox.is (there a)
+
+pub make_turn-word-requires : goal.make_turn-word-requires
+make_turn-word-requires c =
+    let a : In-Some = (goal.at.make_turn-word-requires c).In-Some in
+    record {
+      table = table a;
+      seat = c.self.invariant.0 ∙ (λ k. (Collects (crew a), boxes_out (machine_is a k)));
+      actor = refl;
+      between = subst (λ (p : Private). IsBetween p.phase) (machine_is a) c.self.invariant.3;
+      looks = subst (λ (p : Private). NotLooking p.phase) (machine_is a) (not_looking c.self.inside.machine c.in-Some.op c.self.invariant.3 (named a) c.in_default-op.not-LookBox);
+      op = ap next_of (sym (machine_is a)) ∙ named a;
+      there = there a;
+    }
+
+pub took-requires : goal.took-requires
+took-requires c = let a : In-Some = (goal.at.took-requires c).In-Some in subst (λ (p : Private). IsGiven p c.make_turn-word.result) (sym (machine_is a)) c.make_turn-word.ensures.given
+
+pub invariant_of-self : goal.invariant_of-self
+invariant_of-self c =
+    let a : In-Some = (goal.at.invariant_of-self c).In-Some in
+    let s = c.self.inside in
+    let t = c.look.ensures.turned in (
+      turn_me (crew a) t.0 c.look.new.machine c.look.new.seat.me t.1,
+      turn_log s.opened.value s.machine c.look.new.machine (crew a) t.0 c.look.new.seat.me c.self.invariant.1 t.2 t.1,
+      keeps s.opened.value s.machine c.look.new.machine c.self.invariant.2 c.look.ensures.same,
+      c.look.ensures.between,
+    )
+
+pub invariant_of-self-in_default-op : goal.invariant_of-self-in_default-op
+invariant_of-self-in_default-op c =
+    let a : In-Some = (goal.at.invariant_of-self-in_default-op c).In-Some in
+    let s = c.self.inside in
+    let b = Saw c.make_turn-word.result in
+    let out = lone_out s.machine c.took.new.self c.make_turn-word.result c.self.invariant.3 (not_looking s.machine c.in-Some.op c.self.invariant.3 (named a) c.in_default-op.not-LookBox) c.took.ensures.took in
+    let now : c.make_turn-word.new.seat.me ≡ (Collects (crew_more (crew a) b), boxes_out c.took.new.self) = c.make_turn-word.ensures.view ∙ (λ k. (Collects (crew_more (crew a) b), sym out.0 k)) in (
+      turn_me (crew a) b c.took.new.self c.make_turn-word.new.seat.me now,
+      turn_log s.opened.value s.machine c.took.new.self (crew a) b c.make_turn-word.new.seat.me c.self.invariant.1 c.took.ensures.took now,
+      keeps s.opened.value s.machine c.took.new.self c.self.invariant.2 c.took.ensures.same,
+      out.1,
+    )
+
+pub returns-in-LookBox-clause-spent : goal.returns-in-LookBox-clause-spent
+returns-in-LookBox-clause-spent c = λ none. absurd (same_op (goal.at.returns-in-LookBox-clause-spent c).In-Some c.in-Some.op none)
+
+pub returns-in-LookBox-clause-turned : goal.returns-in-LookBox-clause-turned
+returns-in-LookBox-clause-turned c = λ op named_.
+    let a : In-Some = (goal.at.returns-in-LookBox-clause-turned c).In-Some in
+    let s = c.self.inside in
+    let t = c.look.ensures.turned in
+    let e = turn_end s.seat.table_id c.look.new.seat.table_id s.opened.value s.machine c.look.new.machine (crew a) t.0 c.look.new.seat.me c.args.self.now c.self.view_is c.look.ensures.seat.0 c.self.invariant.1 t.2 t.1 in
+    (t.0, e.0, e.1, t.3 ∙ ap (λ (p : Private). turn_of p (word_of t.0)) (c.self.invariant.1 ∙ ap gathers_now c.self.view_is))
+
+pub returns-in-LookBox-clause-free : goal.returns-in-LookBox-clause-free
+returns-in-LookBox-clause-free c = λ looks_none.
+    let a : In-Some = (goal.at.returns-in-LookBox-clause-free c).In-Some in
+    let looks : c.self.inside.machine.phase ≡ Looking c.in-LookBox.t = (looking a c.in-LookBox.t c.in-LookBox.epoch c.in-LookBox.is).0 in
+    absurd (subst (λ (f : Phase). NotLooking f) (ap (λ (p : Private). p.phase) (sym (c.self.invariant.1 ∙ ap gathers_now c.self.view_is)) ∙ looks) looks_none)
+
+pub returns-in_default-op : goal.returns-in_default-op
+returns-in_default-op c =
+    let a : In-Some = (goal.at.returns-in_default-op c).In-Some in
+    let s = c.self.inside in
+    let b = Saw c.make_turn-word.result in
+    let out = lone_out s.machine c.took.new.self c.make_turn-word.result c.self.invariant.3 (not_looking s.machine c.in-Some.op c.self.invariant.3 (named a) c.in_default-op.not-LookBox) c.took.ensures.took in
+    let now : c.make_turn-word.new.seat.me ≡ (Collects (crew_more (crew a) b), boxes_out c.took.new.self) = c.make_turn-word.ensures.view ∙ (λ k. (Collects (crew_more (crew a) b), sym out.0 k)) in
+    let e = turn_end s.seat.table_id c.make_turn-word.new.seat.table_id s.opened.value s.machine c.took.new.self (crew a) b c.make_turn-word.new.seat.me c.args.self.now c.self.view_is c.make_turn-word.ensures.seat.0 c.self.invariant.1 c.took.ensures.took now in
+    record {
+      spent = λ none. absurd (same_op a c.in-Some.op none);
+      turned = λ op named_. (b, e.0, e.1, c.took.ensures.turn ∙ ap (λ (p : Private). turn_of p c.make_turn-word.result) (c.self.invariant.1 ∙ ap gathers_now c.self.view_is));
+      cause = caused c.args.self.now c.self.inside.machine c.took.result (c.self.invariant.1 ∙ ap gathers_now c.self.view_is) c.turns-turns.ensures.kept;
+      same = e.0 ∙ (λ k. record c.args.self.now { crew = record c.args.self.now.crew { log = (sym e.0 k).crew.log } });
+      free = λ looks_none. ap boxes_out (e.1 ∙ ap (λ (p : Private). gathered p b) (sym (c.self.invariant.1 ∙ ap gathers_now c.self.view_is)) ∙ sym c.took.ensures.took) ∙ out.0;
+    }

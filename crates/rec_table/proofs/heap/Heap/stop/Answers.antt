@@ -1,0 +1,14 @@
+use Rattle.std.proofs.Common.{◌≡◌, ap, map, subst}
+use Rattle.rec_core.specs.Core.{Core}
+use Rattle.rec_core.specs.Worked.{AreIdle}
+use Rattle.rec_world.specs.World.{IsWorld}
+use Rattle.rec_table.specs.Ends.{Interleaves}
+use Rattle.rec_table.specs.Held.{Held, Started}
+use Rattle.rec_table.proofs.Stopped.{stopped}
+use Rattle.rec_table.proofs.heap.Heap.stop.Goals as goal
+
+pub returns-clause-stopped : goal.returns-clause-stopped
+returns-clause-stopped c =
+    let is : c.self.inside.board.table.shared.key.value ≡ c.args.self.world = ap (λ (s : Started). s.world) c.self.view_is in
+    stopped c.args.self c.args.collector c.put_back.new.self c.args.mutators.items c.fill.result (subst IsWorld is c.self.invariant.0) (subst AreIdle is c.self.invariant.1) c.requires.collector.0.1 c.requires.mutators c.put_back.ensures.returned
+    (subst (λ (k : Core). Interleaves k c.put_back.new.self.crew.log (map (λ (m : Held). m.log) c.args.mutators.items) c.fill.result) is c.fill.ensures.run)

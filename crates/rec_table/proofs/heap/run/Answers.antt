@@ -1,0 +1,40 @@
+use Rattle.std.proofs.Common.{◌≡◌, map, sym, ap, ◌∙◌, subst, arith}
+use mathlib.Core.Option.{some}
+use Rattle.rec_collector.specs.Private as collectors
+use Rattle.rec_collector.specs.Step.{IsBetween}
+use Rattle.rec_core.specs.Core.{Core}
+use Rattle.rec_core.specs.Kept.{IsKept}
+use Rattle.rec_world.proofs.Calls.{world_kept}
+use Rattle.rec_table.specs.Rule.{boxes_out}
+use Rattle.rec_table.proofs.Closing.{none_out_where_even}
+use Rattle.rec_table.proofs.Seats.{all_home}
+use Rattle.rec_table.proofs.heap.run.Goals as goal
+
+pub open-requires-clause-home : goal.open-requires-clause-home
+open-requires-clause-home c =
+    let w : Core = c.args.was.now.value in
+    let kept : IsKept w = world_kept w c.requires.world in
+    let words_many = kept.mutators.words in
+    let boxes_many = kept.mutators.mailboxes in
+    ap (map some) c.requires.parts.boxes ∙ sym (all_home w.crossing w.boxes (omega (arith, words_many, boxes_many)) c.requires.home)
+
+pub open-requires-clause-collector : goal.open-requires-clause-collector
+open-requires-clause-collector c =
+    let w : Core = c.args.was.now.value in
+    let kept : IsKept w = world_kept w c.requires.world in
+    let own : c.args.parts.collector ≡ w.collector = c.requires.parts.collector in
+    (sym c.of-opened.ensures, c.of-opened.ensures ∙ own, ap boxes_out own ∙ none_out_where_even w kept c.requires.home, subst (λ (p : collectors.Private). IsBetween p.phase) (sym own) kept.collector.between)
+
+pub returns-in-Err-clause-refused : goal.returns-in-Err-clause-refused
+returns-in-Err-clause-refused c =
+    let w : Core = c.args.was.now.value in
+    let p = c.requires.parts in
+    let e = c.in-Err.ensures.err in
+    c.of_parts-world.ensures.made w c.requires.world record {
+      config = p.config;
+      row = p.row;
+      boxes = e.0 ∙ p.boxes;
+      machines = p.machines;
+      collector = e.1 ∙ p.collector;
+      made = p.made;
+    }

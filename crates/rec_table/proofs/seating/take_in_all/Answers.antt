@@ -1,0 +1,50 @@
+use Rattle.std.proofs.Common.{◌≡◌, ◌≢◌, ℕ, suc, ◌+◌, ◌%◌, ◌^◌, All, List, [], ◌∷◌, ◌++◌, false, drop, length, map, take, get_or, sym, ap, ◌∙◌, subst, arith, length-append}
+use mathlib.Core.Logic.{dite}
+use native.Mathlib.Decide.{ℕ_discrete}
+use Rattle.std.specs.List.{sum_by}
+use Rattle.std.proofs.Math.Seq.{get_or-append_seam}
+use Rattle.std.proofs.lemmas.List.{get_or_append_left, map-append}
+use Rattle.rec_mutator.specs.Private.{Private, is_busy}
+use Rattle.rec_table.specs.Beats.{births_told}
+use Rattle.rec_table.specs.Held.{Held, has}
+use Rattle.rec_table.proofs.Lists.{Next, sum_more, taken_off}
+use Rattle.rec_table.proofs.seating.take_in_all.Goals as goal
+
+idle_more : (ps : List Private) (p : Private) → All (λ (q : Private). is_busy q ≡ false) ps → is_busy p ≡ false → All (λ (q : Private). is_busy q ≡ false) (ps ++ p ∷ [])
+idle_more ps p all one = λ k d lt.
+    let long : length (ps ++ p ∷ []) ≡ length ps + 1 = length-append ps (p ∷ []) in
+    dite (ℕ_discrete k (length ps))
+    (λ (e : k ≡ length ps). ap (λ (j : ℕ). is_busy (get_or (ps ++ p ∷ []) j d)) e ∙ ap is_busy (get_or-append_seam ps p [] d) ∙ one)
+    (λ (ne : k ≢ length ps). ap is_busy (get_or_append_left ps (p ∷ []) d k (omega (arith, lt, long, ne))) ∙ all k d (omega (arith, lt, long, ne)))
+
+pub loop-mutators-preserved : goal.loop-mutators-preserved
+loop-mutators-preserved c =
+    let ms : List Held = c.args.mutators.items in
+    let old = c.loop-mutators.mutators in
+    let i = c.loop-mutators.invariant in
+    let done : List Private = c.loop-mutators.machines.items in
+    let d : ℕ = length done in
+    let x : Held = c.remove.result in
+    let n : Next ms d x c.remove.new.self.items = taken_off ms old.items c.remove.new.self.items d x i.rest (omega (arith, c.remove.ensures.len, old.ok.0)) c.remove.ensures.value c.remove.ensures.items in
+    let own : c.into_actor-actor.result ≡ x = c.into_actor-actor.ensures.actor in
+    let t = c.take_in-machine.ensures in
+    let machine : Private = c.take_in-machine.result.0 in
+    let items : c.push_reserved.new.self.items ≡ done ++ machine ∷ [] = c.push_reserved.ensures.items in
+    let long : length c.push_reserved.new.self.items ≡ d + 1 = ap length items ∙ length-append done (machine ∷ []) in
+    let next_d : suc d ≡ length c.push_reserved.new.self.items = omega (arith, long) in
+    let taken : take (length c.push_reserved.new.self.items) ms ≡ take d ms ++ x ∷ [] = ap (λ (k : ℕ). take k ms) (sym next_d) ∙ n.behind in
+    let is_machine : machine ≡ has x = t.machine ∙ ap has own in
+    let added : sum_by (λ (m : Held). births_told m.opened m.log) (take (length c.push_reserved.new.self.items) ms) ≡ sum_by (λ (m : Held). births_told m.opened m.log) (take d ms) + births_told x.opened x.log =
+    ap (sum_by (λ (m : Held). births_told m.opened m.log)) taken ∙ sum_more (λ (m : Held). births_told m.opened m.log) (take d ms) x in
+    let its : c.take_in-machine.result.1 ≡ births_told x.opened x.log % 2 ^ 64 = t.births ∙ ap (λ (m : Held). births_told m.opened m.log % 2 ^ 64) own in
+    let so_far = i.made in
+    record {
+      rest = sym n.ahead ∙ ap (λ (k : ℕ). drop k ms) next_d;
+      machines = items ∙ (λ j. i.machines j ++ is_machine j ∷ []) ∙ sym (map-append has (take d ms) (x ∷ [])) ∙ ap (map has) (sym taken);
+      idle = subst (λ (l : List Private). All (λ (q : Private). is_busy q ≡ false) l) (sym items) (idle_more done machine i.idle (ap is_busy (t.machine) ∙ c.into_actor-actor.ensures.idle));
+      known = t.is
+          ∙ (λ j. record (i.known j) { crew = record (i.known j).crew { known = (i.known j).crew.known ++ (own j).log ∷ [] } })
+          ∙ (λ j. record c.args.collector.now { crew = record c.args.collector.now.crew { known = (sym (map-append (λ (m : Held). m.log) (take d ms) (x ∷ [])) ∙ ap (map (λ (m : Held). m.log)) (sym taken)) j } });
+      made = omega (arith, so_far, its, added);
+      room = omega (arith, i.room, c.push_reserved.ensures.capacity);
+    }

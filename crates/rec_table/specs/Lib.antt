@@ -1,0 +1,9 @@
+pub mod Beats
+pub mod Homes
+pub mod Rule
+pub mod Held
+pub mod Ends
+pub mod Room
+pub mod Journals
+pub mod Safe
+pub mod Answered

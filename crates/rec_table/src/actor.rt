@@ -1,0 +1,281 @@
+//! A mutator on the table.
+ghost use Rattle.std.specs.Prelude.{◌≡◌, ◌<◌, ◌≤◌, ◌↔◌, [], ◌++◌, true, length, Option, IsTrue};
+ghost use Rattle.rec_mutator.specs.Next.{next_of};
+ghost use Rattle.rec_mutator.specs.Private.{is_busy, register, HasOperands, IsMachine, KeepsSizes};
+ghost use Rattle.rec_mutator.specs.Step.{NamesSlots};
+ghost use Rattle.rec_mutator.specs.Took.{IsFound, IsBetween, spare, took_of};
+ghost use Rattle.rec_table.specs.Held.{held, has, IsOf};
+ghost use Rattle.rec_table.specs.Beats.{told, learnt};
+ghost use Rattle.rec_core.specs.Row.{index_of};
+ghost use Rattle.rec_table.specs.Rule.{ready, MayGo, IsPlain, beats, longer, seated_of, hands, me_after, taken_by, hand_after};
+ghost use Rattle.rec_table.specs.declared.views.Beat.TheVariants.{Saw};
+ghost use Rattle.rec_table.specs.declared.views.View.TheVariants.{Mutates};
+ghost use Rattle.rec_core.specs.Core.{mutator};
+ghost use Rattle.rec_core.specs.Cells.{births_of};
+ghost use Rattle.rec_world.specs.World.{IsWorld};
+
+use crate::board::Board;
+use crate::rule::{Doing, Gives, Makes, Takes, Tries};
+use crate::views::View;
+use atomic_table::Seat;
+use rec_log::Buffer;
+use rec_model::Cmd;
+use rec_mutator::{Machine, Made, Work};
+use rec_word::{Mailbox, Op, crossing};
+use rec_world::swap_own;
+use std::marker::{Brand, Model};
+use std::snapshot::Snapshot;
+
+#[derive(Drop)]
+pub struct Actor {
+    machine: Machine,
+    opened: Snapshot<Machine>,
+    seat: Seat<Option<Buffer>, View>,
+    // How many objects it made, which no other thread counts.
+    births: u64,
+}
+
+impl Model for Actor {
+    ghost use Rattle.std.specs.Prelude.{◌≡◌, ◌%◌, ◌^◌, []};
+    ghost use Rattle.rec_mutator.specs.Private.{KeepsSizes};
+    ghost use Rattle.rec_mutator.specs.Step.{NamesSlots};
+    ghost use Rattle.rec_mutator.specs.Took.{IsBetween};
+    ghost use Rattle.rec_table.specs.declared.views.View.TheVariants.{Mutates};
+    ghost use Rattle.rec_table.specs.Beats.{told, births_told};
+    ghost use Rattle.rec_table.specs.Held.{Held, held};
+    ghost use Rattle.rec_table.specs.Rule.{seated_of, hands};
+
+    ghost Value = { Held };
+
+    ghost view = { λ m. held m.seat.table_id m.opened.value (seated_of m.seat.me.0) };
+
+    ghost invariant = { λ m. (m.seat.me ≡ (Mutates (seated_of m.seat.me.0), hands (seated_of m.seat.me.0) m.machine)) × (m.machine ≡ told m.opened.value (seated_of m.seat.me.0).log) × NamesSlots m.machine × KeepsSizes m.opened.value m.machine × IsBetween m.machine.phase × (m.births ≡ births_told m.opened.value (seated_of m.seat.me.0).log % 2 ^ 64) };
+}
+
+// Makes the atomic operation of a step, and no more.
+fn make<W: Doing>(
+    board: &Board,
+    seat: &mut Seat<Option<Buffer>, View>,
+    op: Op,
+    work: Option<Work>,
+) -> u64
+    requires table { seat.old.table_id ≡ board.now.table.shared.table_id }
+    requires seat { seat.old.me ≡ (Mutates (seated_of seat.old.me.0), hands (seated_of seat.old.me.0) (ready W.actor work)) }
+    requires actor { W.actor ≡ told (mutator board.now.table.shared.key.value (seated_of seat.old.me.0).number) (seated_of seat.old.me.0).log }
+    requires work { (W.work ≡ work) × MayGo W.actor work }
+    requires between { IsBetween (ready W.actor work).phase }
+    requires op { op ≡ next_of (ready W.actor work) }
+    requires there { index_of (length board.now.table.shared.key.value.words) (length board.now.table.shared.key.value.headers) op < board.now.table.shared.table_id.words }
+    ensures seat { (seat.new.table_id ≡ seat.old.table_id) × (seat.new.id ≡ seat.old.id) }
+    ensures view { seat.new.me ≡ me_after (seated_of seat.old.me.0) (ready W.actor work) work result }
+    ensures found { IsFound (ready W.actor work) op result }
+    ensures names { NamesSlots (learnt (ready W.actor work) (Saw result)) }
+{
+    let _ = work;
+    let shared = &board.table.shared;
+    let word = board.index(op);
+    match op {
+        Op::LoadField(_) | Op::LoadHeader(_) | Op::LoadEpoch | Op::LoadCross(_) | Op::LoadFreed => {
+            shared.load::<Makes<W>>(seat, word)
+        }
+        Op::SwapField(_, new) => shared.swap::<Makes<W>>(seat, word, new),
+        Op::ClaimHeader(_, label) => {
+            // A failing probe is a load, which takes no line from others. Only a free header is claimed.
+            let seen = shared.load::<Tries<W>>(seat, word);
+            if seen != 0 {
+                seen
+            } else {
+                shared.compare_exchange::<Makes<W>>(seat, word, 0, u64::from(label) + 1)
+            }
+        }
+        Op::TakeBox(_, epoch) => shared.swap::<Takes<W>>(seat, word, crossing(epoch, Mailbox::WithMutator)),
+        Op::GiveBox(_, epoch) => shared.swap::<Gives<W>>(seat, word, crossing(epoch, Mailbox::Retired)),
+        _ => unreachable!(),
+    }
+}
+
+// The machine learns the word that the step found; where it has just taken its mailbox, the retired log goes there for the buffer.
+fn learn(
+    board: &Board,
+    seat: &mut Seat<Option<Buffer>, View>,
+    machine: &mut Machine,
+    op: Op,
+    word: u64,
+)
+    requires table { seat.old.table_id ≡ board.now.table.shared.table_id }
+    requires busy { is_busy machine.old ≡ true }
+    requires between { IsBetween machine.old.phase }
+    requires number { 1 ≤ machine.old.number }
+    requires op { op ≡ next_of machine.old }
+    requires found { IsFound machine.old op word }
+    requires out { seat.old.me.1 ≡ taken_by machine.old word machine.old.phase }
+    requires hand { (seated_of seat.old.me.0).hand ≡ hand_after (seated_of seat.old.me.0).hand (took_of machine.old word).log machine.old.phase }
+    ensures seat { (seat.new.table_id ≡ seat.old.table_id) × (seat.new.id ≡ seat.old.id) }
+    ensures machine { machine.new ≡ learnt machine.old (Saw word) }
+    ensures same { KeepsSizes machine.old machine.new }
+    ensures between { IsBetween machine.new.phase }
+    ensures me { seat.new.me ≡ (seat.old.me.0, hands (seated_of seat.old.me.0) machine.new) }
+{
+    match op {
+        Op::TakeBox(t, _) => {
+            machine.took(word);
+            let mailbox = seat.slot_mut(&board.table.shared, usize::from(t) - 1);
+            swap_own(machine, mailbox);
+        }
+        _ => machine.took(word),
+    }
+}
+
+fn prepare(machine: &mut Machine, work: Option<Work>)
+    requires may { MayGo machine.old work }
+    ensures ready { machine.new ≡ ready machine.old work }
+    ensures busy { is_busy machine.new ≡ true }
+    ensures same { KeepsSizes machine.old machine.new }
+    ensures kept { IsMachine machine.new }
+{
+    if let Some(work) = work {
+        machine.begin(work);
+    }
+    let _steps = machine.steps();
+}
+
+// How many objects a step made.
+fn births(op: Op, found: u64) -> u64
+    ensures { result ≡ births_of op found }
+{
+    match op {
+        Op::ClaimHeader(_, _) => { if found == 0 { 1 } else { 0 } }
+        _ => 0,
+    }
+}
+
+impl Actor {
+    ghost use Rattle.std.specs.Prelude.{◌+◌, ◌%◌, ◌^◌, ◌≤◌, false, Some, IfSome};
+    ghost use Rattle.rec_table.specs.Beats.{births_told};
+    ghost use Rattle.rec_mutator.specs.Private.{work_of, answer_of, limit_of};
+    ghost use Rattle.rec_model.specs.declared.command.Cmd.{Cmd as Command};
+    ghost use Rattle.rec_model.specs.declared.told.Told.{Told as Answers};
+    ghost use Rattle.rec_mutator.specs.declared.made.Made.TheVariants as makes;
+    ghost use Rattle.rec_mutator.specs.declared.work.Work.TheVariants as works;
+    ghost use Rattle.rec_table.specs.Answered.{IsAnswered};
+    ghost use Rattle.rec_table.specs.Held.{IsTold, Works};
+
+    // The actor of a mutator as the heap is started.
+    pub(crate) fn sat(
+        machine: Machine,
+        opened: Snapshot<Machine>,
+        seat: Seat<Option<Buffer>, View>,
+    ) -> Actor
+        requires seat { (seat.me ≡ (Mutates (seated_of seat.me.0), [])) × ((seated_of seat.me.0).log ≡ []) }
+        requires machine { (machine ≡ opened.value) × (is_busy machine ≡ false) × NamesSlots machine }
+        ensures { result ≡ held seat.table_id opened.value (seated_of seat.me.0) }
+    {
+        Actor {
+            machine,
+            opened,
+            seat,
+            births: 0,
+        }
+    }
+
+    // Its machine, its births and its seat, where it has no unfinished work.
+    pub(crate) fn stood(self) -> (Machine, u64, Seat<Option<Buffer>, View>)
+        requires { is_busy (has self) ≡ false }
+        ensures machine { result.0 ≡ has self }
+        ensures births { result.1 ≡ births_told self.opened self.log % 2 ^ 64 }
+        ensures seat { (result.2.table_id ≡ self.table) × (result.2.me ≡ (Mutates (seated_of result.2.me.0), [])) }
+        ensures list { ((seated_of result.2.me.0).number ≡ self.number) × ((seated_of result.2.me.0).log ≡ self.log) }
+    {
+        let Actor {
+            machine,
+            opened: _,
+            seat,
+            births,
+        } = self;
+        (machine, births, seat)
+    }
+
+    /// One step, which begins a work first, or goes on with one.
+    pub fn step(&mut self, board: &Board, work: Option<Work>) -> u64
+        requires own { IsOf board.now.table.shared.table_id board.now.table.shared.key.value self.old }
+        requires world { IsWorld board.now.table.shared.key.value }
+        requires may { MayGo (has self.old) work }
+
+        ensures grows { self.new ≡ record self.old { log = self.old.log ++ beats work result } }
+        ensures learns { has self.new ≡ learnt (ready (has self.old) work) (Saw result) }
+        ensures steps { (has self.new).steps ≡ (ready (has self.old) work).steps + 1 }
+        ensures work { work_of (has self.new) ≡ work_of (ready (has self.old) work) }
+        ensures limit { IfSome (work_of (has self.new)) (λ work. (has self.new).steps ≤ limit_of (has self.new).slots work) }
+        ensures same { KeepsSizes (has self.old) (has self.new) }
+        ensures told { IsTold (has self.new).phase }
+        ensures machine { IsMachine (ready (has self.old) work) }
+    {
+        prepare(&mut self.machine, work);
+        let op = self.machine.next();
+        let word = make::<Brand>(board, &mut self.seat, op, work);
+        learn(board, &mut self.seat, &mut self.machine, op, word);
+        self.births = self.births.wrapping_add(births(op, word));
+        let _steps = self.machine.steps();
+        word
+    }
+
+    // What came of the last work, if it is finished.
+    fn answer(&self) -> Option<Made>
+        ensures answer { result ≡ answer_of (has self.now) }
+    {
+        self.machine.answer()
+    }
+
+    // Whether it may be asked this.
+    pub(crate) fn valid(&self, cmd: &Cmd) -> bool
+        ensures { IsTrue result ↔ HasOperands (has self.now) cmd.now }
+    {
+        self.machine.valid(cmd)
+    }
+
+    // What register `r` names.
+    pub(crate) fn register(&self, r: u8) -> Option<u16>
+        requires { r < length (has self.now).registers }
+        ensures { result ≡ register (has self.now) r }
+    {
+        self.machine.register(r)
+    }
+
+    // The epoch that it is in.
+    pub(crate) fn epoch(&self) -> u32
+        ensures { result ≡ (has self.now).epoch }
+    {
+        self.machine.epoch()
+    }
+
+    // Its number.
+    pub(crate) fn number(&self) -> u8
+        ensures { result ≡ (has self.now).number }
+    {
+        self.machine.number()
+    }
+
+    /// Begins a work and makes its steps to the end.
+    pub fn work(&mut self, board: &Board, work: Work) -> Made
+        requires own { IsOf board.now.table.shared.table_id board.now.table.shared.key.value self.old }
+        requires world { IsWorld board.now.table.shared.key.value }
+        requires may { MayGo (has self.old) (Some work) }
+
+        ensures grows { Works work self.old.log self.new.log × (self.new ≡ record self.old { log = self.new.log }) }
+        ensures answer { answer_of (has self.new) ≡ Some result }
+        ensures idle { is_busy (has self.new) ≡ false }
+        ensures work { work_of (has self.new) ≡ Some work }
+        ensures told { IsTold (has self.new).phase }
+        ensures same { KeepsSizes (has self.old) (has self.new) }
+        // A command's refusals have their causes in the list.
+        ensures causes { (cmd : Command) (told : Answers) → work ≡ works.Command cmd → result ≡ makes.Answered told → IsAnswered (has self.old) cmd self.old.log self.new.log (has self.new) told }
+    {
+        self.step(board, Some(work));
+        loop {
+            if let Some(made) = self.answer() {
+                return made;
+            }
+            self.step(board, None);
+        }
+    }
+}

@@ -1,0 +1,125 @@
+//! The table.
+ghost use Rattle.std.specs.Prelude.{◌≡◌, ◌+◌, ◌<◌, ◌^◌, length};
+ghost use Rattle.std.specs.Prelude.{◌≤◌, IfOk, IfErr, map, [], All, vec_capacity};
+ghost use Rattle.rec_table.specs.Ends.{IsRunOf};
+ghost use Rattle.rec_table.specs.Held.{gathers_now, IsOwn};
+ghost use mathlib.Core.Option.{some};
+ghost use Rattle.rec_collector.specs.Step.{IsBetween};
+ghost use Rattle.rec_table.specs.Homes.{homes_of};
+ghost use Rattle.rec_core.specs.Row.{row, index_of};
+ghost use Rattle.rec_table.specs.Rule.{boxes_out, first_view};
+ghost use Rattle.rec_core.specs.Core.{cells_of};
+ghost use Rattle.rec_world.specs.World.{IsWorld};
+
+use crate::collector::Collector;
+use crate::rule::Running;
+use crate::views::View;
+use atomic_table::{Refused, Table};
+use rec_collector::Machine;
+use rec_log::Buffer;
+use rec_word::Op;
+use rec_world::World;
+use std::alloc::Global;
+use std::snapshot::Snapshot;
+
+#[derive(Drop)]
+pub struct Board {
+    pub(crate) table: Table<Option<Buffer>, View, Snapshot<World>, Running, Global>,
+    pub(crate) places: usize,
+    pub(crate) slots: usize,
+    pub ghost wide: { (places ≡ length table.shared.key.value.words) × (slots ≡ length table.shared.key.value.headers) × (table.shared.table_id.words ≡ places + slots + 2 + length table.shared.key.value.crossing) × (table.shared.table_id.words < 2 ^ 63) },
+}
+
+impl Board {
+    // Where the word of an operation stands.
+    pub(crate) fn index(&self, op: Op) -> usize
+        ensures { result ≡ index_of (length self.now.table.shared.key.value.words) (length self.now.table.shared.key.value.headers) op }
+    {
+        let places = self.places;
+        let slots = self.slots;
+        match op {
+            Op::LoadField(place)
+            | Op::SwapField(place, _)
+            | Op::LoadChild(place)
+            | Op::ClearField(place) => place as usize,
+            Op::LoadHeader(slot) | Op::ClaimHeader(slot, _) | Op::FreeHeader(slot) => places
+                + usize::from(slot),
+            Op::LoadEpoch | Op::StoreEpoch(_) => places + slots,
+            Op::LoadFreed | Op::AddFreed => places + slots + 1,
+            Op::LoadCross(t)
+            | Op::TakeBox(t, _)
+            | Op::GiveBox(t, _)
+            | Op::LookBox(t, _)
+            | Op::ReturnBox(t, _) => places + slots + 1 + usize::from(t),
+        }
+    }
+
+    /// Puts the words and the mailboxes of a world on a table. Where memory is short all comes back.
+    pub(crate) fn open(
+        alloc: Global,
+        words: &[u64],
+        boxes: Vec<Option<Buffer>>,
+        places: usize,
+        slots: usize,
+        machine: Machine,
+        opened: Snapshot<Machine>,
+        was: &Snapshot<World>,
+    ) -> Result<(Board, Collector), (Vec<Option<Buffer>>, Machine)>
+        requires world { IsWorld was.now.value }
+        requires words { words.now ≡ row (cells_of was.now.value) }
+        requires home { map some boxes.items ≡ homes_of was.now.value.crossing was.now.value.boxes }
+        requires sizes { (places ≡ length was.now.value.words) × (slots ≡ length was.now.value.headers) × (length words.now < 2 ^ 63) }
+        requires collector { (machine ≡ opened.value) × (opened.value ≡ was.now.value.collector) × (boxes_out machine ≡ []) × IsBetween machine.phase }
+
+        ensures ok { IfOk result (λ r. (r.0.table.shared.key ≡ was.now) × (r.1 ≡ record { table = r.0.table.shared.table_id; opened = was.now.value.collector; crew = record { log = []; made = 0; known = [] } })) }
+        ensures sizes { IfOk result (λ r. (r.0.table.shared.table_id.words ≡ length words.now) × (r.0.table.shared.table_id.slots ≡ length boxes.items)) }
+        ensures err { IfErr result (λ r. (r.0.items ≡ boxes.items) × (r.1 ≡ machine)) }
+    {
+        match Table::new(alloc, words, boxes, was) {
+            Ok((table, seat)) => Ok((
+                Board {
+                    table,
+                    places,
+                    slots,
+                },
+                Collector::sat(machine, opened, seat),
+            )),
+            Err(Refused { slots }) => Err((slots, machine)),
+        }
+    }
+
+    /// Takes the words and the mailboxes off the table. All seats but the collector's were taken in.
+    pub(crate) fn close(
+        self,
+        collector: Collector,
+        words: &mut Vec<u64>,
+        boxes: &mut Vec<Option<Buffer>>,
+    ) -> Machine
+        requires own { IsOwn self.table.shared.table_id self.table.shared.key.value collector }
+        requires seats { (collector.crew.made ≡ self.table.shared.key.value.config.mutators) × (length collector.crew.known ≡ self.table.shared.key.value.config.mutators) }
+        requires none { boxes_out (gathers_now collector) ≡ [] }
+        requires room { (words.old.items ≡ []) × (self.table.shared.table_id.words ≤ vec_capacity words.old) }
+        requires room_boxes { (boxes.old.items ≡ []) × (self.table.shared.table_id.slots ≤ vec_capacity boxes.old) }
+
+        ensures machine { result ≡ gathers_now collector }
+        ensures run { IsRunOf self.table.shared.key.value collector.crew words.new.items boxes.new.items }
+    {
+        let count = self.table.word_count();
+        let slots = self.table.slot_count();
+        let (machine, seat) = collector.stood();
+        let Board {
+            table,
+            places: _,
+            slots: _,
+        } = self;
+        let mut closed = table.close_with(seat);
+        for i in 0..count {
+            words.push_reserved(closed.word(i));
+        }
+        for k in 0..slots {
+            boxes.push_reserved(closed.take(k));
+        }
+        closed.free();
+        machine
+    }
+}

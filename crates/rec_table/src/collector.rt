@@ -1,0 +1,267 @@
+//! The collector on the table.
+ghost use Rattle.std.specs.Prelude.{◌≡◌, ℕ, ◌+◌, ◌%◌, ◌^◌, ◌<◌, ◌≤◌, ◌↔◌, IsTrue, [], ◌∷◌, ◌++◌, false, length, Some, None, Option};
+ghost use Rattle.rec_collector.specs.Causes.{HasCause};
+ghost use Rattle.rec_collector.specs.Given.{IsGiven};
+ghost use Rattle.rec_collector.specs.Kept.{IsMachine, KeepsSizes};
+ghost use Rattle.rec_collector.specs.Next.{next_of as turn_next};
+ghost use Rattle.rec_collector.specs.Step.{IsBetween as IsBetweenTurns};
+ghost use Rattle.rec_collector.specs.Took.{took_of, turn_of};
+ghost use Rattle.rec_collector.specs.declared.phase.Phase.TheVariants as phases;
+ghost use Rattle.rec_table.specs.Beats.{gathered, gathered_all, births_told};
+ghost use Rattle.rec_table.specs.Held.{gathers, gathers_now, has, IsCollectorOf, IsOwn, PutsBack};
+ghost use Rattle.rec_core.specs.Row.{index_of};
+ghost use Rattle.rec_table.specs.Rule.{boxes_out, crew_of, IsReturnOp, crew_more, word_of, NotLooking};
+ghost use Rattle.rec_table.specs.declared.views.Beat.{Beat as Beats};
+ghost use Rattle.rec_table.specs.declared.views.Beat.TheVariants.{Saw};
+ghost use Rattle.rec_table.specs.declared.views.View.TheVariants.{Collects};
+ghost use Rattle.rec_word.specs.declared.op.Op.{Op as Ops};
+ghost use Rattle.rec_word.specs.declared.op.Op.TheVariants as ops;
+ghost use Rattle.rec_mutator.specs.Private.{is_busy};
+ghost use Rattle.rec_core.specs.Core.{mutator};
+ghost use Rattle.rec_world.specs.World.{IsWorld};
+
+use crate::actor::Actor;
+use crate::board::Board;
+use crate::heap::Heap;
+use crate::rule::{Looked, Returned, Seats, Turned, Turning};
+use crate::views::View;
+use atomic_table::Seat;
+use rec_collector::{Machine, Sets, Turn};
+use rec_log::Buffer;
+use rec_mutator::Machine as Mutators;
+use rec_word::{Mailbox, Op, crossing};
+use rec_world::swap_gathered;
+use std::marker::{Brand, Model};
+use std::snapshot::Snapshot;
+
+#[derive(Drop)]
+pub struct Collector {
+    machine: Machine,
+    opened: Snapshot<Machine>,
+    seat: Seat<Option<Buffer>, View>,
+}
+
+impl Model for Collector {
+    ghost use Rattle.std.specs.Prelude.{◌≡◌};
+    ghost use Rattle.rec_collector.specs.Kept.{KeepsSizes};
+    ghost use Rattle.rec_collector.specs.Step.{IsBetween};
+    ghost use Rattle.rec_table.specs.declared.views.View.TheVariants.{Collects};
+    ghost use Rattle.rec_table.specs.Beats.{gathered_all};
+    ghost use Rattle.rec_table.specs.Held.{Gathers, gathers};
+    ghost use Rattle.rec_table.specs.Rule.{crew_of, boxes_out};
+
+    ghost Value = { Gathers };
+
+    ghost view = { λ m. gathers m.seat.table_id m.opened.value (crew_of m.seat.me.0) };
+
+    ghost invariant = { λ m. (m.seat.me ≡ (Collects (crew_of m.seat.me.0), boxes_out m.machine)) × (m.machine ≡ gathered_all m.opened.value (crew_of m.seat.me.0).log) × KeepsSizes m.opened.value m.machine × IsBetween m.machine.phase };
+}
+
+// Makes the operation of a turn that looks at no mailbox, and no more.
+fn make_turn<W: Turning>(board: &Board, seat: &mut Seat<Option<Buffer>, View>, op: Op) -> u64
+    requires table { seat.old.table_id ≡ board.now.table.shared.table_id }
+    requires seat { seat.old.me ≡ (Collects (crew_of seat.old.me.0), boxes_out W.actor) }
+    requires actor { W.actor ≡ gathered_all board.now.table.shared.key.value.collector (crew_of seat.old.me.0).log }
+    requires between { IsBetweenTurns W.actor.phase }
+    requires looks { NotLooking W.actor.phase }
+    requires op { turn_next W.actor ≡ Some op }
+    requires there { index_of (length board.now.table.shared.key.value.words) (length board.now.table.shared.key.value.headers) op < board.now.table.shared.table_id.words }
+    ensures seat { (seat.new.table_id ≡ seat.old.table_id) × (seat.new.id ≡ seat.old.id) }
+    ensures view { seat.new.me ≡ (Collects (crew_more (crew_of seat.old.me.0) (Saw result)), []) }
+    ensures given { IsGiven W.actor result }
+{
+    let shared = &board.table.shared;
+    let word = board.index(op);
+    match op {
+        Op::LoadChild(_) => shared.load::<Turned<W>>(seat, word),
+        Op::ClearField(_) | Op::FreeHeader(_) => shared.swap::<Turned<W>>(seat, word, 0),
+        Op::StoreEpoch(epoch) => shared.swap::<Turned<W>>(seat, word, u64::from(epoch)),
+        Op::AddFreed => shared.fetch_add::<Turned<W>>(seat, word, 1),
+        Op::ReturnBox(_, epoch) => shared.swap::<Returned<W>>(seat, word, crossing(epoch, Mailbox::Spare)),
+        _ => unreachable!(),
+    }
+}
+
+// Looks at the mailbox of mutator `t`: where it is home with what was retired, it is taken, and a spare comes into it.
+fn look<W: Turning>(
+    board: &Board,
+    seat: &mut Seat<Option<Buffer>, View>,
+    machine: &mut Machine,
+    t: u8,
+    epoch: u32,
+) -> Turn
+    requires table { seat.old.table_id ≡ board.now.table.shared.table_id }
+    requires seat { seat.old.me ≡ (Collects (crew_of seat.old.me.0), []) }
+    requires actor { (W.actor ≡ machine.old) × (W.number ≡ t) × (machine.old ≡ gathered_all board.now.table.shared.key.value.collector (crew_of seat.old.me.0).log) }
+    requires phase { (machine.old.phase ≡ phases.Looking t) × (machine.old.epoch ≡ epoch) × (1 ≤ t) }
+    requires there { index_of (length board.now.table.shared.key.value.words) (length board.now.table.shared.key.value.headers) (ops.LookBox t epoch) < board.now.table.shared.table_id.words }
+    ensures seat { (seat.new.table_id ≡ seat.old.table_id) × (seat.new.id ≡ seat.old.id) }
+    ensures turned { (b : Beats) × (seat.new.me ≡ (Collects (crew_more (crew_of seat.old.me.0) b), boxes_out machine.new)) × (machine.new ≡ gathered machine.old b) × (result ≡ turn_of machine.old (word_of b)) }
+    ensures same { KeepsSizes machine.old machine.new }
+    ensures between { IsBetweenTurns machine.new.phase }
+{
+    let shared = &board.table.shared;
+    let word = board.index(Op::LookBox(t, epoch));
+    let due = crossing(epoch, Mailbox::Retired);
+    let found = shared.compare_exchange::<Looked<W>>(seat, word, due, crossing(epoch, Mailbox::WithCollector));
+    let turn = machine.took(found);
+    if found == due {
+        let mailbox = seat.slot_mut(shared, usize::from(t) - 1);
+        swap_gathered(machine, mailbox);
+    }
+    turn
+}
+
+// Whether the operation gives a mailbox back.
+fn gives_back(op: Op) -> bool
+    ensures { IsTrue result ↔ IsReturnOp op }
+{
+    match op {
+        Op::ReturnBox(_, _) => true,
+        _ => false,
+    }
+}
+
+impl Collector {
+    // The collector as the heap is started.
+    pub(crate) fn sat(
+        machine: Machine,
+        opened: Snapshot<Machine>,
+        seat: Seat<Option<Buffer>, View>,
+    ) -> Collector
+        requires seat { (seat.me ≡ (Collects (crew_of seat.me.0), boxes_out machine)) × ((crew_of seat.me.0).log ≡ []) }
+        requires machine { (machine ≡ opened.value) × IsBetweenTurns machine.phase }
+        ensures { result ≡ gathers seat.table_id opened.value (crew_of seat.me.0) }
+    {
+        Collector {
+            machine,
+            opened,
+            seat,
+        }
+    }
+
+    // Its machine and its seat, where it holds no mailbox.
+    pub(crate) fn stood(self) -> (Machine, Seat<Option<Buffer>, View>)
+        ensures machine { result.0 ≡ gathers_now self }
+        ensures seat { (result.1.table_id ≡ self.table) × (result.1.me.0 ≡ Collects self.crew) }
+    {
+        let Collector {
+            machine,
+            opened: _,
+            seat,
+        } = self;
+        (machine, seat)
+    }
+
+    // One turn.
+    pub(crate) fn turn_on(&mut self, board: &Board) -> Turn
+        requires own { IsOwn board.now.table.shared.table_id board.now.table.shared.key.value self.old }
+        requires world { IsWorld board.now.table.shared.key.value }
+
+        ensures spent { turn_next (gathers_now self.old) ≡ None → (self.new ≡ self.old) × (result ≡ Turn.EpochsSpent) }
+        ensures turned { (op : Ops) → turn_next (gathers_now self.old) ≡ Some op → (b : Beats) × (self.new ≡ record self.old { crew = crew_more self.old.crew b }) × (gathers_now self.new ≡ gathered (gathers_now self.old) b) × (result ≡ turn_of (gathers_now self.old) (word_of b)) }
+        ensures cause { (word : ℕ) → result ≡ turn_of (gathers_now self.old) word → HasCause (gathers_now self.old) word (took_of (gathers_now self.old) word) result }
+        ensures same { self.new ≡ record self.old { crew = record self.old.crew { log = self.new.crew.log } } }
+        // No turn but a look at a mailbox ends with one held.
+        ensures free { NotLooking (gathers_now self.old).phase → boxes_out (gathers_now self.new) ≡ [] }
+    {
+        let _turns = self.machine.turns();
+        let Some(op) = self.machine.next() else {
+            return Turn::EpochsSpent;
+        };
+        match op {
+            Op::LookBox(t, epoch) => {
+                look::<Brand>(board, &mut self.seat, &mut self.machine, t, epoch)
+            }
+            _ => {
+                let word = make_turn::<Brand>(board, &mut self.seat, op);
+                self.machine.took(word)
+            }
+        }
+    }
+
+    /// Makes one turn of the collector: one step of its collection, on the word that this names. It waits for a mutator that hasn't
+    /// crossed into the requested epoch, and stops for good where the next request would be epoch 16,777,216.
+    pub fn turn(&mut self, heap: &Heap) -> Turn
+        requires own { IsCollectorOf heap.now self.old }
+
+        // Its list grows by the word found, and by what the mailbox held where it took one; its record and the answer follow.
+        ensures spent { turn_next (gathers_now self.old) ≡ None → (self.new ≡ self.old) × (result ≡ Turn.EpochsSpent) }
+        ensures turned { (op : Ops) → turn_next (gathers_now self.old) ≡ Some op → (b : Beats) × (self.new ≡ record self.old { crew = crew_more self.old.crew b }) × (gathers_now self.new ≡ gathered (gathers_now self.old) b) × (result ≡ turn_of (gathers_now self.old) (word_of b)) }
+
+        // Why each answer comes, by the word found.
+        ensures cause { (word : ℕ) → result ≡ turn_of (gathers_now self.old) word → HasCause (gathers_now self.old) word (took_of (gathers_now self.old) word) result }
+
+        // It stays the collector of this heap.
+        ensures own { IsCollectorOf heap.now self.new }
+        ensures same { self.new ≡ record self.old { crew = record self.old.crew { log = self.new.crew.log } } }
+    {
+        self.turn_on(heap.board())
+    }
+
+    /// What became of the sets of possible garbage cycles that were tested since the opening.
+    pub fn sets(&self) -> Sets
+        ensures { result ≡ (gathers_now self.now).sets }
+    {
+        self.machine.sets()
+    }
+
+    /// The epoch that it requested last.
+    pub fn epoch(&self) -> u32
+        ensures { result ≡ (gathers_now self.now).epoch }
+    {
+        self.machine.epoch()
+    }
+
+    // Gives back a mailbox that it holds, by a turn.
+    pub(crate) fn put_back(&mut self, board: &Board)
+        requires own { IsOwn board.now.table.shared.table_id board.now.table.shared.key.value self.old }
+        requires world { IsWorld board.now.table.shared.key.value }
+
+        ensures none { boxes_out (gathers_now self.new) ≡ [] }
+        ensures returned { PutsBack self.old self.new }
+    {
+        let _turns = self.machine.turns();
+        let Some(op) = self.machine.next() else {
+            return;
+        };
+        if gives_back(op) {
+            self.turn_on(board);
+        }
+    }
+
+    // Makes the seat of the next mutator.
+    pub(crate) fn seat_next(
+        &mut self,
+        board: &Board,
+        machine: Mutators,
+        opened: Snapshot<Mutators>,
+    ) -> Actor
+        requires own { IsOwn board.now.table.shared.table_id board.now.table.shared.key.value self.old }
+        requires world { IsWorld board.now.table.shared.key.value }
+        requires room { self.old.crew.made < board.now.table.shared.key.value.config.mutators }
+        requires machine { (machine ≡ opened.value) × (opened.value ≡ mutator board.now.table.shared.key.value (self.old.crew.made + 1)) }
+        requires idle { is_busy machine ≡ false }
+
+        ensures actor { result ≡ record { table = self.old.table; number = self.old.crew.made + 1; opened = opened.value; log = [] } }
+        ensures is { self.new ≡ record self.old { crew = record self.old.crew { made = self.old.crew.made + 1 } } }
+    {
+        let seat = board.table.shared.split_seat::<Seats>(&mut self.seat);
+        Actor::sat(machine, opened, seat)
+    }
+
+    // Takes in the list of the next mutator, and gives its machine and its births.
+    pub(crate) fn take_in(&mut self, board: &Board, other: Actor) -> (Mutators, u64)
+        requires table { (self.old.table ≡ board.now.table.shared.table_id) × (other.table ≡ board.now.table.shared.table_id) }
+        requires number { other.number ≡ length self.old.crew.known + 1 }
+        requires idle { is_busy (has other) ≡ false }
+
+        ensures machine { result.0 ≡ has other }
+        ensures births { result.1 ≡ births_told other.opened other.log % 2 ^ 64 }
+        ensures is { self.new ≡ record self.old { crew = record self.old.crew { known = self.old.crew.known ++ other.log ∷ [] } } }
+    {
+        let (machine, births, seat) = other.stood();
+        board.table.shared.join_seat::<Seats>(&mut self.seat, seat);
+        (machine, births)
+    }
+}

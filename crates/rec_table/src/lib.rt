@@ -1,0 +1,34 @@
+//! The running heap: a world whose mutators and whose collector are carried on by threads of their own.
+//!
+//! `Heap::start` moves a world's words and mailboxes onto an atomic table of the kit, and gives an end for each actor: a `Mutator`
+//! for each of the world's, and the `Collector`. An end makes the steps of its machine: it looks which operation comes next, carries
+//! that out as one atomic operation of the table, and its machine learns the word found. No call of an end takes memory, a lock or
+//! a handle, or waits. `Heap::stop` takes all ends back, and gives the world that the heap has become.
+//! The rule that the table keeps: there is one run of the core from the started world, whose last state has the table's words and
+//! mailboxes; and each end's list, of the works that it began and the words that its steps found, is its own moves in that run, each
+//! once and in order. An operation appends one move to it, whatever other threads do between.
+//! The layer above may use the contracts of `Heap`, `Mutator` and `Collector` and the definitions of `specs/`: what a list makes up
+//! (`Beats`), why a command was answered so (`Answered`), which lines a list tells (`Journals`), and what the world is that stopping
+//! gives (`Ends`).
+//! What `stop` promises of all lists rests on the laws of `rec_core` and on the legal order of every run, in `rec_order`.
+#![tactic(auto)]
+
+mod actor;
+mod board;
+mod collector;
+mod heap;
+mod mutator;
+mod rule;
+mod seating;
+mod spare;
+#[cfg(test)]
+mod tests;
+mod views;
+
+pub use actor::Actor;
+pub use board::Board;
+pub use collector::Collector;
+pub use heap::Heap;
+pub use mutator::Mutator;
+pub use rule::{Doing, Gives, Looked, Makes, Returned, Running, Takes, Tries, Turned, Turning};
+pub use views::{Beat, Crew, Seated, View};

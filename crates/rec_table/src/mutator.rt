@@ -1,0 +1,130 @@
+//! A mutator of a running heap.
+ghost use Rattle.std.specs.Prelude.{◌≡◌, ◌<◌, ℕ, Some, false, length, IsTrue, ◌↔◌};
+ghost use Rattle.rec_mutator.specs.Private.{is_busy, answer_of, register, IsValid, KeepsSizes};
+ghost use Rattle.rec_mutator.specs.declared.made.Made.TheVariants as makes;
+ghost use Rattle.rec_mutator.specs.declared.work.Work.TheVariants as works;
+ghost use Rattle.rec_table.specs.Answered.{IsAnswered};
+ghost use Rattle.rec_table.specs.Held.{has, IsMutatorOf, Works};
+ghost use Rattle.rec_core.specs.Config.{HasLabel};
+
+use crate::actor::Actor;
+use crate::heap::Heap;
+use rec_model::{Cmd, Told};
+use rec_mutator::{Made, Work};
+use std::marker::Model;
+
+/// A mutator of a running heap, which one thread at a time carries on. Between two calls it has no unfinished work.
+#[derive(Drop)]
+pub struct Mutator {
+    actor: Actor,
+}
+
+impl Model for Mutator {
+    ghost use Rattle.std.specs.Prelude.{◌≡◌, false};
+    ghost use Rattle.rec_mutator.specs.Private.{is_busy};
+    ghost use Rattle.rec_table.specs.Held.{Held, has};
+
+    ghost Value = { Held };
+
+    ghost view = { λ m. m.actor };
+
+    ghost invariant = { λ m. is_busy (has m.actor) ≡ false };
+}
+
+impl Mutator {
+    // The mutator of an actor that has no unfinished work.
+    pub(crate) fn of(actor: Actor) -> Mutator
+        requires { is_busy (has actor) ≡ false }
+        ensures { result ≡ actor }
+    {
+        Mutator { actor }
+    }
+
+    // Its actor.
+    pub(crate) fn into_actor(self) -> Actor
+        ensures actor { result ≡ self }
+        ensures idle { is_busy (has result) ≡ false }
+    {
+        let Mutator { actor } = self;
+        actor
+    }
+
+    /// Carries out a command, and tells the answer with the field words that it saw and left.
+    pub fn command(&mut self, heap: &Heap, cmd: Cmd) -> Told
+        requires own { IsMutatorOf heap.now self.old }
+        requires valid { IsValid (has self.old) (works.Command cmd) }
+
+        // Its list grows by the command and its steps, and what is told is the answer that the list makes up.
+        ensures grows { Works (works.Command cmd) self.old.log self.new.log }
+        ensures is { self.new ≡ record self.old { log = self.new.log } }
+        ensures answer { answer_of (has self.new) ≡ Some (makes.Answered result) }
+
+        // Each refusal has its cause in the list: Full and Busy come where each probe found a taken header, between the first and the
+        // last look at the freed word.
+        ensures causes { IsAnswered (has self.old) cmd self.old.log self.new.log (has self.new) result }
+        ensures idle { is_busy (has self.new) ≡ false }
+        ensures same { KeepsSizes (has self.old) (has self.new) }
+    {
+        let work = Work::Command(cmd);
+        see_label(work);
+        match self.actor.work(heap.board(), work) {
+            Made::Answered(told) => told,
+            Made::Crossed(_) => unreachable!(),
+        }
+    }
+
+    /// Looks at the epoch word, and crosses into the requested epoch where it is another one. The answer is that epoch, or
+    /// `None` where the mutator is in it already.
+    pub fn poll(&mut self, heap: &Heap) -> Option<u32>
+        requires own { IsMutatorOf heap.now self.old }
+
+        ensures grows { Works works.Poll self.old.log self.new.log }
+        ensures is { self.new ≡ record self.old { log = self.new.log } }
+        ensures answer { answer_of (has self.new) ≡ Some (makes.Crossed result) }
+        ensures idle { is_busy (has self.new) ≡ false }
+        ensures same { KeepsSizes (has self.old) (has self.new) }
+    {
+        match self.actor.work(heap.board(), Work::Poll) {
+            Made::Crossed(epoch) => epoch,
+            Made::Answered(_) => unreachable!(),
+        }
+    }
+
+    /// Whether it may ask this: the registers and the field are there.
+    pub fn valid(&self, cmd: &Cmd) -> bool
+        ensures { IsTrue result ↔ IsValid (has self.now) (works.Command cmd.now) }
+    {
+        self.actor.valid(cmd)
+    }
+
+    /// What register `r` names.
+    pub fn register(&self, r: u8) -> Option<u16>
+        requires { r < length (has self.now).registers }
+        ensures { result ≡ register (has self.now) r }
+    {
+        self.actor.register(r)
+    }
+
+    /// The epoch that it is in.
+    pub fn epoch(&self) -> u32
+        ensures { result ≡ (has self.now).epoch }
+    {
+        self.actor.epoch()
+    }
+
+    /// Its number, from 1.
+    pub fn number(&self) -> u8
+        ensures { result ≡ (has self.now).number }
+    {
+        self.actor.number()
+    }
+}
+
+// The label of an allocation fits a header.
+fn see_label(work: Work)
+    ensures { HasLabel work }
+{
+    if let Work::Command(Cmd::New { label, .. }) = work {
+        prove!(label <= u32::MAX);
+    }
+}

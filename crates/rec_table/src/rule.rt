@@ -1,0 +1,146 @@
+//! The rule of the table, and what its steps tell.
+
+use crate::views::View;
+use atomic_table::{Join, Play, Split, TableRule};
+use rec_log::Buffer;
+use rec_world::World;
+use std::marker::{Brand, PhantomData};
+use std::snapshot::Snapshot;
+
+pub struct Running;
+
+impl TableRule<Option<Buffer>, View, Snapshot<World>> for Running {
+    ghost use Rattle.rec_table.specs.Rule.{Holds, first_view};
+
+    ghost holds = { λ key s. Holds key.value s };
+
+    ghost first = { λ key. first_view };
+}
+
+/// The record with which a step is made, and the work that begins first. Each call picks them.
+pub trait Doing {
+    ghost use Rattle.std.specs.Prelude.{Option};
+    ghost use Rattle.rec_mutator.specs.Private.{Private};
+    ghost use Rattle.rec_mutator.specs.declared.work.Work.{Work};
+
+    ghost actor: { Private };
+
+    ghost work: { Option Work };
+}
+
+impl Doing for Brand {
+    ghost use Rattle.std.specs.Prelude.{None};
+    ghost use Rattle.rec_core.specs.Core.{nobody};
+
+    ghost actor = { nobody };
+
+    ghost work = { None };
+}
+
+pub struct Makes<W: Doing> {
+    of: PhantomData<W>,
+}
+
+impl<W: Doing> Play<Option<Buffer>, View> for Makes<W> {
+    ghost use Rattle.rec_table.specs.Rule.{MadeBy};
+
+    ghost then = { MadeBy W.actor W.work };
+}
+
+pub struct Takes<W: Doing> {
+    of: PhantomData<W>,
+}
+
+impl<W: Doing> Play<Option<Buffer>, View> for Takes<W> {
+    ghost use Rattle.rec_table.specs.Rule.{TakenBy};
+
+    ghost then = { TakenBy W.actor };
+}
+
+pub struct Gives<W: Doing> {
+    of: PhantomData<W>,
+}
+
+impl<W: Doing> Play<Option<Buffer>, View> for Gives<W> {
+    ghost use Rattle.rec_table.specs.Rule.{GivenBy};
+
+    ghost then = { GivenBy W.actor };
+}
+
+pub struct Tries<W: Doing> {
+    of: PhantomData<W>,
+}
+
+impl<W: Doing> Play<Option<Buffer>, View> for Tries<W> {
+    ghost use Rattle.rec_table.specs.Rule.{ProbedBy};
+
+    ghost then = { ProbedBy W.actor };
+}
+
+/// The collector's record with which a turn is made, and whose mailbox is looked at. Each call picks them.
+pub trait Turning {
+    ghost use Rattle.std.specs.Prelude.{ℕ};
+    ghost use Rattle.rec_collector.specs.Private.{Private};
+
+    ghost actor: { Private };
+
+    ghost number: { ℕ };
+}
+
+impl Turning for Brand {
+    ghost use Rattle.rec_table.specs.Rule.{no_collector};
+
+    ghost actor = { no_collector };
+
+    ghost number = { 0 };
+}
+
+pub struct Turned<W: Turning> {
+    of: PhantomData<W>,
+}
+
+impl<W: Turning> Play<Option<Buffer>, View> for Turned<W> {
+    ghost use Rattle.rec_table.specs.Rule.{TurnedBy};
+
+    ghost then = { TurnedBy W.actor };
+}
+
+pub struct Looked<W: Turning> {
+    of: PhantomData<W>,
+}
+
+impl<W: Turning> Play<Option<Buffer>, View> for Looked<W> {
+    ghost use Rattle.rec_table.specs.Rule.{LookedBy};
+
+    ghost then = { LookedBy W.actor W.number };
+}
+
+pub struct Returned<W: Turning> {
+    of: PhantomData<W>,
+}
+
+impl<W: Turning> Play<Option<Buffer>, View> for Returned<W> {
+    ghost use Rattle.rec_table.specs.Rule.{ReturnedBy};
+
+    ghost then = { ReturnedBy W.actor };
+}
+
+/// The first seat makes the seats of the mutators, and takes them in.
+pub struct Seats;
+
+impl Split<View> for Seats {
+    ghost use Rattle.rec_table.specs.Rule.{without, newcomer};
+
+    ghost left = { without };
+
+    ghost right = { newcomer };
+}
+
+impl Join<View> for Seats {
+    ghost use Rattle.rec_table.specs.declared.views.View.TheVariants.{Spent};
+    ghost use Rattle.rec_table.specs.Rule.{joined};
+
+    ghost both = { joined };
+
+    ghost spent = { Spent };
+}
