@@ -25,8 +25,6 @@ mod spare;
 mod tests;
 mod views;
 
-pub use actor::Actor;
-pub use board::Board;
 pub use collector::Collector;
 pub use heap::Heap;
 pub use mutator::Mutator;

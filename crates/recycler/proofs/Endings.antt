@@ -1,11 +1,14 @@
 -- How a run ends, from what its parts tell.
-use Rattle.std.proofs.Common.{◌≡◌, ◌⊎◌, inl, inr, ℕ, ◌+◌, ◌<◌, ◌≤◌, Bool, List, [], ◌++◌, Option, None, Some, Result, Ok, Err, length, refl, sym, ap, subst, ◌∙◌, arith}
+use Rattle.std.proofs.Common.{◌≡◌, ◌≢◌, ◌⊎◌, inl, inr, ℕ, ◌+◌, ◌<◌, ◌≤◌, Bool, List, [], ◌++◌, Option, None, Some, Result, Ok, Err, length, refl, sym, ap, subst, ◌∙◌, arith}
 use Rattle.std.specs.Result.{IfOk}
 use Rattle.std.proofs.lemmas.Bool.{cases_lt}
 use Rattle.std.proofs.lemmas.List.{append-nil, length-append}
 use Rattle.rec_io.specs.Faults.{Rose}
 use Rattle.rec_io.specs.Sink.{Appends}
 use Rattle.rec_io.specs.Source.{Passes}
+use Rattle.rec_io.specs.Told.{KeepsTold}
+use Rattle.rec_io.proofs.Faults.{rose_since}
+use Rattle.rec_io.proofs.Told.{untold}
 use Rattle.rec_model.specs.LegalOrder.{Line, Event, actors}
 use Rattle.rec_model.specs.Listing.{Row, ListsSlots}
 use Rattle.rec_model.specs.Sight.{StandsFor}
@@ -19,10 +22,12 @@ use Rattle.rec_script.specs.declared.error.Kind.{Kind}
 use Rattle.rec_script.specs.declared.error.ScriptError.{ScriptError}
 use Rattle.rec_script.specs.declared.error.ScriptError.TheVariants.{Bad}
 use Rattle.recycler.specs.CommandLine.{ReadsScript}
+use Rattle.recycler.specs.Ends.{Passage, Failed, Ends, passage}
 use Rattle.recycler.specs.Headline.{Are, HasRead, IsAnswer, Answers, PlaysTo, WroteAnswer, WroteFront, IsReadPast, ReadNoScript, run_text}
 use Rattle.rec_play.specs.Played.{IsPlayed, last_moment}
 use Rattle.rec_script.proofs.Refusing.{refused_no_text}
 use Rattle.rec_script.proofs.Uniqueness.{refused_once}
+use Rattle.recycler.specs.declared.command_line.Play.{Play}
 use Rattle.recycler.specs.declared.command_line.Request.{Request}
 use Rattle.recycler.specs.declared.command_line.Request.TheVariants as requests
 use Rattle.rec_script.specs.Script.{Contents, IsText, IsRefused}
@@ -38,10 +43,6 @@ all_read rest left bytes passes end whole told =
     let passed = passes whole told in
     let none : passed.left ≡ [] = some_same passed.left [] (sym passed.told ∙ end whole told) in
     passed.front ∙ ap (λ (more : List ℕ). bytes ++ more) none ∙ append-nil bytes
-
--- a source that tells nothing
-untold : (P : List ℕ → Type 0) (whole : List ℕ) → ◌≡◌ {A = Option (List ℕ)} None (Some whole) → P whole
-untold P whole told = cc
 
 -- bytes that were refused past the limit are refused with all that follow
 past_limit : (bytes more rest : List ℕ) (line : ℕ) (kind : Kind) → 16777216 < length bytes → rest ≡ bytes ++ more → IsRefused bytes line kind → IsRefused rest line kind
@@ -81,80 +82,120 @@ no_script (Some rest) left bytes line kind passes end refused =
           }
     ]
 
+-- what a source that was read to its end, or past a limit that a script keeps, gave
+read_out : (play : Play) (rest left : Option (List ℕ)) (bytes text : List ℕ) → Passes rest left bytes → (length bytes ≤ 16777216 → IsAtEnd rest left) → PlaysTo bytes play text
+    → HasRead (requests.Play play) rest left bytes
+read_out play rest left bytes text passes end answer = (all_read rest left bytes passes (end answer.short), end answer.short)
+
 -- a text was written whole
-pub wrote_answer : (seed turns : ℕ) (summary : Bool) (rest left before after : Option (List ℕ)) (bytes text : List ℕ) → Passes rest left bytes → (length bytes ≤ 16777216 → IsAtEnd rest left)
-    → PlaysTo bytes seed turns summary text → Appends before after text → WroteAnswer (requests.Play seed turns summary) rest left before after
-wrote_answer seed turns summary rest left before after bytes text passes end answer appends =
-    record {
-      bytes = bytes;
-      read = (all_read rest left bytes passes (end answer.short), end answer.short);
-      text = text;
-      answer = answer;
-      written = appends;
-    }
+pub wrote_answer : (play : Play) (rest left before after : Option (List ℕ)) (bytes text : List ℕ) → Passes rest left bytes → (length bytes ≤ 16777216 → IsAtEnd rest left)
+    → PlaysTo bytes play text → Appends before after text → WroteAnswer (requests.Play play) rest left before after
+wrote_answer play rest left before after bytes text passes end answer appends =
+    record { bytes = bytes; read = read_out play rest left bytes text passes end answer; text = text; answer = answer; written = appends }
 
 -- a front of a text was written
-pub wrote_front : (seed turns : ℕ) (summary : Bool) (rest left before after : Option (List ℕ)) (bytes text : List ℕ) → Passes rest left bytes → (length bytes ≤ 16777216 → IsAtEnd rest left)
-    → PlaysTo bytes seed turns summary text → (front back : List ℕ) × (text ≡ front ++ back) × Appends before after front
-    → WroteFront (requests.Play seed turns summary) rest left before after
-wrote_front seed turns summary rest left before after bytes text passes end answer (front, back, cut, appends) =
+pub wrote_front : (play : Play) (rest left before after : Option (List ℕ)) (bytes text : List ℕ) → Passes rest left bytes → (length bytes ≤ 16777216 → IsAtEnd rest left)
+    → PlaysTo bytes play text → (front back : List ℕ) × (text ≡ front ++ back) × Appends before after front
+    → WroteFront (requests.Play play) rest left before after
+wrote_front play rest left before after bytes text passes end answer (front, back, cut, appends) =
+    record { bytes = bytes; read = read_out play rest left bytes text passes end answer; text = text; answer = answer; front = front; back = back; cut = cut; written = appends }
+
+-- what was written stays written when it is passed on
+appends_kept : (before after later : Option (List ℕ)) (bytes : List ℕ) → Appends before after bytes → KeepsTold after later → Appends before later bytes
+appends_kept before after later bytes appends keeps written told = keeps (written ++ bytes) (appends written told)
+
+-- the whole answer is a front of it
+all_front : (request : Request) (rest left before after : Option (List ℕ)) → WroteAnswer request rest left before after → WroteFront request rest left before after
+all_front request rest left before after wrote =
     record {
-      bytes = bytes;
-      read = (all_read rest left bytes passes (end answer.short), end answer.short);
-      text = text;
-      answer = answer;
-      front = front;
-      back = back;
-      cut = cut;
-      written = appends;
+      bytes = wrote.bytes;
+      read = wrote.read;
+      text = wrote.text;
+      answer = wrote.answer;
+      front = wrote.text;
+      back = [];
+      cut = sym (append-nil wrote.text);
+      written = wrote.written;
     }
 
--- a script that is told is answered, unless a count rises or memory runs out
-pub completes : (status : Status) (rest left : Option (List ℕ)) (reads reads_after writes writes_after : ℕ)
-    → (status ≡ statuses.Usage → ⊥)
-    → ((line : ℕ) (kind : Kind) → status ≡ statuses.BadScript line kind → ReadNoScript rest left line kind)
-    → (status ≡ statuses.ReadFault → Rose reads reads_after) → (status ≡ statuses.WriteFault → Rose writes writes_after)
-    → (bytes : List ℕ) → rest ≡ Some bytes → IsText bytes → (Rose reads reads_after → ⊥) → (Rose writes writes_after → ⊥)
+-- A run that was done and passed on what it wrote is done, and one that could not has a fault of writing. Every other end stays.
+pub finished : {K : Type 0} (told : K → Option (List ℕ)) (faults : K → ℕ) (request : Request) (status result : Status) (source : Passage) (old wrote new : K)
+    → Ends request status source (passage told faults old wrote) → faults old ≤ faults wrote
+    → (status ≡ statuses.Done → (result ≡ statuses.Done) ⊎ ((result ≡ statuses.WriteFault) × Rose (faults wrote) (faults new)))
+    → (status ≡ statuses.Done → KeepsTold (told wrote) (told new))
+    → (status ≢ statuses.Done → (result ≡ status) × (new ≡ wrote))
+    → Ends request result source (passage told faults old new)
+finished told faults request statuses.Done result source old wrote new ends rises fault kept other =
+    let whole : WroteAnswer request source.before source.after (told old) (told new) =
+    record {
+      bytes = ends.bytes;
+      read = ends.read;
+      text = ends.text;
+      answer = ends.answer;
+      written = appends_kept (told old) (told wrote) (told new) ends.text ends.written (kept refl);
+    } in
+    elim (fault refl) [
+      | inl done ↦ subst (λ r. Ends request r source (passage told faults old new)) (sym done) whole
+      | inr (failed, rose) ↦
+          subst (λ r. Ends request r source (passage told faults old new)) (sym failed)
+          (rose_since (faults old) (faults wrote) (faults new) rises rose, all_front request source.before source.after (told old) (told new) whole)
+    ]
+finished told faults request statuses.Usage result source old wrote new ends rises fault kept other = absurd ends
+finished told faults request (statuses.BadScript line kind) result source old wrote new ends rises fault kept other =
+    subst (λ r. Ends request r source (passage told faults old new)) (sym (other (λ is. cc)).0) ends
+finished told faults request statuses.ReadFault result source old wrote new ends rises fault kept other =
+    subst (λ r. Ends request r source (passage told faults old new)) (sym (other (λ is. cc)).0) ends
+finished told faults request statuses.WriteFault result source old wrote new ends rises fault kept other =
+    let same = other (λ is. cc) in
+    subst (λ r. Ends request r source (passage told faults old new)) (sym same.0) (subst (λ k. Ends request statuses.WriteFault source (passage told faults old k)) (sym same.1) ends)
+finished told faults request statuses.NoMemory result source old wrote new ends rises fault kept other =
+    subst (λ r. Ends request r source (passage told faults old new)) (sym (other (λ is. cc)).0) ends
+
+-- a script that is told is answered, unless a call fails or memory runs out
+pub completes : (request : Request) (status : Status) (source sink : Passage) → Ends request status source sink
+    → (bytes : List ℕ) → source.before ≡ Some bytes → IsText bytes → (Failed source → ⊥) → (Failed sink → ⊥)
     → (status ≡ statuses.Done) ⊎ (status ≡ statuses.NoMemory)
-completes statuses.Done rest left reads reads_after writes writes_after usage bad read write bytes told text no_read no_write = inl refl
-completes statuses.NoMemory rest left reads reads_after writes writes_after usage bad read write bytes told text no_read no_write = inr refl
-completes statuses.Usage rest left reads reads_after writes writes_after usage bad read write bytes told text no_read no_write = absurd (usage refl)
-completes statuses.ReadFault rest left reads reads_after writes writes_after usage bad read write bytes told text no_read no_write = absurd (no_read (read refl))
-completes statuses.WriteFault rest left reads reads_after writes writes_after usage bad read write bytes told text no_read no_write = absurd (no_write (write refl))
-completes (statuses.BadScript line kind) rest left reads reads_after writes writes_after usage bad read write bytes told text no_read no_write =
-    let refused = bad line kind refl in
+completes request statuses.Done source sink ends bytes told text no_read no_write = inl refl
+completes request statuses.NoMemory source sink ends bytes told text no_read no_write = inr refl
+completes request statuses.Usage source sink ends bytes told text no_read no_write = absurd ends
+completes request statuses.ReadFault source sink ends bytes told text no_read no_write = absurd (no_read ends.1)
+completes request statuses.WriteFault source sink ends bytes told text no_read no_write = absurd (no_write ends.0)
+completes request (statuses.BadScript line kind) source sink ends bytes told text no_read no_write =
+    let refused = ends.1 in
     absurd (refused_no_text refused.bytes line kind refused.refused (subst IsText (refused.read bytes told) text))
 
 -- what is answered is the text of a script
 answered_text : (request : Request) (rest left : Option (List ℕ)) (bytes text told : List ℕ) → ReadsScript request → HasRead request rest left bytes → IsAnswer request bytes text
     → rest ≡ Some told → IsText told
-answered_text (requests.Play seed turns summary) rest left bytes text told reads read answer is =
-    subst IsText (sym (read.0 told is)) (answer.script, answer.short, answer.spelled)
-answered_text (requests.Make seed mutators commands) rest left bytes text told reads read answer is = absurd reads
+answered_text (requests.Play play) rest left bytes text told reads read answer is = subst IsText (sym (read.0 told is)) (answer.script, answer.short, answer.spelled)
+answered_text (requests.Make make) rest left bytes text told reads read answer is = absurd reads
 
--- a text that is told and is no script's is refused with its line and kind, unless a count rises or memory runs out
-pub refuses : (status : Status) (request : Request) (rest left before after : Option (List ℕ)) (reads reads_after : ℕ)
-    → ReadsScript request
-    → (status ≡ statuses.Usage → ⊥)
-    → ((line : ℕ) (kind : Kind) → status ≡ statuses.BadScript line kind → ReadNoScript rest left line kind)
-    → (status ≡ statuses.ReadFault → Rose reads reads_after)
-    → (status ≡ statuses.Done → WroteAnswer request rest left before after)
-    → (status ≡ statuses.WriteFault → WroteFront request rest left before after)
-    → (bytes : List ℕ) (line : ℕ) (kind : Kind) → rest ≡ Some bytes → IsRefused bytes line kind → (Rose reads reads_after → ⊥)
+-- a text that is told and is no script's is refused with its line and kind, unless a read fails or memory runs out
+pub refuses : (request : Request) (status : Status) (source sink : Passage) → Ends request status source sink → ReadsScript request
+    → (bytes : List ℕ) (line : ℕ) (kind : Kind) → source.before ≡ Some bytes → IsRefused bytes line kind → (Failed source → ⊥)
     → (status ≡ statuses.BadScript line kind) ⊎ (status ≡ statuses.NoMemory)
-refuses statuses.NoMemory request rest left before after reads reads_after is_read usage bad read done front bytes line kind told refused no_read = inr refl
-refuses statuses.Usage request rest left before after reads reads_after is_read usage bad read done front bytes line kind told refused no_read = absurd (usage refl)
-refuses statuses.ReadFault request rest left before after reads reads_after is_read usage bad read done front bytes line kind told refused no_read = absurd (no_read (read refl))
-refuses statuses.Done request rest left before after reads reads_after is_read usage bad read done front bytes line kind told refused no_read =
-    let wrote = done refl in
-    absurd (refused_no_text bytes line kind refused (answered_text request rest left wrote.bytes wrote.text bytes is_read wrote.read wrote.answer told))
-refuses statuses.WriteFault request rest left before after reads reads_after is_read usage bad read done front bytes line kind told refused no_read =
-    let wrote = front refl in
-    absurd (refused_no_text bytes line kind refused (answered_text request rest left wrote.bytes wrote.text bytes is_read wrote.read wrote.answer told))
-refuses (statuses.BadScript l k) request rest left before after reads reads_after is_read usage bad read done front bytes line kind told refused no_read =
-    let found = bad l k refl in
+refuses request statuses.NoMemory source sink ends is_read bytes line kind told refused no_read = inr refl
+refuses request statuses.Usage source sink ends is_read bytes line kind told refused no_read = absurd ends
+refuses request statuses.ReadFault source sink ends is_read bytes line kind told refused no_read = absurd (no_read ends.1)
+refuses request statuses.Done source sink wrote is_read bytes line kind told refused no_read =
+    absurd (refused_no_text bytes line kind refused (answered_text request source.before source.after wrote.bytes wrote.text bytes is_read wrote.read wrote.answer told))
+refuses request statuses.WriteFault source sink ends is_read bytes line kind told refused no_read =
+    let wrote = ends.1 in
+    absurd (refused_no_text bytes line kind refused (answered_text request source.before source.after wrote.bytes wrote.text bytes is_read wrote.read wrote.answer told))
+refuses request (statuses.BadScript l k) source sink ends is_read bytes line kind told refused no_read =
+    let found = ends.1 in
     let same = refused_once bytes l line k kind (subst (λ all. IsRefused all l k) (sym (found.read bytes told)) found.refused) refused in
     inl (ap (λ n. statuses.BadScript n k) same.0 ∙ ap (statuses.BadScript line) same.1)
+
+-- a made script is written, unless a write fails or memory runs out
+pub makes : (request : Request) (status : Status) (source sink : Passage) → Ends request status source sink → (ReadsScript request → ⊥) → (Failed sink → ⊥)
+    → (status ≡ statuses.Done) ⊎ (status ≡ statuses.NoMemory)
+makes request statuses.Done source sink ends unread no_write = inl refl
+makes request statuses.NoMemory source sink ends unread no_write = inr refl
+makes request statuses.Usage source sink ends unread no_write = absurd ends
+makes request statuses.ReadFault source sink ends unread no_write = absurd (unread ends.0)
+makes request statuses.WriteFault source sink ends unread no_write = absurd (no_write ends.0)
+makes request (statuses.BadScript line kind) source sink ends unread no_write = absurd (unread ends.0)
 
 -- a fact of each value that was made
 pub if_ok : {T E : Type 0} (r : Result T E) (P Q : T → Type 0) → ((x : T) → P x → Q x) → IfOk r P → IfOk r Q
@@ -162,11 +203,11 @@ if_ok (Ok x) P Q step held = step x held
 if_ok (Err e) P Q step held = held
 
 -- what was played, settled and listed is the answer
-pub answers_script : (script : Contents) (seed turns : ℕ) (summary : Bool) (journals : List (List Line)) (events : List Event) (end world : Core) (rows : List Row) (text : List ℕ)
-    → IsPlayed script seed turns journals events end → IsSettling end world → IsSettled world → StandsFor (last_moment script events).heap (sight world)
+pub answers_script : (script : Contents) (play : Play) (journals : List (List Line)) (events : List Event) (end world : Core) (rows : List Row) (text : List ℕ)
+    → IsPlayed script play.seed play.turns journals events end → IsSettling end world → IsSettled world → StandsFor (last_moment script events).heap (sight world)
     → length world.headers ≡ script.slots → ListsSlots (sight world) rows
-    → text ≡ run_text summary journals (actors events) rows (length (last_moment script events).heap.objects) world → Answers script seed turns summary text
-answers_script script seed turns summary journals events end world rows text played settles settled stands room listed written =
+    → text ≡ run_text play.summary journals (actors events) rows (length (last_moment script events).heap.objects) world → Answers script play text
+answers_script script play journals events end world rows text played settles settled stands room listed written =
     record {
       journals = journals;
       events = events;

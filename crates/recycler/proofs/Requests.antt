@@ -1,16 +1,13 @@
 -- What a command line asks for is one thing, with its numbers in their ranges.
-use Rattle.std.proofs.Common.{◌≡◌, ◌⊎◌, inl, inr, ℕ, codes, List, [], ◌++◌, Option, None, Some, refl, sym, ap, ◌∙◌, arith, get_or}
+use Rattle.std.proofs.Common.{◌≡◌, ℕ, codes, List, [], ◌++◌, Option, None, Some, refl, sym, ap, ◌∙◌, arith, get_or}
 use Rattle.clap.specs.Words.{Row as Found, subcommand_of}
-use Rattle.rec_io.specs.Faults.{Rose}
 use Rattle.rec_io.specs.Sink.{Appends}
 use Rattle.rec_script.specs.Made.{made_text}
-use Rattle.rec_script.specs.declared.error.Kind.{Kind}
 use Rattle.recycler.specs.CommandLine.{recycler, AsksBy, Asks, AsksToMake, AsksToRead, ReadsScript}
 use Rattle.recycler.specs.Headline.{WroteAnswer, WroteFront}
+use Rattle.recycler.specs.declared.command_line.Make.{Make}
 use Rattle.recycler.specs.declared.command_line.Request.{Request}
 use Rattle.recycler.specs.declared.command_line.Request.TheVariants as requests
-use Rattle.recycler.specs.declared.status.Status.{Status}
-use Rattle.recycler.specs.declared.status.Status.TheVariants as statuses
 
 -- two subcommands
 apart : (name : List ℕ) → name ≡ codes "play" → name ≡ codes "make" → ⊥
@@ -23,41 +20,27 @@ pub asked_to_read : (words : List (List ℕ)) (request : Request) → Asks words
 asked_to_read words request asks (other, others, reads) = go (subcommand_of recycler words) request other asks.asked others.asked reads
   where
     go : (told : Option (List ℕ × List Found)) (request other : Request) → AsksBy told request → AsksBy told other → ReadsScript other → ReadsScript request
-    go (Some (name, options)) (requests.Play seed turns summary) other one two reads = tt
-    go (Some (name, options)) (requests.Make seed mutators commands) (requests.Play s turns summary) one two reads = absurd (apart name two.0 one.0)
-    go (Some (name, options)) (requests.Make seed mutators commands) (requests.Make s m c) one two reads = absurd reads
+    go (Some (name, options)) (requests.Play p) other one two reads = tt
+    go (Some (name, options)) (requests.Make m) (requests.Play p) one two reads = absurd (apart name two.0 one.0)
+    go (Some (name, options)) (requests.Make m) (requests.Make n) one two reads = absurd reads
     go None request other one two reads = absurd one
 
 -- words that ask for a made script ask for nothing else
 pub asked_to_make : (words : List (List ℕ)) (request : Request) → Asks words request → AsksToMake words → ReadsScript request → ⊥
-asked_to_make words request asks (seed, mutators, commands, others) = go (subcommand_of recycler words) request asks.asked others.asked
+asked_to_make words request asks (m, others) = go (subcommand_of recycler words) request asks.asked others.asked
   where
-    go : (told : Option (List ℕ × List Found)) (request : Request) → AsksBy told request → AsksBy told (requests.Make seed mutators commands) → ReadsScript request → ⊥
-    go (Some (name, options)) (requests.Play s turns summary) one two reads = apart name one.0 two.0
-    go (Some (name, options)) (requests.Make s m c) one two reads = reads
+    go : (told : Option (List ℕ × List Found)) (request : Request) → AsksBy told request → AsksBy told (requests.Make m) → ReadsScript request → ⊥
+    go (Some (name, options)) (requests.Play p) one two reads = apart name one.0 two.0
+    go (Some (name, options)) (requests.Make n) one two reads = reads
     go None request one two reads = one
 
--- a made script is written, unless a count rises or memory runs out
-pub makes : (status : Status) (writes writes_after : ℕ)
-    → (status ≡ statuses.Usage → ⊥)
-    → ((line : ℕ) (kind : Kind) → status ≡ statuses.BadScript line kind → ⊥)
-    → (status ≡ statuses.ReadFault → ⊥) → (status ≡ statuses.WriteFault → Rose writes writes_after)
-    → (Rose writes writes_after → ⊥)
-    → (status ≡ statuses.Done) ⊎ (status ≡ statuses.NoMemory)
-makes statuses.Done writes writes_after usage bad read write no_write = inl refl
-makes statuses.NoMemory writes writes_after usage bad read write no_write = inr refl
-makes statuses.Usage writes writes_after usage bad read write no_write = absurd (usage refl)
-makes statuses.ReadFault writes writes_after usage bad read write no_write = absurd (read refl)
-makes statuses.WriteFault writes writes_after usage bad read write no_write = absurd (no_write (write refl))
-makes (statuses.BadScript line kind) writes writes_after usage bad read write no_write = absurd (bad line kind refl)
-
 -- a made script was written whole
-pub wrote_made : (seed mutators commands : ℕ) (rest before after : Option (List ℕ)) → Appends before after (made_text seed mutators commands) → WroteAnswer (requests.Make seed mutators commands) rest rest before after
-wrote_made seed mutators commands rest before after appends =
-    record { bytes = []; read = (refl, refl); text = made_text seed mutators commands; answer = refl; written = appends }
+pub wrote_made : (m : Make) (rest before after : Option (List ℕ)) → Appends before after (made_text m.seed m.mutators m.commands) → WroteAnswer (requests.Make m) rest rest before after
+wrote_made m rest before after appends =
+    record { bytes = []; read = (refl, refl); text = made_text m.seed m.mutators m.commands; answer = refl; written = appends }
 
 -- a front of a made script was written
-pub wrote_made_front : (seed mutators commands : ℕ) (rest before after : Option (List ℕ))
-    → (front back : List ℕ) × (made_text seed mutators commands ≡ front ++ back) × Appends before after front → WroteFront (requests.Make seed mutators commands) rest rest before after
-wrote_made_front seed mutators commands rest before after (front, back, cut, appends) =
-    record { bytes = []; read = (refl, refl); text = made_text seed mutators commands; answer = refl; front = front; back = back; cut = cut; written = appends }
+pub wrote_made_front : (m : Make) (rest before after : Option (List ℕ))
+    → (front back : List ℕ) × (made_text m.seed m.mutators m.commands ≡ front ++ back) × Appends before after front → WroteFront (requests.Make m) rest rest before after
+wrote_made_front m rest before after (front, back, cut, appends) =
+    record { bytes = []; read = (refl, refl); text = made_text m.seed m.mutators m.commands; answer = refl; front = front; back = back; cut = cut; written = appends }

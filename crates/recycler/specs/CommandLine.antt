@@ -5,6 +5,8 @@ use Rattle.std.specs.Str.Parse.{IsNumeral, without_leading_plus, digits_value}
 use Rattle.clap.specs.Words.{App, Row, Rule, Shape, Text, fault_of, first_of, new_rule, subcommand_of}
 use Rattle.clap.specs.Simple.{new_shape}
 use Rattle.clap.specs.declared.builder.action.ArgAction.TheVariants.{SetTrue}
+use Rattle.recycler.specs.declared.command_line.Make.{Make}
+use Rattle.recycler.specs.declared.command_line.Play.{Play}
 use Rattle.recycler.specs.declared.command_line.Request.{Request}
 use Rattle.recycler.specs.declared.command_line.Request.TheVariants as requests
 
@@ -54,23 +56,23 @@ is_set None = false
 is_set (Some text) = bytes_eq text (codes "true")
 
 -- what the options of `play` ask for: a seed of 64 bits, at most ten million turns, and a summary or the whole text
-pub record AsksPlay (options : List Row) (seed turns : ℕ) (summary : Bool) : Type 0 where
-  pub seeded : Says (first_of (codes "seed") options) 0 18446744073709551615 seed
-  pub limited : Says (first_of (codes "turns") options) 1000000 10000000 turns
-  pub summed : summary ≡ is_set (first_of (codes "summary") options)
+pub record AsksPlay (options : List Row) (asked : Play) : Type 0 where
+  pub seeded : Says (first_of (codes "seed") options) 0 18446744073709551615 asked.seed
+  pub limited : Says (first_of (codes "turns") options) 1000000 10000000 asked.turns
+  pub summed : asked.summary ≡ is_set (first_of (codes "summary") options)
 
 -- what the options of `make` ask for: a seed of 64 bits, one to eight mutators, and at most 200,000 commands of each
-pub record AsksMake (options : List Row) (seed mutators commands : ℕ) : Type 0 where
-  pub seeded : Says (first_of (codes "seed") options) 0 18446744073709551615 seed
-  pub some : 1 ≤ mutators
-  pub few : Says (first_of (codes "mutators") options) 2 8 mutators
-  pub limited : Says (first_of (codes "commands") options) 1000 200000 commands
+pub record AsksMake (options : List Row) (asked : Make) : Type 0 where
+  pub seeded : Says (first_of (codes "seed") options) 0 18446744073709551615 asked.seed
+  pub some : 1 ≤ asked.mutators
+  pub few : Says (first_of (codes "mutators") options) 2 8 asked.mutators
+  pub limited : Says (first_of (codes "commands") options) 1000 200000 asked.commands
 
 -- what a subcommand with its options asks for, if there is one
 abbrev pub AsksBy : Option (Text × List Row) → Request → Type 0
 AsksBy None request = ⊥
-AsksBy (Some (name, options)) (requests.Play seed turns summary) = (name ≡ codes "play") × AsksPlay options seed turns summary
-AsksBy (Some (name, options)) (requests.Make seed mutators commands) = (name ≡ codes "make") × AsksMake options seed mutators commands
+AsksBy (Some (name, options)) (requests.Play asked) = (name ≡ codes "play") × AsksPlay options asked
+AsksBy (Some (name, options)) (requests.Make asked) = (name ≡ codes "make") × AsksMake options asked
 
 -- The command takes the words, the first of which is the program's name, and they ask for this.
 pub record Asks (words : List Text) (request : Request) : Type 0 where
@@ -79,13 +81,13 @@ pub record Asks (words : List Text) (request : Request) : Type 0 where
 
 -- each number of a request is in its range
 abbrev pub IsInRange : Request → Type 0
-IsInRange (requests.Play seed turns summary) = turns ≤ 10000000
-IsInRange (requests.Make seed mutators commands) = (1 ≤ mutators) × (mutators ≤ 8) × (commands ≤ 200000)
+IsInRange (requests.Play asked) = asked.turns ≤ 10000000
+IsInRange (requests.Make asked) = (1 ≤ asked.mutators) × (asked.mutators ≤ 8) × (asked.commands ≤ 200000)
 
 -- a request that a script is read for
 abbrev pub ReadsScript : Request → Type 0
-ReadsScript (requests.Play seed turns summary) = ⊤
-ReadsScript (requests.Make seed mutators commands) = ⊥
+ReadsScript (requests.Play asked) = ⊤
+ReadsScript (requests.Make asked) = ⊥
 
 -- The command takes the words, and each number is in its range.
 abbrev pub IsCommandLine : List Text → Type 0
@@ -97,4 +99,4 @@ AsksToRead words = (request : Request) × Asks words request × ReadsScript requ
 
 -- The words are a command line that asks for a made script.
 abbrev pub AsksToMake : List Text → Type 0
-AsksToMake words = (seed mutators commands : ℕ) × Asks words (requests.Make seed mutators commands)
+AsksToMake words = (asked : Make) × Asks words (requests.Make asked)

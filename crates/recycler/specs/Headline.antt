@@ -13,6 +13,7 @@ use Rattle.rec_io.specs.Sink.{Appends}
 use Rattle.rec_io.specs.Source.{BeginsWith}
 use Rattle.rec_script.specs.Lines.{lines}
 use Rattle.rec_script.specs.Script.{Contents, Spells, IsRefused}
+use Rattle.recycler.specs.declared.command_line.Play.{Play}
 use Rattle.recycler.specs.declared.command_line.Request.{Request}
 use Rattle.recycler.specs.declared.command_line.Request.TheVariants as requests
 use Rattle.rec_script.specs.declared.error.Kind.{Kind}
@@ -40,27 +41,27 @@ run_text true journals order rows made world = summary_text journals (length row
 -- commands in one order that keeps each mutator's own, the one that the playing rule draws; an allocation is answered full
 -- only where no slot was free; and after settling just the objects that registers reach hold slots, listed with true counts.
 -- A summary counts the same answers and objects.
-pub record Answers (script : Contents) (seed turns : ℕ) (summary : Bool) (text : List ℕ) : Type 0 where
+pub record Answers (script : Contents) (play : Play) (text : List ℕ) : Type 0 where
   pub journals : List (List Line)
   pub events : List Event
   -- the world after the last turn
   pub end : Core
-  pub played : IsPlayed script seed turns journals events end
+  pub played : IsPlayed script play.seed play.turns journals events end
   pub rows : List Row
   pub settled : IsSettledAs end (last_moment script events).heap script.slots rows
-  pub written : text ≡ run_text summary journals (actors events) rows (length (last_moment script events).heap.objects) settled.world
+  pub written : text ≡ run_text play.summary journals (actors events) rows (length (last_moment script events).heap.objects) settled.world
 
 -- The bytes are the text of a script within the limits, and the answer is the script's, in the order drawn from the seed.
-pub record PlaysTo (bytes : List ℕ) (seed turns : ℕ) (summary : Bool) (text : List ℕ) : Type 0 where
+pub record PlaysTo (bytes : List ℕ) (play : Play) (text : List ℕ) : Type 0 where
   pub script : Contents
   pub short : length bytes ≤ 16777216
   pub spelled : Spells (lines bytes) script
-  pub answered : Answers script seed turns summary text
+  pub answered : Answers script play text
 
 -- the answer of the bytes to a request; a made script is that of its seed, whatever the bytes
 abbrev pub IsAnswer : Request → (bytes text : List ℕ) → Type 0
-IsAnswer (requests.Play seed turns summary) bytes text = PlaysTo bytes seed turns summary text
-IsAnswer (requests.Make seed mutators commands) bytes text = text ≡ made_text seed mutators commands
+IsAnswer (requests.Play asked) bytes text = PlaysTo bytes asked text
+IsAnswer (requests.Make asked) bytes text = text ≡ made_text asked.seed asked.mutators asked.commands
 
 -- the bytes are those told, where any are told
 abbrev pub Are : Option (List ℕ) → List ℕ → Type 0
@@ -78,8 +79,8 @@ IsReadOut before after = ForSome before (λ rest. (after ≡ Some []) ⊎ IsRead
 
 -- what a request reads of a source: all its bytes, and nothing for a made script
 abbrev pub HasRead : Request → (rest left : Option (List ℕ)) → (bytes : List ℕ) → Type 0
-HasRead (requests.Play seed turns summary) rest left bytes = Are rest bytes × IsAtEnd rest left
-HasRead (requests.Make seed mutators commands) rest left bytes = (left ≡ rest) × (bytes ≡ [])
+HasRead (requests.Play asked) rest left bytes = Are rest bytes × IsAtEnd rest left
+HasRead (requests.Make asked) rest left bytes = (left ≡ rest) × (bytes ≡ [])
 
 -- The bytes that the request reads were read, and the whole answer was written.
 pub record WroteAnswer (request : Request) (rest left before after : Option (List ℕ)) : Type 0 where

@@ -1,4 +1,5 @@
 pub mod CommandLine
+pub mod Ends
 pub mod Headline
 pub mod Status
 pub mod Whole

@@ -10,6 +10,7 @@ ghost use Rattle.rec_world.specs.World.{opened, sight};
 ghost use Rattle.rec_play.specs.Played.{AreReady, config_of, lengths_of};
 ghost use Rattle.recycler.specs.Headline.{Answers, run_text};
 
+use crate::command_line::Play;
 use rec_play::{config_for, journals_for, order_for, play};
 use rec_report::{Text, summary as summary_of, text as whole_text};
 use rec_script::Script;
@@ -17,58 +18,26 @@ use rec_settle::settle;
 use rec_world::{Journal, OpenError, Order, World};
 use std::alloc::{AllocError as NoMemory, Global};
 
-/// The answer to a script, in the order that the playing rule draws from this seed with at most so many turns: the whole
+/// The answer to a script, in the order that the playing rule draws from the seed with at most so many turns: the whole
 /// text, or a summary.
 pub fn answer_script(
     alloc: Global,
     script: &Script,
-    seed: u64,
-    turns: u32,
-    summary: bool,
+    how: Play,
 ) -> Result<Text, NoMemory>
-    requires { turns ≤ 10000000 }
-    ensures { IfOk result (λ text. Answers script.now seed turns summary (flat_map (λ line. line) text)) }
+    requires { how.turns ≤ 10000000 }
+    ensures { IfOk result (λ text. Answers script.now how (flat_map (λ line. line) text)) }
 {
-    let world = open_world(alloc, script)?;
+    let mut world = open_world(alloc, script)?;
     let mut journals = journals_for(alloc, script)?;
-    let order = order_for(alloc, script)?;
-    text_of(
-        alloc,
-        script,
-        seed,
-        turns,
-        summary,
-        world,
-        &mut journals,
-        order,
-    )
-}
-
-// Plays a script on the heap that was opened for it, settles the heap, and makes the text.
-fn text_of(
-    alloc: Global,
-    script: &Script,
-    seed: u64,
-    turns: u32,
-    summary: bool,
-    mut world: World,
-    journals: &mut [Journal],
-    mut order: Order,
-) -> Result<Text, NoMemory>
-    requires opened { world ≡ opened (config_of script.now) }
-    requires journals { AreReady script.now.commands journals.old }
-    requires order { order.list ≡ [] }
-    requires room { sum (lengths_of script.now) ≤ order.room }
-    requires turns { turns ≤ 10000000 }
-
-    ensures { IfOk result (λ text. Answers script.now seed turns summary (flat_map (λ line. line) text)) }
-{
-    play(script, seed, turns, &mut world, journals, &mut order);
+    let journals = journals.as_mut_slice();
+    let mut order = order_for(alloc, script)?;
+    play(script, how.seed, how.turns, &mut world, journals, &mut order);
     // Each turn requests one epoch more at most, so there are enough left to settle.
     let Ok(_) = settle(&mut world) else {
         unreachable!();
     };
-    write_text(alloc, script, summary, journals, &order, &world)
+    write_text(alloc, script, how.summary, journals, &order, &world)
 }
 
 // The whole text of a run in this order whose heap is settled, or its summary.

@@ -1,7 +1,9 @@
 //! The words that the program is called with.
-ghost use Rattle.std.specs.Prelude.{◌≡◌, ◌≢◌, ◌≤◌, ℕ, Bool, [], map, option_map, Err, IfOk, IfSome, IfNone};
+ghost use Rattle.std.specs.Prelude.{◌≡◌, ◌≢◌, ◌≤◌, ℕ, [], map, option_map, Err, IfOk, IfSome, IfNone};
 ghost use Rattle.clap.specs.Words.{app_of, fault_of, found_of, rows_of, subcommand_of, subcommand_rows_of};
 ghost use Rattle.recycler.specs.CommandLine.{app_with, make as make_shape, play as play_shape, recycler, is_set, Says, AsksPlay, AsksMake, AsksBy, Asks, IsCommandLine};
+ghost use Rattle.recycler.specs.declared.command_line.Make.{Make as Making};
+ghost use Rattle.recycler.specs.declared.command_line.Play.{Play as Playing};
 ghost use Rattle.recycler.specs.declared.command_line.Request.{Request as Asking};
 
 use clap::error::ErrorKind;
@@ -29,18 +31,32 @@ const MOST_COMMANDS: u64 = 200_000;
 /// What a command line asks for.
 #[derive(Clone, Copy, Debug, PartialEq, Eq)]
 pub enum Request {
-    /// Run a script in an order that is drawn from a seed, with at most so many draws, and write the whole text or a summary.
-    Play {
-        seed: u64,
-        turns: u32,
-        summary: bool,
-    },
-    /// Write a script of so many mutators with so many commands each, drawn from a seed.
-    Make {
-        seed: u64,
-        mutators: u8,
-        commands: u32,
-    },
+    /// Run the script that is read.
+    Play(Play),
+    /// Write a script.
+    Make(Make),
+}
+
+/// How a script is run, and what is written of it.
+#[derive(Clone, Copy, Debug, PartialEq, Eq)]
+pub struct Play {
+    /// What the order of the commands is drawn from.
+    pub seed: u64,
+    /// How many draws there are at most, up to 10,000,000.
+    pub turns: u32,
+    /// Whether a summary is written in place of the whole text.
+    pub summary: bool,
+}
+
+/// Which script is made.
+#[derive(Clone, Copy, Debug, PartialEq, Eq)]
+pub struct Make {
+    /// What the commands are drawn from.
+    pub seed: u64,
+    /// How many mutators it has, from 1 to 8.
+    pub mutators: u8,
+    /// How many commands each of them has, up to 200,000.
+    pub commands: u32,
 }
 
 /// Why words ask for nothing.
@@ -126,21 +142,21 @@ fn asked(matches: &ArgMatches) -> Option<Request>
     ensures none { IfNone result ((request : Asking) → ¬ AsksBy (subcommand_rows_of matches.now) request) }
 {
     match matches.subcommand() {
-        Some(("play", options)) => play(options),
-        Some(("make", options)) => make(options),
+        Some(("play", options)) => play_options(options).map(Request::Play),
+        Some(("make", options)) => make_options(options).map(Request::Make),
         _ => None,
     }
 }
 
 // What the options of `play` ask for, where their numbers are in range.
-fn play(options: &ArgMatches) -> Option<Request>
-    ensures some { IfSome result (λ request. (seed turns : ℕ) × (summary : Bool) × (request ≡ Request.Play seed turns summary) × AsksPlay (rows_of (found_of options.now)) seed turns summary) }
-    ensures none { IfNone result ((seed turns : ℕ) (summary : Bool) → ¬ AsksPlay (rows_of (found_of options.now)) seed turns summary) }
+fn play_options(options: &ArgMatches) -> Option<Play>
+    ensures some { IfSome result (AsksPlay (rows_of (found_of options.now))) }
+    ensures none { IfNone result ((play : Playing) → ¬ AsksPlay (rows_of (found_of options.now)) play) }
 {
     let seed = number(options.get_str("seed"), SEED, u64::MAX)?;
     let turns = number(options.get_str("turns"), TURNS, MOST_TURNS)?;
     let summary = is_flag_set(options.get_str("summary"));
-    Some(Request::Play {
+    Some(Play {
         seed,
         turns: turns as u32,
         summary,
@@ -148,9 +164,9 @@ fn play(options: &ArgMatches) -> Option<Request>
 }
 
 // What the options of `make` ask for, where their numbers are in range.
-fn make(options: &ArgMatches) -> Option<Request>
-    ensures some { IfSome result (λ request. (seed mutators commands : ℕ) × (request ≡ Request.Make seed mutators commands) × AsksMake (rows_of (found_of options.now)) seed mutators commands) }
-    ensures none { IfNone result ((seed mutators commands : ℕ) → ¬ AsksMake (rows_of (found_of options.now)) seed mutators commands) }
+fn make_options(options: &ArgMatches) -> Option<Make>
+    ensures some { IfSome result (AsksMake (rows_of (found_of options.now))) }
+    ensures none { IfNone result ((made : Making) → ¬ AsksMake (rows_of (found_of options.now)) made) }
 {
     let seed = number(options.get_str("seed"), SEED, u64::MAX)?;
     let mutators = number(options.get_str("mutators"), MUTATORS, MOST_MUTATORS)?;
@@ -158,7 +174,7 @@ fn make(options: &ArgMatches) -> Option<Request>
     if mutators == 0 {
         return None;
     }
-    Some(Request::Make {
+    Some(Make {
         seed,
         mutators: mutators as u8,
         commands: commands as u32,

@@ -1,9 +1,10 @@
 //! The Recycler's program, from bytes to bytes.
 //!
 //! `run` reads a script, carries out its commands on a heap, settles the heap, and writes what was told, the listing of
-//! the settled heap and the totals, or a summary of them. Asked to make a script, it writes one that is drawn from a seed. The rule that it keeps: each printed answer is the one that a heap that never frees
-//! gives to the same commands in one order; an allocation is answered full only where no slot was free; and after
-//! settling just the objects that registers reach hold slots, listed with true counts.
+//! the settled heap and the totals, or a summary of them. Asked to make a script, it writes one that is drawn from a seed.
+//! The rule that it keeps: each printed answer is the one that a heap that never frees gives to the same commands in one
+//! order; an allocation is answered full only where no slot was free; and after settling just the objects that registers
+//! reach hold slots, listed with true counts. A run that is done left nothing behind in the sink.
 //! The layer above is a person at a terminal: `main` gives `run` the words, standard input and standard output.
 //! The form of a script and of its answer is this project's profile (`docs/PROFILE.md`).
 #![tactic(auto)]
@@ -19,7 +20,6 @@ mod status;
 mod summary_tests;
 mod writing;
 
-use finish::finish;
 use gate::OpenGate;
 use rec_io::{StdSink, StdSource};
 use run::run;
@@ -54,8 +54,7 @@ fn run_arguments<R: Env + AllocGlobal + Input + Print + Threads + Wait + Sync>(r
     };
     let mut source = StdSource::over(rt.reader());
     let mut sink = StdSink::over(writer);
-    let status = run(rt, alloc, &words, &mut source, &mut sink, &OpenGate);
-    finish(status, &mut sink)
+    run(rt, alloc, &words, &mut source, &mut sink, &OpenGate)
 }
 
 fn main(rt: HostRuntime) -> ExitCode {

@@ -1,31 +1,32 @@
 //! The top call: from words, and the bytes of a script, to the bytes of an answer.
-ghost use Rattle.std.specs.Prelude.{◌≡◌, ◌⊎◌, ℕ, ◌≤◌, ◌++◌, true, false, List, Some, map, IfOk};
+ghost use Rattle.std.specs.Prelude.{◌≡◌, ◌⊎◌, ℕ, ◌≤◌, false, List, Option, Some, map, IfOk};
 ghost use Rattle.std.specs.List.{flat_map};
 ghost use Rattle.rec_io.specs.Faults.{Rose};
-ghost use Rattle.rec_io.specs.Sink.{Appends};
+ghost use Rattle.rec_io.specs.Told.{KeepsTold};
 ghost use Rattle.rec_script.specs.Script.{IsText, IsRefused};
 ghost use Rattle.rec_script.specs.declared.error.Kind.{Kind};
-ghost use Rattle.rec_script.specs.Made.{made_text};
 ghost use Rattle.recycler.specs.CommandLine.{Asks, AsksToMake, AsksToRead, IsCommandLine, IsInRange, ReadsScript};
+ghost use Rattle.recycler.specs.Ends.{Ends, passage, untouched};
 ghost use Rattle.recycler.specs.Headline.{PlaysTo, WroteAnswer, WroteFront, ReadNoScript};
-ghost use Rattle.recycler.specs.Status.{may_make, may_write};
+ghost use Rattle.recycler.specs.Status.{may_write};
 ghost use Rattle.recycler.specs.declared.command_line.Request.{Request as Asked};
 
 use crate::answer::answer_script;
-use crate::command_line::{Refusal, Request, read_words};
+use crate::command_line::{Make, Play, Refusal, Request, read_words};
+use crate::finish::finish;
 use crate::gate::Gate;
 use crate::reading::{ReadStop, read_all};
 use crate::status::Status;
 use crate::writing::{write_lines, write_text};
-use rec_io::{Sink, Source};
+use rec_io::{Flush, Sink, Source};
 use rec_report::Text;
-use rec_script::{ScriptError, make, read};
+use rec_script::{ScriptError, read};
 use std::alloc::Global;
 use std::sync::Wait;
 use std::thread::Threads;
 
 /// Does what a command line asks, and tells how it ended. Everything is computed before the first byte is written.
-pub fn run<R: Threads + Wait + Sync, S: Source, K: Sink, G: Gate>(
+pub fn run<R: Threads + Wait + Sync, S: Source, K: Flush, G: Gate>(
     _rt: &R,
     alloc: Global,
     words: &[&str],
@@ -36,6 +37,9 @@ pub fn run<R: Threads + Wait + Sync, S: Source, K: Sink, G: Gate>(
     // The headline: the script was read to its end, and its whole answer to what the words ask was written.
     ensures done { result ≡ Status.Done → (request : Asked) × Asks (map (λ word. word.now) words.now) request
         × WroteAnswer request (S.rest source.old) (S.rest source.new) (K.written sink.old) (K.written sink.new) }
+
+    // Nothing of it stayed behind: the sink passed on all that was written.
+    ensures passed { result ≡ Status.Done → KeepsTold (K.written sink.new) (K.passed_on sink.new) }
 
     // When each other status comes. Words that are no command line give Usage, or memory ran out. A made script is read from
     // no source, so it is never bad and no read of it fails.
@@ -68,7 +72,10 @@ pub fn run<R: Threads + Wait + Sync, S: Source, K: Sink, G: Gate>(
         → (result ≡ Status.Done) ⊎ (result ≡ Status.NoMemory) }
 {
     match read_words(alloc, words) {
-        Ok(request) => carry_out(alloc, request, source, sink),
+        Ok(request) => {
+            let status = carry_out(alloc, request, source, sink);
+            finish(status, sink)
+        }
         Err(Refusal::Usage) => Status::Usage,
         Err(Refusal::NoMemory) => Status::NoMemory,
     }
@@ -82,53 +89,35 @@ fn carry_out<S: Source, K: Sink>(
     sink: &mut K,
 ) -> Status
     requires { IsInRange request }
-    ensures done { result ≡ Status.Done → WroteAnswer request (S.rest source.old) (S.rest source.new) (K.written sink.old) (K.written sink.new) }
-    ensures not_usage { result ≡ Status.Usage → ⊥ }
-    ensures bad_script { (line : ℕ) (kind : Kind) → result ≡ Status.BadScript line kind → ReadsScript request × ReadNoScript (S.rest source.old) (S.rest source.new) line kind }
-    ensures read_fault { result ≡ Status.ReadFault → ReadsScript request × Rose (S.faults source.old) (S.faults source.new) }
-    ensures write_fault { result ≡ Status.WriteFault → Rose (K.faults sink.old) (K.faults sink.new) }
-    ensures front { result ≡ Status.WriteFault → WroteFront request (S.rest source.old) (S.rest source.new) (K.written sink.old) (K.written sink.new) }
+    ensures ends { Ends request result (passage S.rest S.faults source.old source.new) (passage K.written K.faults sink.old sink.new) }
     ensures unwritten { may_write result ≡ false → sink.new ≡ sink.old }
     ensures unread { ¬ ReadsScript request → source.new ≡ source.old }
+    ensures never_falls { K.faults sink.old ≤ K.faults sink.new }
 {
     match request {
-        Request::Play {
-            seed,
-            turns,
-            summary,
-        } => answer_source(alloc, seed, turns, summary, source, sink),
-        Request::Make {
-            seed,
-            mutators,
-            commands,
-        } => write_made(alloc, seed, mutators, commands, sink),
+        Request::Play(play) => answer_source(alloc, play, source, sink),
+        Request::Make(make) => write_made(alloc, make, sink),
     }
 }
 
 // Reads a script to its end, plays it, and writes its answer.
 fn answer_source<S: Source, K: Sink>(
     alloc: Global,
-    seed: u64,
-    turns: u32,
-    summary: bool,
+    play: Play,
     source: &mut S,
     sink: &mut K,
 ) -> Status
-    requires { turns ≤ 10000000 }
-    ensures done { result ≡ Status.Done → WroteAnswer (Request.Play seed turns summary) (S.rest source.old) (S.rest source.new) (K.written sink.old) (K.written sink.new) }
-    ensures not_usage { result ≡ Status.Usage → ⊥ }
-    ensures bad_script { (line : ℕ) (kind : Kind) → result ≡ Status.BadScript line kind → ReadNoScript (S.rest source.old) (S.rest source.new) line kind }
-    ensures read_fault { result ≡ Status.ReadFault → Rose (S.faults source.old) (S.faults source.new) }
-    ensures write_fault { result ≡ Status.WriteFault → Rose (K.faults sink.old) (K.faults sink.new) }
-    ensures front { result ≡ Status.WriteFault → WroteFront (Request.Play seed turns summary) (S.rest source.old) (S.rest source.new) (K.written sink.old) (K.written sink.new) }
+    requires { play.turns ≤ 10000000 }
+    ensures ends { Ends (Request.Play play) result (passage S.rest S.faults source.old source.new) (passage K.written K.faults sink.old sink.new) }
     ensures unwritten { may_write result ≡ false → sink.new ≡ sink.old }
+    ensures never_falls { K.faults sink.old ≤ K.faults sink.new }
 {
     let bytes = match read_all(alloc, source) {
         Ok(bytes) => bytes,
         Err(ReadStop::Fault) => return Status::ReadFault,
         Err(ReadStop::NoMemory) => return Status::NoMemory,
     };
-    let text = match answer(alloc, seed, turns, summary, bytes) {
+    let text = match answer(alloc, play, bytes) {
         Ok(text) => text,
         Err(ScriptError::Bad { line, kind }) => return Status::BadScript { line, kind },
         Err(ScriptError::NoMemory) => return Status::NoMemory,
@@ -140,41 +129,26 @@ fn answer_source<S: Source, K: Sink>(
 }
 
 // The answer of the script in the bytes.
-fn answer(
-    alloc: Global,
-    seed: u64,
-    turns: u32,
-    summary: bool,
-    bytes: Vec<u8>,
-) -> Result<Text, ScriptError>
-    requires { turns ≤ 10000000 }
-    ensures answer { IfOk result (λ text. PlaysTo bytes.items seed turns summary (flat_map (λ line. line) text)) }
+fn answer(alloc: Global, play: Play, bytes: Vec<u8>) -> Result<Text, ScriptError>
+    requires { play.turns ≤ 10000000 }
+    ensures answer { IfOk result (λ text. PlaysTo bytes.items play (flat_map (λ line. line) text)) }
     ensures refused { (line : ℕ) (kind : Kind) → result ≡ Err (ScriptError.Bad line kind) → IsRefused bytes.items line kind }
 {
     let script = read(alloc, &bytes)?;
     // The bytes are needed no more: their room is given back before the journals take theirs.
     drop(bytes);
-    answer_script(alloc, &script, seed, turns, summary).map_err(|_| ScriptError::NoMemory)
+    answer_script(alloc, &script, play).map_err(|_| ScriptError::NoMemory)
 }
 
-// Writes a made script.
-fn write_made<K: Sink>(
-    alloc: Global,
-    seed: u64,
-    mutators: u8,
-    commands: u32,
-    sink: &mut K,
-) -> Status
-    requires mutators { (1 ≤ mutators) × (mutators ≤ 8) }
-    requires commands { commands ≤ 200000 }
-    ensures status { may_make result ≡ true }
-    ensures done { result ≡ Status.Done → Appends (K.written sink.old) (K.written sink.new) (made_text seed mutators commands) }
-    ensures write_fault { result ≡ Status.WriteFault → Rose (K.faults sink.old) (K.faults sink.new) }
-    ensures front { result ≡ Status.WriteFault → (front back : List ℕ) × (made_text seed mutators commands ≡ front ++ back)
-        × Appends (K.written sink.old) (K.written sink.new) front }
+// Writes a made script. Whatever source there is, nothing is read from it.
+fn write_made<K: Sink>(alloc: Global, make: Make, sink: &mut K) -> Status
+    requires mutators { (1 ≤ make.mutators) × (make.mutators ≤ 8) }
+    requires commands { make.commands ≤ 200000 }
+    ensures ends { (rest : Option (List ℕ)) (faults : ℕ) → Ends (Request.Make make) result (untouched rest faults) (passage K.written K.faults sink.old sink.new) }
     ensures unwritten { may_write result ≡ false → sink.new ≡ sink.old }
+    ensures never_falls { K.faults sink.old ≤ K.faults sink.new }
 {
-    let Ok(text) = make(alloc, seed, mutators, commands) else {
+    let Ok(text) = rec_script::make(alloc, make.seed, make.mutators, make.commands) else {
         return Status::NoMemory;
     };
     match write_text(sink, &text) {

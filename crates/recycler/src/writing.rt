@@ -44,6 +44,7 @@ pub fn write_text<K: Sink>(sink: &mut K, text: &[u8]) -> Result<(), WriteFault>
     ensures written { OnOk result (Appends (K.written sink.old) (K.written sink.new) text.now) }
     ensures fault { OnErr result (Rose (K.faults sink.old) (K.faults sink.new)) }
     ensures front { OnErr result ((front back : List ℕ) × (text.now ≡ front ++ back) × Appends (K.written sink.old) (K.written sink.new) front) }
+    ensures never_falls { K.faults sink.old ≤ K.faults sink.new }
 {
     let mut rest = text;
     while !rest.is_empty() {
@@ -59,6 +60,7 @@ pub fn write_lines<K: Sink>(sink: &mut K, text: &Text) -> Result<(), WriteFault>
     ensures written { OnOk result (Appends (K.written sink.old) (K.written sink.new) (flat_map (λ line. line) text.now)) }
     ensures fault { OnErr result (Rose (K.faults sink.old) (K.faults sink.new)) }
     ensures front { OnErr result ((front back : List ℕ) × (flat_map (λ line. line) text.now ≡ front ++ back) × Appends (K.written sink.old) (K.written sink.new) front) }
+    ensures never_falls { K.faults sink.old ≤ K.faults sink.new }
 {
     for line in text.lines() {
         write_piece(sink, line)?;

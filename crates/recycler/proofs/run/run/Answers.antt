@@ -1,27 +1,27 @@
-use Rattle.recycler.proofs.Endings.{completes, refuses}
-use Rattle.recycler.proofs.Requests.{asked_to_make, asked_to_read, makes}
+-- Each clause is read off the end of the request, which stays an end when the sink has passed on what it held.
+use Rattle.std.proofs.Common.{subst}
+use Rattle.recycler.specs.Ends.{Ends, passage}
+use Rattle.recycler.proofs.Endings.{completes, finished, makes, refuses}
+use Rattle.recycler.proofs.Requests.{asked_to_make, asked_to_read}
 use Rattle.recycler.proofs.run.run.Goals as goal
 
-pub returns-in-Ok-clause-bad_script : goal.returns-in-Ok-clause-bad_script
-returns-in-Ok-clause-bad_script g c = λ line kind is.
-    let bad = c.carry_out.ensures.bad_script line kind is in
-    ((c.in-Ok.request, c.in-Ok.ensures.asked, bad.0), bad.1)
+pub returns-in-Ok-clause-front : goal.returns-in-Ok-clause-front
+returns-in-Ok-clause-front g c = λ is.
+    let ends = finished g.K.Sink.written g.K.Sink.faults c.in-Ok.request c.carry_out-status.result c.finish.result
+    (passage g.S.Source.rest g.S.Source.faults c.args.source.now c.carry_out-status.new.source) c.args.sink.now c.carry_out-status.new.sink c.finish.new.sink
+    c.carry_out-status.ensures.ends c.carry_out-status.ensures.never_falls c.finish.ensures.fault c.finish.ensures.written c.finish.ensures.other in
+    (c.in-Ok.request, c.in-Ok.ensures.asked, (subst (λ status. Ends c.in-Ok.request status (passage g.S.Source.rest g.S.Source.faults c.args.source.now c.carry_out-status.new.source) (passage g.K.Sink.written g.K.Sink.faults c.args.sink.now c.finish.new.sink)) is ends).1)
 
 pub returns-in-Ok-clause-complete : goal.returns-in-Ok-clause-complete
-returns-in-Ok-clause-complete g c = λ line.
-    completes c.carry_out.result (g.S.Source.rest c.args.source.now) (g.S.Source.rest c.carry_out.new.source) _ _ _ _
-    c.carry_out.ensures.not_usage (λ l k is. (c.carry_out.ensures.bad_script l k is).1) (λ is. (c.carry_out.ensures.read_fault is).1) c.carry_out.ensures.write_fault
+returns-in-Ok-clause-complete g c = λ reads.
+    let ends = finished g.K.Sink.written g.K.Sink.faults c.in-Ok.request c.carry_out-status.result c.finish.result
+    (passage g.S.Source.rest g.S.Source.faults c.args.source.now c.carry_out-status.new.source) c.args.sink.now c.carry_out-status.new.sink c.finish.new.sink
+    c.carry_out-status.ensures.ends c.carry_out-status.ensures.never_falls c.finish.ensures.fault c.finish.ensures.written c.finish.ensures.other in
+    completes c.in-Ok.request c.finish.result (passage g.S.Source.rest g.S.Source.faults c.args.source.now c.carry_out-status.new.source) (passage g.K.Sink.written g.K.Sink.faults c.args.sink.now c.finish.new.sink) ends
 
 pub returns-in-Ok-clause-refuses : goal.returns-in-Ok-clause-refuses
-returns-in-Ok-clause-refuses g c = λ line.
-    refuses c.carry_out.result c.in-Ok.request (g.S.Source.rest c.args.source.now) (g.S.Source.rest c.carry_out.new.source) (g.K.Sink.written c.args.sink.now) (g.K.Sink.written c.carry_out.new.sink) _ _
-    (asked_to_read _ c.in-Ok.request c.in-Ok.ensures.asked line)
-    c.carry_out.ensures.not_usage (λ l k is. (c.carry_out.ensures.bad_script l k is).1) (λ is. (c.carry_out.ensures.read_fault is).1) c.carry_out.ensures.done c.carry_out.ensures.front
-
-pub returns-in-Ok-clause-made : goal.returns-in-Ok-clause-made
-returns-in-Ok-clause-made g c = λ line.
-    let no_read = asked_to_make _ c.in-Ok.request c.in-Ok.ensures.asked line in
-    makes c.carry_out.result _ _ c.carry_out.ensures.not_usage (λ l k is. no_read (c.carry_out.ensures.bad_script l k is).0) (λ is. no_read (c.carry_out.ensures.read_fault is).0) c.carry_out.ensures.write_fault
-
-pub returns-in-Ok-clause-made_unread : goal.returns-in-Ok-clause-made_unread
-returns-in-Ok-clause-made_unread g c = λ line. c.carry_out.ensures.unread (asked_to_make _ c.in-Ok.request c.in-Ok.ensures.asked line)
+returns-in-Ok-clause-refuses g c = λ reads.
+    let ends = finished g.K.Sink.written g.K.Sink.faults c.in-Ok.request c.carry_out-status.result c.finish.result
+    (passage g.S.Source.rest g.S.Source.faults c.args.source.now c.carry_out-status.new.source) c.args.sink.now c.carry_out-status.new.sink c.finish.new.sink
+    c.carry_out-status.ensures.ends c.carry_out-status.ensures.never_falls c.finish.ensures.fault c.finish.ensures.written c.finish.ensures.other in
+    refuses c.in-Ok.request c.finish.result (passage g.S.Source.rest g.S.Source.faults c.args.source.now c.carry_out-status.new.source) (passage g.K.Sink.written g.K.Sink.faults c.args.sink.now c.finish.new.sink) ends (asked_to_read _ c.in-Ok.request c.in-Ok.ensures.asked reads)
