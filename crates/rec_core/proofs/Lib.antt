@@ -41,6 +41,7 @@ pub mod Sweeping
 pub mod Swept
 pub mod Taken
 pub mod Trying
+pub mod TurnCases
 pub mod Turning
 pub mod Turns
 pub mod Unfinished

@@ -29,7 +29,7 @@ use Rattle.rec_core.specs.Core.{Core, sight}
 use Rattle.rec_core.specs.Cycles.{SetsTest}
 use Rattle.rec_core.specs.Kept.{IsLeft, IsLeftOf, IsKept}
 use Rattle.rec_core.specs.Pending.{code, pending}
-use Rattle.rec_core.specs.Turn.{word_at, words_without}
+use Rattle.rec_core.proofs.TurnCases.{word_at, words_without}
 use Rattle.rec_core.proofs.Counts.{slot_in, accounts_with, clears, counted_slot}
 use Rattle.rec_core.proofs.CyclesLess.{less_taken_off}
 use Rattle.rec_core.proofs.CyclesTest.{sets_test_taken}

@@ -19,6 +19,5 @@ pub mod Settled
 pub mod Settling
 pub mod Shown
 pub mod Swept
-pub mod Turn
 pub mod Unfinished
 pub mod Worked

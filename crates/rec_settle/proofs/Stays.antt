@@ -14,7 +14,7 @@ use Rattle.rec_core.specs.Kept.{IsKept}
 use Rattle.rec_core.specs.Moves.{turned}
 use Rattle.rec_core.specs.Quiet.{AreQuiet}
 use Rattle.rec_core.specs.Swept.{swept}
-use Rattle.rec_core.specs.Turn.{IsTurn}
+use Rattle.rec_core.proofs.TurnCases.{IsTurn}
 use Rattle.rec_core.proofs.Reach.{turned_keeps, keeps_stands_by}
 use Rattle.rec_core.proofs.Rest.TurnRules.{turn_is}
 use Rattle.rec_core.proofs.Turns.{now_at}

@@ -1,16 +1,14 @@
 -- A mailbox that is home holds a buffer, and where nobody holds it nothing is swapped.
-use Rattle.std.proofs.Common.{◌≡◌, ℕ, ◌-◌, ◌<◌, ◌≤◌, List, Option, None, Some, true, length, slice_index_or, slice_set, refl, sym, ap, subst, ◌∙◌}
-use Rattle.std.specs.Option.{IfSome, IsSome, is_some}
+use Rattle.std.proofs.Common.{◌≡◌, ℕ, ◌-◌, ◌<◌, ◌≤◌, List, Option, None, Some, length, slice_index_or, slice_set, refl, sym, ap, ◌∙◌}
+use Rattle.std.specs.Option.{IfSome, IsSome}
 use Rattle.std.proofs.lemmas.Bool.{false≢true}
 use Rattle.std.proofs.lemmas.List.{set-get_or}
-use Rattle.rec_word.specs.Op.{mailbox_of}
 use Rattle.rec_log.specs.declared.contents.Contents.{Contents}
-use Rattle.rec_mutator.specs.Next.{next_of, next_at}
-use Rattle.rec_mutator.specs.Private.{Private, is_busy}
-use Rattle.rec_mutator.specs.Took.{took_of, swapped_of, left_of, left_at, IsSwapping, IsBetween}
+use Rattle.rec_mutator.specs.Private.{Private}
+use Rattle.rec_mutator.specs.Took.{swapped_of, left_of, left_at, IsSwapping, IsBetween}
 use Rattle.rec_mutator.specs.declared.phase.Phase as phases
 use Rattle.rec_mutator.specs.declared.phase.Phase.TheVariants as at
-use Rattle.rec_mutator.proofs.Steps.{TakesNone, learnt_made, step_between, unswapped}
+use Rattle.rec_mutator.proofs.Steps.{unswapped}
 use Rattle.rec_collector.specs.Given as collector_given
 use Rattle.rec_collector.specs.Private as collectors
 use Rattle.rec_collector.specs.Took as collector_took
@@ -95,20 +93,6 @@ collector_leaves c b not = go c.phase not
 
 pub gathered_stays : (c : collectors.Private) (x : Option Contents) → IsSome x → (collector_given.IsSwapping c.phase → ⊥) → x ≡ Some (collector_took.left_of c (held x))
 gathered_stays c x home not = held_some x home ∙ ap (λ b. Some b) (sym (collector_leaves c (held x) not))
-
--- a step that holds its mailbox took it
-pub swapping_took : (p : Private) (word : ℕ) → is_busy p ≡ true → IsBetween p.phase → IsSwapping (took_of p word).phase → IsSome (mailbox_of (next_of p))
-unfolding next_of next_at
-swapping_took p word busy between = go p.phase refl between
-  where
-    unheld : (phase : phases.Phase) → IsBetween phase → IsSwapping phase → ⊥
-    unheld at.Swapping between is = absurd between
-    unheld _ between is = is
-
-    go : (phase : phases.Phase) → p.phase ≡ phase → IsBetween phase → IsSwapping (took_of p word).phase → IsSome (mailbox_of (next_of p))
-    go at.Crossing is between swaps = ap (λ f. is_some (mailbox_of (next_at p f))) is
-    go at.Swapping is between swaps = absurd between
-    go _ is between swaps = absurd (unheld (took_of p word).phase (step_between (learnt_made p word p.log busy (subst TakesNone (sym is) tt))) swaps)
 
 -- where the collector holds none, every mailbox stays too
 pub ungathered : (c : collectors.Private) (boxes : List (Option Contents)) (x : Option ℕ) → (collector_given.IsSwapping c.phase → ⊥) → ((i : ℕ) → i < length boxes → IsSome (slice_index_or boxes i None)) → IfSome x (λ t. (1 ≤ t) × (t - 1 < length boxes))

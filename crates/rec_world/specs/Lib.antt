@@ -29,7 +29,6 @@ pub use Rattle.rec_core.specs.Settled
 pub use Rattle.rec_core.specs.Settling
 pub use Rattle.rec_core.specs.Shown
 pub use Rattle.rec_core.specs.Swept
-pub use Rattle.rec_core.specs.Turn
 pub use Rattle.rec_core.specs.Unfinished
 pub use Rattle.rec_core.specs.Worked
 pub use Rattle.rec_model.specs.Asking

@@ -59,21 +59,6 @@ pub fn swap_gathered(collector: &mut Collector, mailbox: &mut Option<Buffer>)
     }
 }
 
-/// Where the operation takes the mutator's mailbox, swaps the buffer in it for the retired log.
-#[inline(always)]
-pub fn swap_if_taken(op: Op, machine: &mut Machine, mailbox: &mut Option<Buffer>)
-    requires taken { IsSwapping machine.old.phase → IsSome (mailbox_of op) }
-    requires home { IsSome mailbox.old }
-    requires spare { IsSwapping machine.old.phase → held mailbox.old ≡ spare machine.old }
-
-    ensures machine { machine.new ≡ swapped_of machine.old (held mailbox.old) }
-    ensures mailbox { mailbox.new ≡ Some (left_of machine.old (held mailbox.old)) }
-{
-    if op.mailbox().is_some() {
-        swap_own(machine, mailbox);
-    }
-}
-
 /// Where the collector holds the mailbox that the operation took, swaps the retired buffer in it for a spare.
 #[inline(always)]
 pub fn gather(op: Op, collector: &mut Collector, boxes: &mut Vec<Option<Buffer>>)
@@ -87,17 +72,9 @@ pub fn gather(op: Op, collector: &mut Collector, boxes: &mut Vec<Option<Buffer>>
 {
     if collector.is_swapping() {
         // Only an operation that took a mailbox leaves it held, so others need no look at any.
-        let t = taken_from(op);
-        swap_gathered(collector, &mut boxes[usize::from(t) - 1]);
+        match op.mailbox() {
+            Some(t) => swap_gathered(collector, &mut boxes[usize::from(t) - 1]),
+            None => unreachable!(),
+        }
     }
-}
-
-// The mutator whose mailbox the operation takes.
-#[inline(always)]
-fn taken_from(op: Op) -> u8
-    requires { IsSome (mailbox_of op) }
-    ensures { mailbox_of op ≡ Some result }
-{
-    // The default is never answered; with it no kind of the operation is carried along just to be looked at here.
-    op.mailbox().unwrap_or(1)
 }

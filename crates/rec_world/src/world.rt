@@ -35,7 +35,7 @@ ghost use Rattle.rec_world.specs.Mailbox.{held};
 ghost use Rattle.rec_world.specs.Stepping.{MakesStep};
 ghost use Rattle.rec_world.specs.World.{IsWorld, label_of, IsLogFull, IsFull, IsBusy, IsLowestFree, IsFinished, IsCrossed, TurnHasCause};
 
-use crate::mailbox::{gather, open_boxes, swap_if_taken};
+use crate::mailbox::{gather, open_boxes, swap_own};
 use crate::memory::Memory;
 use crate::{Config, Numbering, OpenError, Parts};
 use rec_collector::{Machine as Collector, Sets, Turn};
@@ -654,7 +654,7 @@ fn make_step(machine: &mut Machine, memory: &mut Memory, mailbox: &mut Option<Bu
     let op = machine.next();
     let found = memory.perform(op);
     machine.took(found);
-    swap_if_taken(op, machine, mailbox);
+    swap_own(machine, mailbox);
     births(op, found)
 }
 

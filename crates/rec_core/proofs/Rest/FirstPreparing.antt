@@ -15,7 +15,7 @@ use Rattle.rec_core.specs.Core.{Core}
 use Rattle.rec_core.specs.Kept.{IsKept}
 use Rattle.rec_core.specs.Resting.{PrepRests, SetsRest}
 use Rattle.rec_core.specs.Settling.{AreLoadsOf}
-use Rattle.rec_core.specs.Turn.{word_at}
+use Rattle.rec_core.proofs.TurnCases.{word_at}
 use Rattle.rec_core.proofs.Landed.{HasLanded}
 use Rattle.rec_core.proofs.Rest.FirstTrial.{words_landed}
 use Rattle.rec_core.proofs.Rest.SettlingPrepared.{loads_more}

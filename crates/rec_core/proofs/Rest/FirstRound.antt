@@ -22,7 +22,7 @@ use Rattle.rec_core.specs.Core.{Core}
 use Rattle.rec_core.specs.Kept.{IsKept}
 use Rattle.rec_core.specs.Quiet.{gathered, AreGathered}
 use Rattle.rec_core.specs.Resting.{AreCounted, TrialRests, PrepRests, Round, RestsIn, ComesTo}
-use Rattle.rec_core.specs.Turn.{IsTurn}
+use Rattle.rec_core.proofs.TurnCases.{IsTurn}
 use Rattle.rec_core.proofs.Begun.{applied_lands}
 use Rattle.rec_core.proofs.Freeing.{freed_lands}
 use Rattle.rec_core.proofs.Landed.{HasLanded, HasCleared}

@@ -21,7 +21,7 @@ use Rattle.rec_core.specs.Core.{Core, mutator, box, crossing_of}
 use Rattle.rec_core.specs.Kept.{Stand, stand_at, IsHandshake, IsKept}
 use Rattle.rec_core.specs.Pending.{older_at}
 use Rattle.rec_core.specs.Quiet.{IsRetired, gathered, AreQuiet}
-use Rattle.rec_core.specs.Turn.{crossing_with, words_without, swept_by, IsTurn}
+use Rattle.rec_core.proofs.TurnCases.{crossing_with, words_without, swept_by, IsTurn}
 use Rattle.rec_core.specs.declared.config.Config.{Config}
 
 -- no mutator is past the requested epoch

@@ -8,7 +8,7 @@ use Rattle.rec_core.specs.Kept.{IsKept}
 use Rattle.rec_core.specs.Moves.{turned}
 use Rattle.rec_core.specs.Quiet.{gathered, AreQuiet, AreGathered}
 use Rattle.rec_core.specs.Resting.{holds, Round, RestsIn, ComesTo, TurnsTo, epochs_before}
-use Rattle.rec_core.specs.Turn.{IsTurn, header_freed, swept_by}
+use Rattle.rec_core.proofs.TurnCases.{IsTurn, header_freed, swept_by}
 use Rattle.rec_core.proofs.Rest.FirstRound.{first_turned}
 use Rattle.rec_core.proofs.Rest.QuietCounts.{landed_count}
 use Rattle.rec_core.proofs.Rest.RestingSeen.{rests_seen}

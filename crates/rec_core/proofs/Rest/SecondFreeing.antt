@@ -21,7 +21,7 @@ use Rattle.rec_core.specs.Core.{Core}
 use Rattle.rec_core.specs.Kept.{IsKept}
 use Rattle.rec_core.specs.Resting.{AreCounted, FreesRest, SetsRest}
 use Rattle.rec_core.specs.Settling.{AreUnheld}
-use Rattle.rec_core.specs.Turn.{word_at, words_without}
+use Rattle.rec_core.proofs.TurnCases.{word_at, words_without}
 use Rattle.rec_core.proofs.Freeing as freeing
 use Rattle.rec_core.proofs.Taken as taken
 use Rattle.rec_core.proofs.Rest.SecondBatch.{no_zeros_released}

@@ -25,7 +25,7 @@ use Rattle.rec_core.specs.Pending.{code, pending}
 use Rattle.rec_core.specs.Resting.{AreCounted, IsHeldIn, SetsRest, holds}
 use Rattle.rec_core.specs.Settling.{heap_sum, leading}
 use Rattle.rec_core.specs.Settling.IsReachable.{held, along}
-use Rattle.rec_core.specs.Turn.{words_without}
+use Rattle.rec_core.proofs.TurnCases.{words_without}
 use Rattle.rec_core.proofs.Counts.{counted_slot}
 use Rattle.rec_core.proofs.Moves.{code_target, home_of}
 use Rattle.rec_core.proofs.Places.{place_within}

@@ -20,7 +20,7 @@ use Rattle.rec_core.specs.Kept.{IsKept}
 use Rattle.rec_core.specs.Pending.{older_at}
 use Rattle.rec_core.specs.Quiet.{AreQuiet, AreGathered}
 use Rattle.rec_core.specs.Resting.{AreCounted, AreWithinReach, Round, RestsIn, ComesTo}
-use Rattle.rec_core.specs.Turn.{IsTurn, word_at, words_without}
+use Rattle.rec_core.proofs.TurnCases.{IsTurn, word_at, words_without}
 use Rattle.rec_core.proofs.Begun.{applied_lands, batch_comes}
 use Rattle.rec_core.proofs.Freeing.{freed_lands, may_empty}
 use Rattle.rec_core.proofs.Landed.{HasCleared}

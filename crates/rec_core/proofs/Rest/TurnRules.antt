@@ -30,7 +30,7 @@ use Rattle.rec_core.specs.Cells.{cell}
 use Rattle.rec_core.specs.Core.{Core, cells_of, box, crossing_of}
 use Rattle.rec_core.specs.Kept.{IsKept}
 use Rattle.rec_core.specs.Moves.{looked_at, left_by, collected, turned, turned_at}
-use Rattle.rec_core.specs.Turn.{IsTurn, word_at, swept_by}
+use Rattle.rec_core.proofs.TurnCases.{IsTurn, word_at, swept_by}
 use Rattle.rec_core.proofs.Preparing.{loads_due}
 use Rattle.rec_core.proofs.Runs.{given_is}
 use Rattle.rec_core.proofs.Trying.{loads_child}

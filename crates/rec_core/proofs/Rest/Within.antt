@@ -25,7 +25,7 @@ use Rattle.rec_core.specs.Core.{Core, sight}
 use Rattle.rec_core.specs.Kept.{IsKept}
 use Rattle.rec_core.specs.Resting.{holds, IsHeldIn, AreFound, AreWithinReach, SetsRest, Round, ComesTo}
 use Rattle.rec_core.specs.Settling.{IsReachable}
-use Rattle.rec_core.specs.Turn.{header_freed}
+use Rattle.rec_core.proofs.TurnCases.{header_freed}
 use Rattle.rec_core.proofs.Landed.{HasLanded}
 use Rattle.rec_core.proofs.Rest.SettlingBetween.{unheld_swept}
 use Rattle.rec_core.proofs.Sweeping.{swept_below, due_released}

@@ -1,4 +1,5 @@
--- What a turn of the collector makes of a heap, rule by rule.
+-- What a turn can have made of a heap, case by case: the rules of the collector's step, read where the words that they speak of are
+-- those of the heap. `TurnRules` shows that each turn is one of them.
 use Rattle.std.specs.Prelude.{◌≡◌, ◌≢◌, ◌⊎◌, ℕ, ◌+◌, ◌-◌, ◌^◌, false, Option, Some, List, length, drop, slice_get, slice_index_or, slice_set}
 use Rattle.rec_word.specs.Mailbox.{crossing_word}
 use Rattle.rec_word.specs.declared.mailbox.Mailbox.{Mailbox}
