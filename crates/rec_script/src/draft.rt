@@ -11,15 +11,13 @@ ghost use Rattle.rec_script.specs.declared.error.ScriptError.TheVariants.{Bad};
 use crate::command::command;
 use crate::error::{Kind, ScriptError};
 use crate::heap::{Heap, read_heap};
+use crate::limits::{MOST_COMMANDS, MOST_MUTATORS};
 use crate::line::{next_line, next_word};
-use crate::operand::{MOST_COMMANDS, is_name, no_word, one_word};
+use crate::operand::{is_name, no_word, one_word};
 use crate::script::Script;
 use crate::spaced::spaced_command;
 use std::alloc::{AllocError, Global};
 use std::str::from_utf8;
-
-/// How many mutators a script has at most.
-const MOST_MUTATORS: u8 = 8;
 
 /// What the lines so far have spelled.
 #[derive(Debug, Drop)]

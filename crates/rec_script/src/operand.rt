@@ -8,10 +8,8 @@ ghost use Rattle.rec_script.specs.Script.{IsNumeralOf, IsWrong};
 ghost use Rattle.std.specs.Fmt.{decimal};
 
 use crate::error::Kind;
+use crate::limits::MOST_COMMANDS;
 use crate::line::next_word;
-
-/// How many commands a mutator has at most.
-pub const MOST_COMMANDS: usize = 200_000;
 
 /// The number that a numeral spells; a numeral has no leading zeros and is at most 4,294,967,295.
 pub fn numeral(word: &[u8]) -> Option<u32>

@@ -8,11 +8,9 @@ ghost use Rattle.rec_script.specs.declared.error.ScriptError.TheVariants.{Bad};
 
 use crate::draft::Draft;
 use crate::error::{Kind, ScriptError};
+use crate::limits::MOST_BYTES;
 use crate::script::Script;
 use std::alloc::Global;
-
-/// How many bytes a script has at most.
-const MOST_BYTES: usize = 16_777_216;
 
 /// The script that the bytes spell.
 pub fn read(alloc: Global, bytes: &[u8]) -> Result<Script, ScriptError>

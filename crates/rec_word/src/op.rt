@@ -135,6 +135,22 @@ mod tests {
     }
 
     #[test]
+    fn operations_name_a_word_and_whose_mailbox_they_take(rt: HostRuntime) {
+        for (op, cell, mailbox) in [
+            (Op::ClearField(7), Cell::Field(7), None),
+            (Op::FreeHeader(3), Cell::Header(3), None),
+            (Op::StoreEpoch(6), Cell::Epoch, None),
+            (Op::AddFreed, Cell::Freed, None),
+            (Op::TakeBox(2, 6), Cell::Crossing(2), Some(2)),
+            (Op::LookBox(2, 6), Cell::Crossing(2), Some(2)),
+            (Op::ReturnBox(2, 6), Cell::Crossing(2), None),
+        ] {
+            assert_eq!(rt; op.cell(), cell);
+            assert_eq!(rt; op.mailbox(), mailbox);
+        }
+    }
+
+    #[test]
     fn a_mailbox_goes_out_and_home(rt: HostRuntime) {
         assert_eq!(rt; Op::StoreEpoch(6).written(5), 6);
         assert_eq!(rt; Op::TakeBox(1, 6).written(20), 25);

@@ -21,12 +21,12 @@ const MOST_TURNS: u64 = 10_000_000;
 /// How many mutators a made script has where no number is given, and at most.
 const MUTATORS: u64 = 2;
 
-const MOST_MUTATORS: u64 = 8;
+const MOST_MUTATORS: u64 = rec_script::MOST_MUTATORS as u64;
 
 /// How many commands each mutator of a made script has where no number is given, and at most.
 const COMMANDS: u64 = 1_000;
 
-const MOST_COMMANDS: u64 = 200_000;
+const MOST_COMMANDS: u64 = rec_script::MOST_COMMANDS as u64;
 
 /// What a command line asks for.
 #[derive(Clone, Copy, Debug, PartialEq, Eq)]

@@ -5,10 +5,8 @@ ghost use Rattle.rec_io.specs.Source.{Passes, IsSpent};
 ghost use Rattle.recycler.specs.Whole.{IsAtEnd};
 
 use rec_io::{Given, Source};
+use rec_script::MOST_BYTES;
 use std::alloc::{AllocError, Global};
-
-/// How many bytes a script has at most.
-pub const MOST_BYTES: usize = 16_777_216;
 
 // How many bytes are asked for at once.
 const CHUNK: usize = 65_536;
