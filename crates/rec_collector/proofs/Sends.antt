@@ -54,14 +54,13 @@ parts_send = view_send _ _ _ _ _ (recorded_send _ _ _ (parts.TheInside.the_type)
 
 -- each field of the machine may
 each : AllSend (fields machine.TheInside.the_type)
-each =
-    (
-      search sendable,
-      (
-        search sendable,
-        (search sendable, (search sendable, (phases, (search sendable, (search sendable, (search (parts_send, sendable), (search (buffers, sendable, crosses), (search (buffers, sendable, crosses), (sweeps, tt))))))))),
-      ),
-    )
+each = (
+  search sendable,
+  (
+    search sendable,
+    (search sendable, (search sendable, (phases, (search sendable, (search sendable, (search (parts_send, sendable), (search (buffers, sendable, crosses), (search (buffers, sendable, crosses), (sweeps, tt))))))))),
+  ),
+)
 
 pub machine_send : IsSend machine.the_row
 machine_send = view_send _ _ _ _ _ (recorded_send _ _ _ (machine.TheInside.the_type).to_one (struct_send (shape machine.TheInside.the_type) each))
@@ -102,14 +101,13 @@ parts_sync = view_sync _ _ _ _ _ (recorded_sync _ _ _ (parts.TheInside.the_type)
 
 -- each field of the machine may
 each_shared : AllSync (fields machine.TheInside.the_type)
-each_shared =
-    (
-      search sendable,
-      (
-        search sendable,
-        (search sendable, (search sendable, (phases_shared, (search sendable, (search sendable, (search (parts_sync, sendable), (search (buffers_shared, sendable, crosses), (search (buffers_shared, sendable, crosses), (sweeps_shared, tt))))))))),
-      ),
-    )
+each_shared = (
+  search sendable,
+  (
+    search sendable,
+    (search sendable, (search sendable, (phases_shared, (search sendable, (search sendable, (search (parts_sync, sendable), (search (buffers_shared, sendable, crosses), (search (buffers_shared, sendable, crosses), (sweeps_shared, tt))))))))),
+  ),
+)
 
 pub machine_sync : IsSync machine.the_row
 machine_sync = view_sync _ _ _ _ _ (recorded_sync _ _ _ (machine.TheInside.the_type).to_one (struct_sync (shape machine.TheInside.the_type) each_shared))

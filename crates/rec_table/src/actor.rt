@@ -88,8 +88,16 @@ fn make<W: Doing>(
                 shared.compare_exchange::<Makes<W>>(seat, word, 0, u64::from(label) + 1)
             }
         }
-        Op::TakeBox(_, epoch) => shared.swap::<Takes<W>>(seat, word, crossing(epoch, Mailbox::WithMutator)),
-        Op::GiveBox(_, epoch) => shared.swap::<Gives<W>>(seat, word, crossing(epoch, Mailbox::Retired)),
+        Op::TakeBox(_, epoch) => shared.swap::<Takes<W>>(
+            seat,
+            word,
+            crossing(epoch, Mailbox::WithMutator),
+        ),
+        Op::GiveBox(_, epoch) => shared.swap::<Gives<W>>(
+            seat,
+            word,
+            crossing(epoch, Mailbox::Retired),
+        ),
         _ => unreachable!(),
     }
 }

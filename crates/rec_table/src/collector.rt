@@ -77,7 +77,11 @@ fn make_turn<W: Turning>(board: &Board, seat: &mut Seat<Option<Buffer>, View>, o
         Op::ClearField(_) | Op::FreeHeader(_) => shared.swap::<Turned<W>>(seat, word, 0),
         Op::StoreEpoch(epoch) => shared.swap::<Turned<W>>(seat, word, u64::from(epoch)),
         Op::AddFreed => shared.fetch_add::<Turned<W>>(seat, word, 1),
-        Op::ReturnBox(_, epoch) => shared.swap::<Returned<W>>(seat, word, crossing(epoch, Mailbox::Spare)),
+        Op::ReturnBox(_, epoch) => shared.swap::<Returned<W>>(
+            seat,
+            word,
+            crossing(epoch, Mailbox::Spare),
+        ),
         _ => unreachable!(),
     }
 }
@@ -103,7 +107,12 @@ fn look<W: Turning>(
     let shared = &board.table.shared;
     let word = board.index(Op::LookBox(t, epoch));
     let due = crossing(epoch, Mailbox::Retired);
-    let found = shared.compare_exchange::<Looked<W>>(seat, word, due, crossing(epoch, Mailbox::WithCollector));
+    let found = shared.compare_exchange::<Looked<W>>(
+        seat,
+        word,
+        due,
+        crossing(epoch, Mailbox::WithCollector),
+    );
     let turn = machine.took(found);
     if found == due {
         let mailbox = seat.slot_mut(shared, usize::from(t) - 1);

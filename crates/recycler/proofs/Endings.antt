@@ -187,16 +187,6 @@ refuses request (statuses.BadScript l k) source sink ends is_read bytes line kin
     let same = refused_once bytes l line k kind (subst (λ all. IsRefused all l k) (sym (found.read bytes told)) found.refused) refused in
     inl (ap (λ n. statuses.BadScript n k) same.0 ∙ ap (statuses.BadScript line) same.1)
 
--- a made script is written, unless a write fails or memory runs out
-pub makes : (request : Request) (status : Status) (source sink : Passage) → Ends request status source sink → (ReadsScript request → ⊥) → (Failed sink → ⊥)
-    → (status ≡ statuses.Done) ⊎ (status ≡ statuses.NoMemory)
-makes request statuses.Done source sink ends unread no_write = inl refl
-makes request statuses.NoMemory source sink ends unread no_write = inr refl
-makes request statuses.Usage source sink ends unread no_write = absurd ends
-makes request statuses.ReadFault source sink ends unread no_write = absurd (unread ends.0)
-makes request statuses.WriteFault source sink ends unread no_write = absurd (no_write ends.0)
-makes request (statuses.BadScript line kind) source sink ends unread no_write = absurd (unread ends.0)
-
 -- a fact of each value that was made
 pub if_ok : {T E : Type 0} (r : Result T E) (P Q : T → Type 0) → ((x : T) → P x → Q x) → IfOk r P → IfOk r Q
 if_ok (Ok x) P Q step held = step x held

@@ -25,15 +25,6 @@ asked_to_read words request asks (other, others, reads) = go (subcommand_of recy
     go (Some (name, options)) (requests.Make m) (requests.Make n) one two reads = absurd reads
     go None request other one two reads = absurd one
 
--- words that ask for a made script ask for nothing else
-pub asked_to_make : (words : List (List ℕ)) (request : Request) → Asks words request → AsksToMake words → ReadsScript request → ⊥
-asked_to_make words request asks (m, others) = go (subcommand_of recycler words) request asks.asked others.asked
-  where
-    go : (told : Option (List ℕ × List Found)) (request : Request) → AsksBy told request → AsksBy told (requests.Make m) → ReadsScript request → ⊥
-    go (Some (name, options)) (requests.Play p) one two reads = apart name one.0 two.0
-    go (Some (name, options)) (requests.Make n) one two reads = reads
-    go None request one two reads = one
-
 -- a made script was written whole
 pub wrote_made : (m : Make) (rest before after : Option (List ℕ)) → Appends before after (made_text m.seed m.mutators m.commands) → WroteAnswer (requests.Make m) rest rest before after
 wrote_made m rest before after appends =

@@ -1,4 +1,4 @@
--- The number of each status, which statuses write nothing, and which come of a made script.
+-- The number of each status, and which statuses write nothing.
 use Rattle.std.specs.Prelude.{ℕ, Bool, true, false}
 use Rattle.recycler.specs.declared.status.Status.{Status}
 use Rattle.recycler.specs.declared.status.Status.TheVariants.{Done, Usage, BadScript, ReadFault, WriteFault, NoMemory}
@@ -17,10 +17,3 @@ abbrev pub may_write : Status → Bool
 may_write Done = true
 may_write WriteFault = true
 may_write _ = false
-
--- whether a made script may end so
-abbrev pub may_make : Status → Bool
-may_make Done = true
-may_make WriteFault = true
-may_make NoMemory = true
-may_make _ = false

@@ -20,11 +20,7 @@ use std::alloc::{AllocError as NoMemory, Global};
 
 /// The answer to a script, in the order that the playing rule draws from the seed with at most so many turns: the whole
 /// text, or a summary.
-pub fn answer_script(
-    alloc: Global,
-    script: &Script,
-    how: Play,
-) -> Result<Text, NoMemory>
+pub fn answer_script(alloc: Global, script: &Script, how: Play) -> Result<Text, NoMemory>
     requires { how.turns ≤ 10000000 }
     ensures { IfOk result (λ text. Answers script.now how (flat_map (λ line. line) text)) }
 {
@@ -32,7 +28,9 @@ pub fn answer_script(
     let mut journals = journals_for(alloc, script)?;
     let journals = journals.as_mut_slice();
     let mut order = order_for(alloc, script)?;
-    play(script, how.seed, how.turns, &mut world, journals, &mut order);
+    play(
+        script, how.seed, how.turns, &mut world, journals, &mut order,
+    );
     // Each turn requests one epoch more at most, so there are enough left to settle.
     let Ok(_) = settle(&mut world) else {
         unreachable!();

@@ -1,8 +1,8 @@
 -- Each clause is read off the end of the request, which stays an end when the sink has passed on what it held.
 use Rattle.std.proofs.Common.{subst}
 use Rattle.recycler.specs.Ends.{Ends, passage}
-use Rattle.recycler.proofs.Endings.{completes, finished, makes, refuses}
-use Rattle.recycler.proofs.Requests.{asked_to_make, asked_to_read}
+use Rattle.recycler.proofs.Endings.{completes, finished, refuses}
+use Rattle.recycler.proofs.Requests.{asked_to_read}
 use Rattle.recycler.proofs.run.run.Goals as goal
 
 pub returns-in-Ok-clause-front : goal.returns-in-Ok-clause-front
