@@ -20,6 +20,7 @@ use Rattle.rec_mutator.proofs.Refusals.{took_cause}
 use Rattle.rec_mutator.proofs.Steps.{TakesNone, here_same, none_between}
 use Rattle.rec_table.specs.Answered.{FailsProbes, IsAnswered, worked}
 use Rattle.rec_table.specs.Beats.{learnt}
+use Rattle.rec_table.specs.Scan.{saw_all}
 use Rattle.rec_table.specs.declared.views.Beat.{Beat}
 use Rattle.rec_table.specs.declared.views.Beat.TheVariants.{Begins, Saw}
 
@@ -99,18 +100,25 @@ path_first work p q log log' word grows machine busy works_on slots made = recor
   made = made;
 }
 
-pub path_on : (work : Work) (p q r : Private) (log log' log'' : List Beat) (word : ℕ) → Path work p log log' q → log'' ≡ log' ++ Saw word ∷ [] → IsMachine q → is_busy q ≡ true → work_of q ≡ Some work → q.slots ≡ p.slots → r ≡ learnt q (Saw word)
-    → Path work p log log'' r
-path_on work p q r log log' log'' word path more machine busy works_on slots made =
-    let ws : List ℕ = path.words ++ path.last ∷ [] in
+-- failing probes that found these words, and one step more
+pub path_on : (work : Work) (p q m r : Private) (log was on now : List Beat) (ws : List ℕ) (word : ℕ) → Path work p log was q → is_busy m ≡ true → work_of m ≡ Some work → on ≡ was ++ saw_all ws → m ≡ fold took_of q ws → now ≡ on ++ Saw word ∷ []
+    → IsMachine m → m.slots ≡ p.slots → r ≡ learnt m (Saw word) → Path work p log now r
+path_on work p q m r log was on now ws word path busy works_on passed came more machine slots made =
+    let first : List ℕ = path.words ++ path.last ∷ [] in
+    let last : List Beat = Saw word ∷ [] in
+    let beats : worked work first ++ (saw_all ws ++ last) ≡ worked work ((first ++ ws) ++ word ∷ []) =
+    ap (λ (l : List Beat). Begins work ∷ l) (sym (append_assoc (saw_all first) (saw_all ws) last) ∙ ap (λ (l : List Beat). l ++ last) (sym (map-append (λ (n : ℕ). Saw n) first ws)) ∙ sym (map-append (λ (n : ℕ). Saw n) (first ++ ws) (word ∷ []))) in
     record {
-      words = ws;
+      words = first ++ ws;
       last = word;
-      grows = more ∙ (λ i. path.grows i ++ Saw word ∷ []) ∙ append_assoc log (worked work ws) (Saw word ∷ []) ∙ ap (λ (l : List Beat). log ++ (Begins work ∷ l)) (sym (map-append (λ (n : ℕ). Saw n) ws (word ∷ [])));
-      before = q;
+      grows = more ∙ ap (λ (l : List Beat). l ++ last) passed ∙ (λ i. (path.grows i ++ saw_all ws) ++ last) ∙ append_assoc (log ++ worked work first) (saw_all ws) last ∙ append_assoc log (worked work first) (saw_all ws ++ last)
+          ∙ ap (λ (l : List Beat). log ++ l) beats;
+      before = m;
       came = λ cmd is.
           let none : TakesNone path.before.phase = command_takes_none path.before cmd (path.works_on ∙ ap (λ (w : Work). Some w) is) in
-          path.made ∙ here_same path.before path.last (spare (took_of path.before path.last)) path.busy none ∙ ap (λ (x : Private). took_of x path.last) (path.came cmd is) ∙ sym (fold-append took_of (begun_of p work) path.words (path.last ∷ []));
+          let so_far : q ≡ fold took_of (begun_of p work) first = path.made ∙ here_same path.before path.last (spare (took_of path.before path.last)) path.busy none ∙ ap (λ (x : Private). took_of x path.last) (path.came cmd is)
+          ∙ sym (fold-append took_of (begun_of p work) path.words (path.last ∷ [])) in
+          came ∙ ap (λ (x : Private). fold took_of x ws) so_far ∙ sym (fold-append took_of (begun_of p work) first ws);
       machine = machine;
       busy = busy;
       works_on = works_on;

@@ -42,14 +42,14 @@ use Rattle.rec_core.proofs.Trying.{loads_child}
 use Rattle.rec_core.proofs.Turning.{some_op}
 use Rattle.rec_table.specs.Beats.{gathered, gathered_all, looked}
 use Rattle.rec_core.specs.Row.{index_of}
-use Rattle.rec_table.specs.Rule.{IsReturnOp, Holds, TurnedBy, LookedBy, ReturnedBy, records, crew_of, crew_more, boxes_at, boxes_out, NotLooking}
+use Rattle.rec_table.specs.Rule.{IsReturnOp, Holds, TurnedBy, LookedBy, Looks, GlancedBy, ReturnedBy, records, crew_of, crew_more, boxes_at, boxes_out, NotLooking}
 use Rattle.rec_table.specs.declared.views.Beat.{Beat}
 use Rattle.rec_table.specs.declared.views.Beat.TheVariants.{Saw, Took}
 use Rattle.rec_table.specs.declared.views.Crew.{Crew}
 use Rattle.rec_table.specs.declared.views.View.{View}
 use Rattle.rec_table.specs.declared.views.View.TheVariants.{Collects}
 use Rattle.rec_table.proofs.Steps.{IsPlainOp}
-use Rattle.rec_table.proofs.Turns.{turns, looks, returns_box}
+use Rattle.rec_table.proofs.Turns.{turns, looks, glances, returns_box}
 
 -- an operation of a turn that moves no mailbox
 abbrev pub IsLoneOp : Op → Type 0
@@ -367,25 +367,33 @@ pub given_looking : (p : Private) (t word : ℕ) → p.phase ≡ Looking t → I
 unfolding IsGiven IsGivenAt
 given_looking p t word is = subst (λ (x : Phase). IsGivenAt p word x) (sym is) tt
 
-pub allows_look : (key : Core) (slots id i : ℕ) (me : Me (Option Contents) View) (t epoch number : ℕ) (p actor : Private) (f : ℕ → ℕ) (st : Step (Option Contents))
-    → me ≡ (Collects (crew_of me.0), []) → actor ≡ p → number ≡ t → p ≡ gathered_all key.collector (crew_of me.0).log → p.phase ≡ Looking t → p.epoch ≡ epoch
-    → i ≡ index_of (length key.words) (length key.headers) (ops.LookBox t epoch) → ((n : ℕ) → f n ≡ written (ops.LookBox t epoch) n) → Allows (Holds key) slots id me i f (LookedBy actor number st me)
-allows_look key slots id i me t epoch number p actor f st is a_is n_is is_p phase e_is at does =
-    let all = looks key slots id t (crew_of me.0) p f st is_p phase (λ n. does n ∙ ap (λ (e : ℕ). written (ops.LookBox t e) n) (sym e_is)) in
-    subst (λ (y : Me (Option Contents) View × ℕ × Private × ℕ). Allows (Holds key) slots id y.0 y.1 f (LookedBy y.2 y.3 st y.0)) (λ k. (sym is k, sym (at ∙ ap (λ (e : ℕ). index_of (length key.words) (length key.headers) (ops.LookBox t e)) (sym e_is)) k, sym a_is k, sym n_is k)) all
+module _ (key : Core) (slots id i : ℕ) (me : Me (Option Contents) View) (t epoch number : ℕ) (p : Private) (st : Step (Option Contents)) (is : me ≡ (Collects (crew_of me.0), [])) (n_is : number ≡ t) (is_p : p ≡ gathered_all key.collector (crew_of me.0).log)
+    (phase : p.phase ≡ Looking t) (e_is : p.epoch ≡ epoch) (at : i ≡ index_of (length key.words) (length key.headers) (ops.LookBox t epoch)) where
+  its : i ≡ index_of (length key.words) (length key.headers) (ops.LookBox t p.epoch)
+  its = at ∙ ap (λ (e : ℕ). index_of (length key.words) (length key.headers) (ops.LookBox t e)) (sym e_is)
+
+  pub allows_look : (f : ℕ → ℕ) → ((n : ℕ) → f n ≡ written (ops.LookBox t epoch) n) → Allows (Holds key) slots id me i f (LookedBy p number st me)
+  allows_look f does =
+      let all = looks key slots id t (crew_of me.0) p f st is_p phase (λ n. does n ∙ ap (λ (e : ℕ). written (ops.LookBox t e) n) (sym e_is)) in
+      subst (λ (y : Me (Option Contents) View × ℕ × ℕ). Allows (Holds key) slots id y.0 y.1 f (LookedBy p y.2 st y.0)) (λ k. (sym is k, sym its k, sym n_is k)) all
+
+  pub allows_glance : Allows (Holds key) slots id me i (λ n. n) (GlancedBy p number st me)
+  allows_glance =
+      let all = glances key slots id t (crew_of me.0) p st is_p phase in
+      subst (λ (y : Me (Option Contents) View × ℕ × ℕ). Allows (Holds key) slots id y.0 y.1 (λ n. n) (GlancedBy p y.2 st y.0)) (λ k. (sym is k, sym its k, sym n_is k)) all
 
 abbrev pub Hit : (p : Private) (t word : ℕ) (c : Crew) (me : Me (Option Contents) View) → Type 0
 Hit p t word c me = (b : Contents) × (me ≡ (Collects (crew_more c (Took word b)), (t - 1, Some b) ∷ [])) × IsSized p.registers p.capacity b
 
-pub look_hits : (p actor : Private) (t number epoch word : ℕ) (st : Step (Option Contents)) (me me' : Me (Option Contents) View) → me ≡ (Collects (crew_of me.0), []) → actor ≡ p → number ≡ t → p.epoch ≡ epoch → word ≡ crossing_word epoch Retired
-    → LookedBy actor number st me word me' → Hit p t word (crew_of me.0) me'
-look_hits p actor t number epoch word st me me' is a_is n_is e_is hit by =
+pub look_hits : (p actor : Private) (t number epoch word : ℕ) (me me' : Me (Option Contents) View) → me ≡ (Collects (crew_of me.0), []) → actor ≡ p → number ≡ t → p.epoch ≡ epoch → word ≡ crossing_word epoch Retired
+    → Looks actor number me word me' → Hit p t word (crew_of me.0) me'
+look_hits p actor t number epoch word me me' is a_is n_is e_is hit by =
     let (b, now, sized) = by.0 (hit ∙ ap (λ (e : ℕ). crossing_word e Retired) (sym e_is ∙ ap (λ (x : Private). x.epoch) (sym a_is))) in
     (b, now ∙ (λ k. (records (is k).0 (Took word b), (n_is k - 1, Some b) ∷ (is k).1)), subst (λ (x : Private). IsSized x.registers x.capacity b) a_is sized)
 
-pub look_misses : (p actor : Private) (t number epoch word : ℕ) (st : Step (Option Contents)) (me me' : Me (Option Contents) View) → me ≡ (Collects (crew_of me.0), []) → actor ≡ p → p.epoch ≡ epoch → (word ≡ crossing_word epoch Retired → ⊥)
-    → LookedBy actor number st me word me' → me' ≡ (Collects (crew_more (crew_of me.0) (Saw word)), [])
-look_misses p actor t number epoch word st me me' is a_is e_is miss by =
+pub look_misses : (p actor : Private) (t number epoch word : ℕ) (me me' : Me (Option Contents) View) → me ≡ (Collects (crew_of me.0), []) → actor ≡ p → p.epoch ≡ epoch → (word ≡ crossing_word epoch Retired → ⊥)
+    → Looks actor number me word me' → me' ≡ (Collects (crew_more (crew_of me.0) (Saw word)), [])
+look_misses p actor t number epoch word me me' is a_is e_is miss by =
     by.1 (λ e. miss (e ∙ ap (λ (x : ℕ). crossing_word x Retired) (ap (λ (x : Private). x.epoch) a_is ∙ e_is))) ∙ (λ k. (records (is k).0 (Saw word), (is k).1))
 
 took_hit : (p : Private) (t word : ℕ) → p.phase ≡ Looking t → word ≡ crossing_word p.epoch Retired → took_of p word ≡ moved p (Swapping t)

@@ -16,7 +16,7 @@ pub mod Ends
 pub mod Closing
 pub mod Births
 pub mod Stopping
-pub mod Probing
+pub mod Scanning
 pub mod Journals
 pub mod Safe
 pub mod Stopped

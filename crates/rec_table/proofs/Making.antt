@@ -1,5 +1,5 @@
 -- The calls of a mutator's step, with or without a mailbox.
-use Rattle.std.proofs.Common.{◌≡◌, inl, inr, ℕ, ◌+◌, ◌-◌, ◌%◌, ◌^◌, arith, Bool, true, false, true≢false, List, [], ◌∷◌, ◌++◌, length, Option, Some, None, refl, sym, ap, ◌∙◌, subst}
+use Rattle.std.proofs.Common.{◌≡◌, inl, inr, ℕ, ◌+◌, ◌-◌, ◌%◌, ◌^◌, arith, Bool, true, false, true≢false, List, [], ◌∷◌, ◌++◌, length, Option, Some, None, refl, sym, ap, ◌∙◌, subst, append-nil, append_assoc}
 use Rattle.atomic_table.specs.Table.{Me, Step, Allows, rest}
 use Rattle.rec_word.specs.Op.{written}
 use Rattle.rec_word.specs.declared.op.Op.{Op}
@@ -21,6 +21,7 @@ use Rattle.rec_model.specs.declared.told.Told.{Told}
 use Rattle.rec_log.specs.declared.entry.Entry.{Entry}
 use Rattle.rec_core.specs.Cells.{births_of}
 use Rattle.rec_table.specs.Held.{Held, IsTold, Works}
+use Rattle.rec_table.specs.Scan.{HasScanned, saw_all}
 use Rattle.rec_table.specs.declared.views.Beat.{Beat}
 use Rattle.rec_core.specs.Core.{Core, mutator}
 use Rattle.rec_core.proofs.Words.{IsOwnOp, own_next}
@@ -559,7 +560,16 @@ works_first h h' work word e =
     let logs : h'.log ≡ h.log ++ beats (Some work) word = ap (λ (x : Held). x.log) e in
     (subst (Works work h.log) (sym logs) (Works.first word), e ∙ (λ k. record h { log = sym logs k }))
 
-pub works_on : (h l h' : Held) (work : Work) (word : ℕ) → Works work h.log l.log → l ≡ record h { log = l.log } → h' ≡ record l { log = l.log ++ beats None word } → Works work h.log h'.log × (h' ≡ record h { log = h'.log })
-works_on h l h' work word grows is e =
-    let logs : h'.log ≡ l.log ++ beats None word = ap (λ (x : Held). x.log) e in
-    (subst (Works work h.log) (sym logs) (Works.then l.log word grows), e ∙ (λ k. record (is k) { log = sym logs k }))
+-- failing probes, and one step more
+probed : (work : Work) (log was : List Beat) (words : List ℕ) → Works work log was → Works work log (was ++ saw_all words)
+probed work log was [] grows = subst (Works work log) (sym (append-nil was)) grows
+probed work log was (w ∷ ws) grows = subst (Works work log) (append_assoc was (Saw w ∷ []) (saw_all ws)) (probed work log (was ++ Saw w ∷ []) ws (Works.then was w grows))
+
+pub works_on : (h l m h' : Held) (work : Work) (word : ℕ) → Works work h.log l.log → l ≡ record h { log = l.log } → HasScanned l m → h' ≡ record m { log = m.log ++ beats None word } → Works work h.log h'.log × (h' ≡ record h { log = h'.log })
+works_on h l m h' work word grows is scanned e =
+    let logs : h'.log ≡ m.log ++ beats None word = ap (λ (x : Held). x.log) e in
+    let passed : m.log ≡ l.log ++ saw_all scanned.words = ap (λ (x : Held). x.log) scanned.grows in
+    let same : m ≡ record h { log = m.log } = scanned.grows ∙ (λ k. record (is k) { log = sym passed k }) in (
+      subst (Works work h.log) (sym logs) (Works.then m.log word (subst (Works work h.log) (sym passed) (probed work h.log l.log scanned.words grows))),
+      e ∙ (λ k. record (same k) { log = sym logs k }),
+    )

@@ -13,7 +13,7 @@ use Rattle.rec_mutator.specs.Private.{Private, is_busy}
 use Rattle.rec_core.specs.Core.{Core, mutator}
 use Rattle.rec_table.specs.Beats.{told}
 use Rattle.rec_core.specs.Row.{index_of}
-use Rattle.rec_table.specs.Rule.{Holds, ProbedBy, IsPlain}
+use Rattle.rec_table.specs.Rule.{Holds, PassedBy, IsPlain}
 use Rattle.rec_table.specs.declared.views.Seated.{Seated}
 use Rattle.rec_table.specs.declared.views.View.{View}
 use Rattle.rec_table.specs.declared.views.View.TheVariants.{Mutates}
@@ -26,7 +26,7 @@ set_word (x ∷ l) (suc i) = ap (λ k. x ∷ k) (set_word l i)
 
 pub probes : (key : Core) (slots id slot label : ℕ) (t : Seated) (hs : List (ℕ × Option Contents)) (p : Private) (op : Op) (st : Step (Option Contents))
     → p ≡ told (mutator key t.number) t.log → is_busy p ≡ true → IsPlain p.phase → op ≡ next_of p → op ≡ ops.ClaimHeader slot label
-    → Allows (Holds key) slots id (Mutates t, hs) (index_of (length key.words) (length key.headers) op) (λ n. n) (ProbedBy p st (Mutates t, hs))
+    → Allows (Holds key) slots id (Mutates t, hs) (index_of (length key.words) (length key.headers) op) (λ n. n) (PassedBy st (Mutates t, hs))
 probes key slots id slot label t hs p op st is_p busy plain is_op claims s h len at_id fit =
     let i : ℕ = index_of (length key.words) (length key.headers) op in
     let n : ℕ = get_or s.words i 0 in
@@ -45,5 +45,5 @@ probes key slots id slot label t hs p op st is_p busy plain is_op claims s h len
       all.1,
       all.2,
       subst (λ z. Holds key (stepped s i z id hs all.0 all.1)) same all.3,
-      ((λ ne. all.4), (λ e. absurd (some_found e))),
+      ((λ ne. all.4.0), (λ e. absurd (some_found e))),
     ))

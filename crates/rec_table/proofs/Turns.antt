@@ -5,7 +5,8 @@ use native.Mathlib.Decide.{ℕ_discrete}
 use mathlib.Core.Option as maybe
 use mathlib.Core.Option.{some, none}
 use lib.ListN.{get_elem?}
-use Rattle.atomic_table.specs.Table.{State, Step, Allows, keeps, takes, gives}
+use Rattle.atomic_table.specs.Table.{State, Step, Allows, keeps, takes, gives, stepped}
+use Rattle.atomic_table.proofs.Lists.{set_again}
 use Rattle.rec_word.specs.Op.{written}
 use Rattle.rec_word.specs.Mailbox.{crossing_word}
 use Rattle.rec_word.specs.declared.mailbox.Mailbox.TheVariants.{Retired, Spare, WithCollector, WithMutator}
@@ -36,7 +37,7 @@ use Rattle.rec_core.proofs.Words.{may_turn}
 use Rattle.rec_table.specs.Beats.{beats_of, looked, turn_at, gathered_all}
 use Rattle.rec_table.specs.Homes.{homes_of}
 use Rattle.rec_core.specs.Row.{row, index_of}
-use Rattle.rec_table.specs.Rule.{Fits, Holds, TurnedBy, LookedBy, ReturnedBy}
+use Rattle.rec_table.specs.Rule.{Fits, Holds, TurnedBy, LookedBy, GlancedBy, ReturnedBy}
 use Rattle.rec_table.specs.declared.views.Beat.{Beat}
 use Rattle.rec_table.specs.declared.views.Beat.TheVariants.{Saw, Took}
 use Rattle.rec_table.specs.declared.views.Crew.{Crew}
@@ -261,6 +262,31 @@ looks key slots id t c p f st is_p phase does s h len at_id fit =
       tt,
       turns_on key s h id c p op (f n) s.homes (Saw n) at_id here (does n) (h.homes ∙ (λ j. homes_of (sym crossing j) (sym boxes j))) beat,
       ((λ e. absurd (miss e)), (λ ne. refl)),
+    ))
+
+-- A glance is a load: a look that takes no mailbox, or no turn at all.
+pub glances : (key : Core) (slots id t : ℕ) (c : Crew) (p : Private) (st : Step (Option Contents)) → p ≡ gathered_all key.collector c.log → p.phase ≡ Looking t
+    → Allows (Holds key) slots id (Collects c, []) (index_of (length key.words) (length key.headers) (ops.LookBox t p.epoch)) (λ n. n) (GlancedBy p t st (Collects c, []))
+glances key slots id t c p st is_p phase s h len at_id fit =
+    let op : Op = ops.LookBox t p.epoch in
+    let i : ℕ = index_of (length key.words) (length key.headers) op in
+    let n : ℕ = get_or s.words i 0 in
+    dite (ℕ_discrete n (crossing_word p.epoch Retired))
+    (λ (hit : n ≡ crossing_word p.epoch Retired). (
+      Collects c,
+      keeps,
+      tt,
+      subst (Holds key) (λ j. let u : State (Option Contents) View = record { words = sym (set_same s.words i) j; homes = s.homes; views = sym (set_again s.views id (Collects c) at_id) j } in u) h,
+      ((λ ne. absurd (ne hit)), (λ e. refl)),
+    ))
+    (λ (miss : n ≢ crossing_word p.epoch Retired).
+    let all = looks key slots id t c p (written op) st is_p phase (λ k. refl) s h len at_id fit in
+    let same : written op n ≡ n = ap (λ b. cond b (crossing_word p.epoch WithCollector) n) (ne_eqb n (crossing_word p.epoch Retired) miss) in (
+      all.0,
+      all.1,
+      all.2,
+      subst (λ z. Holds key (stepped s i z id [] all.0 all.1)) same all.3,
+      ((λ ne. all.4), (λ e. absurd (miss e))),
     ))
 
 -- the mailbox of mutator t is given back with a spare

@@ -7,3 +7,4 @@ pub mod Room
 pub mod Journals
 pub mod Safe
 pub mod Answered
+pub mod Scan

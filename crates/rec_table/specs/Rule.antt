@@ -111,10 +111,10 @@ TakenBy p st me word me' =
 abbrev pub GivenBy : Private → Step (Option Contents) → Me (Option Contents) View → ℕ → Me (Option Contents) View → Type 0
 GivenBy p st me word me' = (me' ≡ (adds me.0 (beats None word), rest me.1)) × IsFound p (next_of p) word × NamesSlots (learnt p (Saw word))
 
--- A look at a header that a scan has come to: where it is taken, that is the probe's step; where it is free, nothing is told, and a
+-- A load of a header that a scan has come to: where it is taken, that is the probe's step; where it is free, nothing is told, and a
 -- claim follows.
-abbrev pub ProbedBy : Private → Step (Option Contents) → Me (Option Contents) View → ℕ → Me (Option Contents) View → Type 0
-ProbedBy p st me word me' = (word ≢ 0 → MadeBy p None st me word me') × (word ≡ 0 → me' ≡ me)
+abbrev pub PassedBy : Step (Option Contents) → Me (Option Contents) View → ℕ → Me (Option Contents) View → Type 0
+PassedBy st me word me' = (word ≢ 0 → me' ≡ (adds me.0 (beats None word), me.1)) × (word ≡ 0 → me' ≡ me)
 
 abbrev pub records : View → Beat → View
 records (Collects c) b = Collects (record c { log = c.log ++ b ∷ [] })
@@ -125,10 +125,18 @@ abbrev pub TurnedBy : collectors.Private → Step (Option Contents) → Me (Opti
 TurnedBy c st me word me' = (me' ≡ (records me.0 (Saw word), me.1)) × IsGiven c word
 
 -- a look at the mailbox of mutator t: where it is home with what was retired, it is taken
-abbrev pub LookedBy : collectors.Private → (t : ℕ) → Step (Option Contents) → Me (Option Contents) View → ℕ → Me (Option Contents) View → Type 0
-LookedBy c t st me word me' =
+abbrev pub Looks : collectors.Private → (t : ℕ) → Me (Option Contents) View → (word : ℕ) → Me (Option Contents) View → Type 0
+Looks c t me word me' =
     (word ≡ crossing_word c.epoch Retired → (b : Contents) × (me' ≡ (records me.0 (Took word b), (t - 1, Some b) ∷ me.1)) × IsSized c.registers c.capacity b)
     × (word ≢ crossing_word c.epoch Retired → me' ≡ (records me.0 (Saw word), me.1))
+
+abbrev pub LookedBy : collectors.Private → (t : ℕ) → Step (Option Contents) → Me (Option Contents) View → ℕ → Me (Option Contents) View → Type 0
+LookedBy c t st me word me' = Looks c t me word me'
+
+-- A first glance at that mailbox: where it can't be taken, that is the look; where it can, nothing is told, and a look that takes it
+-- follows.
+abbrev pub GlancedBy : collectors.Private → (t : ℕ) → Step (Option Contents) → Me (Option Contents) View → ℕ → Me (Option Contents) View → Type 0
+GlancedBy c t st me word me' = (word ≢ crossing_word c.epoch Retired → Looks c t me word me') × (word ≡ crossing_word c.epoch Retired → me' ≡ me)
 
 -- it is given back
 abbrev pub ReturnedBy : collectors.Private → Step (Option Contents) → Me (Option Contents) View → ℕ → Me (Option Contents) View → Type 0

@@ -15,7 +15,8 @@ ghost use Rattle.rec_core.specs.Cells.{births_of};
 ghost use Rattle.rec_world.specs.World.{IsWorld};
 
 use crate::board::Board;
-use crate::rule::{Doing, Gives, Makes, Takes, Tries};
+use crate::rule::{Doing, Gives, Makes, Takes};
+use crate::scan::first_free;
 use crate::views::View;
 use atomic_table::Seat;
 use rec_log::Buffer;
@@ -80,13 +81,7 @@ fn make<W: Doing>(
         }
         Op::SwapField(_, new) => shared.swap::<Makes<W>>(seat, word, new),
         Op::ClaimHeader(_, label) => {
-            // A failing probe is a load, which takes no line from others. Only a free header is claimed.
-            let seen = shared.load::<Tries<W>>(seat, word);
-            if seen != 0 {
-                seen
-            } else {
-                shared.compare_exchange::<Makes<W>>(seat, word, 0, u64::from(label) + 1)
-            }
+            shared.compare_exchange::<Makes<W>>(seat, word, 0, u64::from(label) + 1)
         }
         Op::TakeBox(_, epoch) => shared.swap::<Takes<W>>(
             seat,
@@ -167,6 +162,7 @@ impl Actor {
     ghost use Rattle.rec_mutator.specs.declared.work.Work.TheVariants as works;
     ghost use Rattle.rec_table.specs.Answered.{IsAnswered};
     ghost use Rattle.rec_table.specs.Held.{IsTold, Works};
+    ghost use Rattle.rec_table.specs.Scan.{HasScanned};
 
     // The actor of a mutator as the heap is started.
     pub(crate) fn sat(
@@ -227,6 +223,25 @@ impl Actor {
         word
     }
 
+    // Makes the failing probes that come next, if it makes a scan. The machine learns of all of them at once.
+    fn scan(&mut self, board: &Board)
+        requires own { IsOf board.now.table.shared.table_id board.now.table.shared.key.value self.old }
+        requires world { IsWorld board.now.table.shared.key.value }
+        requires busy { is_busy (has self.old) ≡ true }
+
+        ensures scanned { HasScanned self.old self.new }
+        ensures steps { (has self.old).steps ≤ (has self.new).steps }
+        ensures busy { is_busy (has self.new) ≡ true }
+        ensures work { work_of (has self.new) ≡ work_of (has self.old) }
+        ensures same { KeepsSizes (has self.old) (has self.new) }
+    {
+        let _steps = self.machine.steps();
+        if let Op::ClaimHeader(from, _) = self.machine.next() {
+            let slot = first_free(board, &mut self.seat, usize::from(from));
+            self.machine.skip_to(slot as u16);
+        }
+    }
+
     // What came of the last work, if it is finished.
     fn answer(&self) -> Option<Made>
         ensures answer { result ≡ answer_of (has self.now) }
@@ -283,6 +298,7 @@ impl Actor {
             if let Some(made) = self.answer() {
                 return made;
             }
+            self.scan(board);
             self.step(board, None);
         }
     }

@@ -10,7 +10,7 @@ ghost use Rattle.rec_collector.specs.declared.phase.Phase.TheVariants as phases;
 ghost use Rattle.rec_table.specs.Beats.{gathered, gathered_all, births_told};
 ghost use Rattle.rec_table.specs.Held.{gathers, gathers_now, has, IsCollectorOf, IsOwn, PutsBack};
 ghost use Rattle.rec_core.specs.Row.{index_of};
-ghost use Rattle.rec_table.specs.Rule.{boxes_out, crew_of, IsReturnOp, crew_more, word_of, NotLooking};
+ghost use Rattle.rec_table.specs.Rule.{boxes_out, crew_of, IsReturnOp, crew_more, word_of, Looks, NotLooking};
 ghost use Rattle.rec_table.specs.declared.views.Beat.{Beat as Beats};
 ghost use Rattle.rec_table.specs.declared.views.Beat.TheVariants.{Saw};
 ghost use Rattle.rec_table.specs.declared.views.View.TheVariants.{Collects};
@@ -23,7 +23,7 @@ ghost use Rattle.rec_world.specs.World.{IsWorld};
 use crate::actor::Actor;
 use crate::board::Board;
 use crate::heap::Heap;
-use crate::rule::{Looked, Returned, Seats, Turned, Turning};
+use crate::rule::{Glanced, Looked, Returned, Seats, Turned, Turning};
 use crate::views::View;
 use atomic_table::Seat;
 use rec_collector::{Machine, Sets, Turn};
@@ -86,6 +86,33 @@ fn make_turn<W: Turning>(board: &Board, seat: &mut Seat<Option<Buffer>, View>, o
     }
 }
 
+// The crossing word of mutator `t`, as a turn finds it: where its mailbox is home with what was retired, it is marked as taken. While
+// the collector waits it only loads the word, and so takes the word's line from no mutator.
+fn find<W: Turning>(board: &Board, seat: &mut Seat<Option<Buffer>, View>, t: u8, epoch: u32) -> u64
+    requires table { seat.old.table_id ≡ board.now.table.shared.table_id }
+    requires seat { seat.old.me ≡ (Collects (crew_of seat.old.me.0), []) }
+    requires actor { (W.number ≡ t) × (W.actor ≡ gathered_all board.now.table.shared.key.value.collector (crew_of seat.old.me.0).log) }
+    requires phase { (W.actor.phase ≡ phases.Looking t) × (W.actor.epoch ≡ epoch) }
+    requires there { index_of (length board.now.table.shared.key.value.words) (length board.now.table.shared.key.value.headers) (ops.LookBox t epoch) < board.now.table.shared.table_id.words }
+    ensures seat { (seat.new.table_id ≡ seat.old.table_id) × (seat.new.id ≡ seat.old.id) }
+    ensures looked { Looks W.actor W.number seat.old.me result seat.new.me }
+{
+    let shared = &board.table.shared;
+    let word = board.index(Op::LookBox(t, epoch));
+    let due = crossing(epoch, Mailbox::Retired);
+    let seen = shared.load::<Glanced<W>>(seat, word);
+    if seen != due {
+        seen
+    } else {
+        shared.compare_exchange::<Looked<W>>(
+            seat,
+            word,
+            due,
+            crossing(epoch, Mailbox::WithCollector),
+        )
+    }
+}
+
 // Looks at the mailbox of mutator `t`: where it is home with what was retired, it is taken, and a spare comes into it.
 fn look<W: Turning>(
     board: &Board,
@@ -104,18 +131,10 @@ fn look<W: Turning>(
     ensures same { KeepsSizes machine.old machine.new }
     ensures between { IsBetweenTurns machine.new.phase }
 {
-    let shared = &board.table.shared;
-    let word = board.index(Op::LookBox(t, epoch));
-    let due = crossing(epoch, Mailbox::Retired);
-    let found = shared.compare_exchange::<Looked<W>>(
-        seat,
-        word,
-        due,
-        crossing(epoch, Mailbox::WithCollector),
-    );
+    let found = find::<W>(board, seat, t, epoch);
     let turn = machine.took(found);
-    if found == due {
-        let mailbox = seat.slot_mut(shared, usize::from(t) - 1);
+    if found == crossing(epoch, Mailbox::Retired) {
+        let mailbox = seat.slot_mut(&board.table.shared, usize::from(t) - 1);
         swap_gathered(machine, mailbox);
     }
     turn

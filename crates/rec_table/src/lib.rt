@@ -19,6 +19,7 @@ mod collector;
 mod heap;
 mod mutator;
 mod rule;
+mod scan;
 mod seating;
 mod spare;
 #[cfg(test)]
@@ -28,5 +29,7 @@ mod views;
 pub use collector::Collector;
 pub use heap::Heap;
 pub use mutator::Mutator;
-pub use rule::{Doing, Gives, Looked, Makes, Returned, Running, Takes, Tries, Turned, Turning};
+pub use rule::{
+    Doing, Gives, Glanced, Looked, Makes, Passes, Returned, Running, Takes, Turned, Turning,
+};
 pub use views::{Beat, Crew, Seated, View};

@@ -67,14 +67,13 @@ impl<W: Doing> Play<Option<Buffer>, View> for Gives<W> {
     ghost then = { GivenBy W.actor };
 }
 
-pub struct Tries<W: Doing> {
-    of: PhantomData<W>,
-}
+/// A load of a header that a scan has come to.
+pub struct Passes;
 
-impl<W: Doing> Play<Option<Buffer>, View> for Tries<W> {
-    ghost use Rattle.rec_table.specs.Rule.{ProbedBy};
+impl Play<Option<Buffer>, View> for Passes {
+    ghost use Rattle.rec_table.specs.Rule.{PassedBy};
 
-    ghost then = { ProbedBy W.actor };
+    ghost then = { PassedBy };
 }
 
 /// The collector's record with which a turn is made, and whose mailbox is looked at. Each call picks them.
@@ -113,6 +112,16 @@ impl<W: Turning> Play<Option<Buffer>, View> for Looked<W> {
     ghost use Rattle.rec_table.specs.Rule.{LookedBy};
 
     ghost then = { LookedBy W.actor W.number };
+}
+
+pub struct Glanced<W: Turning> {
+    of: PhantomData<W>,
+}
+
+impl<W: Turning> Play<Option<Buffer>, View> for Glanced<W> {
+    ghost use Rattle.rec_table.specs.Rule.{GlancedBy};
+
+    ghost then = { GlancedBy W.actor W.number };
 }
 
 pub struct Returned<W: Turning> {

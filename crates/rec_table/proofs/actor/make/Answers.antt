@@ -1,13 +1,10 @@
-use Rattle.std.proofs.Common.{◌≡◌, ◌+◌, ℕ, sym, ap, ◌∙◌, subst, ◌<◌, ⊎_elim}
+use Rattle.std.proofs.Common.{◌+◌, ℕ, sym, ap, ◌∙◌, subst, ◌<◌, ⊎_elim}
 use mathlib.Core.Option.{none}
 use prog.Atomic.{either}
 use Rattle.rec_word.specs.Op.{written}
 use Rattle.rec_word.specs.declared.op.Op.{Op}
 use Rattle.atomic_table.specs.Table.{step}
-use Rattle.rec_core.specs.Core.{mutator}
-use Rattle.rec_table.specs.Beats.{told}
-use Rattle.rec_table.specs.Rule.{ready, seated_of, me_after}
-use Rattle.rec_table.proofs.Probing.{IsClaimOp, allows_probe, made_probe, same_seat}
+use Rattle.rec_table.specs.Rule.{ready, seated_of}
 use Rattle.rec_table.proofs.Calls.{load_leaves, IsLoad}
 use Rattle.rec_table.proofs.Steps.{IsPlainOp}
 use Rattle.rec_table.proofs.Making.{IsTakeOp, IsGiveOp, allows_plain, allows_taking, allows_giving, made_plain, made_taking, made_giving, plain_phase, crossing_phase, giving_phase, is_plain_load, no_else}
@@ -96,42 +93,17 @@ returns-in-GiveBox-clause-names g c =
     (made_giving (seated_of c.args.seat.now.me.0) g.W.Doing.actor c.args.op c.args.work (step c.args.board.now.table.shared.table_id.slots c.index-word.result c.crossing-in-GiveBox.result 0 none) c.swap-in-GiveBox.result c.args.seat.now.me c.swap-in-GiveBox.new.seat.me c.requires.seat
     (giving_phase (ready g.W.Doing.actor c.args.work) c.args.op c.requires.op c.requires.between (subst IsGiveOp (sym c.in-GiveBox.is) tt)) c.requires.op c.swap-in-GiveBox.ensures.2).2
 
-pub load-seen-requires : goal.load-seen-requires
-load-seen-requires g c =
+pub compare_exchange-requires : goal.compare_exchange-requires
+compare_exchange-requires g c =
     let key = c.args.board.now.table.shared.key.value in (
       c.requires.table,
       subst (λ (i : ℕ). i < c.args.board.now.table.shared.table_id.words) (sym c.index-word.ensures) c.requires.there,
-      allows_probe key _ _ c.index-word.result c.in-ClaimHeader.field-0 c.in-ClaimHeader.label c.args.seat.now.me c.args.op c.args.work g.W.Doing.actor (step c.args.board.now.table.shared.table_id.slots c.index-word.result 0 0 none)
-          c.requires.seat c.requires.actor c.requires.work.1 (plain_phase (ready g.W.Doing.actor c.args.work) c.args.op c.requires.op c.requires.between (subst IsPlainOp (sym c.in-ClaimHeader.is) tt)) c.requires.op c.in-ClaimHeader.is c.index-word.ensures,
-    )
-
-pub compare_exchange-requires : goal.compare_exchange-requires
-compare_exchange-requires g c =
-    let key = c.args.board.now.table.shared.key.value in
-    let same : c.load-seen.new.seat.me ≡ c.args.seat.now.me = c.load-seen.ensures.2.1 c.if-seen-ne0.false in (
-      c.load-seen.ensures.0 ∙ c.requires.table,
-      subst (λ (i : ℕ). i < c.args.board.now.table.shared.table_id.words) (sym c.index-word.ensures) c.requires.there,
-      allows_plain key _ _ c.index-word.result c.load-seen.new.seat.me c.args.op c.args.work g.W.Doing.work g.W.Doing.actor (_) (step c.args.board.now.table.shared.table_id.slots c.index-word.result 0 (c.from.result + 1) none)
-          (same_seat (seated_of c.args.seat.now.me.0) g.W.Doing.actor c.args.work c.args.seat.now.me c.load-seen.new.seat.me c.requires.seat same)
-          (c.requires.actor ∙ (λ k. told (mutator key (seated_of (sym same k).0).number) (seated_of (sym same k).0).log)) c.requires.work.0 c.requires.work.1 (plain_phase (ready g.W.Doing.actor c.args.work) c.args.op c.requires.op c.requires.between (subst IsPlainOp (sym c.in-ClaimHeader.is) tt)) c.requires.op c.index-word.ensures
+      allows_plain key _ _ c.index-word.result c.args.seat.now.me c.args.op c.args.work g.W.Doing.work g.W.Doing.actor (_) (step c.args.board.now.table.shared.table_id.slots c.index-word.result 0 (c.from.result + 1) none)
+          c.requires.seat c.requires.actor c.requires.work.0 c.requires.work.1 (plain_phase (ready g.W.Doing.actor c.args.work) c.args.op c.requires.op c.requires.between (subst IsPlainOp (sym c.in-ClaimHeader.is) tt)) c.requires.op c.index-word.ensures
           (λ n. ap (λ (k : ℕ). either (Rattle.std.specs.Prelude.◌==◌ n 0) (k + 1) n) c.from.ensures ∙ ap (λ (o : Op). written o n) (sym c.in-ClaimHeader.is)),
     )
 
-pub returns-else-seen-ne0-clause-view : goal.returns-else-seen-ne0-clause-view
-returns-else-seen-ne0-clause-view g c =
-    let same : c.load-seen.new.seat.me ≡ c.args.seat.now.me = c.load-seen.ensures.2.1 c.if-seen-ne0.false in
-    made_plain (seated_of c.load-seen.new.seat.me.0) g.W.Doing.actor c.args.work g.W.Doing.work c.compare_exchange.result c.load-seen.new.seat.me c.compare_exchange.new.seat.me
-    (same_seat (seated_of c.args.seat.now.me.0) g.W.Doing.actor c.args.work c.args.seat.now.me c.load-seen.new.seat.me c.requires.seat same) c.requires.work.0 (plain_phase (ready g.W.Doing.actor c.args.work) c.args.op c.requires.op c.requires.between (subst IsPlainOp (sym c.in-ClaimHeader.is) tt)) c.compare_exchange.ensures.2.0
-    ∙ (λ k. me_after (seated_of (same k).0) (ready g.W.Doing.actor c.args.work) c.args.work c.compare_exchange.result)
-
-pub returns-then-seen-ne0-clause-view : goal.returns-then-seen-ne0-clause-view
-returns-then-seen-ne0-clause-view g c =
-    (made_probe (seated_of c.args.seat.now.me.0) g.W.Doing.actor c.args.op c.args.work (step c.args.board.now.table.shared.table_id.slots c.index-word.result 0 0 none) c.load-seen.result c.args.seat.now.me c.load-seen.new.seat.me c.requires.seat (plain_phase (ready g.W.Doing.actor c.args.work) c.args.op c.requires.op c.requires.between (subst IsPlainOp (sym c.in-ClaimHeader.is) tt)) c.requires.op (subst IsClaimOp (sym c.in-ClaimHeader.is) tt) (c.load-seen.ensures.2.0 c.if-seen-ne0.true)).0
-
-pub returns-then-seen-ne0-clause-found : goal.returns-then-seen-ne0-clause-found
-returns-then-seen-ne0-clause-found g c =
-    (made_probe (seated_of c.args.seat.now.me.0) g.W.Doing.actor c.args.op c.args.work (step c.args.board.now.table.shared.table_id.slots c.index-word.result 0 0 none) c.load-seen.result c.args.seat.now.me c.load-seen.new.seat.me c.requires.seat (plain_phase (ready g.W.Doing.actor c.args.work) c.args.op c.requires.op c.requires.between (subst IsPlainOp (sym c.in-ClaimHeader.is) tt)) c.requires.op (subst IsClaimOp (sym c.in-ClaimHeader.is) tt) (c.load-seen.ensures.2.0 c.if-seen-ne0.true)).1
-
-pub returns-then-seen-ne0-clause-names : goal.returns-then-seen-ne0-clause-names
-returns-then-seen-ne0-clause-names g c =
-    (made_probe (seated_of c.args.seat.now.me.0) g.W.Doing.actor c.args.op c.args.work (step c.args.board.now.table.shared.table_id.slots c.index-word.result 0 0 none) c.load-seen.result c.args.seat.now.me c.load-seen.new.seat.me c.requires.seat (plain_phase (ready g.W.Doing.actor c.args.work) c.args.op c.requires.op c.requires.between (subst IsPlainOp (sym c.in-ClaimHeader.is) tt)) c.requires.op (subst IsClaimOp (sym c.in-ClaimHeader.is) tt) (c.load-seen.ensures.2.0 c.if-seen-ne0.true)).2
+pub returns-in-ClaimHeader-clause-view : goal.returns-in-ClaimHeader-clause-view
+returns-in-ClaimHeader-clause-view g c =
+    made_plain (seated_of c.args.seat.now.me.0) g.W.Doing.actor c.args.work g.W.Doing.work c.compare_exchange.result c.args.seat.now.me c.compare_exchange.new.seat.me c.requires.seat c.requires.work.0
+    (plain_phase (ready g.W.Doing.actor c.args.work) c.args.op c.requires.op c.requires.between (subst IsPlainOp (sym c.in-ClaimHeader.is) tt)) c.compare_exchange.ensures.2.0

@@ -1,5 +1,6 @@
 use Rattle.std.proofs.Common.{◌∙◌, ap, sym, subst}
 use Rattle.std.proofs.Common.{Some}
+use Rattle.rec_mutator.specs.Private.{KeepsSizes}
 use Rattle.rec_mutator.specs.declared.made.Made.{Made}
 use Rattle.rec_mutator.specs.declared.work.Work.{Work}
 use Rattle.rec_table.specs.Held.{Held}
@@ -21,19 +22,24 @@ loop-made-init c =
       same = c.step.ensures.same;
     }
 
+pub scan-requires-clause-busy : goal.scan-requires-clause-busy
+scan-requires-clause-busy c = busy_still (has c.loop-made.self) c.args.work c.loop-made.invariant.work (λ m e. c.in_default.not-Some m (c.answer.ensures.answer ∙ e))
+
 pub loop-made-preserved : goal.loop-made-preserved
 loop-made-preserved c =
     let i = c.loop-made.invariant in
+    let s = c.scan.ensures in
     let e = c.step-in-loop-made.ensures in
-    let w = works_on c.args.self.now c.loop-made.self c.step-in-loop-made.new.self c.args.work c.step-in-loop-made.result i.grows i.is e.grows in
+    let w = works_on c.args.self.now c.loop-made.self c.scan.new.self c.step-in-loop-made.new.self c.args.work c.step-in-loop-made.result i.grows i.is s.scanned e.grows in
+    let same : KeepsSizes (has c.args.self.now) (has c.scan.new.self) = keeps_on (has c.args.self.now) (has c.loop-made.self) (has c.scan.new.self) i.same s.same in
     record {
       grows = w.0;
       is = w.1;
-      work = e.work ∙ i.work;
+      work = e.work ∙ s.work ∙ i.work;
       told = e.told;
-      path = path_on c.args.work (has c.args.self.now) (has c.loop-made.self) (has c.step-in-loop-made.new.self) c.args.self.now.log c.loop-made.self.log c.step-in-loop-made.new.self.log c.step-in-loop-made.result i.path (ap (λ (h : Held). h.log) e.grows) e.machine
-          (busy_still (has c.loop-made.self) c.args.work i.work (λ m e. c.in_default.not-Some m (c.answer.ensures.answer ∙ e))) i.work i.same.slots e.learns;
-      same = keeps_on (has c.args.self.now) (has c.loop-made.self) (has c.step-in-loop-made.new.self) i.same e.same;
+      path = path_on c.args.work (has c.args.self.now) (has c.loop-made.self) (has c.scan.new.self) (has c.step-in-loop-made.new.self) c.args.self.now.log c.loop-made.self.log c.scan.new.self.log c.step-in-loop-made.new.self.log s.scanned.words c.step-in-loop-made.result i.path
+          s.busy (s.work ∙ i.work) (ap (λ (h : Held). h.log) s.scanned.grows) s.scanned.learns (ap (λ (h : Held). h.log) e.grows) e.machine same.slots e.learns;
+      same = keeps_on (has c.args.self.now) (has c.scan.new.self) (has c.step-in-loop-made.new.self) same e.same;
     }
 
 pub returns-in-Some-clause-causes : goal.returns-in-Some-clause-causes

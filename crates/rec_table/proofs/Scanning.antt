@@ -1,0 +1,263 @@
+-- A scan on the table: the loads of taken headers are its failing probes.
+use Rattle.std.proofs.Common.{◌≡◌, ◌≢◌, ℕ, ◌+◌, ◌-◌, ◌<◌, ◌≤◌, ◌==◌, if◌then◌else◌, arith, Bool, true, false, cond, ne_eqb, List, [], ◌∷◌, ◌++◌, length, fold, All, Option, Some, None, refl, sym, ap, ◌∙◌, subst, append-nil, append_assoc, length-append}
+use Rattle.std.proofs.lemmas.List.{map-append}
+use Rattle.std.proofs.lemmas.List.Elements.{All-nil, All-cons, All-head, All-tail, All-append}
+use Rattle.atomic_table.specs.Table.{Me, Step, Allows}
+use Rattle.rec_word.specs.declared.op.Op.{Op}
+use Rattle.rec_word.specs.declared.op.Op.TheVariants as ops
+use Rattle.rec_model.specs.declared.command.Cmd.TheVariants as commands
+use Rattle.rec_log.specs.declared.contents.Contents.{Contents}
+use Rattle.rec_mutator.specs.Next.{next_of, next_at, begun_op, own_word, read_op, write_op, label_op}
+use Rattle.rec_mutator.specs.Private.{Private, IsAt, IsMachine, register, is_full}
+use Rattle.rec_mutator.specs.Step.{NamesSlots}
+use Rattle.rec_mutator.specs.Took.{spare, took_of, skipped_to, skipped_at, IsBetween}
+use Rattle.rec_mutator.specs.declared.phase.Phase as phases
+use Rattle.rec_mutator.specs.declared.phase.Phase.TheVariants as at
+use Rattle.rec_mutator.specs.declared.work.Work.{Work}
+use Rattle.rec_mutator.specs.declared.work.Work.TheVariants as works
+use Rattle.rec_mutator.proofs.Skips.{skipped_next, skipped_none, skipped_further, skipped_busy}
+use Rattle.rec_mutator.proofs.Steps.{TakesNone, here_same}
+use Rattle.rec_core.specs.Cells.{births_of}
+use Rattle.rec_core.specs.Core.{Core, mutator}
+use Rattle.rec_table.specs.Beats.{told, learnt, births_told}
+use Rattle.rec_table.specs.Rule.{Holds, PassedBy, IsPlain, adds, beats, longer, seated_of, hands, hands_at}
+use Rattle.rec_table.specs.Scan.{Passed, ScansFrom, saw_all}
+use Rattle.rec_table.specs.declared.views.Beat.{Beat}
+use Rattle.rec_table.specs.declared.views.Beat.TheVariants.{Saw}
+use Rattle.rec_table.specs.declared.views.Seated.{Seated}
+use Rattle.rec_table.specs.declared.views.View.{View}
+use Rattle.rec_table.specs.declared.views.View.TheVariants.{Mutates}
+use Rattle.rec_table.proofs.Beats.{told_both}
+use Rattle.rec_table.proofs.Making.{births_both}
+use Rattle.rec_table.proofs.Probes.{probes}
+
+-- Only a scan claims headers.
+abbrev IsClaimOp : Op → Type 0
+IsClaimOp (ops.ClaimHeader slot label) = Unit {0}
+IsClaimOp _ = ⊥
+
+slot_of : Op → ℕ
+slot_of (ops.ClaimHeader slot label) = slot
+slot_of _ = 0
+
+begun_claims : (p : Private) (work : Work) → IsClaimOp (begun_op p work) → ⊥
+begun_claims p works.Poll is = is
+begun_claims p (works.Command (commands.New reg label)) is = go (is_full p) is
+  where
+    go : (b : Bool) → IsClaimOp (cond b (own_word p) ops.LoadFreed) → ⊥
+    go true x = x
+    go false x = x
+begun_claims p (works.Command (commands.Null reg)) is = is
+begun_claims p (works.Command (commands.Copy dst src)) is = is
+begun_claims p (works.Command (commands.Get dst src f)) is = go (register p src) is
+  where
+    go : (x : Option ℕ) → IsClaimOp (read_op p f x) → ⊥
+    go None x = x
+    go (Some slot) x = x
+begun_claims p (works.Command (commands.Put src f val)) is = go (register p src) (is_full p) is
+  where
+    go : (x : Option ℕ) (b : Bool) → IsClaimOp (write_op p f val x b) → ⊥
+    go None b x = x
+    go (Some slot) true x = x
+    go (Some slot) false x = x
+begun_claims p (works.Command (commands.Value reg)) is = go (register p reg) is
+  where
+    go : (x : Option ℕ) → IsClaimOp (label_op p x) → ⊥
+    go None x = x
+    go (Some slot) x = x
+begun_claims p (works.Command (commands.Same a b)) is = is
+
+pub record Claims (p : Private) (slot : ℕ) : Type 0 where
+  pub reg : ℕ
+  pub label : ℕ
+  pub before : ℕ
+  pub phase : p.phase ≡ at.Scanning reg label before slot
+
+pub claims : (p : Private) (slot label : ℕ) → next_of p ≡ ops.ClaimHeader slot label → Claims p slot
+unfolding next_of next_at slot_of
+claims p slot label is = by p.phase refl
+  where
+    no : (phase : phases.Phase) → p.phase ≡ phase → (IsClaimOp (next_at p phase) → ⊥) → Claims p slot
+    no phase e never = absurd (never (subst IsClaimOp (sym (sym (ap (next_at p) e) ∙ is)) tt))
+
+    by : (phase : phases.Phase) → p.phase ≡ phase → Claims p slot
+    by at.Idle e = no at.Idle e (λ x. x)
+    by (at.Begun work) e = no (at.Begun work) e (begun_claims p work)
+    by (at.Scanning reg label' before from) e =
+        let same : from ≡ slot = ap slot_of (sym (ap (next_at p) e) ∙ is) in
+        record { reg = reg; label = label'; before = before; phase = e ∙ ap (λ n. at.Scanning reg label' before n) same }
+    by (at.Scanned reg label' before) e = no (at.Scanned reg label' before) e (λ x. x)
+    by at.Crossing e = no at.Crossing e (λ x. x)
+    by at.Swapping e = no at.Swapping e (λ x. x)
+    by at.Giving e = no at.Giving e (λ x. x)
+    by (at.Finished work made) e = no (at.Finished work made) e (λ x. x)
+
+pub claims_slot : (p : Private) (slot : ℕ) → IsMachine p → Claims p slot → slot < p.slots
+claims_slot p slot machine k = (subst (IsAt p) k.phase machine.now).1
+
+-- steps that found these words led from one record to another, and made no object
+pub record Walks (q : Private) (words : List ℕ) (r : Private) : Type 0 where
+  pub told : told q (saw_all words) ≡ r
+  pub learns : r ≡ fold took_of q words
+  pub births : births_told q (saw_all words) ≡ 0
+
+module _ (p : Private) (reg label before from : ℕ) (scans : p.phase ≡ at.Scanning reg label before from) where
+  came_to : (slot : ℕ) → skipped_to p slot ≡ record p { phase = if slot == p.slots then at.Scanned reg label before else at.Scanning reg label before slot; steps = p.steps + (slot - from) }
+  unfolding skipped_to skipped_at
+  came_to slot = ap (skipped_at p slot) scans
+
+  there_phase : (slot : ℕ) → slot < p.slots → (skipped_to p slot).phase ≡ at.Scanning reg label before slot
+  there_phase slot lt =
+      ap (λ (q : Private). q.phase) (came_to slot) ∙ ap (λ (b : Bool). if b then at.Scanned reg label before else at.Scanning reg label before slot) (ne_eqb slot p.slots (λ e. omega (arith, e, lt)))
+
+  probe : (slot word : ℕ) → from ≤ slot → slot < p.slots → word ≢ 0 → learnt (skipped_to p slot) (Saw word) ≡ skipped_to p (slot + 1)
+  probe slot word low lt taken =
+      let q : Private = skipped_to p slot in
+      here_same q word (spare (took_of q word)) (skipped_busy p reg label before from scans slot) (subst TakesNone (sym (there_phase slot lt)) tt) ∙ skipped_further p reg label before from scans slot word low lt taken
+
+  walks : (words : List ℕ) (slot : ℕ) → from ≤ slot → slot + length words ≤ p.slots → All (λ word. 0 < word) words → Walks (skipped_to p slot) words (skipped_to p (slot + length words))
+  walks [] slot low le taken = record { told = ap (skipped_to p) (omega arith); learns = ap (skipped_to p) (omega arith); births = refl }
+  walks (w ∷ ws) slot low le taken =
+      let q : Private = skipped_to p slot in
+      let lt : slot < p.slots = omega (arith, le) in
+      let some : 0 < w = All-head (λ word. 0 < word) w ws taken in
+      let ne : w ≢ 0 = λ e. omega (arith, e, some) in
+      let rest = walks ws (slot + 1) (omega (arith, low)) (omega (arith, le)) (All-tail (λ word. 0 < word) w ws taken) in
+      let ends : skipped_to p (slot + 1 + length ws) ≡ skipped_to p (slot + length (w ∷ ws)) = ap (skipped_to p) (omega arith) in
+      let one : births_of (next_of q) w ≡ 0 = ap (λ (o : Op). births_of o w) (skipped_next p reg label before from scans slot lt) ∙ ap (λ (b : Bool). if b then 1 else 0) (ne_eqb w 0 ne) in
+      let more : births_told (learnt q (Saw w)) (saw_all ws) ≡ 0 = ap (λ (r : Private). births_told r (saw_all ws)) (probe slot w low lt ne) ∙ rest.births in
+      record {
+        told = ap (λ (r : Private). told r (saw_all ws)) (probe slot w low lt ne) ∙ rest.told ∙ ends;
+        learns = sym ends ∙ rest.learns ∙ ap (λ (r : Private). fold took_of r ws) (sym (skipped_further p reg label before from scans slot w low lt ne));
+        births = omega (arith, one, more);
+      }
+
+  -- all words that were passed
+  pub walked : (words : List ℕ) (slot : ℕ) → from < p.slots → from + length words ≡ slot → slot ≤ p.slots → All (λ word. 0 < word) words → Walks p words (skipped_to p slot)
+  walked words slot first every le taken =
+      subst (λ (y : Private × ℕ). Walks y.0 words (skipped_to p y.1)) (λ k. (skipped_none p reg label before from scans first k, every k)) (walks words from (omega arith) (omega (arith, every, le)) taken)
+
+  -- what the machine is as the scan goes on
+  pub skipped_names : (slot : ℕ) → NamesSlots p → NamesSlots (skipped_to p slot)
+  skipped_names slot names = subst NamesSlots (sym (came_to slot)) names
+
+  pub skipped_steps : (slot : ℕ) → p.steps ≤ (skipped_to p slot).steps
+  skipped_steps slot = let e : (skipped_to p slot).steps ≡ p.steps + (slot - from) = ap (λ (q : Private). q.steps) (came_to slot) in omega (arith, e)
+
+  goes_on : (b : Bool) (slot number : ℕ) (hand : Contents) (phase : phases.Phase) → phase ≡ (if b then at.Scanned reg label before else at.Scanning reg label before slot) → IsBetween phase × (hands_at hand number phase ≡ [])
+  goes_on true slot number hand phase is = (subst IsBetween (sym is) tt, ap (hands_at hand number) is)
+  goes_on false slot number hand phase is = (subst IsBetween (sym is) tt, ap (hands_at hand number) is)
+
+  pub skipped_rests : (slot : ℕ) (t : Seated) → IsBetween (skipped_to p slot).phase × (hands t (skipped_to p slot) ≡ [])
+  skipped_rests slot t = goes_on (slot == p.slots) slot (skipped_to p slot).number t.hand (skipped_to p slot).phase (ap (λ (q : Private). q.phase) (came_to slot))
+
+-- At the loop.
+pub passed_none : (t : Seated) (from : ℕ) (me : Me (Option Contents) View) → me ≡ (Mutates t, []) → Passed t from from me
+passed_none t from me is = record {
+  words = [];
+  taken = All-nil (λ word. 0 < word);
+  every = omega arith;
+  grows = is ∙ (λ k. (Mutates (record t { log = sym (append-nil t.log) k }), []));
+}
+
+pub passed_one : (t : Seated) (from slot word : ℕ) (me me' : Me (Option Contents) View) → Passed t from slot me → word ≢ 0 → me' ≡ (adds me.0 (beats None word), me.1) → Passed t from (slot + 1) me'
+passed_one t from slot word me me' passed taken now =
+    let ws : List ℕ = passed.words in
+    let every = passed.every in
+    let many = length-append ws (word ∷ []) in
+    let logs : (t.log ++ saw_all ws) ++ Saw word ∷ [] ≡ t.log ++ saw_all (ws ++ word ∷ []) =
+    append_assoc t.log (saw_all ws) (Saw word ∷ []) ∙ ap (λ (l : List Beat). t.log ++ l) (sym (map-append (λ (n : ℕ). Saw n) ws (word ∷ []))) in
+    record {
+      words = ws ++ word ∷ [];
+      taken = All-append (λ word. 0 < word) ws (word ∷ []) passed.taken (All-cons (λ word. 0 < word) word [] (omega (arith, taken)) (All-nil (λ word. 0 < word)));
+      every = omega (arith, every, many);
+      grows = now ∙ (λ k. (adds (passed.grows k).0 (beats None word), (passed.grows k).1)) ∙ (λ k. (Mutates (record t { log = logs k }), []));
+    }
+
+pub passed_both : (t : Seated) (from slot to : ℕ) (me me' : Me (Option Contents) View) → Passed t from slot me → Passed (seated_of me.0) slot to me' → Passed t from to me'
+passed_both t from slot to me me' one two =
+    let bs : List Beat = saw_all one.words in
+    let cs : List Beat = saw_all two.words in
+    let first = one.every in
+    let then_ = two.every in
+    let many = length-append one.words two.words in
+    let logs : (t.log ++ bs) ++ cs ≡ t.log ++ saw_all (one.words ++ two.words) = append_assoc t.log bs cs ∙ ap (λ (l : List Beat). t.log ++ l) (sym (map-append (λ (n : ℕ). Saw n) one.words two.words)) in
+    record {
+      words = one.words ++ two.words;
+      taken = All-append (λ word. 0 < word) one.words two.words one.taken two.taken;
+      every = omega (arith, first, then_, many);
+      grows = two.grows ∙ (λ k. (Mutates (longer (seated_of (one.grows k).0) cs), [])) ∙ (λ k. (Mutates (record t { log = logs k }), []));
+    }
+
+pub passed_seat : (t : Seated) (from slot : ℕ) (me : Me (Option Contents) View) → Passed t from slot me → me ≡ (Mutates (seated_of me.0), [])
+passed_seat t from slot me passed = passed.grows ∙ (λ k. (Mutates (seated_of (sym passed.grows k).0), []))
+
+module _ (key : Core) (slot from many : ℕ) (t : Seated) (me : Me (Option Contents) View) (passed : Passed t from slot me) (scan : ScansFrom (told (mutator key t.number) t.log) from many) (lt : slot < many) where
+  -- the record that its list makes up by then
+  q : Private
+  q = skipped_to (told (mutator key t.number) t.log) slot
+
+  few : slot < (told (mutator key t.number) t.log).slots
+  few = let all = scan.many in omega (arith, lt, all)
+
+  is_q : q ≡ told (mutator key t.number) (longer t (saw_all passed.words)).log
+  unfolding q
+  is_q =
+      let p : Private = told (mutator key t.number) t.log in
+      let there = scan.there in
+      let all = scan.many in
+      let w : Walks p passed.words q = walked p scan.reg scan.label scan.before from scan.phase passed.words slot (omega (arith, there, all)) passed.every (let le = few in omega (arith, le)) passed.taken in
+      sym w.told ∙ sym (told_both (mutator key t.number) t.log (saw_all passed.words))
+
+  pub scans_on : ScansFrom (told (mutator key (seated_of me.0).number) (seated_of me.0).log) slot many
+  unfolding q
+  scans_on =
+      let p : Private = told (mutator key t.number) t.log in
+      let is : q ≡ told (mutator key (seated_of me.0).number) (seated_of me.0).log = is_q ∙ sym (λ k. told (mutator key (seated_of (passed.grows k).0).number) (seated_of (passed.grows k).0).log) in
+      subst (λ (r : Private). ScansFrom r slot many) is (record {
+        reg = scan.reg;
+        label = scan.label;
+        before = scan.before;
+        phase = there_phase p scan.reg scan.label scan.before from scan.phase slot few;
+        many = ap (λ (r : Private). r.slots) (came_to p scan.reg scan.label scan.before from scan.phase slot) ∙ scan.many;
+        there = lt;
+      })
+
+  pub allows_pass : (slots id i : ℕ) (st : Step (Option Contents)) → i ≡ length key.words + slot → Allows (Holds key) slots id me i (λ n. n) (PassedBy st me)
+  unfolding q
+  allows_pass slots id i st at =
+      let p : Private = told (mutator key t.number) t.log in
+      let plain : IsPlain q.phase = subst IsPlain (sym (there_phase p scan.reg scan.label scan.before from scan.phase slot few)) tt in
+      let all = probes key slots id slot scan.label (longer t (saw_all passed.words)) [] q (ops.ClaimHeader slot scan.label) st is_q (skipped_busy p scan.reg scan.label scan.before from scan.phase slot) plain
+      (sym (skipped_next p scan.reg scan.label scan.before from scan.phase slot few)) refl in
+      subst (λ (y : Me (Option Contents) View × ℕ). Allows (Holds key) slots id y.0 y.1 (λ n. n) (PassedBy st y.0)) (λ k. (sym passed.grows k, sym at k)) all
+
+-- At the skip: what the machine and the seat are as the scan ends, or comes to a free header.
+pub record Ends (o p r : Private) (t : Seated) (me : Me (Option Contents) View) (words : List ℕ) : Type 0 where
+  pub seat : me ≡ (Mutates (seated_of me.0), hands (seated_of me.0) r)
+  pub told : r ≡ told o (seated_of me.0).log
+  pub names : NamesSlots r
+  pub between : IsBetween r.phase
+  pub births : births_told o (seated_of me.0).log ≡ births_told o t.log
+  pub learns : r ≡ fold took_of p words
+  pub steps : p.steps ≤ r.steps
+
+pub ends : (o p r : Private) (t : Seated) (from slot : ℕ) (me : Me (Option Contents) View) → (passed : Passed t from slot me) → p ≡ told o t.log → Claims p from → from < p.slots → slot ≤ p.slots → r ≡ skipped_to p slot → NamesSlots p
+    → Ends o p r t me passed.words
+ends o p r t from slot me passed is k first few skips names =
+    let bs : List Beat = saw_all passed.words in
+    let w : Walks p passed.words (skipped_to p slot) = walked p k.reg k.label k.before from k.phase passed.words slot first passed.every few passed.taken in
+    let log : (seated_of me.0).log ≡ t.log ++ bs = λ j. (seated_of (passed.grows j).0).log in
+    let rests = skipped_rests p k.reg k.label k.before from k.phase slot (seated_of me.0) in
+    let none : [] ≡ hands (seated_of me.0) r = sym (ap (hands (seated_of me.0)) skips ∙ rests.1) in
+    let all = births_both o t.log bs in
+    let born : births_told (told o t.log) bs ≡ 0 = ap (λ (q : Private). births_told q bs) (sym is) ∙ w.births in
+    record {
+      seat = passed.grows ∙ (λ j. (Mutates (seated_of (sym passed.grows j).0), none j));
+      told = skips ∙ sym w.told ∙ ap (λ (q : Private). told q bs) is ∙ sym (told_both o t.log bs) ∙ ap (told o) (sym log);
+      names = subst NamesSlots (sym skips) (skipped_names p k.reg k.label k.before from k.phase slot names);
+      between = subst (λ (q : Private). IsBetween q.phase) (sym skips) rests.0;
+      births = ap (births_told o) log ∙ (let e : births_told o (t.log ++ bs) ≡ births_told o t.log = omega (arith, all, born) in e);
+      learns = skips ∙ w.learns;
+      steps = subst (λ (q : Private). p.steps ≤ q.steps) (sym skips) (skipped_steps p k.reg k.label k.before from k.phase slot);
+    }

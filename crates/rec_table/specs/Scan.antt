@@ -1,0 +1,41 @@
+-- A scan on the table: its failing probes are loads of taken headers, and the machine learns of all of them at once.
+use Rattle.std.specs.Prelude.{◌≡◌, ℕ, ◌+◌, ◌<◌, Option, List, [], ◌++◌, length, map, fold, All}
+use Rattle.atomic_table.specs.Table.{Me}
+use Rattle.rec_log.specs.declared.contents.Contents.{Contents}
+use Rattle.rec_mutator.specs.Private.{Private}
+use Rattle.rec_mutator.specs.Took.{took_of}
+use Rattle.rec_mutator.specs.declared.phase.Phase.TheVariants.{Scanning}
+use Rattle.rec_table.specs.Held.{Held, has}
+use Rattle.rec_table.specs.Rule.{longer}
+use Rattle.rec_table.specs.declared.views.Beat.{Beat}
+use Rattle.rec_table.specs.declared.views.Beat.TheVariants.{Saw}
+use Rattle.rec_table.specs.declared.views.Seated.{Seated}
+use Rattle.rec_table.specs.declared.views.View.{View}
+use Rattle.rec_table.specs.declared.views.View.TheVariants.{Mutates}
+
+-- what steps record that found these words
+abbrev pub saw_all : (words : List ℕ) → List Beat
+saw_all words = map (λ word. Saw word) words
+
+-- a scan of so many slots has come to this one
+pub record ScansFrom (p : Private) (slot slots : ℕ) : Type 0 where
+  pub reg : ℕ
+  pub label : ℕ
+  pub before : ℕ
+  pub phase : p.phase ≡ Scanning reg label before slot
+  pub many : p.slots ≡ slots
+  pub there : slot < slots
+
+-- The seat's list grew by a word of each header from one slot on and below another, in order, each of a taken header.
+pub record Passed (t : Seated) (from slot : ℕ) (me : Me (Option Contents) View) : Type 0 where
+  pub words : List ℕ
+  pub taken : All (λ word. 0 < word) words
+  pub every : from + length words ≡ slot
+  pub grows : me ≡ (Mutates (longer t (saw_all words)), [])
+
+-- The mutator's list grew by the words of failing probes, each of a taken header, and its record learnt them one after another.
+pub record HasScanned (h h' : Held) : Type 0 where
+  pub words : List ℕ
+  pub taken : All (λ word. 0 < word) words
+  pub grows : h' ≡ record h { log = h.log ++ saw_all words }
+  pub learns : has h' ≡ fold took_of (has h) words
