@@ -21,3 +21,4 @@ pub mod Journals
 pub mod Safe
 pub mod Stopped
 pub mod Answering
+pub mod Sends
