@@ -1,5 +1,5 @@
 -- What a machine may be given: the word that a step finds, and the buffer of a mailbox.
-use Rattle.std.specs.Prelude.{◌≡◌, ℕ, ◌+◌, ◌<◌, ◌≤◌, ◌^◌, IfSome, List, length}
+use Rattle.std.specs.Prelude.{◌≡◌, ℕ, ◌+◌, ◌<◌, ◌≤◌, ◌^◌, Option, None, Some, IfSome, List, length}
 use Rattle.rec_word.specs.Word.{target_of}
 use Rattle.rec_log.specs.declared.contents.Contents.{Contents}
 use Rattle.rec_counts.specs.Counts.{State, slot_at}
@@ -39,3 +39,8 @@ IsSized registers capacity b = (length b.snapshot ≡ registers) × (b.capacity 
 abbrev pub IsSwapping : Phase → Type 0
 IsSwapping (Swapping t) = Unit {0}
 IsSwapping _ = ⊥
+
+-- the mutator whose mailbox is held then, if any
+abbrev pub swapping_for : Phase → Option ℕ
+swapping_for (Swapping t) = Some t
+swapping_for _ = None

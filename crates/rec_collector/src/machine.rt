@@ -5,7 +5,7 @@ ghost use Rattle.rec_word.specs.Word.{target_of};
 ghost use Rattle.rec_counts.specs.Counts.{slot_at};
 ghost use Rattle.rec_trial.specs.Rules.{LeadsToUnreleased};
 ghost use Rattle.rec_collector.specs.Causes.{HasCause};
-ghost use Rattle.rec_collector.specs.Given.{IsCovered, IsGiven, IsSized, IsSwapping};
+ghost use Rattle.rec_collector.specs.Given.{IsCovered, IsGiven, IsSized, IsSwapping, swapping_for};
 ghost use Rattle.rec_collector.specs.Kept.{IsMachine, KeepsSizes, limit_of};
 ghost use Rattle.rec_collector.specs.Next.{next_of};
 ghost use Rattle.rec_collector.specs.Private.{Private, opened};
@@ -176,11 +176,15 @@ impl Machine {
         self.parts.offer_all();
     }
 
-    /// Whether a mailbox is held and its buffer waits to be swapped: then `swap_box` comes next.
-    pub fn is_swapping(&self) -> bool
-        ensures { IsTrue result ↔ IsSwapping self.now.phase }
+    /// The mutator whose mailbox is held and its buffer waits to be swapped, if there is one: then `swap_box` comes next.
+    #[inline(always)]
+    pub fn swapping(&self) -> Option<u8>
+        ensures { result ≡ swapping_for self.now.phase }
     {
-        matches!(self.phase, Phase::Swapping { .. })
+        match self.phase {
+            Phase::Swapping { mutator } => Some(mutator),
+            _ => None,
+        }
     }
 
     /// What always holds of a machine. It does nothing: its contract is the fact.

@@ -192,10 +192,6 @@ module _ (f s : ℕ) (r : List ℕ) (long : f + s + 2 ≤ length r) where
   pub slots_are : length (cells_of_row f s r).headers ≡ s
   slots_are = length-take-le s (drop f r) (omega (arith, long, length-drop f r))
 
-  -- the operation's word in a row
-  pub found_at : (op : Op) → IsWithin (cells_of_row f s r) op → get_or r (index_of f s op) 0 ≡ cell (cells_of_row f s r) op
-  found_at op is = (λ i. get_or (sym (row_cells f s r long) i) (index_of (sym places_are i) (sym slots_are i) op) 0) ∙ row_read (cells_of_row f s r) op is
-
   pub in_row : (op : Op) → IsWithin (cells_of_row f s r) op → index_of f s op < length r
   in_row op is =
       let low : index_of f s op < f + s + 2 + length (cells_of_row f s r).crossing = subst (λ (y : ℕ × ℕ). index_of y.0 y.1 op < y.0 + y.1 + 2 + length (cells_of_row f s r).crossing) (λ i. (places_are i, slots_are i)) (row_within (cells_of_row f s r) op is) in

@@ -17,6 +17,7 @@ use Rattle.rec_release.specs.Release.{next_of as release_next, op_at as release_
 use Rattle.rec_release.specs.Sweep as sweeps
 use Rattle.rec_collector.specs.Followed.{relieved, with_freed, with_loaded, with_released, with_tried}
 use Rattle.rec_collector.specs.Kept as collector_kept
+use Rattle.rec_collector.specs.Next as collector_next
 use Rattle.rec_collector.specs.Private as collectors
 use Rattle.rec_collector.specs.Private.{parts_of}
 use Rattle.rec_collector.specs.Step.{Step, ClearsOn, TriesOn, PreparesOn, IsNext}
@@ -27,7 +28,7 @@ use Rattle.rec_core.specs.Cells.{cell}
 use Rattle.rec_core.specs.Config.{IsMutator}
 use Rattle.rec_core.specs.Core.{Core, cells_of, box, crossing_of}
 use Rattle.rec_core.specs.Kept.{one_if_sweeping, IsKept}
-use Rattle.rec_core.specs.Moves.{looked_at, left_by, collected}
+use Rattle.rec_core.specs.Moves.{looked_at, left_by, collected, turned, turned_at}
 use Rattle.rec_core.proofs.Begun.{applied_lands}
 use Rattle.rec_core.proofs.Freeing.{freed_lands}
 use Rattle.rec_core.proofs.Preparing.{loads_due, preparing_kept}
@@ -216,3 +217,11 @@ rule_kept w op word q turn m (Step.end_sweep swept closing named e) =
     subst IsKept (sym (plain_left w op word q (Closing swept) closing refl))
     (subst (λ o. IsKept (record (collected w o word q (box w 1)) { boxes = w.boxes })) (sym its)
     (subst (λ n. IsKept (record w { freed = n; collector = q })) (sym more) (subst (λ x. IsKept (record w { freed = w.freed + 1; collector = x })) (sym e.after) whole)))
+
+-- a turn leaves the mutators
+pub turned_mutators : (w : Core) → (turned w).mutators ≡ w.mutators
+turned_mutators w = go (collector_next.next_of w.collector)
+  where
+    go : (x : Option Op) → (turned_at w x).mutators ≡ w.mutators
+    go None = refl
+    go (Some op) = refl

@@ -30,7 +30,7 @@ use Rattle.rec_core.specs.Asked.{told_by}
 use Rattle.rec_core.specs.Config.{IsMutator}
 use Rattle.rec_core.specs.Core.{Core, sight, mutator, nobody, log_length}
 use Rattle.rec_core.specs.Kept.{IsKept}
-use Rattle.rec_core.specs.Moves.{Move, Fits, AllFit, after_move, after_moves, stepped, turned, turned_at, begun, offering}
+use Rattle.rec_core.specs.Moves.{Move, Fits, AllFit, after_move, after_moves, stepped, turned, begun, offering}
 use Rattle.rec_core.specs.Pending.{epoch_at}
 use Rattle.rec_core.specs.Shown.{IsDecided, entries_of}
 use Rattle.rec_core.specs.Swept.{SweepsNothing, IsSweep}
@@ -43,6 +43,7 @@ use Rattle.rec_core.proofs.Runs.{move_kept, move_stays}
 use Rattle.rec_core.proofs.Showing.{Says, step_says, step_caused, mutator_other}
 use Rattle.rec_core.proofs.Steps.{in_list}
 use Rattle.rec_core.proofs.Swept.{turned_sweeps}
+use Rattle.rec_core.proofs.Turning.{turned_mutators}
 use Rattle.rec_order.specs.Naming.{Naming, named_after, named_after_all}
 use Rattle.rec_order.specs.Events.{swept_by, events_in, events_of}
 use Rattle.rec_order.specs.Legal.{limits_of}
@@ -119,14 +120,6 @@ module _ (limits : Limits) (start : Moment) where
   swept_nothing n (Some ops.AddFreed) nothing = absurd nothing
   swept_nothing n (Some (ops.FreeHeader slot)) nothing = absurd nothing
   swept_nothing n _ nothing = refl
-
-  -- a turn leaves the mutators
-  turned_mutators : (w : Core) → (turned w).mutators ≡ w.mutators
-  turned_mutators w = go (next_of w.collector)
-    where
-      go : (x : Option Op) → (turned_at w x).mutators ≡ w.mutators
-      go None = refl
-      go (Some op) = refl
 
   -- the order over a turn: as the sweep goes
   turn_order : (lines : List (List Line)) (events : List Event) (w : Core) (n : Naming) (home : ℕ → ℕ) → IsKept w → Ordered limits start lines events w n home

@@ -35,12 +35,12 @@ use Rattle.rec_order.proofs.Stands.{NamesOn, born_taken}
 use Rattle.rec_order.proofs.Steps.{same_names, step_names}
 
 -- where the moves of two lists lead
-after_both : (w : Core) (ms ns : List Move) → after_moves w (ms ++ ns) ≡ after_moves (after_moves w ms) ns
+pub after_both : (w : Core) (ms ns : List Move) → after_moves w (ms ++ ns) ≡ after_moves (after_moves w ms) ns
 after_both w [] ns = refl
 after_both w (m ∷ ms) ns = after_both (after_move w m) ms ns
 
 -- two lists of moves fit one after the other
-fit_both : (w : Core) (ms ns : List Move) → AllFit w ms → AllFit (after_moves w ms) ns → AllFit w (ms ++ ns)
+pub fit_both : (w : Core) (ms ns : List Move) → AllFit w ms → AllFit (after_moves w ms) ns → AllFit w (ms ++ ns)
 fit_both w [] ns fit more = more
 fit_both w (m ∷ ms) ns fit more = (fit.0, fit_both (after_move w m) ms ns fit.1 more)
 

@@ -1,8 +1,7 @@
 -- A mailbox that is home holds a buffer, and where nobody holds it nothing is swapped.
-use Rattle.std.proofs.Common.{◌≡◌, ℕ, ◌-◌, ◌<◌, ◌≤◌, List, Option, None, Some, length, slice_index_or, slice_set, refl, sym, ap, ◌∙◌}
-use Rattle.std.specs.Option.{IfSome, IsSome}
+use Rattle.std.proofs.Common.{◌≡◌, ℕ, Option, None, Some, refl, sym, ap, ◌∙◌}
+use Rattle.std.specs.Option.{IsSome}
 use Rattle.std.proofs.lemmas.Bool.{false≢true}
-use Rattle.std.proofs.lemmas.List.{set-get_or}
 use Rattle.rec_log.specs.declared.contents.Contents.{Contents}
 use Rattle.rec_mutator.specs.Private.{Private}
 use Rattle.rec_mutator.specs.Took.{swapped_of, left_of, left_at, IsSwapping, IsBetween}
@@ -15,7 +14,7 @@ use Rattle.rec_collector.specs.Took as collector_took
 use Rattle.rec_collector.specs.declared.phase.Phase.{Phase}
 use Rattle.rec_collector.specs.declared.phase.Phase.TheVariants.{Idle, Looking, Swapping, Returning, Releasing, Freeing, Trying, Preparing, Opening, Sweeping, Closing}
 use Rattle.rec_core.proofs.Crossings.{left_same}
-use Rattle.rec_world.specs.Mailbox.{held, held_by, gathered_by, gathered_from}
+use Rattle.rec_world.specs.Mailbox.{held}
 
 -- a mailbox that is home
 pub held_some : (x : Option Contents) → IsSome x → x ≡ Some (held x)
@@ -94,11 +93,7 @@ collector_leaves c b not = go c.phase not
 pub gathered_stays : (c : collectors.Private) (x : Option Contents) → IsSome x → (collector_given.IsSwapping c.phase → ⊥) → x ≡ Some (collector_took.left_of c (held x))
 gathered_stays c x home not = held_some x home ∙ ap (λ b. Some b) (sym (collector_leaves c (held x) not))
 
--- where the collector holds none, every mailbox stays too
-pub ungathered : (c : collectors.Private) (boxes : List (Option Contents)) (x : Option ℕ) → (collector_given.IsSwapping c.phase → ⊥) → ((i : ℕ) → i < length boxes → IsSome (slice_index_or boxes i None)) → IfSome x (λ t. (1 ≤ t) × (t - 1 < length boxes))
-    → (c ≡ gathered_by c boxes x) × (boxes ≡ gathered_from c boxes x)
-ungathered c boxes None not home there = (refl, refl)
-ungathered c boxes (Some t) not home there = (
-  collector_stays c (held_by boxes t) not,
-  sym (set-get_or boxes (t - 1) None) ∙ ap (slice_set boxes (t - 1)) (gathered_stays c (slice_index_or boxes (t - 1) None) (home (t - 1) there.1) not),
-)
+-- whose mailbox it holds, that one waits to be swapped
+pub held_swaps : (phase : Phase) (t : ℕ) → collector_given.swapping_for phase ≡ Some t → collector_given.IsSwapping phase
+held_swaps (Swapping t) u is = tt
+held_swaps _ u is = let not_so : ◌≡◌ {A = Option ℕ} None (Some u) = is in absurd (cc)

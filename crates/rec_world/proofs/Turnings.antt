@@ -1,23 +1,16 @@
 -- What the fields of a world become in a turn is what the definitions say.
 use Rattle.std.proofs.Common.{◌≡◌, ◌≢◌, ℕ, ◌+◌, ◌-◌, ◌<◌, ◌≤◌, ◌==◌, if◌then◌else◌, List, Option, None, Some, Bool, true, false, slice_set, slice_index_or, length, map, refl, sym, ap, subst, ◌∙◌, arith}
-use Rattle.std.specs.Option.{IsSome}
+use Rattle.std.specs.Option.{IfSome, IsSome}
 use Rattle.std.proofs.lemmas.Bool.{ne_eqb}
 use Rattle.std.proofs.lemmas.List.{get_or_default, map-set, set-get_or}
 use Rattle.rec_word.specs.Mailbox.{crossing_word}
 use Rattle.rec_word.specs.declared.mailbox.Mailbox.TheVariants.{Retired, WithCollector}
-use Rattle.rec_word.specs.Op.{written, mailbox_of}
+use Rattle.rec_word.specs.Op.{written}
 use Rattle.rec_word.specs.declared.op.Op.{Op}
 use Rattle.rec_word.specs.declared.op.Op.TheVariants as ops
 use Rattle.rec_log.specs.declared.contents.Contents.{Contents}
-use Rattle.rec_release.specs.CycleFree.{op_at as freeing_op_at, next_of as freeing_next}
-use Rattle.rec_release.specs.Release.{op_at as release_op_at, next_of as release_next}
-use Rattle.rec_release.specs.Sweep.{next_of as sweep_next}
-use Rattle.rec_release.specs.declared.at.At.{At}
-use Rattle.rec_release.specs.declared.member.Member.{Member}
-use Rattle.rec_sigma.specs.Prepare.{op_at as prep_op_at, next_of as prep_next}
-use Rattle.rec_sigma.specs.declared.at.At as loads
 use Rattle.rec_collector.specs.Causes.{HasCause}
-use Rattle.rec_collector.specs.Given.{IsSwapping}
+use Rattle.rec_collector.specs.Given.{IsSwapping, swapping_for}
 use Rattle.rec_collector.specs.Followed.{Next, followed, prepared, relieved, tried, with_freed, with_loaded, with_released, with_tried}
 use Rattle.rec_collector.specs.Kept.{swept_at, under_way}
 use Rattle.rec_collector.specs.Next.{next_of, next_at, is_spent}
@@ -37,7 +30,6 @@ use Rattle.rec_core.specs.Core.{Core, cells_of, box, crossing_of}
 use Rattle.rec_core.specs.Kept.{IsKept}
 use Rattle.rec_core.specs.Moves.{looked_at, left_by, collected, turned, turned_at, turned_by}
 use Rattle.rec_core.specs.declared.config.Config.{Config}
-use Rattle.rec_core.proofs.Trying.{loads_child}
 use Rattle.rec_core.proofs.Turning.{some_op}
 use Rattle.rec_core.proofs.Shapes.{same_boxes}
 use Rattle.rec_world.specs.Mailbox.{held, held_by, gathered_by, gathered_from}
@@ -49,45 +41,6 @@ use Rattle.rec_world.proofs.Mailboxes.{collector_leaves, collector_stays, gather
 abbrev pub looks_for : Phase → Option ℕ
 looks_for (Looking t) = Some t
 looks_for _ = None
-
--- the operation that comes next takes that one, by phase
-looks_at_phase : (c : collectors.Private) (op : Op) (phase : Phase) → ◌≡◌ {A = Option Op} (next_at c phase) (Some op) → mailbox_of op ≡ looks_for phase
-unfolding next_at release_next freeing_next prep_next sweep_next
-looks_at_phase c op Idle named = stored (is_spent c) named
-  where
-    stored : (spent : Bool) → ◌≡◌ {A = Option Op} (if spent then None else Some (ops.StoreEpoch (c.epoch + 1))) (Some op) → mailbox_of op ≡ None
-    stored true none = let not_so : ◌≡◌ {A = Option Op} (Some op) None = sym none in absurd (cc)
-    stored false some = ap mailbox_of (sym (some_op (ops.StoreEpoch (c.epoch + 1)) op some))
-looks_at_phase c op (Looking t) named = ap mailbox_of (sym (some_op (ops.LookBox t c.epoch) op named))
-looks_at_phase c op (Swapping t) named = ap mailbox_of (sym (some_op (ops.ReturnBox t c.epoch) op named))
-looks_at_phase c op (Returning t) named = ap mailbox_of (sym (some_op (ops.ReturnBox t c.epoch) op named))
-looks_at_phase c op Releasing named = go c.release.at named
-  where
-    go : (x : Option At) → ◌≡◌ {A = Option Op} (release_op_at c.release.fields x) (Some op) → mailbox_of op ≡ None
-    go None none = let not_so : ◌≡◌ {A = Option Op} (Some op) None = sym none in absurd (cc)
-    go (Some a) some = ap mailbox_of (sym (some_op _ op some))
-looks_at_phase c op Freeing named = go c.freeing.at named
-  where
-    go : (x : Option Member) → ◌≡◌ {A = Option Op} (freeing_op_at c.freeing.fields x) (Some op) → mailbox_of op ≡ None
-    go None none = let not_so : ◌≡◌ {A = Option Op} (Some op) None = sym none in absurd (cc)
-    go (Some a) some = ap mailbox_of (sym (some_op _ op some))
-looks_at_phase c op Trying named = ap mailbox_of (loads_child c.trial op (sym named)).1
-looks_at_phase c op Preparing named = go c.prep.at named
-  where
-    go : (x : Option loads.At) → ◌≡◌ {A = Option Op} (prep_op_at c.prep.fields x) (Some op) → mailbox_of op ≡ None
-    go None none = let not_so : ◌≡◌ {A = Option Op} (Some op) None = sym none in absurd (cc)
-    go (Some a) some = ap mailbox_of (sym (some_op _ op some))
-looks_at_phase c op Opening named = ap mailbox_of (sym (some_op ops.AddFreed op named))
-looks_at_phase c op (Sweeping n) named = go c.due named
-  where
-    go : (x : Option ℕ) → ◌≡◌ {A = Option Op} (sweep_next x) (Some op) → mailbox_of op ≡ None
-    go None none = let not_so : ◌≡◌ {A = Option Op} (Some op) None = sym none in absurd (cc)
-    go (Some x) some = ap mailbox_of (sym (some_op (ops.FreeHeader x) op some))
-looks_at_phase c op (Closing n) named = ap mailbox_of (sym (some_op ops.AddFreed op named))
-
-pub looks_at : (c : collectors.Private) (op : Op) → ◌≡◌ {A = Option Op} (next_of c) (Some op) → mailbox_of op ≡ looks_for c.phase
-unfolding next_of
-looks_at c op named = looks_at_phase c op c.phase named
 
 came_between : (c : collectors.Private) (n : Next) → IsBetween n.phase → IsBetween (came c n).phase
 came_between c n between = at n.phase between
@@ -129,19 +82,32 @@ took_between c word (Closing n) is between none = tt
 -- so nothing is to be swapped then
 none_swaps : (c : collectors.Private) (word : ℕ) → IsBetween c.phase → looks_for c.phase ≡ None → IsSwapping (took_of c word).phase → ⊥
 unfolding took_of
-none_swaps c word between none = unheld (took_at c word c.phase).phase (took_between c word c.phase refl between none)
+none_swaps c word between none = between_holds (took_at c word c.phase).phase (took_between c word c.phase refl between none)
   where
-    unheld : (phase : Phase) → IsBetween phase → IsSwapping phase → ⊥
-    unheld (Swapping t) between is = absurd between
-    unheld _ between is = is
+    between_holds : (phase : Phase) → IsBetween phase → IsSwapping phase → ⊥
+    between_holds (Swapping t) between is = absurd between
+    between_holds _ between is = is
 
--- a turn that holds a mailbox took it
-pub holding_took : (c : collectors.Private) (op : Op) (word : ℕ) → IsBetween c.phase → ◌≡◌ {A = Option Op} (next_of c) (Some op) → IsSwapping (took_of c word).phase → IsSome (mailbox_of op)
-holding_took c op word between named swaps = subst IsSome (sym (looks_at c op named)) (go c.phase refl)
+unheld : (phase : Phase) → swapping_for phase ≡ None → IsSwapping phase → ⊥
+unheld (Swapping t) none is = let not_so : ◌≡◌ {A = Option ℕ} (Some t) None = none in absurd (cc)
+unheld _ none is = is
+
+-- a turn that holds a mailbox looked at it
+pub holds_looked : (c : collectors.Private) (word : ℕ) → IsBetween c.phase → IfSome (swapping_for (took_of c word).phase) (λ t. t ≡ looked_at c.phase)
+unfolding took_of took_at
+holds_looked c word between = go c.phase refl
   where
-    go : (phase : Phase) → c.phase ≡ phase → IsSome (looks_for phase)
-    go (Looking t) is = refl
-    go _ is = absurd (none_swaps c word between (ap looks_for is) swaps)
+    looked : (t : ℕ) → c.phase ≡ Looking t → (held_ : Bool) → IfSome (swapping_for (if held_ then record c { phase = Swapping t; turns = c.turns + 1 } else c).phase) (λ u. u ≡ t)
+    looked t is true = refl
+    looked t is false = subst (λ f. IfSome (swapping_for f) (λ u. u ≡ t)) (sym is) tt
+
+    none : (phase : Phase) → (IsSwapping phase → ⊥) → IfSome (swapping_for phase) (λ t. t ≡ looked_at c.phase)
+    none (Swapping t) not = absurd (not tt)
+    none _ not = tt
+
+    go : (phase : Phase) → c.phase ≡ phase → IfSome (swapping_for (took_of c word).phase) (λ t. t ≡ looked_at c.phase)
+    go (Looking t) is = subst (λ f. IfSome (swapping_for (took_at c word f).phase) (λ u. u ≡ looked_at f)) (sym is) (looked t is (word == crossing_word c.epoch Retired))
+    go _ is = none (took_of c word).phase (none_swaps c word between (ap looks_for is))
 
 -- what the mailbox that was looked at holds after the turn, by phase
 gathers : (c : collectors.Private) (word : ℕ) (b : Contents) (phase : Phase) → c.phase ≡ phase → IsBetween phase → left_of (took_of c word) b ≡ left_by c word b phase
@@ -187,9 +153,9 @@ turned_with w boxes op found i mailbox left taken new cells between same there n
 pub turned_is : (w : Core) (boxes left : List (Option Contents)) (op : Op) (found : ℕ) (taken new : collectors.Private) (cells : Cells)
     → IsBetween w.collector.phase → w.boxes ≡ map held boxes → looked_at w.collector.phase - 1 < length boxes → ((i : ℕ) → i < length boxes → IsSome (slice_index_or boxes i None))
     → ◌≡◌ {A = Option Op} (next_of w.collector) (Some op) → found ≡ cell (cells_of w) op → cells ≡ with_cell (cells_of w) op (written op found)
-    → taken ≡ took_of w.collector found → new ≡ gathered_by taken boxes (mailbox_of op) → left ≡ gathered_from taken boxes (mailbox_of op)
+    → taken ≡ took_of w.collector found → new ≡ gathered_by taken boxes (swapping_for taken.phase) → left ≡ gathered_from taken boxes (swapping_for taken.phase)
     → ◌≡◌ {A = Core} (record w { headers = cells.headers; words = cells.words; epoch = cells.epoch; freed = cells.freed; crossing = cells.crossing; boxes = map held left; collector = new }) (turned w)
-turned_is w boxes left op found taken new cells between same there home named finds leaves learns swaps gives = go w.collector.phase refl
+turned_is w boxes left op found taken new cells between same there home named finds leaves learns swaps gives = go (swapping_for taken.phase) refl
   where
     at : ℕ
     at = looked_at w.collector.phase
@@ -203,21 +169,20 @@ turned_is w boxes left op found taken new cells between same there home named fi
     with : (left_there : Option Contents) (q : collectors.Private) → q ≡ swapped_of taken (held its) → left_there ≡ Some (left_of taken (held its)) → made (slice_set boxes (at - 1) left_there) q ≡ turned w
     with left_there q = turned_with w boxes op found at its left_there taken q cells between same there named refl (get_or_default boxes (at - 1) None its there) finds leaves learns
 
-    none : looks_for w.collector.phase ≡ None → made left new ≡ turned w
+    none : swapping_for taken.phase ≡ None → made left new ≡ turned w
     none un =
-        let not : IsSwapping taken.phase → ⊥ = subst (λ (c : collectors.Private). IsSwapping c.phase → ⊥) (sym learns) (none_swaps w.collector found between un) in
-        let nobody : mailbox_of op ≡ None = looks_at w.collector op named ∙ un in
-        ap (λ x. made x new) (gives ∙ ap (gathered_from taken boxes) nobody ∙ sym (set-get_or boxes (at - 1) None)) ∙ ap (made (slice_set boxes (at - 1) its)) (swaps ∙ ap (gathered_by taken boxes) nobody)
+        let not : IsSwapping taken.phase → ⊥ = unheld taken.phase un in
+        ap (λ x. made x new) (gives ∙ ap (gathered_from taken boxes) un ∙ sym (set-get_or boxes (at - 1) None)) ∙ ap (made (slice_set boxes (at - 1) its)) (swaps ∙ ap (gathered_by taken boxes) un)
         ∙ with its taken (collector_stays taken (held its) not) (gathered_stays taken its (home (at - 1) there) not)
 
-    some : (t : ℕ) → w.collector.phase ≡ Looking t → made left new ≡ turned w
-    some t is =
-        let number : mailbox_of op ≡ Some at = looks_at w.collector op named ∙ ap looks_for is ∙ ap (λ f. Some (looked_at f)) (sym is) in
-        ap (λ x. made x new) (gives ∙ ap (gathered_from taken boxes) number) ∙ with (Some (left_of taken (held its))) new (swaps ∙ ap (gathered_by taken boxes) number) refl
+    some : swapping_for taken.phase ≡ Some at → made left new ≡ turned w
+    some is = ap (λ x. made x new) (gives ∙ ap (gathered_from taken boxes) is) ∙ with (Some (left_of taken (held its))) new (swaps ∙ ap (gathered_by taken boxes) is) refl
 
-    go : (phase : Phase) → w.collector.phase ≡ phase → made left new ≡ turned w
-    go (Looking t) is = some t is
-    go _ is = none (ap looks_for is)
+    go : (x : Option ℕ) → swapping_for taken.phase ≡ x → made left new ≡ turned w
+    go None is = none is
+    go (Some t) is =
+        let looked : IfSome (swapping_for taken.phase) (λ u. u ≡ at) = subst (λ (c : collectors.Private). IfSome (swapping_for c.phase) (λ u. u ≡ at)) (sym learns) (holds_looked w.collector found between) in
+        some (is ∙ ap Some (subst (λ x. IfSome x (λ u. u ≡ at)) is looked))
 
 -- every mailbox is home then
 pub home_still : (c : collectors.Private) (boxes : List (Option Contents)) (x : Option ℕ) → ((i : ℕ) → i < length boxes → IsSome (slice_index_or boxes i None))

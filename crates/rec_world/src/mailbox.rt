@@ -1,9 +1,8 @@
 //! The mailboxes: each is home between two steps, with a buffer that one step swaps for another.
 
 ghost use Rattle.std.specs.Prelude.{◌≡◌, ℕ, ◌-◌, ◌<◌, ◌≤◌, None, Some, All, length, replicate, slice_index_or, IsSome, IfOk, IfSome};
-ghost use Rattle.rec_word.specs.Op.{mailbox_of};
 ghost use Rattle.rec_mutator.specs.Took.{spare, swapped_of, left_of, IsSwapping};
-ghost use Rattle.rec_collector.specs.Given.{IsSized, IsSwapping as IsHeld};
+ghost use Rattle.rec_collector.specs.Given.{IsSized, IsSwapping as IsHeld, swapping_for};
 ghost use Rattle.rec_collector.specs.Took.{left_of as left_for, swapped_of as gathered_of};
 ghost use Rattle.rec_core.specs.Config.{IsConfig};
 ghost use Rattle.rec_core.specs.Core.{spare_of};
@@ -13,7 +12,6 @@ use crate::Config;
 use rec_collector::Machine as Collector;
 use rec_log::Buffer;
 use rec_mutator::Machine;
-use rec_word::Op;
 use std::alloc::{AllocError as NoMemory, Global};
 
 /// A mailbox with a spare buffer for each mutator.
@@ -44,37 +42,31 @@ pub fn swap_own(machine: &mut Machine, mailbox: &mut Option<Buffer>)
     }
 }
 
-/// Where the collector holds the mailbox, swaps the retired buffer in it for a spare.
+/// Swaps the retired buffer in the mailbox that the collector holds for a spare.
 pub fn swap_gathered(collector: &mut Collector, mailbox: &mut Option<Buffer>)
+    requires swapping { IsHeld collector.old.phase }
     requires home { IsSome mailbox.old }
     requires sized { IsSized collector.old.registers collector.old.capacity (held mailbox.old) }
 
     ensures collector { collector.new ≡ gathered_of collector.old (held mailbox.old) }
     ensures mailbox { mailbox.new ≡ Some (left_for collector.old (held mailbox.old)) }
 {
-    if collector.is_swapping() {
-        if let Some(buffer) = mailbox.take() {
-            *mailbox = Some(collector.swap_box(buffer));
-        }
+    if let Some(buffer) = mailbox.take() {
+        *mailbox = Some(collector.swap_box(buffer));
     }
 }
 
-/// Where the collector holds the mailbox that the operation took, swaps the retired buffer in it for a spare.
+/// Where the collector holds a mailbox, swaps the retired buffer in it for a spare.
 #[inline(always)]
-pub fn gather(op: Op, collector: &mut Collector, boxes: &mut Vec<Option<Buffer>>)
-    requires taken { IsHeld collector.old.phase → IsSome (mailbox_of op) }
-    requires there { IfSome (mailbox_of op) (λ t. (1 ≤ t) × (t - 1 < length boxes.old.items)) }
+pub fn gather(collector: &mut Collector, boxes: &mut Vec<Option<Buffer>>)
+    requires there { IfSome (swapping_for collector.old.phase) (λ t. (1 ≤ t) × (t - 1 < length boxes.old.items)) }
     requires home { (i : ℕ) → i < length boxes.old.items → IsSome (slice_index_or boxes.old.items i None) }
-    requires sized { IfSome (mailbox_of op) (λ t. IsSized collector.old.registers collector.old.capacity (held_by boxes.old.items t)) }
+    requires sized { IfSome (swapping_for collector.old.phase) (λ t. IsSized collector.old.registers collector.old.capacity (held_by boxes.old.items t)) }
 
-    ensures collector { collector.new ≡ gathered_by collector.old boxes.old.items (mailbox_of op) }
-    ensures boxes { boxes.new.items ≡ gathered_from collector.old boxes.old.items (mailbox_of op) }
+    ensures collector { collector.new ≡ gathered_by collector.old boxes.old.items (swapping_for collector.old.phase) }
+    ensures boxes { boxes.new.items ≡ gathered_from collector.old boxes.old.items (swapping_for collector.old.phase) }
 {
-    if collector.is_swapping() {
-        // Only an operation that took a mailbox leaves it held, so others need no look at any.
-        match op.mailbox() {
-            Some(t) => swap_gathered(collector, &mut boxes[usize::from(t) - 1]),
-            None => unreachable!(),
-        }
+    if let Some(t) = collector.swapping() {
+        swap_gathered(collector, &mut boxes[usize::from(t) - 1]);
     }
 }

@@ -236,7 +236,7 @@ impl World {
         };
         let found = self.memory.perform(op);
         let turn = self.collector.took(found);
-        gather(op, &mut self.collector, &mut self.boxes);
+        gather(&mut self.collector, &mut self.boxes);
         turn
     }
 

@@ -1,11 +1,7 @@
--- Where the collector holds no mailbox, nothing is swapped.
-use Rattle.std.proofs.lemmas.Bool.{false≢true}
-use Rattle.rec_word.specs.Op.{mailbox_of}
-use Rattle.rec_world.proofs.Mailboxes.{ungathered}
+-- A mailbox that the collector holds waits to be swapped.
+use Rattle.std.proofs.Common.{sym, ◌∙◌}
+use Rattle.rec_world.proofs.Mailboxes.{held_swaps}
 use Rattle.rec_world.proofs.mailbox.gather.Goals as goal
 
-pub returns-else-is_swapping-clause-collector : goal.returns-else-is_swapping-clause-collector
-returns-else-is_swapping-clause-collector c = (ungathered c.args.collector.now c.args.boxes.now.items (mailbox_of c.args.op) (λ is. false≢true (c.if-is_swapping.ensures.1 is)) c.requires.home c.requires.there).0
-
-pub returns-else-is_swapping-clause-boxes : goal.returns-else-is_swapping-clause-boxes
-returns-else-is_swapping-clause-boxes c = (ungathered c.args.collector.now c.args.boxes.now.items (mailbox_of c.args.op) (λ is. false≢true (c.if-is_swapping.ensures.1 is)) c.requires.home c.requires.there).1
+pub swap_gathered-requires-clause-swapping : goal.swap_gathered-requires-clause-swapping
+swap_gathered-requires-clause-swapping c = held_swaps c.args.collector.now.phase c.in-Some.t (sym c.swapping.ensures ∙ c.in-Some.is)

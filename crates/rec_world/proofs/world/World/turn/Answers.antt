@@ -5,17 +5,15 @@ use Rattle.std.proofs.lemmas.Bool.{false≢true}
 use Rattle.std.proofs.lemmas.List.{get_or_default}
 use Rattle.rec_word.specs.Mailbox.{crossing_word}
 use Rattle.rec_word.specs.declared.mailbox.Mailbox.TheVariants.{Retired}
-use Rattle.rec_word.specs.Op.{mailbox_of}
 use Rattle.rec_word.specs.declared.op.Op.{Op}
 use Rattle.rec_word.specs.declared.op.Op.TheVariants.{FreeHeader}
 use Rattle.rec_model.specs.Sight.{StandsBy}
 use Rattle.rec_log.specs.declared.contents.Contents.{Contents}
 use Rattle.rec_collector.specs.Causes.{HasCause}
-use Rattle.rec_collector.specs.Given.{IsGiven, IsSized, IsSwapping}
+use Rattle.rec_collector.specs.Given.{IsGiven, IsSized, swapping_for}
 use Rattle.rec_collector.specs.Next.{next_of}
 use Rattle.rec_collector.specs.Private.{Private}
 use Rattle.rec_collector.specs.Took.{took_of}
-use Rattle.rec_collector.specs.declared.phase.Phase.{Phase}
 use Rattle.rec_collector.specs.declared.phase.Phase.TheVariants.{Idle, Looking}
 use Rattle.rec_collector.specs.declared.turn.Turn.TheVariants as turns
 use Rattle.rec_core.specs.Cells.{cell}
@@ -34,7 +32,7 @@ use Rattle.rec_world.specs.Inside.{core}
 use Rattle.rec_world.specs.Mailbox.{held, held_by}
 use Rattle.rec_world.specs.World.{IsWorld, TurnHasCause}
 use Rattle.rec_world.proofs.Calls.{ReadyToTurn, ready_to_turn, box_read, moved_world}
-use Rattle.rec_world.proofs.Turnings.{holding_took, home_still, looks_at, looks_for, looked_word, turned_is, turn_cause, turn_requests}
+use Rattle.rec_world.proofs.Turnings.{holds_looked, home_still, looked_word, turned_is, turn_cause, turn_requests}
 use Rattle.rec_world.proofs.world.World.turn.Goals as goal
 use Rattle.rec_world.proofs.world.World.turn.Goals.{In_default, In-Some, After-gather}
 
@@ -67,27 +65,19 @@ perform-found-requires c = (may (goal.at.perform-found-requires c).In-Some).with
 pub took-turn-requires : goal.took-turn-requires
 took-turn-requires c = subst (IsGiven c.self.inside.collector) (sym c.perform-found.ensures.found) (may (goal.at.took-turn-requires c).In-Some).given
 
--- the mailbox that is looked at, if any, is there, and as large as the buffers
-looked : (c : In-Some) → IfSome (mailbox_of c.in-Some.op) (λ t. t ≡ looked_at c.self.inside.collector.phase)
-looked c = subst (λ x. IfSome x (λ t. t ≡ looked_at c.self.inside.collector.phase)) (sym (looks_at c.self.inside.collector c.in-Some.op (named c))) (go c.self.inside.collector.phase)
-  where
-    go : (phase : Phase) → IfSome (looks_for phase) (λ t. t ≡ looked_at phase)
-    go (Looking t) = refl
-    go _ = tt
+-- the mailbox that is held, if any, is the one that was looked at: it is there, and as large as the buffers
+looked : (c : In-Some) (found : ℕ) (p : Private) → p ≡ took_of c.self.inside.collector found → IfSome (swapping_for p.phase) (λ t. t ≡ looked_at c.self.inside.collector.phase)
+looked c found p is = subst (λ (q : Private). IfSome (swapping_for q.phase) (λ t. t ≡ looked_at c.self.inside.collector.phase)) (sym is) (holds_looked c.self.inside.collector found (begins c).kept.collector.between)
 
 with_looked : (P : ℕ → Type 0) (x : Option ℕ) (n : ℕ) → IfSome x (λ t. t ≡ n) → P n → IfSome x P
 with_looked P None n same holds = tt
 with_looked P (Some t) n same holds = subst P (sym same) holds
 
-pub gather-requires-clause-taken : goal.gather-requires-clause-taken
-gather-requires-clause-taken c =
-    let at : In-Some = (goal.at.gather-requires-clause-taken c).In-Some in
-    subst (λ (q : Private). IsSwapping q.phase → IsSome (mailbox_of c.in-Some.op)) (sym c.took-turn.ensures.took) (holding_took c.self.inside.collector c.in-Some.op c.perform-found.result (begins at).kept.collector.between (named at))
-
 pub gather-requires-clause-there : goal.gather-requires-clause-there
 gather-requires-clause-there c =
     let at : In-Some = (goal.at.gather-requires-clause-there c).In-Some in
-    with_looked (λ t. (1 ≤ t) × (t - 1 < length c.self.inside.boxes.items)) (mailbox_of c.in-Some.op) (looked_at c.self.inside.collector.phase) (looked at) ((begins at).is.0, (begins at).boxed)
+    let p : Private = c.took-turn.new.self in
+    with_looked (λ t. (1 ≤ t) × (t - 1 < length c.self.inside.boxes.items)) (swapping_for p.phase) (looked_at c.self.inside.collector.phase) (looked at c.perform-found.result p c.took-turn.ensures.took) ((begins at).is.0, (begins at).boxed)
 
 pub gather-requires-clause-home : goal.gather-requires-clause-home
 gather-requires-clause-home c = c.self.invariant.home
@@ -99,7 +89,7 @@ gather-requires-clause-sized c =
     let t : ℕ = looked_at w.collector.phase in
     let its : held_by c.self.inside.boxes.items t ≡ box w t = box_read c.self.inside.boxes.items t t (slice_index_or c.self.inside.boxes.items (t - 1) None) refl (begins at).boxed (get_or_default c.self.inside.boxes.items (t - 1) None (slice_index_or c.self.inside.boxes.items (t - 1) None) (begins at).boxed) in
     let sized : IsSized c.took-turn.new.self.registers c.took-turn.new.self.capacity (box w t) = (let P : ℕ → ℕ → Contents → Type 0 = IsSized in rw (c.took-turn.ensures.same.registers, c.took-turn.ensures.same.capacity) (may at).sized) in
-    with_looked (λ u. IsSized c.took-turn.new.self.registers c.took-turn.new.self.capacity (held_by c.self.inside.boxes.items u)) (mailbox_of c.in-Some.op) t (looked at) (subst (IsSized c.took-turn.new.self.registers c.took-turn.new.self.capacity) (sym its) sized)
+    with_looked (λ u. IsSized c.took-turn.new.self.registers c.took-turn.new.self.capacity (held_by c.self.inside.boxes.items u)) (swapping_for c.took-turn.new.self.phase) t (looked at c.perform-found.result c.took-turn.new.self c.took-turn.ensures.took) (subst (IsSized c.took-turn.new.self.registers c.took-turn.new.self.capacity) (sym its) sized)
 
 -- the core that is left
 abbrev after : After-gather → Core
@@ -134,7 +124,7 @@ pub invariant_of-self : goal.invariant_of-self
 invariant_of-self c =
     record {
       world = world (goal.at.invariant_of-self c).After-gather;
-      home = subst (λ (bs : List (Option Contents)). (i : ℕ) → i < length bs → IsSome (slice_index_or bs i None)) (sym c.gather.ensures.boxes) (home_still c.took-turn.new.self c.self.inside.boxes.items (mailbox_of c.in-Some.op) c.self.invariant.home);
+      home = subst (λ (bs : List (Option Contents)). (i : ℕ) → i < length bs → IsSome (slice_index_or bs i None)) (sym c.gather.ensures.boxes) (home_still c.took-turn.new.self c.self.inside.boxes.items (swapping_for c.took-turn.new.self.phase) c.self.invariant.home);
     }
 
 pub returns-clause-turned : goal.returns-clause-turned
