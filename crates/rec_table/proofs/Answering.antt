@@ -19,10 +19,11 @@ use Rattle.rec_mutator.specs.declared.work.Work.TheVariants as works
 use Rattle.rec_mutator.proofs.Refusals.{took_cause}
 use Rattle.rec_mutator.proofs.Steps.{TakesNone, here_same, none_between}
 use Rattle.rec_table.specs.Answered.{FailsProbes, IsAnswered, worked}
-use Rattle.rec_table.specs.Beats.{learnt}
+use Rattle.rec_table.specs.Beats.{learnt, told}
 use Rattle.rec_table.specs.Scan.{saw_all}
 use Rattle.rec_table.specs.declared.views.Beat.{Beat}
 use Rattle.rec_table.specs.declared.views.Beat.TheVariants.{Begins, Saw}
+use Rattle.rec_table.proofs.Beats.{told_both}
 
 -- a work that was begun and went on step by step: the words that were found, and the record before the last step
 pub record Path (work : Work) (p : Private) (log log' : List Beat) (q : Private) : Type 0 where
@@ -30,6 +31,7 @@ pub record Path (work : Work) (p : Private) (log log' : List Beat) (q : Private)
   pub last : ℕ
   pub grows : log' ≡ log ++ worked work (words ++ last ∷ [])
   pub before : Private
+  pub along : before ≡ told (begun_of p work) (saw_all words)
   pub came : (cmd : Cmd) → work ≡ works.Command cmd → before ≡ fold took_of (begun_of p work) words
   pub machine : IsMachine before
   pub busy : is_busy before ≡ true
@@ -77,10 +79,6 @@ begun_at : (p : Private) (work : Work) → (begun_of p work).phase ≡ at.Begun 
 unfolding begun_of
 begun_at p work = refl
 
-pub begun_busy : (p : Private) (work : Work) → is_busy (begun_of p work) ≡ true
-unfolding begun_of
-begun_busy p work = refl
-
 pub begun_slots : (p : Private) (work : Work) → (begun_of p work).slots ≡ p.slots
 unfolding begun_of
 begun_slots p work = refl
@@ -92,6 +90,7 @@ path_first work p q log log' word grows machine busy works_on slots made = recor
   last = word;
   grows = grows;
   before = begun_of p work;
+  along = refl;
   came = λ cmd is. refl;
   machine = machine;
   busy = busy;
@@ -101,9 +100,9 @@ path_first work p q log log' word grows machine busy works_on slots made = recor
 }
 
 -- failing probes that found these words, and one step more
-pub path_on : (work : Work) (p q m r : Private) (log was on now : List Beat) (ws : List ℕ) (word : ℕ) → Path work p log was q → is_busy m ≡ true → work_of m ≡ Some work → on ≡ was ++ saw_all ws → m ≡ fold took_of q ws → now ≡ on ++ Saw word ∷ []
+pub path_on : (work : Work) (p q m r : Private) (log was on now : List Beat) (ws : List ℕ) (word : ℕ) → Path work p log was q → is_busy m ≡ true → work_of m ≡ Some work → on ≡ was ++ saw_all ws → m ≡ fold took_of q ws → m ≡ told q (saw_all ws) → now ≡ on ++ Saw word ∷ []
     → IsMachine m → m.slots ≡ p.slots → r ≡ learnt m (Saw word) → Path work p log now r
-path_on work p q m r log was on now ws word path busy works_on passed came more machine slots made =
+path_on work p q m r log was on now ws word path busy works_on passed came went more machine slots made =
     let first : List ℕ = path.words ++ path.last ∷ [] in
     let last : List Beat = Saw word ∷ [] in
     let beats : worked work first ++ (saw_all ws ++ last) ≡ worked work ((first ++ ws) ++ word ∷ []) =
@@ -114,6 +113,10 @@ path_on work p q m r log was on now ws word path busy works_on passed came more 
       grows = more ∙ ap (λ (l : List Beat). l ++ last) passed ∙ (λ i. (path.grows i ++ saw_all ws) ++ last) ∙ append_assoc (log ++ worked work first) (saw_all ws) last ∙ append_assoc log (worked work first) (saw_all ws ++ last)
           ∙ ap (λ (l : List Beat). log ++ l) beats;
       before = m;
+      along =
+          went ∙ ap (λ (x : Private). told x (saw_all ws)) (path.made ∙ ap (λ (x : Private). learnt x (Saw path.last)) path.along ∙ sym (told_both (begun_of p work) (saw_all path.words) (Saw path.last ∷ [])))
+          ∙ sym (told_both (begun_of p work) (saw_all path.words ++ Saw path.last ∷ []) (saw_all ws))
+          ∙ ap (told (begun_of p work)) (ap (λ (l : List Beat). l ++ saw_all ws) (sym (map-append (λ (n : ℕ). Saw n) path.words (path.last ∷ []))) ∙ sym (map-append (λ (n : ℕ). Saw n) first ws));
       came = λ cmd is.
           let none : TakesNone path.before.phase = command_takes_none path.before cmd (path.works_on ∙ ap (λ (w : Work). Some w) is) in
           let so_far : q ≡ fold took_of (begun_of p work) first = path.made ∙ here_same path.before path.last (spare (took_of path.before path.last)) path.busy none ∙ ap (λ (x : Private). took_of x path.last) (path.came cmd is)

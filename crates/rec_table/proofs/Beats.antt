@@ -1,8 +1,7 @@
 -- Runs with moves more, and what they tell of an actor.
-use Rattle.std.proofs.Common.{◌≡◌, ◌≢◌, ◌⊎◌, inl, inr, ⊎_elim, ℕ, ◌-◌, ◌<◌, ◌≤◌, true, cond, eq-eqb, ne_eqb, List, [], ◌∷◌, ◌++◌, length, get_or, set, Option, Some, None, refl, sym, ap, ◌∙◌, subst, arith, append_assoc, get_or-set_same, get_or-set_other}
+use Rattle.std.proofs.Common.{◌≡◌, ◌≢◌, ◌⊎◌, inl, inr, ⊎_elim, ℕ, ◌-◌, ◌<◌, ◌≤◌, true, cond, eq-eqb, ne_eqb, List, [], ◌∷◌, ◌++◌, length, get_or, set, refl, sym, ap, ◌∙◌, subst, arith, append_assoc, get_or-set_same, get_or-set_other}
 use mathlib.Core.Logic.{dite}
 use native.Mathlib.Decide.{ℕ_discrete}
-use Rattle.rec_word.specs.declared.op.Op.{Op}
 use Rattle.rec_mutator.specs.Private.{Private, is_busy}
 use Rattle.rec_mutator.specs.Took.{begun_of, took_of, step_of, swapped_of, spare, IsSwapping}
 use Rattle.rec_mutator.specs.declared.phase.Phase as phases
@@ -11,25 +10,18 @@ use Rattle.rec_collector.specs.Next as collector_next
 use Rattle.rec_core.specs.Config.{IsMutator}
 use Rattle.rec_core.specs.Core.{Core, mutator, nobody, box}
 use Rattle.rec_core.specs.Kept.{IsKept}
-use Rattle.rec_core.specs.Moves.{Move, after_move, after_moves, Fits, AllFit, found_by, turned, turned_at}
+use Rattle.rec_core.specs.Moves.{Move, after_move, after_moves, Fits, AllFit, found_by}
 use Rattle.rec_world.specs.World.{IsWorld}
 use Rattle.rec_core.specs.declared.config.Config.{Config}
 use Rattle.rec_world.proofs.Calls.{moved_world, world_kept}
 use Rattle.rec_core.proofs.Runs.{move_stays}
 use Rattle.rec_core.proofs.Steps.{in_list}
+use Rattle.rec_core.proofs.Turning.{turned_mutators}
 use Rattle.rec_core.proofs.Words.{may_step}
 use Rattle.rec_world.proofs.Mailboxes.{machine_stays}
 use Rattle.rec_table.specs.Beats.{beats_in, beats_of, learnt, told, turn_at}
 use Rattle.rec_table.specs.declared.views.Beat.{Beat}
 use Rattle.rec_table.specs.declared.views.Beat.TheVariants.{Begins, Saw}
-
-pub after_both : (w : Core) (ms ns : List Move) → after_moves w (ms ++ ns) ≡ after_moves (after_moves w ms) ns
-after_both w [] ns = refl
-after_both w (m ∷ ms) ns = after_both (after_move w m) ms ns
-
-pub fit_both : (w : Core) (ms ns : List Move) → AllFit w ms → AllFit (after_moves w ms) ns → AllFit w (ms ++ ns)
-fit_both w [] ns f g = g
-fit_both w (m ∷ ms) ns f g = (f.0, fit_both (after_move w m) ms ns f.1 g)
 
 pub beats_both : (x : ℕ) (w : Core) (ms ns : List Move) → beats_of x w (ms ++ ns) ≡ beats_of x w ms ++ beats_of x (after_moves w ms) ns
 beats_both x w [] ns = refl
@@ -73,13 +65,6 @@ set_here l t x q e lt = ap (λ i. get_or (set l (i - 1) q) (x - 1) nobody) e ∙
 
 set_else : (l : List Private) (t x : ℕ) (q : Private) → t ≢ x → 1 ≤ t → 1 ≤ x → get_or (set l (t - 1) q) (x - 1) nobody ≡ get_or l (x - 1) nobody
 set_else l t x q ne a b = get_or-set_other l (t - 1) (x - 1) q nobody (λ e. ne (omega (arith, e)))
-
-turned_mutators : (w : Core) → (turned w).mutators ≡ w.mutators
-turned_mutators w = go (collector_next.next_of w.collector)
-  where
-    go : (x : Option Op) → (turned_at w x).mutators ≡ w.mutators
-    go None = refl
-    go (Some op) = refl
 
 -- what a mutator has after a move is what the move tells of it
 pub told_in : (w : Core) (m : Move) (x : ℕ) → IsKept w → Fits w m → IsMutator w.config x → mutator (after_move w m) x ≡ told (mutator w x) (beats_in x w m)

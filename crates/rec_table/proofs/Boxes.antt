@@ -12,7 +12,7 @@ use Rattle.rec_log.specs.declared.contents.Contents.{Contents}
 use Rattle.rec_mutator.specs.Causes.{is_giving}
 use Rattle.rec_mutator.specs.Next.{next_of, next_at}
 use Rattle.rec_mutator.specs.Private.{Private, is_busy}
-use Rattle.rec_mutator.specs.Took.{took_of, took_at, retiring, crossed, left_of, spare, IsFound, IsSwapping}
+use Rattle.rec_mutator.specs.Took.{took_of, took_at, crossed, left_of, spare, IsFound, IsSwapping}
 use Rattle.rec_mutator.specs.declared.phase.Phase.TheVariants as at
 use Rattle.rec_mutator.proofs.Steps.{TakesNone, learnt_made, step_between, here_same}
 use Rattle.rec_collector.specs.Private as collectors
@@ -23,7 +23,7 @@ use Rattle.rec_core.specs.Cells.{with_cell}
 use Rattle.rec_world.proofs.Calls.{world_kept}
 use Rattle.rec_core.proofs.Crossings.{behind_of, left_same}
 use Rattle.rec_core.proofs.Steps.{actor_of}
-use Rattle.rec_core.proofs.Words.{may_step}
+use Rattle.rec_core.proofs.Words.{learns_taken, may_step}
 use Rattle.rec_world.proofs.Mailboxes.{left_log}
 use Rattle.rec_table.specs.Beats.{told, learnt}
 use Rattle.rec_table.specs.Homes.{home_of, homes_of}
@@ -73,16 +73,12 @@ gives_op : (p : Private) → p.phase ≡ at.Giving → next_of p ≡ ops.GiveBox
 unfolding next_of next_at
 gives_op p is = ap (next_at p) is
 
-pub retires : (p : Private) (word : ℕ) → p.phase ≡ at.Crossing → took_of p word ≡ retiring p
-unfolding took_of took_at
-retires p word is = ap (took_at p word) is
-
 pub crosses : (p : Private) (word : ℕ) → p.phase ≡ at.Giving → took_of p word ≡ crossed p
 unfolding took_of took_at
 crosses p word is = ap (took_at p word) is
 
 swaps : (p : Private) (word : ℕ) → p.phase ≡ at.Crossing → IsSwapping (took_of p word).phase
-swaps p word is = subst (λ (q : Private). IsSwapping q.phase) (sym (retires p word is)) tt
+swaps p word is = subst (λ (q : Private). IsSwapping q.phase) (sym (learns_taken p word is)) tt
 
 pub takes_box : (key : Core) (slots id : ℕ) (t : Seated) (p : Private) (op : Op) (f : ℕ → ℕ) (st : Step (Option Contents))
     → p ≡ told (mutator key t.number) t.log → is_busy p ≡ true → p.phase ≡ at.Crossing → op ≡ next_of p → ((n : ℕ) → f n ≡ written op n)

@@ -62,7 +62,7 @@ unfolding step_of
 learns_alone c word b between stays = sym (collector_stays (took_of c word) b (not_swapping c word between stays))
 
 -- what the collector's turn records makes up what it learns
-pub looked_makes : (w : Core) (word : ℕ) (phase : Phase) → IsKept w → w.collector.phase ≡ phase → step_of w.collector word (box w (looked_at phase)) ≡ gathered w.collector (looked w word phase)
+looked_makes : (w : Core) (word : ℕ) (phase : Phase) → IsKept w → w.collector.phase ≡ phase → step_of w.collector word (box w (looked_at phase)) ≡ gathered w.collector (looked w word phase)
 looked_makes w word (Looking t) kept is = dite (ℕ_discrete word (crossing_word w.collector.epoch Retired))
     (λ (e : word ≡ crossing_word w.collector.epoch Retired). sym (ap (λ b. gathered w.collector (cond b (Took word (box w t)) (Saw word))) (eq-eqb word (crossing_word w.collector.epoch Retired) e)))
     (λ (ne : word ≢ crossing_word w.collector.epoch Retired).

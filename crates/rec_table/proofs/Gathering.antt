@@ -17,7 +17,7 @@ use Rattle.rec_sigma.specs.Prepare.{op_at as prep_op_at, next_of as prep_next}
 use Rattle.rec_sigma.specs.declared.at.At as loads
 use Rattle.rec_trial.specs.Trial.{next_of as trial_next}
 use Rattle.rec_collector.specs.Followed.{Next, followed, prep_started, prepared, prepared_at, relieved, sweep_phase, tested_on, trial_started, tried, tried_at, with_freed, with_loaded, with_released, with_tried}
-use Rattle.rec_collector.specs.Given.{IsGiven, IsGivenAt, IsSized}
+use Rattle.rec_collector.specs.Given.{IsGiven, IsGivenAt, IsSized, IsSwapping}
 use Rattle.rec_world.specs.Mailbox.{held}
 use Rattle.rec_collector.specs.Kept.{IsMachine, KeepsSizes}
 use Rattle.rec_collector.specs.Next.{next_of, next_at, is_spent}
@@ -60,7 +60,7 @@ IsLoneOp (ops.StoreEpoch epoch) = Unit {0}
 IsLoneOp ops.AddFreed = Unit {0}
 IsLoneOp _ = ⊥
 
-pub lone_plain : (op : Op) → IsLoneOp op → IsPlainOp op
+lone_plain : (op : Op) → IsLoneOp op → IsPlainOp op
 lone_plain (ops.LoadChild place) is = tt
 lone_plain (ops.ClearField place) is = tt
 lone_plain (ops.FreeHeader slot) is = tt
@@ -78,13 +78,13 @@ lone_plain (ops.GiveBox x y) is = absurd is
 lone_plain (ops.LookBox x y) is = absurd is
 lone_plain (ops.ReturnBox x y) is = absurd is
 
-abbrev pub IsLone : Phase → Type 0
+abbrev IsLone : Phase → Type 0
 IsLone (Looking t) = ⊥
 IsLone (Swapping t) = ⊥
 IsLone (Returning t) = ⊥
 IsLone _ = Unit {0}
 
-abbrev pub IsReturning : Phase → Type 0
+abbrev IsReturning : Phase → Type 0
 IsReturning (Returning t) = Unit {0}
 IsReturning _ = ⊥
 
@@ -139,7 +139,7 @@ unfolding next_of
 kind p op between named = kind_at p op p.phase refl between named
 
 -- no mailbox is held in this phase
-abbrev pub HoldsNone : Phase → Type 0
+abbrev HoldsNone : Phase → Type 0
 HoldsNone (Swapping t) = ⊥
 HoldsNone (Returning t) = ⊥
 HoldsNone _ = Unit {0}
@@ -218,7 +218,7 @@ took_none p word (Sweeping n) is between looks_none = go _
     go (Some x) = tt
 took_none p word (Closing n) is between looks_none = tt
 
-pub holds_none : (p : Private) (word : ℕ) → IsBetween p.phase → NotLooking p.phase → HoldsNone (took_of p word).phase
+holds_none : (p : Private) (word : ℕ) → IsBetween p.phase → NotLooking p.phase → HoldsNone (took_of p word).phase
 unfolding took_of
 holds_none p word between looks_none = took_none p word p.phase refl between looks_none
 
@@ -294,7 +294,7 @@ stays c n b (Sweeping k) is = refl
 stays c n b (Closing k) is = refl
 
 -- a lone operation comes in a lone phase
-pub lone_phase : (p : Private) (op : Op) → IsBetween p.phase → ◌≡◌ {A = Option Op} (next_of p) (Some op) → IsLoneOp op → IsLone p.phase
+lone_phase : (p : Private) (op : Op) → IsBetween p.phase → ◌≡◌ {A = Option Op} (next_of p) (Some op) → IsLoneOp op → IsLone p.phase
 lone_phase p op between named is = by (kind p op between named)
   where
     by : Kind p op → IsLone p.phase
@@ -403,6 +403,10 @@ took_hit p t word is hit = ap (took_at p word) is ∙ ap (λ (x : Bool). cond x 
 took_miss : (p : Private) (t word : ℕ) → p.phase ≡ Looking t → (word ≡ crossing_word p.epoch Retired → ⊥) → took_of p word ≡ p
 unfolding took_of took_at
 took_miss p t word is miss = ap (took_at p word) is ∙ ap (λ (x : Bool). cond x (moved p (Swapping t)) p) (ne_eqb word (crossing_word p.epoch Retired) miss)
+
+-- a mailbox that is home with what was retired is held, and waits to be swapped
+pub hit_swaps : (p q : Private) (t word : ℕ) → p.phase ≡ Looking t → word ≡ crossing_word p.epoch Retired → q ≡ took_of p word → IsSwapping q.phase
+hit_swaps p q t word is hits took = subst (λ (r : Private). IsSwapping r.phase) (sym (took ∙ took_hit p t word is hits)) tt
 
 swapped_out : (q : Private) (b : Contents) (t : ℕ) → q.phase ≡ Swapping t → swapped_of q b ≡ record q { phase = Returning t; newer = slice_set q.newer (t - 1) b }
 unfolding swapped_of swapped_at

@@ -31,7 +31,7 @@ use Rattle.rec_table.specs.declared.views.Beat.TheVariants.{Begins, Saw}
 use Rattle.rec_table.proofs.Beats as beats
 use Rattle.rec_collector.specs.Next as collector_next
 
-journal_both : (p : Private) (cs bs : List Beat) → journal p (cs ++ bs) ≡ journal p cs ++ journal (told p cs) bs
+pub journal_both : (p : Private) (cs bs : List Beat) → journal p (cs ++ bs) ≡ journal p cs ++ journal (told p cs) bs
 journal_both p [] bs = refl
 journal_both p (c ∷ cs) bs = ap (λ l. line_in p c ++ l) (journal_both (learnt p c) cs bs) ∙ sym (append_assoc (line_in p c) (journal (learnt p c) cs) (journal (told (learnt p c) cs) bs))
 

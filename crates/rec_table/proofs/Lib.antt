@@ -21,4 +21,5 @@ pub mod Journals
 pub mod Safe
 pub mod Stopped
 pub mod Answering
+pub mod Lines
 pub mod Sends

@@ -24,7 +24,7 @@ use Rattle.rec_table.specs.Held.{Held, IsTold, Works}
 use Rattle.rec_table.specs.Scan.{HasScanned, saw_all}
 use Rattle.rec_table.specs.declared.views.Beat.{Beat}
 use Rattle.rec_core.specs.Core.{Core, mutator}
-use Rattle.rec_core.proofs.Words.{IsOwnOp, own_next}
+use Rattle.rec_core.proofs.Words.{IsOwnOp, learns_taken, own_next}
 use Rattle.rec_table.specs.Beats.{told, learnt, births_told}
 use Rattle.rec_core.specs.Row.{index_of}
 use Rattle.rec_table.specs.Rule.{Holds, ready, MayGo, MadeBy, TakenBy, GivenBy, IsPlain, beats, adds, takes_view, seated_of, hands, hands_at, hand_after, taken_by, seated_after, me_after}
@@ -32,7 +32,7 @@ use Rattle.rec_table.specs.declared.views.Beat.TheVariants.{Saw}
 use Rattle.rec_table.specs.declared.views.Seated.{Seated}
 use Rattle.rec_table.specs.declared.views.View.{View}
 use Rattle.rec_table.specs.declared.views.View.TheVariants.{Mutates}
-use Rattle.rec_table.proofs.Boxes.{takes_box, gives_box, retires, crosses, takes_op}
+use Rattle.rec_table.proofs.Boxes.{takes_box, gives_box, crosses, takes_op}
 use Rattle.rec_table.proofs.Calls.{IsLoad}
 use Rattle.rec_table.proofs.Acting.{told_beats}
 use Rattle.rec_table.proofs.Steps.{steps, IsPlainOp, plain_next, left_plain}
@@ -319,7 +319,7 @@ unfolding step_of
 step_is p word b = refl
 
 pub swapping : (p : Private) (word : ℕ) → p.phase ≡ at.Crossing → (took_of p word).phase ≡ at.Swapping
-swapping p word is = ap (λ (q : Private). q.phase) (retires p word is)
+swapping p word is = ap (λ (q : Private). q.phase) (learns_taken p word is)
 
 pub taken_home : (p : Private) (word : ℕ) → p.phase ≡ at.Crossing → taken_by p word p.phase ≡ (p.number - 1, Some (spare (took_of p word))) ∷ []
 taken_home p word is = ap (taken_by p word) is
@@ -455,7 +455,7 @@ same_capacity p word busy between = by p.phase refl between
     by (at.Begun work) e b = none (subst TakesNone (sym e) tt)
     by (at.Scanning reg label before slot) e b = none (subst TakesNone (sym e) tt)
     by (at.Scanned reg label before) e b = none (subst TakesNone (sym e) tt)
-    by at.Crossing e b = ap (λ (q : Private). q.log.capacity) (retires p word e)
+    by at.Crossing e b = ap (λ (q : Private). q.log.capacity) (learns_taken p word e)
     by at.Swapping e b = absurd b
     by at.Giving e b = none (subst TakesNone (sym e) tt)
     by (at.Finished work made) e b = none (subst TakesNone (sym e) tt)

@@ -1,7 +1,8 @@
 -- A probe of a taken slot may be a load.
-use Rattle.std.proofs.Common.{◌≡◌, ◌≢◌, ℕ, zero, suc, ◌+◌, List, [], ◌∷◌, cond, ne_eqb, length, get_or, set, Option, None, true, refl, sym, ap, ◌∙◌, subst}
+use Rattle.std.proofs.Common.{◌≡◌, ◌≢◌, ℕ, ◌+◌, List, cond, ne_eqb, length, get_or, Option, None, true, refl, sym, ap, ◌∙◌, subst}
 use mathlib.Core.Logic.{dite}
 use native.Mathlib.Decide.{ℕ_discrete}
+use Rattle.std.proofs.lemmas.List.{set-get_or}
 use Rattle.atomic_table.specs.Table.{State, Step, Allows, keeps, stepped}
 use Rattle.atomic_table.proofs.Lists.{set_again}
 use Rattle.rec_word.specs.Op.{written}
@@ -19,11 +20,6 @@ use Rattle.rec_table.specs.declared.views.View.{View}
 use Rattle.rec_table.specs.declared.views.View.TheVariants.{Mutates}
 use Rattle.rec_table.proofs.Steps.{steps}
 
-set_word : (l : List ℕ) (i : ℕ) → set l i (get_or l i 0) ≡ l
-set_word [] i = refl
-set_word (x ∷ l) zero = refl
-set_word (x ∷ l) (suc i) = ap (λ k. x ∷ k) (set_word l i)
-
 pub probes : (key : Core) (slots id slot label : ℕ) (t : Seated) (hs : List (ℕ × Option Contents)) (p : Private) (op : Op) (st : Step (Option Contents))
     → p ≡ told (mutator key t.number) t.log → is_busy p ≡ true → IsPlain p.phase → op ≡ next_of p → op ≡ ops.ClaimHeader slot label
     → Allows (Holds key) slots id (Mutates t, hs) (index_of (length key.words) (length key.headers) op) (λ n. n) (PassedBy st (Mutates t, hs))
@@ -35,7 +31,7 @@ probes key slots id slot label t hs p op st is_p busy plain is_op claims s h len
       Mutates t,
       keeps,
       tt,
-      subst (Holds key) (λ j. let u : State (Option Contents) View = record { words = sym (set_word s.words i) j; homes = s.homes; views = sym (set_again s.views id (Mutates t) at_id) j } in u) h,
+      subst (Holds key) (λ j. let u : State (Option Contents) View = record { words = sym (set-get_or s.words i 0) j; homes = s.homes; views = sym (set_again s.views id (Mutates t) at_id) j } in u) h,
       ((λ ne. absurd (ne zero_found)), (λ e. refl)),
     ))
     (λ (some_found : n ≢ 0).

@@ -1,13 +1,21 @@
 -- A mailbox that the collector holds is given back by its next turn.
-use Rattle.std.proofs.Common.{◌≡◌, [], ◌∷◌, length, Option, Some, refl, sym, ap, ◌∙◌, subst, arith, append-nil}
+use Rattle.std.proofs.Common.{◌≡◌, ℕ, ◌+◌, ◌==◌, if◌then◌else◌, Bool, true, false, [], ◌∷◌, length, Option, Some, refl, sym, ap, ◌∙◌, subst, arith}
 use Rattle.rec_word.specs.declared.op.Op.{Op}
+use Rattle.rec_log.specs.declared.contents.Contents.{Contents}
+use Rattle.rec_collector.specs.Followed.{Next, followed}
 use Rattle.rec_collector.specs.Next.{next_of}
-use Rattle.rec_collector.specs.Private.{Private}
+use Rattle.rec_collector.specs.Private.{Private, with_parts}
 use Rattle.rec_collector.specs.Step.{IsBetween}
-use Rattle.rec_collector.specs.declared.phase.Phase.TheVariants.{Idle}
+use Rattle.rec_collector.specs.Testing.{zeros_released}
+use Rattle.rec_collector.specs.Took.{batched, came, ended_if, moved, step_of, swapped_at, swapped_of, took_at, took_of}
+use Rattle.rec_collector.specs.declared.phase.Phase.{Phase}
+use Rattle.rec_collector.specs.declared.phase.Phase.TheVariants.{Closing, Looking, Returning, Swapping}
+use Rattle.rec_table.specs.Beats.{gathered}
 use Rattle.rec_table.specs.Held.{Gathers, PutsBack, gathers_now}
 use Rattle.rec_table.specs.Rule.{IsReturnOp, NotLooking, boxes_at, boxes_out, crew_more}
 use Rattle.rec_table.specs.declared.views.Beat.{Beat}
+use Rattle.rec_table.specs.declared.views.Beat.TheVariants.{Begins, Saw, Took}
+use Rattle.rec_table.proofs.Collects.{gathered_both}
 use Rattle.rec_table.proofs.Gathering.{Kind, kind, lone_boxes, looking_boxes, returns_at}
 
 -- where the next operation is another one, it holds none
@@ -19,10 +27,6 @@ none_held p op between named not = by (kind p op between named)
     by (Kind.gives_box t phase o) = absurd (not (subst IsReturnOp (sym o) tt))
     by (Kind.lone phase o) = lone_boxes p p.phase phase
 
--- and where none comes next, too
-pub idle_none : (p : Private) → p.phase ≡ Idle → boxes_out p ≡ []
-idle_none p is = ap (boxes_at p) is
-
 pub returning_looks_none : (p : Private) (op : Op) → IsBetween p.phase → ◌≡◌ {A = Option Op} (next_of p) (Some op) → IsReturnOp op → NotLooking p.phase
 returning_looks_none p op between named is = let (t, phase, o) = returns_at p op between named is in subst NotLooking (sym phase) tt
 
@@ -32,18 +36,43 @@ returning_holds p op between named is none =
     let bad : 1 ≡ 0 = ap length (sym (ap (boxes_at p) phase) ∙ none) in
     absurd (omega (arith, bad))
 
+-- such a turn requests no epoch, whatever it found
+ended_epoch : (phase : Phase) (c : Private) → (ended_if phase c).epoch ≡ c.epoch
+ended_epoch (Closing swept) c = refl
+ended_epoch _ c = refl
+
+took_returning : (c : Private) (t word : ℕ) → c.phase ≡ Returning t → (took_of c word).epoch ≡ c.epoch
+unfolding took_of took_at
+took_returning c t word is = ap (λ f. (took_at c word f).epoch) is ∙ go (t == length c.newer)
+  where
+    next : Next
+    next = followed (zeros_released false (batched c))
+
+    go : (last : Bool) → (if last then came c next else moved c (Looking (t + 1))).epoch ≡ c.epoch
+    go true = ended_epoch next.phase (moved (with_parts c next.parts) next.phase)
+    go false = refl
+
+swapped_epoch : (c : Private) (buffer : Contents) → (swapped_of c buffer).epoch ≡ c.epoch
+unfolding swapped_of swapped_at
+swapped_epoch c buffer = go c.phase
+  where
+    go : (phase : Phase) → (swapped_at c buffer phase).epoch ≡ c.epoch
+    go (Swapping t) = refl
+    go _ = refl
+
+returning_epoch : (c : Private) (t : ℕ) (b : Beat) → c.phase ≡ Returning t → (gathered c b).epoch ≡ c.epoch
+unfolding step_of
+returning_epoch c t (Begins work) is = refl
+returning_epoch c t (Saw word) is = took_returning c t word is
+returning_epoch c t (Took word buffer) is = swapped_epoch (took_of c word) buffer ∙ took_returning c t word is
+
 pub puts_back : (g h : Gathers) (op : Op) (b : Beat) → IsBetween (gathers_now g).phase → ◌≡◌ {A = Option Op} (next_of (gathers_now g)) (Some op) → IsReturnOp op → h ≡ record g { crew = crew_more g.crew b } → PutsBack g h
 puts_back g h op b between named is grows = record {
   returned = b ∷ [];
   grows = grows;
   once = omega arith;
   home = λ none. absurd (returning_holds (gathers_now g) op between named is none);
-}
-
-pub keeps_none : (g : Gathers) → PutsBack g g
-keeps_none g = record {
-  returned = [];
-  grows = λ i. record g { crew = record g.crew { log = sym (append-nil g.crew.log) i } };
-  once = omega arith;
-  home = λ none. refl;
+  requests_none =
+      (let (t, phase, o) = returns_at (gathers_now g) op between named is in
+      ap (λ (x : Gathers). (gathers_now x).epoch) grows ∙ ap (λ (c : Private). c.epoch) (gathered_both g.opened g.crew.log (b ∷ [])) ∙ returning_epoch (gathers_now g) t b phase);
 }

@@ -1,5 +1,5 @@
 -- A scan on the table: the loads of taken headers are its failing probes.
-use Rattle.std.proofs.Common.{◌≡◌, ◌≢◌, ℕ, ◌+◌, ◌-◌, ◌<◌, ◌≤◌, ◌==◌, if◌then◌else◌, arith, Bool, true, false, cond, ne_eqb, List, [], ◌∷◌, ◌++◌, length, fold, All, Option, Some, None, refl, sym, ap, ◌∙◌, subst, append-nil, append_assoc, length-append}
+use Rattle.std.proofs.Common.{◌≡◌, ◌≢◌, ℕ, ◌+◌, ◌-◌, ◌<◌, ◌≤◌, ◌==◌, if◌then◌else◌, arith, Bool, true, false, cond, ne_eqb, List, [], ◌∷◌, ◌++◌, length, fold, All, Option, Some, None, refl, sym, ap, ◌∙◌, subst, append_assoc, length-append}
 use Rattle.std.proofs.lemmas.List.{map-append}
 use Rattle.std.proofs.lemmas.List.Elements.{All-nil, All-cons, All-head, All-tail, All-append}
 use Rattle.atomic_table.specs.Table.{Me, Step, Allows}
@@ -151,15 +151,6 @@ module _ (p : Private) (reg label before from : ℕ) (scans : p.phase ≡ at.Sca
   pub skipped_rests : (slot : ℕ) (t : Seated) → IsBetween (skipped_to p slot).phase × (hands t (skipped_to p slot) ≡ [])
   skipped_rests slot t = goes_on (slot == p.slots) slot (skipped_to p slot).number t.hand (skipped_to p slot).phase (ap (λ (q : Private). q.phase) (came_to slot))
 
--- At the loop.
-pub passed_none : (t : Seated) (from : ℕ) (me : Me (Option Contents) View) → me ≡ (Mutates t, []) → Passed t from from me
-passed_none t from me is = record {
-  words = [];
-  taken = All-nil (λ word. 0 < word);
-  every = omega arith;
-  grows = is ∙ (λ k. (Mutates (record t { log = sym (append-nil t.log) k }), []));
-}
-
 pub passed_one : (t : Seated) (from slot word : ℕ) (me me' : Me (Option Contents) View) → Passed t from slot me → word ≢ 0 → me' ≡ (adds me.0 (beats None word), me.1) → Passed t from (slot + 1) me'
 passed_one t from slot word me me' passed taken now =
     let ws : List ℕ = passed.words in
@@ -188,9 +179,6 @@ passed_both t from slot to me me' one two =
       every = omega (arith, first, then_, many);
       grows = two.grows ∙ (λ k. (Mutates (longer (seated_of (one.grows k).0) cs), [])) ∙ (λ k. (Mutates (record t { log = logs k }), []));
     }
-
-pub passed_seat : (t : Seated) (from slot : ℕ) (me : Me (Option Contents) View) → Passed t from slot me → me ≡ (Mutates (seated_of me.0), [])
-passed_seat t from slot me passed = passed.grows ∙ (λ k. (Mutates (seated_of (sym passed.grows k).0), []))
 
 module _ (key : Core) (slot from many : ℕ) (t : Seated) (me : Me (Option Contents) View) (passed : Passed t from slot me) (scan : ScansFrom (told (mutator key t.number) t.log) from many) (lt : slot < many) where
   -- the record that its list makes up by then

@@ -1,5 +1,5 @@
 -- A mutator's step that takes no mailbox keeps the rule.
-use Rattle.std.proofs.Common.{◌≡◌, ◌≢◌, ⊎_elim, ℕ, zero, suc, ◌+◌, ◌-◌, ◌*◌, ◌<◌, ◌≤◌, Bool, true, false, true≢false, cond, eqb, eq-eqb, ne_eqb, List, [], ◌∷◌, ◌++◌, length, get_or, set, Option, Some, None, refl, sym, ap, ◌∙◌, subst, arith, append-nil, get_or-set_same, get_or-set_other}
+use Rattle.std.proofs.Common.{◌≡◌, ◌≢◌, ⊎_elim, ℕ, ◌+◌, ◌-◌, ◌*◌, ◌<◌, ◌≤◌, Bool, true, false, true≢false, cond, eqb, eq-eqb, ne_eqb, List, [], ◌∷◌, ◌++◌, length, get_or, set, Option, Some, None, refl, sym, ap, ◌∙◌, subst, arith, append-nil, get_or-set_same, get_or-set_other}
 use mathlib.Core.Option as maybe
 use mathlib.Core.Option.{some}
 use lib.ListN.{get_elem?}
@@ -35,8 +35,9 @@ use Rattle.rec_world.specs.World.{IsWorld}
 use Rattle.rec_core.specs.declared.config.Config.{Config}
 use Rattle.rec_world.proofs.Calls.{world_kept, moved_world}
 use Rattle.rec_core.proofs.Crossings.{left_same}
-use Rattle.rec_core.proofs.Steps.{in_list, fields_many, actor_of, taken_slot, register_taken}
-use Rattle.rec_core.proofs.Words.{may_step}
+use Rattle.rec_core.proofs.Steps.{in_list, fields_many}
+use Rattle.rec_core.proofs.Words.{may_step, names_slots}
+use Rattle.std.proofs.lemmas.List.{set-get_or}
 use Rattle.rec_table.specs.Beats.{beats_of, told, learnt, Offerless}
 use Rattle.rec_table.specs.Homes.{homes_of}
 use Rattle.rec_core.specs.Row.{row, index_of}
@@ -46,7 +47,8 @@ use Rattle.rec_table.specs.declared.views.Seated.{Seated}
 use Rattle.rec_table.specs.declared.views.View.{View}
 use Rattle.rec_table.specs.declared.views.View.TheVariants.{Collects, Mutates, Spent}
 use Rattle.rec_core.proofs.Row.{row_read, row_write}
-use Rattle.rec_table.proofs.Beats.{after_both, fit_both, beats_both, world_after, config_after, mutator_after, step_same}
+use Rattle.rec_order.proofs.Runs.{after_both, fit_both}
+use Rattle.rec_table.proofs.Beats.{beats_both, world_after, config_after, mutator_after, step_same}
 
 -- the moves of a step, with the work that begins first
 moves_of : (t : ℕ) → Option Work → List Move
@@ -67,9 +69,9 @@ unfolding before
 ready_is w t None kept is = refl
 ready_is w t (Some work) kept is = get_or-set_same w.mutators (t - 1) (begun_of (mutator w t) work) nobody (in_list w t kept is)
 
-is_busy_begun : (p : Private) (work : Work) → is_busy (begun_of p work) ≡ true
+pub begun_busy : (p : Private) (work : Work) → is_busy (begun_of p work) ≡ true
 unfolding begun_of
-is_busy_begun p work = refl
+begun_busy p work = refl
 
 before_world : (w : Core) (t : ℕ) (wk : Option Work) → IsWorld w → IsMutator w.config t → MayGo (mutator w t) wk → IsWorld (before w t wk)
 unfolding before
@@ -79,7 +81,7 @@ before_world w t (Some work) world is may = moved_world w (Move.Begins t work) w
 before_busy : (w : Core) (t : ℕ) (wk : Option Work) → IsKept w → IsMutator w.config t → MayGo (mutator w t) wk → is_busy (mutator (before w t wk) t) ≡ true
 unfolding before
 before_busy w t None kept is may = may
-before_busy w t (Some work) kept is may = ap is_busy (ready_is w t (Some work) kept is) ∙ is_busy_begun (mutator w t) work
+before_busy w t (Some work) kept is may = ap is_busy (ready_is w t (Some work) kept is) ∙ begun_busy (mutator w t) work
 
 before_config : (w : Core) (t : ℕ) (wk : Option Work) → (before w t wk).config ≡ w.config
 unfolding before
@@ -174,22 +176,12 @@ plain_next p plain = by p.phase plain
     by at.Giving is = absurd is
     by (at.Finished work made) is = tt
 
-set_word : (l : List ℕ) (i : ℕ) → set l i (get_or l i 0) ≡ l
-set_word [] i = refl
-set_word (x ∷ l) zero = refl
-set_word (x ∷ l) (suc i) = ap (λ k. x ∷ k) (set_word l i)
-
-pub set_box : (l : List Contents) (i : ℕ) (d : Contents) → set l i (get_or l i d) ≡ l
-set_box [] i d = refl
-set_box (x ∷ l) zero d = refl
-set_box (x ∷ l) (suc i) d = ap (λ k. x ∷ k) (set_box l i d)
-
 pub plain_crossing : (cells : Cells) (op : Op) → IsPlainOp op → (with_cell cells op (written op (cell cells op))).crossing ≡ cells.crossing
 plain_crossing cells (ops.LoadField place) is = refl
 plain_crossing cells (ops.SwapField place word) is = refl
 plain_crossing cells (ops.LoadHeader slot) is = refl
 plain_crossing cells ops.LoadEpoch is = refl
-plain_crossing cells (ops.LoadCross t) is = set_word cells.crossing (t - 1)
+plain_crossing cells (ops.LoadCross t) is = set-get_or cells.crossing (t - 1) 0
 plain_crossing cells (ops.ClaimHeader slot label) is = refl
 plain_crossing cells ops.LoadFreed is = refl
 plain_crossing cells (ops.LoadChild place) is = refl
@@ -219,7 +211,7 @@ plain_homes w t busy plain =
     let b : Contents = box w t in
     let left : left_of (took_of p (found_by w t)) b ≡ b = left_same (took_of p (found_by w t)) b (step_between (learnt_made p (found_by w t) b busy (plain_takes_none p.phase plain))) in
     let crossing : (stepped w t).crossing ≡ w.crossing = plain_crossing (cells_of w) (next_of p) (plain_next p plain) in
-    let boxes : (stepped w t).boxes ≡ w.boxes = ap (λ x. set w.boxes (t - 1) x) left ∙ set_box w.boxes (t - 1) (collectors.blank 0 0) in
+    let boxes : (stepped w t).boxes ≡ w.boxes = ap (λ x. set w.boxes (t - 1) x) left ∙ set-get_or w.boxes (t - 1) (collectors.blank 0 0) in
     λ i. homes_of (crossing i) (boxes i)
 
 -- the lengths of the rows stay
@@ -289,10 +281,6 @@ fits_on key run made gone owner t wk id j own low ne (Mutates u) f =
           (hand_stays (after_moves key run) t u.number wk u.hand apart (omega arith) (omega (arith, f.1)) f.4),
     )
 fits_on key run made gone owner t wk id j own low ne Spent f = tt
-
--- registers name slots of the heap
-pub names_slots : (w : Core) (t : ℕ) → IsKept w → IsMutator w.config t → NamesSlots (mutator w t)
-names_slots w t kept is = λ r slot names. subst (λ n. slot < n) (sym (actor_of w t kept is).own.slots) (taken_slot w kept slot (register_taken w kept t r slot names))
 
 -- What is known as mutator t makes a step: `now` is the end of the run so far, and `v` the state in which the step is made.
 pub record Here (key : Core) (s : State (Option Contents) View) (h : Holds key s) (t : Seated) (wk : Option Work) (p : Private) (op : Op) : Type 0 where

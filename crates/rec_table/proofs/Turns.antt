@@ -1,10 +1,11 @@
 -- A turn of the collector keeps the rule.
-use Rattle.std.proofs.Common.{◌≡◌, ◌≢◌, ℕ, zero, suc, ◌+◌, ◌-◌, ◌%◌, ◌<◌, ◌≤◌, true, false, cond, eqb, eq-eqb, ne_eqb, le-ltb, List, [], ◌∷◌, ◌++◌, length, get_or, set, Option, Some, IfSome, refl, sym, ap, ◌∙◌, subst, arith, append-nil, get_or-set_other}
+use Rattle.std.proofs.Common.{◌≡◌, ◌≢◌, ℕ, ◌+◌, ◌-◌, ◌%◌, ◌<◌, ◌≤◌, true, false, cond, eqb, eq-eqb, ne_eqb, le-ltb, List, [], ◌∷◌, ◌++◌, length, get_or, set, Option, Some, IfSome, refl, sym, ap, ◌∙◌, subst, arith, append-nil, get_or-set_other}
 use mathlib.Core.Logic.{dite}
 use native.Mathlib.Decide.{ℕ_discrete}
 use mathlib.Core.Option as maybe
 use mathlib.Core.Option.{some, none}
 use lib.ListN.{get_elem?}
+use Rattle.std.proofs.lemmas.List.{set-get_or}
 use Rattle.atomic_table.specs.Table.{State, Step, Allows, keeps, takes, gives, stepped}
 use Rattle.atomic_table.proofs.Lists.{set_again}
 use Rattle.rec_word.specs.Op.{written}
@@ -44,7 +45,8 @@ use Rattle.rec_table.specs.declared.views.Crew.{Crew}
 use Rattle.rec_table.specs.declared.views.View.{View}
 use Rattle.rec_table.specs.declared.views.View.TheVariants.{Collects, Mutates, Spent}
 use Rattle.rec_core.proofs.Row.{row_read, row_write}
-use Rattle.rec_table.proofs.Beats.{after_both, fit_both, beats_both, world_after, config_after}
+use Rattle.rec_order.proofs.Runs.{after_both, fit_both}
+use Rattle.rec_table.proofs.Beats.{beats_both, world_after, config_after}
 use Rattle.rec_table.proofs.Boxes.{homes_set, homes_at, home_even, home_odd, even_zero, even_two, odd_three}
 use Rattle.rec_table.proofs.Collects.{collector_after}
 use Rattle.rec_table.proofs.Steps.{IsPlainOp, plain_crossing, places_after, slots_after, fits_set, offerless_both}
@@ -126,9 +128,6 @@ here_at key s h id c p op fit is_p next =
           ∙ sym (beats_both 0 key h.run (Move.Turns ∷ []));
     }
 
-turned_mutators : (w : Core) (op : Op) → (turned_at w (Some op)).mutators ≡ w.mutators
-turned_mutators w op = refl
-
 -- the rule after the turn, with these mailboxes at home
 pub turns_on : (key : Core) (s : State (Option Contents) View) (h : Holds key s) (id : ℕ) (c : Crew) (p : Private) (op : Op) (z : ℕ) (homes' : List (maybe.Option (Option Contents))) (b : Beat)
     → get_elem? s.views id ≡ some (Collects c) → (here : Here key s h c p op)
@@ -204,11 +203,6 @@ pub returns_op : (c : Private) (t : ℕ) → c.phase ≡ Returning t → ◌≡�
 unfolding next_of next_at
 returns_op c t is = ap (next_at c) is
 
-set_same : (l : List ℕ) (i : ℕ) → set l i (get_or l i 0) ≡ l
-set_same [] i = refl
-set_same (x ∷ l) zero = refl
-set_same (x ∷ l) (suc i) = ap (λ k. x ∷ k) (set_same l i)
-
 -- a look at the mailbox of mutator t
 pub looks : (key : Core) (slots id t : ℕ) (c : Crew) (p : Private) (f : ℕ → ℕ) (st : Step (Option Contents))
     → p ≡ gathered_all key.collector c.log → p.phase ≡ Looking t → ((n : ℕ) → f n ≡ written (ops.LookBox t p.epoch) n)
@@ -255,7 +249,7 @@ looks key slots id t c p f st is_p phase does s h len at_id fit =
     let writes : written op word ≡ word = ap (λ x. cond x (crossing_word p.epoch WithCollector) word) (ne_eqb word (crossing_word p.epoch Retired) (λ e. miss (here.found ∙ e))) in
     let boxes : (turned_at now (Some op)).boxes ≡ now.boxes =
     ap (λ (g : Phase). set now.boxes (looked_at g - 1) (left_by now.collector word (box now (looked_at g)) g)) at_phase ∙ ap (λ x. set now.boxes (t - 1) (cond x (spare now.collector) (box now t))) misses ∙ same_boxes now t in
-    let crossing : (turned_at now (Some op)).crossing ≡ now.crossing = ap (set now.crossing (t - 1)) writes ∙ set_same now.crossing (t - 1) in
+    let crossing : (turned_at now (Some op)).crossing ≡ now.crossing = ap (set now.crossing (t - 1)) writes ∙ set-get_or now.crossing (t - 1) 0 in
     let beat : Saw n ≡ looked now word now.collector.phase = sym (ap (looked now word) at_phase ∙ ap (λ x. cond x (Took word (box now t)) (Saw word)) misses ∙ ap (λ k. Saw k) (sym here.found)) in (
       Collects (record c { log = c.log ++ Saw n ∷ [] }),
       keeps,
@@ -276,7 +270,7 @@ glances key slots id t c p st is_p phase s h len at_id fit =
       Collects c,
       keeps,
       tt,
-      subst (Holds key) (λ j. let u : State (Option Contents) View = record { words = sym (set_same s.words i) j; homes = s.homes; views = sym (set_again s.views id (Collects c) at_id) j } in u) h,
+      subst (Holds key) (λ j. let u : State (Option Contents) View = record { words = sym (set-get_or s.words i 0) j; homes = s.homes; views = sym (set_again s.views id (Collects c) at_id) j } in u) h,
       ((λ ne. absurd (ne hit)), (λ e. refl)),
     ))
     (λ (miss : n ≢ crossing_word p.epoch Retired).

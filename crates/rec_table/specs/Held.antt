@@ -91,9 +91,10 @@ IsCollectorOf s g = IsOwn s.table s.world g × (g.crew.made ≡ s.world.config.m
 abbrev pub fresh_collector : Started → Gathers
 fresh_collector s = gathers s.table s.world.collector (record { log = []; made = s.world.config.mutators; known = [] })
 
--- its list grew by the turn that gives back a mailbox, where it held one
+-- its list grew by the turn that gives back a mailbox, where it held one; no epoch is requested by that
 pub record PutsBack (g h : Gathers) : Type 0 where
   pub returned : List Beat
   pub grows : h ≡ record g { crew = record g.crew { log = g.crew.log ++ returned } }
   pub once : length returned ≤ 1
   pub home : boxes_out (gathers_now g) ≡ [] → returned ≡ []
+  pub requests_none : (gathers_now h).epoch ≡ (gathers_now g).epoch

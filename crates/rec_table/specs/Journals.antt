@@ -1,5 +1,5 @@
 -- The lines that a mutator's list tells.
-use Rattle.std.specs.Prelude.{ℕ, ◌+◌, Option, Some, List, [], ◌∷◌, ◌++◌}
+use Rattle.std.specs.Prelude.{◌≡◌, ℕ, ◌+◌, Option, Some, List, [], ◌∷◌, ◌++◌}
 use Rattle.rec_model.specs.LegalOrder.{Line}
 use Rattle.rec_mutator.specs.Private.{Private, work_of, answer_of}
 use Rattle.rec_mutator.specs.declared.made.Made.{Made}
@@ -30,3 +30,9 @@ journal p (b ∷ bs) = line_in p b ++ journal (learnt p b) bs
 abbrev pub journals_from : Core → (k : ℕ) → List (List Beat) → List (List Line)
 journals_from w k [] = []
 journals_from w k (l ∷ ls) = journal (mutator w (k + 1)) l ∷ journals_from w (k + 1) ls
+
+-- the list grew by beats that tell these lines, from this record
+pub record Tells (p : Private) (log log' : List Beat) (lines : List Line) : Type 0 where
+  pub beats : List Beat
+  pub grows : log' ≡ log ++ beats
+  pub tells : journal p beats ≡ lines

@@ -162,6 +162,7 @@ impl Actor {
     ghost use Rattle.rec_mutator.specs.declared.work.Work.TheVariants as works;
     ghost use Rattle.rec_table.specs.Answered.{IsAnswered};
     ghost use Rattle.rec_table.specs.Held.{IsTold, Works};
+    ghost use Rattle.rec_table.specs.Journals.{Tells, line_of};
     ghost use Rattle.rec_table.specs.Scan.{HasScanned};
 
     // The actor of a mutator as the heap is started.
@@ -286,6 +287,7 @@ impl Actor {
 
         ensures grows { Works work self.old.log self.new.log × (self.new ≡ record self.old { log = self.new.log }) }
         ensures answer { answer_of (has self.new) ≡ Some result }
+        ensures line { Tells (has self.old) self.old.log self.new.log (line_of (Some work) (Some result)) }
         ensures idle { is_busy (has self.new) ≡ false }
         ensures work { work_of (has self.new) ≡ Some work }
         ensures told { IsTold (has self.new).phase }

@@ -2,7 +2,7 @@
 ghost use Rattle.std.specs.Prelude.{◌≡◌, ℕ, ◌+◌, ◌*◌, ◌%◌, ◌<◌, ◌≤◌, [], All, map, length, slice_index_or, vec_capacity, IfOk, IfErr, IsOk};
 ghost use Rattle.rec_core.specs.Worked.{AreIdle};
 ghost use Rattle.rec_table.specs.Ends.{IsStopped};
-ghost use Rattle.rec_table.specs.Held.{AreMutatorsOf, Held as MutatorHeld, IsCollectorOf, fresh, fresh_collector};
+ghost use Rattle.rec_table.specs.Held.{AreMutatorsOf, Held as MutatorHeld, IsCollectorOf, fresh, fresh_collector, gathers_now};
 ghost use Rattle.rec_world.specs.Parts.{AreParts};
 ghost use Rattle.rec_world.specs.World.{IsWorld};
 
@@ -75,6 +75,8 @@ impl Heap {
 
         ensures never_refused { IsOk result }
         ensures stopped { IfOk result (λ world. IsStopped self.world collector.crew.log (map (λ m. m.log) mutators.items) world) }
+        // No epoch is requested by that.
+        ensures requested { IfOk result (λ world. world.epoch ≡ (gathers_now collector).epoch) }
         ensures idle { IfOk result AreIdle }
         ensures home { IfOk result (λ world. All (λ word. word % 2 ≡ 0) world.crossing) }
         ensures kept { IfOk result IsWorld }

@@ -1,10 +1,11 @@
 //! A mutator of a running heap.
-ghost use Rattle.std.specs.Prelude.{◌≡◌, ◌<◌, ℕ, Some, false, length, IsTrue, ◌↔◌};
+ghost use Rattle.std.specs.Prelude.{◌≡◌, ◌<◌, ℕ, Some, false, length, IsTrue, ◌↔◌, [], ◌∷◌};
 ghost use Rattle.rec_mutator.specs.Private.{is_busy, answer_of, register, IsValid, KeepsSizes};
 ghost use Rattle.rec_mutator.specs.declared.made.Made.TheVariants as makes;
 ghost use Rattle.rec_mutator.specs.declared.work.Work.TheVariants as works;
 ghost use Rattle.rec_table.specs.Answered.{IsAnswered};
 ghost use Rattle.rec_table.specs.Held.{has, IsMutatorOf, Works};
+ghost use Rattle.rec_table.specs.Journals.{Tells};
 ghost use Rattle.rec_core.specs.Config.{HasLabel};
 
 use crate::actor::Actor;
@@ -62,6 +63,7 @@ impl Mutator {
         // Each refusal has its cause in the list: Full and Busy come where each probe found a taken header, between the first and the
         // last look at the freed word.
         ensures causes { IsAnswered (has self.old) cmd self.old.log self.new.log (has self.new) result }
+        ensures line { Tells (has self.old) self.old.log self.new.log ((cmd, result) ∷ []) }
         ensures idle { is_busy (has self.new) ≡ false }
         ensures same { KeepsSizes (has self.old) (has self.new) }
     {
@@ -81,6 +83,7 @@ impl Mutator {
         ensures grows { Works works.Poll self.old.log self.new.log }
         ensures is { self.new ≡ record self.old { log = self.new.log } }
         ensures answer { answer_of (has self.new) ≡ Some (makes.Crossed result) }
+        ensures line { Tells (has self.old) self.old.log self.new.log [] }
         ensures idle { is_busy (has self.new) ≡ false }
         ensures same { KeepsSizes (has self.old) (has self.new) }
     {
@@ -112,9 +115,10 @@ impl Mutator {
         self.actor.epoch()
     }
 
-    /// Its number, from 1.
+    /// Its number, from 1. Between two calls it has no unfinished work.
     pub fn number(&self) -> u8
-        ensures { result ≡ (has self.now).number }
+        ensures number { result ≡ (has self.now).number }
+        ensures idle { is_busy (has self.now) ≡ false }
     {
         self.actor.number()
     }

@@ -38,6 +38,7 @@ impl Spare {
         requires none { boxes_out (gathers_now collector) ≡ [] }
 
         ensures run { Interleaves board.table.shared.key.value collector.crew.log (map (λ m. m.log) mutators.items) result }
+        ensures collector { result.collector ≡ gathers_now collector }
         ensures idle { AreIdle result }
         ensures home { All (λ word. word % 2 ≡ 0) result.crossing }
         ensures kept { IsWorld result }

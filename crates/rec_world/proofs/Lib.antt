@@ -11,3 +11,4 @@ pub mod Numbers
 pub mod OneStep
 pub mod Skipping
 pub mod Turnings
+pub mod Sends

@@ -8,7 +8,7 @@ use Rattle.rec_table.specs.declared.views.Beat.TheVariants.{Saw, Took}
 use Rattle.rec_table.specs.declared.views.View.TheVariants.{Collects}
 use Rattle.rec_collector.specs.Private.{Private}
 use Rattle.rec_table.proofs.Making.{first_is}
-use Rattle.rec_table.proofs.Gathering.{given_looking, look_hits, look_misses, hit_sized, hit_turn, miss_turn}
+use Rattle.rec_table.proofs.Gathering.{given_looking, look_hits, look_misses, hit_sized, hit_swaps, hit_turn, miss_turn}
 use Rattle.rec_table.proofs.collector.look.Goals as goal
 
 pub find-found-requires-clause-actor : goal.find-found-requires-clause-actor
@@ -25,6 +25,11 @@ slot_mut-mailbox-requires g c =
     let h = look_hits c.args.machine.now g.W.Turning.actor c.args.t g.W.Turning.number c.args.epoch c.find-found.result c.args.seat.now.me c.find-found.new.seat.me c.requires.seat c.requires.actor.0 c.requires.actor.1 c.requires.phase.1 (c.if-found-crossing.true ∙ c.crossing.ensures) c.find-found.ensures.looked in
     let out : c.find-found.new.seat.me.1 ≡ (c.from.result - 1, Some h.0) ∷ [] = (λ k. (h.1 k).1) ∙ (λ k. (sym c.from.ensures k - 1, Some h.0) ∷ []) in
     (c.find-found.ensures.seat.0 ∙ c.requires.table, (Some h.0, out ∙ (λ k. (c.from.result - 1, Some h.0) ∷ rest (sym out k))))
+
+pub swap_gathered-requires-clause-swapping : goal.swap_gathered-requires-clause-swapping
+swap_gathered-requires-clause-swapping g c =
+    hit_swaps c.args.machine.now c.took-turn.new.self c.args.t c.find-found.result c.requires.phase.0
+    (c.if-found-crossing.true ∙ c.crossing.ensures ∙ ap (λ (e : ℕ). crossing_word e Retired) (sym c.requires.phase.1)) c.took-turn.ensures.took
 
 pub swap_gathered-requires-clause-home : goal.swap_gathered-requires-clause-home
 swap_gathered-requires-clause-home g c =

@@ -1,7 +1,10 @@
-use Rattle.std.proofs.Common.{◌≡◌, ap, map, subst}
+use Rattle.std.proofs.Common.{◌≡◌, ◌∙◌, ap, map, subst, sym}
+use Rattle.rec_collector.specs.Private as collectors
 use Rattle.rec_core.specs.Core.{Core}
+use Rattle.rec_core.specs.Kept.{IsKept}
 use Rattle.rec_core.specs.Worked.{AreIdle}
 use Rattle.rec_world.specs.World.{IsWorld}
+use Rattle.rec_world.proofs.Calls.{world_kept}
 use Rattle.rec_table.specs.Ends.{Interleaves}
 use Rattle.rec_table.specs.Held.{Held, Started}
 use Rattle.rec_table.proofs.Stopped.{stopped}
@@ -12,3 +15,8 @@ returns-clause-stopped c =
     let is : c.self.inside.board.table.shared.key.value ≡ c.args.self.world = ap (λ (s : Started). s.world) c.self.view_is in
     stopped c.args.self c.args.collector c.put_back.new.self c.args.mutators.items c.fill.result (subst IsWorld is c.self.invariant.0) (subst AreIdle is c.self.invariant.1) c.requires.collector.0.1 c.requires.mutators c.put_back.ensures.returned
     (subst (λ (k : Core). Interleaves k c.put_back.new.self.crew.log (map (λ (m : Held). m.log) c.args.mutators.items) c.fill.result) is c.fill.ensures.run)
+
+pub returns-clause-requested : goal.returns-clause-requested
+returns-clause-requested c =
+    let kept : IsKept c.fill.result = world_kept c.fill.result c.fill.ensures.kept in
+    sym kept.collector.epoch ∙ ap (λ (p : collectors.Private). p.epoch) c.fill.ensures.collector ∙ c.put_back.ensures.returned.requests_none

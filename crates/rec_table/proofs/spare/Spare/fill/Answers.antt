@@ -84,6 +84,13 @@ returns-clause-run c =
       mutators = λ k lt. ap (λ (l : List (List Beat)). slice_index_or l k []) (sym (in_hand a).known) ∙ r.theirs k;
     }
 
+pub returns-clause-collector : goal.returns-clause-collector
+returns-clause-collector c =
+    let a : After-close-collector = (goal.at.returns-clause-collector c).After-close-collector in
+    let is : c.of_parts.result ≡ end a = c.of_parts.ensures.made (end a) (run a).world (right a) in
+    ap (λ (w : Core). w.collector) is ∙ (run a).collector ∙ ap (λ (g : Gathers). gathered_all (heap a).world.collector g.crew.log) c.take_in_all-made.ensures.collector
+    ∙ ap (λ (p : collectors.Private). gathered_all p c.args.collector.crew.log) (sym c.requires.collector.0.1)
+
 pub returns-clause-idle : goal.returns-clause-idle
 returns-clause-idle c =
     let a : After-close-collector = (goal.at.returns-clause-idle c).After-close-collector in
