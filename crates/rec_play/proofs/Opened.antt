@@ -1,5 +1,5 @@
 -- The played run, from the opened heap, has the legal order of its moves.
-use Rattle.std.proofs.Common.{◌≡◌, ℕ, ◌+◌, zero, suc, List, [], ◌∷◌, ◌++◌, length, map, replicate, refl, sym, ap, subst, ◌∙◌, arith}
+use Rattle.std.proofs.Common.{◌≡◌, ℕ, ◌+◌, ◌<◌, zero, suc, List, [], ◌∷◌, ◌++◌, length, map, replicate, refl, sym, ap, subst, ◌∙◌, arith}
 use Rattle.std.specs.List.{filter_map}
 use Rattle.std.proofs.lemmas.List.{map_push}
 use Rattle.rec_model.specs.Heap.{Heap, opening}
@@ -10,7 +10,7 @@ use Rattle.rec_model.proofs.Opened.{opening_number, opening_stands_by, opening_u
 use Rattle.rec_mutator.specs.Private.{Private}
 use Rattle.rec_core.specs.Core.{Core, sight, opened, opened_mutators, opened_mutator}
 use Rattle.rec_core.specs.Kept.{IsKept}
-use Rattle.rec_core.specs.Moves.{after_moves}
+use Rattle.rec_core.specs.Moves.{Move, after_moves}
 use Rattle.rec_core.specs.declared.config.Config.{Config}
 use Rattle.rec_core.proofs.OpenedMutators.{sight_opened, mutator_opened}
 use Rattle.rec_core.proofs.Opening.{opened_kept}
@@ -43,35 +43,54 @@ pub record IsPlayedLegally (script : Contents) (world : Core) (lines : List (Lis
   pub stands : StandsBy (last_moment script events).heap (sight world) n.number
   pub made : world.made ≡ length (last_moment script events).heap.objects
 
+-- the opening heap of a script
+abbrev pub heap_of : Contents → Heap
+heap_of script = opening script.fields script.registers (length script.commands)
+
+-- it stands for the opened world, and its object is unfreed there
+pub stands_opened : (script : Contents) → 0 < script.slots → StandsBy (heap_of script) (sight (opened (config_of script))) opening_number
+stands_opened script some =
+    subst (λ (s : Sight). StandsBy (heap_of script) s opening_number) (sym (sight_opened (config_of script)))
+    (opening_stands_by script.slots script.fields script.registers (length script.commands) some)
+
+pub unfreed_opened : (script : Contents) → AreUnfreed (sight (opened (config_of script))) opening_number (0 ∷ [])
+unfreed_opened script =
+    subst (λ (s : Sight). AreUnfreed s opening_number (0 ∷ [])) (sym (sight_opened (config_of script)))
+    (opening_unfreed script.slots script.fields script.registers (length script.commands))
+
+-- a legal order of the moves of a run from the opening is one from the opening moment, and its heap stands for the world at the end
+pub ordered_legally : (script : Contents) (world : Core) (moves : List Move) (lines : List (List Line)) → HasLegalOrder (opened (config_of script)) (heap_of script) opening_number (0 ∷ []) moves lines
+    → after_moves (opened (config_of script)) moves ≡ world
+    → IsPlayedLegally script world lines (events_of first_naming (opened (config_of script)) moves) (named_after_all first_naming (opened (config_of script)) moves)
+ordered_legally script world moves lines all leads =
+    let config : Config = config_of script in
+    let first : Core = opened config in
+    let heap : Heap = heap_of script in
+    let events : List Event = events_of first_naming first moves in
+    let n : Naming = named_after_all first_naming first moves in
+    let start : moment_of first heap (0 ∷ []) ≡ opening_moment script = ap (λ ns. let m : Moment = record (opening_moment script) { done = ns } in m) (done_opened config config.mutators) in
+    let ends : Moment = after_all (limits_of config) (moment_of first heap (0 ∷ [])) events in
+    let counted : n.next + 1 ≡ 1 + (after_moves first moves).made = moves_made first_naming first moves in
+    let next : n.next ≡ length ends.heap.objects = all.ends.next in
+    let same : world.made ≡ (after_moves first moves).made = ap (λ (w : Core). w.made) (sym leads) in
+    record {
+      legal = subst (λ m. IsLegalOrder (played.limits_of script) m lines events) start all.legal;
+      stands = subst (λ m. StandsBy (after_all (played.limits_of script) m events).heap (sight world) n.number) start
+          (subst (λ (w : Core). StandsBy ends.heap (sight w) n.number) leads all.ends.stands);
+      made = subst (λ m. world.made ≡ length (after_all (played.limits_of script) m events).heap.objects) start (omega (arith, counted, next, same));
+    }
+
 -- by the law of every run
 pub played_legally : (script : Contents) (world : Core) (lines : List (List Line)) (order : List ℕ) (events : List Event) (n : Naming) → PlayedSo script world lines order events n → IsPlayedLegally script world lines events n
 played_legally script world lines order events n so =
-    let config : Config = config_of script in
-    let first : Core = opened config in
-    let heap : Heap = opening script.fields script.registers (length script.commands) in
-    let kept : IsKept first = opened_kept config (script_config script so.valid) in
-    let start : moment_of first heap (0 ∷ []) ≡ opening_moment script = ap (λ ns. let m : Moment = record (opening_moment script) { done = ns } in m) (done_opened config config.mutators) in
-    let stands : StandsBy heap (sight first) opening_number
-    = subst (λ (s : Sight). StandsBy heap s opening_number) (sym (sight_opened config)) (opening_stands_by script.slots script.fields script.registers (length script.commands) so.valid.heap.some_slots) in
-    let are : AreUnfreed (sight first) opening_number (0 ∷ [])
-    = subst (λ (s : Sight). AreUnfreed s opening_number (0 ∷ [])) (sym (sight_opened config)) (opening_unfreed script.slots script.fields script.registers (length script.commands)) in
-    let all : HasLegalOrder first heap opening_number (0 ∷ []) so.moves lines
-    = run_legal first heap opening_number (0 ∷ []) so.moves lines kept (λ t is. ap is_busy (mutator_opened config t is)) stands are so.fit
+    let first : Core = opened (config_of script) in
+    let kept : IsKept first = opened_kept (config_of script) (script_config script so.valid) in
+    let all : HasLegalOrder first (heap_of script) opening_number (0 ∷ []) so.moves lines
+    = run_legal first (heap_of script) opening_number (0 ∷ []) so.moves lines kept (λ t is. ap is_busy (mutator_opened (config_of script) t is))
+    (stands_opened script so.valid.heap.some_slots) (unfreed_opened script) so.fit
     (record {
       one_each = so.one_each;
       lines = λ t is. sym (so.lines_of t is.0) ∙ ap (filter_map (line_by t)) (sym so.tells) ∙ lines_of t first_naming first so.moves;
     }) in
-    let ends : Moment = after_all (limits_of config) (moment_of first heap (0 ∷ [])) (events_of first_naming first so.moves) in
-    let P : Moment → List Event → Type 0 = λ m es. IsLegalOrder (played.limits_of script) m lines es in
-    let Q : Moment → List Event → Type 0 = λ m es. StandsBy (after_all (played.limits_of script) m es).heap (sight world) n.number in
-    let R : Moment → List Event → Type 0 = λ m es. world.made ≡ length (after_all (played.limits_of script) m es).heap.objects in
-    let counted : (named_after_all first_naming first so.moves).next + 1 ≡ 1 + (after_moves first so.moves).made = moves_made first_naming first so.moves in
-    let next : (named_after_all first_naming first so.moves).next ≡ length ends.heap.objects = all.ends.next in
-    let same : world.made ≡ (after_moves first so.moves).made = ap (λ (w : Core). w.made) (sym so.ends) in
-    record {
-      legal = subst (λ m. P m events) start (subst (P (moment_of first heap (0 ∷ []))) so.tells all.legal);
-      stands = subst (λ m. Q m events) start (subst (Q (moment_of first heap (0 ∷ []))) so.tells (
-          subst (λ (k : Naming). StandsBy ends.heap (sight world) k.number) so.names
-          (subst (λ (w : Core). StandsBy ends.heap (sight w) (named_after_all first_naming first so.moves).number) so.ends all.ends.stands)));
-      made = subst (λ m. R m events) start (subst (R (moment_of first heap (0 ∷ []))) so.tells (omega (arith, counted, next, same)));
-    }
+    subst (λ es. IsPlayedLegally script world lines es n) so.tells
+    (subst (IsPlayedLegally script world lines (events_of first_naming first so.moves)) so.names (ordered_legally script world so.moves lines all so.ends))

@@ -1,8 +1,7 @@
 -- What the commands of a script gave when they were played.
-use Rattle.std.specs.Prelude.{◌≡◌, ◌≢◌, ℕ, ◌≤◌, true, List, [], ◌∷◌, map, length, replicate, slice_index_or}
+use Rattle.std.specs.Prelude.{◌≡◌, ℕ, ◌≤◌, true, List, [], ◌∷◌, map, length, replicate, slice_index_or}
 use Rattle.std.specs.List.{All}
 use Rattle.rec_model.specs.declared.command.Cmd.{Cmd}
-use Rattle.rec_model.specs.declared.answer.Answer.TheVariants.{LogFull}
 use Rattle.rec_model.specs.Heap.{opening}
 use Rattle.rec_model.specs.LegalOrder.{Line, Event, Limits, Moment, after_all, actors, IsLegalOrder, NoLogFull}
 use Rattle.rec_model.specs.Sight.{StandsBy}

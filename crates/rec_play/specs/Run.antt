@@ -1,8 +1,6 @@
 -- The played run: what each turn makes of the world, and what it tells.
-use Rattle.std.specs.Prelude.{◌≡◌, ◌≢◌, ℕ, zero, suc, ◌<◌, ◌≤◌, Some, List, [], ◌∷◌, ◌++◌, length, slice_index_or}
+use Rattle.std.specs.Prelude.{◌≡◌, ℕ, zero, suc, ◌<◌, ◌≤◌, Some, List, [], ◌∷◌, ◌++◌, length, slice_index_or}
 use Rattle.std.specs.List.{slice_get, filter_map}
-use Rattle.rec_word.specs.Mailbox.{crossing_word}
-use Rattle.rec_word.specs.declared.mailbox.Mailbox.TheVariants.{Retired}
 use Rattle.rec_model.specs.declared.command.Cmd.{Cmd}
 use Rattle.rec_model.specs.declared.told.Told.{Told}
 use Rattle.rec_model.specs.LegalOrder.{Event, line_by}
@@ -11,8 +9,7 @@ use Rattle.rec_mutator.specs.Private.{answer_of}
 use Rattle.rec_mutator.specs.declared.made.Made.TheVariants as makes
 use Rattle.rec_mutator.specs.declared.work.Work.TheVariants as works
 use Rattle.rec_collector.specs.Next.{next_of}
-use Rattle.rec_collector.specs.declared.phase.Phase.TheVariants.{Looking}
-use Rattle.rec_core.specs.Core.{Core, mutator, crossing_of, opened}
+use Rattle.rec_core.specs.Core.{Core, mutator, opened}
 use Rattle.rec_core.specs.Moves.{turned}
 use Rattle.rec_core.specs.Worked.{IsWorked, WaitsFor}
 use Rattle.rec_order.specs.Events.{swept_by}
