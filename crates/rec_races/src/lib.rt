@@ -1,5 +1,9 @@
 //! Races on a running heap: its mutators and its collector on threads of their own, a thousand times over.
 //!
+//! - `births`: two mutators make an object each at once, and take two slots.
+//! - `mixed`: two and four mutators carry out commands of all kinds over shared fields, each its own, beside the collector.
+//! - `rings`: two mutators make rings and drop them, while the collector frees them and their slots are claimed again.
+//!
 //! No clause says which answers come on threads, or that a thread gets on. These tests look at what is left afterwards: the world
 //! that `stop` gives settles, to just the slots that registers reach, with counts that a test sums anew.
 //! This crate holds tests alone, of `rec_table` and `rec_settle`, and nothing stands on it. Every loop ends by a count, and every
@@ -18,3 +22,5 @@ mod race;
 mod rings;
 #[cfg(test)]
 mod settled;
+#[cfg(test)]
+mod signals;

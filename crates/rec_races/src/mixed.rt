@@ -2,7 +2,7 @@
 
 ghost use Rattle.std.specs.Prelude.{◌<◌};
 
-use crate::crew::Task;
+use crate::crew::{Limits, Task};
 use crate::race::race;
 use crate::settled::is_settled;
 use rand_core::utils::NextWord;
@@ -15,14 +15,20 @@ use std::process::Abort;
 use std::test::Fail;
 use std::thread::Threads;
 
-// How many commands each mutator has.
-const COMMANDS: u32 = 60;
+// How many commands each mutator has, and how many times it goes through them.
+const COMMANDS: u32 = 50;
 
-// How many turns the collector has beside them.
-const TURNS: u32 = 400;
+const TIMES: u32 = 4;
+
+// The collector turns beside them, and no set that it frees is enough.
+const LIMITS: Limits = Limits {
+    turns: 4_000,
+    freed: u64::MAX,
+};
 
 fn draw(generator: &mut Pcg32, bound: u32) -> u8
     requires { (0 < bound) × (bound < 256) }
+    ensures { result < bound }
 {
     (generator.next_word() % bound) as u8
 }
@@ -60,7 +66,10 @@ fn draw_task(alloc: Global, generator: &mut Pcg32) -> Result<Task, NoMemory> {
     for _ in 0..COMMANDS {
         commands.push(draw_command(generator))?;
     }
-    Ok(Task { commands, times: 1 })
+    Ok(Task {
+        commands,
+        times: TIMES,
+    })
 }
 
 fn draw_tasks(alloc: Global, seed: u64, mutators: u32) -> Result<Vec<Task>, NoMemory> {
@@ -89,8 +98,7 @@ fn race_and_settle<R: Abort + Threads + Sync>(
     };
     let world = World::open(alloc, config)?;
     let tasks = draw_tasks(alloc, seed, mutators)?;
-    let (mut world, _) = race(rt, alloc, world, &tasks, TURNS)?;
-    assert!(rt; world.at_rest() && world.boxes_home(), "seed {seed}");
+    let mut world = race(rt, alloc, world, &tasks, LIMITS)?.world;
     assert!(rt; settle(&mut world).is_ok(), "seed {seed}");
     assert!(rt; is_settled(alloc, &world)?, "seed {seed}");
     Ok(())

@@ -1,39 +1,54 @@
 //! A world that is set running, raced over by its threads, and stopped.
 
-ghost use Rattle.std.specs.Prelude.{◌≡◌, ◌<◌};
+ghost use Rattle.std.specs.Prelude.{◌≡◌, IfOk};
 ghost use Rattle.std.specs.Thread.{IsSync};
+ghost use Rattle.rec_core.specs.Worked.{AreIdle};
 ghost use Rattle.rec_table.specs.Held.{AreMutatorsOf, IsCollectorOf, IsMutatorOf};
 
-use crate::crew::{Signals, Task, collect, mutate};
+use crate::crew::{Limits, Task, collect, mutate};
+use crate::signals::Signals;
 use rec_table::{Collector, Heap, Mutator};
 use rec_world::World;
 use std::alloc::Global;
 use std::process::Abort;
-use std::sync::atomic::Ordering;
 use std::test::Fail;
 use std::thread::{Threads, for_each_mut, join};
 
-/// Sets a world running, with a thread for each mutator and for the collector, and stops it once they have ended. The answer says
-/// too whether a set was freed while a mutator had commands left.
+/// What a race leaves, and what was seen meanwhile.
+#[derive(Drop)]
+pub struct Raced {
+    pub world: World,
+    /// Whether as many sets were freed as were waited for, while a mutator had commands left.
+    pub is_cut: bool,
+    /// Whether an allocation found no slot.
+    pub is_refused: bool,
+}
+
+/// Sets a world running, with a thread for each mutator and for the collector, and stops it once they have ended.
 pub fn race<R: Abort + Threads + Sync>(
     rt: &R,
     alloc: Global,
     world: World,
     tasks: &[Task],
-    turns: u32,
-) -> Result<(World, bool), Fail> {
+    limits: Limits,
+) -> Result<Raced, Fail>
+    ensures { IfOk result (λ raced. AreIdle raced.world) }
+{
     assert!(rt;
         world.at_rest() && world.boxes_home(),
         "the world may not be started"
     );
+    let signals = Signals::of(world.mutators());
     let Ok((heap, mutators, collector)) = Heap::start(alloc, world) else {
         return Err(Fail::new("no memory"));
     };
-    let signals = Signals::new();
-    let (mutators, collector) = run(rt, &heap, mutators, collector, tasks, turns, &signals);
-    let is_cut = signals.cut.load(Ordering::SeqCst);
+    let (mutators, collector) = run(rt, &heap, mutators, collector, tasks, limits, &signals);
     match heap.stop(alloc, mutators, collector) {
-        Ok(world) => Ok((world, is_cut)),
+        Ok(world) => Ok(Raced {
+            world,
+            is_cut: signals.is_cut(),
+            is_refused: signals.is_refused(),
+        }),
         Err(_) => Err(Fail::new("refused")),
     }
 }
@@ -45,7 +60,7 @@ fn run<R: Threads + Sync>(
     mutators: Vec<Mutator>,
     collector: Collector,
     tasks: &[Task],
-    turns: u32,
+    limits: Limits,
     signals: &Signals,
 ) -> (Vec<Mutator>, Collector)
     requires mutators { AreMutatorsOf heap.now mutators.items }
@@ -58,7 +73,7 @@ fn run<R: Threads + Sync>(
         || -> Collector
             requires { IsCollectorOf heap.now collector }
             ensures { IsCollectorOf heap.entry.now result }
-        { collect(heap, collector, turns, signals) },
+        { collect(heap, collector, limits, signals) },
         || -> Vec<Mutator>
             requires { IsSync R.row × AreMutatorsOf heap.now mutators.items }
             ensures { AreMutatorsOf heap.entry.now result.items }

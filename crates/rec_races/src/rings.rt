@@ -1,6 +1,6 @@
 //! Mutators that make rings and drop them while the collector turns.
 
-use crate::crew::Task;
+use crate::crew::{Limits, Task};
 use crate::race::race;
 use crate::settled::is_settled;
 use rec_model::Cmd;
@@ -11,10 +11,17 @@ use std::process::Abort;
 use std::test::Fail;
 use std::thread::Threads;
 
-// A mutator makes so many rings, and the collector so many turns, unless a ring is freed before.
-const RINGS: u32 = 2_000;
+// A mutator makes so many rings, unless enough are freed before.
+const RINGS: u32 = 1_000;
 
-const TURNS: u32 = 40_000;
+// How many slots there are. A mutator's two registers keep four of them from freeing.
+const SLOTS: u32 = 8;
+
+// So many freed rings had more objects than there are slots.
+const LIMITS: Limits = Limits {
+    turns: 40_000,
+    freed: 5,
+};
 
 // Makes a ring of two objects, and drops it.
 const RING: [Cmd; 6] = [
@@ -42,14 +49,15 @@ fn rings(alloc: Global) -> Result<Task, NoMemory> {
     })
 }
 
-// One race. What it leaves settles; the answer is whether a ring was freed while the mutators had commands.
+// One race. What it leaves settles; the answer is whether enough rings were freed while the mutators had commands, and slots were
+// claimed again.
 fn race_and_settle<R: Abort + Threads + Sync>(
     rt: &R,
     alloc: Global,
     tasks: &[Task],
 ) -> Result<bool, Fail> {
     let config = Config {
-        slots: 8,
+        slots: SLOTS,
         fields: 1,
         registers: 3,
         mutators: 2,
@@ -57,23 +65,24 @@ fn race_and_settle<R: Abort + Threads + Sync>(
         first_epoch: 1,
     };
     let world = World::open(alloc, config)?;
-    let (mut world, is_freed) = race(rt, alloc, world, tasks, TURNS)?;
-    assert!(rt; world.at_rest() && world.boxes_home());
+    let raced = race(rt, alloc, world, tasks, LIMITS)?;
+    let mut world = raced.world;
+    let is_reused = world.made() > u64::from(SLOTS);
     assert!(rt; settle(&mut world).is_ok());
     assert!(rt; is_settled(alloc, &world)?);
-    Ok(is_freed)
+    Ok(raced.is_cut && is_reused)
 }
 
 #[test]
 fn rings_are_freed_while_commands_run(rt: HostRuntime) -> Result<(), Fail> {
     let alloc: Global = rt.alloc();
     let tasks = [rings(alloc)?, rings(alloc)?];
-    let mut freed = 0;
+    let mut is_freed = false;
     for _ in 0..1000 {
         if race_and_settle(&rt, alloc, &tasks)? {
-            freed += 1;
+            is_freed = true;
         }
     }
-    assert!(rt; freed > 0);
+    assert!(rt; is_freed);
     Ok(())
 }
