@@ -1,0 +1,9 @@
+use Rattle.std.proofs.Common.{◌≡◌}
+use Rattle.rec_uses.specs.Ready.{IsReady}
+use Rattle.rec_uses.proofs.ring.make.Given as goal
+
+abbrev pub invariant-loop-cmd : goal.invariant-loop-cmd
+invariant-loop-cmd l = record {
+  ready : IsReady l.world;
+  collector : l.world.collector ≡ l.fn.world.collector;
+}
