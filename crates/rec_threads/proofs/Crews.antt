@@ -1,0 +1,51 @@
+-- A crew with one worker more.
+use Rattle.std.proofs.Common.{◌≡◌, ℕ, ◌+◌, ◌-◌, ◌<◌, Bool, MatchBool, true, false, List, [], ◌∷◌, ◌++◌, Some, length, slice_get, slice_index_or, sym, ap, subst, ◌∙◌, arith}
+use Rattle.std.proofs.lemmas.Option.{get_or_from_slice_get}
+use Rattle.rec_model.specs.declared.command.Cmd.{Cmd}
+use Rattle.rec_script.specs.Script.{Contents}
+use Rattle.rec_table.specs.Held.{Gathers, Held, Started, AreMutatorsOf, IsCollectorOf}
+use Rattle.rec_world.specs.Journal.{Notes}
+use Rattle.rec_threads.specs.Done.{AreReady, HasCollected, HasDone, HasEnded, HaveDone, IsCrewFor, IsReady, commands_at}
+use Rattle.rec_threads.specs.declared.crew.Crew.{Crew}
+use Rattle.rec_threads.specs.declared.worker.Worker.{Worker}
+use Rattle.rec_threads.proofs.Lists.{done_more, earlier_ready, last_ready}
+use Rattle.rec_threads.proofs.Works.{still_own}
+
+pub one_more : (b : Bool) (h : Started) (cmds : List (List Cmd)) (crew rest back all : Crew) (w v : Worker) → crew.mutators.items ≡ rest.mutators.items ++ w.mutator ∷ [] → crew.journals.items ≡ rest.journals.items ++ w.journal ∷ [] → rest.collector ≡ crew.collector
+    → length rest.journals.items ≡ length rest.mutators.items → HasEnded b h cmds rest back → MatchBool b (HasDone (commands_at cmds (length rest.mutators.items)) w v) (v ≡ w)
+    → all.mutators.items ≡ back.mutators.items ++ v.mutator ∷ [] → all.journals.items ≡ back.journals.items ++ v.journal ∷ [] → all.collector ≡ back.collector → HasEnded b h cmds crew all
+one_more true h cmds crew rest back all w v ms js col each ended last ms' js' col' = record {
+  done = subst (λ (x : List Held × List Notes × List Held × List Notes). HaveDone cmds x.0 x.1 x.2 x.3) (λ i. (sym ms i, sym js i, sym ms' i, sym js' i))
+      (done_more cmds rest.mutators.items back.mutators.items rest.journals.items back.journals.items w.mutator v.mutator w.journal v.journal each ended.done last);
+  collector = subst (IsCollectorOf h) (sym col') ended.collector;
+  collected = subst (λ (x : Gathers × Gathers). HasCollected 10000000 x.0 x.1) (λ i. (col i, sym col' i)) ended.collected;
+}
+one_more false h cmds crew rest back all w v ms js col each ended last ms' js' col' = record {
+  mutators = ms' ∙ (λ i. ended.mutators i ++ (last i).mutator ∷ []) ∙ sym ms;
+  journals = js' ∙ (λ i. ended.journals i ++ (last i).journal ∷ []) ∙ sym js;
+  collector = col' ∙ ended.collector ∙ col;
+}
+
+-- those before the last one, and the last one
+pub rest_ready : (h : Started) (script : Contents) (crew rest : Crew) (w : Worker) → crew.mutators.items ≡ rest.mutators.items ++ w.mutator ∷ [] → crew.journals.items ≡ rest.journals.items ++ w.journal ∷ [] → AreReady h script crew.mutators.items crew.journals.items
+    → AreReady h script rest.mutators.items rest.journals.items × IsReady h script (length rest.mutators.items) w
+rest_ready h script crew rest w ms js ready =
+    let both : AreReady h script (rest.mutators.items ++ w.mutator ∷ []) (rest.journals.items ++ w.journal ∷ []) = subst (λ (x : List Held × List Notes). AreReady h script x.0 x.1) (λ i. (ms i, js i)) ready in
+    (earlier_ready h script rest.mutators.items rest.journals.items w.mutator w.journal both, last_ready h script rest.mutators.items rest.journals.items w.mutator w.journal both)
+
+-- the commands of a mutator, by its number
+pub own_commands : (all : List (List Cmd)) (k number : ℕ) (cmds : List Cmd) → number ≡ k + 1 → slice_get all (number - 1) ≡ Some cmds → commands_at all k ≡ cmds
+own_commands all k number cmds is there =
+    let index : number - 1 ≡ k = omega (arith, is) in
+    get_or_from_slice_get all k cmds [] (ap (slice_get all) (sym index) ∙ there)
+
+-- whose commands are carried out are still all mutators of the heap
+pub still_mutators : (h : Started) (script : Contents) (crew after : Crew) → IsCrewFor h script crew → HaveDone script.commands crew.mutators.items crew.journals.items after.mutators.items after.journals.items → AreMutatorsOf h after.mutators.items
+still_mutators h script crew after is done = record {
+  all = done.mutators_all ∙ is.all;
+  each = λ k d lt.
+      let there : k < length crew.mutators.items = let a = done.mutators_all in omega (arith, lt, a) in
+      let one = done.each k d there in
+      let ready = is.ready.each k d there in
+      (still_own h (slice_index_or crew.mutators.items k d) (slice_index_or after.mutators.items k d) one.mutator ready.own, ap (λ (m : Held). m.number) one.mutator ∙ ready.number);
+}

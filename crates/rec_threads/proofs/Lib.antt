@@ -1,0 +1,5 @@
+pub mod Lists
+pub mod Works
+pub mod Requests
+pub mod Crews
+pub mod Sends

@@ -1,0 +1,139 @@
+-- A turn requests at most one epoch more.
+use Rattle.std.proofs.Common.{◌≡◌, ℕ, ◌+◌, ◌<◌, ◌≤◌, ◌==◌, Bool, true, false, if◌then◌else◌, List, [], ◌∷◌, ◌++◌, Option, None, Some, length, refl, sym, ap, ◌∙◌, arith, append_assoc}
+use Rattle.std.proofs.lemmas.List.{append-nil, length-append}
+use Rattle.rec_log.specs.declared.contents.Contents.{Contents}
+use Rattle.rec_collector.specs.Followed.{Next, followed, prepared, relieved, tried, with_freed, with_loaded, with_released, with_tried}
+use Rattle.rec_collector.specs.Next.{is_spent, next_of}
+use Rattle.rec_collector.specs.Private.{Private, parts_of, with_parts}
+use Rattle.rec_collector.specs.Testing.{zeros_released}
+use Rattle.rec_collector.specs.Took.{batched, came, ended_if, moved, step_of, swapped_at, swapped_of, took_at, took_of}
+use Rattle.rec_collector.specs.declared.phase.Phase.{Phase}
+use Rattle.rec_collector.specs.declared.phase.Phase.TheVariants.{Idle, Looking, Swapping, Returning, Releasing, Freeing, Trying, Preparing, Opening, Sweeping, Closing}
+use Rattle.rec_word.specs.Mailbox.{crossing_word}
+use Rattle.rec_word.specs.declared.mailbox.Mailbox.TheVariants.{Retired}
+use Rattle.rec_word.specs.declared.op.Op.{Op}
+use Rattle.rec_table.specs.Beats.{gathered}
+use Rattle.rec_table.specs.Held.{Gathers, gathers_now}
+use Rattle.rec_table.specs.Rule.{crew_more}
+use Rattle.rec_threads.specs.Done.{HasCollected}
+use Rattle.rec_table.specs.declared.views.Beat.{Beat}
+use Rattle.rec_table.specs.declared.views.Beat.TheVariants.{Begins, Saw, Took}
+
+ended_epoch : (phase : Phase) (p : Private) → (ended_if phase p).epoch ≡ p.epoch
+ended_epoch Idle p = refl
+ended_epoch (Looking t) p = refl
+ended_epoch (Swapping t) p = refl
+ended_epoch (Returning t) p = refl
+ended_epoch Releasing p = refl
+ended_epoch Freeing p = refl
+ended_epoch Trying p = refl
+ended_epoch Preparing p = refl
+ended_epoch Opening p = refl
+ended_epoch (Sweeping swept) p = refl
+ended_epoch (Closing swept) p = refl
+
+came_epoch : (p : Private) (n : Next) → (came p n).epoch ≤ p.epoch + 1
+came_epoch p n = let e : (came p n).epoch ≡ p.epoch = ended_epoch n.phase (moved (with_parts p n.parts) n.phase) in omega (arith, e)
+
+either_rises : (b : Bool) (p q r : Private) → q.epoch ≤ p.epoch + 1 → r.epoch ≤ p.epoch + 1 → (if b then q else r).epoch ≤ p.epoch + 1
+either_rises true p q r x y = x
+either_rises false p q r x y = y
+
+took_rises : (p : Private) (word : ℕ) (phase : Phase) → (took_at p word phase).epoch ≤ p.epoch + 1
+unfolding took_at
+took_rises p word Idle = either_rises (is_spent p) p p (moved (record p { epoch = p.epoch + 1 }) (Looking 1)) (omega arith) (omega arith)
+took_rises p word (Looking t) = either_rises (word == crossing_word p.epoch Retired) p (moved p (Swapping t)) p (omega arith) (omega arith)
+took_rises p word (Swapping t) = omega arith
+took_rises p word (Returning t) = either_rises (t == length p.newer) p (came p (followed (zeros_released false (batched p)))) (moved p (Looking (t + 1))) (came_epoch p (followed (zeros_released false (batched p)))) (omega arith)
+took_rises p word Releasing = came_epoch p (followed (with_released (parts_of p) word))
+took_rises p word Freeing = came_epoch p (followed (relieved (with_freed (parts_of p) word)))
+took_rises p word Trying = came_epoch p (tried (with_tried (parts_of p) word))
+took_rises p word Preparing = came_epoch p (prepared (with_loaded (parts_of p) word))
+took_rises p word Opening = omega arith
+took_rises p word (Sweeping swept) = omega arith
+took_rises p word (Closing swept) = omega arith
+
+swapped_epoch : (p : Private) (b : Contents) (phase : Phase) → (swapped_at p b phase).epoch ≡ p.epoch
+unfolding swapped_at
+swapped_epoch p b Idle = refl
+swapped_epoch p b (Looking t) = refl
+swapped_epoch p b (Swapping t) = refl
+swapped_epoch p b (Returning t) = refl
+swapped_epoch p b Releasing = refl
+swapped_epoch p b Freeing = refl
+swapped_epoch p b Trying = refl
+swapped_epoch p b Preparing = refl
+swapped_epoch p b Opening = refl
+swapped_epoch p b (Sweeping swept) = refl
+swapped_epoch p b (Closing swept) = refl
+
+took_epoch : (p : Private) (word : ℕ) → (took_of p word).epoch ≤ p.epoch + 1
+unfolding took_of
+took_epoch p word = took_rises p word p.phase
+
+pub gathered_epoch : (p : Private) (b : Beat) → (gathered p b).epoch ≤ p.epoch + 1
+unfolding step_of swapped_of
+gathered_epoch p (Begins work) = omega arith
+gathered_epoch p (Saw word) = took_epoch p word
+gathered_epoch p (Took word b) = let e = swapped_epoch (took_of p word) b (took_of p word).phase in let t = took_epoch p word in omega (arith, e, t)
+
+-- what the collector has done after so many turns
+pub record HasTurned (turns : ℕ) (g g' : Gathers) : Type 0 where
+  pub beats : List Beat
+  pub grows : g' ≡ record g { crew = record g.crew { log = g.crew.log ++ beats } }
+  pub most : length beats ≤ turns
+  pub requested : (gathers_now g').epoch ≤ (gathers_now g).epoch + turns
+
+-- none yet
+pub no_turn : (g : Gathers) → HasTurned 0 g g
+no_turn g = record {
+  beats = [];
+  grows = λ i. record g { crew = record g.crew { log = sym (append-nil g.crew.log) i } };
+  most = omega arith;
+  requested = omega arith;
+}
+
+pub turned_so : (turns : ℕ) (g g' : Gathers) → HasCollected turns g g' → HasTurned turns g g'
+turned_so turns g g' c = record { beats = c.beats; grows = c.grows; most = c.most; requested = c.requested }
+
+-- a longer limit
+pub more_turns : (turns more : ℕ) (g g' : Gathers) → turns ≤ more → HasCollected turns g g' → HasCollected more g g'
+more_turns turns more g g' le c = record { beats = c.beats; grows = c.grows; most = let m = c.most in omega (arith, m, le); some = c.some; requested = let r = c.requested in omega (arith, r, le) }
+
+-- who made no turn where one comes next is as before
+none_made : (g a : Gathers) (beats : List Beat) (op : Op) → a ≡ record g { crew = record g.crew { log = g.crew.log ++ beats } } → next_of (gathers_now a) ≡ None → next_of (gathers_now g) ≡ Some op → 0 < length beats
+none_made g a [] op grows none some =
+    let same : a ≡ g = grows ∙ (λ i. record g { crew = record g.crew { log = append-nil g.crew.log i } }) in
+    let bad : ◌≡◌ {A = Option Op} None (Some op) = sym none ∙ ap (λ (x : Gathers). next_of (gathers_now x)) same ∙ some in cc
+none_made g a (b ∷ bs) op grows none some = omega arith
+
+-- One turn more.
+pub one_turn : (turns : ℕ) (g a b : Gathers) → HasTurned turns g a → (next_of (gathers_now a) ≡ None → b ≡ a)
+    → ((op : Op) → next_of (gathers_now a) ≡ Some op → (beat : Beat) × (b ≡ record a { crew = crew_more a.crew beat }) × (gathers_now b ≡ gathered (gathers_now a) beat)) → HasCollected (turns + 1) g b
+one_turn turns g a b so spent turned = by (next_of (gathers_now a)) refl
+  where
+    by : (next : Option Op) → next_of (gathers_now a) ≡ next → HasCollected (turns + 1) g b
+    by None e =
+        let same : b ≡ a = spent e in
+        record {
+          beats = so.beats;
+          grows = same ∙ so.grows;
+          most = let m = so.most in omega (arith, m);
+          some = λ op some. none_made g a so.beats op so.grows e some;
+          requested = let r = so.requested in let n : (gathers_now b).epoch ≡ (gathers_now a).epoch = ap (λ (x : Gathers). (gathers_now x).epoch) same in omega (arith, r, n);
+        }
+    by (Some op) e =
+        let (beat, more, now) = turned op e in
+        let crew : (record g.crew { log = (g.crew.log ++ so.beats) ++ beat ∷ [] }) ≡ (record g.crew { log = g.crew.log ++ (so.beats ++ beat ∷ []) }) = λ i. record g.crew { log = append_assoc g.crew.log so.beats (beat ∷ []) i } in
+        let many : length (so.beats ++ beat ∷ []) ≡ length so.beats + 1 = length-append so.beats (beat ∷ []) in
+        record {
+          beats = so.beats ++ beat ∷ [];
+          grows = more ∙ (λ i. record (so.grows i) { crew = crew_more (so.grows i).crew beat }) ∙ (λ i. record g { crew = crew i });
+          most = let m = so.most in omega (arith, m, many);
+          some = λ op some. omega (arith, many);
+          requested =
+              let r = so.requested in
+              let n : (gathers_now b).epoch ≡ (gathered (gathers_now a) beat).epoch = ap (λ (p : Private). p.epoch) now in
+              let o = gathered_epoch (gathers_now a) beat in
+              omega (arith, r, n, o);
+        }

@@ -1,0 +1,107 @@
+-- What a worker does, put together from polls and commands.
+use Rattle.std.proofs.Common.{◌≡◌, ℕ, ◌-◌, ◌<◌, List, [], ◌∷◌, ◌++◌, All, length, refl, sym, ap, subst, ◌∙◌, arith, append_assoc}
+use Rattle.std.proofs.lemmas.List.{append-nil, length-append, map-append}
+use Rattle.rec_model.specs.LegalOrder.{Line}
+use Rattle.rec_model.specs.declared.command.Cmd.{Cmd}
+use Rattle.rec_model.specs.declared.command.Cmd.TheVariants as commands
+use Rattle.rec_model.specs.declared.told.Told.{Told}
+use Rattle.rec_mutator.specs.Private.{HasOperands, KeepsSizes, Private}
+use Rattle.rec_script.specs.Script.{IsCommand}
+use Rattle.rec_table.specs.Beats.{told}
+use Rattle.rec_table.specs.Held.{Held, Started, IsMutatorOf, has}
+use Rattle.rec_table.specs.Journals.{Tells, journal}
+use Rattle.rec_table.specs.declared.views.Beat.{Beat}
+use Rattle.rec_table.proofs.Beats.{told_both}
+use Rattle.rec_table.proofs.Journals.{journal_both}
+use Rattle.rec_table.proofs.Making.{keeps_on}
+use Rattle.rec_world.specs.Journal.{Notes}
+use Rattle.rec_threads.specs.Done.{HasDone}
+use Rattle.rec_threads.specs.declared.worker.Worker.{Worker}
+
+-- a mutator whose list grew is still this heap's
+pub still_own : (h : Started) (m n : Held) → n ≡ record m { log = n.log } → IsMutatorOf h m → IsMutatorOf h n
+still_own h m n is own = subst (IsMutatorOf h) (sym is) own
+
+tells_on : (m a b : Held) (xs ys : List Line) → a ≡ record m { log = a.log } → Tells (has m) m.log a.log xs → Tells (has a) a.log b.log ys → Tells (has m) m.log b.log (xs ++ ys)
+tells_on m a b xs ys is first then =
+    let now : has a ≡ told (has m) first.beats = ap has is ∙ ap (told m.opened) first.grows ∙ told_both m.opened m.log first.beats in
+    record {
+      beats = first.beats ++ then.beats;
+      grows = then.grows ∙ ap (λ (l : List Beat). l ++ then.beats) first.grows ∙ append_assoc m.log first.beats then.beats;
+      tells = journal_both (has m) first.beats then.beats ∙ ap (λ (p : Private). journal (has m) first.beats ++ journal p then.beats) (sym now) ∙ (λ i. first.tells i ++ then.tells i);
+    }
+
+-- what is done first, and what then
+pub done_on : (xs ys : List Cmd) (a b d : Worker) → HasDone xs a b → HasDone ys b d → HasDone (xs ++ ys) a d
+done_on xs ys a b d first then = record {
+  lines = first.lines ++ then.lines;
+  commands = map-append (λ (line : Line). line.0) first.lines then.lines ∙ (λ i. first.commands i ++ then.commands i);
+  noted = then.noted ∙ ap (λ (l : List Line). l ++ then.lines) first.noted ∙ append_assoc a.journal.lines first.lines then.lines;
+  room = let many = length-append xs ys in let f = first.room in let t = then.room in omega (arith, many, f, t);
+  told = tells_on a.mutator b.mutator d.mutator first.lines then.lines first.mutator first.told then.told;
+  mutator = then.mutator ∙ (λ i. record (first.mutator i) { log = d.mutator.log });
+  sizes = keeps_on (has a.mutator) (has b.mutator) (has d.mutator) first.sizes then.sizes;
+}
+
+same_sizes : (p : Private) → KeepsSizes p p
+same_sizes p = record { number = refl; slots = refl; fields = refl; registers = refl; capacity = refl }
+
+-- nothing is done
+pub done_none : (w : Worker) → HasDone [] w w
+done_none w = record {
+  lines = [];
+  commands = refl;
+  noted = sym (append-nil w.journal.lines);
+  room = omega arith;
+  told = record { beats = []; grows = sym (append-nil w.mutator.log); tells = refl };
+  mutator = refl;
+  sizes = same_sizes (has w.mutator);
+}
+
+-- a poll
+pub polled : (w v : Worker) → v.journal ≡ w.journal → v.mutator ≡ record w.mutator { log = v.mutator.log } → Tells (has w.mutator) w.mutator.log v.mutator.log [] → KeepsSizes (has w.mutator) (has v.mutator) → HasDone [] w v
+polled w v noted is tells sizes = record {
+  lines = [];
+  commands = refl;
+  noted = ap (λ (j : Notes). j.lines) noted ∙ sym (append-nil w.journal.lines);
+  room = let r : v.journal.room ≡ w.journal.room = ap (λ (j : Notes). j.room) noted in omega (arith, r);
+  told = tells;
+  mutator = is;
+  sizes = sizes;
+}
+
+-- a command, whose line is noted
+pub commanded : (cmd : Cmd) (told : Told) (w v : Worker) → v.journal.lines ≡ w.journal.lines ++ (cmd, told) ∷ [] → v.journal.room ≡ w.journal.room - 1 → 0 < w.journal.room → v.mutator ≡ record w.mutator { log = v.mutator.log }
+    → Tells (has w.mutator) w.mutator.log v.mutator.log ((cmd, told) ∷ []) → KeepsSizes (has w.mutator) (has v.mutator) → HasDone (cmd ∷ []) w v
+commanded cmd told w v noted room some is tells sizes = record {
+  lines = (cmd, told) ∷ [];
+  commands = refl;
+  noted = noted;
+  room = omega (arith, room, some);
+  told = tells;
+  mutator = is;
+  sizes = sizes;
+}
+
+-- who has its registers and fields may be asked the same
+pub operands_kept : (p q : Private) → KeepsSizes p q → (cmd : Cmd) → HasOperands p cmd → HasOperands q cmd
+operands_kept p q k (commands.New reg label) has = subst (λ n. reg < n) (sym k.registers) has
+operands_kept p q k (commands.Null reg) has = subst (λ n. reg < n) (sym k.registers) has
+operands_kept p q k (commands.Copy dst src) has = subst (λ n. (dst < n) × (src < n)) (sym k.registers) has
+operands_kept p q k (commands.Get dst src f) has = (subst (λ n. dst < n) (sym k.registers) has.0, subst (λ n. src < n) (sym k.registers) has.1, subst (λ n. f < n) (sym k.fields) has.2)
+operands_kept p q k (commands.Put src f val) has = (subst (λ n. src < n) (sym k.registers) has.0, subst (λ n. f < n) (sym k.fields) has.1, subst (λ n. val < n) (sym k.registers) has.2)
+operands_kept p q k (commands.Value reg) has = subst (λ n. reg < n) (sym k.registers) has
+operands_kept p q k (commands.Same a b) has = subst (λ n. (a < n) × (b < n)) (sym k.registers) has
+
+-- a script's command may be asked of who has the script's registers and fields
+script_operands : (registers fields : ℕ) (p : Private) → length p.registers ≡ registers → p.fields ≡ fields → (cmd : Cmd) → IsCommand registers fields cmd → HasOperands p cmd
+script_operands registers fields p r f (commands.New reg label) is = subst (λ n. reg < n) (sym r) is.0
+script_operands registers fields p r f (commands.Null reg) is = subst (λ n. reg < n) (sym r) is
+script_operands registers fields p r f (commands.Copy dst src) is = subst (λ n. (dst < n) × (src < n)) (sym r) is
+script_operands registers fields p r f (commands.Get dst src field) is = (subst (λ n. dst < n) (sym r) is.0, subst (λ n. src < n) (sym r) is.1, subst (λ n. field < n) (sym f) is.2)
+script_operands registers fields p r f (commands.Put src field val) is = (subst (λ n. src < n) (sym r) is.0, subst (λ n. field < n) (sym f) is.1, subst (λ n. val < n) (sym r) is.2)
+script_operands registers fields p r f (commands.Value reg) is = subst (λ n. reg < n) (sym r) is
+script_operands registers fields p r f (commands.Same a b) is = subst (λ n. (a < n) × (b < n)) (sym r) is
+
+pub all_operands : (registers fields : ℕ) (p : Private) (cmds : List Cmd) → length p.registers ≡ registers → p.fields ≡ fields → All (IsCommand registers fields) cmds → All (HasOperands p) cmds
+all_operands registers fields p cmds r f all = λ k d lt. script_operands registers fields p r f _ (all k d lt)

@@ -1,0 +1,15 @@
+use Rattle.std.proofs.Common.{[], ◌∷◌, refl}
+use Rattle.rec_threads.specs.declared.worker.Worker.{Worker}
+use Rattle.rec_threads.proofs.Lists.{together}
+use Rattle.rec_threads.proofs.Works.{commanded, done_on, polled}
+use Rattle.rec_threads.proofs.worker.Worker.go_on.Goals as goal
+
+pub returns : goal.returns
+returns c =
+    let before : Worker = c.args.self.now in
+    let between : Worker = together c.poll.new.self before.journal in
+    let after : Worker = together c.command-told.new.self c.note.new.self in
+    let poll = c.poll.ensures in
+    let told = c.command-told.ensures in
+    done_on [] (c.args.cmd ∷ []) before between after (polled before between refl poll.is poll.line poll.same)
+    (commanded c.args.cmd c.command-told.result between after c.note.ensures.lines c.note.ensures.room c.requires.room told.is told.line told.same)

@@ -1,0 +1,91 @@
+-- What a crew has to be for a script, and what is done once its commands are carried out.
+use Rattle.std.specs.Prelude.{◌≡◌, ℕ, ◌+◌, ◌<◌, ◌≤◌, Bool, MatchBool, Some, List, [], ◌++◌, length, map, slice_index_or}
+use Rattle.rec_model.specs.LegalOrder.{Line}
+use Rattle.rec_model.specs.declared.command.Cmd.{Cmd}
+use Rattle.rec_mutator.specs.Private.{KeepsSizes}
+use Rattle.rec_word.specs.declared.op.Op.{Op}
+use Rattle.rec_collector.specs.Next.{next_of}
+use Rattle.rec_script.specs.Script.{Contents}
+use Rattle.rec_table.specs.Held.{Gathers, Held, Started, IsCollectorOf, IsMutatorOf, gathers_now, has}
+use Rattle.rec_table.specs.Journals.{Tells}
+use Rattle.rec_table.specs.declared.views.Beat.{Beat}
+use Rattle.rec_world.specs.Journal.{Notes}
+use Rattle.rec_threads.specs.declared.crew.Crew.{Crew}
+use Rattle.rec_threads.specs.declared.worker.Worker.{Worker}
+
+-- a journal with no line and no room
+abbrev pub no_notes : Notes
+no_notes = record { lines = []; room = 0 }
+
+-- the commands of a mutator, by its index
+abbrev pub commands_at : List (List Cmd) → ℕ → List Cmd
+commands_at commands k = slice_index_or commands k []
+
+-- a mutator with its journal, by their index
+abbrev pub worker_at : List Held → List Notes → ℕ → Held → Worker
+worker_at mutators journals k d = record { mutator = slice_index_or mutators k d; journal = slice_index_or journals k no_notes }
+
+-- Mutator k of this heap may carry out its commands: it has the script's registers and fields, and an empty journal with room.
+pub record IsReady (h : Started) (script : Contents) (k : ℕ) (w : Worker) : Type 0 where
+  pub own : IsMutatorOf h w.mutator
+  pub number : w.mutator.number ≡ k + 1
+  pub named : (has w.mutator).number ≡ k + 1
+  pub registers : length (has w.mutator).registers ≡ script.registers
+  pub fields : (has w.mutator).fields ≡ script.fields
+  pub empty : w.journal.lines ≡ []
+  pub room : length (commands_at script.commands k) ≤ w.journal.room
+
+-- The first so many mutators may, with a journal each.
+pub record AreReady (h : Started) (script : Contents) (mutators : List Held) (journals : List Notes) : Type 0 where
+  pub few : length mutators ≤ length script.commands
+  pub one_each : length journals ≡ length mutators
+  pub each : (k : ℕ) (d : Held) → k < length mutators → IsReady h script k (worker_at mutators journals k d)
+
+-- The crew is the whole heap's, and the heap has the script's numbers.
+pub record IsCrewFor (h : Started) (script : Contents) (crew : Crew) : Type 0 where
+  pub all : length crew.mutators.items ≡ h.world.config.mutators
+  pub script_all : length script.commands ≡ h.world.config.mutators
+  pub ready : AreReady h script crew.mutators.items crew.journals.items
+  pub collector : IsCollectorOf h crew.collector
+
+-- The worker carried out these commands, each once and in order. Its journal grew by them with what was told, and these are the lines
+-- that the mutator's list tells since.
+pub record HasDone (cmds : List Cmd) (was now : Worker) : Type 0 where
+  pub lines : List Line
+  pub commands : map (λ line. line.0) lines ≡ cmds
+  pub noted : now.journal.lines ≡ was.journal.lines ++ lines
+  pub room : now.journal.room + length cmds ≡ was.journal.room
+  pub told : Tells (has was.mutator) was.mutator.log now.mutator.log lines
+  pub mutator : now.mutator ≡ record was.mutator { log = now.mutator.log }
+  pub sizes : KeepsSizes (has was.mutator) (has now.mutator)
+
+-- each mutator's worker carried out that mutator's commands
+pub record HaveDone (commands : List (List Cmd)) (mutators : List Held) (journals : List Notes) (mutators' : List Held) (journals' : List Notes) : Type 0 where
+  pub mutators_all : length mutators' ≡ length mutators
+  pub journals_all : length journals' ≡ length journals
+  pub each : (k : ℕ) (d : Held) → k < length mutators → HasDone (commands_at commands k) (worker_at mutators journals k d) (worker_at mutators' journals' k d)
+
+-- The collector made at most so many turns, and one at least where the epochs weren't spent; and the requested epoch rose by at most as
+-- many.
+pub record HasCollected (turns : ℕ) (g g' : Gathers) : Type 0 where
+  pub beats : List Beat
+  pub grows : g' ≡ record g { crew = record g.crew { log = g.crew.log ++ beats } }
+  pub most : length beats ≤ turns
+  pub some : (op : Op) → next_of (gathers_now g) ≡ Some op → 0 < length beats
+  pub requested : (gathers_now g').epoch ≤ (gathers_now g).epoch + turns
+
+-- the crew is as it was
+pub record IsSame (crew crew' : Crew) : Type 0 where
+  pub mutators : crew'.mutators.items ≡ crew.mutators.items
+  pub journals : crew'.journals.items ≡ crew.journals.items
+  pub collector : crew'.collector ≡ crew.collector
+
+-- each mutator's worker carried out its commands, with the collector beside them
+pub record HasWorked (h : Started) (commands : List (List Cmd)) (crew crew' : Crew) : Type 0 where
+  pub done : HaveDone commands crew.mutators.items crew.journals.items crew'.mutators.items crew'.journals.items
+  pub collector : IsCollectorOf h crew'.collector
+  pub collected : HasCollected 10000000 crew.collector crew'.collector
+
+-- where all were there they worked, and else nothing was done
+abbrev pub HasEnded : Bool → Started → List (List Cmd) → Crew → Crew → Type 0
+HasEnded all_there h commands crew crew' = MatchBool all_there (HasWorked h commands crew crew') (IsSame crew crew')

@@ -1,0 +1,84 @@
+//! What workers tell one another.
+
+ghost use Rattle.std.specs.Prelude.{◌≡◌};
+
+use std::sync::atomic::{AtomicBool, AtomicU8, Ordering};
+use std::sync::{OnceLock, OnceToken, Wait};
+
+/// What the workers of one drive tell one another.
+#[derive(Drop)]
+pub struct Signals {
+    // Whether the workers begin. It is said once: that all of them are there, or that one is missing.
+    orders: OnceLock<bool>,
+    // How many mutators have had their last command answered.
+    done: AtomicU8,
+    // Whom the collector waits for; 0 is nobody.
+    awaited: AtomicU8,
+    // The collector's worker has ended.
+    over: AtomicBool,
+}
+
+impl Signals {
+    /// Nothing is told yet.
+    pub fn new() -> Signals {
+        Signals {
+            orders: OnceLock::new(),
+            done: AtomicU8::new(0),
+            awaited: AtomicU8::new(0),
+            over: AtomicBool::new(false),
+        }
+    }
+
+    /// Says whether all workers are there, unless it was said before. The token tells which was said.
+    pub fn order<R: Wait>(&self, rt: &R, all_there: bool) -> OnceToken<'_, bool>
+        ensures { result.of ≡ self.now.orders.id }
+    {
+        self.orders.init(rt, || all_there)
+    }
+
+    /// Waits until it is said whether the workers begin.
+    pub fn await_orders<R: Wait>(&self, rt: &R) -> OnceToken<'_, bool>
+        ensures { result.of ≡ self.now.orders.id }
+    {
+        let _ = self.orders.wait(rt);
+        self.orders.init(rt, || false)
+    }
+
+    /// Whether the workers begin, as a token tells.
+    pub fn begin<'a>(&'a self, orders: &OnceToken<'a, bool>) -> bool
+        requires { orders.now.of ≡ self.now.orders.id }
+        ensures { result ≡ orders.now.value }
+    {
+        *self.orders.value(orders)
+    }
+
+    /// One mutator more has had its last command answered.
+    pub fn tell_done(&self) {
+        self.done.fetch_add(1, Ordering::SeqCst);
+    }
+
+    /// Whether so many mutators have had their last commands answered.
+    pub fn are_done(&self, mutators: u8) -> bool {
+        self.done.load(Ordering::SeqCst) >= mutators
+    }
+
+    /// The collector waits for this mutator; 0 is nobody.
+    pub fn tell_awaited(&self, mutator: u8) {
+        self.awaited.store(mutator, Ordering::SeqCst);
+    }
+
+    /// Whether the collector waits for this mutator.
+    pub fn is_awaited(&self, mutator: u8) -> bool {
+        self.awaited.load(Ordering::SeqCst) == mutator
+    }
+
+    /// The collector's worker has ended.
+    pub fn tell_over(&self) {
+        self.over.store(true, Ordering::SeqCst);
+    }
+
+    /// Whether the collector's worker has ended.
+    pub fn is_over(&self) -> bool {
+        self.over.load(Ordering::SeqCst)
+    }
+}

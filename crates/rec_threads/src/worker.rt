@@ -1,0 +1,86 @@
+//! The worker of a mutator.
+
+ghost use Rattle.std.specs.Prelude.{◌<◌, ◌≤◌, ◌∷◌, [], length, All};
+ghost use Rattle.rec_mutator.specs.Private.{HasOperands};
+ghost use Rattle.rec_table.specs.Held.{has, IsMutatorOf};
+ghost use Rattle.rec_threads.specs.Done.{HasDone};
+
+use crate::gate::Gate;
+use crate::signals::Signals;
+use rec_model::Cmd;
+use rec_table::{Heap, Mutator};
+use rec_world::Journal;
+use std::sync::Wait;
+use std::thread::yield_now;
+
+// A mutator whose commands are done polls at most so many times.
+const MOST_POLLS: u32 = 65_536;
+
+/// A mutator with its journal, as its worker holds them.
+#[derive(Drop)]
+pub struct Worker {
+    pub mutator: Mutator,
+    pub journal: Journal,
+}
+
+impl Worker {
+    /// Carries out the commands, each behind the gate and a poll, and notes what is told.
+    pub fn carry_out<G: Gate>(&mut self, heap: &Heap, commands: &[Cmd], gate: &G)
+        requires own { IsMutatorOf heap.now self.old.mutator }
+        requires room { length commands.now ≤ self.old.journal.room }
+        requires valid { All (HasOperands (has self.old.mutator)) commands.now }
+        requires few { length commands.now ≤ 200000 }
+
+        ensures { HasDone commands.now self.old self.new }
+    {
+        let number = self.mutator.number();
+        for index in 0..commands.len() {
+            gate.pass(number, index as u32 + 1);
+            self.go_on(heap, commands[index]);
+        }
+    }
+
+    // Polls, carries out a command, and notes what is told.
+    fn go_on(&mut self, heap: &Heap, cmd: Cmd)
+        requires own { IsMutatorOf heap.now self.old.mutator }
+        requires room { 0 < self.old.journal.room }
+        requires valid { HasOperands (has self.old.mutator) cmd }
+
+        ensures { HasDone (cmd ∷ []) self.old self.new }
+    {
+        self.mutator.poll(heap);
+        let told = self.mutator.command(heap, cmd);
+        self.journal.note(cmd, told);
+    }
+
+    /// Polls where the collector waits for it, and lets others run, until the collector's worker has ended.
+    pub fn attend<R: Wait>(&mut self, rt: &R, heap: &Heap, signals: &Signals)
+        requires own { IsMutatorOf heap.now self.old.mutator }
+
+        ensures { HasDone [] self.old self.new }
+    {
+        let mut polls = 0;
+        for _ in rt.forever() {
+            if signals.is_over() || polls >= MOST_POLLS {
+                break;
+            }
+            if self.poll_if_awaited(heap, signals) {
+                polls += 1;
+            }
+            yield_now();
+        }
+    }
+
+    // Polls if the collector waits for it, and says whether it did.
+    fn poll_if_awaited(&mut self, heap: &Heap, signals: &Signals) -> bool
+        requires own { IsMutatorOf heap.now self.old.mutator }
+
+        ensures { HasDone [] self.old self.new }
+    {
+        if !signals.is_awaited(self.mutator.number()) {
+            return false;
+        }
+        self.mutator.poll(heap);
+        true
+    }
+}
