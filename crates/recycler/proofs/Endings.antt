@@ -1,5 +1,5 @@
 -- How a run ends, from what its parts tell.
-use Rattle.std.proofs.Common.{◌≡◌, ◌≢◌, ◌⊎◌, inl, inr, ℕ, ◌+◌, ◌<◌, ◌≤◌, Bool, List, [], ◌++◌, Option, None, Some, Result, Ok, Err, length, refl, sym, ap, subst, ◌∙◌, arith}
+use Rattle.std.proofs.Common.{◌≡◌, ◌≢◌, ◌⊎◌, inl, inr, ℕ, ◌+◌, ◌<◌, ◌≤◌, List, [], ◌++◌, Option, None, Some, Result, Ok, Err, length, refl, sym, ap, subst, ◌∙◌, arith}
 use Rattle.std.specs.Result.{IfOk}
 use Rattle.std.proofs.lemmas.Bool.{cases_lt}
 use Rattle.std.proofs.lemmas.List.{append-nil, length-append}
@@ -23,11 +23,11 @@ use Rattle.rec_script.specs.declared.error.ScriptError.{ScriptError}
 use Rattle.rec_script.specs.declared.error.ScriptError.TheVariants.{Bad}
 use Rattle.recycler.specs.CommandLine.{ReadsScript}
 use Rattle.recycler.specs.Ends.{Passage, Failed, Ends, passage}
-use Rattle.recycler.specs.Headline.{Are, HasRead, IsAnswer, Answers, PlaysTo, WroteAnswer, WroteFront, IsReadPast, ReadNoScript, run_text}
-use Rattle.rec_play.specs.Played.{IsPlayed, last_moment}
+use Rattle.recycler.specs.Headline.{Are, HasRead, IsAnswer, Answers, AnswersTo, HasRun, WroteAnswer, WroteFront, IsReadPast, ReadNoScript, run_text}
+use Rattle.rec_play.specs.Played.{last_moment}
 use Rattle.rec_script.proofs.Refusing.{refused_no_text}
 use Rattle.rec_script.proofs.Uniqueness.{refused_once}
-use Rattle.recycler.specs.declared.command_line.Play.{Play}
+use Rattle.recycler.specs.declared.command_line.How.{How}
 use Rattle.recycler.specs.declared.command_line.Request.{Request}
 use Rattle.recycler.specs.declared.command_line.Request.TheVariants as requests
 use Rattle.rec_script.specs.Script.{Contents, IsText, IsRefused}
@@ -83,22 +83,22 @@ no_script (Some rest) left bytes line kind passes end refused =
     ]
 
 -- what a source that was read to its end, or past a limit that a script keeps, gave
-read_out : (play : Play) (rest left : Option (List ℕ)) (bytes text : List ℕ) → Passes rest left bytes → (length bytes ≤ 16777216 → IsAtEnd rest left) → PlaysTo bytes play text
-    → HasRead (requests.Play play) rest left bytes
-read_out play rest left bytes text passes end answer = (all_read rest left bytes passes (end answer.short), end answer.short)
+read_out : (how : How) (rest left : Option (List ℕ)) (bytes text : List ℕ) → Passes rest left bytes → (length bytes ≤ 16777216 → IsAtEnd rest left) → AnswersTo bytes how text
+    → HasRead (requests.Answer how) rest left bytes
+read_out how rest left bytes text passes end answer = (all_read rest left bytes passes (end answer.short), end answer.short)
 
 -- a text was written whole
-pub wrote_answer : (play : Play) (rest left before after : Option (List ℕ)) (bytes text : List ℕ) → Passes rest left bytes → (length bytes ≤ 16777216 → IsAtEnd rest left)
-    → PlaysTo bytes play text → Appends before after text → WroteAnswer (requests.Play play) rest left before after
-wrote_answer play rest left before after bytes text passes end answer appends =
-    record { bytes = bytes; read = read_out play rest left bytes text passes end answer; text = text; answer = answer; written = appends }
+pub wrote_answer : (how : How) (rest left before after : Option (List ℕ)) (bytes text : List ℕ) → Passes rest left bytes → (length bytes ≤ 16777216 → IsAtEnd rest left)
+    → AnswersTo bytes how text → Appends before after text → WroteAnswer (requests.Answer how) rest left before after
+wrote_answer how rest left before after bytes text passes end answer appends =
+    record { bytes = bytes; read = read_out how rest left bytes text passes end answer; text = text; answer = answer; written = appends }
 
 -- a front of a text was written
-pub wrote_front : (play : Play) (rest left before after : Option (List ℕ)) (bytes text : List ℕ) → Passes rest left bytes → (length bytes ≤ 16777216 → IsAtEnd rest left)
-    → PlaysTo bytes play text → (front back : List ℕ) × (text ≡ front ++ back) × Appends before after front
-    → WroteFront (requests.Play play) rest left before after
-wrote_front play rest left before after bytes text passes end answer (front, back, cut, appends) =
-    record { bytes = bytes; read = read_out play rest left bytes text passes end answer; text = text; answer = answer; front = front; back = back; cut = cut; written = appends }
+pub wrote_front : (how : How) (rest left before after : Option (List ℕ)) (bytes text : List ℕ) → Passes rest left bytes → (length bytes ≤ 16777216 → IsAtEnd rest left)
+    → AnswersTo bytes how text → (front back : List ℕ) × (text ≡ front ++ back) × Appends before after front
+    → WroteFront (requests.Answer how) rest left before after
+wrote_front how rest left before after bytes text passes end answer (front, back, cut, appends) =
+    record { bytes = bytes; read = read_out how rest left bytes text passes end answer; text = text; answer = answer; front = front; back = back; cut = cut; written = appends }
 
 -- what was written stays written when it is passed on
 appends_kept : (before after later : Option (List ℕ)) (bytes : List ℕ) → Appends before after bytes → KeepsTold after later → Appends before later bytes
@@ -167,7 +167,7 @@ completes request (statuses.BadScript line kind) source sink ends bytes told tex
 -- what is answered is the text of a script
 answered_text : (request : Request) (rest left : Option (List ℕ)) (bytes text told : List ℕ) → ReadsScript request → HasRead request rest left bytes → IsAnswer request bytes text
     → rest ≡ Some told → IsText told
-answered_text (requests.Play play) rest left bytes text told reads read answer is = subst IsText (sym (read.0 told is)) (answer.script, answer.short, answer.spelled)
+answered_text (requests.Answer how) rest left bytes text told reads read answer is = subst IsText (sym (read.0 told is)) (answer.script, answer.short, answer.spelled)
 answered_text (requests.Make make) rest left bytes text told reads read answer is = absurd reads
 
 -- a text that is told and is no script's is refused with its line and kind, unless a read fails or memory runs out
@@ -192,17 +192,17 @@ pub if_ok : {T E : Type 0} (r : Result T E) (P Q : T → Type 0) → ((x : T) �
 if_ok (Ok x) P Q step held = step x held
 if_ok (Err e) P Q step held = held
 
--- what was played, settled and listed is the answer
-pub answers_script : (script : Contents) (play : Play) (journals : List (List Line)) (events : List Event) (end world : Core) (rows : List Row) (text : List ℕ)
-    → IsPlayed script play.seed play.turns journals events end → IsSettling end world → IsSettled world → StandsFor (last_moment script events).heap (sight world)
+-- what was run, settled and listed is the answer
+pub answers_script : (script : Contents) (how : How) (journals : List (List Line)) (events : List Event) (end world : Core) (rows : List Row) (text : List ℕ)
+    → HasRun script how journals events end → IsSettling end world → IsSettled world → StandsFor (last_moment script events).heap (sight world)
     → length world.headers ≡ script.slots → ListsSlots (sight world) rows
-    → text ≡ run_text play.summary journals (actors events) rows (length (last_moment script events).heap.objects) world → Answers script play text
-answers_script script play journals events end world rows text played settles settled stands room listed written =
+    → text ≡ run_text how journals (actors events) rows (length (last_moment script events).heap.objects) world → Answers script how text
+answers_script script how journals events end world rows text has_run settles settled stands room listed written =
     record {
       journals = journals;
       events = events;
       end = end;
-      played = played;
+      has_run = has_run;
       rows = rows;
       settled = record {
         world = world;

@@ -1,3 +1,4 @@
+pub mod Driven
 pub mod Endings
 pub mod Fronts
 pub mod Opening

@@ -3,16 +3,22 @@ use Rattle.std.proofs.Common.{◌≡◌, ℕ, codes, List, [], ◌++◌, Option,
 use Rattle.clap.specs.Words.{Row as Found, subcommand_of}
 use Rattle.rec_io.specs.Sink.{Appends}
 use Rattle.rec_script.specs.Made.{made_text}
-use Rattle.recycler.specs.CommandLine.{recycler, AsksBy, Asks, AsksToMake, AsksToRead, ReadsScript}
+use Rattle.recycler.specs.CommandLine.{recycler, AsksBy, Asks, AsksToRead, ReadsScript}
 use Rattle.recycler.specs.Headline.{WroteAnswer, WroteFront}
+use Rattle.recycler.specs.declared.command_line.How.TheVariants as hows
 use Rattle.recycler.specs.declared.command_line.Make.{Make}
 use Rattle.recycler.specs.declared.command_line.Request.{Request}
 use Rattle.recycler.specs.declared.command_line.Request.TheVariants as requests
 
 -- two subcommands
-apart : (name : List ℕ) → name ≡ codes "play" → name ≡ codes "make" → ⊥
-apart name play make =
+play_or_make : (name : List ℕ) → name ≡ codes "play" → name ≡ codes "make" → ⊥
+play_or_make name play make =
     let letters : 112 ≡ 109 = ap (λ (text : List ℕ). get_or text 0 0) (sym play ∙ make) in
+    omega (arith, letters)
+
+threads_or_make : (name : List ℕ) → name ≡ codes "threads" → name ≡ codes "make" → ⊥
+threads_or_make name threads make =
+    let letters : 116 ≡ 109 = ap (λ (text : List ℕ). get_or text 0 0) (sym threads ∙ make) in
     omega (arith, letters)
 
 -- words that ask for a script to be read ask for nothing else
@@ -20,8 +26,9 @@ pub asked_to_read : (words : List (List ℕ)) (request : Request) → Asks words
 asked_to_read words request asks (other, others, reads) = go (subcommand_of recycler words) request other asks.asked others.asked reads
   where
     go : (told : Option (List ℕ × List Found)) (request other : Request) → AsksBy told request → AsksBy told other → ReadsScript other → ReadsScript request
-    go (Some (name, options)) (requests.Play p) other one two reads = tt
-    go (Some (name, options)) (requests.Make m) (requests.Play p) one two reads = absurd (apart name two.0 one.0)
+    go (Some (name, options)) (requests.Answer how) other one two reads = tt
+    go (Some (name, options)) (requests.Make m) (requests.Answer (hows.Play p)) one two reads = absurd (play_or_make name two.0 one.0)
+    go (Some (name, options)) (requests.Make m) (requests.Answer hows.Threads) one two reads = absurd (threads_or_make name two one.0)
     go (Some (name, options)) (requests.Make m) (requests.Make n) one two reads = absurd reads
     go None request other one two reads = absurd one
 

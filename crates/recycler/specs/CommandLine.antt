@@ -5,6 +5,8 @@ use Rattle.std.specs.Str.Parse.{IsNumeral, without_leading_plus, digits_value}
 use Rattle.clap.specs.Words.{App, Row, Rule, Shape, Text, fault_of, first_of, new_rule, subcommand_of}
 use Rattle.clap.specs.Simple.{new_shape}
 use Rattle.clap.specs.declared.builder.action.ArgAction.TheVariants.{SetTrue}
+use Rattle.recycler.specs.declared.command_line.How.{How}
+use Rattle.recycler.specs.declared.command_line.How.TheVariants as hows
 use Rattle.recycler.specs.declared.command_line.Make.{Make}
 use Rattle.recycler.specs.declared.command_line.Play.{Play}
 use Rattle.recycler.specs.declared.command_line.Request.{Request}
@@ -21,6 +23,10 @@ flag name = record (option name) { action = Some SetTrue }
 -- the subcommand `play` and its options
 abbrev pub play : Shape
 play = record (new_shape (codes "play")) { rules = option (codes "seed") ∷ option (codes "turns") ∷ flag (codes "summary") ∷ [] }
+
+-- the subcommand `threads`, which has no options
+abbrev pub threads : Shape
+threads = new_shape (codes "threads")
 
 -- the subcommand `make` and its options
 abbrev pub make : Shape
@@ -42,7 +48,7 @@ recycler =
             disable_version_flag = true;
             subcommand_required = true;
           };
-      subs = play ∷ make ∷ [];
+      subs = play ∷ threads ∷ make ∷ [];
     }
 
 -- An option says a number up to this most: a plus or none, and then decimal digits. Where it isn't given it says its default.
@@ -71,7 +77,8 @@ pub record AsksMake (options : List Row) (asked : Make) : Type 0 where
 -- what a subcommand with its options asks for, if there is one
 abbrev pub AsksBy : Option (Text × List Row) → Request → Type 0
 AsksBy None request = ⊥
-AsksBy (Some (name, options)) (requests.Play asked) = (name ≡ codes "play") × AsksPlay options asked
+AsksBy (Some (name, options)) (requests.Answer (hows.Play asked)) = (name ≡ codes "play") × AsksPlay options asked
+AsksBy (Some (name, options)) (requests.Answer hows.Threads) = name ≡ codes "threads"
 AsksBy (Some (name, options)) (requests.Make asked) = (name ≡ codes "make") × AsksMake options asked
 
 -- The command takes the words, the first of which is the program's name, and they ask for this.
@@ -79,14 +86,19 @@ pub record Asks (words : List Text) (request : Request) : Type 0 where
   pub taken : fault_of recycler words ≡ []
   pub asked : AsksBy (subcommand_of recycler words) request
 
+-- the turns of a played run are in their range
+abbrev pub HasFewTurns : How → Type 0
+HasFewTurns (hows.Play asked) = asked.turns ≤ 10000000
+HasFewTurns hows.Threads = ⊤
+
 -- each number of a request is in its range
 abbrev pub IsInRange : Request → Type 0
-IsInRange (requests.Play asked) = asked.turns ≤ 10000000
+IsInRange (requests.Answer how) = HasFewTurns how
 IsInRange (requests.Make asked) = (1 ≤ asked.mutators) × (asked.mutators ≤ 8) × (asked.commands ≤ 200000)
 
 -- a request that a script is read for
 abbrev pub ReadsScript : Request → Type 0
-ReadsScript (requests.Play asked) = ⊤
+ReadsScript (requests.Answer how) = ⊤
 ReadsScript (requests.Make asked) = ⊥
 
 -- The command takes the words, and each number is in its range.

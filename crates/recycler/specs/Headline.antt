@@ -1,19 +1,23 @@
 -- What the program's answer to a request is.
-use Rattle.std.specs.Prelude.{◌≡◌, ◌⊎◌, ℕ, ◌<◌, ◌≤◌, Bool, true, false, Option, Some, List, [], ◌++◌, length}
+use Rattle.std.specs.Prelude.{◌≡◌, ◌⊎◌, ℕ, ◌<◌, ◌≤◌, Bool, true, false, Option, None, Some, List, [], ◌++◌, length, map}
 use Rattle.std.specs.Option.{ForSome}
 use Rattle.rec_model.specs.Heap.{Heap}
-use Rattle.rec_model.specs.LegalOrder.{Line, Event, actors}
+use Rattle.rec_model.specs.LegalOrder.{Line, Event, actors, IsLegalOrder, NoLogFull}
 use Rattle.rec_model.specs.Listing.{Row, IsListing}
-use Rattle.rec_model.specs.Sight.{StandsFor}
-use Rattle.rec_core.specs.Core.{Core, sight}
+use Rattle.rec_model.specs.Sight.{StandsBy, StandsFor}
+use Rattle.rec_core.specs.Core.{Core, opened, sight}
+use Rattle.rec_core.specs.Moves.{Move, AllFit, after_moves}
 use Rattle.rec_core.specs.Settled.{IsSettled}
 use Rattle.rec_settle.specs.Collecting.{IsSettling}
-use Rattle.rec_play.specs.Played.{IsPlayed, last_moment}
+use Rattle.rec_order.specs.Events.{events_of}
+use Rattle.rec_order.specs.Naming.{first_naming, named_after_all}
+use Rattle.rec_play.specs.Played.{IsPlayed, config_of, last_moment, limits_of, opening_moment}
 use Rattle.rec_io.specs.Sink.{Appends}
 use Rattle.rec_io.specs.Source.{BeginsWith}
 use Rattle.rec_script.specs.Lines.{lines}
 use Rattle.rec_script.specs.Script.{Contents, Spells, IsRefused}
-use Rattle.recycler.specs.declared.command_line.Play.{Play}
+use Rattle.recycler.specs.declared.command_line.How.{How}
+use Rattle.recycler.specs.declared.command_line.How.TheVariants as hows
 use Rattle.recycler.specs.declared.command_line.Request.{Request}
 use Rattle.recycler.specs.declared.command_line.Request.TheVariants as requests
 use Rattle.rec_script.specs.declared.error.Kind.{Kind}
@@ -32,35 +36,59 @@ pub record IsSettledAs (end : Core) (heap : Heap) (slots : ℕ) (rows : List Row
   pub room : length world.headers ≡ slots
   pub listing : IsListing heap rows
 
--- what is printed of a run in this order whose heap is settled: the whole text, or the summary, with the numbers of the settled heap
-abbrev pub run_text : (summary : Bool) → List (List Line) → (order : List ℕ) → List Row → (made : ℕ) → Core → List ℕ
-run_text false journals order rows made world = play_text journals (Some order) rows made
-run_text true journals order rows made world = summary_text journals (length rows) made world.collector.collections world.collector.sets
+-- The commands of a script were carried out on threads. The journals hold them with what was told, and no log was full. One legal order
+-- from the opening heap explains them. It is the order of one run of all steps of the mutators and the collector, which leads from the
+-- opening of the script's heap to this world: an answer stands in it where the step was made that decided it.
+pub record IsDriven (script : Contents) (journals : List (List Line)) (events : List Event) (world : Core) : Type 0 where
+  pub commands : map (map (λ line. line.0)) journals ≡ script.commands
+  pub legal : IsLegalOrder (limits_of script) (opening_moment script) journals events
+  pub run : List Move
+  pub fit : AllFit (opened (config_of script)) run
+  pub ends : after_moves (opened (config_of script)) run ≡ world
+  pub tells : events ≡ events_of first_naming (opened (config_of script)) run
+  -- which object each slot holds at the end: by this the heap of the order stands for the world
+  pub stands : StandsBy (last_moment script events).heap (sight world) (named_after_all first_naming (opened (config_of script)) run).number
+  pub no_log_full : NoLogFull journals
 
--- The text answers the script: each printed answer is the one that the heap that never frees gives to the script's
--- commands in one order that keeps each mutator's own, the one that the playing rule draws; an allocation is answered full
--- only where no slot was free; and after settling just the objects that registers reach hold slots, listed with true counts.
--- A summary counts the same answers and objects.
-pub record Answers (script : Contents) (play : Play) (text : List ℕ) : Type 0 where
+-- how a script was run
+abbrev pub HasRun : Contents → How → List (List Line) → List Event → Core → Type 0
+HasRun script (hows.Play play) journals events world = IsPlayed script play.seed play.turns journals events world
+HasRun script hows.Threads journals events world = IsDriven script journals events world
+
+-- what is printed of a played run whose heap is settled: the whole text, or the summary, with the numbers of the settled heap
+abbrev pub played_text : (summary : Bool) → List (List Line) → (order : List ℕ) → List Row → (made : ℕ) → Core → List ℕ
+played_text false journals order rows made world = play_text journals (Some order) rows made
+played_text true journals order rows made world = summary_text journals (length rows) made world.collector.collections world.collector.sets
+
+-- what is printed of a run: a played one's answers in their order, and those of threads mutator by mutator
+abbrev pub run_text : How → List (List Line) → (order : List ℕ) → List Row → (made : ℕ) → Core → List ℕ
+run_text (hows.Play play) journals order rows made world = played_text play.summary journals order rows made world
+run_text hows.Threads journals order rows made world = play_text journals None rows made
+
+-- The text answers the script: each printed answer is the one that the heap that never frees gives to the script's commands in one order
+-- that keeps each mutator's own; an allocation is answered full only where no slot was free; and after settling just the objects that
+-- registers reach hold slots, listed with true counts. The order of a played run is the one that the playing rule draws. A summary
+-- counts the same answers and objects.
+pub record Answers (script : Contents) (how : How) (text : List ℕ) : Type 0 where
   pub journals : List (List Line)
   pub events : List Event
   -- the world after the last turn
   pub end : Core
-  pub played : IsPlayed script play.seed play.turns journals events end
+  pub has_run : HasRun script how journals events end
   pub rows : List Row
   pub settled : IsSettledAs end (last_moment script events).heap script.slots rows
-  pub written : text ≡ run_text play.summary journals (actors events) rows (length (last_moment script events).heap.objects) settled.world
+  pub written : text ≡ run_text how journals (actors events) rows (length (last_moment script events).heap.objects) settled.world
 
--- The bytes are the text of a script within the limits, and the answer is the script's, in the order drawn from the seed.
-pub record PlaysTo (bytes : List ℕ) (play : Play) (text : List ℕ) : Type 0 where
+-- The bytes are the text of a script within the limits, and the answer is the script's, run so.
+pub record AnswersTo (bytes : List ℕ) (how : How) (text : List ℕ) : Type 0 where
   pub script : Contents
   pub short : length bytes ≤ 16777216
   pub spelled : Spells (lines bytes) script
-  pub answered : Answers script play text
+  pub answered : Answers script how text
 
 -- the answer of the bytes to a request; a made script is that of its seed, whatever the bytes
 abbrev pub IsAnswer : Request → (bytes text : List ℕ) → Type 0
-IsAnswer (requests.Play asked) bytes text = PlaysTo bytes asked text
+IsAnswer (requests.Answer how) bytes text = AnswersTo bytes how text
 IsAnswer (requests.Make asked) bytes text = text ≡ made_text asked.seed asked.mutators asked.commands
 
 -- the bytes are those told, where any are told
@@ -79,7 +107,7 @@ IsReadOut before after = ForSome before (λ rest. (after ≡ Some []) ⊎ IsRead
 
 -- what a request reads of a source: all its bytes, and nothing for a made script
 abbrev pub HasRead : Request → (rest left : Option (List ℕ)) → (bytes : List ℕ) → Type 0
-HasRead (requests.Play asked) rest left bytes = Are rest bytes × IsAtEnd rest left
+HasRead (requests.Answer how) rest left bytes = Are rest bytes × IsAtEnd rest left
 HasRead (requests.Make asked) rest left bytes = (left ≡ rest) × (bytes ≡ [])
 
 -- The bytes that the request reads were read, and the whole answer was written.

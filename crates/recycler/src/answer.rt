@@ -1,70 +1,42 @@
-//! The answer to a script: its commands are played on a heap of its own, which is then settled and listed.
-ghost use Rattle.std.specs.Prelude.{◌≡◌, ◌≤◌, [], List, map, length, IfOk};
-ghost use Rattle.std.specs.List.{flat_map, sum};
-ghost use Rattle.rec_model.specs.Listing.{Row, ListsSlots};
-ghost use Rattle.rec_model.specs.LegalOrder.{NoLogFull};
-ghost use Rattle.rec_report.specs.Report.{AreFor};
-ghost use Rattle.rec_report.specs.Text.{IsOrderOf};
-ghost use Rattle.rec_core.specs.Settled.{IsSettled};
-ghost use Rattle.rec_world.specs.World.{opened, sight};
-ghost use Rattle.rec_play.specs.Played.{AreReady, config_of, lengths_of};
-ghost use Rattle.recycler.specs.Headline.{Answers, run_text};
+//! The answer to a script: its commands are carried out on a heap of its own, which is then settled and listed.
+ghost use Rattle.std.specs.Prelude.{◌≡◌, IfOk};
+ghost use Rattle.std.specs.List.{flat_map};
+ghost use Rattle.rec_world.specs.World.{opened};
+ghost use Rattle.rec_play.specs.Played.{config_of};
+ghost use Rattle.recycler.specs.CommandLine.{HasFewTurns};
+ghost use Rattle.recycler.specs.Headline.{Answers};
 
-use crate::command_line::Play;
-use rec_play::{config_for, journals_for, order_for, play};
-use rec_report::{Text, summary as summary_of, text as whole_text};
+use crate::command_line::How;
+use crate::driving::drive_script;
+use crate::playing::play_script;
+use rec_play::config_for;
+use rec_report::Text;
 use rec_script::Script;
-use rec_settle::settle;
-use rec_world::{Journal, OpenError, Order, World};
+use rec_threads::Gate;
+use rec_world::{OpenError, World};
 use std::alloc::{AllocError as NoMemory, Global};
+use std::sync::Wait;
+use std::thread::Threads;
 
-/// The answer to a script, in the order that the playing rule draws from the seed with at most so many turns: the whole
-/// text, or a summary.
-pub fn answer_script(alloc: Global, script: &Script, how: Play) -> Result<Text, NoMemory>
-    requires { how.turns ≤ 10000000 }
-    ensures { IfOk result (λ text. Answers script.now how (flat_map (λ line. line) text)) }
-{
-    let mut world = open_world(alloc, script)?;
-    let mut journals = journals_for(alloc, script)?;
-    let journals = journals.as_mut_slice();
-    let mut order = order_for(alloc, script)?;
-    play(
-        script, how.seed, how.turns, &mut world, journals, &mut order,
-    );
-    // Each turn requests one epoch more at most, so there are enough left to settle.
-    let Ok(_) = settle(&mut world) else {
-        unreachable!();
-    };
-    write_text(alloc, script, how.summary, journals, &order, &world)
-}
-
-// The whole text of a run in this order whose heap is settled, or its summary.
-fn write_text(
+/// The answer to a script that is run so: the whole text, or a summary.
+pub fn answer_script<R: Threads + Wait + Sync, G: Gate>(
+    rt: &R,
     alloc: Global,
     script: &Script,
-    summary: bool,
-    journals: &[Journal],
-    order: &Order,
-    world: &World,
+    how: How,
+    gate: &G,
 ) -> Result<Text, NoMemory>
-    requires script { AreFor script.now world.now }
-    requires journals { length journals.now ≡ world.now.config.mutators }
-    requires order { IsOrderOf (map (λ journal. journal.lines) journals.now) order.now.list }
-    requires settled { IsSettled world.now }
-    requires room { NoLogFull (map (λ journal. journal.lines) journals.now) }
-
-    ensures { IfOk result (λ text. (rows : List Row) × ListsSlots (sight world.now) rows
-        × (flat_map (λ line. line) text ≡ run_text summary (map (λ journal. journal.lines) journals.now) order.now.list rows world.now.made world.now)) }
+    requires { HasFewTurns how }
+    ensures { IfOk result (λ text. Answers script.now how (flat_map (λ line. line) text)) }
 {
-    if summary {
-        summary_of(alloc, script, journals, Some(order), world)
-    } else {
-        whole_text(alloc, script, journals, Some(order), world)
+    match how {
+        How::Play(play) => play_script(alloc, script, play),
+        How::Threads => drive_script(rt, alloc, script, gate),
     }
 }
 
-// The heap of a script.
-fn open_world(alloc: Global, script: &Script) -> Result<World, NoMemory>
+/// The heap of a script.
+pub fn open_world(alloc: Global, script: &Script) -> Result<World, NoMemory>
     ensures { IfOk result (λ world. world ≡ opened (config_of script.now)) }
 {
     match World::open(alloc, config_for(script)) {

@@ -31,13 +31,22 @@ const MOST_COMMANDS: u64 = rec_script::MOST_COMMANDS as u64;
 /// What a command line asks for.
 #[derive(Clone, Copy, Debug, PartialEq, Eq)]
 pub enum Request {
-    /// Run the script that is read.
-    Play(Play),
+    /// Answer the script that is read, which is run so.
+    Answer(How),
     /// Write a script.
     Make(Make),
 }
 
-/// How a script is run, and what is written of it.
+/// How a script is run.
+#[derive(Clone, Copy, Debug, PartialEq, Eq)]
+pub enum How {
+    /// One thread carries everything out, in an order that is drawn.
+    Play(Play),
+    /// Each mutator and the collector have a thread of their own.
+    Threads,
+}
+
+/// How a script is played, and what is written of it.
 #[derive(Clone, Copy, Debug, PartialEq, Eq)]
 pub struct Play {
     /// What the order of the commands is drawn from.
@@ -105,10 +114,11 @@ fn command<'a>(alloc: Global) -> Result<Command<'a>, NoMemory>
         .disable_version_flag(true)
         .subcommand_required(true)
         .subcommand(play)?
+        .subcommand(Command::new(alloc, "threads"))?
         .subcommand(make)
 }
 
-// The subcommand that runs a script.
+// The subcommand that plays a script.
 fn play_command<'a>(alloc: Global) -> Result<Command<'a>, NoMemory>
     ensures { IfOk result (λ command. app_of command ≡ app_with play_shape) }
 {
@@ -142,7 +152,8 @@ fn asked(matches: &ArgMatches) -> Option<Request>
     ensures none { IfNone result ((request : Asking) → ¬ AsksBy (subcommand_rows_of matches.now) request) }
 {
     match matches.subcommand() {
-        Some(("play", options)) => play_options(options).map(Request::Play),
+        Some(("play", options)) => play_options(options).map(How::Play).map(Request::Answer),
+        Some(("threads", _)) => Some(Request::Answer(How::Threads)),
         Some(("make", options)) => make_options(options).map(Request::Make),
         _ => None,
     }

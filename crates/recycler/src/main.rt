@@ -11,8 +11,9 @@
 
 mod answer;
 mod command_line;
+mod driving;
 mod finish;
-mod gate;
+mod playing;
 mod reading;
 mod run;
 mod status;
@@ -20,8 +21,8 @@ mod status;
 mod summary_tests;
 mod writing;
 
-use gate::OpenGate;
 use rec_io::{StdSink, StdSource};
+use rec_threads::OpenGate;
 use run::run;
 use status::Status;
 use std::env;

@@ -5,34 +5,34 @@ ghost use Rattle.rec_io.specs.Faults.{Rose};
 ghost use Rattle.rec_io.specs.Told.{KeepsTold};
 ghost use Rattle.rec_script.specs.Script.{IsText, IsRefused};
 ghost use Rattle.rec_script.specs.declared.error.Kind.{Kind};
-ghost use Rattle.recycler.specs.CommandLine.{Asks, AsksToMake, AsksToRead, IsCommandLine, IsInRange, ReadsScript};
+ghost use Rattle.recycler.specs.CommandLine.{Asks, AsksToMake, AsksToRead, HasFewTurns, IsCommandLine, IsInRange, ReadsScript};
 ghost use Rattle.recycler.specs.Ends.{Ends, passage, untouched};
-ghost use Rattle.recycler.specs.Headline.{PlaysTo, WroteAnswer, WroteFront, ReadNoScript};
+ghost use Rattle.recycler.specs.Headline.{AnswersTo, WroteAnswer, WroteFront, ReadNoScript};
 ghost use Rattle.recycler.specs.Status.{may_write};
 ghost use Rattle.recycler.specs.declared.command_line.Request.{Request as Asked};
 
 use crate::answer::answer_script;
-use crate::command_line::{Make, Play, Refusal, Request, read_words};
+use crate::command_line::{How, Make, Refusal, Request, read_words};
 use crate::finish::finish;
-use crate::gate::Gate;
 use crate::reading::{ReadStop, read_all};
 use crate::status::Status;
 use crate::writing::{write_lines, write_text};
 use rec_io::{Flush, Sink, Source};
 use rec_report::Text;
 use rec_script::{ScriptError, read};
+use rec_threads::Gate;
 use std::alloc::Global;
 use std::sync::Wait;
 use std::thread::Threads;
 
 /// Does what a command line asks, and tells how it ended. Everything is computed before the first byte is written.
 pub fn run<R: Threads + Wait + Sync, S: Source, K: Flush, G: Gate>(
-    _rt: &R,
+    rt: &R,
     alloc: Global,
     words: &[&str],
     source: &mut S,
     sink: &mut K,
-    _gate: &G,
+    gate: &G,
 ) -> Status
     // The headline: the script was read to its end, and its whole answer to what the words ask was written.
     ensures done { result ≡ Status.Done → (request : Asked) × Asks (map (λ word. word.now) words.now) request
@@ -73,7 +73,7 @@ pub fn run<R: Threads + Wait + Sync, S: Source, K: Flush, G: Gate>(
 {
     match read_words(alloc, words) {
         Ok(request) => {
-            let status = carry_out(alloc, request, source, sink);
+            let status = carry_out(rt, alloc, request, source, sink, gate);
             finish(status, sink)
         }
         Err(Refusal::Usage) => Status::Usage,
@@ -82,11 +82,13 @@ pub fn run<R: Threads + Wait + Sync, S: Source, K: Flush, G: Gate>(
 }
 
 // Does what a request asks.
-fn carry_out<S: Source, K: Sink>(
+fn carry_out<R: Threads + Wait + Sync, S: Source, K: Sink, G: Gate>(
+    rt: &R,
     alloc: Global,
     request: Request,
     source: &mut S,
     sink: &mut K,
+    gate: &G,
 ) -> Status
     requires { IsInRange request }
     ensures ends { Ends request result (passage S.rest S.faults source.old source.new) (passage K.written K.faults sink.old sink.new) }
@@ -95,20 +97,22 @@ fn carry_out<S: Source, K: Sink>(
     ensures never_falls { K.faults sink.old ≤ K.faults sink.new }
 {
     match request {
-        Request::Play(play) => answer_source(alloc, play, source, sink),
+        Request::Answer(how) => answer_source(rt, alloc, how, source, sink, gate),
         Request::Make(make) => write_made(alloc, make, sink),
     }
 }
 
-// Reads a script to its end, plays it, and writes its answer.
-fn answer_source<S: Source, K: Sink>(
+// Reads a script to its end, runs it, and writes its answer.
+fn answer_source<R: Threads + Wait + Sync, S: Source, K: Sink, G: Gate>(
+    rt: &R,
     alloc: Global,
-    play: Play,
+    how: How,
     source: &mut S,
     sink: &mut K,
+    gate: &G,
 ) -> Status
-    requires { play.turns ≤ 10000000 }
-    ensures ends { Ends (Request.Play play) result (passage S.rest S.faults source.old source.new) (passage K.written K.faults sink.old sink.new) }
+    requires { HasFewTurns how }
+    ensures ends { Ends (Request.Answer how) result (passage S.rest S.faults source.old source.new) (passage K.written K.faults sink.old sink.new) }
     ensures unwritten { may_write result ≡ false → sink.new ≡ sink.old }
     ensures never_falls { K.faults sink.old ≤ K.faults sink.new }
 {
@@ -117,7 +121,7 @@ fn answer_source<S: Source, K: Sink>(
         Err(ReadStop::Fault) => return Status::ReadFault,
         Err(ReadStop::NoMemory) => return Status::NoMemory,
     };
-    let text = match answer(alloc, play, bytes) {
+    let text = match answer(rt, alloc, how, bytes, gate) {
         Ok(text) => text,
         Err(ScriptError::Bad { line, kind }) => return Status::BadScript { line, kind },
         Err(ScriptError::NoMemory) => return Status::NoMemory,
@@ -129,15 +133,21 @@ fn answer_source<S: Source, K: Sink>(
 }
 
 // The answer of the script in the bytes.
-fn answer(alloc: Global, play: Play, bytes: Vec<u8>) -> Result<Text, ScriptError>
-    requires { play.turns ≤ 10000000 }
-    ensures answer { IfOk result (λ text. PlaysTo bytes.items play (flat_map (λ line. line) text)) }
+fn answer<R: Threads + Wait + Sync, G: Gate>(
+    rt: &R,
+    alloc: Global,
+    how: How,
+    bytes: Vec<u8>,
+    gate: &G,
+) -> Result<Text, ScriptError>
+    requires { HasFewTurns how }
+    ensures answer { IfOk result (λ text. AnswersTo bytes.items how (flat_map (λ line. line) text)) }
     ensures refused { (line : ℕ) (kind : Kind) → result ≡ Err (ScriptError.Bad line kind) → IsRefused bytes.items line kind }
 {
     let script = read(alloc, &bytes)?;
     // The bytes are needed no more: their room is given back before the journals take theirs.
     drop(bytes);
-    answer_script(alloc, &script, play).map_err(|_| ScriptError::NoMemory)
+    answer_script(rt, alloc, &script, how, gate).map_err(|_| ScriptError::NoMemory)
 }
 
 // Writes a made script. Whatever source there is, nothing is read from it.
@@ -159,3 +169,5 @@ fn write_made<K: Sink>(alloc: Global, make: Make, sink: &mut K) -> Status
 
 #[cfg(test)]
 pub(crate) mod tests;
+#[cfg(test)]
+mod thread_tests;

@@ -1,7 +1,7 @@
 use super::*;
-use crate::gate::OpenGate;
 use rec_io::{BytesSource, Given, RoomSink};
 use rec_script::Kind;
+use rec_threads::OpenGate;
 use std::process::Abort;
 use std::test::Fail;
 
@@ -143,13 +143,15 @@ const NO_HEADER: Status = Status::BadScript {
 };
 
 // Words that are no command line.
-const NO_LINES: [&[&str]; 16] = [
+const NO_LINES: [&[&str]; 18] = [
     &[],
     &["recycler"],
     &["recycler", "Play"],
     &["recycler", "make", "--summary"],
     &["recycler", "help"],
     &["recycler", "play", "--help"],
+    &["recycler", "threads", "--seed", "7"],
+    &["recycler", "threads", "play"],
     &["recycler", "play", "--turns", "10000001"],
     &["recycler", "play", "--seed", "7", "--seed=7"],
     &["recycler", "play", "--summary=true"],
@@ -170,6 +172,27 @@ pub(crate) struct Ran {
     pub(crate) unread: bool,
 }
 
+// Runs the program once behind this gate, with room for so many bytes.
+pub(crate) fn run_behind<R: AllocGlobal + Threads + Wait + Sync, G: Gate>(
+    rt: &R,
+    words: &[&str],
+    script: &[u8],
+    fails: [&[u64]; 2],
+    room: usize,
+    gate: &G,
+) -> Result<Ran, Fail> {
+    let [reads, writes] = fails;
+    let mut source = BytesSource::open(rt.alloc(), script, reads)?;
+    let mut sink = RoomSink::open(rt.alloc(), room, writes)?;
+    let status = run(rt, rt.alloc(), words, &mut source, &mut sink, gate);
+    let unread = source.read(&mut [0]) != Given::End;
+    Ok(Ran {
+        status,
+        sink,
+        unread,
+    })
+}
+
 // Runs the program once, with room for so many bytes.
 pub(crate) fn run_once<R: AllocGlobal + Threads + Wait + Sync>(
     rt: &R,
@@ -178,16 +201,7 @@ pub(crate) fn run_once<R: AllocGlobal + Threads + Wait + Sync>(
     fails: [&[u64]; 2],
     room: usize,
 ) -> Result<Ran, Fail> {
-    let [reads, writes] = fails;
-    let mut source = BytesSource::open(rt.alloc(), script, reads)?;
-    let mut sink = RoomSink::open(rt.alloc(), room, writes)?;
-    let status = run(rt, rt.alloc(), words, &mut source, &mut sink, &OpenGate);
-    let unread = source.read(&mut [0]) != Given::End;
-    Ok(Ran {
-        status,
-        sink,
-        unread,
-    })
+    run_behind(rt, words, script, fails, room, &OpenGate)
 }
 
 fn comes_of<R: Abort + AllocGlobal + Threads + Wait + Sync>(
@@ -199,7 +213,7 @@ fn comes_of<R: Abort + AllocGlobal + Threads + Wait + Sync>(
         assert_eq!(rt; ran.status, *status, "at {words:?}, {script}");
         assert_eq!(rt; ran.sink.bytes(), text.as_bytes(), "at {words:?}, {script}");
         // Words that ask for no script to be read leave the source as it was.
-        let reads = words.get(1) == Some(&"play") && *status != Status::Usage;
+        let reads = words.get(1) != Some(&"make") && *status != Status::Usage;
         assert_eq!(rt;
             ran.unread,
             !reads && !script.is_empty(),
@@ -214,6 +228,17 @@ fn scripts_are_answered(rt: HostRuntime) -> Result<(), Fail> {
     let play: [&str; 2] = ["recycler", "play"];
     for (script, text) in ROWS {
         comes_of(&rt, &[(&play, script, [&[], &[]], Status::Done, text)])?;
+    }
+    Ok(())
+}
+
+#[test]
+fn threads_answer_one_mutator_as_play_does(rt: HostRuntime) -> Result<(), Fail> {
+    let threads: [&str; 2] = ["recycler", "threads"];
+    for (script, text) in &ROWS[..6] {
+        for _ in 0..100 {
+            comes_of(&rt, &[(&threads, script, [&[], &[]], Status::Done, text)])?;
+        }
     }
     Ok(())
 }

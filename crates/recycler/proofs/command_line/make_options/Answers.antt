@@ -1,4 +1,4 @@
-use Rattle.std.proofs.Common.{◌≡◌, ◌≢◌, ◌≤◌, refl, codes, arith}
+use Rattle.std.proofs.Common.{◌≡◌, ◌≢◌, ◌≤◌, codes, arith}
 use Rattle.clap.specs.Words.{found_of}
 use Rattle.recycler.proofs.Options.{by_row, by_text, says_once}
 use Rattle.recycler.proofs.command_line.make_options.Goals as goal

@@ -12,7 +12,7 @@ returns-in-Err-Bad-clause-ends g c = (
 
 pub returns-in-Ok-write_lines-clause-ends : goal.returns-in-Ok-write_lines-clause-ends
 returns-in-Ok-write_lines-clause-ends g c =
-    wrote_answer c.args.play (g.S.Source.rest c.args.source.now) (g.S.Source.rest c.read_all.new.source) (g.K.Sink.written c.args.sink.now) (g.K.Sink.written c.write_lines.new.sink)
+    wrote_answer c.args.how (g.S.Source.rest c.args.source.now) (g.S.Source.rest c.read_all.new.source) (g.K.Sink.written c.args.sink.now) (g.K.Sink.written c.write_lines.new.sink)
     c.in-Ok.bytes.items (joined c.in-Ok-answer.text) c.in-Ok.ensures.passed c.in-Ok.ensures.whole
     c.in-Ok-answer.ensures.answer
     c.in-Ok-write_lines.ensures.written
@@ -20,7 +20,7 @@ returns-in-Ok-write_lines-clause-ends g c =
 pub returns-clause-ends : goal.returns-clause-ends
 returns-clause-ends g c = (
   c.in-Err.ensures.fault,
-  wrote_front c.args.play (g.S.Source.rest c.args.source.now) (g.S.Source.rest c.read_all.new.source) (g.K.Sink.written c.args.sink.now) (g.K.Sink.written c.write_lines.new.sink)
+  wrote_front c.args.how (g.S.Source.rest c.args.source.now) (g.S.Source.rest c.read_all.new.source) (g.K.Sink.written c.args.sink.now) (g.K.Sink.written c.write_lines.new.sink)
       c.in-Ok.bytes.items (joined c.in-Ok-answer.text) c.in-Ok.ensures.passed c.in-Ok.ensures.whole
       c.in-Ok-answer.ensures.answer
       c.in-Err.ensures.front,

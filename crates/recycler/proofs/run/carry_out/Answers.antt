@@ -4,13 +4,13 @@ use Rattle.recycler.specs.CommandLine.{ReadsScript}
 use Rattle.recycler.specs.Ends.{Ends, passage}
 use Rattle.recycler.proofs.run.carry_out.Goals as goal
 
-pub returns-in-Play-clause-ends : goal.returns-in-Play-clause-ends
-returns-in-Play-clause-ends g c =
+pub returns-in-Answer-clause-ends : goal.returns-in-Answer-clause-ends
+returns-in-Answer-clause-ends g c =
     subst (λ request. Ends request c.answer_source.result (passage g.S.Source.rest g.S.Source.faults c.args.source.now c.answer_source.new.source) (passage g.K.Sink.written g.K.Sink.faults c.args.sink.now c.answer_source.new.sink))
-    (sym c.in-Play.is) c.answer_source.ensures.ends
+    (sym c.in-Answer.is) c.answer_source.ensures.ends
 
-pub returns-in-Play-clause-unread : goal.returns-in-Play-clause-unread
-returns-in-Play-clause-unread g c = λ never. absurd (never (subst ReadsScript (sym c.in-Play.is) tt))
+pub returns-in-Answer-clause-unread : goal.returns-in-Answer-clause-unread
+returns-in-Answer-clause-unread g c = λ never. absurd (never (subst ReadsScript (sym c.in-Answer.is) tt))
 
 pub returns-in-Make-clause-ends : goal.returns-in-Make-clause-ends
 returns-in-Make-clause-ends g c =
