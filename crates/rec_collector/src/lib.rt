@@ -36,5 +36,6 @@ pub use laws::{
     orange_members_have_outside_counts, zeros_are_exact,
 };
 pub use machine::Machine;
+pub use phase::Phase;
 pub use sets::Sets;
 pub use turn::Turn;

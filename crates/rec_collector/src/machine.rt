@@ -202,6 +202,34 @@ impl Machine {
         self.parts.counts.count(slot)
     }
 
+    /// How far the collection has come.
+    pub fn phase(&self) -> Phase
+        ensures { result ≡ self.now.phase }
+    {
+        self.phase
+    }
+
+    /// What is kept of the slots: their true and cyclic counts, colours, flags and sets, the root buffer, and the lists.
+    pub fn counts(&self) -> &Counts
+        ensures { result.now ≡ self.now.counts }
+    {
+        &self.parts.counts
+    }
+
+    /// The newer buffer of each mutator, in order: it is a spare until this collection has gathered that mutator's.
+    pub fn newer(&self) -> &[Buffer]
+        ensures { result.now ≡ self.now.newer }
+    {
+        self.newer.as_slice()
+    }
+
+    /// The older buffer of each mutator, in order: what the last collection gathered.
+    pub fn older(&self) -> &[Buffer]
+        ensures { result.now ≡ self.now.older }
+    {
+        self.older.as_slice()
+    }
+
     /// The requested epoch.
     pub fn epoch(&self) -> u32
         ensures { result ≡ self.now.epoch }
