@@ -8,8 +8,9 @@
 //! heap that never frees tells in that order, with frees and sweeps among the answers.
 //! That order is the legal order of every run (`rec_order`), of the moves that the turns make up: each object that is freed is
 //! the one that the freed slot held. Each log has room for all commands of its mutator, so none is ever full.
-//! The layer above may use the contracts of `play` and of the calls that open what a script is played with, the laws of
-//! orders, which are the contracts of the functions in `laws`, and the definitions of `specs/`.
+//! The layer above may use the contracts of `play` and of the calls that open what a script is played with, those of the rule
+//! itself (`Schedule`), by which a run can be followed turn by turn, the laws of orders, which are the contracts of the
+//! functions in `laws`, and the definitions of `specs/`.
 //! The rule is this project's profile (`docs/PROFILE.md`); the generator is PCG's, by O'Neill, with 32-bit words.
 #![tactic(auto)]
 
@@ -22,7 +23,8 @@ mod schedule;
 pub use actor::Actor;
 pub use laws::{orders_name_each_command, turns_are_drawn_as_told};
 pub use opening::{config_for, journals_for, order_for};
-pub use playing::play;
+pub use playing::{lengths_of, play};
+pub use schedule::{MOST_MUTATORS, Schedule};
 
 #[cfg(test)]
 mod cycle_tests;

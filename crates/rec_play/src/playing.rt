@@ -64,8 +64,8 @@ pub fn play(
     }
 }
 
-// How many commands each mutator has; none where there is no such mutator.
-fn lengths_of(script: &Script) -> [u32; MOST_MUTATORS]
+/// How many commands each mutator has; none where there is no such mutator.
+pub fn lengths_of(script: &Script) -> [u32; MOST_MUTATORS]
     ensures { take (length script.now.commands) result ≡ lengths_of script.now }
 {
     let mut lengths = [0; MOST_MUTATORS];

@@ -1,4 +1,4 @@
-ghost use Rattle.std.specs.Prelude.{◌≡◌, ◌≢◌, ℕ, ◌+◌, ◌*◌, ◌%◌, ◌^◌, ◌<◌, ◌≤◌, ◌↔◌, if◌then◌else◌, true, false, Some, All, is_none, length, map, slice_index_or, IsTrue, IsNone, IsSome, IfOk, IfErr, IfSome};
+ghost use Rattle.std.specs.Prelude.{◌≡◌, ◌≢◌, ℕ, ◌+◌, ◌*◌, ◌%◌, ◌^◌, ◌<◌, ◌≤◌, ◌↔◌, if◌then◌else◌, true, false, None, Some, All, is_none, length, map, slice_index_or, IsTrue, IsNone, IsSome, IfOk, IfErr, IfSome};
 ghost use Rattle.rec_word.specs.Mailbox.{crossing_word};
 ghost use Rattle.rec_word.specs.declared.mailbox.Mailbox.TheVariants.{Retired};
 ghost use Rattle.rec_word.specs.declared.op.Op.TheVariants.{FreeHeader};
@@ -33,7 +33,7 @@ ghost use Rattle.rec_core.specs.Unfinished.{HasFound, IsQuiet, OnlyWorks};
 ghost use Rattle.rec_core.specs.Worked.{AreIdle, StepsTo, IsWorked};
 ghost use Rattle.rec_world.specs.Mailbox.{held};
 ghost use Rattle.rec_world.specs.Stepping.{MakesStep};
-ghost use Rattle.rec_world.specs.World.{IsWorld, label_of, IsLogFull, IsFull, IsBusy, IsLowestFree, IsFinished, IsCrossed, TurnHasCause};
+ghost use Rattle.rec_world.specs.World.{IsWorld, label_of, IsLogFull, IsFull, IsBusy, IsLowestFree, IsFinished, IsCrossed, TurnHasCause, step_seen};
 
 use crate::mailbox::{gather, open_boxes, swap_own};
 use crate::memory::Memory;
@@ -231,13 +231,53 @@ impl World {
         ensures run { EndsRun self.new }
         ensures kept { IsWorld self.new }
     {
+        self.turn_seen().0
+    }
+
+    /// Makes one turn of the collector, as `turn` does, and tells beside its answer the operation of its step and the word that
+    /// this found. There was no step, and the second is `None`, exactly where the epochs are spent.
+    #[inline(always)]
+    pub fn turn_seen(&mut self) -> (Turn, Option<(Op, u64)>)
+        ensures turned { self.new ≡ turned self.old }
+
+        // What is seen of it: the operation that came next, and the word that it named.
+        ensures seen { result.1 ≡ step_seen self.old }
+        ensures unseen { IsNone result.1 ↔ (result.0 ≡ turns.Turn.EpochsSpent) }
+
+        // Why each answer comes. A turn that waits, or that finds the epochs spent, changes nothing.
+        ensures cause { TurnHasCause self.old self.new result.0 }
+        ensures waiting { (t : ℕ) → self.old.collector.phase ≡ phases.Phase.Looking t → crossing_of self.old t ≢ crossing_word self.old.epoch Retired → result.0 ≡ turns.Turn.Waiting t }
+        ensures spent { self.old.collector.phase ≡ phases.Phase.Idle → self.old.epoch + 1 ≡ 2 ^ 24 → result.0 ≡ turns.Turn.EpochsSpent }
+
+        // Whoever is waited for is a mutator of this heap, so it may poll where it is idle.
+        ensures awaited { (t : ℕ) → result.0 ≡ turns.Turn.Waiting t → IsMutator self.new.config t }
+
+        // No slot that a register reaches is freed or changed, and whatever heap stood for the world still does, by the same
+        // numbers of its objects. Within a sweep a turn frees one slot at most.
+        ensures reached { KeepsReached (sight self.old) (sight self.new) }
+        ensures stands { (heap : Heap) (number : ℕ → ℕ) → StandsBy heap (sight self.old) number → StandsBy heap (sight self.new) number }
+        ensures sweep { IsSweep self.old self.new }
+
+        // What was given up, the members of a set that passed both tests among it, is in no reach, and nothing names it. A header
+        // is set to 0 only where nothing at all names the slot.
+        ensures gone { AreGone self.new }
+        ensures forgotten { (slot : ℕ) → collector_next self.old.collector ≡ Some (FreeHeader slot) → IsForgotten self.old slot }
+
+        // One epoch more is requested at most, and no mutator changes.
+        ensures requested { self.new.epoch ≤ self.old.epoch + 1 }
+        ensures mutators { self.new.mutators ≡ self.old.mutators }
+        ensures config { self.new.config ≡ self.old.config }
+        ensures made { self.new.made ≡ self.old.made }
+        ensures run { EndsRun self.new }
+        ensures kept { IsWorld self.new }
+    {
         let Some(op) = self.collector.next() else {
-            return Turn::EpochsSpent;
+            return (Turn::EpochsSpent, None);
         };
         let found = self.memory.perform(op);
         let turn = self.collector.took(found);
         gather(&mut self.collector, &mut self.boxes);
-        turn
+        (turn, Some((op, found)))
     }
 
     /// Every slot that isn't released is to be offered to the next trial as a candidate root. Nothing else changes, until that
@@ -422,6 +462,38 @@ impl World {
         ensures kept { IsWorld self.now }
     {
         self.memory.freed()
+    }
+
+    /// The collector's machine, to be looked at.
+    pub fn collector(&self) -> &Collector
+        ensures collector { result.now ≡ self.now.collector }
+        ensures kept { IsWorld self.now }
+    {
+        &self.collector
+    }
+
+    /// The machine of mutator `t`, to be looked at.
+    pub fn mutator(&self, t: u8) -> &Machine
+        requires { IsMutator self.now.config t }
+        ensures { result.now ≡ mutator self.now t }
+    {
+        &self.machines[usize::from(t) - 1]
+    }
+
+    /// The crossing words of the mutators, in order: the epoch that each is in, or crosses into, and where its mailbox is.
+    pub fn crossing(&self) -> &[u64]
+        ensures crossing { result.now ≡ self.now.crossing }
+        ensures kept { IsWorld self.now }
+    {
+        self.memory.crossing()
+    }
+
+    /// The mailboxes of the mutators, in order, each with its buffer.
+    pub fn mailboxes(&self) -> &[Option<Buffer>]
+        ensures boxes { map held result.now ≡ self.now.boxes }
+        ensures home { (i : ℕ) → i < length result.now → IsSome (slice_index_or result.now i None) }
+    {
+        self.boxes.as_slice()
     }
 
     /// How many slots were freed since the opening.

@@ -33,8 +33,8 @@ use Rattle.rec_world.specs.Mailbox.{held, held_by}
 use Rattle.rec_world.specs.World.{IsWorld, TurnHasCause}
 use Rattle.rec_world.proofs.Calls.{ReadyToTurn, ready_to_turn, box_read, moved_world}
 use Rattle.rec_world.proofs.Turnings.{holds_looked, home_still, looked_word, turned_is, turn_cause, turn_requests}
-use Rattle.rec_world.proofs.world.World.turn.Goals as goal
-use Rattle.rec_world.proofs.world.World.turn.Goals.{In_default, In-Some, After-gather}
+use Rattle.rec_world.proofs.world.World.turn_seen.Goals as goal
+use Rattle.rec_world.proofs.world.World.turn_seen.Goals.{In_default, In-Some, After-gather}
 
 -- where no operation comes next, the epochs are spent
 pub returns-in_default-clause-cause : goal.returns-in_default-clause-cause
