@@ -12,6 +12,8 @@ slot, a busy answer, the command behind one. What can be freed can be freed late
 allow. So just one question is left where a birth needs a slot within a sweep that has freed already: whether another sweep began.
 """
 
+from scripts import numeral
+
 NEVER = 1 << 60
 WORDS = {
     "new": ("done", "full", "busy"),
@@ -38,33 +40,36 @@ class Text:
 
     def __init__(self, script, text):
         _, mutators = script
-        lines = text.splitlines()
+        *lines, rest = text.split("\n")
+        if rest:
+            raise Illegal(f"{rest}: a line without its end")
         total = sum(len(it) for it in mutators)
         self.answers, self.order, self.rows = [[] for _ in mutators], [], lines[total:]
         for line in lines[:total]:
-            words = line.split(" ")
-            place = words[0].split(".")
-            if len(place) != 2 or not all(it.isdigit() for it in place):
-                raise Illegal(f"{line}: no answer")
-            t, index = (int(it) - 1 for it in place)
-            if not 0 <= t < len(mutators) or index != len(self.answers[t]) or index >= len(mutators[t]):
+            t = self.mutator(line)
+            index = len(self.answers[t])
+            if index == len(mutators[t]) or not line.startswith(f"{t + 1}.{index + 1} "):
                 raise Illegal(f"{line}: not the next command of its mutator")
-            self.answers[t].append(self.answer(line, mutators[t][index][0], words[1:]))
+            self.answers[t].append(self.answer(line, mutators[t][index][0]))
             self.order.append(t)
 
+    def mutator(self, line):
+        """The index of the mutator that a line answers."""
+        for t in range(len(self.answers)):
+            if line.startswith(f"{t + 1}."):
+                return t
+        raise Illegal(f"{line}: no answer")
+
     @staticmethod
-    def answer(line, name, words):
-        numbers = words[1:]
-        wanted = NUMBERS.get(words[0], 0) if words else 0
-        if not words or words[0] not in WORDS[name] or len(numbers) != wanted or not all(it.isdigit() for it in numbers):
+    def answer(line, name):
+        """What a line tells of a command: a word, and its numbers."""
+        word, *numbers = line.split(" ")[1:]
+        if word not in WORDS[name] or len(numbers) != NUMBERS.get(word, 0) or any(numeral(it) is None for it in numbers):
             raise Illegal(f"{line}: no answer of {name}")
-        answer = (words[0], *(int(it) for it in numbers))
-        if answer[0] == "busy" and answer[1] % 2 == 0 and answer[1] >= answer[2]:
+        answer = (word, *map(int, numbers))
+        if word == "busy" and answer[1] % 2 == 0 and answer[1] >= answer[2]:
             raise Illegal(f"{line}: no sweep ran")
         return answer
-
-    def is_by_mutator(self):
-        return self.order == sorted(self.order)
 
 
 class Moment:
