@@ -105,7 +105,7 @@ def contended(draw):
     that workers that start one after the other still meet.
     """
     heap = [draw.choice((2, 3, 4, 6, 8, 12, 40)), draw.randint(1, 2), draw.randint(3, 4)]
-    aside = draw.choice((0, 3, 10, 30))
+    aside = draw.choice((0, 20, 100, 400))
     weights = [draw.randint(1, 4) for _ in range(7)]
 
     def one(t, i):
