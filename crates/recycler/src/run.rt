@@ -168,6 +168,8 @@ fn write_made<K: Sink>(alloc: Global, make: Make, sink: &mut K) -> Status
 }
 
 #[cfg(test)]
+mod hostile_tests;
+#[cfg(test)]
 pub(crate) mod tests;
 #[cfg(test)]
 mod thread_tests;

@@ -5,10 +5,11 @@ use rec_threads::OpenGate;
 use std::process::Abort;
 use std::test::Fail;
 
-const SIX: &str =
+pub(crate) const SIX: &str =
     "recycler 1\nheap 4 1 2\nmutator\nnew 1 7\nput 0 0 1\nnull 1\nget 1 0 0\nvalue 1\n";
 
-const EMPTY_HEAP: &str = "live 1\n#1 label 0 count 1 fields -\nmade 1 refused 0 freed 0\n";
+pub(crate) const EMPTY_HEAP: &str =
+    "live 1\n#1 label 0 count 1 fields -\nmade 1 refused 0 freed 0\n";
 
 // A script of one mutator and its text, whatever the seed.
 const ROWS: [(&str, &str); 8] = [
