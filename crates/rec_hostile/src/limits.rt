@@ -230,9 +230,9 @@ fn epochs_are_spent(rt: HostRuntime) -> Result<(), Fail> {
     let world = World::open(rt.alloc(), config)?;
     let world = spend(&rt, rt.alloc(), world)?;
     let mut world = run(&rt, rt.alloc(), world, &events)?;
-    assert_eq!(rt; world.turn(), Turn::EpochsSpent);
     let requested = 16_777_215;
     assert_eq!(rt; settle(&mut world), Err(EpochsSpent { requested }));
+    assert_eq!(rt; world.turn(), Turn::EpochsSpent);
     assert_eq!(rt; (world.epoch(), world.collections()), (requested, 2));
     Ok(())
 }
