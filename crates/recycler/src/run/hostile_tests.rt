@@ -18,7 +18,7 @@ const TEXT: &str =
 const PLAY: [&str; 2] = ["recycler", "play"];
 
 // Words with which the worked script is run, and the text that is written.
-const WHOLE: [(&[&str], &str); 4] = [
+const WHOLE: [(&'static [&'static str], &str); 4] = [
     (&PLAY, TEXT),
     (&["recycler", "threads"], TEXT),
     (
@@ -101,7 +101,7 @@ const LINES: [(&str, Told); 10] = [
 // the sink.
 #[derive(Clone, Copy)]
 struct Case<'a> {
-    words: &'a [&'a str],
+    words: &'static [&'static str],
     script: &'a [u8],
     fails: [u64; 2],
     room: usize,
@@ -208,11 +208,11 @@ fn each_read_fails(rt: HostRuntime) -> Result<(), Fail> {
 // The sink takes whole lines, and one call fails: the lines before it are written. The call after the last line's isn't made.
 fn fail_each_write<R: Abort + AllocGlobal + Threads + Wait + Sync>(
     rt: &R,
-    words: &[&str],
+    words: &'static [&'static str],
     text: &str,
 ) -> Result<(), Fail> {
     let mut written: usize = 0;
-    let mut n = 1;
+    let mut n: u64 = 1;
     for line in text.lines() {
         let fails = [0, n];
         let case = Case {
@@ -222,7 +222,7 @@ fn fail_each_write<R: Abort + AllocGlobal + Threads + Wait + Sync>(
         };
         comes_to(rt, case, Status::WriteFault, text.as_bytes().get(..written))?;
         written = written.saturating_add(line.len()).saturating_add(1);
-        n += 1;
+        n = n.saturating_add(1);
     }
     let fails = [0, n];
     let case = Case {
@@ -236,7 +236,7 @@ fn fail_each_write<R: Abort + AllocGlobal + Threads + Wait + Sync>(
 // The sink has room for so many bytes of the text, and these are written.
 fn fill_each_room<R: Abort + AllocGlobal + Threads + Wait + Sync>(
     rt: &R,
-    words: &[&str],
+    words: &'static [&'static str],
     text: &str,
 ) -> Result<(), Fail> {
     for room in 0..=text.len() {
