@@ -79,5 +79,5 @@ impl Config {
 fn is_from_one(number: u32, most: u32) -> bool
     ensures { IsTrue result ↔ ((1 ≤ number) × (number ≤ most)) }
 {
-    1 <= number && number <= most
+    (1..=most).contains(&number)
 }

@@ -15,12 +15,10 @@ fn line_length(bytes: &[u8]) -> usize
     ensures before { (k : ℕ) → k < result → is_end (slice_index bytes.now k) ≡ false }
     ensures behind { result < length bytes.now → is_end (slice_index bytes.now result) ≡ true }
 {
-    for (i, byte) in bytes.iter().enumerate() {
-        if *byte == b'\n' {
-            return i;
-        }
-    }
-    bytes.len()
+    bytes
+        .iter()
+        .position(|byte| *byte == b'\n')
+        .unwrap_or(bytes.len())
 }
 
 /// How many blanks stand at the front.
@@ -29,12 +27,10 @@ fn blanks(bytes: &[u8]) -> usize
     ensures before { (k : ℕ) → k < result → is_blank (slice_index bytes.now k) ≡ true }
     ensures behind { result < length bytes.now → is_blank (slice_index bytes.now result) ≡ false }
 {
-    for (i, byte) in bytes.iter().enumerate() {
-        if !is_blank(*byte) {
-            return i;
-        }
-    }
-    bytes.len()
+    bytes
+        .iter()
+        .position(|byte| !is_blank(*byte))
+        .unwrap_or(bytes.len())
 }
 
 /// How many bytes stand before the first blank.
@@ -43,12 +39,10 @@ fn word_length(bytes: &[u8]) -> usize
     ensures before { (k : ℕ) → k < result → is_blank (slice_index bytes.now k) ≡ false }
     ensures behind { result < length bytes.now → is_blank (slice_index bytes.now result) ≡ true }
 {
-    for (i, byte) in bytes.iter().enumerate() {
-        if is_blank(*byte) {
-            return i;
-        }
-    }
-    bytes.len()
+    bytes
+        .iter()
+        .position(|byte| is_blank(*byte))
+        .unwrap_or(bytes.len())
 }
 
 /// The bytes without the CR that may stand at their end.

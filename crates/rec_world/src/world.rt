@@ -134,8 +134,7 @@ impl World {
     pub fn valid(&self, t: u8, cmd: &Cmd) -> bool
         ensures { IsTrue result ↔ IsValid self.now.config t cmd.now }
     {
-        let is_mutator = 1 <= t && u32::from(t) <= self.config.mutators;
-        is_mutator && self.config.has_operands(cmd)
+        (1..=self.config.mutators).contains(&u32::from(t)) && self.config.has_operands(cmd)
     }
 
     /// Whether mutator `t` has begun a work that isn't finished.
