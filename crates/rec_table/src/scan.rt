@@ -1,5 +1,5 @@
 //! The failing probes of a scan.
-ghost use Rattle.std.specs.Prelude.{◌≡◌, ◌≤◌, []};
+ghost use Rattle.std.specs.Prelude.{◌≡◌, ◌+◌, ◌≤◌, []};
 ghost use Rattle.rec_core.specs.Core.{mutator};
 ghost use Rattle.rec_table.specs.Beats.{told};
 ghost use Rattle.rec_table.specs.Rule.{seated_of};
@@ -12,9 +12,9 @@ use crate::views::View;
 use atomic_table::Seat;
 use rec_log::Buffer;
 
-// So many headers are looked at in each turn of the scan's loop. Where their number is known beforehand, no bound is tested between
+// So many headers are looked at in each turn of the scan's loop. Since their number is known beforehand, no bound is tested between
 // two of them.
-const STRIDE: usize = 4;
+const STRIDE: usize = 16;
 
 /// The first slot from this one on whose header is found free, or the number of slots. Each load of a taken header is a step.
 /// A load takes the header's line from no other thread, and no record is written between two of them.
@@ -29,38 +29,38 @@ pub(crate) fn first_free(board: &Board, seat: &mut Seat<Option<Buffer>, View>, f
 {
     let mut slot = from;
     while slot + STRIDE < board.slots {
-        let free = first_free_below(board, seat, slot, slot + STRIDE);
+        let free = first_free_of(board, seat, slot, STRIDE);
         if free < slot + STRIDE {
             return free;
         }
         slot += STRIDE;
     }
-    first_free_below(board, seat, slot, board.slots)
+    first_free_of(board, seat, slot, board.slots - slot)
 }
 
-// The same of the slots below `to` alone.
+// The same of so many slots alone. Where none of them is free, the answer is the slot behind them.
 #[inline(always)]
-fn first_free_below(
+fn first_free_of(
     board: &Board,
     seat: &mut Seat<Option<Buffer>, View>,
     from: usize,
-    to: usize,
+    count: usize,
 ) -> usize
     requires table { seat.old.table_id ≡ board.now.table.shared.table_id }
     requires seat { seat.old.me ≡ (Mutates (seated_of seat.old.me.0), []) }
     requires scan { ScansFrom (told (mutator board.now.table.shared.key.value (seated_of seat.old.me.0).number) (seated_of seat.old.me.0).log) from board.now.slots }
-    requires to { (from ≤ to) × (to ≤ board.now.slots) }
+    requires count { from + count ≤ board.now.slots }
 
     ensures seat { (seat.new.table_id ≡ seat.old.table_id) × (seat.new.id ≡ seat.old.id) }
     ensures passed { Passed (seated_of seat.old.me.0) from result seat.new.me }
-    ensures few { result ≤ to }
+    ensures few { result ≤ from + count }
 {
     let shared = &board.table.shared;
-    let first_header = board.places;
-    for slot in from..to {
-        if shared.load::<Passes>(seat, first_header + slot) == 0 {
-            return slot;
+    let first_header = board.places + from;
+    for index in 0..count {
+        if shared.load::<Passes>(seat, first_header + index) == 0 {
+            return from + index;
         }
     }
-    to
+    from + count
 }

@@ -1,0 +1,31 @@
+use Rattle.std.proofs.Common.{◌≡◌, ◌+◌, ◌<◌, ℕ, arith, subst, ◌∙◌}
+use mathlib.Core.Option.{none}
+use Rattle.atomic_table.specs.Table.{step}
+use Rattle.rec_table.specs.Rule.{seated_of}
+use Rattle.rec_table.specs.Scan.{Passed}
+use Rattle.rec_table.proofs.Scanning.{allows_pass, passed_one}
+use Rattle.rec_table.proofs.scan.first_free_of.Goals as goal
+
+pub load-requires : goal.load-requires
+load-requires c =
+    let i = c.loop-index.invariant in
+    let wide = c.args.board.now.wide in
+    let slot : ℕ = c.args.from + c.loop-index.index in
+    let lt : slot < c.args.board.now.slots = omega (arith, c.loop-index-test.true, c.requires.count) in (
+      i.table ∙ c.requires.table,
+      omega (arith, wide.0, wide.1, wide.2, lt),
+      allows_pass c.args.board.now.table.shared.key.value slot c.args.from c.args.board.now.slots (seated_of c.args.seat.now.me.0) c.loop-index.seat.me i.passed c.requires.scan lt _ _ _
+          (step c.args.board.now.table.shared.table_id.slots (c.args.board.now.places + c.args.from + c.loop-index.index) 0 0 none) (omega (arith, wide.0)),
+    )
+
+pub loop-index-preserved : goal.loop-index-preserved
+loop-index-preserved c =
+    let i = c.loop-index.invariant in
+    let next : c.args.from + c.loop-index.index + 1 ≡ c.args.from + (c.loop-index.index + 1) = omega arith in
+    record {
+      table = c.load.ensures.0 ∙ i.table;
+      id = c.load.ensures.1 ∙ i.id;
+      passed = subst (λ (n : ℕ). Passed (seated_of c.args.seat.now.me.0) c.args.from n c.load.new.seat.me) next
+          (passed_one (seated_of c.args.seat.now.me.0) c.args.from (c.args.from + c.loop-index.index) c.load.result c.loop-index.seat.me c.load.new.seat.me i.passed c.if-load-eq0.false (c.load.ensures.2.0 c.if-load-eq0.false));
+      few = omega (arith, c.loop-index-test.true);
+    }
