@@ -9,9 +9,9 @@ use Rattle.std.proofs.lemmas.Option.{get_or_from_slice_get, slice_get-get_or, sl
 use Rattle.rec_model.specs.declared.command.Cmd.{Cmd}
 use Rattle.rec_core.specs.Config.{IsConfig}
 use Rattle.rec_core.specs.declared.config.Config.{Config}
-use Rattle.rec_world.specs.Journal.{Notes}
+use Rattle.rec_world.specs.Journal.{Notes, no_notes}
 use Rattle.rec_script.specs.Script.{Contents, IsScript}
-use Rattle.rec_play.specs.Played.{AreReady, config_of, longest, log_room, no_notes}
+use Rattle.rec_play.specs.Played.{AreReady, config_of, longest, log_room}
 
 -- a mutator's commands fit its log
 pub fits_longest : (all : List (List Cmd)) (i : ℕ) → length (slice_index_or all i []) ≤ longest all

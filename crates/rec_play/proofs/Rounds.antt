@@ -12,13 +12,13 @@ use Rattle.rec_model.specs.LegalOrder.Event.{Answers}
 use Rattle.rec_model.specs.Numbering.{times}
 use Rattle.rec_model.proofs.Growing.{with_line}
 use Rattle.rec_core.specs.Core.{opened, Core, sight}
-use Rattle.rec_world.specs.Journal.{Notes}
+use Rattle.rec_world.specs.Journal.{Notes, no_notes}
 use Rattle.rec_world.specs.Order.{Turns}
 use Rattle.rec_script.specs.Script.{Contents, IsScript}
 use Rattle.rec_play.specs.declared.actor.Actor.{Actor}
 use Rattle.rec_play.specs.declared.actor.Actor.TheVariants.{Mutator, Collector}
 use Rattle.rec_play.specs.Commanded.{Commanded, Polled, PollsNone, PollsOne, Turned, noted}
-use Rattle.rec_play.specs.Played.{AreReady, IsPlayed, config_of, lengths_of, lines_of, no_notes}
+use Rattle.rec_play.specs.Played.{AreReady, IsPlayed, config_of, lengths_of, lines_of}
 use Rattle.rec_play.specs.Playing.{Rest, IsOrderFor, all_turns, generator_of, mutators_of, order, to_come}
 use Rattle.rec_play.specs.Run.{IsPlayedRun, EndsTurn, commands_of, made_in}
 use Rattle.rec_play.specs.Run.IsPlayedRun.{starts}

@@ -8,9 +8,8 @@ use Rattle.rec_mutator.specs.declared.work.Work.TheVariants as works
 use Rattle.rec_core.specs.Core.{Core, mutator}
 use Rattle.rec_core.specs.Moves.{turned}
 use Rattle.rec_core.specs.Worked.{IsWorked, WaitsFor}
-use Rattle.rec_world.specs.Journal.{Notes}
+use Rattle.rec_world.specs.Journal.{Notes, no_notes}
 use Rattle.rec_script.specs.Script.{Contents}
-use Rattle.rec_play.specs.Played.{no_notes}
 use Rattle.rec_play.specs.Run.{commands_of}
 
 -- all other mutators stay as they are, and this one has no work that isn't finished

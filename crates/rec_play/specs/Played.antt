@@ -6,7 +6,7 @@ use Rattle.rec_model.specs.Heap.{opening}
 use Rattle.rec_model.specs.LegalOrder.{Line, Event, Limits, Moment, after_all, actors, IsLegalOrder, NoLogFull}
 use Rattle.rec_model.specs.Sight.{StandsBy}
 use Rattle.rec_core.specs.Core.{Core, sight}
-use Rattle.rec_world.specs.Journal.{Notes}
+use Rattle.rec_world.specs.Journal.{Notes, no_notes}
 use Rattle.rec_order.specs.Naming.{Naming}
 use Rattle.rec_script.specs.Script.{Contents}
 use Rattle.rec_play.specs.Playing.{order, all_turns}
@@ -39,10 +39,6 @@ lengths_of script = map length script.commands
 -- the lines of each journal
 abbrev pub lines_of : List Notes → List (List Line)
 lines_of journals = map (λ journal. journal.lines) journals
-
--- a journal with no line and no room
-abbrev pub no_notes : Notes
-no_notes = record { lines = []; room = 0 }
 
 -- there is one journal for each mutator, empty, with room for its commands
 pub record AreReady (commands : List (List Cmd)) (journals : List Notes) : Type 0 where

@@ -38,14 +38,3 @@ pub own_commands : (all : List (List Cmd)) (k number : ℕ) (cmds : List Cmd) �
 own_commands all k number cmds is there =
     let index : number - 1 ≡ k = omega (arith, is) in
     get_or_from_slice_get all k cmds [] (ap (slice_get all) (sym index) ∙ there)
-
--- whose commands are carried out are still all mutators of the heap
-pub still_mutators : (h : Started) (script : Contents) (crew after : Crew) → IsCrewFor h script crew → HaveDone script.commands crew.mutators.items crew.journals.items after.mutators.items after.journals.items → AreMutatorsOf h after.mutators.items
-still_mutators h script crew after is done = record {
-  all = done.mutators_all ∙ is.all;
-  each = λ k d lt.
-      let there : k < length crew.mutators.items = let a = done.mutators_all in omega (arith, lt, a) in
-      let one = done.each k d there in
-      let ready = is.ready.each k d there in
-      (still_own h (slice_index_or crew.mutators.items k d) (slice_index_or after.mutators.items k d) one.mutator ready.own, ap (λ (m : Held). m.number) one.mutator ∙ ready.number);
-}

@@ -5,8 +5,8 @@ use Rattle.std.proofs.lemmas.List.{get_or_append_left, get_or_push, length-appen
 use Rattle.rec_model.specs.declared.command.Cmd.{Cmd}
 use Rattle.rec_script.specs.Script.{Contents}
 use Rattle.rec_table.specs.Held.{Held, Started}
-use Rattle.rec_world.specs.Journal.{Notes}
-use Rattle.rec_threads.specs.Done.{AreReady, HasDone, HaveDone, IsReady, commands_at, no_notes, worker_at}
+use Rattle.rec_world.specs.Journal.{Notes, no_notes}
+use Rattle.rec_threads.specs.Done.{AreReady, HasDone, HaveDone, IsReady, commands_at, worker_at}
 use Rattle.rec_threads.specs.declared.worker.Worker.{Worker}
 
 -- a mutator and its journal
@@ -63,7 +63,3 @@ done_more cmds ms ms' js js' m m' j j' each done last =
             (subst (HasDone (commands_at cmds k) (together m j)) (sym (at_last ms' js' m' j' k d each' (is ∙ sym done.mutators_all))) (subst (λ n. HasDone (commands_at cmds n) (together m j) (together m' j')) (sym is) last))
       ];
     }
-
--- nobody has done nothing
-pub none_done : (cmds : List (List Cmd)) (ms : List Held) (js : List Notes) → length ms ≡ 0 → HaveDone cmds ms js ms js
-none_done cmds ms js none = record { mutators_all = refl; journals_all = refl; each = λ k d lt. absurd (omega (arith, lt, none)) }

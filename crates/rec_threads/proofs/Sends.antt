@@ -19,9 +19,6 @@ use Rattle.rec_threads.specs.contracts.worker.Worker as worker
 pub worker_send : IsSend worker.the_field.row
 worker_send = search (mutator_send, journal_send, sendable) depth 20
 
-pub worker_row : IsSend worker.the_row
-worker_row = search (mutator_send, journal_send, sendable) depth 20
-
 each : (a : NamedLft) → AllSend (fields (report.the_type a))
 each a = (worker_send, (token.the_send a bool, tt))
 
@@ -40,11 +37,5 @@ each_shared = (lock_sync, (search (sendable, crosses) depth 20, (search (sendabl
 pub signals_sync : IsSync signals.the_row
 signals_sync = recorded_sync _ _ _ signals.the_type.to_one (struct_sync (shape signals.the_type) each_shared)
 
-pub cmds_row : IsSync cmd.the_row
-cmds_row = search sendable depth 20
-
 pub heap_sync : IsSync heap.the_row
 heap_sync = heaps.the_sync
-
-pub signals_field : IsSync signals.the_field.row
-signals_field = struct_sync (shape signals.the_type) each_shared

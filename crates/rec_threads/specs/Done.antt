@@ -9,13 +9,9 @@ use Rattle.rec_script.specs.Script.{Contents}
 use Rattle.rec_table.specs.Held.{Gathers, Held, Started, IsCollectorOf, IsMutatorOf, gathers_now, has}
 use Rattle.rec_table.specs.Journals.{Tells}
 use Rattle.rec_table.specs.declared.views.Beat.{Beat}
-use Rattle.rec_world.specs.Journal.{Notes}
+use Rattle.rec_world.specs.Journal.{Notes, no_notes}
 use Rattle.rec_threads.specs.declared.crew.Crew.{Crew}
 use Rattle.rec_threads.specs.declared.worker.Worker.{Worker}
-
--- a journal with no line and no room
-abbrev pub no_notes : Notes
-no_notes = record { lines = []; room = 0 }
 
 -- the commands of a mutator, by its index
 abbrev pub commands_at : List (List Cmd) → ℕ → List Cmd
