@@ -101,6 +101,7 @@ impl Machine {
     }
 
     /// The operation of the next step. None exactly where the next request would be epoch 16,777,216.
+    #[inline(always)]
     #[tactic(auto, unfolding(crate::specs::Next::next_of, crate::specs::Next::next_at))]
     pub fn next(&self) -> Option<Op>
         ensures next { result ≡ next_of self.now }
@@ -128,6 +129,7 @@ impl Machine {
     }
 
     /// Learns the word that the operation of `next` found: the turn is made. Where `next` answers None, nothing is done.
+    #[inline(always)]
     pub fn took(&mut self, word: u64) -> Turn
         requires { IsGiven self.old word }
 
@@ -268,7 +270,9 @@ impl Machine {
         self.turns
     }
 
-    // Learns a word, by the phase.
+    // Learns a word, by the phase. Its branches are put into each caller: with two heaps that turn the machine the compiler would
+    // make them calls.
+    #[inline(always)]
     fn learn(&mut self, word: u64) -> Turn
         requires { IsGiven self.old word }
 
@@ -330,6 +334,7 @@ impl Machine {
     }
 
     // A mailbox was given back. With the last one the batch is applied, and its zeros are released.
+    #[inline(always)]
     fn took_return(&mut self, mutator: u8) -> Turn
         requires phase { self.old.phase ≡ Phase.Returning mutator }
         requires covered { mutator ≡ length self.old.newer → IsCovered self.old.counts self.old.newer self.old.older }
@@ -352,6 +357,7 @@ impl Machine {
     }
 
     // A word came out of a field of a released slot.
+    #[inline(always)]
     fn took_release(&mut self, word: u64) -> Turn
         requires phase { self.old.phase ≡ Phase.Releasing }
         requires counted { IfSome (target_of word) (λ slot. 0 < (slot_at self.old.counts slot).count) }
@@ -367,6 +373,7 @@ impl Machine {
     }
 
     // A word came out of a field of a member of the set that is freed.
+    #[inline(always)]
     fn took_freeing(&mut self, word: u64) -> Turn
         requires phase { self.old.phase ≡ Phase.Freeing }
         requires counted { IfSome (target_of word) (λ slot. 0 < (slot_at self.old.counts slot).count) }
@@ -382,6 +389,7 @@ impl Machine {
     }
 
     // A field was loaded for the trial.
+    #[inline(always)]
     fn took_trial(&mut self, word: u64) -> Turn
         requires phase { self.old.phase ≡ Phase.Trying }
         requires unreleased { LeadsToUnreleased self.old.counts word }
@@ -397,6 +405,7 @@ impl Machine {
     }
 
     // A field was loaded for the preparation of sets.
+    #[inline(always)]
     fn took_preparation(&mut self, word: u64) -> Turn
         requires phase { self.old.phase ≡ Phase.Preparing }
         requires in_range { IfSome (target_of word) (λ slot. slot < length self.old.counts.slots) }
@@ -428,6 +437,7 @@ impl Machine {
     }
 
     // A slot more is swept.
+    #[inline(always)]
     #[tactic(auto, unfolding(crate::specs::Took::took_at, crate::specs::Took::turn_at))]
     fn took_sweep(&mut self, swept: u32, word: u64) -> Turn
         requires phase { self.old.phase ≡ Phase.Sweeping swept }
@@ -446,6 +456,7 @@ impl Machine {
     }
 
     // Where nothing is to be swept, the collection is complete without a sweep.
+    #[inline(always)]
     fn end_if_nothing_is_free(&mut self) -> Turn
         ensures took { self.new ≡ ended_if self.old.phase self.old }
         ensures turn { result ≡ came_turn self.old.epoch self.old.phase }

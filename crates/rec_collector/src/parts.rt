@@ -98,6 +98,7 @@ impl Parts {
     }
 
     /// A word came out of a field of a member of a set that is freed. After the last one the zeros are released.
+    #[inline(always)]
     pub(crate) fn took_freeing(&mut self, word: u64) -> Phase
         requires busy { IsSome self.old.freeing.at }
         requires clearing { IsClearing self.old }
@@ -113,6 +114,7 @@ impl Parts {
     }
 
     /// A field was loaded for the trial.
+    #[inline(always)]
     pub(crate) fn took_trial(&mut self, word: u64) -> Phase
         requires busy { IsSome (trial_next self.old.trial) }
         requires kept { IsTrying self.old.trial self.old.counts }
@@ -125,6 +127,7 @@ impl Parts {
     }
 
     /// A field was loaded for the preparation.
+    #[inline(always)]
     pub(crate) fn took_preparation(&mut self, word: u64) -> Phase
         requires busy { IsSome self.old.prep.at }
         requires kept { IsPreparing self.old.prep self.old.counts }
@@ -243,6 +246,7 @@ impl Parts {
     }
 
     // What follows once a trial has come so far: it goes on while it has work; then the sets that it found are prepared.
+    #[inline(always)]
     fn after_trial(&mut self) -> Phase
         requires { self.old.prep.at ≡ None }
         ensures { record { parts = self.new; phase = result } ≡ tried self.old }

@@ -10,6 +10,7 @@ use rec_model::Answer;
 pub(super) const LONGEST: usize = 89;
 
 /// Writes the answer to command `i` of mutator `t` so that its line ends with the buffer, and tells where it starts.
+#[inline(always)]
 #[tactic(auto, using(crate::proofs::Numbers::twenty_digits))]
 pub(super) fn write_answer(t: usize, i: usize, answer: Answer, buffer: &mut [u8; LONGEST]) -> usize
     ensures within { result ≤ 89 }
@@ -23,6 +24,7 @@ pub(super) fn write_answer(t: usize, i: usize, answer: Answer, buffer: &mut [u8;
 
 // Writes an answer's word between a space and the line feed, and leaves room for what stands before it: two numbers of
 // at most 20 digits, and the point between them.
+#[inline(always)]
 fn write_word(answer: Answer, buffer: &mut [u8; LONGEST]) -> usize
     ensures room { (41 ≤ result) × (result ≤ 89) }
     ensures word { drop result buffer.new ≡ codes " " ++ answer_word answer ++ line_feed }

@@ -88,6 +88,7 @@ impl Text {
     }
 
     /// Adds the answer to command `i` of mutator `t`.
+    #[inline(always)]
     pub(super) fn add_answer(&mut self, t: usize, i: usize, answer: Answer) -> Result<(), NoMemory>
         ensures { OnOk result (self.new ≡ self.old ++ answer_line t i answer ∷ []) }
     {

@@ -11,12 +11,12 @@ use Rattle.rec_core.specs.Moves.{Move, AllFit, after_moves}
 use Rattle.rec_order.specs.Events.{events_of}
 use Rattle.rec_order.specs.Legal.{HasLegalOrder}
 use Rattle.rec_order.specs.Naming.{first_naming, named_after_all}
-use Rattle.rec_world.specs.Journal.{Notes}
+use Rattle.rec_world.specs.Journal.{Notes, no_notes}
 use Rattle.rec_table.specs.Ends.{IsStopped}
 use Rattle.rec_table.specs.Held.{Held, Started, fresh, has}
 use Rattle.rec_table.specs.Journals.{Tells, journal, journals_from}
 use Rattle.rec_table.specs.declared.views.Beat.{Beat}
-use Rattle.rec_threads.specs.Done.{HasDone, HaveDone, commands_at, no_notes, worker_at}
+use Rattle.rec_threads.specs.Done.{HasDone, HaveDone, commands_at, worker_at}
 use Rattle.rec_script.specs.Script.{Contents}
 use Rattle.rec_play.specs.Played.{config_of, last_moment, lines_of}
 use Rattle.rec_play.proofs.Opened.{IsPlayedLegally, heap_of, ordered_legally, stands_opened, unfreed_opened}

@@ -23,7 +23,7 @@ use Rattle.rec_script.specs.declared.error.ScriptError.{ScriptError}
 use Rattle.rec_script.specs.declared.error.ScriptError.TheVariants.{Bad}
 use Rattle.recycler.specs.CommandLine.{ReadsScript}
 use Rattle.recycler.specs.Ends.{Passage, Failed, Ends, passage}
-use Rattle.recycler.specs.Headline.{Are, HasRead, IsAnswer, Answers, AnswersTo, HasRun, WroteAnswer, WroteFront, IsReadPast, ReadNoScript, run_text}
+use Rattle.recycler.specs.Headline.{Are, HasRead, IsAnswer, Answers, AnswersTo, HasRun, WroteAnswer, WroteFront, IsReadPast, ReadNoScript, is_summary, printed, printed_order}
 use Rattle.rec_play.specs.Played.{last_moment}
 use Rattle.rec_script.proofs.Refusing.{refused_no_text}
 use Rattle.rec_script.proofs.Uniqueness.{refused_once}
@@ -196,7 +196,7 @@ if_ok (Err e) P Q step held = held
 pub answers_script : (script : Contents) (how : How) (journals : List (List Line)) (events : List Event) (end world : Core) (rows : List Row) (text : List ℕ)
     → HasRun script how journals events end → IsSettling end world → IsSettled world → StandsFor (last_moment script events).heap (sight world)
     → length world.headers ≡ script.slots → ListsSlots (sight world) rows
-    → text ≡ run_text how journals (actors events) rows (length (last_moment script events).heap.objects) world → Answers script how text
+    → text ≡ printed (is_summary how) journals (printed_order how (actors events)) rows (length (last_moment script events).heap.objects) world → Answers script how text
 answers_script script how journals events end world rows text has_run settles settled stands room listed written =
     record {
       journals = journals;

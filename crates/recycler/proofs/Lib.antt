@@ -3,5 +3,6 @@ pub mod Endings
 pub mod Fronts
 pub mod Opening
 pub mod Options
+pub mod Outcomes
 pub mod Requests
 pub mod Turns

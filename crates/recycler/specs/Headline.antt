@@ -55,15 +55,21 @@ abbrev pub HasRun : Contents → How → List (List Line) → List Event → Cor
 HasRun script (hows.Play play) journals events world = IsPlayed script play.seed play.turns journals events world
 HasRun script hows.Threads journals events world = IsDriven script journals events world
 
--- what is printed of a played run whose heap is settled: the whole text, or the summary, with the numbers of the settled heap
-abbrev pub played_text : (summary : Bool) → List (List Line) → (order : List ℕ) → List Row → (made : ℕ) → Core → List ℕ
-played_text false journals order rows made world = play_text journals (Some order) rows made
-played_text true journals order rows made world = summary_text journals (length rows) made world.collector.collections world.collector.sets
+-- whether a summary is printed in place of the whole text
+abbrev pub is_summary : How → Bool
+is_summary (hows.Play play) = play.summary
+is_summary hows.Threads = false
 
--- what is printed of a run: a played one's answers in their order, and those of threads mutator by mutator
-abbrev pub run_text : How → List (List Line) → (order : List ℕ) → List Row → (made : ℕ) → Core → List ℕ
-run_text (hows.Play play) journals order rows made world = played_text play.summary journals order rows made world
-run_text hows.Threads journals order rows made world = play_text journals None rows made
+-- the order that the answers are printed in: that of a played run, and none of a run on threads
+abbrev pub printed_order : How → (order : List ℕ) → Option (List ℕ)
+printed_order (hows.Play play) order = Some order
+printed_order hows.Threads order = None
+
+-- What is printed of a run whose heap is settled: the whole text, or the summary, with the numbers of the settled heap. Without an
+-- order the answers stand mutator by mutator.
+abbrev pub printed : (summary : Bool) → List (List Line) → (order : Option (List ℕ)) → List Row → (made : ℕ) → Core → List ℕ
+printed false journals order rows made world = play_text journals order rows made
+printed true journals order rows made world = summary_text journals (length rows) made world.collector.collections world.collector.sets
 
 -- The text answers the script: each printed answer is the one that the heap that never frees gives to the script's commands in one order
 -- that keeps each mutator's own; an allocation is answered full only where no slot was free; and after settling just the objects that
@@ -77,7 +83,7 @@ pub record Answers (script : Contents) (how : How) (text : List ℕ) : Type 0 wh
   pub has_run : HasRun script how journals events end
   pub rows : List Row
   pub settled : IsSettledAs end (last_moment script events).heap script.slots rows
-  pub written : text ≡ run_text how journals (actors events) rows (length (last_moment script events).heap.objects) settled.world
+  pub written : text ≡ printed (is_summary how) journals (printed_order how (actors events)) rows (length (last_moment script events).heap.objects) settled.world
 
 -- The bytes are the text of a script within the limits, and the answer is the script's, run so.
 pub record AnswersTo (bytes : List ℕ) (how : How) (text : List ℕ) : Type 0 where

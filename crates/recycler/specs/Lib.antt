@@ -1,5 +1,6 @@
 pub mod CommandLine
 pub mod Ends
 pub mod Headline
+pub mod Outcome
 pub mod Status
 pub mod Whole

@@ -13,6 +13,7 @@ mod answer;
 mod command_line;
 mod driving;
 mod finish;
+mod outcome;
 mod playing;
 mod reading;
 mod run;
