@@ -1,6 +1,5 @@
 -- Decrements one after another: the count of each slot falls by as often as they name it.
-use Rattle.std.proofs.Common.{◌≡◌, ℕ, ◌+◌, ◌<◌, Option, None, Some, IfSome, List, [], ◌∷◌, ◌++◌, length, take, drop, get_or, refl, arith, ap, ◌∙◌, subst, inl, inr}
-use Rattle.std.proofs.lemmas.List.Sums.{fold-append, fold_more}
+use Rattle.std.proofs.Common.{◌≡◌, ℕ, ◌+◌, ◌<◌, Option, None, Some, IfSome, List, [], ◌∷◌, ◌++◌, arith, ap, ◌∙◌, inl, inr}
 use Rattle.std.proofs.lemmas.Bool.{cases_lt}
 use Rattle.rec_word.specs.Word.{is_slot}
 use Rattle.rec_counts.specs.Counts.{State, slot_at}
@@ -9,8 +8,9 @@ use Rattle.rec_counts.specs.Rest.{AreZeros}
 use Rattle.rec_counts.proofs.Decrementing.{in_range_counted, decremented_count, zeros_kept}
 use Rattle.rec_counts.proofs.Times.{one-same}
 use Rattle.rec_apply.specs.Targets.{named}
-use Rattle.rec_apply.specs.Batch.{CanFall, counted_down, all_down}
-use Rattle.rec_apply.proofs.Naming.{named-nil, named-cons, named-append, split_at}
+use Rattle.rec_apply.specs.Batch.{CanChange, CanFall, counted_down, all_counted, all_down}
+use Rattle.rec_apply.specs.declared.way.Way.TheVariants.{Down}
+use Rattle.rec_apply.proofs.Naming.{named-nil, named-cons, named-append}
 
 -- the first of them names a slot that is counted, and not in the zeros
 pub fall_first : (s : State) (t : Option ℕ) (ts : List (Option ℕ)) → CanFall s (t ∷ ts) → IfSome t (λ x. 0 < (slot_at s x).count) × IfSome t (λ x. times x s.zeros ≡ 0)
@@ -20,9 +20,9 @@ fall_first s (Some x) ts k =
     let h : 0 < (slot_at s x).count = omega (arith, k.covered x, n) in
     (h, elim (cases_lt 0 (times x s.zeros)) [ inl l ↦ absurd (omega (arith, h, k.zeros.none x l)) | inr l ↦ omega (arith, l) ])
 
-pub fall_in_range : (s : State) (t : Option ℕ) → IfSome t (λ x. 0 < (slot_at s x).count) → IfSome t (λ x. x < length s.slots)
-fall_in_range s None h = tt
-fall_in_range s (Some x) h = in_range_counted s x h
+pub fall_change : (s : State) (t : Option ℕ) (ts : List (Option ℕ)) → CanFall s (t ∷ ts) → IfSome t (λ x. CanChange Down s x)
+fall_change s None ts k = tt
+fall_change s (Some x) ts k = let f = fall_first s (Some x) ts k in (in_range_counted s x f.0, f.0, f.1)
 
 fall_count : (s : State) (t : Option ℕ) (y : ℕ) → IfSome t (λ x. 0 < (slot_at s x).count) → (slot_at (counted_down s t) y).count + one (is_slot y t) ≡ (slot_at s y).count
 fall_count s None y l = omega arith
@@ -41,20 +41,15 @@ fall_rest s t ts k = record {
 
 -- all of them
 pub fall_all : (s : State) (ts : List (Option ℕ)) → CanFall s ts → (y : ℕ) → (slot_at (all_down s ts) y).count + named y ts ≡ (slot_at s y).count
-unfolding all_down
+unfolding all_counted
 fall_all s [] k y = omega (arith, named-nil y)
 fall_all s (t ∷ ts) k y =
     omega (arith, fall_all (counted_down s t) ts (fall_rest s t ts k) y, fall_count s t y (fall_first s t ts k).0, named-cons y t ts)
 
 pub fall_zeros_all : (s : State) (ts : List (Option ℕ)) → AreZeros s → AreZeros (all_down s ts)
-unfolding all_down
+unfolding all_counted
 fall_zeros_all s [] k = k
 fall_zeros_all s (t ∷ ts) k = fall_zeros_all (counted_down s t) ts (fall_zeros s t k)
-
--- one part of them after the other
-pub fall_append : (s : State) (ts us : List (Option ℕ)) → all_down s (ts ++ us) ≡ all_down (all_down s ts) us
-unfolding all_down
-fall_append s ts us = fold-append counted_down s ts us
 
 pub fall_left : (s : State) (ts us : List (Option ℕ)) → CanFall s (ts ++ us) → CanFall s ts
 fall_left s ts us k = record {
@@ -67,16 +62,3 @@ fall_right s ts us k = record {
   covered = λ x. omega (arith, k.covered x, named-append x ts us, fall_all s ts (fall_left s ts us k) x);
   zeros = fall_zeros_all s ts k.zeros;
 }
-
--- at each place of the list
-pub fall_at : (s : State) (ts : List (Option ℕ)) (i : ℕ) → CanFall s ts → i < length ts →
-    IfSome (get_or ts i None) (λ x. 0 < (slot_at (all_down s (take i ts)) x).count) × IfSome (get_or ts i None) (λ x. times x (all_down s (take i ts)).zeros ≡ 0)
-fall_at s ts i k h = fall_first (all_down s (take i ts)) (get_or ts i None) (drop (i + 1) ts) (fall_right s (take i ts) (get_or ts i None ∷ drop (i + 1) ts) (subst (CanFall s) (split_at ts i h) k))
-
-pub down_none : (s : State) → s ≡ all_down s []
-unfolding all_down
-down_none s = refl
-
-pub down_more : (s : State) (ts : List (Option ℕ)) (i : ℕ) → i < length ts → all_down s (take (i + 1) ts) ≡ counted_down (all_down s (take i ts)) (get_or ts i None)
-unfolding all_down
-down_more s ts i h = fold_more counted_down s ts i None h

@@ -7,7 +7,7 @@ use Rattle.rec_counts.specs.Rest.{AreZeros}
 use Rattle.rec_counts.specs.Slot.{raised}
 use Rattle.rec_counts.proofs.Decrementing.{decremented_kept}
 use Rattle.rec_counts.proofs.Keeping.{keep_slot}
-use Rattle.rec_apply.specs.Batch.{CanFall, all_down, all_up, batch, counted_down, counted_up, down_targets, up_targets}
+use Rattle.rec_apply.specs.Batch.{CanFall, all_counted, all_down, all_up, batch, counted_down, counted_up, down_targets, up_targets}
 use Rattle.rec_apply.proofs.Falling.{fall_first, fall_right}
 
 -- increments and decrements one after another
@@ -16,7 +16,7 @@ up_kept s None k = k
 up_kept s (Some x) k = keep_slot k x (raised (slot_at s x)) refl refl
 
 all_up_kept : (s : State) (ts : List (Option ℕ)) → IsKept s → IsKept (all_up s ts)
-unfolding all_up
+unfolding all_counted
 all_up_kept s [] k = k
 all_up_kept s (t ∷ ts) k = all_up_kept (counted_up s t) ts (up_kept s t k)
 
@@ -25,7 +25,7 @@ down_kept s None h z k = k
 down_kept s (Some x) h z k = decremented_kept s x h z k
 
 all_down_kept : (s : State) (ts : List (Option ℕ)) → CanFall s ts → IsKept s → IsKept (all_down s ts)
-unfolding all_down
+unfolding all_counted
 all_down_kept s [] c k = k
 all_down_kept s (t ∷ ts) c k = all_down_kept (counted_down s t) ts (fall_right s (t ∷ []) ts c) (down_kept s t (fall_first s t ts c).0 c.zeros k)
 

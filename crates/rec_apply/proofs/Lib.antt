@@ -5,3 +5,4 @@ pub mod Resting
 pub mod Rising
 pub mod Whole
 pub mod Worked
+pub mod Ways

@@ -1,7 +1,6 @@
 -- Increments one after another: the count of each slot rises by as often as they name it.
-use Rattle.std.proofs.Common.{◌≡◌, ℕ, ◌+◌, ◌<◌, ◌^◌, eqb, Option, None, Some, IfSome, List, [], ◌∷◌, ◌++◌, length, take, drop, get_or, refl, arith, ◌∙◌, ap, subst, inl, inr}
+use Rattle.std.proofs.Common.{◌≡◌, ℕ, ◌+◌, eqb, Option, None, Some, IfSome, List, [], ◌∷◌, ◌++◌, length, refl, arith, ◌∙◌, ap, inl, inr}
 use Rattle.std.proofs.lemmas.List.{length-set, get_or-set_same, get_or-set_other}
-use Rattle.std.proofs.lemmas.List.Sums.{fold-append, fold_more}
 use Rattle.std.proofs.lemmas.Bool.{cases_lt}
 use Rattle.std.proofs.lemmas.Bool.Decides.{eqb_tells}
 use Rattle.rec_word.specs.Word.{is_slot}
@@ -11,22 +10,23 @@ use Rattle.rec_counts.specs.Lists.{one}
 use Rattle.rec_counts.specs.Slot.{absent, raised}
 use Rattle.rec_counts.proofs.Times.{one-same}
 use Rattle.rec_apply.specs.Targets.{named}
-use Rattle.rec_apply.specs.Batch.{CanRise, counted_up, all_up}
-use Rattle.rec_apply.proofs.Naming.{named-nil, named-cons, named-append, split_at}
+use Rattle.rec_apply.specs.Batch.{CanChange, CanRise, counted_up, all_counted, all_up}
+use Rattle.rec_apply.specs.declared.way.Way.TheVariants.{Up}
+use Rattle.rec_apply.proofs.Naming.{named-nil, named-cons, named-append}
 
 -- the first of them names a slot that is there, and its count fits
-rise_first : (s : State) (t : Option ℕ) (ts : List (Option ℕ)) → CanRise s (t ∷ ts) → IfSome t (λ x. x < length s.slots) × IfSome t (λ x. (slot_at s x).count + 1 < 2 ^ 64)
-rise_first s None ts k = (tt, tt)
+pub rise_first : (s : State) (t : Option ℕ) (ts : List (Option ℕ)) → CanRise s (t ∷ ts) → IfSome t (λ x. CanChange Up s x)
+rise_first s None ts k = tt
 rise_first s (Some x) ts k =
     let n : named x (Some x ∷ ts) ≡ 1 + named x ts = named-cons x (Some x) ts ∙ ap (λ m. m + named x ts) (one-same x) in
     (elim (cases_lt x (length s.slots)) [ inl l ↦ l | inr l ↦ absurd (omega (arith, k.in_range x l, n)) ], omega (arith, k.fits x, n))
 
--- one increment, of a slot that is there
-rise_count : (s : State) (t : Option ℕ) (y : ℕ) → IfSome t (λ x. x < length s.slots) → (slot_at (counted_up s t) y).count ≡ (slot_at s y).count + one (is_slot y t)
+-- one increment
+rise_count : (s : State) (t : Option ℕ) (y : ℕ) → IfSome t (λ x. CanChange Up s x) → (slot_at (counted_up s t) y).count ≡ (slot_at s y).count + one (is_slot y t)
 rise_count s None y l = omega arith
 rise_count s (Some x) y l =
     elim (eqb_tells y x) [
-      | inl q ↦ let e : (slot_at (counted_up s (Some x)) y).count ≡ (slot_at s y).count + 1 = rw q.1 (ap (λ (w : Slot). w.count) (get_or-set_same s.slots x (raised (slot_at s x)) absent l)) in
+      | inl q ↦ let e : (slot_at (counted_up s (Some x)) y).count ≡ (slot_at s y).count + 1 = rw q.1 (ap (λ (w : Slot). w.count) (get_or-set_same s.slots x (raised (slot_at s x)) absent l.0)) in
           let n : one (eqb y x) ≡ 1 = ap one q.0 in
           omega (arith, e, n)
       | inr q ↦ let e : (slot_at (counted_up s (Some x)) y).count ≡ (slot_at s y).count = ap (λ (w : Slot). w.count) (get_or-set_other s.slots x y (raised (slot_at s x)) absent q.1) in
@@ -42,18 +42,18 @@ up_length s (Some x) = length-set s.slots x (raised (slot_at s x))
 rise_rest : (s : State) (t : Option ℕ) (ts : List (Option ℕ)) → CanRise s (t ∷ ts) → CanRise (counted_up s t) ts
 rise_rest s t ts k = record {
   in_range = λ x l. omega (arith, k.in_range x (omega (arith, up_length s t, l)), named-cons x t ts);
-  fits = λ x. omega (arith, k.fits x, named-cons x t ts, rise_count s t x (rise_first s t ts k).0);
+  fits = λ x. omega (arith, k.fits x, named-cons x t ts, rise_count s t x (rise_first s t ts k));
 }
 
 -- all of them
 pub rise_all : (s : State) (ts : List (Option ℕ)) → CanRise s ts → (y : ℕ) → (slot_at (all_up s ts) y).count ≡ (slot_at s y).count + named y ts
-unfolding all_up
+unfolding all_counted
 rise_all s [] k y = omega (arith, named-nil y)
 rise_all s (t ∷ ts) k y =
-    omega (arith, rise_all (counted_up s t) ts (rise_rest s t ts k) y, rise_count s t y (rise_first s t ts k).0, named-cons y t ts)
+    omega (arith, rise_all (counted_up s t) ts (rise_rest s t ts k) y, rise_count s t y (rise_first s t ts k), named-cons y t ts)
 
 up_length_all : (s : State) (ts : List (Option ℕ)) → length (all_up s ts).slots ≡ length s.slots
-unfolding all_up
+unfolding all_counted
 up_length_all s [] = refl
 up_length_all s (t ∷ ts) = up_length_all (counted_up s t) ts ∙ up_length s t
 
@@ -63,14 +63,9 @@ up_zeros s (Some x) = refl
 
 -- increments leave the zeros
 pub up_zeros_all : (s : State) (ts : List (Option ℕ)) → (all_up s ts).zeros ≡ s.zeros
-unfolding all_up
+unfolding all_counted
 up_zeros_all s [] = refl
 up_zeros_all s (t ∷ ts) = up_zeros_all (counted_up s t) ts ∙ up_zeros s t
-
--- one part of them after the other
-pub rise_append : (s : State) (ts us : List (Option ℕ)) → all_up s (ts ++ us) ≡ all_up (all_up s ts) us
-unfolding all_up
-rise_append s ts us = fold-append counted_up s ts us
 
 pub rise_left : (s : State) (ts us : List (Option ℕ)) → CanRise s (ts ++ us) → CanRise s ts
 rise_left s ts us k = record {
@@ -83,15 +78,3 @@ rise_right s ts us k = record {
   in_range = λ x l. omega (arith, k.in_range x (omega (arith, up_length_all s ts, l)), named-append x ts us);
   fits = λ x. omega (arith, k.fits x, named-append x ts us, rise_all s ts (rise_left s ts us k) x);
 }
-
--- at each place of the list
-pub rise_at : (s : State) (ts : List (Option ℕ)) (i : ℕ) → CanRise s ts → i < length ts → IfSome (get_or ts i None) (λ x. x < length (all_up s (take i ts)).slots) × IfSome (get_or ts i None) (λ x. (slot_at (all_up s (take i ts)) x).count + 1 < 2 ^ 64)
-rise_at s ts i k h = rise_first (all_up s (take i ts)) (get_or ts i None) (drop (i + 1) ts) (rise_right s (take i ts) (get_or ts i None ∷ drop (i + 1) ts) (subst (CanRise s) (split_at ts i h) k))
-
-pub up_none : (s : State) → s ≡ all_up s []
-unfolding all_up
-up_none s = refl
-
-pub up_more : (s : State) (ts : List (Option ℕ)) (i : ℕ) → i < length ts → all_up s (take (i + 1) ts) ≡ counted_up (all_up s (take i ts)) (get_or ts i None)
-unfolding all_up
-up_more s ts i h = fold_more counted_up s ts i None h

@@ -3,34 +3,48 @@ use Rattle.std.specs.Prelude.{◌≡◌, ℕ, ◌+◌, ◌<◌, ◌≤◌, ◌^�
 use Rattle.rec_counts.specs.Counts.{State, slot_at, with_slot, decremented}
 use Rattle.rec_counts.specs.Rest.{AreZeros}
 use Rattle.rec_counts.specs.Slot.{raised}
+use Rattle.rec_apply.specs.declared.way.Way.{Way}
+use Rattle.rec_apply.specs.declared.way.Way.TheVariants.{Up, Down}
+use Rattle.rec_counts.specs.Lists.{times}
 use Rattle.rec_log.specs.declared.contents.Contents.{Contents}
-use Rattle.rec_apply.specs.Targets.{new_target, old_target, named}
+use Rattle.rec_apply.specs.Targets.{entry_target, named}
 
--- an increment of what is named; null counts for nothing
+-- an increment of this slot, or a decrement
+abbrev pub changed : Way → State → ℕ → State
+changed Up s x = with_slot s x (raised (slot_at s x))
+changed Down s x = decremented s x
+
+-- what is named is counted; null counts for nothing
+abbrev pub counted : Way → State → Option ℕ → State
+counted way s None = s
+counted way s (Some x) = changed way s x
+
 abbrev pub counted_up : State → Option ℕ → State
-counted_up s None = s
-counted_up s (Some x) = with_slot s x (raised (slot_at s x))
+counted_up s t = counted Up s t
 
--- a decrement of what is named; null counts for nothing
 abbrev pub counted_down : State → Option ℕ → State
-counted_down s None = s
-counted_down s (Some x) = decremented s x
+counted_down s t = counted Down s t
 
--- what a buffer's increments name: the new targets of its entries, and then the snapshot
+-- what a buffer names: for increments the new targets of its entries, for decrements what they replaced or bore; and then
+-- the snapshot
+abbrev pub targets_of : Way → Contents → List (Option ℕ)
+targets_of way b = map (entry_target way) b.entries ++ b.snapshot
+
 abbrev pub up_targets : Contents → List (Option ℕ)
-up_targets b = map new_target b.entries ++ b.snapshot
+up_targets b = targets_of Up b
 
--- what a buffer's decrements name: what its entries replaced or bore, and then the snapshot
 abbrev pub down_targets : Contents → List (Option ℕ)
-down_targets b = map old_target b.entries ++ b.snapshot
+down_targets b = targets_of Down b
 
--- these increments, one after another
-unfoldable pub all_up : State → List (Option ℕ) → State
-all_up s targets = fold counted_up s targets
+-- these are counted, one after another
+unfoldable pub all_counted : Way → State → List (Option ℕ) → State
+all_counted way s targets = fold (counted way) s targets
 
--- these decrements, one after another
-unfoldable pub all_down : State → List (Option ℕ) → State
-all_down s targets = fold counted_down s targets
+abbrev pub all_up : State → List (Option ℕ) → State
+all_up s targets = all_counted Up s targets
+
+abbrev pub all_down : State → List (Option ℕ) → State
+all_down s targets = all_counted Down s targets
 
 -- the newer buffers' increments in order of mutator, and then the older buffers' decrements
 abbrev pub batch : State → (newer older : List Contents) → State
@@ -45,3 +59,12 @@ pub record CanRise (s : State) (targets : List (Option ℕ)) : Type 0 where
 pub record CanFall (s : State) (targets : List (Option ℕ)) : Type 0 where
   pub covered : (x : ℕ) → named x targets ≤ (slot_at s x).count
   pub zeros : AreZeros s
+
+abbrev pub CanCount : Way → State → List (Option ℕ) → Type 0
+CanCount Up s targets = CanRise s targets
+CanCount Down s targets = CanFall s targets
+
+-- this slot is there, and its count fits one more; or it has a count, and is not in the zeros
+abbrev pub CanChange : Way → State → ℕ → Type 0
+CanChange Up s x = (x < length s.slots) × ((slot_at s x).count + 1 < 2 ^ 64)
+CanChange Down s x = (x < length s.slots) × (0 < (slot_at s x).count) × (times x s.zeros ≡ 0)

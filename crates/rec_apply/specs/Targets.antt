@@ -1,6 +1,8 @@
 -- What a buffer names, and how often it names a slot.
 use Rattle.std.specs.Prelude.{ℕ, ◌+◌, Option, None, Some, List, map, count_by, sum_by}
 use Rattle.rec_word.specs.Word.{target_of, is_slot}
+use Rattle.rec_apply.specs.declared.way.Way.{Way}
+use Rattle.rec_apply.specs.declared.way.Way.TheVariants.{Up, Down}
 use Rattle.rec_log.specs.declared.contents.Contents.{Contents}
 use Rattle.rec_log.specs.declared.entry.Entry.{Entry}
 use Rattle.rec_log.specs.declared.entry.Entry.TheVariants.{Put, Born}
@@ -14,6 +16,11 @@ new_target (Born slot) = None
 abbrev pub old_target : Entry → Option ℕ
 old_target (Put place new old) = target_of old
 old_target (Born slot) = Some slot
+
+-- what it names for increments, or for decrements
+abbrev pub entry_target : Way → Entry → Option ℕ
+entry_target Up entry = new_target entry
+entry_target Down entry = old_target entry
 
 -- how often the slot stands among these targets
 unfoldable pub named : ℕ → List (Option ℕ) → ℕ

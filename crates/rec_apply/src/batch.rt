@@ -4,8 +4,8 @@ ghost use Rattle.rec_counts.specs.Rest.{AllZeros, AreZeros, KeepsRest};
 ghost use Rattle.rec_apply.specs.Targets.{added, taken};
 ghost use Rattle.rec_apply.specs.Batch.{batch};
 
-use crate::decrements::decrement_all;
-use crate::increments::increment_all;
+use crate::counting::count_all;
+use crate::way::Way;
 use rec_counts::Counts;
 use rec_log::Buffer;
 
@@ -26,6 +26,6 @@ pub fn apply(counts: &mut Counts, newer: &[Buffer], older: &[Buffer])
     ensures all_zeros { AllZeros counts.old → AllZeros counts.new }
     ensures rest { KeepsRest counts.old counts.new }
 {
-    increment_all(counts, newer);
-    decrement_all(counts, older);
+    count_all(counts, newer, Way::Up);
+    count_all(counts, older, Way::Down);
 }

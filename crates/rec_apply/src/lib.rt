@@ -12,10 +12,10 @@
 #![tactic(auto)]
 
 mod batch;
-mod decrements;
-mod increments;
+mod counting;
 mod targets;
 #[cfg(test)]
 mod tests;
+mod way;
 
 pub use batch::apply;

@@ -1,12 +1,24 @@
 //! What an entry names.
 ghost use Rattle.std.specs.Prelude.{◌≡◌};
-ghost use Rattle.rec_apply.specs.Targets.{new_target, old_target};
+ghost use Rattle.rec_apply.specs.Targets.{entry_target, new_target, old_target};
 
+use crate::way::Way;
 use rec_log::Entry;
 use rec_word::target;
 
+/// What the entry names, for the counts that go this way.
+#[inline(always)]
+pub(crate) fn entry_target(entry: Entry, way: Way) -> Option<u16>
+    ensures { result ≡ entry_target way entry }
+{
+    match way {
+        Way::Up => new_target(entry),
+        Way::Down => old_target(entry),
+    }
+}
+
 /// What the entry refers to from now on.
-pub(crate) fn new_target(entry: Entry) -> Option<u16>
+fn new_target(entry: Entry) -> Option<u16>
     ensures { result ≡ new_target entry }
 {
     match entry {
@@ -16,7 +28,7 @@ pub(crate) fn new_target(entry: Entry) -> Option<u16>
 }
 
 /// What the entry no longer refers to.
-pub(crate) fn old_target(entry: Entry) -> Option<u16>
+fn old_target(entry: Entry) -> Option<u16>
     ensures { result ≡ old_target entry }
 {
     match entry {

@@ -12,7 +12,7 @@ use Rattle.rec_counts.specs.Slot.{is_in}
 use Rattle.rec_counts.proofs.Times.{times-nil, times-cons, times-append}
 use Rattle.rec_release.specs.TakenOff.{IsMember, IsApart}
 use Rattle.rec_sigma.specs.declared.fate.Fate.{Fate}
-use Rattle.rec_sigma.specs.declared.fate.Fate.TheVariants.{Free, Zero, Root, Plain}
+use Rattle.rec_sigma.specs.declared.fate.Fate.TheVariants.{Free}
 use Rattle.rec_sigma.specs.Refurbish.{fate_at, fate_if, is_root, is_zero, refurbished, LastRefurbished}
 
 -- what the sets have, the earlier ones and the last have
@@ -35,9 +35,7 @@ times_filter p x (y ∷ ys) = go (p y) (times_filter p x ys)
 -- a refurbished member is Orange only where it was
 refurbished_orange : (f : Fate) (v : Slot) → (refurbished f v).colour ≡ Orange → v.colour ≡ Orange
 refurbished_orange Free v o = o
-refurbished_orange Zero v o = cc
-refurbished_orange Root v o = cc
-refurbished_orange Plain v o = cc
+refurbished_orange _ v o = cc
 
 -- a member that isn't released is Orange no more
 fate_uncolours : (released none root : Bool) (v : Slot) → released ≡ false → (refurbished (fate_if released none root) v).colour ≡ Orange → ⊥

@@ -14,7 +14,7 @@ use Rattle.rec_counts.specs.Colour.{is_gray, is_white}
 use Rattle.rec_counts.proofs.Decrementing.{rest_decremented}
 use Rattle.rec_counts.proofs.Keeping.{field_kept}
 use Rattle.rec_counts.proofs.Times.{times-nil}
-use Rattle.rec_apply.specs.Batch.{CanFall, all_down, all_up, batch, counted_down, counted_up, down_targets, up_targets}
+use Rattle.rec_apply.specs.Batch.{all_counted, CanFall, all_down, all_up, batch, counted_down, counted_up, down_targets, up_targets}
 use Rattle.rec_apply.proofs.Falling.{fall_first, fall_right, fall_zeros_all}
 use Rattle.rec_apply.proofs.Resting.{rest_all_up}
 use Rattle.rec_apply.proofs.Whole.{batch_rests}
@@ -69,7 +69,7 @@ tidy_up s (Some x) at i =
     }
 
 tidy_all_up : {fields : ℕ} → (s : State) (ts : List (Option ℕ)) (at : Option At) → IsTidy fields s at → IsTidy fields (all_up s ts) at
-unfolding all_up
+unfolding all_counted
 tidy_all_up s [] at i = i
 tidy_all_up s (t ∷ ts) at i = tidy_all_up (counted_up s t) ts at (tidy_up s t at i)
 
@@ -93,7 +93,7 @@ released_down s None r = r
 released_down s (Some x) r = released_rests s (counted_down s (Some x)) (rest_decremented s x) r
 
 tidy_all_down : {fields : ℕ} → (s : State) (ts : List (Option ℕ)) (at : Option At) → CanFall s ts → AreReleased s → IsTidy fields s at → IsTidy fields (all_down s ts) at
-unfolding all_down
+unfolding all_counted
 tidy_all_down s [] at c r i = i
 tidy_all_down s (t ∷ ts) at c r i = tidy_all_down (counted_down s t) ts at (fall_right s (t ∷ []) ts c) (released_down s t r) (tidy_down s t ts at c r i)
 

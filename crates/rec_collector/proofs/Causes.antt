@@ -6,7 +6,7 @@ use Rattle.rec_word.specs.declared.mailbox.Mailbox.TheVariants.{Retired}
 use Rattle.rec_word.specs.declared.op.Op.{Op}
 use Rattle.rec_word.specs.declared.op.Op.TheVariants.{StoreEpoch}
 use Rattle.rec_release.specs.declared.at.At.{At}
-use Rattle.rec_release.specs.declared.member.Member.{Member}
+use Rattle.rec_walk.specs.declared.member.Member.{Member}
 use Rattle.rec_release.specs.CycleFree as frees
 use Rattle.rec_release.specs.Release as releases
 use Rattle.rec_release.specs.Sweep.{next_of as sweep_next}
@@ -66,17 +66,9 @@ came_cause : (p : Private) (word : ℕ) (n : Next) → p.collections + 1 ≤ p.e
 came_cause p word n u z none = go n.phase none
   where
     go : (phase : Phase) → swept_at phase ≡ 0 → HasCause p word (ended_if phase (landed p (record { parts = n.parts; phase = phase }))) (came_turn p.epoch phase)
-    go Idle none = (refl, refl, ap (λ m. p.freed + m) z)
-    go (Looking t) none = (refl, refl, ap (λ m. p.freed + m) z)
-    go (Swapping t) none = (refl, refl, ap (λ m. p.freed + m) z)
-    go (Returning t) none = (refl, refl, ap (λ m. p.freed + m) z)
-    go Releasing none = (refl, refl, ap (λ m. p.freed + m) z)
-    go Freeing none = (refl, refl, ap (λ m. p.freed + m) z)
-    go Trying none = (refl, refl, ap (λ m. p.freed + m) z)
-    go Preparing none = (refl, refl, ap (λ m. p.freed + m) z)
-    go Opening none = (refl, refl, ap (λ m. p.freed + m) z)
     go (Sweeping m) none = (refl, refl, omega (arith, z, none))
     go (Closing m) none = (omega (arith, u), omega (arith, z, none), refl, refl, refl, refl)
+    go _ none = (refl, refl, ap (λ m. p.freed + m) z)
 
 idle_cause : (p : Private) (word : ℕ) (b : Bool) → is_spent p ≡ b → p.phase ≡ Idle → HasCause p word (cond b p (moved (record p { epoch = p.epoch + 1 }) (Looking 1))) (cond b EpochsSpent Moved)
 idle_cause p word true e is = (is, eqb-true (p.epoch + 1) (2 ^ 24) e, refl)
@@ -128,16 +120,12 @@ spent_at p word Idle is k n = elim (cases_eq (p.epoch + 1) (2 ^ 24)) [
   | inl e ↦ cond-true (is_spent p) _ _ (eq-eqb (p.epoch + 1) (2 ^ 24) e)
   | inr e ↦ absurd (false≢true (sym (subst (λ (o : Option Op). IsNone o) (cond-false (is_spent p) None (Some (StoreEpoch (p.epoch + 1))) (ne_eqb (p.epoch + 1) (2 ^ 24) e)) n)))
 ]
-spent_at p word (Looking t) is k n = absurd (false≢true (sym n))
-spent_at p word (Swapping t) is k n = absurd (false≢true (sym n))
-spent_at p word (Returning t) is k n = absurd (false≢true (sym n))
 spent_at p word Releasing is k n = absurd (is_none (releases.next_of p.release) (release_next p.release ∙ (now_at p Releasing k is).1) n)
 spent_at p word Freeing is k n = absurd (is_none (frees.next_of p.freeing) (freeing_next p.freeing ∙ (now_at p Freeing k is).1) n)
 spent_at p word Trying is k n = absurd (is_none (trial_next p.trial) (now_at p Trying k is).busy n)
 spent_at p word Preparing is k n = absurd (is_none (preps.next_of p.prep) (prep_next p.prep ∙ (now_at p Preparing k is).busy) n)
-spent_at p word Opening is k n = absurd (false≢true (sym n))
 spent_at p word (Sweeping m) is k n = absurd (is_none (sweep_next p.due) (due_slot p.counts.free p.due (now_at p (Sweeping m) k is).1 (now_at p (Sweeping m) k is).2) n)
-spent_at p word (Closing m) is k n = absurd (false≢true (sym n))
+spent_at p word _ is k n = absurd (false≢true (sym n))
 
 -- where no step comes next, the epochs are spent
 pub spends : (p : Private) (word : ℕ) → IsMachine p → IsNone (next_of p) → turn_of p word ≡ EpochsSpent

@@ -1,6 +1,6 @@
 -- From a batch to the next trial: what holds of the parts while slots are released and sets tested stays, move by move, and at the
 -- end a trial can begin.
-use Rattle.std.proofs.Common.{◌≡◌, ◌≢◌, ◌⊎◌, ℕ, zero, suc, ◌+◌, ◌-◌, ◌<◌, ◌≤◌, Bool, true, false, cond, None, Some, IsNone, IsSome, IfSome, List, [], ◌∷◌, ◌++◌, length, slice_get, refl, arith, sym, ◌∙◌, ap, subst, inl, inr}
+use Rattle.std.proofs.Common.{◌≡◌, ◌≢◌, ◌⊎◌, ℕ, zero, suc, ◌+◌, ◌-◌, ◌<◌, ◌≤◌, Bool, true, false, cond, None, Some, IsNone, IsSome, IfSome, get_or, List, [], ◌∷◌, ◌++◌, length, slice_get, refl, arith, sym, ◌∙◌, ap, subst, inl, inr}
 use Rattle.std.specs.List.{concat}
 use Rattle.std.proofs.lemmas.Bool.{cases_lt, false≢true}
 use Rattle.std.proofs.lemmas.List.{nil_from_length}
@@ -12,13 +12,15 @@ use Rattle.rec_counts.specs.Lists.{one, times}
 use Rattle.rec_counts.proofs.Times.{times-append, times-nil}
 use Rattle.rec_counts.proofs.Front.{nothing_first}
 use Rattle.rec_release.specs.CycleFree as frees
-use Rattle.rec_release.specs.CycleFree.{first_member, given_up}
+use Rattle.rec_walk.specs.Walk.{IsOf}
+use Rattle.rec_release.specs.CycleFree.{given_up}
 use Rattle.rec_release.specs.Release as releases
 use Rattle.rec_release.specs.Release.{started_of as zeros_started, emptied, first_of, with_next, without_first, IsReady}
 use Rattle.rec_release.specs.declared.at.At.{At}
-use Rattle.rec_release.specs.declared.member.Member.{Member}
-use Rattle.rec_release.proofs.Freeing.{more_field, off_work}
-use Rattle.rec_release.proofs.Giving.{given_is_work, first_none}
+use Rattle.rec_walk.specs.declared.member.Member.{Member}
+use Rattle.rec_release.proofs.Freeing.{off_work}
+use Rattle.rec_walk.proofs.Walks.{first_none}
+use Rattle.rec_release.proofs.Giving.{given_is_work}
 use Rattle.rec_release.proofs.Keeping.{held_off, ready_emptied, work_next, work_on}
 use Rattle.rec_release.proofs.TakenOff.{ready_off}
 use Rattle.rec_sigma.specs.Refurbish.{IsRefusable, LastRefurbished}
@@ -36,7 +38,7 @@ use Rattle.rec_collector.specs.Testing.{is_busy, last_tested, tested, verdict_of
 use Rattle.rec_collector.specs.declared.verdict.Verdict.{Verdict}
 use Rattle.rec_collector.specs.declared.verdict.Verdict.TheVariants.{Passed}
 use Rattle.rec_collector.proofs.Counting.{Counted, last_kept}
-use Rattle.rec_collector.proofs.Goings.{freed_by, freed_last, freed_more, freed_next, freed_off, first_work, last_by, last_given, last_refused, none_some, released_by, released_emptied, released_last, released_more, released_off, relieved_by, some_none, tested_all, released_most}
+use Rattle.rec_collector.proofs.Goings.{freed_by, freed_last, freed_off, first_work, last_by, last_given, last_refused, none_some, released_by, released_emptied, released_last, released_more, released_off, relieved_by, some_none, tested_all, released_most}
 use Rattle.rec_collector.proofs.Judging.{none_busy}
 use Rattle.rec_collector.proofs.Told.{last_same}
 use Rattle.rec_collector.proofs.Tidy.{tidy_emptied, tidy_given, tidy_listed, tidy_next, tidy_off, tidy_refurbished, IsTidy}
@@ -72,7 +74,7 @@ release_idle m s e r = record { field = subst (λ o. IfSome o (λ (a : At). a.fi
 pub freeing_idle : (m : frees.Machine) (s : State) → m.at ≡ None → s.work ≡ [] → IsReady s → frees.IsAtWork m s
 freeing_idle m s e n r = record {
   field = subst (λ o. IfSome o (λ (a : Member). a.field < m.fields)) (sym e) tt;
-  held = subst (λ o. IfSome o (frees.IsHeld s)) (sym e) tt;
+  held = subst (λ o. IfSome o (IsOf s.work)) (sym e) tt;
   unlisted = λ x h. absurd (omega (arith, h, ap (times x) n, times-nil x));
   released = λ x h. absurd (omega (arith, h, ap (times x) n, times-nil x));
   ready = r;
@@ -164,20 +166,11 @@ module _ (w : Parts) (word : ℕ) (counted : Counted w.counts word) (c : IsClear
   tidy_left : IsTidy w.prep.fields (freed_off w word) w.release.at
   tidy_left = tidy_off true w.counts (target_of word) w.release.at counted c.freeing.ready c.freeing.released (tidy_of c)
 
-  freed_more_clear : a.field + 1 < w.freeing.fields → IsClearing (freed_more w word a)
-  freed_more_clear l = clearing (freed_more w word a) c.idle c.unprepared tidy_left (release_idle w.release (freed_off w word) still freeing_left.ready) (more_field w.freeing.fields w.counts (target_of word) a l (freeing_at_work w a c e)) (inl still) (λ f. cc)
-
-  freed_next_clear : a.index + 1 < length (freed_off w word).work → IsClearing (freed_next w word a)
-  freed_next_clear l =
-      let field : a.field < w.freeing.fields = freeing_left.field in
-      let f : frees.IsAtWork (freed_next w word a).freeing (freed_off w word) = record {
-        field = omega (arith, field);
-        held = record { index = l; slot = refl };
-        unlisted = freeing_left.unlisted;
-        released = freeing_left.released;
-        ready = freeing_left.ready;
-      } in
-      clearing (freed_next w word a) c.idle c.unprepared tidy_left (release_idle w.release (freed_off w word) still freeing_left.ready) f (inl still) (λ g. cc)
+  -- another field comes next
+  freed_on_clear : (b : Member) → b.field < w.freeing.fields → IsOf (freed_off w word).work b → IsClearing (record w { counts = freed_off w word; freeing = record { fields = w.freeing.fields; at = Some b } })
+  freed_on_clear b f i =
+      let k : frees.IsAtWork (record { fields = w.freeing.fields; at = Some b }) (freed_off w word) = record { field = f; held = i; unlisted = freeing_left.unlisted; released = freeing_left.released; ready = freeing_left.ready } in
+      clearing (record w { counts = freed_off w word; freeing = record { fields = w.freeing.fields; at = Some b } }) c.idle c.unprepared tidy_left (release_idle w.release (freed_off w word) still freeing_left.ready) k (inl still) (λ g. cc)
 
   freed_last_clear : IsClearing (freed_last w word)
   freed_last_clear =
@@ -192,7 +185,9 @@ module _ (w : Parts) (word : ℕ) (counted : Counted w.counts word) (c : IsClear
 
 pub freed_clear : (w : Parts) (word : ℕ) → IsSome w.freeing.at → Counted w.counts word → IsKept w.counts → IsClearing w → IsClearing (with_freed w word)
 freed_clear w word busy h k c = freed_by IsClearing w word (λ e. none_some w.freeing.at e busy)
-    (λ a e l. freed_more_clear w word h c a e l) (λ a e l m. freed_next_clear w word h c a e m) (λ a e l m. freed_last_clear w word h c a e)
+    (λ a e l. let left = freeing_left w word h c a e in freed_on_clear w word h c a e (record { index = a.index; slot = a.slot; field = a.field + 1 }) l (record { index = left.held.index; slot = left.held.slot }))
+    (λ a e l m. let left = freeing_left w word h c a e in freed_on_clear w word h c a e (record { index = a.index + 1; slot = get_or (freed_off w word).work (a.index + 1) 0; field = 0 }) (let field : a.field < w.freeing.fields = left.field in omega (arith, field)) (record { index = m; slot = refl }))
+    (λ a e l m. freed_last_clear w word h c a e)
 
 -- once the set is freed, the zeros are released
 pub relieved_clear : (w : Parts) (word : ℕ) → 0 < w.release.fields → IsSome w.freeing.at → Counted w.counts word → IsKept w.counts → IsClearing w → IsClearing (relieved (with_freed w word)) × IsDone (relieved (with_freed w word))

@@ -13,11 +13,12 @@ use Rattle.rec_counts.specs.Slot.{absent}
 use Rattle.rec_counts.proofs.Times.{length-once, one-le, times-append, times-cons, times-nil}
 use Rattle.rec_counts.proofs.Front.{first_and_rest}
 use Rattle.rec_release.specs.CycleFree as frees
-use Rattle.rec_release.specs.CycleFree.{first_member, given_up}
+use Rattle.rec_walk.specs.Walk.{first_member}
+use Rattle.rec_release.specs.CycleFree.{given_up}
 use Rattle.rec_release.specs.Release as releases
 use Rattle.rec_release.specs.Release.{started_of as zeros_started, emptied, first_of, with_next, without_first, IsReady}
 use Rattle.rec_release.specs.declared.at.At.{At}
-use Rattle.rec_release.specs.declared.member.Member.{Member}
+use Rattle.rec_walk.specs.declared.member.Member.{Member}
 use Rattle.rec_release.proofs.Giving.{given_many, given_released}
 use Rattle.rec_release.proofs.Keeping.{emptied_length, first_zero, next_length, ready_emptied, released_first, released_same, FirstZero}
 use Rattle.rec_release.proofs.TakenOff.{ready_off}

@@ -9,7 +9,7 @@ use Rattle.rec_apply.specs.Batch.{CanFall, CanRise, all_up, batch, down_targets,
 use Rattle.rec_apply.proofs.Whole.{batch_falls, batch_rests, batch_rises}
 use Rattle.rec_apply.proofs.Kept.{batch_kept}
 use Rattle.rec_release.specs.declared.at.At.{At}
-use Rattle.rec_release.specs.declared.member.Member.{Member}
+use Rattle.rec_walk.specs.declared.member.Member.{Member}
 use Rattle.rec_collector.specs.Clearing.{HasExchanged, IsClearing, IsDone, IsWide}
 use Rattle.rec_collector.specs.Followed.{followed, next_in, relieved, tested_on, trial_started, with_freed, with_offers, with_released}
 use Rattle.rec_collector.specs.Given.{IsCovered}

@@ -12,7 +12,8 @@ use Rattle.rec_release.specs.Release as releases
 use Rattle.rec_release.specs.Release.{started_of as zeros_started, took_of as released_of, emptied, with_next, without_first}
 use Rattle.rec_release.specs.TakenOff.{taken_off}
 use Rattle.rec_release.specs.declared.at.At.{At}
-use Rattle.rec_release.specs.declared.member.Member.{Member}
+use Rattle.rec_walk.specs.declared.member.Member.{Member}
+use Rattle.rec_walk.specs.Walk as walks
 use Rattle.rec_release.proofs.Keeping.{next_sets}
 use Rattle.rec_release.proofs.TakenOff.{KeepsMost, off_most}
 use Rattle.rec_sigma.specs.declared.fate.Fate.{Fate}
@@ -100,11 +101,11 @@ freed_by P w word none more next last = go w.freeing.at refl
     off : State
     off = freed_off w word
 
-    member : (a : Member) → w.freeing.at ≡ Some a → w.freeing.fields ≤ a.field + 1 → (b : Bool) → ltb (a.index + 1) (length off.work) ≡ b → P (with_freeing w (frees.work_of w.freeing.fields (frees.next_member_if b off a)))
+    member : (a : Member) → w.freeing.at ≡ Some a → w.freeing.fields ≤ a.field + 1 → (b : Bool) → ltb (a.index + 1) (length off.work) ≡ b → P (with_freeing w (frees.work_of w.freeing.fields (frees.listed_behind off (walks.next_member_if b off.work a))))
     member a e l true f = next a e l (ltb-true (a.index + 1) (length off.work) f)
     member a e l false f = last a e l (ltb-false (a.index + 1) (length off.work) f)
 
-    gone : (a : Member) → w.freeing.at ≡ Some a → (b : Bool) → ltb (a.field + 1) w.freeing.fields ≡ b → P (with_freeing w (frees.work_of w.freeing.fields (frees.next_field_if b off a)))
+    gone : (a : Member) → w.freeing.at ≡ Some a → (b : Bool) → ltb (a.field + 1) w.freeing.fields ≡ b → P (with_freeing w (frees.work_of w.freeing.fields (frees.listed_behind off (walks.else_member (walks.next_field_if b a) off.work a))))
     gone a e true f = more a e (ltb-true (a.field + 1) w.freeing.fields f)
     gone a e false f = member a e (ltb-false (a.field + 1) w.freeing.fields f) (ltb (a.index + 1) (length off.work)) refl
 
@@ -125,7 +126,7 @@ abbrev pub last_given : Parts → Parts
 last_given w =
     record w {
       counts = frees.given_up w.counts;
-      freeing = record { fields = w.freeing.fields; at = frees.first_member (slice_get (last_set w.counts.sets) 0) };
+      freeing = record { fields = w.freeing.fields; at = walks.first_member (slice_get (last_set w.counts.sets) 0) };
       sets = counted_by Passed w.sets;
     }
 
@@ -148,9 +149,7 @@ all_sets first (x ∷ xs) s = let f : Fate = fate_at s first x in all_sets first
   where
     one_sets : (f : Fate) → (settled f s x).sets ≡ s.sets
     one_sets Free = refl
-    one_sets Zero = refl
-    one_sets Root = refl
-    one_sets Plain = refl
+    one_sets _ = refl
 
 all_many : (first : Option ℕ) (xs : List ℕ) (s : State) → length (settled_all first xs s).slots ≡ length s.slots
 all_many first [] s = refl

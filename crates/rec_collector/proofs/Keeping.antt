@@ -26,17 +26,8 @@ use Rattle.rec_collector.proofs.Trying.{took_tried, tried_lands}
 
 -- where nothing is to be swept, the collection is complete
 ended_if_keeps : (p : Private) (phase : Phase) → IsMachine p → p.phase ≡ phase → IsMachine (ended_if phase p)
-ended_if_keeps p Idle k e = k
-ended_if_keeps p (Looking t) k e = k
-ended_if_keeps p (Swapping t) k e = k
-ended_if_keeps p (Returning t) k e = k
-ended_if_keeps p Releasing k e = k
-ended_if_keeps p Freeing k e = k
-ended_if_keeps p Trying k e = k
-ended_if_keeps p Preparing k e = k
-ended_if_keeps p Opening k e = k
-ended_if_keeps p (Sweeping n) k e = k
 ended_if_keeps p (Closing n) k e = ended_keeps p n k e
+ended_if_keeps p _ k e = k
 
 -- a turn that works on the parts
 came_keeps : (p : Private) (n : Next) (phase : Phase) → IsMachine p → p.phase ≡ phase → under_way phase ≡ 1 → swept_at phase ≡ 0 → Lands p n → IsMachine (came p n)
@@ -79,16 +70,7 @@ came_sized p n box z = go n.phase
   where
     go : (phase : Phase) → IsSized (ended_if phase (landed p n)).registers (ended_if phase (landed p n)).capacity box
     go Idle = z
-    go (Looking t) = z
-    go (Swapping t) = z
-    go (Returning t) = z
-    go Releasing = z
-    go Freeing = z
-    go Trying = z
-    go Preparing = z
-    go Opening = z
-    go (Sweeping m) = z
-    go (Closing m) = z
+    go _ = z
 
 either_sized : (p q : Private) (box : Contents) (b : Bool) → IsSized p.registers p.capacity box → IsSized q.registers q.capacity box → IsSized (cond b p q).registers (cond b p q).capacity box
 either_sized p q box true y z = y
@@ -106,9 +88,7 @@ took_sized_at p word box Releasing z = came_sized p (followed (with_released (pa
 took_sized_at p word box Freeing z = came_sized p (followed (relieved (with_freed (parts_of p) word))) box z
 took_sized_at p word box Trying z = came_sized p (tried (with_tried (parts_of p) word)) box z
 took_sized_at p word box Preparing z = came_sized p (prepared (with_loaded (parts_of p) word)) box z
-took_sized_at p word box Opening z = z
-took_sized_at p word box (Sweeping n) z = z
-took_sized_at p word box (Closing n) z = z
+took_sized_at p word box _ z = z
 
 took_sized : (p : Private) (word : ℕ) (box : Contents) → IsSized p.registers p.capacity box → IsSized (took_of p word).registers (took_of p word).capacity box
 unfolding took_of
@@ -117,17 +97,8 @@ took_sized p word box z = took_sized_at p word box p.phase z
 -- the buffer of a mailbox that is held is swapped
 swapped_keeps : (p : Private) (box : Contents) (phase : Phase) → IsSized p.registers p.capacity box → IsMachine p → p.phase ≡ phase → IsMachine (swapped_at p box phase)
 unfolding swapped_at
-swapped_keeps p box Idle z k e = k
-swapped_keeps p box (Looking t) z k e = k
 swapped_keeps p box (Swapping t) z k e = swap_keeps p t box z k e
-swapped_keeps p box (Returning t) z k e = k
-swapped_keeps p box Releasing z k e = k
-swapped_keeps p box Freeing z k e = k
-swapped_keeps p box Trying z k e = k
-swapped_keeps p box Preparing z k e = k
-swapped_keeps p box Opening z k e = k
-swapped_keeps p box (Sweeping n) z k e = k
-swapped_keeps p box (Closing n) z k e = k
+swapped_keeps p box _ z k e = k
 
 -- a whole step
 pub machine_kept : (p : Private) (word : ℕ) (box : Contents) → IsMachine p → IsBetween p.phase → IsGiven p word → IsSized p.registers p.capacity box → IsMachine (step_of p word box)

@@ -3,13 +3,14 @@ use Rattle.std.proofs.Common.{◌≡◌, ℕ, ◌+◌, ◌*◌, ◌^◌, ◌<◌
 use Rattle.std.proofs.Math.Nat.{mul-le-mul}
 use Rattle.rec_counts.specs.Counts.{State, IsKept as IsKeptCounts}
 use Rattle.rec_sigma.specs.declared.at.At.{At}
-use Rattle.rec_sigma.specs.Prepared.{Load, PreparedTo}
+use Rattle.rec_walk.specs.Load.{Load}
+use Rattle.rec_sigma.specs.Prepared.{PreparedTo}
 use Rattle.rec_sigma.proofs.Bounds.{few_loads}
 use Rattle.rec_trial.proofs.Keeps.{at_work_few}
 use Rattle.rec_collector.specs.Private.{Private, parts_of}
 use Rattle.rec_collector.specs.Kept.{all_fields, limit_of, IsAt, IsMachine, IsPreparing, IsTesting, IsTrying}
 use Rattle.rec_collector.specs.declared.phase.Phase.{Phase}
-use Rattle.rec_collector.specs.declared.phase.Phase.TheVariants.{Idle, Looking, Swapping, Returning, Releasing, Freeing, Trying, Preparing, Opening, Sweeping, Closing}
+use Rattle.rec_collector.specs.declared.phase.Phase.TheVariants.{Idle, Releasing, Freeing, Trying, Preparing, Opening, Sweeping, Closing}
 use Rattle.rec_collector.proofs.Exchanging.{exchanged_few}
 
 -- a release and the freeing of sets exchange each field of a slot at most once
@@ -36,9 +37,6 @@ preparing_few p e k =
 
 within_at : (p : Private) (phase : Phase) → IsMachine p → IsAt p phase → p.turns ≤ limit_of p
 within_at p Idle m k = omega (arith, k.2)
-within_at p (Looking t) m k = omega (arith, k.turns, k.there)
-within_at p (Swapping t) m k = omega (arith, k.turns, k.there)
-within_at p (Returning t) m k = omega (arith, k.turns, k.there)
 within_at p Releasing m k = omega (arith, testing_few p m.counts k.0)
 within_at p Freeing m k = omega (arith, testing_few p m.counts k.0)
 within_at p Trying m k = omega (arith, trying_few p m.trial_fields k)
@@ -46,6 +44,7 @@ within_at p Preparing m k = omega (arith, preparing_few p m.prep_fields k)
 within_at p Opening m k = omega (arith, k.0.turns)
 within_at p (Sweeping n) m k = omega (arith, k.0.turns, k.0.left)
 within_at p (Closing n) m k = omega (arith, k.0.turns, k.0.left)
+within_at p _ m k = omega (arith, k.turns, k.there)
 
 -- in every state
 pub within_limit : (p : Private) → IsMachine p → p.turns ≤ limit_of p

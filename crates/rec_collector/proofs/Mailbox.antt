@@ -6,7 +6,7 @@ use Rattle.rec_word.specs.declared.mailbox.Mailbox.TheVariants.{Retired}
 use Rattle.rec_word.specs.declared.op.Op.{Op}
 use Rattle.rec_log.specs.declared.contents.Contents.{Contents}
 use Rattle.rec_release.specs.declared.at.At.{At}
-use Rattle.rec_release.specs.declared.member.Member.{Member}
+use Rattle.rec_walk.specs.declared.member.Member.{Member}
 use Rattle.rec_sigma.specs.declared.at.At as loads
 use Rattle.rec_trial.specs.Trial.{next_of as trial_next}
 use Rattle.rec_collector.specs.Followed.{followed, prep_started, prepared, prepared_at, relieved, sweep_phase, tested_on, trial_started, tried, tried_at, with_freed, with_loaded, with_released, with_tried, Next}
@@ -57,17 +57,8 @@ unfolding left_of left_at
 came_leaves p box n between = at n.phase between
   where
     at : (phase : Phase) → IsBetween phase → left_of (ended_if phase (moved (with_parts p n.parts) phase)) box ≡ box
-    at Idle between = refl
-    at (Looking t) between = refl
     at (Swapping t) between = absurd between
-    at (Returning t) between = refl
-    at Releasing between = refl
-    at Freeing between = refl
-    at Trying between = refl
-    at Preparing between = refl
-    at Opening between = refl
-    at (Sweeping n) between = refl
-    at (Closing n) between = refl
+    at _ between = refl
 
 -- a phase in which no mailbox is looked at
 keeps_in : (p : Private) (word : ℕ) (box left : Contents) (phase : Phase) → p.phase ≡ phase → ((t : ℕ) → phase ≢ Looking t) → left ≡ box → LeavesBox p word box left

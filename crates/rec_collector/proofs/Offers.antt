@@ -118,16 +118,7 @@ module _ (p : Private) (b : Bool) where
 
   told_on : (phase : Phase) → IsTold p phase → IsTold (record p { offers = b }) phase
   told_on Idle t = t
-  told_on (Looking n) t = t
-  told_on (Swapping n) t = t
-  told_on (Returning n) t = t
-  told_on Releasing t = t
-  told_on Freeing t = t
-  told_on Trying t = t
-  told_on Preparing t = t
-  told_on Opening t = t
-  told_on (Sweeping n) t = t
-  told_on (Closing n) t = t
+  told_on _ t = t
 
   pub offers_kept : IsMachine p → IsMachine (record p { offers = b })
   offers_kept k = record {

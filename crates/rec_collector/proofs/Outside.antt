@@ -23,7 +23,8 @@ use Rattle.rec_release.proofs.TakenOff.{written}
 use Rattle.rec_sigma.specs.declared.fate.Fate.{Fate}
 use Rattle.rec_sigma.specs.declared.fate.Fate.TheVariants as fates
 use Rattle.rec_sigma.specs.Refurbish.{refurbished, LastRefurbished}
-use Rattle.rec_sigma.specs.Prepared.{Load, PreparedTo}
+use Rattle.rec_walk.specs.Load.{Load}
+use Rattle.rec_sigma.specs.Prepared.{PreparedTo}
 use Rattle.rec_collector.specs.Outside.{AreOutside, IsOutside}
 
 -- the member was one before, and so many references were taken off its counts
@@ -118,9 +119,7 @@ given_lowers s number x i o =
 -- the last set is refurbished
 fate_member : (f : Fate) (u v : Slot) (number : ℕ) → v ≡ refurbished f u → v.set ≡ Some number → WasMember number u v
 fate_member fates.Free u v number e i = cc
-fate_member fates.Zero u v number e i = cc
-fate_member fates.Root u v number e i = cc
-fate_member fates.Plain u v number e i = cc
+fate_member _ u v number e i = cc
 
 pub refurbished_lowers : (s t : State) → LastRefurbished s t → Lowers s t
 refurbished_lowers s t r number x i o = elim (cases_lt 0 (times x (last_set s.sets))) [

@@ -9,7 +9,8 @@ use Rattle.rec_counts.proofs.Times.{length-once}
 use Rattle.rec_release.specs.TakenOff.{IsApart, IsMember}
 use Rattle.rec_sigma.specs.declared.at.At.{At}
 use Rattle.rec_sigma.specs.Prepare as preps
-use Rattle.rec_sigma.specs.Prepared.{KeepsOthers, Load, PreparedTo, loaded_at}
+use Rattle.rec_walk.specs.Load.{Load}
+use Rattle.rec_sigma.specs.Prepared.{KeepsOthers, PreparedTo, loaded_at}
 use Rattle.rec_sigma.proofs.Cyclics.{others_same}
 use Rattle.rec_sigma.proofs.Runs.{Came, came_first, came_on, more_others, next_set_others}
 use Rattle.rec_sigma.proofs.Kept.{others_kept}
@@ -95,7 +96,7 @@ took_others w word = go w.machine.at
   where
     go : (at : Option At) → KeepsOthers w.counts (preps.took_at w word at).counts
     go None = others_same w.counts
-    go (Some a) = more_others w.machine.fields a w.counts word (preps.took_at w word (Some a)) refl
+    go (Some a) = more_others w.machine.fields a w.counts word
 
 loaded_one : (at : Option At) (word : ℕ) → IsSome at → length (loaded_at at word) ≡ 1
 loaded_one None word b = cc

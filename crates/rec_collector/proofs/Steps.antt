@@ -9,7 +9,7 @@ use Rattle.rec_log.specs.declared.contents.Contents.{Contents}
 use Rattle.rec_counts.specs.Counts.{IsKept as IsKeptCounts}
 use Rattle.rec_release.specs.Sweep as sweeps
 use Rattle.rec_release.specs.declared.at.At.{At}
-use Rattle.rec_release.specs.declared.member.Member.{Member}
+use Rattle.rec_walk.specs.declared.member.Member.{Member}
 use Rattle.rec_sigma.specs.Refurbish.{LastRefurbished}
 use Rattle.rec_sigma.specs.Settling.{refurbished_of}
 use Rattle.rec_sigma.specs.declared.at.At as loads
@@ -136,17 +136,8 @@ unfolding swapped_of swapped_at
 same_swapped p box phase e b = ap (swapped_at p box) e ∙ go phase b
   where
     go : (f : Phase) → IsBetween f → swapped_at p box f ≡ p
-    go Idle b = refl
-    go (Looking t) b = refl
     go (Swapping t) b = absurd b
-    go (Returning t) b = refl
-    go Releasing b = refl
-    go Freeing b = refl
-    go Trying b = refl
-    go Preparing b = refl
-    go Opening b = refl
-    go (Sweeping n) b = refl
-    go (Closing n) b = refl
+    go _ b = refl
 
 idle_step : (p : Private) (word : ℕ) (box : Contents) → p.phase ≡ Idle → Step p word box (next_at p Idle) (swapped_of (took_at p word Idle) box) (turn_at p word Idle)
 unfolding next_at took_at turn_at swapped_of swapped_at

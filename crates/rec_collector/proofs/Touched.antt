@@ -19,7 +19,7 @@ use Rattle.rec_release.specs.Release as releases
 use Rattle.rec_release.specs.Release.{emptied, listed_if, without_first}
 use Rattle.rec_release.specs.Sweep as sweeps
 use Rattle.rec_release.specs.TakenOff.{down_if, IsApart, is_lowered, taken_off}
-use Rattle.rec_sigma.specs.Prepared.{Load}
+use Rattle.rec_walk.specs.Load.{Load}
 use Rattle.rec_collector.specs.Followed.{prep_started, relieved, with_freed, with_loaded, with_released, with_tried}
 use Rattle.rec_collector.specs.Given.{IsGiven, IsGivenAt}
 use Rattle.rec_collector.specs.Kept.{IsAtRest, IsMachine, under_way}

@@ -13,7 +13,7 @@ use Rattle.rec_counts.specs.Counts.{State, slot_at, with_slot, sent}
 use Rattle.rec_counts.specs.Lists.{one}
 use Rattle.rec_counts.specs.Slot.{absent, due_of, lessened, lessened_if, raised}
 use Rattle.rec_counts.proofs.Decrementing.{rest_decremented}
-use Rattle.rec_apply.specs.Batch.{all_down, all_up, batch, counted_down, counted_up, down_targets, up_targets}
+use Rattle.rec_apply.specs.Batch.{all_counted, all_down, all_up, batch, counted_down, counted_up, down_targets, up_targets}
 use Rattle.rec_apply.specs.Targets.{added, named, taken}
 use Rattle.rec_apply.proofs.Naming.{added_is, named-cons, named-nil, taken_is}
 use Rattle.rec_apply.proofs.Resting.{rest_all_up}
@@ -22,7 +22,7 @@ use Rattle.rec_collector.specs.Kept.{IsAt, IsMachine}
 use Rattle.rec_collector.specs.Outside.{AreOutside, HasSets, IsOutside}
 use Rattle.rec_collector.specs.Private.{Private}
 use Rattle.rec_collector.specs.declared.phase.Phase.{Phase}
-use Rattle.rec_collector.specs.declared.phase.Phase.TheVariants.{Idle, Looking, Swapping, Returning, Releasing, Freeing, Trying, Preparing, Opening, Sweeping, Closing}
+use Rattle.rec_collector.specs.declared.phase.Phase.TheVariants.{Looking, Swapping, Returning, Releasing, Freeing, Trying, Preparing}
 use Rattle.rec_sigma.specs.Prepared.{seen}
 
 -- of one slot: what it names loses the colour, and nothing else changes
@@ -88,12 +88,12 @@ first_spares s t u name n m y f r e = go (is_slot y name) refl
         record { before = λ o. omega (arith, e, w, r.before o); same = λ z. r.same (omega (arith, z, e, w)) ∙ f.kept q }
 
 ups_spare : (s : State) (names : List (Option ℕ)) (y : ℕ) → Spares s (all_up s names) (named y names) y
-unfolding all_up
+unfolding all_counted
 ups_spare s [] y = record { before = λ o. named-nil y; same = λ _. refl }
 ups_spare s (t ∷ ts) y = first_spares s (counted_up s t) (all_up (counted_up s t) ts) t (named y ts) (named y (t ∷ ts)) y (up_names s t y) (ups_spare (counted_up s t) ts y) (named-cons y t ts)
 
 downs_spare : (s : State) (names : List (Option ℕ)) (y : ℕ) → (slot_at s y).released ≡ false → Spares s (all_down s names) (named y names) y
-unfolding all_down
+unfolding all_counted
 downs_spare s [] y r = record { before = λ o. named-nil y; same = λ _. refl }
 downs_spare s (t ∷ ts) y r =
     first_spares s (counted_down s t) (all_down (counted_down s t) ts) t (named y ts) (named y (t ∷ ts)) y (down_names s t y r) (downs_spare (counted_down s t) ts y (down_released s t y ∙ r)) (named-cons y t ts)
@@ -130,7 +130,6 @@ batch_same s newer older y r o =
 
 -- the members of the sets of a machine
 outside_at : (p : Private) (phase : Phase) → IsAt p phase → HasSets phase → AreOutside p.prep.fields p.counts
-outside_at p Idle a h = a.0.outside
 outside_at p (Looking t) a h = a.rest.outside
 outside_at p (Swapping t) a h = a.rest.outside
 outside_at p (Returning t) a h = a.rest.outside
@@ -138,9 +137,7 @@ outside_at p Releasing a h = a.0.clearing.outside
 outside_at p Freeing a h = a.0.clearing.outside
 outside_at p Trying a h = absurd h
 outside_at p Preparing a h = absurd h
-outside_at p Opening a h = a.0.outside
-outside_at p (Sweeping n) a h = a.0.outside
-outside_at p (Closing n) a h = a.0.outside
+outside_at p _ a h = a.0.outside
 
 pub machine_outside : (p : Private) → IsMachine p → HasSets p.phase → AreOutside p.prep.fields p.counts
 machine_outside p k h = outside_at p p.phase k.now h

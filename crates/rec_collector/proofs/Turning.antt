@@ -7,11 +7,11 @@ use Rattle.rec_counts.specs.Counts.{slot_at}
 use Rattle.rec_apply.specs.Batch.{batch}
 use Rattle.rec_trial.specs.Rules.{LeadsToUnreleased}
 use Rattle.rec_collector.specs.Followed.{Next, followed, prepared, relieved, tried, with_freed, with_loaded, with_released, with_tried}
-use Rattle.rec_collector.specs.Given.{IsCovered}
+use Rattle.rec_collector.specs.Given.{IsCovered, IsGiven, IsGivenAt}
 use Rattle.rec_collector.specs.Kept.{IsMachine, KeepsSizes, swept_at, under_way}
 use Rattle.rec_collector.specs.Private.{Private, parts_of}
 use Rattle.rec_collector.specs.Testing.{zeros_released}
-use Rattle.rec_collector.specs.Took.{batched, came, came_turn, ended_if, moved, took_at, turn_at}
+use Rattle.rec_collector.specs.Took.{batched, came, came_turn, ended_if, moved, took_at, took_of, turn_at, turn_of}
 use Rattle.rec_collector.specs.declared.phase.Phase.{Phase}
 use Rattle.rec_collector.specs.declared.phase.Phase.TheVariants.{Looking, Returning, Releasing, Freeing, Trying, Preparing}
 use Rattle.rec_collector.specs.declared.turn.Turn.{Turn}
@@ -74,3 +74,29 @@ returned_next p t other = sym (cond-false (t == length p.newer) (came p (followe
 pub returned_moved : (p : Private) (t : ℕ) → t ≢ length p.newer → Moved ≡ turn_at p 0 (Returning t)
 unfolding turn_at
 returned_moved p t other = sym (cond-false (t == length p.newer) (came_turn p.epoch (followed (zeros_released false (batched p))).phase) Moved (ne_eqb t (length p.newer) other))
+
+-- what a word may be, by the phase
+pub asked : (p now : Private) (word : ℕ) (phase : Phase) → p ≡ now → p.phase ≡ phase → IsGiven now word → IsGivenAt now word phase
+unfolding IsGiven
+asked p now word phase v e g = subst (IsGivenAt now word) (ap (λ (q : Private). q.phase) (sym v) ∙ e) g
+
+-- and what is learnt
+pub learnt : (p now : Private) (word : ℕ) (q : Private) (turn : Turn) (phase : Phase) → p ≡ now → p.phase ≡ phase → q ≡ took_at now word phase → turn ≡ turn_at now word phase → (q ≡ took_of now word) × (turn ≡ turn_of now word)
+unfolding took_of turn_of
+learnt p now word q turn phase v e took told =
+    let f : now.phase ≡ phase = ap (λ (r : Private). r.phase) (sym v) ∙ e in
+    (took ∙ sym (ap (took_at now word) f), told ∙ sym (ap (turn_at now word) f))
+
+-- a turn on the parts, as its calls tell
+pub record Turned (now : Private) (word : ℕ) (phase : Phase) (q : Private) (answer : Turn) : Type 0 where
+  pub took : q ≡ took_at now word phase
+  pub turn : answer ≡ turn_at now word phase
+  pub same : KeepsSizes now q
+
+pub turned : (p now : Private) (word : ℕ) (phase : Phase) (n m : Next) (q : Private) (turn : Turn) → p ≡ now → came p m ≡ took_at p word phase → came_turn p.epoch m.phase ≡ turn_at p word phase → n ≡ m → Lands p m →
+    q ≡ ended_if n.phase (landed p n) → turn ≡ came_turn p.epoch n.phase → KeepsSizes (landed p n) q → Turned now word phase q turn
+turned p now word phase n m q turn v took told is l ends answers sizes = record {
+  took = turned_took p q n m ends is ∙ took ∙ ap (λ (r : Private). took_at r word phase) v;
+  turn = turned_turn p turn n m answers is ∙ told ∙ ap (λ (r : Private). turn_at r word phase) v;
+  same = subst (λ (r : Private). KeepsSizes r q) v (turned_sizes p q n m sizes is l);
+}

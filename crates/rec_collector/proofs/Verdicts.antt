@@ -4,7 +4,7 @@ use Rattle.std.proofs.lemmas.List.Sums.{sum_by-cons}
 use Rattle.std.proofs.lemmas.Bool.{cases_lt, eqb-true, eq-eqb, ne_eqb, false≢true}
 use Rattle.std.proofs.lemmas.Bool.Decides.{eqb_tells}
 use Rattle.rec_counts.specs.declared.colour.Colour.{Colour}
-use Rattle.rec_counts.specs.declared.colour.Colour.TheVariants.{Black, Purple, Gray, White, Orange}
+use Rattle.rec_counts.specs.declared.colour.Colour.TheVariants.{Orange}
 use Rattle.rec_counts.specs.Counts.{State, slot_at}
 use Rattle.rec_counts.specs.Lists.{one, times}
 use Rattle.rec_counts.specs.Colour.{is_orange}
@@ -34,11 +34,8 @@ all_fail p (y ∷ ys) h =
     omega (arith, one_more, none, all_fail p ys (λ x t. h x (omega (arith, t, times-cons x y ys))))
 
 orange_from : (c : Colour) → not (is_orange c) ≡ false → c ≡ Orange
-orange_from Black e = absurd (false≢true (sym e))
-orange_from Purple e = absurd (false≢true (sym e))
-orange_from Gray e = absurd (false≢true (sym e))
-orange_from White e = absurd (false≢true (sym e))
 orange_from Orange e = refl
+orange_from _ e = absurd (false≢true (sym e))
 
 -- no member is touched exactly where all are Orange
 untouched : (s : State) (number : ℕ) → touched s number ≡ 0 → AreOrange s number

@@ -8,7 +8,8 @@ use Rattle.rec_counts.specs.Counts.{State, IsKept}
 use Rattle.rec_counts.proofs.Times.{in_range_once, times_at}
 use Rattle.rec_release.specs.CycleFree as frees
 use Rattle.rec_release.specs.declared.at.At.{At}
-use Rattle.rec_release.specs.declared.member.Member.{Member}
+use Rattle.rec_walk.specs.declared.member.Member.{Member}
+use Rattle.rec_walk.specs.Walk.{IsOf}
 use Rattle.rec_release.specs.Release.{IsAtWork, IsHeld, Machine, next_of as release_next, op_at}
 use Rattle.rec_release.specs.Sweep.{next_of as sweep_next}
 use Rattle.rec_release.proofs.Sweeping.{first_in}
@@ -41,7 +42,7 @@ freeing_names : (m : frees.Machine) (s : State) (mutators : ℕ) → IsKept s �
 unfolding frees.next_of
 freeing_names m s mutators kept k = go m.at k.field k.held
   where
-    go : (at : Option Member) → IfSome at (λ (a : Member). a.field < m.fields) → IfSome at (frees.IsHeld s) → IfSome (frees.op_at m.fields at) (NamesWord (length s.slots) m.fields mutators)
+    go : (at : Option Member) → IfSome at (λ (a : Member). a.field < m.fields) → IfSome at (IsOf s.work) → IfSome (frees.op_at m.fields at) (NamesWord (length s.slots) m.fields mutators)
     go None f h = tt
     go (Some a) f h =
         let l : a.slot < length s.slots = in_range_once (length s.slots) s.work a.slot kept.work_once (rw h.slot (times_at s.work a.index h.index)) in

@@ -9,7 +9,7 @@ use Rattle.rec_release.specs.Released.{is_at}
 use Rattle.rec_release.specs.Sweep.{AreUnbuffered}
 use Rattle.rec_release.specs.TakenOff.{AllZerosButOrange, IsApart}
 use Rattle.rec_release.specs.declared.at.At.{At}
-use Rattle.rec_release.specs.declared.member.Member.{Member}
+use Rattle.rec_walk.specs.declared.member.Member.{Member}
 use Rattle.rec_trial.specs.Trial.{next_of as trial_next}
 use Rattle.rec_collector.specs.Outside.{AreOutside}
 use Rattle.rec_collector.specs.Parts.{Parts}

@@ -7,6 +7,7 @@ use Rattle.rec_counts.specs.Lists.{times}
 use Rattle.rec_release.specs.Sweep.{AreUnbuffered}
 use Rattle.rec_release.specs.TakenOff.{IsApart}
 use Rattle.rec_sigma.specs.Prepare as preps
+use Rattle.rec_walk.specs.Load.{Load}
 use Rattle.rec_sigma.specs.Prepared as prepared
 use Rattle.rec_trial.specs.Loaded as trials
 use Rattle.rec_trial.specs.Trial.{next_of as trial_next}
@@ -111,7 +112,7 @@ pub record IsPreparing (p : Private) : Type 0 where
   pub busy : IsSome p.prep.at
   pub before : State
   pub before_kept : IsKeptCounts before
-  pub loads : List prepared.Load
+  pub loads : List Load
   pub prepares : prepared.PreparedTo p.prep.fields before p.prep.at p.counts loads
   pub due : p.due ≡ None
   pub turns : p.turns ≤ 2 + 2 * length p.newer + 4 * all_fields p + length loads

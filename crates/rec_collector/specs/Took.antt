@@ -106,15 +106,13 @@ came_turn epoch phase = Moved
 unfoldable pub turn_at : Private → (word : ℕ) → Phase → Turn
 turn_at p word Idle = if is_spent p then EpochsSpent else Moved
 turn_at p word (Looking t) = if word == crossing_word p.epoch Retired then Moved else Waiting t
-turn_at p word (Swapping t) = Moved
 turn_at p word (Returning t) = if t == length p.newer then came_turn p.epoch (followed (zeros_released false (batched p))).phase else Moved
 turn_at p word Releasing = came_turn p.epoch (followed (with_released (parts_of p) word)).phase
 turn_at p word Freeing = came_turn p.epoch (followed (relieved (with_freed (parts_of p) word))).phase
 turn_at p word Trying = came_turn p.epoch (tried (with_tried (parts_of p) word)).phase
 turn_at p word Preparing = came_turn p.epoch (prepared (with_loaded (parts_of p) word)).phase
-turn_at p word Opening = Moved
-turn_at p word (Sweeping swept) = Moved
 turn_at p word (Closing swept) = Collected (p.epoch - 1) swept
+turn_at p word _ = Moved
 
 -- what a turn answers
 unfoldable pub turn_of : Private → (word : ℕ) → Turn

@@ -18,7 +18,7 @@ use Rattle.rec_counts.specs.Lists.{one, times}
 use Rattle.rec_counts.specs.Slot.{absent, raised}
 use Rattle.rec_log.specs.declared.contents.Contents.{Contents}
 use Rattle.rec_apply.specs.Targets.{added, named}
-use Rattle.rec_apply.specs.Batch.{all_down, all_up, batch, counted_down, counted_up, down_targets, up_targets}
+use Rattle.rec_apply.specs.Batch.{all_counted, all_down, all_up, batch, counted_down, counted_up, down_targets, up_targets}
 use Rattle.rec_apply.proofs.Naming.{added_is, named-nil, named-cons}
 use Rattle.rec_release.proofs.Orange.{not_orange_at}
 use Rattle.rec_core.specs.Cycles.{is_member, is_member_of, word_loaded, word_seen, SetsWait, SetsTest}
@@ -39,7 +39,7 @@ up_first s (Some x) y o =
     ]
 
 up_unnamed : (s : State) (ts : List (Option ℕ)) (y : ℕ) → (slot_at (all_up s ts) y).colour ≡ Orange → (named y ts ≡ 0) × (slot_at (all_up s ts) y ≡ slot_at s y)
-unfolding all_up
+unfolding all_counted
 up_unnamed s [] y o = (named-nil y, refl)
 up_unnamed s (t ∷ ts) y o =
     let rest = up_unnamed (counted_up s t) ts y o in
@@ -55,12 +55,12 @@ down_eases s None = less_same s
 down_eases s (Some x) = less_decremented s x
 
 less_up : (s : State) (ts : List (Option ℕ)) → TestsLess s (all_up s ts)
-unfolding all_up
+unfolding all_counted
 less_up s [] = less_same s
 less_up s (t ∷ ts) = less_on (up_eases s t) (less_up (counted_up s t) ts)
 
 less_down : (s : State) (ts : List (Option ℕ)) → TestsLess s (all_down s ts)
-unfolding all_down
+unfolding all_counted
 less_down s [] = less_same s
 less_down s (t ∷ ts) = less_on (down_eases s t) (less_down (counted_down s t) ts)
 

@@ -12,7 +12,8 @@ use Rattle.rec_model.specs.Pending.{node_of, home, Pending}
 use Rattle.rec_model.specs.References.{closed_at}
 use Rattle.rec_model.specs.Sets.{IsMarked, marked_in}
 use Rattle.rec_model.proofs.Weights.{none_if_differs}
-use Rattle.rec_trial.specs.Loaded.{Load, Run}
+use Rattle.rec_walk.specs.Load.{Load}
+use Rattle.rec_trial.specs.Loaded.{Run}
 use Rattle.rec_trial.specs.Promised.{IsTrial}
 use Rattle.rec_trial.specs.Tried.{members}
 use Rattle.rec_trial.specs.Trial.{next_of}

@@ -22,16 +22,17 @@ use Rattle.rec_counts.specs.Slot.{is_in}
 use Rattle.rec_counts.proofs.Keeping.{members_once, set_there}
 use Rattle.rec_counts.proofs.Times.{times-nil, times-cons, times-append, one-same, one-le, in_range_once}
 use Rattle.rec_sigma.specs.declared.at.At.{At}
-use Rattle.rec_sigma.specs.Prepared.{Load, PreparedTo, loaded_at, place_loaded, seen}
+use Rattle.rec_walk.specs.Load.{Load, place_loaded}
+use Rattle.rec_sigma.specs.Prepared.{PreparedTo, loaded_at, seen}
 use Rattle.rec_core.specs.Cycles.{AreFields, is_member_of, word_seen, SetsStand, SetsWait}
 use Rattle.rec_core.proofs.Places.{in_row, within_row}
 
 pub fields_begun : (fields : ℕ) → AreFields fields []
 fields_begun fields = All-nil (λ (l : Load). l.field < fields)
 
-pub fields_more : (fields : ℕ) (loads : List Load) (a : At) (word : ℕ) → a.field < fields → AreFields fields loads → AreFields fields (loads ++ loaded_at (Some a) word)
+pub fields_more : (fields : ℕ) (loads : List Load) (a : At) (word : ℕ) → a.member.field < fields → AreFields fields loads → AreFields fields (loads ++ loaded_at (Some a) word)
 fields_more fields loads a word below h =
-    let l : Load = record { slot = a.slot; field = a.field; word = word } in
+    let l : Load = record { slot = a.member.slot; field = a.member.field; word = word } in
     let field : Load → Type 0 = λ m. m.field < fields in
     All-append field loads (l ∷ []) h (All-cons field l [] below (All-nil field))
 

@@ -20,7 +20,8 @@ use Rattle.rec_model.proofs.Loading.{same_length, replaced_length, nothing_loade
 use Rattle.rec_model.proofs.Moving.{move_fields}
 use Rattle.rec_trial.specs.declared.phase.Phase.{Phase}
 use Rattle.rec_trial.specs.declared.phase.Phase.TheVariants.{Idle, Marking, Scanning, Collecting}
-use Rattle.rec_trial.specs.Loaded.{Load, Run, load_of, noted_at, noted}
+use Rattle.rec_walk.specs.Load.{Load}
+use Rattle.rec_trial.specs.Loaded.{Run, load_of, noted_at, noted}
 use Rattle.rec_trial.specs.Promised.{IsTrial, unloaded}
 use Rattle.rec_trial.specs.Tried.{is_of, loaded}
 use Rattle.rec_trial.specs.Trial.{Machine, Work, next_of}

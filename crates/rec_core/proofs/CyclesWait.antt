@@ -24,8 +24,8 @@ use Rattle.rec_counts.specs.Slot.{absent, is_in}
 use Rattle.rec_counts.proofs.Times.{times-nil}
 use Rattle.rec_model.proofs.Moving.{move_fields}
 use Rattle.rec_sigma.specs.declared.at.At.{At}
-use Rattle.rec_sigma.specs.Prepared.{KeepsOthers, Load, place_loaded, loaded_at}
-use Rattle.rec_trial.specs.Loaded as trials
+use Rattle.rec_walk.specs.Load.{Load, place_loaded}
+use Rattle.rec_sigma.specs.Prepared.{KeepsOthers, loaded_at}
 use Rattle.rec_core.specs.Cycles.{is_member, is_member_of, word_loaded, word_seen, SetsStand, SetsWait}
 
 -- how many places,
@@ -99,7 +99,7 @@ marked_moved {w} {v} member mark m after i alive t = record {
 }
 
 -- so does what was marked by these loads
-marks_moved : {w v : Pending} (member : ℕ → Bool) (marking : List trials.Load) (m : Move w v) → IsAfterLoads m → IsAccounted w → ((node : ℕ) → 0 < node → member node ≡ true → w.released node ≡ false) → IsMarked w member (word_loaded w.fields marking) → IsMarked v member (word_loaded v.fields marking)
+marks_moved : {w v : Pending} (member : ℕ → Bool) (marking : List Load) (m : Move w v) → IsAfterLoads m → IsAccounted w → ((node : ℕ) → 0 < node → member node ≡ true → w.released node ≡ false) → IsMarked w member (word_loaded w.fields marking) → IsMarked v member (word_loaded v.fields marking)
 marks_moved {w} {v} member marking m after i alive h = subst (λ f. IsMarked v member (word_loaded f marking)) (sym (move_fields m)) (marked_moved member (word_loaded w.fields marking) m after i alive h)
 
 -- the same members by another test
@@ -115,7 +115,7 @@ same_members : (w : Pending) (s t : State) (mark : ℕ → ℕ) → t.sets ≡ s
 same_members w s t mark e = marked_alike (is_member s) (is_member t) mark (λ node _. ap (λ sets. ltb 0 (times (node - 1) (concat sets))) e)
 
 -- preparation begins with what the trial left
-pub sets_stand_begun : (w : Pending) (s t : State) (marking : List trials.Load) → KeepsOthers s t → IsMarked w (is_member s) (word_loaded w.fields marking) → SetsStand w t []
+pub sets_stand_begun : (w : Pending) (s t : State) (marking : List Load) → KeepsOthers s t → IsMarked w (is_member s) (word_loaded w.fields marking) → SetsStand w t []
 sets_stand_begun w s t marking k marked = record {
   marking = marking;
   marked = same_members w s t (word_loaded w.fields marking) k.sets marked;
@@ -148,8 +148,8 @@ seen_more fields (m ∷ loads) l p = go (eqb p (place_loaded fields m)) (seen_mo
     go false h = h
 
 -- a field is loaded, once all mutators are past the applied epoch
-pub sets_stand_loaded : (w : Pending) (s t : State) (loads : List Load) (a : At) → IsAccounted w → w.applied + 1 ≡ w.requested → place_of a.slot a.field w.fields < length w.words → KeepsOthers s t → SetsStand w s loads
-    → SetsStand w t (loads ++ loaded_at (Some a) (word_in w (place_of a.slot a.field w.fields)))
+pub sets_stand_loaded : (w : Pending) (s t : State) (loads : List Load) (a : At) → IsAccounted w → w.applied + 1 ≡ w.requested → place_of a.member.slot a.member.field w.fields < length w.words → KeepsOthers s t → SetsStand w s loads
+    → SetsStand w t (loads ++ loaded_at (Some a) (word_in w (place_of a.member.slot a.member.field w.fields)))
 sets_stand_loaded w s t loads a i done within k h = record {
   marking = h.marking;
   marked = same_members w s t (word_loaded w.fields h.marking) k.sets h.marked;
@@ -160,10 +160,10 @@ sets_stand_loaded w s t loads a i done within k h = record {
 }
   where
     place : ℕ
-    place = place_of a.slot a.field w.fields
+    place = place_of a.member.slot a.member.field w.fields
 
     l : Load
-    l = record { slot = a.slot; field = a.field; word = word_in w place }
+    l = record { slot = a.member.slot; field = a.member.field; word = word_in w place }
 
 -- sets wait over the moves before the next batch
 pub sets_wait_moved : {w v : Pending} (s : State) (m : Move w v) → IsAfterLoads m → IsAccounted w → ((node : ℕ) → 0 < node → is_member s node ≡ true → w.released node ≡ false) → SetsWait w s → SetsWait v s

@@ -15,7 +15,7 @@ use Rattle.rec_release.specs.Release.{next_of as release_next, op_at as release_
 use Rattle.rec_release.specs.Sweep.{next_of as sweep_next, op_at as sweep_op_at}
 use Rattle.rec_release.specs.TakenOff.{IsApart}
 use Rattle.rec_release.specs.declared.at.At.{At}
-use Rattle.rec_release.specs.declared.member.Member.{Member}
+use Rattle.rec_walk.specs.declared.member.Member.{Member}
 use Rattle.rec_release.proofs.Sweeping.{first_in}
 use Rattle.rec_sigma.specs.Prepare.{next_of as prep_next, op_at as prep_op_at}
 use Rattle.rec_sigma.specs.declared.at.At as loads

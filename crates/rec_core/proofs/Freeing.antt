@@ -8,8 +8,9 @@ use Rattle.rec_model.specs.Accounted.{HasUncountedReleased}
 use Rattle.rec_counts.specs.Counts.{State, slot_at, IsKept as IsKeptCounts}
 use Rattle.rec_counts.specs.Lists.{times}
 use Rattle.rec_counts.proofs.Times.{in_range_once, times_at}
-use Rattle.rec_release.specs.declared.member.Member.{Member}
-use Rattle.rec_release.specs.CycleFree.{Machine, IsHeld, listed}
+use Rattle.rec_walk.specs.declared.member.Member.{Member}
+use Rattle.rec_walk.specs.Walk.{IsOf}
+use Rattle.rec_release.specs.CycleFree.{Machine, listed}
 use Rattle.rec_collector.specs.Clearing.{IsClearing}
 use Rattle.rec_collector.specs.Followed.{relieved, with_freed}
 use Rattle.rec_collector.specs.Parts.{Parts}
@@ -38,8 +39,8 @@ module _ (w : Core) (a : Member) (kept : IsKept w) (phase : w.collector.phase �
   clearing : IsClearing (parts_of c)
   clearing = (now_at w Freeing kept phase).0.clearing
 
-  held : IsHeld c.counts a
-  held = subst (λ o. IfSome o (IsHeld c.counts)) at clearing.freeing.held
+  held : IsOf c.counts.work a
+  held = subst (λ o. IfSome o (IsOf c.counts.work)) at clearing.freeing.held
 
   -- the member at work stands in the work list
   in_work : 0 < times a.slot c.counts.work

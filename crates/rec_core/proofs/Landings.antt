@@ -22,7 +22,7 @@ use Rattle.rec_counts.specs.Slot.{absent, fresh}
 use Rattle.rec_counts.specs.declared.slot.Slot.{Slot}
 use Rattle.rec_counts.proofs.Times.{times-append}
 use Rattle.rec_model.proofs.Opened.{named-nones}
-use Rattle.rec_release.specs.declared.member.Member.{Member}
+use Rattle.rec_walk.specs.declared.member.Member.{Member}
 use Rattle.rec_trial.specs.Promised.{unloaded}
 use Rattle.rec_trial.specs.Rules.{IsReady, released_among}
 use Rattle.rec_trial.specs.Trial as trials

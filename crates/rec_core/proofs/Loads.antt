@@ -36,7 +36,7 @@ use Rattle.rec_release.specs.CycleFree.{op_at as freeing_op_at, next_of as freei
 use Rattle.rec_release.specs.Release.{op_at as release_op_at, next_of as release_next}
 use Rattle.rec_release.specs.Sweep as sweeps
 use Rattle.rec_release.specs.declared.at.At.{At}
-use Rattle.rec_release.specs.declared.member.Member.{Member}
+use Rattle.rec_walk.specs.declared.member.Member.{Member}
 use Rattle.rec_collector.specs.Kept as collector_kept
 use Rattle.rec_collector.specs.Next as collectors_next
 use Rattle.rec_collector.specs.Parts.{Parts}

@@ -18,11 +18,12 @@ use Rattle.rec_release.specs.CycleFree.{op_at as freeing_op_at, next_of as freei
 use Rattle.rec_release.specs.Release.{op_at as release_op_at, next_of as release_next}
 use Rattle.rec_release.specs.Sweep.{op_at as sweep_op_at, next_of as sweep_next}
 use Rattle.rec_release.specs.declared.at.At as releases
-use Rattle.rec_release.specs.declared.member.Member.{Member}
+use Rattle.rec_walk.specs.declared.member.Member.{Member}
 use Rattle.rec_sigma.specs.declared.at.At.{At}
 use Rattle.rec_sigma.specs.Prepare as preps
 use Rattle.rec_sigma.specs.Prepare.{members_of}
-use Rattle.rec_sigma.specs.Prepared.{Load, PreparedTo, loaded_at, place_loaded, places_left, seen, sets_begun}
+use Rattle.rec_walk.specs.Load.{Load, place_loaded}
+use Rattle.rec_sigma.specs.Prepared.{PreparedTo, loaded_at, places_left, seen, sets_begun}
 use Rattle.rec_sigma.proofs.Cyclics.{seen-nil}
 use Rattle.rec_sigma.proofs.Runs.{Came, came_first, came_on, started_is}
 use Rattle.rec_collector.specs.Followed.{prep_started, with_loaded, with_tried}
@@ -177,13 +178,13 @@ stage_of fields before v loads u k on came = go on.goes
         Stage.done has (sym (append-nil (map (place_loaded fields) loads)) ∙ p.places) (done_members fields before v.collector.counts loads k p)
 
 -- a word more is loaded
-load_same : (w : Core) (op : Op) (a : At) (fields : ℕ) → op ≡ ops.LoadChild (place_of a.slot a.field fields) → a.field < fields → loaded_at (Some a) (cell (cells_of w) op) ≡ fields_loaded fields (loaded_by w (Some op))
+load_same : (w : Core) (op : Op) (a : At) (fields : ℕ) → op ≡ ops.LoadChild (place_of a.member.slot a.member.field fields) → a.member.field < fields → loaded_at (Some a) (cell (cells_of w) op) ≡ fields_loaded fields (loaded_by w (Some op))
 load_same w op a fields its below =
-    let place : ℕ = place_of a.slot a.field fields in
+    let place : ℕ = place_of a.member.slot a.member.field fields in
     let word : ℕ = slice_index_or w.words place 0 in
     let of : ℕ → ℕ → List Load = λ slot field. record { slot = slot; field = field; word = word } ∷ [] in
     ap (λ o. loaded_at (Some a) (cell (cells_of w) o)) its
-    ∙ (ap (λ n. of n a.field) (sym (div-mul-add a.slot fields a.field below)) ∙ ap (of (place / fields)) (sym (mod-mul-add a.slot fields a.field below)))
+    ∙ (ap (λ n. of n a.member.field) (sym (div-mul-add a.member.slot fields a.member.field below)) ∙ ap (of (place / fields)) (sym (mod-mul-add a.member.slot fields a.member.field below)))
     ∙ ap (λ o. fields_loaded fields (loaded_by w (Some o))) (sym its)
 
 -- a turn
@@ -212,9 +213,9 @@ module _ (w : Core) (before : State) (loads : List Load) (tells : IsKeptCounts b
           let on : LoadsOn (with_loaded (parts_of c) word) q = loads_on c word (box w (looked_at c.phase)) kept.collector.machine kept.collector.between (given_is w op kept named) at in
           let (a, due, its) = loads_due c.prep op (ap (next_at c) (sym at) ∙ named) in
           let its_fields : c.prep.fields ≡ fields = came.fields_kept in
-          let below : a.field < fields = subst (λ n. a.field < n) its_fields (subst (λ (o : Option At). IfSome o (λ (b : At). b.field < c.prep.fields)) due (now_at w Preparing kept at).kept.field) in
+          let below : a.member.field < fields = subst (λ n. a.member.field < n) its_fields (subst (λ (o : Option At). IfSome o (λ (b : At). b.member.field < c.prep.fields)) due (now_at w Preparing kept at).kept.field) in
           let further : List Load = loads ++ loaded_at c.prep.at word in
-          let whole : further ≡ loads ++ fields_loaded fields (loaded_by w (Some op)) = ap (λ o. loads ++ loaded_at o word) due ∙ ap (λ ls. loads ++ ls) (load_same w op a fields (its ∙ ap (λ n. ops.LoadChild (place_of a.slot a.field n)) its_fields) below) in
+          let whole : further ≡ loads ++ fields_loaded fields (loaded_by w (Some op)) = ap (λ o. loads ++ loaded_at o word) due ∙ ap (λ ls. loads ++ ls) (load_same w op a fields (its ∙ ap (λ n. ops.LoadChild (place_of a.member.slot a.member.field n)) its_fields) below) in
           let u : preps.Work = preps.took_of (record { machine = c.prep; counts = c.counts }) word in
           let took : Came fields before u further = came_on fields before (record { machine = c.prep; counts = c.counts }) loads word tells.numbers came in
           let there : Came fields before (record { machine = q.prep; counts = q.counts }) further = subst (λ s. Came fields before (record { machine = q.prep; counts = s }) further) (sym on.counts) (subst (λ m. Came fields before (record { machine = m; counts = u.counts }) further) (sym on.prep) took) in

@@ -35,24 +35,24 @@ use Rattle.rec_core.proofs.Trying.{target_there}
 use Rattle.rec_core.proofs.Turns.{alive_in, cycles_in, now_at}
 
 -- the operation of a preparation loads the field that is due
-pub loads_due : (m : Machine) (op : Op) → ◌≡◌ {A = Option Op} (next_of m) (Some op) → (a : At) × (m.at ≡ Some a) × (op ≡ LoadChild (place_of a.slot a.field m.fields))
+pub loads_due : (m : Machine) (op : Op) → ◌≡◌ {A = Option Op} (next_of m) (Some op) → (a : At) × (m.at ≡ Some a) × (op ≡ LoadChild (place_of a.member.slot a.member.field m.fields))
 unfolding next_of
 loads_due m op named = go m.at refl
   where
-    go : (at : Option At) → m.at ≡ at → (a : At) × (m.at ≡ Some a) × (op ≡ LoadChild (place_of a.slot a.field m.fields))
+    go : (at : Option At) → m.at ≡ at → (a : At) × (m.at ≡ Some a) × (op ≡ LoadChild (place_of a.member.slot a.member.field m.fields))
     go None e = let none : ◌≡◌ {A = Option Op} None (Some op) = sym (ap (op_at m.fields) e) ∙ named in absurd (cc)
-    go (Some a) e = (a, e, same (LoadChild (place_of a.slot a.field m.fields)) (sym named ∙ ap (op_at m.fields) e))
+    go (Some a) e = (a, e, same (LoadChild (place_of a.member.slot a.member.field m.fields)) (sym named ∙ ap (op_at m.fields) e))
       where
         same : (its : Op) → ◌≡◌ {A = Option Op} (Some op) (Some its) → op ≡ its
         same its is = cc
 
 -- that field is one of these places
-due_within : (m : Machine) (a : At) (places : ℕ) → m.at ≡ Some a → IfSome (next_of m) (LoadsWithin places) → place_of a.slot a.field m.fields < places
+due_within : (m : Machine) (a : At) (places : ℕ) → m.at ≡ Some a → IfSome (next_of m) (LoadsWithin places) → place_of a.member.slot a.member.field m.fields < places
 unfolding next_of
 due_within m a places e h = go (subst (λ (at : Option At). IfSome (op_at m.fields at) (LoadsWithin places)) e h)
   where
-    go : LoadsWithin places (LoadChild (place_of a.slot a.field m.fields)) → place_of a.slot a.field m.fields < places
-    go (place, is, below) = let same : place_of a.slot a.field m.fields ≡ place = cc in omega (arith, same, below)
+    go : LoadsWithin places (LoadChild (place_of a.member.slot a.member.field m.fields)) → place_of a.member.slot a.member.field m.fields < places
+    go (place, is, below) = let same : place_of a.member.slot a.member.field m.fields ≡ place = cc in omega (arith, same, below)
 
 module _ (w : Core) (kept : IsKept w) (phase : w.collector.phase ≡ Preparing) where
   now : collector_kept.IsPreparing w.collector
@@ -66,7 +66,7 @@ module _ (w : Core) (kept : IsKept w) (phase : w.collector.phase ≡ Preparing) 
 
   module _ (a : At) (at : w.collector.prep.at ≡ Some a) where
     abbrev place : ℕ
-    place = place_of a.slot a.field w.config.fields
+    place = place_of a.member.slot a.member.field w.config.fields
 
     abbrev found : ℕ
     found = slice_index_or w.words place 0
@@ -77,9 +77,9 @@ module _ (w : Core) (kept : IsKept w) (phase : w.collector.phase ≡ Preparing) 
     inside : place < length w.words
     inside =
         let many : length w.collector.counts.slots * w.collector.prep.fields ≡ length w.words = fields_many w (length w.collector.counts.slots) w.collector.prep.fields kept kept.collector.slots fields in
-        let below : place_of a.slot a.field w.collector.prep.fields < length w.collector.counts.slots * w.collector.prep.fields
+        let below : place_of a.member.slot a.member.field w.collector.prep.fields < length w.collector.counts.slots * w.collector.prep.fields
         = due_within w.collector.prep a (length w.collector.counts.slots * w.collector.prep.fields) at (names_place w.collector.prep w.collector.counts kept.collector.machine.counts now.kept) in
-        let same : place_of a.slot a.field w.collector.prep.fields ≡ place = ap (place_of a.slot a.field) fields in
+        let same : place_of a.member.slot a.member.field w.collector.prep.fields ≡ place = ap (place_of a.member.slot a.member.field) fields in
         omega (arith, below, many, same)
 
     -- its word leads to a slot that is there
@@ -111,7 +111,7 @@ module _ (w : Core) (kept : IsKept w) (phase : w.collector.phase ≡ Preparing) 
         let drops : Drops p v = landed_drops w w.words w.collector.counts after.counts alike in
         let stands : SetsStand p w.collector.counts seen.loads = subst (λ (x : Pending). SetsStand x w.collector.counts seen.loads) (here_pending w Preparing phase unswept) seen.stands in
         let moved : SetsStand v w.collector.counts seen.loads = sets_stand_moved w.collector.counts seen.loads (dropping drops) tt (lands_here w Preparing kept phase unswept).accounted (alive_in w Preparing kept phase) stands in
-        let below : a.field < w.config.fields = subst (λ n. a.field < n) fields (subst (λ (o : Option At). IfSome o (λ (b : At). b.field < w.collector.prep.fields)) at now.kept.field) in
+        let below : a.member.field < w.config.fields = subst (λ n. a.member.field < n) fields (subst (λ (o : Option At). IfSome o (λ (b : At). b.member.field < w.collector.prep.fields)) at now.kept.field) in
         record {
           before = seen.before;
           before_kept = seen.before_kept;

@@ -26,7 +26,7 @@ use Rattle.rec_model.proofs.Within.{all_reached}
 use Rattle.rec_model.proofs.Words.{words_of-set_other}
 use Rattle.rec_counts.specs.Counts.{slot_at}
 use Rattle.rec_release.specs.declared.at.At.{At}
-use Rattle.rec_release.specs.declared.member.Member.{Member}
+use Rattle.rec_walk.specs.declared.member.Member.{Member}
 use Rattle.rec_release.specs.CycleFree.{op_at as freeing_op_at, next_of as freeing_next}
 use Rattle.rec_release.specs.Release.{op_at as release_op_at, next_of as release_next}
 use Rattle.rec_release.specs.Sweep.{next_of as sweep_next}
@@ -158,7 +158,7 @@ turned_at_keeps w op Freeing kept is named = go w.collector.freeing.at refl
         let its : op ≡ ops.ClearField (place_of a.slot a.field w.config.fields) = some_op op (ops.ClearField (place_of a.slot a.field w.config.fields)) (sym named ∙ ap (freeing_op_at w.collector.freeing.fields) at ∙ ap (λ n. Some (ops.ClearField (place_of a.slot a.field n))) fields) in
         subst (λ o. KeepsReached (sight w) (sight (turned_at w (Some o)))) (sym its) (keeps_others_field w a.slot a.field kept (freeing.may_empty w a kept is at).within (freeing.may_empty w a kept is at).released)
 turned_at_keeps w op Trying kept is named = let (place, its) = loads_child w.collector.trial op (sym named) in load_keeps w op place its
-turned_at_keeps w op Preparing kept is named = let (a, at, its) = loads_due w.collector.prep op named in load_keeps w op (place_of a.slot a.field w.collector.prep.fields) its
+turned_at_keeps w op Preparing kept is named = let (a, at, its) = loads_due w.collector.prep op named in load_keeps w op (place_of a.member.slot a.member.field w.collector.prep.fields) its
 turned_at_keeps w op Opening kept is named = subst (λ o. KeepsReached (sight w) (sight (turned_at w (Some o)))) (sym (some_op op ops.AddFreed (sym named))) (keeps_all (sight w))
 turned_at_keeps w op (Sweeping n) kept is named = go w.collector.due refl
   where

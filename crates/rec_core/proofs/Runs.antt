@@ -9,7 +9,7 @@ use Rattle.rec_counts.specs.Counts.{slot_at}
 use Rattle.rec_release.specs.CycleFree.{op_at as freeing_op_at, next_of as freeing_next}
 use Rattle.rec_release.specs.Release.{op_at as release_op_at, next_of as release_next}
 use Rattle.rec_release.specs.declared.at.At.{At}
-use Rattle.rec_release.specs.declared.member.Member.{Member}
+use Rattle.rec_walk.specs.declared.member.Member.{Member}
 use Rattle.rec_trial.specs.Rules.{LeadsToUnreleased}
 use Rattle.rec_collector.specs.Given.{IsGivenAt, IsGiven, IsSized}
 use Rattle.rec_collector.specs.Kept as collector_kept
@@ -89,9 +89,9 @@ given_at w op Trying kept is named =
     subst (λ o. LeadsToUnreleased w.collector.counts (cell (cells_of w) o)) (sym its) (loaded_leads w kept is place (named ∙ ap (λ o. Some o) its))
 given_at w op Preparing kept is named =
     let (a, at, due) = loads_due w.collector.prep op named in
-    let place : ℕ = place_of a.slot a.field w.config.fields in
+    let place : ℕ = place_of a.member.slot a.member.field w.config.fields in
     let fields : w.collector.prep.fields ≡ w.config.fields = kept.collector.machine.prep_fields ∙ kept.collector.fields in
-    let its : op ≡ ops.LoadChild place = due ∙ ap (λ n. ops.LoadChild (place_of a.slot a.field n)) fields in
+    let its : op ≡ ops.LoadChild place = due ∙ ap (λ n. ops.LoadChild (place_of a.member.slot a.member.field n)) fields in
     let found : cell (cells_of w) op ≡ slice_index_or w.words place 0 = ap (cell (cells_of w)) its in
     subst (λ n. IfSome (target_of n) (λ slot. slot < length w.collector.counts.slots)) (sym found) (seen_there w kept is a at)
 given_at w op Opening kept is named = tt

@@ -9,9 +9,11 @@ use Rattle.rec_counts.specs.Lists.{one, times}
 use Rattle.rec_counts.specs.declared.slot.Slot.{Slot}
 use Rattle.rec_counts.proofs.Times.{times-nil, times-cons}
 use Rattle.rec_counts.proofs.Front.{nothing_first}
-use Rattle.rec_release.specs.CycleFree.{IsFreeable, first_member, given_up}
+use Rattle.rec_walk.specs.Walk.{first_member}
+use Rattle.rec_release.specs.CycleFree.{IsFreeable, given_up}
 use Rattle.rec_release.specs.Release.{IsReady}
-use Rattle.rec_release.proofs.Giving.{given_many, given_released, given_work, first_none}
+use Rattle.rec_walk.proofs.Walks.{first_none}
+use Rattle.rec_release.proofs.Giving.{given_many, given_released, given_work}
 use Rattle.rec_release.proofs.Kept.{given_kept}
 use Rattle.rec_sigma.specs.Refurbish.{IsRefusable, LastRefurbished}
 use Rattle.rec_sigma.specs.Settling.{refurbished_of}

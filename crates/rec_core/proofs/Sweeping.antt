@@ -30,7 +30,7 @@ use Rattle.rec_counts.specs.Slot.{is_in as is_in_set}
 use Rattle.rec_counts.specs.declared.slot.Slot.{Slot}
 use Rattle.rec_counts.proofs.Times.{times-nil, times-cons, times_part, times_rest, one-same, one-le, in_range_once}
 use Rattle.rec_release.specs.declared.at.At.{At}
-use Rattle.rec_release.specs.declared.member.Member.{Member}
+use Rattle.rec_walk.specs.declared.member.Member.{Member}
 use Rattle.rec_release.specs.Sweep.{swept}
 use Rattle.rec_release.proofs.Sweeping.{first_in}
 use Rattle.rec_mutator.specs.Private.{Private}

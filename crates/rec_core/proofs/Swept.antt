@@ -9,7 +9,7 @@ use Rattle.rec_log.specs.declared.contents.Contents.{Contents}
 use Rattle.rec_model.specs.Sight.{IsTaken}
 use Rattle.rec_counts.specs.Counts.{slot_at}
 use Rattle.rec_release.specs.declared.at.At.{At}
-use Rattle.rec_release.specs.declared.member.Member.{Member}
+use Rattle.rec_walk.specs.declared.member.Member.{Member}
 use Rattle.rec_release.specs.CycleFree.{next_of as freeing_next, op_at as freeing_op_at}
 use Rattle.rec_release.specs.Release.{next_of as release_next, op_at as release_op_at}
 use Rattle.rec_release.specs.Sweep as sweeps
@@ -116,7 +116,7 @@ rule_sweeps w op word q turn left kept names found (Step.trial trying named on) 
     rests_by w op (ops.LoadChild place) word q left its refl refl (none_told w q (trial_told w.collector _ q turn on)) names tt
 rule_sweeps w op word q turn left kept names found (Step.preparation preparing named on) =
     let (a, at, its) = loads_due w.collector.prep op (sym named) in
-    rests_by w op (ops.LoadChild (place_of a.slot a.field w.collector.prep.fields)) word q left its refl refl (none_told w q (preparation_told w.collector _ q turn on)) names tt
+    rests_by w op (ops.LoadChild (place_of a.member.slot a.member.field w.collector.prep.fields)) word q left its refl refl (none_told w q (preparation_told w.collector _ q turn on)) names tt
 rule_sweeps w op word q turn left kept names found (Step.begin_sweep opening named g) =
     let its : op ≡ ops.AddFreed = some_op op ops.AddFreed named in
     let none : one_if_sweeping w.collector.phase ≡ 0 = ap one_if_sweeping opening in

@@ -15,7 +15,7 @@ use Rattle.rec_counts.specs.Counts.{slot_at}
 use Rattle.rec_counts.specs.Slot.{fresh}
 use Rattle.rec_counts.specs.declared.slot.Slot.{Slot}
 use Rattle.rec_release.specs.declared.at.At.{At}
-use Rattle.rec_release.specs.declared.member.Member.{Member}
+use Rattle.rec_walk.specs.declared.member.Member.{Member}
 use Rattle.rec_trial.specs.declared.phase.Phase as trial_phases
 use Rattle.rec_trial.specs.declared.phase.Phase.TheVariants as trial_at
 use Rattle.rec_trial.specs.Loaded.{noted}

@@ -8,7 +8,7 @@ use Rattle.rec_word.specs.Place.{place_of}
 use Rattle.rec_word.specs.declared.op.Op.{Op}
 use Rattle.rec_word.specs.declared.op.Op.TheVariants.{LoadChild}
 use Rattle.rec_release.specs.declared.at.At.{At}
-use Rattle.rec_release.specs.declared.member.Member.{Member}
+use Rattle.rec_walk.specs.declared.member.Member.{Member}
 use Rattle.rec_release.specs.Sweep.{swept}
 use Rattle.rec_sigma.specs.declared.at.At as loads
 use Rattle.rec_trial.specs.Trial.{next_of as trial_next}
@@ -60,7 +60,7 @@ pub data IsTurn (w v : Core) : Type 0 where
   tries : (place : ℕ) (q : Private) (turn : Turn) → w.collector.phase ≡ Trying → ◌≡◌ {A = Option Op} (trial_next w.collector.trial) (Some (LoadChild place))
       → TriesOn w.collector (with_tried (parts_of w.collector) (slice_index_or w.words place 0)) q turn → v ≡ record w { collector = q } → IsTurn w v
   prepares : (a : loads.At) (q : Private) (turn : Turn) → w.collector.phase ≡ Preparing → w.collector.prep.at ≡ Some a
-      → PreparesOn w.collector (with_loaded (parts_of w.collector) (word_at w a.slot a.field)) q turn → v ≡ record w { collector = q } → IsTurn w v
+      → PreparesOn w.collector (with_loaded (parts_of w.collector) (word_at w a.member.slot a.member.field)) q turn → v ≡ record w { collector = q } → IsTurn w v
   begins_sweep : w.collector.phase ≡ Opening → v ≡ record w { freed = w.freed + 1; collector = moved (record w.collector { due = slice_get w.collector.counts.free 0 }) (Sweeping 0) } → IsTurn w v
   sweeps : (n slot : ℕ) (next : Phase) → w.collector.phase ≡ Sweeping n → w.collector.due ≡ Some slot → (next ≡ Sweeping (n + 1)) ⊎ (next ≡ Closing (n + 1))
       → v ≡ record w { headers = slice_set w.headers slot 0; collector = swept_by w.collector slot next } → IsTurn w v

@@ -11,7 +11,7 @@ use Rattle.rec_word.specs.declared.op.Op.{Op}
 use Rattle.rec_word.specs.declared.op.Op.TheVariants as ops
 use Rattle.rec_log.specs.declared.contents.Contents.{Contents}
 use Rattle.rec_release.specs.declared.at.At.{At}
-use Rattle.rec_release.specs.declared.member.Member.{Member}
+use Rattle.rec_walk.specs.declared.member.Member.{Member}
 use Rattle.rec_release.specs.CycleFree.{next_of as freeing_next, op_at as freeing_op_at}
 use Rattle.rec_release.specs.Release.{next_of as release_next, op_at as release_op_at}
 use Rattle.rec_release.specs.Sweep as sweeps
@@ -172,9 +172,9 @@ rule_kept w op word q turn m (Step.trial trying named on) =
     (subst (λ o. IsKept (record (collected w o word q (box w 1)) { boxes = w.boxes })) (sym its) (subst (λ ws. IsKept (record w { words = ws; collector = q })) (sym stays) whole))
 rule_kept w op word q turn m (Step.preparation preparing named on) =
     let (a, at, due) = loads_due w.collector.prep op (sym named) in
-    let place : ℕ = place_of a.slot a.field w.config.fields in
+    let place : ℕ = place_of a.member.slot a.member.field w.config.fields in
     let fields : w.collector.prep.fields ≡ w.config.fields = m.kept.collector.machine.prep_fields ∙ m.kept.collector.fields in
-    let its : op ≡ ops.LoadChild place = due ∙ ap (λ n. ops.LoadChild (place_of a.slot a.field n)) fields in
+    let its : op ≡ ops.LoadChild place = due ∙ ap (λ n. ops.LoadChild (place_of a.member.slot a.member.field n)) fields in
     let found : word ≡ slice_index_or w.words place 0 = m.found ∙ ap (cell (cells_of w)) its in
     let stays : slice_set w.words place word ≡ w.words = ap (slice_set w.words place) found ∙ set-get_or w.words place 0 in
     let whole = preparing_kept w m.kept preparing a at q turn m.machine (subst (λ n. PreparesOn w.collector (with_loaded (parts_of w.collector) n) q turn) found on) in

@@ -10,7 +10,8 @@ use Rattle.rec_counts.specs.declared.colour.Colour.TheVariants.{Orange}
 use Rattle.rec_counts.specs.Counts.{State, slot_at}
 use Rattle.rec_counts.specs.Lists.{times}
 use Rattle.rec_counts.specs.Slot.{is_in}
-use Rattle.rec_trial.specs.Loaded.{Load, Run}
+use Rattle.rec_walk.specs.Load.{Load, place_loaded}
+use Rattle.rec_trial.specs.Loaded.{Run}
 use Rattle.rec_trial.specs.Tried.{loaded}
 use Rattle.rec_trial.specs.Witnessed.{word_at}
 use Rattle.rec_sigma.specs.Prepared as prepared
@@ -28,13 +29,13 @@ abbrev pub word_loaded : (fields : ℕ) → List Load → (place : ℕ) → ℕ
 word_loaded fields loads place = word_at loads (place / fields) (place % fields)
 
 -- the word that preparation loaded from the field at this place, 0 where it loaded none
-abbrev pub word_seen : (fields : ℕ) → List prepared.Load → (place : ℕ) → ℕ
+abbrev pub word_seen : (fields : ℕ) → List Load → (place : ℕ) → ℕ
 word_seen fields [] place = 0
-word_seen fields (l ∷ loads) place = if place == prepared.place_loaded fields l then l.word else word_seen fields loads place
+word_seen fields (l ∷ loads) place = if place == place_loaded fields l then l.word else word_seen fields loads place
 
 -- each of these loads is of a field that a slot has
-abbrev pub AreFields : (fields : ℕ) → List prepared.Load → Type 0
-AreFields fields loads = All (λ (l : prepared.Load). l.field < fields) loads
+abbrev pub AreFields : (fields : ℕ) → List Load → Type 0
+AreFields fields loads = All (λ (l : Load). l.field < fields) loads
 
 -- A trial is at work. Each word that marking loaded is a reference of the next batch's epoch. Where blackening loaded a field that
 -- had another target by then, the word that marking loaded there was replaced.
@@ -45,7 +46,7 @@ pub record TrialStands (w : Pending) (r : Run) : Type 0 where
 
 -- Sets are prepared, and these fields were loaded for it: the trial's members are what a trial leaves that marked with such loads, and
 -- each word that was loaded for the preparation is a reference of the next batch's epoch.
-pub record SetsStand (w : Pending) (s : State) (loads : List prepared.Load) : Type 0 where
+pub record SetsStand (w : Pending) (s : State) (loads : List Load) : Type 0 where
   pub marking : List Load
   pub marked : IsMarked w (is_member s) (word_loaded w.fields marking)
   pub loaded : HasLoaded w (word_seen w.fields loads)
@@ -55,7 +56,7 @@ pub record SetsStand (w : Pending) (s : State) (loads : List prepared.Load) : Ty
 pub record SetsWait (w : Pending) (s : State) : Type 0 where
   pub marking : List Load
   pub marked : IsMarked w (is_member s) (word_loaded w.fields marking)
-  pub loads : List prepared.Load
+  pub loads : List Load
   pub loaded : HasLoaded w (word_seen w.fields loads)
   pub counted : (number x : ℕ) → (slot_at s x).set ≡ Some number
       → (slot_at s x).cyclic ≡ (slot_at s x).count - sum_at (seen_in w.fields (is_member_of s number) (word_seen w.fields loads) (x + 1)) w.words
@@ -67,7 +68,7 @@ pub record SetsTest (w : Pending) (s : State) : Type 0 where
   pub member : ℕ → Bool
   pub testing : IsTesting w before member
   pub among : (x : ℕ) → 0 < times x (concat s.sets) → member (x + 1) ≡ true
-  pub loads : List prepared.Load
+  pub loads : List Load
   pub loaded : HasLoaded before (word_seen w.fields loads)
   pub counted : (number x : ℕ) → (slot_at s x).set ≡ Some number → (slot_at s x).colour ≡ Orange → (slot_at s x).released ≡ false
       → (slot_at s x).cyclic ≡ (slot_at s x).count - sum_at (seen_in w.fields (is_member_of s number) (word_seen w.fields loads) (x + 1)) w.words

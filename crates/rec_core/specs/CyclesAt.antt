@@ -2,6 +2,7 @@
 use Rattle.std.specs.Prelude.{◌≡◌, ℕ, List}
 use Rattle.rec_model.specs.Pending.{Pending}
 use Rattle.rec_counts.specs.Counts.{State, IsKept}
+use Rattle.rec_walk.specs.Load.{Load}
 use Rattle.rec_sigma.specs.Prepared as prepared
 use Rattle.rec_trial.specs.Loaded.{Run}
 use Rattle.rec_trial.specs.Promised.{IsTrial}
@@ -24,7 +25,7 @@ pub record IsLoading (w : Pending) (c : Private) : Type 0 where
 pub record AreSeen (w : Pending) (c : Private) : Type 0 where
   pub before : State
   pub before_kept : IsKept before
-  pub loads : List prepared.Load
+  pub loads : List Load
   pub prepares : prepared.PreparedTo w.fields before c.prep.at c.counts loads
   pub fields : AreFields w.fields loads
   pub stands : SetsStand w c.counts loads

@@ -15,7 +15,7 @@ use Rattle.rec_log.specs.declared.entry.Entry.TheVariants as entries
 use Rattle.rec_counts.specs.Counts.{slot_at}
 use Rattle.rec_counts.specs.Lists.{times}
 use Rattle.rec_release.specs.declared.at.At.{At}
-use Rattle.rec_release.specs.declared.member.Member.{Member}
+use Rattle.rec_walk.specs.declared.member.Member.{Member}
 use Rattle.rec_mutator.specs.Causes.{is_giving}
 use Rattle.rec_mutator.specs.Private.{Private, IsMachine}
 use Rattle.rec_mutator.specs.Took.{IsBetween}

@@ -5,8 +5,9 @@ use Rattle.rec_model.specs.Sight.{Sight}
 use Rattle.rec_counts.specs.Counts.{State, slot_at, IsKept}
 use Rattle.rec_counts.specs.Lists.{one}
 use Rattle.rec_apply.specs.Targets.{named}
-use Rattle.rec_release.specs.Freed.{places_behind}
-use Rattle.rec_sigma.specs.Prepared.{Load, PreparedTo}
+use Rattle.rec_walk.specs.Walk.{places_left}
+use Rattle.rec_walk.specs.Load.{Load}
+use Rattle.rec_sigma.specs.Prepared.{PreparedTo}
 use Rattle.rec_trial.specs.Loaded.{Run}
 use Rattle.rec_trial.specs.Promised.{IsTrial}
 use Rattle.rec_trial.specs.Still.{AreStill}
@@ -77,7 +78,7 @@ pub record SetsRest (w : Core) (words left : List ℕ) (s : State) : Type 0 wher
 
 -- The last set passed its tests, and its fields are exchanged. Nothing came to the zeros.
 pub record FreesRest (w : Core) (words : List ℕ) (v : Parts) : Type 0 where
-  pub sets : SetsRest w words (places_behind v.freeing.fields v.counts.work v.freeing.at) v.counts
+  pub sets : SetsRest w words (places_left v.freeing.fields v.counts.work v.freeing.at) v.counts
   pub zeros : v.counts.zeros ≡ []
   pub still : v.release.at ≡ None
 

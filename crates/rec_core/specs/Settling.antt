@@ -11,7 +11,7 @@ use Rattle.rec_counts.specs.Lists.{one, times}
 use Rattle.rec_counts.specs.Slot.{is_in}
 use Rattle.rec_trial.specs.Still.{IsSeed, references}
 use Rattle.rec_trial.specs.Tried.{members}
-use Rattle.rec_sigma.specs.Prepared.{Load, place_loaded}
+use Rattle.rec_walk.specs.Load.{Load, place_loaded}
 
 -- the slots that are not released
 abbrev pub unreleased_slots : State → List ℕ

@@ -12,9 +12,11 @@ ghost use Rattle.rec_play.specs.Commanded.{Commanded, Polled, PollsNone, PollsOn
 ghost use Rattle.rec_play.specs.Played.{AreReady, IsPlayed, config_of, last_moment, lengths_of, lines_of};
 ghost use Rattle.rec_play.specs.Playing.{order as order_of};
 ghost use Rattle.rec_play.specs.Run.{commands_of};
+ghost use Rattle.rec_script.specs.Script.{IsScript};
 
 use crate::Actor;
 use crate::schedule::{MOST_MUTATORS, Schedule};
+use arrayvec::ArrayVec;
 use rec_collector::Turn;
 use rec_script::Script;
 use rec_world::{Journal, Order, World};
@@ -50,9 +52,7 @@ pub fn play(
     // Each of the collector's turns requests one epoch more at most.
     ensures epochs { world.new.epoch ≤ 1 + turns }
 {
-    let lengths = lengths_of(script);
-    let mutators = usize::from(script.mutators());
-    let mut schedule = Schedule::new(lengths, mutators, seed, turns);
+    let mut schedule = Schedule::new(lengths_of(script), seed, turns);
     while let Some(actor) = schedule.next_turn() {
         match actor {
             Actor::Mutator(t) => {
@@ -64,13 +64,14 @@ pub fn play(
     }
 }
 
-/// How many commands each mutator has; none where there is no such mutator.
-pub fn lengths_of(script: &Script) -> [u32; MOST_MUTATORS]
-    ensures { take (length script.now.commands) result ≡ lengths_of script.now }
+/// How many commands each mutator has.
+pub fn lengths_of(script: &Script) -> ArrayVec<u32, MOST_MUTATORS>
+    ensures lengths { result.items ≡ lengths_of script.now }
+    ensures valid { IsScript script.now }
 {
-    let mut lengths = [0; MOST_MUTATORS];
+    let mut lengths = ArrayVec::new();
     for index in 0..script.mutators() {
-        lengths[usize::from(index)] = script.commands(index + 1).len() as u32;
+        lengths.push(script.commands(index + 1).len() as u32);
     }
     lengths
 }

@@ -1,8 +1,9 @@
-ghost use Rattle.std.specs.Prelude.{◌≡◌, ◌+◌, ◌-◌, ◌%◌, ◌∷◌, [], ◌<◌, ◌≤◌, Some, length, take, IsNone, IfSome, slice_get, slice_index, slice_set};
+ghost use Rattle.std.specs.Prelude.{◌≡◌, ◌+◌, ◌-◌, ◌%◌, ◌∷◌, [], ◌<◌, ◌≤◌, length, IsNone, IfSome, slice_index, slice_set};
 ghost use Rattle.rand_pcg.specs.Pcg.{pcg32};
 ghost use Rattle.rec_play.specs.Playing.{generator_of, unfinished, to_come};
 
 use crate::Actor;
+use arrayvec::ArrayVec;
 use rand_core::utils::NextWord;
 use rand_pcg::Pcg32;
 use std::marker::Model;
@@ -16,11 +17,9 @@ const STREAM: u64 = 1;
 /// The playing rule as it goes on. It knows how many commands each mutator has left, and nothing of the heap.
 #[derive(Drop)]
 pub struct Schedule {
-    left: [u32; MOST_MUTATORS],
-    mutators: usize,
-    // The mutators with commands left come first, `count` of them.
-    unfinished: [u8; MOST_MUTATORS],
-    count: u32,
+    left: ArrayVec<u32, MOST_MUTATORS>,
+    // The mutators with commands left, in rising order.
+    unfinished: ArrayVec<u8, MOST_MUTATORS>,
     generator: Pcg32,
     turns: u32,
 }
@@ -30,25 +29,22 @@ impl Model for Schedule {
 
     ghost Value = { Rest };
 
-    ghost use Rattle.rec_play.specs.Inside.{rest, IsCounted};
+    ghost use Rattle.rec_play.specs.Inside.{rest, AreNamed};
 
     ghost view = { rest };
 
-    ghost invariant = { IsCounted };
+    ghost invariant = { AreNamed };
 }
 
 impl Schedule {
-    /// The rule at its start: so many mutators with so many commands each, and so many turns to draw.
-    pub fn new(lengths: [u32; MOST_MUTATORS], mutators: usize, seed: u64, turns: u32) -> Schedule
-        requires { mutators ≤ 8 }
-        ensures { result ≡ record { left = take mutators lengths; generator = generator_of seed; turns = turns } }
+    /// The rule at its start: mutators with so many commands each, and so many turns to draw.
+    pub fn new(left: ArrayVec<u32, MOST_MUTATORS>, seed: u64, turns: u32) -> Schedule
+        ensures { result ≡ record { left = left.items; generator = generator_of seed; turns = turns } }
     {
-        let (unfinished, count) = unfinished_of(&lengths[..mutators]);
+        let unfinished = unfinished_of(left.as_slice());
         Schedule {
-            left: lengths,
-            mutators,
+            left,
             unfinished,
-            count,
             generator: Pcg32::new(seed, STREAM),
             turns,
         }
@@ -59,14 +55,14 @@ impl Schedule {
         ensures turn { IfSome result (λ actor. to_come self.old ≡ actor ∷ to_come self.new) }
         ensures ended { IsNone result → to_come self.old ≡ [] }
     {
-        if self.count == 0 {
+        if self.unfinished.is_empty() {
             return None;
         }
-        let place = self.draw();
-        if place == self.count {
+        let place = self.draw() as usize;
+        if place == self.unfinished.len() {
             return Some(Actor::Collector);
         }
-        let t = self.unfinished[place as usize];
+        let t = self.unfinished[place];
         self.take(usize::from(t) - 1);
         Some(Actor::Mutator(t))
     }
@@ -83,36 +79,32 @@ impl Schedule {
             return 0;
         }
         self.turns -= 1;
-        self.generator.next_word() % (self.count + 1)
+        self.generator.next_word() % (self.unfinished.len() as u32 + 1)
     }
 
     // Takes one command off those that a mutator, by its index, has left.
     fn take(&mut self, at: usize)
-        requires few { at < 8 }
         requires there { at < length self.old.left }
         requires some { 0 < slice_index self.old.left at }
         ensures { self.new ≡ record self.old { left = slice_set self.old.left at (slice_index self.old.left at - 1) } }
     {
         self.left[at] -= 1;
         if self.left[at] == 0 {
-            (self.unfinished, self.count) = unfinished_of(&self.left[..self.mutators]);
+            self.unfinished = unfinished_of(self.left.as_slice());
         }
     }
 }
 
-// The mutators with commands left, and how many these are.
-fn unfinished_of(left: &[u32]) -> ([u8; MOST_MUTATORS], u32)
+// The mutators with commands left.
+fn unfinished_of(left: &[u32]) -> ArrayVec<u8, MOST_MUTATORS>
     requires { length left.now ≤ 8 }
-    ensures named { take result.1 result.0 ≡ unfinished left.now }
-    ensures few { result.1 ≤ 8 }
+    ensures { result.items ≡ unfinished left.now }
 {
-    let mut unfinished = [0; MOST_MUTATORS];
-    let mut count = 0;
+    let mut unfinished = ArrayVec::new();
     for (at, left) in left.iter().enumerate() {
         if *left > 0 {
-            unfinished[count as usize] = at as u8 + 1;
-            count += 1;
+            unfinished.push(at as u8 + 1);
         }
     }
-    (unfinished, count)
+    unfinished
 }

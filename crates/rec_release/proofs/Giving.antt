@@ -1,5 +1,5 @@
 -- A set is given up, and its members are listed.
-use Rattle.std.proofs.Common.{◌≡◌, ℕ, ◌+◌, ◌-◌, ◌<◌, ◌≤◌, Bool, true, false, eqb, ltb, Option, Some, None, IfSome, List, [], ◌∷◌, ◌++◌, length, take, drop, get_or, slice_get, refl, arith, sym, ◌∙◌, ap, subst, inl, inr, append_assoc}
+use Rattle.std.proofs.Common.{◌≡◌, ℕ, ◌+◌, ◌-◌, ◌<◌, ◌≤◌, Bool, true, false, eqb, ltb, Some, IfSome, List, [], ◌∷◌, ◌++◌, length, take, drop, get_or, slice_get, refl, arith, sym, ◌∙◌, ap, subst, inl, inr, append_assoc}
 use Rattle.std.proofs.Math.ListN.{set}
 use Rattle.std.proofs.lemmas.List.{length-set, length-map, get_or-set_same, set-set, take_all}
 use Rattle.std.proofs.lemmas.Bool.{cases_lt}
@@ -15,8 +15,9 @@ use Rattle.rec_counts.proofs.Leaving.{all_of}
 use Rattle.rec_counts.proofs.Times.{in_range_once, one-le, one-same, times-append, times-cons, times-nil, times_at, times_more, test_of, one-some, one-none}
 use Rattle.rec_counts.proofs.Front.{first_and_rest}
 use Rattle.rec_counts.proofs.Changing.{changed_more}
-use Rattle.rec_release.specs.declared.member.Member.{Member}
-use Rattle.rec_release.specs.CycleFree.{dead_if, first_member, given_up, given_up_slot, listed, IsAtWork, IsFreeable, IsHeld}
+use Rattle.rec_walk.specs.Walk.{first_in, IsOf}
+use Rattle.rec_walk.proofs.Walks.{first_stands, Stands}
+use Rattle.rec_release.specs.CycleFree.{dead_if, given_up, given_up_slot, listed, IsAtWork, IsFreeable}
 
 dead_twice : (b : Bool) (v : Slot) → dead_if true (dead_if b v) ≡ dead_if true v
 dead_twice true v = refl
@@ -49,26 +50,23 @@ given_released_if false v n e h = omega (arith, e)
 pub given_released : (s : State) (x : ℕ) → IsKept s → IsFreeable s → one (slot_at (given_up s) x).released ≡ one (slot_at s x).released + times x (last_set s.sets)
 given_released s x k f = ap (λ (v : Slot). one v.released) (given_slot s x) ∙ given_released_if (is_in (length s.sets - 1) (slot_at s x).set) (slot_at s x) (times x (last_set s.sets)) (k.numbers (length s.sets - 1) x) (f.unreleased x)
 
-first_held : (s : State) (ms : List ℕ) (x : ℕ) → s.work ≡ ms → slice_get ms 0 ≡ Some x → IsHeld s (record { index = 0; slot = x; field = 0 })
-first_held s [] x w e = cc
-first_held s (y ∷ ys) x w e = record { index = omega (arith, ap length w); slot = let q : x ≡ y = cc in q ∙ sym (ap (λ xs. get_or xs 0 0) w) }
-
 pub given_work : (s : State) → IsFreeable s → (given_up s).work ≡ last_set s.sets
 given_work s f = ap (λ ws. ws ++ last_set s.sets) f.work
 
 -- the counts are as the freeing wants them
-first_work : (o : Option ℕ) (s : State) (fields : ℕ) → slice_get (last_set s.sets) 0 ≡ o → 0 < fields → IsKept s → IsFreeable s → IsAtWork (record { fields = fields; at = first_member o }) (given_up s)
-first_work o s fields e l k f =
+pub given_is_work : (s : State) (fields : ℕ) → 0 < fields → IsKept s → IsFreeable s → IsAtWork (record { fields = fields; at = first_in (last_set s.sets) }) (given_up s)
+given_is_work s fields l k f =
     let ms : List ℕ = last_set s.sets in
     let now : State = given_up s in
+    let first : Stands fields ms (first_in ms) = first_stands fields ms l in
     let inside : (x : ℕ) → 0 < times x now.work → 0 < times x ms = λ x h. omega (arith, h, ap (times x) (given_work s f)) in
     let freed : (x : ℕ) → 0 < times x ms → (slot_at now x).released ≡ true = λ x h. one-some (slot_at now x).released (omega (arith, given_released s x k f, ap one (f.unreleased x h), h, last_once s k x, one-le (ltb x (length s.slots)))) in
     let others : (x : ℕ) → 0 < times x s.zeros → (slot_at now x).released ≡ false = λ x h.
     let none : times x ms ≡ 0 = elim (cases_lt 0 (times x ms)) [ inl m ↦ absurd (omega (arith, h, f.counted x m)) | inr m ↦ omega (arith, m) ] in
     one-none (slot_at now x).released (omega (arith, given_released s x k f, none, ap one (f.ready.zeros.unreleased x h))) in
     record {
-      field = go_field o;
-      held = go_held o e;
+      field = first.field;
+      held = subst (λ ws. IfSome (first_in ms) (IsOf ws)) (sym (given_work s f)) first.member;
       unlisted = λ x h. f.unlisted x (inside x h);
       released = λ x h. freed x (inside x h);
       ready = record {
@@ -80,17 +78,6 @@ first_work o s fields e l k f =
         free = λ x h. one-some (slot_at now x).released (omega (arith, given_released s x k f, ap one (f.ready.free x h), one-le (slot_at now x).released));
       };
     }
-  where
-    go_field : (p : Option ℕ) → IfSome (first_member p) (λ (a : Member). a.field < fields)
-    go_field None = tt
-    go_field (Some x) = l
-
-    go_held : (p : Option ℕ) → slice_get (last_set s.sets) 0 ≡ p → IfSome (first_member p) (IsHeld (given_up s))
-    go_held None q = tt
-    go_held (Some x) q = first_held (given_up s) (last_set s.sets) x (given_work s f) q
-
-pub given_is_work : (s : State) (fields : ℕ) → 0 < fields → IsKept s → IsFreeable s → IsAtWork (record { fields = fields; at = first_member (slice_get (last_set s.sets) 0) }) (given_up s)
-given_is_work s fields l k f = first_work (slice_get (last_set s.sets) 0) s fields refl l k f
 
 -- the slots of the work list may go to the free list
 pub record IsListing (s : State) : Type 0 where
@@ -185,8 +172,3 @@ inside_more P xs i l p h x t = elim (eqb_tells x (get_or xs i 0)) [
   | inl q ↦ subst P (sym q.1) p
   | inr q ↦ let n : one (eqb x (get_or xs i 0)) ≡ 0 = ap one q.0 in h x (omega (arith, t, n, times_more x xs i l))
 ]
-
--- where no first member is due, there is none
-pub first_none : (o : Option ℕ) → first_member o ≡ None → o ≡ None
-first_none None e = refl
-first_none (Some x) e = cc

@@ -15,8 +15,9 @@ use Rattle.rec_counts.specs.Colour.{is_orange}
 use Rattle.rec_counts.proofs.Decrementing.{rest_decremented, zeros_from, ZerosFrom, zero_found, same_slot}
 use Rattle.rec_counts.proofs.Keeping.{field_kept, keep_drop, map_at, last_once}
 use Rattle.rec_counts.proofs.Times.{times-nil, times-append, times-cons, one-le, one-same, one-none}
-use Rattle.rec_release.specs.declared.member.Member.{Member}
-use Rattle.rec_release.specs.CycleFree.{dead_if, given_up, next_member, next_member_if, IsFreeable}
+use Rattle.rec_walk.specs.declared.member.Member.{Member}
+use Rattle.rec_walk.specs.Walk.{behind}
+use Rattle.rec_release.specs.CycleFree.{dead_if, given_up, gone_on, listed_behind, IsFreeable}
 use Rattle.rec_release.specs.Release.{emptied, listed_if, without_first, IsReady}
 use Rattle.rec_release.specs.TakenOff.{down_if, is_lowered, taken_off, AllZerosButOrange, IsApart, IsMember, KeepsOrange}
 use Rattle.rec_release.proofs.Giving.{given_slot}
@@ -72,9 +73,6 @@ listed_keeps : (b : Bool) (s : State) (x : ℕ) → KeepsAll s (listed_if b s x)
 listed_keeps true s x = lists_keep s s.work s.free
 listed_keeps false s x = lists_keep s s.work (s.free ++ x ∷ [])
 
-pub same_keeps : (s : State) → KeepsAll s s
-same_keeps s = lists_keep s s.work s.free
-
 -- a slot is emptied
 emptied_keeps : (s : State) (x : ℕ) → KeepsAll s (emptied s x)
 emptied_keeps s x = listed_keeps (slot_at s x).buffered s x
@@ -109,11 +107,8 @@ next_keeps s k = first_keeps s.zeros s refl k
 
 -- the colour of a target that is lowered
 pub orange_from : (c : Colour) → is_orange c ≡ true → c ≡ Orange
-orange_from Black e = absurd (false≢true e)
-orange_from Purple e = absurd (false≢true e)
-orange_from Gray e = absurd (false≢true e)
-orange_from White e = absurd (false≢true e)
 orange_from Orange e = refl
+orange_from _ e = absurd (false≢true e)
 
 lowered_orange : (lowers : Bool) (c : Colour) → is_lowered lowers c ≡ true → c ≡ Orange
 lowered_orange true c e = orange_from c e
@@ -281,10 +276,11 @@ given_zeros s a = λ x r c o.
     let same : slot_at (given_up s) x ≡ slot_at s x = given_same s x (given_unreleased_if (is_in (length s.sets - 1) (slot_at s x).set) (slot_at s x) (ap (λ (v : Slot). v.released) (sym (given_slot s x)) ∙ r)) in
     a x (ap (λ (v : Slot). v.released) (sym same) ∙ r) (ap (λ (v : Slot). v.count) (sym same) ∙ c) (λ q. o (ap (λ (v : Slot). v.colour) same ∙ q))
 
--- the next member is at work, or all members go to the free list
-member_keeps : (b : Bool) (s : State) (a : Member) → KeepsAll s (next_member_if b s a).counts
-member_keeps true s a = lists_keep s s.work s.free
-member_keeps false s a = lists_keep s [] (s.free ++ s.work)
+-- another field comes next, or all members go to the free list
+behind_keeps : (at : Option Member) (s : State) → KeepsAll s (listed_behind s at).counts
+behind_keeps (Some a) s = lists_keep s s.work s.free
+behind_keeps None s = lists_keep s [] (s.free ++ s.work)
 
-pub next_member_keeps : (s : State) (a : Member) → KeepsAll s (next_member s a).counts
-next_member_keeps s a = member_keeps (ltb (a.index + 1) (length s.work)) s a
+-- a word of a freeing
+pub gone_keeps : (fields : ℕ) (s : State) (t : Option ℕ) (a : Member) → IfSome t (λ x. 0 < (slot_at s x).count) → KeepsAll s (gone_on fields (taken_off true s t) a).counts
+gone_keeps fields s t a h = all_on (off_keeps_all s t h) (behind_keeps (behind fields (taken_off true s t).work a) (taken_off true s t))

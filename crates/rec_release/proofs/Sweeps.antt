@@ -3,6 +3,7 @@ use Rattle.std.proofs.Common.{◌≡◌, ℕ, zero, suc, ◌<◌, Bool, true, fa
 use Rattle.std.proofs.lemmas.List.{length-set, get_or-set_same, get_or-set_other, append-nil}
 use Rattle.std.proofs.lemmas.Bool.{lt-ltb}
 use Rattle.std.proofs.lemmas.Bool.Decides.{eqb_tells}
+use Rattle.rec_walk.proofs.Given.{given-nil, given-cons}
 use Rattle.rec_counts.specs.declared.slot.Slot.{Slot}
 use Rattle.rec_counts.specs.Counts.{State, slot_at}
 use Rattle.rec_counts.specs.Lists.{one, times, EachOnce}
@@ -47,14 +48,6 @@ took_last : (s : State) (word : ℕ) → s.free ≡ [] → took_of (started_of s
 unfolding took_of started_of
 took_last s word e = ap (took_at (started_of s)) (ap (λ f. slice_get f 0) e)
 
-freed_none : (w : Work) → freed w [] ≡ []
-unfolding freed
-freed_none w = refl
-
-freed_more : (w : Work) (word : ℕ) (words : List ℕ) → freed w (word ∷ words) ≡ take 1 w.counts.free ++ freed (took_of w word) words
-unfolding freed
-freed_more w word words = refl
-
 -- what a sweep made, from some slots swept before on
 record SweptBy (before after : State) (gone words : List ℕ) : Type 0 where
   law : Swept before (fold took_of (started_of after) words).counts (gone ++ take (length words) after.free)
@@ -68,7 +61,7 @@ swept_by : (words : List ℕ) (before after : State) (gone : List ℕ) → EachO
 unfolding started_of
 swept_by [] before after gone o k = record {
   law = subst (Swept before after) (sym (append-nil gone)) k;
-  order = freed_none (started_of after);
+  order = given-nil took_of (λ (v : Work) word. take 1 v.counts.free) (started_of after);
 }
 swept_by (word ∷ words) before after gone o k = at (λ a g p q. swept_by words before a g p q) after.free refl
   where
@@ -79,7 +72,7 @@ swept_by (word ∷ words) before after gone o k = at (λ a g p q. swept_by words
         let n : take (length words) after.free ≡ take (length (word ∷ words)) after.free = ap (take (length words)) e ∙ take_nothing (length words) ∙ sym (ap (take (length (word ∷ words))) e ∙ take_nothing (length (word ∷ words))) in
         record {
           law = subst (λ (w : Work). Swept before w.counts (gone ++ take (length (word ∷ words)) after.free)) (sym t) (subst (λ g. Swept before (fold took_of (started_of after) words).counts (gone ++ g)) n i.law);
-          order = freed_more (started_of after) word words ∙ ap (λ f. take 1 f ++ freed (took_of (started_of after) word) words) e ∙ ap (λ w. freed w words) (took_last after word e) ∙ i.order ∙ n;
+          order = given-cons took_of (λ (v : Work) word. take 1 v.counts.free) (started_of after) word words ∙ ap (λ f. take 1 f ++ freed (took_of (started_of after) word) words) e ∙ ap (λ w. freed w words) (took_last after word e) ∙ i.order ∙ n;
         }
     at go (x ∷ rest) e =
         let first : 0 < times x after.free = omega (arith, ap (times x) e, times-cons x x rest, one-same x) in
@@ -93,7 +86,7 @@ swept_by (word ∷ words) before after gone o k = at (λ a g p q. swept_by words
         record {
           law = subst (λ (w : Work). Swept before w.counts (gone ++ take (length (word ∷ words)) after.free)) (sym t)
               (subst (λ g. Swept before (fold took_of (started_of (swept after x)) words).counts g) (append_assoc gone (x ∷ []) (take (length words) (swept after x).free) ∙ ap (λ g. gone ++ g) (sym n)) i.law);
-          order = freed_more (started_of after) word words ∙ ap (λ f. take 1 f ++ freed (took_of (started_of after) word) words) e ∙ ap (λ w. x ∷ freed w words) (took_first after word x rest e) ∙ ap (λ g. x ∷ g) i.order ∙ sym n;
+          order = given-cons took_of (λ (v : Work) word. take 1 v.counts.free) (started_of after) word words ∙ ap (λ f. take 1 f ++ freed (took_of (started_of after) word) words) e ∙ ap (λ w. x ∷ freed w words) (took_first after word x rest e) ∙ ap (λ g. x ∷ g) i.order ∙ sym n;
         }
 
 -- a whole sweep

@@ -1,5 +1,5 @@
 -- The freeing of a set: what comes next, and what is learnt of the word that came out.
-use Rattle.std.specs.Prelude.{◌≡◌, ℕ, ◌+◌, ◌-◌, ◌<◌, Bool, true, false, nat_lt, Option, None, Some, IfSome, [], ◌++◌, length, map, slice_get, slice_index_or as item_at}
+use Rattle.std.specs.Prelude.{◌≡◌, ℕ, ◌-◌, ◌<◌, Bool, true, false, Option, None, Some, IfSome, [], ◌++◌, length, map}
 use Rattle.rec_word.specs.Place.{place_of}
 use Rattle.rec_word.specs.Word.{target_of}
 use Rattle.rec_word.specs.declared.op.Op.{Op}
@@ -10,7 +10,8 @@ use Rattle.rec_counts.specs.Counts.{State, slot_at}
 use Rattle.rec_counts.specs.Groups.{last_set, earlier_sets}
 use Rattle.rec_counts.specs.Lists.{times}
 use Rattle.rec_counts.specs.Slot.{is_in, out_of_set}
-use Rattle.rec_release.specs.declared.member.Member.{Member}
+use Rattle.rec_walk.specs.declared.member.Member.{Member}
+use Rattle.rec_walk.specs.Walk.{behind, first_in, IsOf}
 use Rattle.rec_release.specs.Release.{IsReady}
 use Rattle.rec_release.specs.TakenOff.{taken_off}
 
@@ -45,11 +46,6 @@ given_up_slot number v = dead_if (is_in number v.set) (out_of_set number v)
 abbrev pub given_up : State → State
 given_up s = record s { slots = map (given_up_slot (length s.sets - 1)) s.slots; sets = earlier_sets s.sets; work = s.work ++ last_set s.sets }
 
--- the first field of the first member
-abbrev pub first_member : Option ℕ → Option Member
-first_member None = None
-first_member (Some x) = Some (record { index = 0; slot = x; field = 0 })
-
 -- the field that comes next, with the counts then
 pub record Next : Type 0 where
   pub at : Option Member
@@ -59,28 +55,20 @@ pub record Next : Type 0 where
 abbrev pub listed : State → State
 listed s = record s { free = s.free ++ s.work; work = [] }
 
-abbrev pub next_member_if : Bool → State → Member → Next
-next_member_if true s a = record { at = Some (record { index = a.index + 1; slot = item_at s.work (a.index + 1) 0; field = 0 }); counts = s }
-next_member_if false s a = record { at = None; counts = listed s }
+abbrev pub listed_behind : State → Option Member → Next
+listed_behind s None = record { at = None; counts = listed s }
+listed_behind s (Some a) = record { at = Some a; counts = s }
 
--- the next member comes next; after the last one all go to the free list
-abbrev pub next_member : State → Member → Next
-next_member s a = next_member_if (nat_lt (a.index + 1) (length s.work)) s a
-
-abbrev pub next_field_if : Bool → State → Member → Next
-next_field_if true s a = record { at = Some (record { index = a.index; slot = a.slot; field = a.field + 1 }); counts = s }
-next_field_if false s a = next_member s a
-
--- the next field of the same member comes next; after its last one the next member
-abbrev pub next_field : ℕ → State → Member → Next
-next_field fields s a = next_field_if (nat_lt (a.field + 1) fields) s a
+-- the field behind this one comes next; behind the last one all members go to the free list
+abbrev pub gone_on : (fields : ℕ) → State → Member → Next
+gone_on fields s a = listed_behind s (behind fields s.work a)
 
 abbrev pub work_of : ℕ → Next → Work
 work_of fields n = record { machine = record { fields = fields; at = n.at }; counts = n.counts }
 
 abbrev pub took_at : Work → (word : ℕ) → Option Member → Work
 took_at w word None = w
-took_at w word (Some a) = work_of w.machine.fields (next_field w.machine.fields (taken_off true w.counts (target_of word)) a)
+took_at w word (Some a) = work_of w.machine.fields (gone_on w.machine.fields (taken_off true w.counts (target_of word)) a)
 
 -- what is learnt
 unfoldable pub took_of : Work → (word : ℕ) → Work
@@ -88,7 +76,7 @@ took_of w word = took_at w word w.machine.at
 
 -- the freeing of the last set begins
 unfoldable pub started_of : Machine → State → Work
-started_of m s = work_of m.fields (record { at = first_member (slice_get (last_set s.sets) 0); counts = given_up s })
+started_of m s = work_of m.fields (record { at = first_in (last_set s.sets); counts = given_up s })
 
 -- the last set can be freed: the work list is empty; its members are Orange, not released, and neither in the free list nor
 -- in the zeros
@@ -101,16 +89,11 @@ pub record IsFreeable (s : State) : Type 0 where
   pub counted : (x : ℕ) → 0 < times x (last_set s.sets) → times x s.zeros ≡ 0
   pub ready : IsReady s
 
--- the member at work stands in the work list where the machine says
-pub record IsHeld (s : State) (a : Member) : Type 0 where
-  pub index : a.index < length s.work
-  pub slot : a.slot ≡ item_at s.work a.index 0
-
 -- the counts are as the freeing left them: the slots of the work list are released, and none of them is in the free list; the
 -- zeros are zeros, and what the free list has is released
 pub record IsAtWork (m : Machine) (s : State) : Type 0 where
   pub field : IfSome m.at (λ (a : Member). a.field < m.fields)
-  pub held : IfSome m.at (IsHeld s)
+  pub held : IfSome m.at (IsOf s.work)
   pub unlisted : (x : ℕ) → 0 < times x s.work → times x s.free ≡ 0
   pub released : (x : ℕ) → 0 < times x s.work → (slot_at s x).released ≡ true
   pub ready : IsReady s

@@ -1,9 +1,10 @@
 -- A whole release: what it exchanged, and what became of the counts and the free list.
-use Rattle.std.specs.Prelude.{◌≡◌, ℕ, ◌+◌, ◌-◌, ◌<◌, ◌==◌, Bool, true, false, Option, None, Some, IfSome, List, [], ◌∷◌, ◌++◌, take, length, fold, count_by}
+use Rattle.std.specs.Prelude.{◌≡◌, ℕ, ◌+◌, ◌-◌, ◌<◌, ◌==◌, Bool, true, false, Option, None, Some, IfSome, List, [], ◌++◌, take, length, fold, count_by}
 use Rattle.rec_word.specs.Place.{places_from, places_of}
 use Rattle.rec_word.specs.Word.{target_of, is_slot}
 use Rattle.rec_counts.specs.Counts.{State, slot_at}
 use Rattle.rec_counts.specs.Lists.{one, times}
+use Rattle.rec_walk.specs.Load.{given}
 use Rattle.rec_release.specs.declared.at.At.{At}
 use Rattle.rec_release.specs.Release.{Machine, Work, IsReady, IsHeld, took_of, started_of}
 
@@ -25,9 +26,8 @@ abbrev pub place_due : Machine → List ℕ
 place_due m = take 1 (places_left m.fields m.at)
 
 -- the places that it exchanged for these words; where the work is done, none is exchanged
-unfoldable pub exchanged : Work → (words : List ℕ) → List ℕ
-exchanged w [] = []
-exchanged w (word ∷ words) = place_due w.machine ++ exchanged (took_of w word) words
+abbrev pub exchanged : Work → (words : List ℕ) → List ℕ
+exchanged w words = given took_of (λ (v : Work) word. place_due v.machine) w words
 
 -- From the counts `before`, a release came to `after`, with the field `at` due next. `words` came out of the places
 -- `from`, in order, and `slots` were released, in order.

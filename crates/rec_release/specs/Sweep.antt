@@ -1,7 +1,8 @@
 -- A sweep: what comes next, and what is learnt.
-use Rattle.std.specs.Prelude.{◌≡◌, ℕ, ◌<◌, Bool, true, false, nat_lt, Option, None, Some, List, [], ◌∷◌, ◌++◌, drop, take, fold, length, slice_get}
+use Rattle.std.specs.Prelude.{◌≡◌, ℕ, ◌<◌, Bool, true, false, nat_lt, Option, None, Some, List, ◌++◌, drop, take, fold, length, slice_get}
 use Rattle.rec_word.specs.declared.op.Op.{Op}
 use Rattle.rec_word.specs.declared.op.Op.TheVariants.{FreeHeader}
+use Rattle.rec_walk.specs.Load.{given}
 use Rattle.rec_counts.specs.declared.slot.Slot.{Slot}
 use Rattle.rec_counts.specs.Counts.{State, slot_at, with_slot}
 use Rattle.rec_counts.specs.Lists.{times}
@@ -46,9 +47,8 @@ pub record IsAtWork (due : Option ℕ) (s : State) : Type 0 where
   pub unbuffered : AreUnbuffered s
 
 -- the slots whose headers it freed meanwhile
-unfoldable pub freed : Work → (words : List ℕ) → List ℕ
-freed w [] = []
-freed w (word ∷ words) = take 1 w.counts.free ++ freed (took_of w word) words
+abbrev pub freed : Work → (words : List ℕ) → List ℕ
+freed w words = given took_of (λ (v : Work) word. take 1 v.counts.free) w words
 
 -- swept, if it was
 abbrev pub swept_if : Bool → Slot → Slot

@@ -3,13 +3,15 @@ ghost use Rattle.rec_word.specs.Word.{target_of};
 ghost use Rattle.rec_counts.specs.Counts.{State, slot_at, with_slot};
 ghost use Rattle.rec_counts.specs.Groups.{earlier_sets, last_set};
 ghost use Rattle.rec_counts.specs.Lists.{times};
-ghost use Rattle.rec_release.specs.CycleFree.{IsAtWork, IsFreeable, IsHeld, dead_if, first_member, given_up, listed, next_member, next_of, started_of, took_of};
-ghost use Rattle.rec_release.specs.Freed.{FreedTo, Out, out_at};
+ghost use Rattle.rec_walk.specs.Load.{Load, loaded_at};
+ghost use Rattle.rec_walk.specs.Walk.{IsOf, first_member};
+ghost use Rattle.rec_release.specs.CycleFree.{IsAtWork, IsFreeable, dead_if, given_up, gone_on, listed, next_of, started_of, took_of};
+ghost use Rattle.rec_release.specs.Freed.{FreedTo};
 ghost use Rattle.rec_release.specs.TakenOff.{AllZerosButOrange, IsApart, KeepsOrange};
 
-use crate::member::Member;
 use crate::take_off::take_off;
 use rec_counts::{Colour, Counts};
+use rec_walk::Member;
 use rec_word::{Op, place, target};
 use std::marker::Model;
 
@@ -22,7 +24,7 @@ pub struct CycleFree {
 
 impl Model for CycleFree {
     ghost use Rattle.std.specs.Prelude.{◌<◌, IfSome};
-    ghost use Rattle.rec_release.specs.declared.member.Member.{Member};
+    ghost use Rattle.rec_walk.specs.declared.member.Member.{Member};
     ghost use Rattle.rec_release.specs.CycleFree.{Machine};
 
     ghost Value = { Machine };
@@ -63,9 +65,9 @@ impl CycleFree {
         ensures whole { FreedTo self.new.fields counts.old self.new.at counts.new [] }
     {
         counts.rules();
-        let first = counts.set(set).first().copied();
+        let first = Member::first(counts.set(set));
         give_up(counts);
-        self.at = member_of(first);
+        self.at = first;
     }
 
     /// What comes next: a field of a member is exchanged for 0. None where the work is done.
@@ -94,34 +96,14 @@ impl CycleFree {
         ensures orange { KeepsOrange [] counts.old counts.new }
 
         // One word more came out of one place more, whatever this freeing took in before.
-        ensures whole { (before : State) (outs : List Out) → FreedTo self.old.fields before self.old.at counts.old outs → FreedTo self.new.fields before self.new.at counts.new (outs ++ out_at self.old.fields self.old.at word) }
+        ensures whole { (before : State) (loads : List Load) → FreedTo self.old.fields before self.old.at counts.old loads → FreedTo self.new.fields before self.new.at counts.new (loads ++ loaded_at self.old.at word) }
     {
         let Some(at) = self.at else {
             return;
         };
         take_off(counts, target(word), true);
-        if at.field + 1 < self.fields {
-            self.at = Some(Member {
-                index: at.index,
-                slot: at.slot,
-                field: at.field + 1,
-            });
-        } else {
-            self.at = member_behind(counts, at);
-        }
+        self.at = go_on(counts, at, self.fields);
     }
-}
-
-// The first field of the first member.
-fn member_of(first: Option<u16>) -> Option<Member>
-    ensures { result ≡ first_member first }
-{
-    let slot = first?;
-    Some(Member {
-        index: 0,
-        slot,
-        field: 0,
-    })
 }
 
 // The last set is gone: its members are released and Black, and stand in the work list.
@@ -146,24 +128,24 @@ fn give_up_slot(counts: &mut Counts, slot: u16)
     counts.set_colour(slot, Colour::Black);
 }
 
-// The member behind this one is at work; after the last one all go to the free list.
-fn member_behind(counts: &mut Counts, at: Member) -> Option<Member>
-    requires held { IsHeld counts.old at }
+// The field behind this one comes next; behind the last one all members go to the free list.
+#[inline(always)]
+fn go_on(counts: &mut Counts, at: Member, fields: u8) -> Option<Member>
+    requires field { at.field < fields }
+    requires member { IsOf counts.old.work at }
     requires unlisted { (x : ℕ) → 0 < times x counts.old.work → times x counts.old.free ≡ 0 }
-    ensures { record { at = result; counts = counts.new } ≡ next_member counts.old at }
+    ensures { record { at = result; counts = counts.new } ≡ gone_on fields counts.old at }
 {
     counts.rules();
-    let members = counts.work();
-    if at.index as usize + 1 < members.len() {
-        let index = at.index + 1;
-        return Some(Member {
-            index,
-            slot: members[index as usize],
-            field: 0,
-        });
+    if let Some(next) = at.next_field(fields) {
+        return Some(next);
     }
-    list_members(counts);
-    None
+    let next = at.next_member(counts.work());
+    match next {
+        Some(_) => {}
+        None => list_members(counts),
+    }
+    next
 }
 
 // The members go to the free list.

@@ -1,9 +1,9 @@
-ghost use Rattle.std.specs.Prelude.{◌≡◌, ◌<◌, ◌↔◌, ◌++◌, ◌∷◌, ℕ, List, [], None, false, length, true, IfSome, IsNone, IsSome};
+ghost use Rattle.std.specs.Prelude.{◌≡◌, ◌<◌, ◌↔◌, ◌++◌, ◌∷◌, ℕ, Bool, List, [], None, false, length, true, IfSome, IsNone, IsSome};
 ghost use Rattle.rec_word.specs.Word.{target_of};
 ghost use Rattle.rec_counts.specs.Counts.{State, slot_at};
 ghost use Rattle.rec_counts.specs.Lists.{times};
 ghost use Rattle.rec_counts.specs.Rest.{AllZeros};
-ghost use Rattle.rec_release.specs.Release.{IsAtWork, IsReady, emptied, first_of, next_of, started_of, took_of, without_first};
+ghost use Rattle.rec_release.specs.Release.{IsAtWork, IsHeld, IsReady, emptied, first_of, gone_on, next_of, started_of, took_of, without_first};
 ghost use Rattle.rec_release.specs.Released.{Released, place_due};
 ghost use Rattle.rec_release.specs.TakenOff.{AllZerosButOrange, IsApart, KeepsOrange};
 
@@ -106,16 +106,26 @@ impl Release {
             return;
         };
         take_off(counts, target(word), self.lowers);
-        if at.field + 1 < self.fields {
-            self.at = Some(At {
-                slot: at.slot,
-                field: at.field + 1,
-            });
-        } else {
-            empty(counts, at.slot);
-            self.at = release_next(counts);
-        }
+        self.at = go_on(counts, at, self.fields);
     }
+}
+
+// The next field of the same slot comes next; after its last one the slot is emptied, and the next zero is released.
+#[inline(always)]
+fn go_on(counts: &mut Counts, at: At, fields: u8) -> Option<At>
+    requires field { at.field < fields }
+    requires held { IsHeld counts.old at }
+    ensures field { IfSome result (λ a. a.field < fields) }
+    ensures gone { (lowers : Bool) → record { machine = record { fields = fields; at = result; lowers = lowers }; counts = counts.new } ≡ gone_on fields lowers at counts.old }
+{
+    if at.field + 1 < fields {
+        return Some(At {
+            slot: at.slot,
+            field: at.field + 1,
+        });
+    }
+    empty(counts, at.slot);
+    release_next(counts)
 }
 
 // An emptied slot goes to the free list, if it is in no buffer.

@@ -1,10 +1,11 @@
 -- How much a preparation loads, and where.
-use Rattle.std.proofs.Common.{get_or, ◌≡◌, ℕ, ◌+◌, ◌-◌, ◌*◌, ◌<◌, ◌≤◌, Option, Some, None, IfSome, List, [], ◌∷◌, length, map, refl, arith, ◌∙◌, ap}
+use Rattle.std.proofs.Common.{get_or, ◌≡◌, ℕ, ◌-◌, ◌*◌, ◌<◌, ◌≤◌, Option, Some, None, IfSome, List, [], ◌∷◌, length, map, refl, arith, ◌∙◌, ap}
 use Rattle.std.specs.List.{sum_by, concat}
 use Rattle.std.proofs.Math.Nat.{mul-le-mul_left}
 use Rattle.std.proofs.lemmas.List.{length-append, length-map}
 use Rattle.std.proofs.lemmas.List.FromFn.{length-map-range_with_len}
 use Rattle.rec_word.specs.Place.{place_of, places_from, places_of}
+use Rattle.rec_word.proofs.FieldPlaces.{place_within}
 use Rattle.rec_counts.specs.Counts.{State, IsKept, slot_at}
 use Rattle.rec_counts.specs.Slot.{is_in}
 use Rattle.rec_counts.proofs.Keeping.{members_once}
@@ -14,7 +15,8 @@ use Rattle.rec_counts.proofs.Times.{length-once, one-same, times-cons, one-some}
 use Rattle.rec_sigma.specs.Judged.{SumsOutside}
 use Rattle.rec_sigma.specs.declared.at.At.{At}
 use Rattle.rec_sigma.specs.Prepare.{Machine, members_of, next_of, op_at, IsAtWork}
-use Rattle.rec_sigma.specs.Prepared.{Load, LoadsWithin, outside, PreparedTo, place_loaded, places_left}
+use Rattle.rec_sigma.specs.Prepared.{LoadsWithin, outside, PreparedTo, places_left}
+use Rattle.rec_walk.specs.Load.{Load, place_loaded}
 use Rattle.rec_sigma.proofs.Cyclics.{in_set, own_set, set_in_range}
 use Rattle.rec_sigma.proofs.Runs.{held_set}
 
@@ -32,16 +34,11 @@ few_loads fields before at after loads k p =
       omega (arith, mul-le-mul_left fields few),
     )
 
-place_within : (slot field fields slots : ℕ) → field < fields → slot < slots → place_of slot field fields < slots * fields
-place_within slot field fields slots f l =
-    let m : slot + 1 ≤ slots = omega (arith, l) in
-    omega (arith, mul-le-mul_left fields m, f)
-
 names_at : (at : Option At) (fields : ℕ) (s : State) → IsKept s → IsAtWork (record { fields = fields; at = at }) s → IfSome (op_at fields at) (LoadsWithin (length s.slots * fields))
 names_at None fields s k w = tt
 names_at (Some a) fields s k w =
-    let l : a.slot < length s.slots = set_in_range s a.set a.slot (ap (λ o. is_in a.set o) (held_set s a k.numbers w.held) ∙ own_set a.set) in
-    (place_of a.slot a.field fields, refl, place_within a.slot a.field fields (length s.slots) w.field l)
+    let l : a.member.slot < length s.slots = set_in_range s a.set a.member.slot (ap (λ o. is_in a.set o) (held_set s a k.numbers w.held) ∙ own_set a.set) in
+    (place_of a.member.slot a.member.field fields, refl, place_within (length s.slots) fields a.member.slot a.member.field l w.field)
 
 pub names_place : (m : Machine) (s : State) → IsKept s → IsAtWork m s → IfSome (next_of m) (LoadsWithin (length s.slots * m.fields))
 unfolding next_of

@@ -13,7 +13,8 @@ use Rattle.rec_counts.proofs.Leaving.{all_of}
 use Rattle.rec_counts.proofs.Times.{times_at, test_of, one-some}
 use Rattle.rec_counts.proofs.Keeping.{map_at}
 use Rattle.rec_sigma.specs.Prepare.{members_of, renewed, renewed_if, less_if, taken_off}
-use Rattle.rec_sigma.specs.Prepared.{KeepsOthers, Load, seen}
+use Rattle.rec_walk.specs.Load.{Load}
+use Rattle.rec_sigma.specs.Prepared.{KeepsOthers, seen}
 
 -- the set of a slot that is in the set of this number
 pub in_set : (number : ℕ) (o : Option ℕ) → is_in number o ≡ true → o ≡ Some number

@@ -1,23 +1,24 @@
 -- A preparation goes on move by move: a word is taken off, the next member is at work, the next set is begun.
-use Rattle.std.proofs.Common.{◌≡◌, ℕ, ◌+◌, ◌-◌, ◌<◌, ◌≤◌, Bool, true, false, ltb, ◌&&◌, Option, Some, None, List, [], ◌∷◌, ◌++◌, length, map, drop, get_or, refl, arith, sym, ◌∙◌, ap, subst, inl, inr, append_assoc}
+use Rattle.std.proofs.Common.{◌≡◌, ℕ, ◌+◌, ◌-◌, ◌<◌, ◌≤◌, Bool, true, false, ◌&&◌, Option, Some, None, List, [], ◌∷◌, ◌++◌, length, map, drop, get_or, refl, arith, sym, ◌∙◌, ap, subst, inl, inr, append_assoc}
 use Rattle.std.specs.List.{concat}
-use Rattle.std.proofs.Math.ListN.{drop_of_length-le}
 use Rattle.std.proofs.lemmas.List.{length-drop, map-append}
-use Rattle.std.proofs.lemmas.Bool.{cases_lt, ltb-true, ltb-false}
+use Rattle.std.proofs.lemmas.Bool.{cases_lt}
 use Rattle.std.proofs.lemmas.Bool.Decides.{eqb_tells}
 use Rattle.rec_word.specs.Place.{place_of, places_from, places_of}
 use Rattle.rec_word.specs.Word.{target_of, is_slot}
-use Rattle.rec_word.proofs.FieldPlaces.{places_end}
 use Rattle.rec_counts.specs.declared.slot.Slot.{Slot}
 use Rattle.rec_counts.specs.Counts.{State, slot_at}
 use Rattle.rec_counts.specs.Lists.{one, times}
 use Rattle.rec_counts.specs.Slot.{is_in}
 use Rattle.rec_counts.proofs.Times.{times-nil}
-use Rattle.rec_sigma.specs.declared.at.At.{At}
-use Rattle.rec_sigma.specs.Prepare.{members_of, renewed, renewed_if, taken_off, first_of, begun_at, next_set, next_member_if, next_member, next_field_if, next_field}
-use Rattle.rec_sigma.specs.Prepared.{Load, Prepared, PreparedTo, place_loaded, seen}
+use Rattle.rec_sigma.specs.Prepare.{members_of, renewed, renewed_if, taken_off, first_of, begun_at, begun_behind, next_set}
+use Rattle.rec_sigma.specs.Prepared.{Prepared, PreparedTo, seen}
+use Rattle.rec_walk.specs.declared.member.Member.{Member}
+use Rattle.rec_walk.specs.Load.{Load, place_loaded}
+use Rattle.rec_walk.specs.Walk as walks
+use Rattle.std.proofs.lemmas.List.Concat.{flat_map-append}
 use Rattle.rec_sigma.proofs.Cyclics.{Tells, other_set, own_set, renewed_slot, renewed_others, off_others, off_slot, others_on, others_same, seen-nil, seen_push}
-use Rattle.rec_sigma.proofs.Firsts.{Behind, behind, rest_from}
+use Rattle.rec_sigma.proofs.Firsts.{Behind, behind}
 
 -- the same preparation, with its parts told otherwise
 pub retold : {fields : ℕ} {before : State} {begun begun' : ℕ} {left left' : List ℕ} {after : State} {loads : List Load} → begun' ≡ begun → left' ≡ left → Prepared fields before begun left after loads → Prepared fields before begun' left' after loads
@@ -122,46 +123,18 @@ first_on ([] ∷ rest) fields before n after loads k e l p =
     first_on rest fields before (n + 1) after loads k b.rest (omega (arith, b.in_range)) (skipped_on fields before n (places_of fields (concat rest)) after loads k b.item p)
 first_on ((x ∷ xs) ∷ rest) fields before n after loads k e l p =
     let b : Behind before.sets n [] (x ∷ xs) rest = behind before.sets n [] (x ∷ xs) rest e in
-    retold refl (ap (λ ys. places_from fields x 0 ++ places_of fields (drop 1 ys ++ concat (drop (n + 1) before.sets))) b.item ∙ ap (λ yss. places_from fields x 0 ++ places_of fields (xs ++ concat yss)) b.rest) (begun_on fields before n (places_of fields (concat ((x ∷ xs) ∷ rest))) after loads p)
+    retold refl (ap (λ ys. (places_from fields x 0 ++ places_of fields (drop 1 ys)) ++ places_of fields (concat (drop (n + 1) before.sets))) b.item ∙ ap (λ yss. places_of fields (x ∷ xs) ++ places_of fields (concat yss)) b.rest ∙ sym (flat_map-append (λ slot. places_from fields slot 0) (x ∷ xs) (concat rest))) (begun_on fields before n (places_of fields (concat ((x ∷ xs) ∷ rest))) after loads p)
 
 -- the next set that has a member is begun
 pub next_set_on : (fields : ℕ) (before : State) (n : ℕ) (after : State) (loads : List Load) → Tells before → n ≤ length before.sets → Prepared fields before n (places_of fields (concat (drop n before.sets))) after loads →
     PreparedTo fields before (next_set after n).at (next_set after n).counts loads
 next_set_on fields before n after loads k l p = subst (λ sets. PreparedTo fields before (first_of n (drop n sets)) (begun_at after (first_of n (drop n sets))) loads) (sym p.others.sets) (first_on (drop n before.sets) fields before n after loads k refl l p)
 
--- the places behind the member at work
-abbrev pub places_behind : ℕ → State → At → List ℕ
-places_behind fields s a = places_of fields (drop (a.index + 1) (members_of s a.set) ++ concat (drop (a.set + 1) s.sets))
-
-member_if : (b : Bool) (fields : ℕ) (before : State) (a : At) (after : State) (loads : List Load) → ltb (a.index + 1) (length (members_of before a.set)) ≡ b → Tells before → a.set < length before.sets → Prepared fields before (a.set + 1) (places_behind fields before a) after loads →
-    PreparedTo fields before (next_member_if b after a).at (next_member_if b after a).counts loads
-member_if true fields before a after loads t k l p =
-    let ms : List ℕ = members_of before a.set in
-    let e : drop (a.index + 1) ms ≡ get_or ms (a.index + 1) 0 ∷ drop (a.index + 1 + 1) ms = rest_from ms (a.index + 1) 0 (ltb-true (a.index + 1) (length ms) t) in
-    subst (λ sets. PreparedTo fields before (Some (record { set = a.set; index = a.index + 1; slot = get_or (get_or sets a.set []) (a.index + 1) 0; field = 0 })) after loads) (sym p.others.sets)
-    (retold refl (ap (λ ys. places_of fields (ys ++ concat (drop (a.set + 1) before.sets))) (sym e)) p)
-member_if false fields before a after loads t k l p =
-    let ms : List ℕ = members_of before a.set in
-    let e : drop (a.index + 1) ms ≡ [] = drop_of_length-le ms (ltb-false (a.index + 1) (length ms) t) in
-    next_set_on fields before (a.set + 1) after loads k (omega (arith, l)) (retold refl (ap (λ ys. places_of fields (ys ++ concat (drop (a.set + 1) before.sets))) (sym e)) p)
-
--- the next member is at work, or the next set
-next_member_on : (fields : ℕ) (before : State) (a : At) (after : State) (loads : List Load) → Tells before → a.set < length before.sets → Prepared fields before (a.set + 1) (places_behind fields before a) after loads →
-    PreparedTo fields before (next_member after a).at (next_member after a).counts loads
-next_member_on fields before a after loads k l p =
-    let e : ltb (a.index + 1) (length (members_of before a.set)) ≡ ltb (a.index + 1) (length (members_of after a.set)) = ap (λ sets. ltb (a.index + 1) (length (get_or sets a.set []))) (sym p.others.sets) in
-    member_if (ltb (a.index + 1) (length (members_of after a.set))) fields before a after loads e k l p
-
-field_if : (b : Bool) (fields : ℕ) (before : State) (a : At) (after : State) (loads : List Load) → ltb (a.field + 1) fields ≡ b → Tells before → a.set < length before.sets → Prepared fields before (a.set + 1) (places_from fields a.slot (a.field + 1) ++ places_behind fields before a) after loads →
-    PreparedTo fields before (next_field_if b after a).at (next_field_if b after a).counts loads
-field_if true fields before a after loads t k l p = p
-field_if false fields before a after loads t k l p =
-    next_member_on fields before a after loads k l (retold refl (ap (λ ps. ps ++ places_behind fields before a) (sym (places_end fields a.slot (a.field + 1) (ltb-false (a.field + 1) fields t)))) p)
-
--- the next field is due
-pub next_field_on : (fields : ℕ) (before : State) (a : At) (after : State) (loads : List Load) → Tells before → a.set < length before.sets → Prepared fields before (a.set + 1) (places_from fields a.slot (a.field + 1) ++ places_behind fields before a) after loads →
-    PreparedTo fields before (next_field fields after a).at (next_field fields after a).counts loads
-next_field_on fields before a after loads k l p = field_if (ltb (a.field + 1) fields) fields before a after loads refl k l p
+-- the field behind is due, or the next set is begun
+pub behind_on : (at : Option Member) (fields : ℕ) (before : State) (number : ℕ) (after : State) (loads : List Load) → Tells before → number < length before.sets →
+    Prepared fields before (number + 1) (walks.places_left fields (members_of before number) at ++ places_of fields (concat (drop (number + 1) before.sets))) after loads → PreparedTo fields before (begun_behind after number at).at (begun_behind after number at).counts loads
+behind_on None fields before number after loads k l p = next_set_on fields before (number + 1) after loads k (omega (arith, l)) p
+behind_on (Some a) fields before number after loads k l p = p
 
 -- nothing is loaded yet
 pub prepared_none : (fields : ℕ) (s : State) → Prepared fields s 0 (places_of fields (concat s.sets)) s []

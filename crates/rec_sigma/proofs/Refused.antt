@@ -10,7 +10,7 @@ use Rattle.rec_counts.specs.Lists.{one, times, EachOnce}
 use Rattle.rec_counts.specs.Rest.{AreZeros}
 use Rattle.rec_counts.proofs.Times.{one-le, times-append, times-cons, times-nil}
 use Rattle.rec_sigma.specs.declared.fate.Fate.{Fate}
-use Rattle.rec_sigma.specs.declared.fate.Fate.TheVariants.{Free, Zero, Root, Plain}
+use Rattle.rec_sigma.specs.declared.fate.Fate.TheVariants.{Free}
 use Rattle.rec_sigma.specs.Refurbish.{refurbished, fate_at, is_free, is_root, is_zero, AreReleased, Refurbished}
 use Rattle.rec_sigma.proofs.Renewals.{free_if, zero_if}
 
@@ -28,15 +28,11 @@ kept_passes p x (y ∷ ys) h = go (p y) refl h (kept_passes p x ys)
 
 count_kept : (f : Fate) (v : Slot) → (refurbished f v).count ≡ v.count
 count_kept Free v = refl
-count_kept Zero v = refl
-count_kept Root v = refl
-count_kept Plain v = refl
+count_kept _ v = refl
 
 released_kept : (f : Fate) (v : Slot) → (refurbished f v).released ≡ v.released
 released_kept Free v = refl
-released_kept Zero v = refl
-released_kept Root v = refl
-released_kept Plain v = refl
+released_kept _ v = refl
 
 -- no true count changes
 pub same_count : {s : State} {ms : List ℕ} {first : Option ℕ} {t : State} → Refurbished s ms first t → (x : ℕ) → (slot_at t x).count ≡ (slot_at s x).count

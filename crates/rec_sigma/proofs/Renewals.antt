@@ -42,46 +42,32 @@ settled_many Plain s x = length-set s.slots x (coloured Plain (slot_at s x))
 
 settled_free : (f : Fate) (s : State) (x : ℕ) → (settled f s x).free ≡ s.free ++ cond (is_free f) (x ∷ []) []
 settled_free Free s x = refl
-settled_free Zero s x = sym (append-nil s.free)
-settled_free Root s x = sym (append-nil s.free)
-settled_free Plain s x = sym (append-nil s.free)
+settled_free _ s x = sym (append-nil s.free)
 
 settled_zeros : (f : Fate) (s : State) (x : ℕ) → (settled f s x).zeros ≡ s.zeros ++ cond (is_zero f) (x ∷ []) []
-settled_zeros Free s x = sym (append-nil s.zeros)
 settled_zeros Zero s x = refl
-settled_zeros Root s x = sym (append-nil s.zeros)
-settled_zeros Plain s x = sym (append-nil s.zeros)
+settled_zeros _ s x = sym (append-nil s.zeros)
 
 settled_roots : (f : Fate) (s : State) (x : ℕ) → (settled f s x).roots ≡ s.roots ++ cond (is_rooted f) (x ∷ []) []
-settled_roots Free s x = sym (append-nil s.roots)
-settled_roots Zero s x = sym (append-nil s.roots)
 settled_roots Root s x = refl
-settled_roots Plain s x = sym (append-nil s.roots)
+settled_roots _ s x = sym (append-nil s.roots)
 
 settled_sets : (f : Fate) (s : State) (x : ℕ) → (settled f s x).sets ≡ s.sets
 settled_sets Free s x = refl
-settled_sets Zero s x = refl
-settled_sets Root s x = refl
-settled_sets Plain s x = refl
+settled_sets _ s x = refl
 
 settled_marked : (f : Fate) (s : State) (x : ℕ) → (settled f s x).marked ≡ s.marked
 settled_marked Free s x = refl
-settled_marked Zero s x = refl
-settled_marked Root s x = refl
-settled_marked Plain s x = refl
+settled_marked _ s x = refl
 
 settled_work : (f : Fate) (s : State) (x : ℕ) → (settled f s x).work ≡ s.work
 settled_work Free s x = refl
-settled_work Zero s x = refl
-settled_work Root s x = refl
-settled_work Plain s x = refl
+settled_work _ s x = refl
 
 -- the work list doesn't matter to it
 settled_idle : (f : Fate) (s : State) (x : ℕ) → settled f (record s { work = [] }) x ≡ record (settled f s x) { work = [] }
 settled_idle Free s x = refl
-settled_idle Zero s x = refl
-settled_idle Root s x = refl
-settled_idle Plain s x = refl
+settled_idle _ s x = refl
 
 -- the slot becomes Purple, and then a root
 pub rooted : (s : State) (x : ℕ) → x < length s.slots → (t : State) → t ≡ with_slot s x (record (slot_at s x) { colour = Purple }) →

@@ -1,5 +1,5 @@
 -- A preparation: what comes next, and what is learnt of the word that was loaded.
-use Rattle.std.specs.Prelude.{◌≡◌, ℕ, ◌+◌, ◌-◌, ◌<◌, Bool, true, false, nat_lt, Option, None, Some, IfSome, List, [], ◌∷◌, length, map, drop, slice_index_or as item_at}
+use Rattle.std.specs.Prelude.{ℕ, ◌+◌, ◌-◌, ◌<◌, Bool, true, false, Option, None, Some, IfSome, List, [], ◌∷◌, length, map, drop, slice_index_or as item_at}
 use Rattle.rec_word.specs.Place.{place_of}
 use Rattle.rec_word.specs.Word.{target_of}
 use Rattle.rec_word.specs.declared.op.Op.{Op}
@@ -7,6 +7,8 @@ use Rattle.rec_word.specs.declared.op.Op.TheVariants.{LoadChild}
 use Rattle.rec_counts.specs.declared.slot.Slot.{Slot}
 use Rattle.rec_counts.specs.Counts.{State, slot_at, with_slot}
 use Rattle.rec_counts.specs.Slot.{is_in}
+use Rattle.rec_walk.specs.declared.member.Member.{Member}
+use Rattle.rec_walk.specs.Walk.{behind, IsOf}
 use Rattle.rec_sigma.specs.declared.at.At.{At}
 
 -- how many fields a slot has, and the field that is loaded next
@@ -26,7 +28,7 @@ members_of s number = item_at s.sets number []
 -- what comes next: the field's word is loaded
 abbrev pub op_at : ℕ → Option At → Option Op
 op_at fields None = None
-op_at fields (Some a) = Some (LoadChild (place_of a.slot a.field fields))
+op_at fields (Some a) = Some (LoadChild (place_of a.member.slot a.member.field fields))
 
 unfoldable pub next_of : Machine → Option Op
 next_of m = op_at m.fields m.at
@@ -44,7 +46,7 @@ renewed s number = record s { slots = map (λ v. renewed_if (is_in number v.set)
 abbrev pub first_of : ℕ → List (List ℕ) → Option At
 first_of number [] = None
 first_of number ([] ∷ sets) = first_of (number + 1) sets
-first_of number ((x ∷ xs) ∷ sets) = Some (record { set = number; index = 0; slot = x; field = 0 })
+first_of number ((x ∷ xs) ∷ sets) = Some (record { set = number; member = record { index = 0; slot = x; field = 0 } })
 
 abbrev pub begun_at : State → Option At → State
 begun_at s None = s
@@ -68,28 +70,20 @@ abbrev pub taken_off : ℕ → State → Option ℕ → State
 taken_off number s None = s
 taken_off number s (Some x) = less_if (is_in number (slot_at s x).set) s x
 
-abbrev pub next_member_if : Bool → State → At → Next
-next_member_if true s a = record { at = Some (record { set = a.set; index = a.index + 1; slot = item_at (members_of s a.set) (a.index + 1) 0; field = 0 }); counts = s }
-next_member_if false s a = next_set s (a.set + 1)
+abbrev pub begun_behind : State → ℕ → Option Member → Next
+begun_behind s number None = next_set s (number + 1)
+begun_behind s number (Some a) = record { at = Some (record { set = number; member = a }); counts = s }
 
--- the next member of the same set comes next; after its last one the next set is begun
-abbrev pub next_member : State → At → Next
-next_member s a = next_member_if (nat_lt (a.index + 1) (length (members_of s a.set))) s a
-
-abbrev pub next_field_if : Bool → State → At → Next
-next_field_if true s a = record { at = Some (record { set = a.set; index = a.index; slot = a.slot; field = a.field + 1 }); counts = s }
-next_field_if false s a = next_member s a
-
--- the next field of the same member comes next; after its last one the next member
-abbrev pub next_field : ℕ → State → At → Next
-next_field fields s a = next_field_if (nat_lt (a.field + 1) fields) s a
+-- the field behind this one comes next; behind the last one of its set the next set is begun
+abbrev pub gone_on : (fields : ℕ) → State → At → Next
+gone_on fields s a = begun_behind s a.set (behind fields (members_of s a.set) a.member)
 
 abbrev pub work_of : ℕ → Next → Work
 work_of fields n = record { machine = record { fields = fields; at = n.at }; counts = n.counts }
 
 abbrev pub took_at : Work → (word : ℕ) → Option At → Work
 took_at w word None = w
-took_at w word (Some a) = work_of w.machine.fields (next_field w.machine.fields (taken_off a.set w.counts (target_of word)) a)
+took_at w word (Some a) = work_of w.machine.fields (gone_on w.machine.fields (taken_off a.set w.counts (target_of word)) a)
 
 -- what is learnt
 unfoldable pub took_of : Work → (word : ℕ) → Work
@@ -102,10 +96,9 @@ started_of m s = work_of m.fields (next_set s 0)
 -- the member at work stands where the machine says
 pub record IsHeld (s : State) (a : At) : Type 0 where
   pub set : a.set < length s.sets
-  pub index : a.index < length (members_of s a.set)
-  pub slot : a.slot ≡ item_at (members_of s a.set) a.index 0
+  pub member : IsOf (members_of s a.set) a.member
 
 -- the counts are as the preparation left them
 pub record IsAtWork (m : Machine) (s : State) : Type 0 where
-  pub field : IfSome m.at (λ (a : At). a.field < m.fields)
+  pub field : IfSome m.at (λ (a : At). a.member.field < m.fields)
   pub held : IfSome m.at (IsHeld s)

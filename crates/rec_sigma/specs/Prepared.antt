@@ -1,29 +1,20 @@
 -- A whole preparation: what it loaded, and what became of the cyclic counts.
 use Rattle.std.specs.Prelude.{◌≡◌, ℕ, ◌+◌, ◌-◌, ◌<◌, ◌≤◌, ◌&&◌, Option, None, Some, List, [], ◌∷◌, ◌++◌, map, drop, length, fold, count_by, slice_index_or as item_at}
 use Rattle.std.specs.List.{concat}
-use Rattle.rec_word.specs.Place.{place_of, places_from, places_of}
-use Rattle.rec_word.specs.Word.{target_of, is_slot}
+use Rattle.rec_word.specs.Place.{places_of}
 use Rattle.rec_word.specs.declared.op.Op.{Op}
 use Rattle.rec_word.specs.declared.op.Op.TheVariants.{LoadChild}
 use Rattle.rec_counts.specs.Counts.{State, slot_at}
 use Rattle.rec_counts.specs.Slot.{is_in}
+use Rattle.rec_walk.specs.Load.{Load, given, leads_to, place_loaded}
+use Rattle.rec_walk.specs.Walk as walks
 use Rattle.rec_sigma.specs.declared.at.At.{At}
 use Rattle.rec_sigma.specs.Prepare.{Work, took_of, started_of}
 
--- a field of a slot that was loaded, and the word that was found there
-pub record Load : Type 0 where
-  pub slot : ℕ
-  pub field : ℕ
-  pub word : ℕ
-
--- where it was loaded
-abbrev pub place_loaded : ℕ → Load → ℕ
-place_loaded fields l = place_of l.slot l.field fields
-
--- the places that are still to be loaded: of the member at work, of the members behind it, of the sets behind its set
+-- the places that are still to be loaded: of the set at work, and of the sets behind it
 abbrev pub places_left : (fields : ℕ) → List (List ℕ) → Option At → List ℕ
 places_left fields sets None = []
-places_left fields sets (Some a) = places_from fields a.slot a.field ++ places_of fields (drop (a.index + 1) (item_at sets a.set []) ++ concat (drop (a.set + 1) sets))
+places_left fields sets (Some a) = walks.places_left fields (item_at sets a.set []) (Some a.member) ++ places_of fields (concat (drop (a.set + 1) sets))
 
 -- how many of the sets were begun
 abbrev pub sets_begun : List (List ℕ) → Option At → ℕ
@@ -32,7 +23,7 @@ sets_begun sets (Some a) = a.set + 1
 
 -- how many words were seen in fields of this set's members that lead to the slot
 unfoldable pub seen : State → (number : ℕ) → (loads : List Load) → (x : ℕ) → ℕ
-seen s number loads x = count_by (λ (l : Load). is_slot x (target_of l.word) && is_in number (slot_at s l.slot).set) loads
+seen s number loads x = count_by (λ (l : Load). leads_to x l && is_in number (slot_at s l.slot).set) loads
 
 -- the outside count of a member of this set: its true count, less the words seen in fields of the set's members that lead
 -- to it, not below zero
@@ -71,18 +62,13 @@ PreparedTo fields before at after loads = Prepared fields before (sets_begun bef
 -- what a preparation loads with this word; nothing where the work is done
 abbrev pub loaded_at : Option At → (word : ℕ) → List Load
 loaded_at None word = []
-loaded_at (Some a) word = record { slot = a.slot; field = a.field; word = word } ∷ []
-
--- what it loaded meanwhile
-unfoldable pub loaded : Work → (words : List ℕ) → List Load
-loaded w [] = []
-loaded w (word ∷ words) = loaded_at w.machine.at word ++ loaded (took_of w word) words
+loaded_at (Some a) word = record { slot = a.member.slot; field = a.member.field; word = word } ∷ []
 
 -- what a preparation of so many fields a slot made of the counts, while it took in these words as long as there was work
 abbrev pub HasPrepared : (fields : ℕ) (before : State) (words : List ℕ) → Type 0
 HasPrepared fields before words =
     let begun : Work = started_of (record { fields = fields; at = None }) before in
-    PreparedTo fields before (fold took_of begun words).machine.at (fold took_of begun words).counts (loaded begun words)
+    PreparedTo fields before (fold took_of begun words).machine.at (fold took_of begun words).counts (given took_of (λ (w : Work) word. loaded_at w.machine.at word) begun words)
 
 -- what is named is the loading of a field, at a place of the heap
 abbrev pub LoadsWithin : (places : ℕ) → Op → Type 0

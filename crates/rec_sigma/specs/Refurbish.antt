@@ -2,7 +2,7 @@
 use Rattle.std.specs.Prelude.{◌≡◌, ℕ, ◌<◌, ◌==◌, Bool, true, false, Option, List, [], ◌++◌, filter, length, slice_get}
 use Rattle.rec_word.specs.Word.{is_slot}
 use Rattle.rec_counts.specs.declared.colour.Colour.{Colour}
-use Rattle.rec_counts.specs.declared.colour.Colour.TheVariants.{Black, Purple, Gray, White, Orange}
+use Rattle.rec_counts.specs.declared.colour.Colour.TheVariants.{Black, Purple, Orange}
 use Rattle.rec_counts.specs.declared.slot.Slot.{Slot}
 use Rattle.rec_counts.specs.Counts.{State, slot_at}
 use Rattle.rec_counts.specs.Groups.{last_set, earlier_sets}
@@ -13,11 +13,9 @@ use Rattle.rec_sigma.specs.declared.fate.Fate.TheVariants.{Free, Zero, Root, Pla
 
 -- a purple member is a root, and so is the first member where it is orange
 abbrev pub is_root : (first : Bool) → Colour → Bool
-is_root first Black = false
 is_root first Purple = true
-is_root first Gray = false
-is_root first White = false
 is_root first Orange = first
+is_root first _ = false
 
 abbrev pub fate_if : (released none root : Bool) → Fate
 fate_if true none root = Free
@@ -46,21 +44,15 @@ refurbished fate v = coloured fate (unbuffered v)
 
 abbrev pub is_free : Fate → Bool
 is_free Free = true
-is_free Zero = false
-is_free Root = false
-is_free Plain = false
+is_free _ = false
 
 abbrev pub is_zero : Fate → Bool
-is_zero Free = false
 is_zero Zero = true
-is_zero Root = false
-is_zero Plain = false
+is_zero _ = false
 
 abbrev pub is_rooted : Fate → Bool
-is_rooted Free = false
-is_rooted Zero = false
 is_rooted Root = true
-is_rooted Plain = false
+is_rooted _ = false
 
 -- the last set can be refurbished: the work list is empty; a released member is not in the free list yet, nor is another
 -- member without a count in the zeros

@@ -1,12 +1,14 @@
 ghost use Rattle.std.specs.Prelude.{◌≡◌, ◌+◌, ◌<◌, ◌≤◌, ◌↔◌, ◌++◌, ℕ, List, [], None, length, drop, IfSome, IsNone, IsSome, true};
 ghost use Rattle.rec_word.specs.Word.{target_of};
 ghost use Rattle.rec_counts.specs.Counts.{State, slot_at, with_slot};
+ghost use Rattle.rec_walk.specs.Load.{Load};
 ghost use Rattle.rec_sigma.specs.declared.at.At.{At};
-ghost use Rattle.rec_sigma.specs.Prepare.{IsAtWork, IsHeld, first_of, next_of, next_set, renewed, renewed_if, started_of, next_member, taken_off, took_of};
-ghost use Rattle.rec_sigma.specs.Prepared.{KeepsOthers, Load, PreparedTo, loaded_at};
+ghost use Rattle.rec_sigma.specs.Prepare.{IsAtWork, IsHeld, first_of, gone_on, next_of, next_set, renewed, renewed_if, started_of, taken_off, took_of};
+ghost use Rattle.rec_sigma.specs.Prepared.{KeepsOthers, PreparedTo, loaded_at};
 
 use crate::at::At;
 use rec_counts::Counts;
+use rec_walk::Member;
 use rec_word::{Op, place, target};
 use std::marker::Model;
 
@@ -26,7 +28,7 @@ impl Model for Prep {
 
     ghost view = { λ prep. record { fields = prep.fields; at = prep.at } };
 
-    ghost invariant = { λ prep. (0 < prep.fields) × IfSome prep.at (λ (a : At). a.field < prep.fields) };
+    ghost invariant = { λ prep. (0 < prep.fields) × IfSome prep.at (λ (a : At). a.member.field < prep.fields) };
 }
 
 impl Prep {
@@ -62,7 +64,7 @@ impl Prep {
         ensures none { IsNone result ↔ IsNone self.now.at }
     {
         let at = self.at?;
-        Some(Op::LoadChild(place(at.slot, at.field, self.fields)))
+        Some(Op::LoadChild(place(at.member.slot, at.member.field, self.fields)))
     }
 
     /// Learns the word that was found in the field: where it leads to a member of the same set, it takes one off that
@@ -84,16 +86,7 @@ impl Prep {
             return;
         };
         take_off(counts, at.set, target(word));
-        if at.field + 1 < self.fields {
-            self.at = Some(At {
-                set: at.set,
-                index: at.index,
-                slot: at.slot,
-                field: at.field + 1,
-            });
-        } else {
-            self.at = member_behind(counts, at);
-        }
+        self.at = go_on(counts, at, self.fields);
     }
 }
 
@@ -111,23 +104,27 @@ fn take_off(counts: &mut Counts, set: u16, target: Option<u16>)
     }
 }
 
-// The member behind this one is at work; after the last one of its set, the first of the next set.
-fn member_behind(counts: &mut Counts, at: At) -> Option<At>
+// The field behind this one comes next; behind the last one of its set, the first of the next set.
+#[inline(always)]
+fn go_on(counts: &mut Counts, at: At, fields: u8) -> Option<At>
+    requires field { at.member.field < fields }
     requires held { IsHeld counts.old at }
-    ensures { record { at = result; counts = counts.new } ≡ next_member counts.old at }
+    ensures { record { at = result; counts = counts.new } ≡ gone_on fields counts.old at }
 {
     counts.rules();
-    let members = counts.set(at.set);
-    if at.index as usize + 1 < members.len() {
-        let index = at.index + 1;
+    if let Some(member) = at.member.next_field(fields) {
         return Some(At {
             set: at.set,
-            index,
-            slot: members[index as usize],
-            field: 0,
+            member,
         });
     }
-    begin_next(counts, at.set + 1)
+    match at.member.next_member(counts.set(at.set)) {
+        Some(member) => Some(At {
+            set: at.set,
+            member,
+        }),
+        None => begin_next(counts, at.set + 1),
+    }
 }
 
 // Begins the next set that has a member, from this number on; None where there is none.
@@ -147,13 +144,8 @@ fn first_member(counts: &Counts, from: u16) -> Option<At>
     ensures held { IfSome result (IsHeld counts.now) }
 {
     for set in from..counts.sets() {
-        if let Some(slot) = counts.set(set).first() {
-            return Some(At {
-                set,
-                index: 0,
-                slot: *slot,
-                field: 0,
-            });
+        if let Some(member) = Member::first(counts.set(set)) {
+            return Some(At { set, member });
         }
     }
     None

@@ -12,7 +12,7 @@ use Rattle.rec_release.specs.CycleFree.{op_at as freeing_op_at, next_of as freei
 use Rattle.rec_release.specs.Release.{op_at as release_op_at, next_of as release_next}
 use Rattle.rec_release.specs.Sweep.{next_of as sweep_next}
 use Rattle.rec_release.specs.declared.at.At.{At}
-use Rattle.rec_release.specs.declared.member.Member.{Member}
+use Rattle.rec_walk.specs.declared.member.Member.{Member}
 use Rattle.rec_sigma.specs.Prepare.{op_at as prep_op_at, next_of as prep_next}
 use Rattle.rec_sigma.specs.declared.at.At as loads
 use Rattle.rec_trial.specs.Trial.{next_of as trial_next}

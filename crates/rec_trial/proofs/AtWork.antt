@@ -56,8 +56,7 @@ named_place m Idle place e h = absurd (none place (rw e at h))
     none : (place : ℕ) → None ≡ Some (LoadChild place) → ⊥
     none place h = cc
 named_place m Marking place e h = let k : Some (LoadChild (place_of m.slot m.field m.fields)) ≡ Some (LoadChild place) = rw e at h in (λ q. cc, cc)
-named_place m Scanning place e h = let k : Some (LoadChild (place_of m.slot m.field m.fields)) ≡ Some (LoadChild place) = rw e at h in (λ q. cc, cc)
-named_place m Collecting place e h = let k : Some (LoadChild (place_of m.slot m.field m.fields)) ≡ Some (LoadChild place) = rw e at h in (λ q. cc, cc)
+named_place m _ place e h = let k : Some (LoadChild (place_of m.slot m.field m.fields)) ≡ Some (LoadChild place) = rw e at h in (λ q. cc, cc)
 
 pub told_place : {fields : ℕ} {before : State} (r : Run) → Told fields before r → NamesPlace (length r.work.counts.slots) r.work.machine
 told_place r t place h =
@@ -107,9 +106,7 @@ noted_work r word = go r.work.machine.phase refl
   where
     go : (p : Phase) → r.work.machine.phase ≡ p → (noted_at p r word).work ≡ took_of r.work word
     go Idle e = rw e refl
-    go Marking e = refl
-    go Scanning e = refl
-    go Collecting e = refl
+    go _ e = refl
 
 pub run_more : (fields : ℕ) (before : State) (words : List ℕ) (word : ℕ) → run_of fields before (words ++ word ∷ []) ≡ noted (run_of fields before words) word
 unfolding run_of

@@ -75,10 +75,7 @@ collected_counted s (Some x) c some l k = joined_counted s x (is_white (slot_at 
 dropped_counted : (s : State) (x : ℕ) (out : Bool) (c : Colour) → x < length s.slots → (out ≡ true → in_counts.times x s.free ≡ 0) → (c ≡ Purple → in_counts.times x s.marked ≡ 0) → IsKept s → IsKept (dropped_if out c s x)
 dropped_counted s x true c l new un k = relisted k k.marked_once k.work_once k.zeros_once (once_push _ s.free x k.free_once (new refl) l)
 dropped_counted s x false Purple l new un k = touched_counted s x false l (λ e. un refl) k
-dropped_counted s x false Black l new un k = k
-dropped_counted s x false Gray l new un k = k
-dropped_counted s x false White l new un k = k
-dropped_counted s x false Orange l new un k = k
+dropped_counted s x false _ l new un k = k
 
 not_gray : (c : Colour) → c ≡ Purple → is_gray c ≡ false
 not_gray c e = ap is_gray e

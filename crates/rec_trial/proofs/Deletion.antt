@@ -111,10 +111,7 @@ drop_root s x xs = record s { phase = Marking; roots = xs }
 abbrev pub root_if : Bool → Colour → Deletion → ℕ → List ℕ → Deletion
 root_if true c s x xs = drop_root s x xs
 root_if false Purple s x xs = touch_if false (drop_root s x xs) x
-root_if false Black s x xs = drop_root s x xs
-root_if false Gray s x xs = drop_root s x xs
-root_if false White s x xs = drop_root s x xs
-root_if false Orange s x xs = drop_root s x xs
+root_if false _ s x xs = drop_root s x xs
 
 abbrev pub one_root : List ℕ → Deletion → Deletion
 one_root [] s = begin_scan s

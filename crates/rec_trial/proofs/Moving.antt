@@ -5,7 +5,7 @@ use Rattle.rec_counts.specs.Lists.{one}
 use Rattle.rec_trial.proofs.Totals.{times}
 use Rattle.rec_trial.proofs.Deletion.{Seen, Deletion, blacken_if, has_rest, begin_set_if, try_scan, try_collect, one_root, root_if, one_at, due_at, drop_root}
 use Rattle.rec_counts.specs.declared.colour.Colour.{Colour}
-use Rattle.rec_counts.specs.declared.colour.Colour.TheVariants.{Black, Gray, White, Purple, Orange}
+use Rattle.rec_counts.specs.declared.colour.Colour.TheVariants.{Black, Purple}
 use Rattle.rec_counts.specs.Colour.{is_purple, is_gray, is_white}
 use Rattle.rec_trial.specs.declared.phase.Phase.{Phase}
 use Rattle.rec_trial.specs.declared.phase.Phase.TheVariants.{Idle, Marking, Scanning, Collecting}
@@ -61,10 +61,7 @@ module _ (o s : Deletion) (marks blacks finds : List Seen) where
       clash : (b : Bool) → b ≡ true → b ≡ false → ⊥
       clash b p q = cc
   root_kept m x xs r false e Purple k = record { core = marked_root o s marks m.core x xs r k e; place = placed_grow m.place (x ∷ []); no_blacks = m.no_blacks; no_finds = m.no_finds }
-  root_kept m x xs r false e Black k = dropped m x xs r (rw k refl)
-  root_kept m x xs r false e Gray k = dropped m x xs r (rw k refl)
-  root_kept m x xs r false e White k = dropped m x xs r (rw k refl)
-  root_kept m x xs r false e Orange k = dropped m x xs r (rw k refl)
+  root_kept m x xs r false e _ k = dropped m x xs r (rw k refl)
 
   roots_kept : WhileMarking o s marks blacks finds → due_at Marking s ≡ false → (rs : List ℕ) → s.roots ≡ rs → Inv o (one_root rs s) marks blacks finds
   roots_kept m d [] r = record {
@@ -142,10 +139,7 @@ module _ (o s : Deletion) (marks blacks finds : List Seen) where
 root_same : (s : Deletion) (x : ℕ) (xs : List ℕ) (b : Bool) (c : Colour) → Same s (root_if b c s x xs)
 root_same s x xs true c = record { fields = refl; count = refl; released = refl }
 root_same s x xs false Black = record { fields = refl; count = refl; released = refl }
-root_same s x xs false Gray = record { fields = refl; count = refl; released = refl }
-root_same s x xs false White = record { fields = refl; count = refl; released = refl }
-root_same s x xs false Orange = record { fields = refl; count = refl; released = refl }
-root_same s x xs false Purple = record { fields = refl; count = refl; released = refl }
+root_same s x xs false _ = record { fields = refl; count = refl; released = refl }
 
 roots_same : (s : Deletion) (rs : List ℕ) → Same s (one_root rs s)
 roots_same s [] = record { fields = refl; count = refl; released = refl }

@@ -5,7 +5,7 @@ use Rattle.std.proofs.lemmas.Bool.Decides.{nat_tests}
 use Rattle.std.proofs.lemmas.List.Sums.{sum_by-cons}
 use Rattle.rec_word.specs.Word.{target_of, is_slot, predecessor, target_bits}
 use Rattle.rec_counts.specs.Lists.{one}
-use Rattle.rec_trial.specs.Loaded.{Load}
+use Rattle.rec_walk.specs.Load.{Load}
 use Rattle.rec_trial.specs.Still.{AreStill}
 use Rattle.rec_trial.specs.Tried as tried
 use Rattle.rec_trial.specs.Tried.{is_of}

@@ -3,12 +3,12 @@ use Rattle.std.proofs.Common.{◌≡◌, ℕ, ◌-◌, ◌<◌, ◌≤◌, Bool,
 use Rattle.std.specs.List.{concat}
 use Rattle.std.proofs.lemmas.List.{length-set, length-map, length-append}
 use Rattle.rec_counts.specs.declared.colour.Colour.{Colour}
-use Rattle.rec_counts.specs.declared.colour.Colour.TheVariants.{Black, Purple, Gray, White, Orange}
+use Rattle.rec_counts.specs.declared.colour.Colour.TheVariants.{Black, Purple, Gray, Orange}
 use Rattle.rec_counts.specs.declared.slot.Slot.{Slot}
 use Rattle.rec_counts.specs.Counts.{State, slot_at, with_slot, without_root}
 use Rattle.rec_counts.specs.Colour.{is_gray, is_white}
 use Rattle.rec_trial.specs.declared.phase.Phase.{Phase}
-use Rattle.rec_trial.specs.declared.phase.Phase.TheVariants.{Idle, Marking, Scanning, Collecting}
+use Rattle.rec_trial.specs.declared.phase.Phase.TheVariants.{Marking, Scanning, Collecting}
 use Rattle.rec_trial.specs.Moves.{touched_if, touched, one_off, marked_by, dropped_if, dropped, blackened_if, scanned_by, has_rest, whitened, joined_if, collected_by, with_new_set}
 use Rattle.rec_trial.specs.Rules.{released_among}
 use Rattle.rec_trial.specs.Trial.{Work, roots_moved, scan_moved, set_begun_if, collect_moved}
@@ -16,10 +16,8 @@ use Rattle.rec_trial.proofs.Views.{concat_member, length_member, concat_new}
 
 -- after marking there are no roots
 abbrev pub no_roots_at : Phase → List ℕ → Type 0
-no_roots_at Idle roots = roots ≡ []
 no_roots_at Marking roots = Unit {0}
-no_roots_at Scanning roots = roots ≡ []
-no_roots_at Collecting roots = roots ≡ []
+no_roots_at _ roots = roots ≡ []
 
 -- what came of the lists since the trial began
 pub record Rest (before : State) (p : Phase) (s : State) : Type 0 where
@@ -114,10 +112,7 @@ record Dropped (t : State) (x : ℕ) (out : Bool) (u : State) : Type 0 where
 dropped_lists : (t : State) (x : ℕ) (out : Bool) (c : Colour) → Dropped t x out (dropped_if out c t x)
 dropped_lists t x true c = record { slots = refl; zeros = refl; roots = refl; sets = refl; free = refl }
 dropped_lists t x false Purple = let e : SameLists t (touched_if false t x) = same_touched t x false in record { slots = e.slots; zeros = e.zeros; roots = e.roots; sets = e.sets; free = e.free }
-dropped_lists t x false Black = record { slots = refl; zeros = refl; roots = refl; sets = refl; free = refl }
-dropped_lists t x false Gray = record { slots = refl; zeros = refl; roots = refl; sets = refl; free = refl }
-dropped_lists t x false White = record { slots = refl; zeros = refl; roots = refl; sets = refl; free = refl }
-dropped_lists t x false Orange = record { slots = refl; zeros = refl; roots = refl; sets = refl; free = refl }
+dropped_lists t x false _ = record { slots = refl; zeros = refl; roots = refl; sets = refl; free = refl }
 
 rest_dropped : {before : State} {s : State} (x : ℕ) (xs : List ℕ) → s.roots ≡ x ∷ xs → (slot_at (without_root (x ∷ xs) s) x).released ≡ (slot_at before x).released → Rest before Marking s → Rest before Marking (dropped (without_root (x ∷ xs) s) x)
 rest_dropped {before} {s} x xs here same r =

@@ -8,7 +8,8 @@ use Rattle.rec_counts.specs.Groups.{last_set, earlier_sets}
 use Rattle.rec_counts.proofs.Keeping.{unreleased_within}
 use Rattle.rec_trial.specs.declared.phase.Phase.{Phase}
 use Rattle.rec_trial.specs.declared.phase.Phase.TheVariants.{Idle, Marking, Scanning, Collecting}
-use Rattle.rec_trial.specs.Loaded.{Load, Run, load_of, noted_at, noted, begun, run_of}
+use Rattle.rec_walk.specs.Load.{Load}
+use Rattle.rec_trial.specs.Loaded.{Run, load_of, noted_at, noted, begun, run_of}
 use Rattle.rec_trial.specs.Rules.{IsReady, LeadsToUnreleased, AllLeadToUnreleased}
 use Rattle.rec_trial.specs.Trial.{Machine, Work, next_of, list_of, is_due_at, is_due, settled, pointed, learnt_at, advanced, advanced_if, took_of, opened_of, started_of}
 use Rattle.rec_trial.proofs.Course.{Course, first_view, due_seen, settled_course, released_same}
@@ -117,16 +118,12 @@ pub record Told (fields : ℕ) (before : State) (r : Run) : Type 0 where
 pub took_busy : (w : Work) (word : ℕ) (p : Phase) → w.machine.phase ≡ p → IsSome (next_of w.machine) → took_of w word ≡ pointed (settled (learnt p w word))
 unfolding next_of took_of
 took_busy w word Idle e b = absurd (false≢true (rw e at b))
-took_busy w word Marking e b = rw e refl
-took_busy w word Scanning e b = rw e refl
-took_busy w word Collecting e b = rw e refl
+took_busy w word _ e b = rw e refl
 
 pub busy_at : (m : Machine) (p : Phase) → m.phase ≡ p → (p ≡ Idle → ⊥) → IsSome (next_of m)
 unfolding next_of
 busy_at m Idle e n = absurd (n refl)
-busy_at m Marking e n = rw e refl
-busy_at m Scanning e n = rw e refl
-busy_at m Collecting e n = rw e refl
+busy_at m _ e n = rw e refl
 
 load_seen : (w : Work) (p : Phase) (word : ℕ) → w.machine.phase ≡ p → w.machine.slot ≡ get_or (list_of w.machine.phase w.counts) w.machine.done 0 → seen p (view w) (target_bits word) ≡ seen_of (load_of w.machine word)
 load_seen w p word e n =

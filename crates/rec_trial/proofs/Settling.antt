@@ -2,7 +2,7 @@
 use Rattle.std.proofs.Common.{◌≡◌, ℕ, zero, suc, ◌+◌, ◌<◌, ◌≤◌, Bool, true, false, ltb, cond, List, [], ◌∷◌, length, get_or, refl, sym, ◌∙◌, arith}
 use Rattle.std.proofs.lemmas.List.{length-append}
 use Rattle.rec_counts.specs.declared.colour.Colour.{Colour}
-use Rattle.rec_counts.specs.declared.colour.Colour.TheVariants.{Black, Purple, Gray, White, Orange}
+use Rattle.rec_counts.specs.declared.colour.Colour.TheVariants.{Purple}
 use Rattle.rec_counts.specs.Counts.{State, slot_at, without_root}
 use Rattle.rec_counts.specs.Colour.{is_white}
 use Rattle.rec_trial.specs.declared.phase.Phase.{Phase}
@@ -14,11 +14,8 @@ use Rattle.rec_trial.proofs.Places.{ltb_yes}
 -- a move brings the next load nearer
 dropped_less : (w : Work) (x : ℕ) (xs : List ℕ) (t : State) (out : Bool) (c : Colour) → w.counts.roots ≡ x ∷ xs → t.roots ≡ xs → t.marked ≡ w.counts.marked → moves_left Marking (record { machine = record w.machine { phase = Marking }; counts = dropped_if out c t x }) < moves_left Marking w
 dropped_less w x xs t true c e f g = rw (e, f, g) (omega arith)
-dropped_less w x xs t false Black e f g = rw (e, f, g) (omega arith)
-dropped_less w x xs t false Gray e f g = rw (e, f, g) (omega arith)
-dropped_less w x xs t false White e f g = rw (e, f, g) (omega arith)
-dropped_less w x xs t false Orange e f g = rw (e, f, g) (omega arith)
 dropped_less w x xs t false Purple e f g = rw (e, f, g) (omega (arith, length-append w.counts.marked (x ∷ [])))
+dropped_less w x xs t false _ e f g = rw (e, f, g) (omega arith)
 
 roots_less : (w : Work) (rs : List ℕ) → w.counts.roots ≡ rs → moves_left (roots_moved rs w).machine.phase (roots_moved rs w) < moves_left Marking w
 roots_less w [] e = rw e (omega arith)
@@ -53,9 +50,7 @@ moved_less w d = moved_less_at w.machine.phase w d
 
 none_left : (p : Phase) (w : Work) → moves_left p w ≤ 0 → is_due_at p w.machine.done w.counts ≡ true
 none_left Idle w h = refl
-none_left Marking w h = absurd (omega arith)
-none_left Scanning w h = absurd (omega arith)
-none_left Collecting w h = absurd (omega arith)
+none_left _ w h = absurd (omega arith)
 
 settled_in_due : (n : ℕ) (w : Work) → moves_left w.machine.phase w ≤ n → is_due (settled_in n w) ≡ true
 settled_in_due zero w h = none_left w.machine.phase w h

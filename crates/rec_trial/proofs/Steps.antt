@@ -5,7 +5,7 @@ use Rattle.std.proofs.lemmas.List.{length-set, length-append}
 use Rattle.std.proofs.lemmas.Bool.Decides.{nat_tests}
 use Rattle.rec_word.specs.Word.{predecessor}
 use Rattle.rec_counts.specs.declared.colour.Colour.{Colour}
-use Rattle.rec_counts.specs.declared.colour.Colour.TheVariants.{Black, Purple, Gray, White, Orange}
+use Rattle.rec_counts.specs.declared.colour.Colour.TheVariants.{Purple, Gray}
 use Rattle.rec_counts.specs.Counts.{State, slot_at, without_root}
 use Rattle.rec_counts.specs.Colour.{is_gray, is_white}
 use Rattle.rec_counts.proofs.Keeping.{unreleased_within}
@@ -33,9 +33,7 @@ bits_suc x = go (eqb (suc x) 0) refl
 -- the place moves on
 at_next : (p : Phase) (done before : ℕ) → at_of p (done + 1) before ≡ suc (at_of p done before)
 at_next Idle done before = omega arith
-at_next Marking done before = omega arith
-at_next Scanning done before = omega arith
-at_next Collecting done before = omega arith
+at_next _ done before = omega arith
 
 pub view_advanced : (m : Machine) (s : State) (p : Phase) → m.phase ≡ p → view_of (advanced m) s ≡ plain.advance p (view_of m s)
 view_advanced m s p e =
@@ -80,10 +78,7 @@ module _ (w : Work) (e : w.machine.phase ≡ Marking) (x : ℕ) (xs : List ℕ) 
   view_dropped_if : (t : State) (out : Bool) (c : Colour) → view_of (record w.machine { phase = Marking }) t ≡ plain.drop_root (view w) x xs → (out ≡ false → x < length t.slots) → view_of (record w.machine { phase = Marking }) (dropped_if out c t x) ≡ plain.root_if out c (view w) x xs
   view_dropped_if t true c q l = q
   view_dropped_if t false Purple q l = view_touched (record w.machine { phase = Marking }) t x (l refl) false ∙ ap (λ (v : Deletion). plain.touch_if false v x) q
-  view_dropped_if t false Black q l = q
-  view_dropped_if t false Gray q l = q
-  view_dropped_if t false White q l = q
-  view_dropped_if t false Orange q l = q
+  view_dropped_if t false _ q l = q
 
   view_dropped : view_of (record w.machine { phase = Marking }) (dropped (without_root (x ∷ xs) w.counts) x) ≡ plain.root_if (slot_at w.counts x).released (slot_at w.counts x).colour (view w) x xs
   view_dropped =

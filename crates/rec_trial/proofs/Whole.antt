@@ -49,9 +49,7 @@ none_idle m h = go m.phase refl
   where
     go : (p : Phase) → m.phase ≡ p → p ≡ Idle
     go Idle e = refl
-    go Marking e = absurd (false≢true (sym (rw e at h)))
-    go Scanning e = absurd (false≢true (sym (rw e at h)))
-    go Collecting e = absurd (false≢true (sym (rw e at h)))
+    go _ e = absurd (false≢true (sym (rw e at h)))
 
 noted_idle : (r : Run) (word : ℕ) → r.work.machine.phase ≡ Idle → noted r word ≡ r
 noted_idle r word e = ap (λ p. noted_at p r word) e
@@ -66,9 +64,7 @@ noted_more r word = go r.work.machine.phase refl
   where
     go : (p : Phase) → r.work.machine.phase ≡ p → (p ≡ Idle) ⊎ (sum_of (noted_at p r word) ≡ suc (sum_of r))
     go Idle e = inl refl
-    go Marking e = inr (omega arith)
-    go Scanning e = inr (omega arith)
-    go Collecting e = inr (omega arith)
+    go _ e = inr (omega arith)
 
 -- while there is work, every word was one of a load
 turns_by : (words : List ℕ) (r : Run) → IsSome (next_of (fold noted r words).work.machine) → sum_of (fold noted r words) ≡ sum_of r + length words

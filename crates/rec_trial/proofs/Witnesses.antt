@@ -7,7 +7,8 @@ use Rattle.rec_counts.specs.Counts.{State}
 use Rattle.rec_counts.specs.Lists.{one}
 use Rattle.rec_counts.specs.Lists as in_counts
 use Rattle.rec_counts.proofs.Keeping.{unreleased_within}
-use Rattle.rec_trial.specs.Loaded.{Load, Run, run_of}
+use Rattle.rec_walk.specs.Load.{Load}
+use Rattle.rec_trial.specs.Loaded.{Run, run_of}
 use Rattle.rec_trial.specs.Still.{references}
 use Rattle.rec_trial.specs.Tried.{IsCareful, IsOver}
 use Rattle.rec_trial.specs.Witnessed.{word_at, TrialIsWitnessed}

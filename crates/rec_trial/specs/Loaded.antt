@@ -2,16 +2,11 @@
 use Rattle.std.specs.Prelude.{◌≡◌, ℕ, ◌<◌, List, [], ◌∷◌, fold, IsSome}
 use Rattle.rec_word.specs.Word.{target_of}
 use Rattle.rec_counts.specs.Counts.{State, IsKept}
+use Rattle.rec_walk.specs.Load.{Load}
 use Rattle.rec_trial.specs.declared.phase.Phase.{Phase}
 use Rattle.rec_trial.specs.declared.phase.Phase.TheVariants.{Idle, Marking, Scanning, Collecting}
 use Rattle.rec_trial.specs.Rules.{IsReady, LeadsToUnreleased, AllLeadToUnreleased}
 use Rattle.rec_trial.specs.Trial.{Machine, Work, next_of, took_of, started_of, opened_of, advanced, learnt_at}
-
--- a field that was loaded, and the word that it held
-pub record Load : Type 0 where
-  pub slot : ℕ
-  pub field : ℕ
-  pub word : ℕ
 
 -- a trial, with what marking loaded, what blackening loaded and what collecting loaded, the last load first
 pub record Run : Type 0 where

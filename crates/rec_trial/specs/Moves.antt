@@ -30,10 +30,7 @@ marked_by s (Some x) = one_off (touched s x) x
 abbrev pub dropped_if : (released : Bool) → Colour → State → ℕ → State
 dropped_if true colour s x = record s { free = s.free ++ x ∷ [] }
 dropped_if false Purple s x = touched_if false s x
-dropped_if false Black s x = s
-dropped_if false Gray s x = s
-dropped_if false White s x = s
-dropped_if false Orange s x = s
+dropped_if false _ s x = s
 
 -- a slot that left the root buffer goes to the free list where it is released; else it is marked where it is Purple
 abbrev pub dropped : State → ℕ → State

@@ -5,7 +5,8 @@ use Rattle.rec_word.specs.Word.{target_of, is_slot}
 use Rattle.rec_counts.specs.declared.colour.Colour.TheVariants.{Purple}
 use Rattle.rec_counts.specs.Counts.{State, slot_at}
 use Rattle.rec_counts.specs.Lists.{times}
-use Rattle.rec_trial.specs.Loaded.{Load, Run, run_of}
+use Rattle.rec_walk.specs.Load.{Load}
+use Rattle.rec_trial.specs.Loaded.{Run, run_of}
 use Rattle.rec_trial.specs.Rules.{IsReady, AllLeadToUnreleased}
 use Rattle.rec_trial.specs.Tried.{IsOver, members}
 use Rattle.rec_trial.specs.Trial.{next_of}

@@ -38,9 +38,7 @@ idle_of fields = begun_at Idle fields
 -- what comes next: the field is loaded
 abbrev pub op_at : Phase → Machine → Option Op
 op_at Idle m = None
-op_at Marking m = Some (LoadChild (place_of m.slot m.field m.fields))
-op_at Scanning m = Some (LoadChild (place_of m.slot m.field m.fields))
-op_at Collecting m = Some (LoadChild (place_of m.slot m.field m.fields))
+op_at _ m = Some (LoadChild (place_of m.slot m.field m.fields))
 
 unfoldable pub next_of : Machine → Option Op
 next_of m = op_at m.phase m
@@ -135,9 +133,7 @@ went_on w word = pointed (settled (record { machine = advanced w.machine; counts
 
 abbrev pub took_at : Phase → Work → (word : ℕ) → Work
 took_at Idle w word = w
-took_at Marking w word = went_on w word
-took_at Scanning w word = went_on w word
-took_at Collecting w word = went_on w word
+took_at _ w word = went_on w word
 
 -- what is learnt
 unfoldable pub took_of : Work → (word : ℕ) → Work

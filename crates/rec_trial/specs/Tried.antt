@@ -1,11 +1,11 @@
 -- What a trial promises, whatever words it is given: facts of the counts and of what it loaded.
 use Rattle.std.specs.Prelude.{◌≡◌, ℕ, ◌+◌, ◌*◌, ◌<◌, ◌≤◌, ◌==◌, Bool, false, if◌then◌else◌, Some, List, [], ◌++◌, length, count_by, IsNone, IsSome}
 use Rattle.std.specs.List.{concat}
-use Rattle.rec_word.specs.Word.{target_of, is_slot}
 use Rattle.rec_counts.specs.Counts.{State, slot_at}
 use Rattle.rec_counts.specs.Lists.{one, times}
 use Rattle.rec_counts.specs.Colour.{is_black, is_gray, is_white, is_orange}
-use Rattle.rec_trial.specs.Loaded.{Load, Run, run_of}
+use Rattle.rec_walk.specs.Load.{Load, leads_to}
+use Rattle.rec_trial.specs.Loaded.{Run, run_of}
 use Rattle.rec_trial.specs.Rules.{IsReady, AllLeadToUnreleased, released_among}
 use Rattle.rec_trial.specs.Trial.{NamesPlace, next_of}
 
@@ -19,11 +19,11 @@ loaded x g loads = count_by (is_of x g) loads
 
 -- how many of the words lead to the slot
 unfoldable pub naming : ℕ → List Load → ℕ
-naming x loads = count_by (λ l. is_slot x (target_of l.word)) loads
+naming x loads = count_by (λ l. leads_to x l) loads
 
 -- how many words of the fields of n lead to x
 unfoldable pub edges : (n x : ℕ) → List Load → ℕ
-edges n x loads = count_by (λ l. if n == l.slot then is_slot x (target_of l.word) else false) loads
+edges n x loads = count_by (λ l. if n == l.slot then leads_to x l else false) loads
 
 -- the members of all sets
 abbrev pub members : State → List ℕ

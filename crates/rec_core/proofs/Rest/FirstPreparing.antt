@@ -24,16 +24,16 @@ use Rattle.rec_core.proofs.Turns.{now_at}
 
 -- A field was loaded for the preparation, and the word that stands there was found.
 pub prep_rests_more : (w : Core) (a : loads.At) → IsKept w → w.collector.phase ≡ Preparing → w.collector.prep.at ≡ Some a → PrepRests w w.words (parts_of w.collector)
-    → PrepRests w w.words (with_loaded (parts_of w.collector) (word_at w a.slot a.field))
+    → PrepRests w w.words (with_loaded (parts_of w.collector) (word_at w a.member.slot a.member.field))
 prep_rests_more w a kept phase at h =
     let fields : ℕ = w.config.fields in
     let m : Machine = w.collector.prep in
     let s : State = w.collector.counts in
-    let found : ℕ = word_at w a.slot a.field in
+    let found : ℕ = word_at w a.member.slot a.member.field in
     let after : Work = took_of (record { machine = m; counts = s }) found in
     let same : m.fields ≡ fields = kept.collector.machine.prep_fields ∙ kept.collector.fields in
     let now : collector_kept.IsPreparing w.collector = now_at w Preparing kept phase in
-    let below : a.field < fields = subst (λ n. a.field < n) same (subst (λ (o : Option loads.At). IfSome o (λ (b : loads.At). b.field < m.fields)) at now.kept.field) in
+    let below : a.member.field < fields = subst (λ n. a.member.field < n) same (subst (λ (o : Option loads.At). IfSome o (λ (b : loads.At). b.member.field < m.fields)) at now.kept.field) in
     let came : Came fields h.before after (h.loads ++ loaded_at m.at found)
     = came_on fields h.before (record { machine = m; counts = s }) h.loads found h.before_kept.numbers (record { fields_kept = same; work = now.kept; law = h.prepares }) in
     record {

@@ -2,7 +2,7 @@
 use Rattle.std.proofs.Common.{◌≡◌, ℕ, ◌<◌, true, Option, None, Some, List, length, refl, sym, ap, subst, ◌∙◌, arith}
 use Rattle.std.proofs.lemmas.Bool.{le-leb}
 use Rattle.rec_counts.specs.Counts.{State}
-use Rattle.rec_release.specs.declared.member.Member.{Member}
+use Rattle.rec_walk.specs.declared.member.Member.{Member}
 use Rattle.rec_trial.specs.Rules.{IsReady}
 use Rattle.rec_trial.specs.Trial.{Work, started_of}
 use Rattle.rec_trial.proofs.AtWork.{started_fields}

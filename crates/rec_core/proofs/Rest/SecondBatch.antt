@@ -10,7 +10,7 @@ use Rattle.rec_counts.specs.Rest.{KeepsRest}
 use Rattle.rec_apply.specs.Batch.{batch, down_targets, up_targets}
 use Rattle.rec_apply.specs.Targets.{new_target, old_target, named}
 use Rattle.rec_apply.proofs.Naming.{named-nil, added_is, taken_is}
-use Rattle.rec_release.specs.Freed.{places_behind}
+use Rattle.rec_walk.specs.Walk.{places_left}
 use Rattle.rec_release.specs.Release.{first_of, started_of, without_first}
 use Rattle.rec_mutator.specs.Private.{Private}
 use Rattle.rec_collector.specs.Clearing.{IsClearing}
@@ -34,10 +34,10 @@ use Rattle.rec_core.proofs.Turns.{now_at}
 
 -- Where there are no zeros, none is released.
 pub no_zeros_released : (w : Core) (words : List ℕ) (lowers : Bool) (v : Parts) → v.counts.zeros ≡ []
-    → SetsRest w words (places_behind v.freeing.fields v.counts.work v.freeing.at) v.counts → FreesRest w words (zeros_released lowers v)
+    → SetsRest w words (places_left v.freeing.fields v.counts.work v.freeing.at) v.counts → FreesRest w words (zeros_released lowers v)
 unfolding started_of
 no_zeros_released w words lowers v none rest = record {
-  sets = subst (λ zs. SetsRest w words (places_behind v.freeing.fields (without_first zs v.counts).work v.freeing.at) (without_first zs v.counts)) (sym none) rest;
+  sets = subst (λ zs. SetsRest w words (places_left v.freeing.fields (without_first zs v.counts).work v.freeing.at) (without_first zs v.counts)) (sym none) rest;
   zeros = ap (λ zs. (without_first zs v.counts).zeros) none ∙ none;
   still = ap first_of none;
 }
@@ -104,4 +104,4 @@ module _ (w : Core) (t : ℕ) (kept : IsKept w) (phase : w.collector.phase ≡ R
   pub frees_rest_applied : AreCounted w w.words (batch w.collector.counts w.collector.newer w.collector.older) → FreesRest w w.words (zeros_released false (batched w.collector))
   frees_rest_applied counted =
       let none : s.zeros ≡ [] = no_zeros_rest w w.words [] s (keeps.slots ∙ kept.collector.slots) (counted_zeros w t kept phase last) clear.apart counted rested_then in
-      no_zeros_released w w.words false (batched c) none (subst (λ at. SetsRest w w.words (places_behind c.freeing.fields s.work at) s) (sym rest.unfreed) rested_then)
+      no_zeros_released w w.words false (batched c) none (subst (λ at. SetsRest w w.words (places_left c.freeing.fields s.work at) s) (sym rest.unfreed) rested_then)

@@ -6,9 +6,9 @@ use Rattle.rec_word.specs.Place.{place_of, places_from, places_of}
 use Rattle.rec_word.specs.Word.{target_of}
 use Rattle.rec_word.proofs.FieldPlaces.{places_step, places_end}
 use Rattle.rec_counts.specs.Counts.{State, slot_at}
-use Rattle.rec_release.specs.declared.member.Member.{Member}
+use Rattle.rec_walk.specs.declared.member.Member.{Member}
 use Rattle.rec_release.specs.CycleFree.{listed}
-use Rattle.rec_release.specs.Freed.{places_behind}
+use Rattle.rec_walk.specs.Walk.{places_left}
 use Rattle.rec_release.specs.TakenOff.{taken_off}
 use Rattle.rec_collector.specs.Clearing.{IsClearing}
 use Rattle.rec_collector.specs.Followed.{relieved, with_freed}
@@ -31,7 +31,7 @@ use Rattle.rec_core.proofs.Turns.{now_at}
 
 -- what is known of the parts after an exchange, before zeros are looked for
 record IsExchanged (w : Core) (words : List ℕ) (v : Parts) : Type 0 where
-  sets : SetsRest w words (places_behind v.freeing.fields v.counts.work v.freeing.at) v.counts
+  sets : SetsRest w words (places_left v.freeing.fields v.counts.work v.freeing.at) v.counts
   counted : AreCounted w words v.counts
   many : length v.counts.slots ≡ w.config.slots
   still : v.release.at ≡ None
@@ -67,11 +67,11 @@ module _ (w : Core) (a : Member) (kept : IsKept w) (phase : w.collector.phase �
   abbrev behind : List ℕ
   behind = places_from c.freeing.fields a.slot (a.field + 1) ++ places_of c.freeing.fields (drop (a.index + 1) off.work)
 
-  were_left : places_behind c.freeing.fields c.counts.work c.freeing.at ≡ place ∷ behind
+  were_left : places_left c.freeing.fields c.counts.work c.freeing.at ≡ place ∷ behind
   were_left =
       let work : c.counts.work ≡ off.work = sym still_work in
       let due : a.field < c.freeing.fields = omega (arith, within, same_fields) in
-      ap (places_behind c.freeing.fields c.counts.work) at
+      ap (places_left c.freeing.fields c.counts.work) at
       ∙ ap (λ ps. ps ++ places_of c.freeing.fields (drop (a.index + 1) c.counts.work)) (places_step c.freeing.fields a.slot a.field due)
       ∙ ap (λ n. place_of a.slot a.field n ∷ (places_from c.freeing.fields a.slot (a.field + 1) ++ places_of c.freeing.fields (drop (a.index + 1) c.counts.work))) same_fields
       ∙ ap (λ xs. place ∷ (places_from c.freeing.fields a.slot (a.field + 1) ++ places_of c.freeing.fields (drop (a.index + 1) xs))) work
@@ -106,7 +106,7 @@ module _ (w : Core) (a : Member) (kept : IsKept w) (phase : w.collector.phase �
   -- the first field of the next member follows
   next : c.freeing.fields ≤ a.field + 1 → a.index + 1 < length off.work → IsExchanged w words (freed_next (parts_of c) word a)
   next last more =
-      let left : behind ≡ places_behind c.freeing.fields off.work (freed_next (parts_of c) word a).freeing.at = others last ∙ ap (places_of c.freeing.fields) (drop_more off.work (a.index + 1) 0 more) in
+      let left : behind ≡ places_left c.freeing.fields off.work (freed_next (parts_of c) word a).freeing.at = others last ∙ ap (places_of c.freeing.fields) (drop_more off.work (a.index + 1) 0 more) in
       record { sets = subst (λ ps. SetsRest w words ps off) left rested_then; counted = counted; many = many; still = rested.still }
 
   -- the set is freed
@@ -130,6 +130,6 @@ module _ (w : Core) (a : Member) (kept : IsKept w) (phase : w.collector.phase �
       let v : Parts = with_freed (parts_of c) word in
       let due = now_at w Freeing kept phase in
       let clear : IsClearing v = freed_clear (parts_of c) word due.1 (taken.counted_word w a.slot a.field (freeing.may_empty w a kept phase at)) kept.collector.machine.counts due.0.clearing in
-      let left : List ℕ = places_behind v.freeing.fields v.counts.work v.freeing.at in
+      let left : List ℕ = places_left v.freeing.fields v.counts.work v.freeing.at in
       let none : v.counts.zeros ≡ [] = no_zeros_rest w words left v.counts exchanged.many clear.freeing.ready.zeros clear.apart exchanged.counted exchanged.sets in
       relieved_by (FreesRest w words) v (λ e. no_zeros_released w words true v none exchanged.sets) (λ m e. record { sets = exchanged.sets; zeros = none; still = exchanged.still })

@@ -8,8 +8,9 @@ use Rattle.rec_counts.specs.Counts.{State, IsKept, slot_at}
 use Rattle.rec_counts.specs.Groups.{last_set}
 use Rattle.rec_counts.specs.Slot.{is_in}
 use Rattle.rec_counts.proofs.Keeping.{set_there}
-use Rattle.rec_release.specs.CycleFree.{first_member, given_up, started_of}
-use Rattle.rec_release.specs.Freed.{places_behind}
+use Rattle.rec_walk.specs.Walk.{first_member}
+use Rattle.rec_release.specs.CycleFree.{given_up, started_of}
+use Rattle.rec_walk.specs.Walk.{places_left}
 use Rattle.rec_sigma.specs.Judged.{AreOrange, cyclic_sum}
 use Rattle.rec_collector.specs.Followed.{trial_started}
 use Rattle.rec_collector.specs.Parts.{Parts}
@@ -27,7 +28,7 @@ use Rattle.rec_core.proofs.SetTests.{tested_lands}
 use Rattle.rec_core.proofs.Zeros.{some_fields}
 
 -- all fields of the members are still to be exchanged as the freeing of a set begins
-places_begun : (fields : ℕ) (members : List ℕ) → places_of fields members ≡ places_behind fields members (first_member (slice_get members 0))
+places_begun : (fields : ℕ) (members : List ℕ) → places_of fields members ≡ places_left fields members (first_member (slice_get members 0))
 places_begun fields [] = refl
 places_begun fields (x ∷ xs) = refl
 
@@ -39,7 +40,7 @@ module _ (w : Core) (words : List ℕ) (v : Parts) (fields : 0 < w.config.fields
   number = length s.sets - 1
 
   rested_now : SetsRest w words [] s
-  rested_now = subst (λ at. SetsRest w words (places_behind v.freeing.fields s.work at) s) unfreed rested.sets
+  rested_now = subst (λ at. SetsRest w words (places_left v.freeing.fields s.work at) s) unfreed rested.sets
 
   passes : AreOrange s number × (cyclic_sum s number ≡ 0)
   passes = unheld_passes w.config.fields words s kept rested_now.unheld
@@ -62,10 +63,10 @@ module _ (w : Core) (words : List ℕ) (v : Parts) (fields : 0 < w.config.fields
   given_rests : (sets : Sets) → FreesRest w words (with_freeing (record v { sets = sets }) (started_of v.freeing s))
   unfolding started_of
   given_rests sets =
-      let left : places_of w.config.fields (last_set s.sets) ≡ places_behind v.freeing.fields (s.work ++ last_set s.sets) (first_member (slice_get (last_set s.sets) 0)) =
+      let left : places_of w.config.fields (last_set s.sets) ≡ places_left v.freeing.fields (s.work ++ last_set s.sets) (first_member (slice_get (last_set s.sets) 0)) =
       ap (λ n. places_of n (last_set s.sets)) (sym own_fields)
       ∙ places_begun v.freeing.fields (last_set s.sets)
-      ∙ ap (λ held. places_behind v.freeing.fields (held ++ last_set s.sets) (first_member (slice_get (last_set s.sets) 0))) (sym work) in
+      ∙ ap (λ held. places_left v.freeing.fields (held ++ last_set s.sets) (first_member (slice_get (last_set s.sets) 0))) (sym work) in
       record { sets = subst (λ ps. SetsRest w words ps (given_up s)) left rested_then; zeros = rested.zeros; still = rested.still }
 
   tested_rests : (u : Parts) → IsTested v u → FreesRest w words u

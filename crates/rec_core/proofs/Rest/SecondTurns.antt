@@ -3,7 +3,7 @@ use Rattle.std.proofs.Common.{◌≡◌, ℕ, ◌+◌, ◌-◌, ◌<◌, true, N
 use Rattle.rec_word.specs.Word.{target_of}
 use Rattle.rec_counts.specs.declared.slot.Slot.{Slot}
 use Rattle.rec_release.specs.TakenOff.{taken_off}
-use Rattle.rec_release.specs.declared.member.Member.{Member}
+use Rattle.rec_walk.specs.declared.member.Member.{Member}
 use Rattle.rec_release.proofs.TakenOff.{off_most}
 use Rattle.rec_trial.proofs.Keeps.{took_keeps}
 use Rattle.rec_collector.specs.Followed.{trial_started, with_loaded, with_tried}
@@ -86,8 +86,8 @@ module _ (first : ℕ) (w : Core) (kept : IsKept w) (quiet : AreQuiet first w) w
       let keeps = took_keeps w.collector.trial w.collector.counts (now_at w Trying kept phase).kept (slice_index_or w.words place 0) (loaded_leads w kept phase place named) in
       subst Comes (sym is) (within_tries (within_same w w.words w.collector.counts (with_tried (parts_of w.collector) (slice_index_or w.words place 0)).counts keeps.released (known_in Trying phase h)) on)
   second_turned v (IsTurn.prepares a q turn phase at on is) late unswept h =
-      let others = took_others (record { machine = w.collector.prep; counts = w.collector.counts }) (word_at w a.slot a.field) in
-      subst Comes (sym is) (within_prepares (within_same w w.words w.collector.counts (with_loaded (parts_of w.collector) (word_at w a.slot a.field)).counts (λ x. ap (λ (y : Slot). y.released) (others.slots x)) (known_in Preparing phase h)) on)
+      let others = took_others (record { machine = w.collector.prep; counts = w.collector.counts }) (word_at w a.member.slot a.member.field) in
+      subst Comes (sym is) (within_prepares (within_same w w.words w.collector.counts (with_loaded (parts_of w.collector) (word_at w a.member.slot a.member.field)).counts (λ x. ap (λ (y : Slot). y.released) (others.slots x)) (known_in Preparing phase h)) on)
   second_turned v (IsTurn.begins_sweep phase is) late unswept h = subst Comes (sym is) (ComesTo.goes_on refl (known_in Opening phase h))
   second_turned v (IsTurn.sweeps n slot next phase due which is) late unswept h = absurd (unswept n phase)
   second_turned v (IsTurn.ends_sweep n phase is) late unswept h = subst Comes (sym is) (ComesTo.completes refl refl (known_in (Closing n) phase h))

@@ -12,7 +12,7 @@ use Rattle.rec_counts.specs.Slot.{absent, is_in, raised}
 use Rattle.rec_counts.proofs.Decrementing.{rest_decremented}
 use Rattle.rec_counts.proofs.Keeping.{field_kept}
 use Rattle.rec_counts.proofs.Times.{one-same, times-nil}
-use Rattle.rec_apply.specs.Batch.{all_down, all_up, counted_down, counted_up}
+use Rattle.rec_apply.specs.Batch.{all_counted, all_down, all_up, counted_down, counted_up}
 use Rattle.rec_apply.specs.Targets.{named}
 use Rattle.rec_apply.proofs.Naming.{named-cons}
 use Rattle.rec_release.specs.Sweep.{Swept, swept_if}
@@ -80,14 +80,14 @@ quiet_down s None targets out = quiet_same s
 quiet_down s (Some y) targets out = quiet_lessened s y (first_other s y targets out)
 
 quiet_all_up : (s : State) (targets : List (Option ℕ)) → AreOutside s targets → IsQuiet s (all_up s targets)
-unfolding all_up
+unfolding all_counted
 quiet_all_up s [] out = quiet_same s
 quiet_all_up s (target ∷ targets) out =
     let q : IsQuiet s (counted_up s target) = quiet_up s target targets out in
     quiet_then q (quiet_all_up (counted_up s target) targets (rest_outside s (counted_up s target) target targets q out))
 
 quiet_all_down : (s : State) (targets : List (Option ℕ)) → AreOutside s targets → IsQuiet s (all_down s targets)
-unfolding all_down
+unfolding all_counted
 quiet_all_down s [] out = quiet_same s
 quiet_all_down s (target ∷ targets) out =
     let q : IsQuiet s (counted_down s target) = quiet_down s target targets out in

@@ -15,7 +15,8 @@ use Rattle.rec_counts.specs.Slot.{is_in}
 use Rattle.rec_counts.proofs.Keeping.{members_once, set_there}
 use Rattle.rec_counts.proofs.Times.{in_range_once, one-le, times_part}
 use Rattle.rec_sigma.specs.declared.at.At.{At}
-use Rattle.rec_sigma.specs.Prepared.{Load, PreparedTo, loaded_at, place_loaded, seen}
+use Rattle.rec_walk.specs.Load.{Load, place_loaded}
+use Rattle.rec_sigma.specs.Prepared.{PreparedTo, loaded_at, seen}
 use Rattle.rec_core.specs.Settling.{leading, heap_sum, leading_outside, outside_sum, IsLoadOf, AreLoadsOf}
 use Rattle.rec_core.proofs.Rest.SettlingSums.{sum_at_same-from_get_or, sum_of_slots}
 
@@ -23,9 +24,9 @@ use Rattle.rec_core.proofs.Rest.SettlingSums.{sum_at_same-from_get_or, sum_of_sl
 pub loads_begun : (fields : ℕ) (words : List ℕ) → AreLoadsOf fields words []
 loads_begun fields words = All-nil (IsLoadOf fields words)
 
-pub loads_more : (fields : ℕ) (words : List ℕ) (loads : List Load) (a : At) (word : ℕ) → a.field < fields → word ≡ get_or words (place_of a.slot a.field fields) 0 → AreLoadsOf fields words loads → AreLoadsOf fields words (loads ++ loaded_at (Some a) word)
+pub loads_more : (fields : ℕ) (words : List ℕ) (loads : List Load) (a : At) (word : ℕ) → a.member.field < fields → word ≡ get_or words (place_of a.member.slot a.member.field fields) 0 → AreLoadsOf fields words loads → AreLoadsOf fields words (loads ++ loaded_at (Some a) word)
 loads_more fields words loads a word below e h =
-    let l : Load = record { slot = a.slot; field = a.field; word = word } in
+    let l : Load = record { slot = a.member.slot; field = a.member.field; word = word } in
     let here : IsLoadOf fields words l = record { field = below; word = e } in
     All-append (IsLoadOf fields words) loads (l ∷ []) h (All-cons (IsLoadOf fields words) l [] here (All-nil (IsLoadOf fields words)))
 

@@ -16,7 +16,8 @@ use Rattle.rec_counts.specs.Lists.{one, times}
 use Rattle.rec_counts.specs.Colour.{is_orange}
 use Rattle.rec_counts.proofs.Keeping.{no_set, some_set}
 use Rattle.rec_counts.proofs.Times.{times-nil}
-use Rattle.rec_trial.specs.Loaded.{Load, Run}
+use Rattle.rec_walk.specs.Load.{Load}
+use Rattle.rec_trial.specs.Loaded.{Run}
 use Rattle.rec_trial.specs.Promised.{IsTrial}
 use Rattle.rec_trial.specs.Still.{AreStill, IsExact, references}
 use Rattle.rec_trial.specs.Still as still

@@ -19,7 +19,8 @@ use Rattle.rec_counts.proofs.Keeping.{field_kept}
 use Rattle.rec_counts.proofs.Times.{times-cons}
 use Rattle.rec_release.specs.TakenOff.{down_if, taken_off}
 use Rattle.rec_release.proofs.Orange.{orange_from}
-use Rattle.rec_sigma.specs.Prepared.{Load, PreparedTo}
+use Rattle.rec_walk.specs.Load.{Load}
+use Rattle.rec_sigma.specs.Prepared.{PreparedTo}
 use Rattle.rec_sigma.proofs.Cyclics.{in_set}
 use Rattle.rec_core.specs.Settling.{leading, heap_sum, leading_outside, outside_sum, AreLoadsOf, LeadBack, AreUnheld}
 use Rattle.rec_core.proofs.Rest.SettlingPrepared.{prepared_at_rest}

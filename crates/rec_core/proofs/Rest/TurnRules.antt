@@ -10,7 +10,7 @@ use Rattle.rec_word.specs.declared.op.Op.{Op}
 use Rattle.rec_word.specs.declared.op.Op.TheVariants as ops
 use Rattle.rec_log.specs.declared.contents.Contents.{Contents}
 use Rattle.rec_release.specs.declared.at.At.{At}
-use Rattle.rec_release.specs.declared.member.Member.{Member}
+use Rattle.rec_walk.specs.declared.member.Member.{Member}
 use Rattle.rec_release.specs.CycleFree.{next_of as freeing_next, op_at as freeing_op_at}
 use Rattle.rec_release.specs.Release.{next_of as release_next, op_at as release_op_at}
 use Rattle.rec_release.specs.Sweep as sweeps
@@ -129,10 +129,10 @@ rule_is w op word q turn kept found (Step.trial trying named on) =
     )
 rule_is w op word q turn kept found (Step.preparation preparing named on) =
     let (a, at, due) = loads_due w.collector.prep op (sym named) in
-    let place : ℕ = place_of a.slot a.field w.config.fields in
+    let place : ℕ = place_of a.member.slot a.member.field w.config.fields in
     let fields : w.collector.prep.fields ≡ w.config.fields = kept.collector.machine.prep_fields ∙ kept.collector.fields in
-    let its : op ≡ ops.LoadChild place = due ∙ ap (λ n. ops.LoadChild (place_of a.slot a.field n)) fields in
-    let there : word ≡ word_at w a.slot a.field = found ∙ ap (cell (cells_of w)) its in
+    let its : op ≡ ops.LoadChild place = due ∙ ap (λ n. ops.LoadChild (place_of a.member.slot a.member.field n)) fields in
+    let there : word ≡ word_at w a.member.slot a.member.field = found ∙ ap (cell (cells_of w)) its in
     let stays : slice_set w.words place word ≡ w.words = ap (slice_set w.words place) there ∙ set-get_or w.words place 0 in
     IsTurn.prepares a q turn preparing at (subst (λ n. PreparesOn w.collector (with_loaded (parts_of w.collector) n) q turn) there on) (
     plain w op (ops.LoadChild place) word q Preparing preparing refl its ∙ ap (λ (ws : List ℕ). let v : Core = record w { words = ws; collector = q } in v) stays

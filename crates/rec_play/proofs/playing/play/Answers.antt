@@ -1,4 +1,4 @@
-use Rattle.std.proofs.Common.{◌≡◌, ℕ, ◌-◌, ◌<◌, List, [], ◌∷◌, ◌++◌, slice_index_or, slice_set, length, take, refl, sym, ap, subst, ◌∙◌, arith}
+use Rattle.std.proofs.Common.{◌≡◌, ℕ, ◌-◌, ◌<◌, List, [], ◌∷◌, ◌++◌, slice_index_or, slice_set, length, refl, sym, ap, subst, ◌∙◌, arith}
 use Rattle.std.specs.List.{slice_get}
 use Rattle.std.proofs.lemmas.List.{length-map}
 use Rattle.rec_core.specs.Core.{Core}
@@ -7,7 +7,7 @@ use Rattle.rec_world.specs.Order.{Turns}
 use Rattle.rec_script.specs.Script.{Contents}
 use Rattle.rec_play.specs.declared.actor.Actor.{Actor}
 use Rattle.rec_play.specs.declared.actor.Actor.TheVariants.{Mutator, Collector}
-use Rattle.rec_play.specs.Played.{lengths_of, lines_of}
+use Rattle.rec_play.specs.Played.{lines_of}
 use Rattle.rec_play.specs.Playing.{Rest, generator_of, to_come}
 use Rattle.rec_play.proofs.Going.{commands_at}
 use Rattle.rec_play.proofs.Opened.{played_legally}
@@ -22,12 +22,10 @@ turn script seed turns world journals made rest next actor t comes is so = turn_
 pub loop-actor-init : goal.loop-actor-init
 loop-actor-init c =
     let script : Contents = c.args.script.now in
-    let count : c.from-mutators.result ≡ length script.commands = c.from-mutators.ensures ∙ c.mutators.ensures.value in
-    let left : take c.from-mutators.result c.lengths_of-lengths.result ≡ lengths_of script = ap (λ n. take n c.lengths_of-lengths.result) count ∙ c.lengths_of-lengths.ensures in
     start script c.args.seed c.args.turns c.args.world.now c.args.journals.now c.args.order.now c.new-schedule.result
-    c.mutators.ensures.valid c.requires.opened (record { one_each = c.requires.journals.one_each; empty = c.requires.journals.empty; room = c.requires.journals.room })
+    c.lengths_of.ensures.valid c.requires.opened (record { one_each = c.requires.journals.one_each; empty = c.requires.journals.empty; room = c.requires.journals.room })
     c.requires.order c.requires.room
-    (c.new-schedule.ensures ∙ ap (λ l. let r : Rest = record { left = l; generator = generator_of c.args.seed; turns = c.args.turns } in r) left)
+    (c.new-schedule.ensures ∙ ap (λ l. let r : Rest = record { left = l; generator = generator_of c.args.seed; turns = c.args.turns } in r) c.lengths_of.ensures.lengths)
 
 pub overflow_sub-journal : goal.overflow_sub-journal
 overflow_sub-journal c =

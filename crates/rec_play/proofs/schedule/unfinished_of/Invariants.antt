@@ -6,7 +6,6 @@ use Rattle.rec_play.proofs.schedule.unfinished_of.Given as goal
 abbrev pub invariant-loop-at : goal.invariant-loop-at
 invariant-loop-at l =
     record {
-      room : length l.unfinished ≡ 8;
-      few : l.count ≤ l.at;
-      named : take l.count l.unfinished ≡ unfinished (take l.at l.left);
+      few : length l.unfinished.items ≤ l.at;
+      named : l.unfinished.items ≡ unfinished (take l.at l.left);
     }

@@ -1,12 +1,11 @@
-use Rattle.std.proofs.Common.{◌≡◌, ◌≢◌, length, refl, ap, sym, subst, ◌∙◌}
+use Rattle.std.proofs.Common.{◌≡◌, ◌≢◌, length, refl, ap, sym, ◌∙◌}
 use Rattle.rec_collector.specs.Inside.{private}
-use Rattle.rec_collector.specs.Kept.{KeepsSizes}
 use Rattle.rec_collector.specs.Private.{Private}
 use Rattle.rec_collector.specs.Took.{took_at, turn_at}
 use Rattle.rec_collector.specs.declared.phase.Phase.TheVariants.{Returning}
 use Rattle.rec_collector.proofs.Following.{rest_clears}
 use Rattle.rec_collector.proofs.Landing.{now_at}
-use Rattle.rec_collector.proofs.Turning.{batch_follows, return_turns, returned_answer, returned_last, returned_moved, returned_next, turned_keeps, turned_sizes, turned_took, turned_turn}
+use Rattle.rec_collector.proofs.Turning.{batch_follows, return_turns, returned_answer, returned_last, returned_moved, returned_next, turned, turned_keeps}
 use Rattle.rec_collector.proofs.machine.Machine.took_return.Goals as goal
 
 pub returns-then-from-len-clause-took : goal.returns-then-from-len-clause-took
@@ -33,23 +32,11 @@ invariant_of-self-2 c =
     turned_keeps p _ _ (Returning c.args.mutator) c.self.invariant (ap (λ (q : Private). q.phase) c.self.view_is ∙ c.requires.phase) refl refl (batch_follows p _ _ _ c.apply_batch-self-inside.ensures c.deref.ensures.value c.deref-2.ensures.value)
     (return_turns p c.args.self.now c.args.mutator c.self.invariant c.self.view_is c.requires.phase last c.requires.covered)
 
-pub returns-clause-took : goal.returns-clause-took
-returns-clause-took c =
+pub returns : goal.returns
+returns c =
     let p : Private = private c.self.inside in
     let last : c.args.mutator ≡ length c.self.inside.newer.items = sym c.from.ensures ∙ c.if-from-len.false ∙ c.len.ensures ∙ c.self.inside.newer.ok.0 in
-    turned_took p _ _ _ c.end_if_nothing_is_free.ensures.took (batch_follows p _ _ _ c.apply_batch-self-inside.ensures c.deref.ensures.value c.deref-2.ensures.value) ∙ returned_last p c.args.mutator last
-    ∙ ap (λ (q : Private). took_at q 0 (Returning c.args.mutator)) c.self.view_is
-
-pub returns-clause-turn : goal.returns-clause-turn
-returns-clause-turn c =
-    let p : Private = private c.self.inside in
-    let last : c.args.mutator ≡ length c.self.inside.newer.items = sym c.from.ensures ∙ c.if-from-len.false ∙ c.len.ensures ∙ c.self.inside.newer.ok.0 in
-    turned_turn p _ _ _ c.end_if_nothing_is_free.ensures.turn (batch_follows p _ _ _ c.apply_batch-self-inside.ensures c.deref.ensures.value c.deref-2.ensures.value) ∙ returned_answer p c.args.mutator last
-    ∙ ap (λ (q : Private). turn_at q 0 (Returning c.args.mutator)) c.self.view_is
-
-pub returns-clause-same : goal.returns-clause-same
-returns-clause-same c =
-    let p : Private = private c.self.inside in
-    let last : c.args.mutator ≡ length c.self.inside.newer.items = sym c.from.ensures ∙ c.if-from-len.false ∙ c.len.ensures ∙ c.self.inside.newer.ok.0 in
-    subst (λ (q : Private). KeepsSizes q c.end_if_nothing_is_free.new.self) c.self.view_is
-    (turned_sizes p _ _ _ c.end_if_nothing_is_free.ensures.same (batch_follows p _ _ _ c.apply_batch-self-inside.ensures c.deref.ensures.value c.deref-2.ensures.value) (return_turns p c.args.self.now c.args.mutator c.self.invariant c.self.view_is c.requires.phase last c.requires.covered))
+    let ends = c.end_if_nothing_is_free.ensures in
+    let t = turned p c.args.self.now 0 (Returning c.args.mutator) _ _ _ _ c.self.view_is (returned_last p c.args.mutator last) (returned_answer p c.args.mutator last) (batch_follows p _ _ _ c.apply_batch-self-inside.ensures c.deref.ensures.value c.deref-2.ensures.value)
+    (return_turns p c.args.self.now c.args.mutator c.self.invariant c.self.view_is c.requires.phase last c.requires.covered) ends.took ends.turn ends.same in
+    record { took = t.took; turn = t.turn; same = t.same; kept = ends.kept }

@@ -9,20 +9,9 @@ use Rattle.rec_collector.proofs.parts.Parts.release_zeros.Goals as goal
 pub start-requires-clause-idle : goal.start-requires-clause-idle
 start-requires-clause-idle c = no_release c.self.inside.release (ap (λ (w : Parts). w.release.at) c.self.view_is ∙ c.requires.still)
 
-pub follow-requires-clause-clearing : goal.follow-requires-clause-clearing
-follow-requires-clause-clearing c =
+pub follow-requires : goal.follow-requires
+follow-requires c =
     let w : Parts = record { counts = c.self.inside.counts; release = c.self.inside.release; freeing = c.self.inside.freeing; trial = c.self.inside.trial; prep = c.self.inside.prep; sets = c.self.inside.sets; offers = c.self.inside.offers } in
     let e : with_release w (record { machine = c.start.new.self; counts = c.start.new.counts }) ≡ zeros_released false c.args.self.now = ap (λ (u : releases.Work). with_release w u) c.start.ensures.started ∙ ap (λ (v : Parts). zeros_released false v) c.self.view_is in
-    (subst MayFollow (sym e) (zeros_follow c.args.self.now c.requires.clearing c.requires.still c.requires.unfreed c.requires.told c.requires.wide)).clearing
-
-pub follow-requires-clause-done : goal.follow-requires-clause-done
-follow-requires-clause-done c =
-    let w : Parts = record { counts = c.self.inside.counts; release = c.self.inside.release; freeing = c.self.inside.freeing; trial = c.self.inside.trial; prep = c.self.inside.prep; sets = c.self.inside.sets; offers = c.self.inside.offers } in
-    let e : with_release w (record { machine = c.start.new.self; counts = c.start.new.counts }) ≡ zeros_released false c.args.self.now = ap (λ (u : releases.Work). with_release w u) c.start.ensures.started ∙ ap (λ (v : Parts). zeros_released false v) c.self.view_is in
-    (subst MayFollow (sym e) (zeros_follow c.args.self.now c.requires.clearing c.requires.still c.requires.unfreed c.requires.told c.requires.wide)).done
-
-pub follow-requires-clause-wide : goal.follow-requires-clause-wide
-follow-requires-clause-wide c =
-    let w : Parts = record { counts = c.self.inside.counts; release = c.self.inside.release; freeing = c.self.inside.freeing; trial = c.self.inside.trial; prep = c.self.inside.prep; sets = c.self.inside.sets; offers = c.self.inside.offers } in
-    let e : with_release w (record { machine = c.start.new.self; counts = c.start.new.counts }) ≡ zeros_released false c.args.self.now = ap (λ (u : releases.Work). with_release w u) c.start.ensures.started ∙ ap (λ (v : Parts). zeros_released false v) c.self.view_is in
-    (subst MayFollow (sym e) (zeros_follow c.args.self.now c.requires.clearing c.requires.still c.requires.unfreed c.requires.told c.requires.wide)).wide
+    let m : MayFollow (with_release w (record { machine = c.start.new.self; counts = c.start.new.counts })) = subst MayFollow (sym e) (zeros_follow c.args.self.now c.requires.clearing c.requires.still c.requires.unfreed c.requires.told c.requires.wide) in
+    record { clearing = m.clearing; done = m.done; told = m.told; wide = m.wide }

@@ -11,30 +11,10 @@ use Rattle.rec_collector.proofs.parts.Parts.took_freeing.Goals as goal
 pub took-requires-clause-busy : goal.took-requires-clause-busy
 took-requires-clause-busy c = freeing_next c.self.inside.freeing ∙ ap (λ (w : Parts). is_some w.freeing.at) c.self.view_is ∙ c.requires.busy
 
-pub follow-requires-clause-clearing : goal.follow-requires-clause-clearing
-follow-requires-clause-clearing c =
+pub follow-requires : goal.follow-requires
+follow-requires c =
     let w : Parts = record { counts = c.self.inside.counts; release = c.self.inside.release; freeing = c.self.inside.freeing; trial = c.self.inside.trial; prep = c.self.inside.prep; sets = c.self.inside.sets; offers = c.self.inside.offers } in
     let kept : IsKeptCounts c.args.self.now.counts = subst (λ (v : Parts). IsKeptCounts v.counts) c.self.view_is c.rules.ensures in
     let e : c.relieve.new.self ≡ relieved (with_freed c.args.self.now c.args.word) = c.relieve.ensures ∙ ap (λ (u : frees.Work). relieved (with_freeing w u)) c.took.ensures.took ∙ ap (λ (v : Parts). relieved (with_freed v c.args.word)) c.self.view_is in
-    (subst MayFollow (sym e) (freed_follow c.args.self.now c.args.word kept c.requires.busy c.requires.counted c.requires.clearing c.requires.told c.requires.wide)).clearing
-
-pub follow-requires-clause-done : goal.follow-requires-clause-done
-follow-requires-clause-done c =
-    let w : Parts = record { counts = c.self.inside.counts; release = c.self.inside.release; freeing = c.self.inside.freeing; trial = c.self.inside.trial; prep = c.self.inside.prep; sets = c.self.inside.sets; offers = c.self.inside.offers } in
-    let kept : IsKeptCounts c.args.self.now.counts = subst (λ (v : Parts). IsKeptCounts v.counts) c.self.view_is c.rules.ensures in
-    let e : c.relieve.new.self ≡ relieved (with_freed c.args.self.now c.args.word) = c.relieve.ensures ∙ ap (λ (u : frees.Work). relieved (with_freeing w u)) c.took.ensures.took ∙ ap (λ (v : Parts). relieved (with_freed v c.args.word)) c.self.view_is in
-    (subst MayFollow (sym e) (freed_follow c.args.self.now c.args.word kept c.requires.busy c.requires.counted c.requires.clearing c.requires.told c.requires.wide)).done
-
-pub follow-requires-clause-told : goal.follow-requires-clause-told
-follow-requires-clause-told c =
-    let w : Parts = record { counts = c.self.inside.counts; release = c.self.inside.release; freeing = c.self.inside.freeing; trial = c.self.inside.trial; prep = c.self.inside.prep; sets = c.self.inside.sets; offers = c.self.inside.offers } in
-    let kept : IsKeptCounts c.args.self.now.counts = subst (λ (v : Parts). IsKeptCounts v.counts) c.self.view_is c.rules.ensures in
-    let e : c.relieve.new.self ≡ relieved (with_freed c.args.self.now c.args.word) = c.relieve.ensures ∙ ap (λ (u : frees.Work). relieved (with_freeing w u)) c.took.ensures.took ∙ ap (λ (v : Parts). relieved (with_freed v c.args.word)) c.self.view_is in
-    (subst MayFollow (sym e) (freed_follow c.args.self.now c.args.word kept c.requires.busy c.requires.counted c.requires.clearing c.requires.told c.requires.wide)).told
-
-pub follow-requires-clause-wide : goal.follow-requires-clause-wide
-follow-requires-clause-wide c =
-    let w : Parts = record { counts = c.self.inside.counts; release = c.self.inside.release; freeing = c.self.inside.freeing; trial = c.self.inside.trial; prep = c.self.inside.prep; sets = c.self.inside.sets; offers = c.self.inside.offers } in
-    let kept : IsKeptCounts c.args.self.now.counts = subst (λ (v : Parts). IsKeptCounts v.counts) c.self.view_is c.rules.ensures in
-    let e : c.relieve.new.self ≡ relieved (with_freed c.args.self.now c.args.word) = c.relieve.ensures ∙ ap (λ (u : frees.Work). relieved (with_freeing w u)) c.took.ensures.took ∙ ap (λ (v : Parts). relieved (with_freed v c.args.word)) c.self.view_is in
-    (subst MayFollow (sym e) (freed_follow c.args.self.now c.args.word kept c.requires.busy c.requires.counted c.requires.clearing c.requires.told c.requires.wide)).wide
+    let m : MayFollow c.relieve.new.self = subst MayFollow (sym e) (freed_follow c.args.self.now c.args.word kept c.requires.busy c.requires.counted c.requires.clearing c.requires.told c.requires.wide) in
+    record { clearing = m.clearing; done = m.done; told = m.told; wide = m.wide }

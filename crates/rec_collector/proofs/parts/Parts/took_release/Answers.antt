@@ -11,23 +11,10 @@ use Rattle.rec_collector.proofs.parts.Parts.took_release.Goals as goal
 pub took-requires-clause-busy : goal.took-requires-clause-busy
 took-requires-clause-busy c = release_next c.self.inside.release ∙ ap (λ (w : Parts). is_some w.release.at) c.self.view_is ∙ c.requires.busy
 
-pub follow-requires-clause-clearing : goal.follow-requires-clause-clearing
-follow-requires-clause-clearing c =
+pub follow-requires : goal.follow-requires
+follow-requires c =
     let w : Parts = record { counts = c.self.inside.counts; release = c.self.inside.release; freeing = c.self.inside.freeing; trial = c.self.inside.trial; prep = c.self.inside.prep; sets = c.self.inside.sets; offers = c.self.inside.offers } in
     let kept : IsKeptCounts c.args.self.now.counts = subst (λ (v : Parts). IsKeptCounts v.counts) c.self.view_is c.rules.ensures in
     let e : with_release w (record { machine = c.took.new.self; counts = c.took.new.counts }) ≡ with_released c.args.self.now c.args.word = ap (λ (u : releases.Work). with_release w u) c.took.ensures.took ∙ ap (λ (v : Parts). with_released v c.args.word) c.self.view_is in
-    (subst MayFollow (sym e) (released_follow c.args.self.now c.args.word kept c.requires.busy c.requires.counted c.requires.clearing c.requires.told c.requires.wide)).clearing
-
-pub follow-requires-clause-done : goal.follow-requires-clause-done
-follow-requires-clause-done c =
-    let w : Parts = record { counts = c.self.inside.counts; release = c.self.inside.release; freeing = c.self.inside.freeing; trial = c.self.inside.trial; prep = c.self.inside.prep; sets = c.self.inside.sets; offers = c.self.inside.offers } in
-    let kept : IsKeptCounts c.args.self.now.counts = subst (λ (v : Parts). IsKeptCounts v.counts) c.self.view_is c.rules.ensures in
-    let e : with_release w (record { machine = c.took.new.self; counts = c.took.new.counts }) ≡ with_released c.args.self.now c.args.word = ap (λ (u : releases.Work). with_release w u) c.took.ensures.took ∙ ap (λ (v : Parts). with_released v c.args.word) c.self.view_is in
-    (subst MayFollow (sym e) (released_follow c.args.self.now c.args.word kept c.requires.busy c.requires.counted c.requires.clearing c.requires.told c.requires.wide)).done
-
-pub follow-requires-clause-wide : goal.follow-requires-clause-wide
-follow-requires-clause-wide c =
-    let w : Parts = record { counts = c.self.inside.counts; release = c.self.inside.release; freeing = c.self.inside.freeing; trial = c.self.inside.trial; prep = c.self.inside.prep; sets = c.self.inside.sets; offers = c.self.inside.offers } in
-    let kept : IsKeptCounts c.args.self.now.counts = subst (λ (v : Parts). IsKeptCounts v.counts) c.self.view_is c.rules.ensures in
-    let e : with_release w (record { machine = c.took.new.self; counts = c.took.new.counts }) ≡ with_released c.args.self.now c.args.word = ap (λ (u : releases.Work). with_release w u) c.took.ensures.took ∙ ap (λ (v : Parts). with_released v c.args.word) c.self.view_is in
-    (subst MayFollow (sym e) (released_follow c.args.self.now c.args.word kept c.requires.busy c.requires.counted c.requires.clearing c.requires.told c.requires.wide)).wide
+    let m : MayFollow (with_release w (record { machine = c.took.new.self; counts = c.took.new.counts })) = subst MayFollow (sym e) (released_follow c.args.self.now c.args.word kept c.requires.busy c.requires.counted c.requires.clearing c.requires.told c.requires.wide) in
+    record { clearing = m.clearing; done = m.done; told = m.told; wide = m.wide }

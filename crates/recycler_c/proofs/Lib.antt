@@ -1,0 +1,9 @@
+pub mod Opened
+pub mod Runs
+pub mod Sends
+pub mod Settles
+pub mod Standings
+pub mod Starts
+pub mod Still
+pub mod Ties
+pub mod Values

@@ -1,0 +1,79 @@
+-- What a heap that was to be set running came to.
+use Rattle.std.proofs.Common.{◌≡◌, ℕ, Option, Some, true, List, refl, sym, ap, ◌∙◌, subst, arith}
+use Rattle.rec_core.specs.Core.{Core}
+use Rattle.rec_table.specs.Held.{Held, Started, fresh}
+use Rattle.recycler_c.specs.Calls.{IsFresh, IsOut, NotRun, Starts}
+use Rattle.recycler_c.specs.Standing.{AreTied, can_collect, collects_in}
+use Rattle.recycler_c.specs.declared.code.Code.{Code}
+use Rattle.recycler_c.specs.declared.code.Code.TheVariants as codes
+use Rattle.recycler_c.specs.declared.end.Collecting.{Collecting}
+use Rattle.recycler_c.specs.declared.end.End.{End}
+use Rattle.recycler_c.specs.declared.end.End.TheVariants as ends
+use Rattle.recycler_c.specs.declared.handle.Handle.{Handle}
+use Rattle.recycler_c.proofs.Ties.{rests_high, rests_low, tied_home}
+
+-- a mutator that is out is fresh, by whatever name its heap has
+pub out_moved : (s t : Started) (x : Held) (n : ℕ) (h : Option End) → x ≡ fresh s n → t ≡ s → IsOut s x h → IsOut t (fresh t n) h
+out_moved s t x n h is e out = record { mutating = out.mutating; is = out.is; heap = out.heap ∙ sym e; mutator = out.mutator ∙ is ∙ ap (λ (z : Started). fresh z n) (sym e) }
+
+-- the heap that is left running has all its mutators home
+home_ties : (w : Core) (hs : List Handle) (end : End) (c : Collecting) → AreTied (Some (ends.Resting w)) hs → end ≡ ends.Collecting c → IsFresh w c → AreTied (Some end) hs
+home_ties w hs end c tied e f =
+    let many : c.count ≡ w.config.mutators = c.counted ∙ ap (λ (v : Core). v.config.mutators) f.started in
+    tied_home (Some end) c hs (ap Some e) (omega (arith, f.all, many, c.few.0))
+    (λ k d lt under. rests_low (Some (ends.Resting w)) w hs tied refl k d lt (omega (arith, under, many)))
+    (λ k d lt over. rests_high (Some (ends.Resting w)) w hs tied refl k d lt (omega (arith, over, many)))
+
+pub refused_starts : (w : Core) (hs : List Handle) (code : Code) (end : End) → NotRun w code end → Starts (Some (ends.Resting w)) hs code (Some end) hs
+refused_starts w hs codes.Ok end n = absurd n
+refused_starts w hs codes.NoMemory end n = (refl, record { collector = ap Some n; mutators = refl })
+refused_starts w hs codes.Slots end n = absurd n
+refused_starts w hs codes.Fields end n = absurd n
+refused_starts w hs codes.Registers end n = absurd n
+refused_starts w hs codes.Mutators end n = absurd n
+refused_starts w hs codes.LogEntries end n = absurd n
+refused_starts w hs codes.FirstEpoch end n = absurd n
+refused_starts w hs codes.Closed end n = absurd n
+refused_starts w hs codes.Open end n = absurd n
+refused_starts w hs codes.Runs end n = absurd n
+refused_starts w hs codes.Rests end n = absurd n
+refused_starts w hs codes.Other end n = absurd n
+refused_starts w hs codes.Range end n = absurd n
+refused_starts w hs codes.EpochsSpent end n = absurd n
+refused_starts w hs codes.Shared end n = record { world = w; was = refl; collecting = n.0; is = ap (λ (x : End). collects_in (Some x)) n.1; fresh = n.2; mutators = refl }
+
+pub refused_collects : (w : Core) (code : Code) (end : End) → NotRun w code end → can_collect (Some end) ≡ true
+refused_collects w codes.Ok end n = absurd n
+refused_collects w codes.NoMemory end n = ap (λ (x : End). can_collect (Some x)) n
+refused_collects w codes.Slots end n = absurd n
+refused_collects w codes.Fields end n = absurd n
+refused_collects w codes.Registers end n = absurd n
+refused_collects w codes.Mutators end n = absurd n
+refused_collects w codes.LogEntries end n = absurd n
+refused_collects w codes.FirstEpoch end n = absurd n
+refused_collects w codes.Closed end n = absurd n
+refused_collects w codes.Open end n = absurd n
+refused_collects w codes.Runs end n = absurd n
+refused_collects w codes.Rests end n = absurd n
+refused_collects w codes.Other end n = absurd n
+refused_collects w codes.Range end n = absurd n
+refused_collects w codes.EpochsSpent end n = absurd n
+refused_collects w codes.Shared end n = ap (λ (x : End). can_collect (Some x)) n.1
+
+pub refused_ties : (w : Core) (hs : List Handle) (code : Code) (end : End) → AreTied (Some (ends.Resting w)) hs → NotRun w code end → AreTied (Some end) hs
+refused_ties w hs codes.Ok end tied n = absurd n
+refused_ties w hs codes.NoMemory end tied n = subst (λ (x : End). AreTied (Some x) hs) (sym n) tied
+refused_ties w hs codes.Slots end tied n = absurd n
+refused_ties w hs codes.Fields end tied n = absurd n
+refused_ties w hs codes.Registers end tied n = absurd n
+refused_ties w hs codes.Mutators end tied n = absurd n
+refused_ties w hs codes.LogEntries end tied n = absurd n
+refused_ties w hs codes.FirstEpoch end tied n = absurd n
+refused_ties w hs codes.Closed end tied n = absurd n
+refused_ties w hs codes.Open end tied n = absurd n
+refused_ties w hs codes.Runs end tied n = absurd n
+refused_ties w hs codes.Rests end tied n = absurd n
+refused_ties w hs codes.Other end tied n = absurd n
+refused_ties w hs codes.Range end tied n = absurd n
+refused_ties w hs codes.EpochsSpent end tied n = absurd n
+refused_ties w hs codes.Shared end tied n = home_ties w hs end n.0 tied n.1 n.2

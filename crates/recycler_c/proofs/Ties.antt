@@ -1,0 +1,126 @@
+-- The mutators' handles stand for what they have to, after each call.
+use Rattle.std.proofs.Common.{◌≡◌, ℕ, ◌+◌, ◌<◌, ◌≤◌, Bool, true, false, Option, Some, None, List, length, nat_lt, if◌then◌else◌, refl, sym, ap, ◌∙◌, arith}
+use Rattle.std.proofs.lemmas.Bool.{ltb-true, ltb-false}
+use Rattle.std.specs.Arc.{arc_value}
+use Rattle.rec_core.specs.Core.{Core}
+use Rattle.rec_core.specs.declared.config.Config.{Config}
+use Rattle.rec_table.proofs.Beats.{config_after}
+use Rattle.rec_table.specs.Ends.{IsStopped}
+use Rattle.rec_table.specs.Held.{Held}
+use Rattle.rec_table.specs.declared.views.Beat.{Beat}
+use Rattle.recycler_c.specs.Calls.{HasSettled, HasTurned, KeepsMutator}
+use Rattle.recycler_c.specs.Standing.{AreTied, held_at, mutates_in, out_beside, seat_beside, seat_in}
+use Rattle.recycler_c.specs.declared.end.Collecting.{Collecting}
+use Rattle.recycler_c.specs.declared.end.End.{End}
+use Rattle.recycler_c.specs.declared.end.End.TheVariants as ends
+use Rattle.recycler_c.specs.declared.end.Mutating.{Mutating}
+use Rattle.recycler_c.specs.declared.handle.Handle.{Handle}
+use Rattle.recycler_c.specs.declared.told.Settled.{Settled}
+use Rattle.recycler_c.specs.declared.told.Turned.{Turned}
+use Rattle.recycler_c.proofs.Standings.{above, below, collects_is, mutates_is, rests_is}
+
+by_test_at : {P : Type 0} (k n : ℕ) (b : Bool) → nat_lt k n ≡ b → (k < n → P) → (n ≤ k → P) → P
+by_test_at k n true e f g = f (ltb-true k n e)
+by_test_at k n false e f g = g (ltb-false k n e)
+
+pub by_test : {P : Type 0} (k n : ℕ) → (k < n → P) → (n ≤ k → P) → P
+by_test k n f g = by_test_at k n (nat_lt k n) refl f g
+
+-- where no heap is open
+pub tied_closed : (c : Option End) (hs : List Handle) → c ≡ None → ((k : ℕ) (d : Handle) → k < length hs → held_at hs k d ≡ None) → AreTied c hs
+tied_closed c hs e closed k d lt = ap seat_in (closed k d lt) ∙ ap (λ (x : Option End). seat_beside x k) (sym e)
+
+vacant_seat : (b : Bool) → seat_in (if b then Some ends.Vacant else None) ≡ (if b then Some None else None)
+vacant_seat true = refl
+vacant_seat false = refl
+
+-- a heap at rest, whose first handles are vacant
+pub tied_vacant : (c : Option End) (w : Core) (n : ℕ) (hs : List Handle) → c ≡ Some (ends.Resting w) → n ≡ w.config.mutators
+    → ((k : ℕ) (d : Handle) → k < length hs → held_at hs k d ≡ (if nat_lt k n then Some ends.Vacant else None)) → AreTied c hs
+tied_vacant c w n hs e same vacant k d lt =
+    ap seat_in (vacant k d lt) ∙ vacant_seat (nat_lt k n) ∙ ap (λ (x : ℕ). if nat_lt k x then Some None else None) same ∙ ap (λ (x : Option End). seat_beside x k) (sym e)
+
+-- a heap at rest, whose first handles hold no mutator
+pub tied_rests : (c : Option End) (w : Core) (n : ℕ) (hs : List Handle) → c ≡ Some (ends.Resting w) → n ≡ w.config.mutators
+    → ((k : ℕ) (d : Handle) → k < length hs → k < n → seat_in (held_at hs k d) ≡ Some None)
+    → ((k : ℕ) (d : Handle) → k < length hs → n ≤ k → seat_in (held_at hs k d) ≡ None) → AreTied c hs
+tied_rests c w n hs e same low high k d lt =
+    by_test k n
+    (λ under. low k d lt under ∙ sym (below k n (Some None) None under)) (λ over. high k d lt over ∙ sym (above k n (Some None) None over))
+    ∙ ap (λ (x : ℕ). if nat_lt k x then Some None else None) same ∙ ap (λ (x : Option End). seat_beside x k) (sym e)
+
+-- what a mutator of a running heap is, by whether any is home
+out_none : (c : Collecting) (k : ℕ) → length c.home.items ≡ 0 → out_beside c k ≡ Some (record { heap = arc_value c.heap; number = k + 1 })
+out_none c k e = above 0 (length c.home.items) None (Some (record { heap = arc_value c.heap; number = k + 1 })) (omega (arith, e))
+
+home_all : (c : Collecting) (k : ℕ) → 0 < length c.home.items → out_beside c k ≡ None
+home_all c k lt = below 0 (length c.home.items) None (Some (record { heap = arc_value c.heap; number = k + 1 })) lt
+
+-- a running heap, whose first handles hold its mutators
+pub tied_out : (c : Option End) (w : Collecting) (hs : List Handle) → c ≡ Some (ends.Collecting w) → length w.home.items ≡ 0
+    → ((k : ℕ) (d : Handle) → k < length hs → k < w.count → seat_in (held_at hs k d) ≡ Some (Some (record { heap = arc_value w.heap; number = k + 1 })))
+    → ((k : ℕ) (d : Handle) → k < length hs →
+    w.count ≤ k → seat_in (held_at hs k d) ≡ None) → AreTied c hs
+tied_out c w hs e none low high k d lt =
+    by_test k w.count
+    (λ under. low k d lt under ∙ ap Some (sym (out_none w k none)) ∙ sym (below k w.count (Some (out_beside w k)) None under))
+    (λ over. high k d lt over ∙ sym (above k w.count (Some (out_beside w k)) None over))
+    ∙ ap (λ (x : Option End). seat_beside x k) (sym e)
+
+-- or whose mutators are all home
+pub tied_home : (c : Option End) (w : Collecting) (hs : List Handle) → c ≡ Some (ends.Collecting w) → 0 < length w.home.items
+    → ((k : ℕ) (d : Handle) → k < length hs → k < w.count → seat_in (held_at hs k d) ≡ Some None)
+    → ((k : ℕ) (d : Handle) → k < length hs →
+    w.count ≤ k → seat_in (held_at hs k d) ≡ None) → AreTied c hs
+tied_home c w hs e some low high k d lt =
+    by_test k w.count
+    (λ under. low k d lt under ∙ ap Some (sym (home_all w k some)) ∙ sym (below k w.count (Some (out_beside w k)) None under))
+    (λ over. high k d lt over ∙ sym (above k w.count (Some (out_beside w k)) None over))
+    ∙ ap (λ (x : Option End). seat_beside x k) (sym e)
+
+-- what a handle stands for beside a heap at rest, and beside a running one
+pub rests_low : (c : Option End) (w : Core) (hs : List Handle) → AreTied c hs → c ≡ Some (ends.Resting w) → (k : ℕ) (d : Handle) → k < length hs →
+    k < w.config.mutators → seat_in (held_at hs k d) ≡ Some None
+rests_low c w hs tied e k d lt under = tied k d lt ∙ ap (λ (x : Option End). seat_beside x k) e ∙ below k w.config.mutators (Some None) None under
+
+pub rests_high : (c : Option End) (w : Core) (hs : List Handle) → AreTied c hs → c ≡ Some (ends.Resting w) → (k : ℕ) (d : Handle) → k < length hs →
+    w.config.mutators ≤ k → seat_in (held_at hs k d) ≡ None
+rests_high c w hs tied e k d lt over = tied k d lt ∙ ap (λ (x : Option End). seat_beside x k) e ∙ above k w.config.mutators (Some None) None over
+
+pub runs_out : (c : Option End) (w : Collecting) (hs : List Handle) → AreTied c hs → c ≡ Some (ends.Collecting w) → length w.home.items ≡ 0
+    → (k : ℕ) (d : Handle) → k < length hs → k < w.count → seat_in (held_at hs k d) ≡ Some (Some (record { heap = arc_value w.heap; number = k + 1 }))
+runs_out c w hs tied e none k d lt under = tied k d lt ∙ ap (λ (x : Option End). seat_beside x k) e ∙ below k w.count (Some (out_beside w k)) None under ∙ ap Some (out_none w k none)
+
+pub runs_home : (c : Option End) (w : Collecting) (hs : List Handle) → AreTied c hs → c ≡ Some (ends.Collecting w) → 0 < length w.home.items
+    → (k : ℕ) (d : Handle) → k < length hs → k < w.count → seat_in (held_at hs k d) ≡ Some None
+runs_home c w hs tied e some k d lt under = tied k d lt ∙ ap (λ (x : Option End). seat_beside x k) e ∙ below k w.count (Some (out_beside w k)) None under ∙ ap Some (home_all w k some)
+
+pub runs_high : (c : Option End) (w : Collecting) (hs : List Handle) → AreTied c hs → c ≡ Some (ends.Collecting w) → (k : ℕ) (d : Handle) → k < length hs →
+    w.count ≤ k → seat_in (held_at hs k d) ≡ None
+runs_high c w hs tied e k d lt over = tied k d lt ∙ ap (λ (x : Option End). seat_beside x k) e ∙ above k w.count (Some (out_beside w k)) None over
+
+-- Stopping keeps the numbers of a heap.
+pub stopped_config : (key : Core) (log : List Beat) (lists : List (List Beat)) (w : Core) → IsStopped key log lists w → w.config ≡ key.config
+stopped_config key log lists w s = ap (λ (x : Core). x.config) (sym s.run.ends) ∙ config_after key s.run.run
+
+-- What ties handles stays where what they stand for does: after a turn, a command, a poll and settling.
+pub tied_turned : (h h' : Option End) (w w' : Collecting) (hs : List Handle) → h ≡ Some (ends.Collecting w) → h' ≡ Some (ends.Collecting w')
+    → arc_value w'.heap ≡ arc_value w.heap → w'.home.items ≡ w.home.items → w'.count ≡ w.count → AreTied h hs → AreTied h' hs
+tied_turned h h' w w' hs e e' heap home count tied k d lt =
+    let beside : (if nat_lt k w.count then Some (if nat_lt 0 (length w.home.items) then None else Some (record { heap = arc_value w.heap; number = k + 1 })) else None)
+    ≡ (if nat_lt k w'.count then Some (if nat_lt 0 (length w'.home.items) then None else Some (record { heap = arc_value w'.heap; number = k + 1 })) else None)
+    = λ i. if nat_lt k (sym count i) then Some (if nat_lt 0 (length (sym home i)) then None else Some (record { heap = sym heap i; number = k + 1 })) else None in
+    tied k d lt ∙ ap (λ (x : Option End). seat_beside x k) e ∙ beside ∙ ap (λ (x : Option End). seat_beside x k) (sym e')
+
+pub turn_ties : (h h' : Option End) (told : Turned) (hs : List Handle) → HasTurned h h' told → AreTied h hs → AreTied h' hs
+turn_ties h h' told hs t = tied_turned h h' t.before t.after hs (collects_is h t.before t.was) (collects_is h' t.after t.is) t.heap t.home t.count
+
+pub settle_ties : (h h' : Option End) (told : Settled) (hs : List Handle) → HasSettled h h' told → AreTied h hs → AreTied h' hs
+settle_ties h h' told hs t tied k d lt =
+    tied k d lt ∙ ap (λ (x : Option End). seat_beside x k) (rests_is h t.before t.was) ∙
+    ap (λ (x : ℕ). if nat_lt k x then Some None else None) (ap (λ (c : Config). c.mutators) (sym t.config)) ∙
+    ap (λ (x : Option End). seat_beside x k) (sym (rests_is h' t.after t.is))
+
+pub mutator_stands : (h h' : Option End) (m m' : Mutating) → mutates_in h ≡ Some m → mutates_in h' ≡ Some m' → KeepsMutator m m' → seat_in h' ≡ seat_in h
+mutator_stands h h' m m' e e' kept =
+    ap seat_in (mutates_is h' m' e') ∙ (λ i. Some (Some (record { heap = kept.heap i; number = ap (λ (x : Held). x.number) kept.is i }))) ∙ ap seat_in (sym (mutates_is h m e))

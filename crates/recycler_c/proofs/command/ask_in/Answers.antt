@@ -1,0 +1,53 @@
+use Rattle.std.proofs.Common.{◌≡◌, Some, ap, refl, sym, subst, rules}
+use Rattle.rec_model.specs.declared.command.Cmd.{Cmd}
+use Rattle.rec_mutator.specs.Private.{IsValid}
+use Rattle.rec_mutator.specs.declared.work.Work.TheVariants as works
+use Rattle.rec_table.specs.Held.{has}
+use Rattle.recycler_c.specs.Standing.{mutates_in}
+use Rattle.recycler_c.specs.declared.end.End.{End}
+use Rattle.recycler_c.proofs.command.ask_in.Goals as goal
+
+pub returns-in_default-cmd : goal.returns-in_default-cmd
+returns-in_default-cmd c = (
+  record {
+    mutating = c.in-Mutating.out;
+    is = ap (λ (e : End). mutates_in (Some e)) c.in-Mutating.is;
+    lacks = λ cmd e v. c.in_default-cmd.not-Some cmd e;
+  },
+  ap Some (sym c.in-Mutating.is),
+  refl,
+)
+
+pub returns-then-not-can_ask : goal.returns-then-not-can_ask
+returns-then-not-can_ask c = (
+  record {
+    mutating = c.in-Mutating.out;
+    is = ap (λ (e : End). mutates_in (Some e)) c.in-Mutating.is;
+    lacks = λ cmd e v.
+        let same : cmd ≡ c.in-Some.cmd = cc in
+        let yes = c.can_ask.ensures.1 (subst (λ (x : Cmd). IsValid (has c.in-Mutating.out.mutator) (works.Command x)) same v) in
+        cc;
+  },
+  ap Some (sym c.in-Mutating.is),
+  refl,
+)
+
+pub returns-else-not-can_ask : goal.returns-else-not-can_ask
+returns-else-not-can_ask c = (
+  c.in-Some.cmd,
+  c.in-Some.is,
+  record {
+    before = c.in-Mutating.out;
+    was = ap (λ (e : End). mutates_in (Some e)) c.in-Mutating.is;
+    valid = c.can_ask.ensures.0 (search rules);
+    after = _;
+    is = refl;
+    kept = record { heap = refl; is = c.command-answered.ensures.is };
+    answer = c.command-answered.result;
+    grows = c.command-answered.ensures.grows;
+    answered = c.command-answered.ensures.answer;
+    causes = c.command-answered.ensures.causes;
+    line = c.command-answered.ensures.line;
+    told_so = c.show_answer.ensures;
+  },
+)

@@ -1,0 +1,4 @@
+use Rattle.recycler_c.proofs.export.recycler_poll.Goals as goal
+
+pub returns : goal.returns
+returns c = (c.poll.result, c.number.ensures, c.poll.ensures)

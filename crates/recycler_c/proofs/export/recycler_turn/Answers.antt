@@ -1,0 +1,4 @@
+use Rattle.recycler_c.proofs.export.recycler_turn.Goals as goal
+
+pub returns : goal.returns
+returns c = (c.turn.result, c.number.ensures, c.turn.ensures)

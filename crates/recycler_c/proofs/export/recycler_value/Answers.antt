@@ -1,0 +1,4 @@
+use Rattle.recycler_c.proofs.export.recycler_value.Goals as goal
+
+pub returns : goal.returns
+returns c = (c.ask.result, c.number.ensures, rw c.value.ensures at c.ask.ensures)

@@ -1,0 +1,343 @@
+-- What each call comes to, code by code: why that code came, and what the call left.
+use Rattle.std.specs.Prelude.{◌≡◌, ℕ, ◌+◌, ◌%◌, ◌^◌, ◌<◌, ◌≤◌, All, Option, Some, None, IsSome, List, [], ◌∷◌, length, map, slice_index_or, unwrap_or}
+use Rattle.std.specs.Arc.{arc_value}
+use Rattle.rec_collector.specs.Causes.{HasCause}
+use Rattle.rec_collector.specs.Kept.{under_way}
+use Rattle.rec_collector.specs.Next.{next_of}
+use Rattle.rec_collector.specs.Took.{took_of, turn_of}
+use Rattle.rec_collector.specs.declared.turn.Turn.{Turn}
+use Rattle.rec_collector.specs.declared.turn.Turn.TheVariants as turns
+use Rattle.rec_core.specs.Config.{IsConfig}
+use Rattle.rec_core.specs.Core.{Core, opened, sight}
+use Rattle.rec_core.specs.Settled.{IsSettled}
+use Rattle.rec_core.specs.declared.config.Config.{Config}
+use Rattle.rec_counts.specs.Counts.{slot_at}
+use Rattle.rec_model.specs.Heap.{Heap}
+use Rattle.rec_model.specs.Sight.{StandsBy}
+use Rattle.rec_model.specs.declared.command.Cmd.{Cmd}
+use Rattle.rec_model.specs.declared.told.Told.{Told}
+use Rattle.rec_mutator.specs.Private.{IsValid, answer_of}
+use Rattle.rec_mutator.specs.declared.made.Made.TheVariants as makes
+use Rattle.rec_mutator.specs.declared.work.Work.TheVariants as works
+use Rattle.rec_settle.specs.Collecting.{IsSettling, taken_slots}
+use Rattle.rec_table.specs.Answered.{IsAnswered}
+use Rattle.rec_table.specs.Beats.{gathered}
+use Rattle.rec_table.specs.Ends.{IsStopped}
+use Rattle.rec_table.specs.Held.{Gathers, Held, Started, Works, fresh, fresh_collector, gathers_now, has}
+use Rattle.rec_table.specs.Journals.{Tells}
+use Rattle.rec_table.specs.Rule.{crew_more, word_of}
+use Rattle.rec_table.specs.declared.views.Beat.{Beat}
+use Rattle.rec_word.specs.declared.op.Op.{Op}
+use Rattle.rec_world.specs.OpenError.{IsRefused}
+use Rattle.rec_world.specs.World.{label_of}
+use Rattle.rec_world.specs.declared.open_error.OpenError.{OpenError}
+use Rattle.recycler_c.specs.Codes.{code_of}
+use Rattle.recycler_c.specs.Shown.{asked_of, slot_told, turned_of}
+use Rattle.recycler_c.specs.Standing.{rests_in, collects_in, mutates_in, held_at}
+use Rattle.recycler_c.specs.declared.code.Code.{Code}
+use Rattle.recycler_c.specs.declared.code.Code.TheVariants as codes
+use Rattle.recycler_c.specs.declared.end.Collecting.{Collecting}
+use Rattle.recycler_c.specs.declared.end.End.{End}
+use Rattle.recycler_c.specs.declared.end.End.TheVariants as ends
+use Rattle.recycler_c.specs.declared.end.Mutating.{Mutating}
+use Rattle.recycler_c.specs.declared.handle.Handle.{Handle}
+use Rattle.recycler_c.specs.declared.recycler.Recycler.{Recycler}
+use Rattle.recycler_c.specs.declared.told.Asked.{Asked}
+use Rattle.recycler_c.specs.declared.told.Settled.{Settled}
+use Rattle.recycler_c.specs.declared.told.Slot.{Slot}
+use Rattle.recycler_c.specs.declared.told.Totals.{Totals}
+use Rattle.recycler_c.specs.declared.told.Turned.{Turned}
+
+-- what the collector's handle holds
+abbrev pub held : Recycler → Option End
+held r = r.collector.owned.held
+
+-- all handles hold what they held
+pub record IsSame (h : Option End) (hs : List Handle) (h' : Option End) (hs' : List Handle) : Type 0 where
+  pub collector : h' ≡ h
+  pub mutators : hs' ≡ hs
+
+-- no heap is open; one rests; one runs
+abbrev pub IsClosed : Option End → Type 0
+IsClosed h = h ≡ None
+
+abbrev pub Rests : Option End → Type 0
+Rests h = IsSome (rests_in h)
+
+abbrev pub Runs : Option End → Type 0
+Runs h = IsSome (collects_in h)
+
+-- a heap with these numbers was opened
+pub record HasOpened (config : Config) (h : Option End) (hs : List Handle) (h' : Option End) (hs' : List Handle) : Type 0 where
+  pub was : IsClosed h
+  pub config_fits : IsConfig config
+  pub is : rests_in h' ≡ Some (opened config)
+
+-- or it was refused
+pub record RefusesOpening (config : Config) (h : Option End) (hs : List Handle) (code : Code) (h' : Option End) (hs' : List Handle) : Type 0 where
+  pub was : IsClosed h
+  pub error : OpenError
+  pub is : code ≡ code_of error
+  pub cause : IsRefused config error
+  pub same : IsSame h hs h' hs'
+
+abbrev pub Opens : Config → Option End → List Handle → Code → Option End → List Handle → Type 0
+Opens config h hs codes.Ok h' hs' = HasOpened config h hs h' hs'
+Opens config h hs codes.Open h' hs' = IsSome h × IsSame h hs h' hs'
+Opens config h hs code h' hs' = RefusesOpening config h hs code h' hs'
+
+abbrev pub Closes : Option End → List Handle → Code → Option End → List Handle → Type 0
+Closes h hs codes.Ok h' hs' = Rests h × IsClosed h'
+Closes h hs codes.Closed h' hs' = IsClosed h × IsSame h hs h' hs'
+Closes h hs codes.Runs h' hs' = Runs h × IsSame h hs h' hs'
+Closes h hs _ h' hs' = ⊥
+
+-- a handle holds this mutator of this heap
+pub record IsOut (s : Started) (e : Held) (h : Option End) : Type 0 where
+  pub mutating : Mutating
+  pub is : mutates_in h ≡ Some mutating
+  pub heap : arc_value mutating.heap ≡ s
+  pub mutator : mutating.mutator ≡ e
+
+-- the world that rested runs, all mutators are out, and no actor has made a move
+pub record HasStarted (h : Option End) (hs : List Handle) (h' : Option End) (hs' : List Handle) : Type 0 where
+  pub world : Core
+  pub was : rests_in h ≡ Some world
+  pub collecting : Collecting
+  pub is : collects_in h' ≡ Some collecting
+  pub started : (arc_value collecting.heap).world ≡ world
+  pub collector : collecting.collector ≡ fresh_collector (arc_value collecting.heap)
+  pub home : collecting.home.items ≡ []
+  pub out : (k : ℕ) (d : Handle) → k < world.config.mutators → IsOut (arc_value collecting.heap) (fresh (arc_value collecting.heap) (k + 1)) (held_at hs' k d)
+
+-- this world runs with all its mutators at home, and no actor has made a move
+pub record IsFresh (world : Core) (c : Collecting) : Type 0 where
+  pub started : (arc_value c.heap).world ≡ world
+  pub collector : c.collector ≡ fresh_collector (arc_value c.heap)
+  pub all : length c.home.items ≡ world.config.mutators
+  pub home : (k : ℕ) (e : Held) → k < world.config.mutators → slice_index_or c.home.items k e ≡ fresh (arc_value c.heap) (k + 1)
+
+-- a heap that isn't set running rests as before; or it runs, with its mutators at home
+abbrev pub NotRun : Core → Code → End → Type 0
+NotRun world codes.NoMemory end = end ≡ ends.Resting world
+NotRun world codes.Shared end = (c : Collecting) × (end ≡ ends.Collecting c) × IsFresh world c
+NotRun world _ end = ⊥
+
+pub record StartsHome (h : Option End) (hs : List Handle) (h' : Option End) (hs' : List Handle) : Type 0 where
+  pub world : Core
+  pub was : rests_in h ≡ Some world
+  pub collecting : Collecting
+  pub is : collects_in h' ≡ Some collecting
+  pub fresh : IsFresh world collecting
+  pub mutators : hs' ≡ hs
+
+abbrev pub Starts : Option End → List Handle → Code → Option End → List Handle → Type 0
+Starts h hs codes.Ok h' hs' = HasStarted h hs h' hs'
+Starts h hs codes.NoMemory h' hs' = Rests h × IsSame h hs h' hs'
+Starts h hs codes.Closed h' hs' = IsClosed h × IsSame h hs h' hs'
+Starts h hs codes.Runs h' hs' = Runs h × IsSame h hs h' hs'
+Starts h hs codes.Shared h' hs' = StartsHome h hs h' hs'
+Starts h hs _ h' hs' = ⊥
+
+-- these are the mutators of the running heap, in order of number: those that are home, or else those in the handles
+pub record AreGathered (c : Collecting) (hs : List Handle) (ms : List Held) : Type 0 where
+  pub all : length ms ≡ c.count
+  pub home : 0 < length c.home.items → ms ≡ c.home.items
+  pub out : length c.home.items ≡ 0 → (k : ℕ) (d : Handle) (e : Held) → k < c.count → IsOut (arc_value c.heap) (slice_index_or ms k e) (held_at hs k d)
+
+-- the heap that ran rests, as the lists of all its actors left it
+pub record HasStopped (h : Option End) (hs : List Handle) (h' : Option End) (hs' : List Handle) : Type 0 where
+  pub collecting : Collecting
+  pub was : collects_in h ≡ Some collecting
+  pub mutators : List Held
+  pub gathered : AreGathered collecting hs mutators
+  pub world : Core
+  pub is : rests_in h' ≡ Some world
+  pub stopped : IsStopped (arc_value collecting.heap).world collecting.collector.crew.log (map (λ m. m.log) mutators) world
+  pub requested : world.epoch ≡ (gathers_now collecting.collector).epoch
+  pub home : All (λ word. word % 2 ≡ 0) world.crossing
+
+-- it still runs, with all its mutators home
+pub record ComesHome (h : Option End) (hs : List Handle) (h' : Option End) (hs' : List Handle) : Type 0 where
+  pub collecting : Collecting
+  pub was : collects_in h ≡ Some collecting
+  pub mutators : List Held
+  pub gathered : AreGathered collecting hs mutators
+  pub collecting' : Collecting
+  pub is : collects_in h' ≡ Some collecting'
+  pub heap : arc_value collecting'.heap ≡ arc_value collecting.heap
+  pub collector : collecting'.collector ≡ collecting.collector
+  pub home : collecting'.home.items ≡ mutators
+
+abbrev pub Stops : Option End → List Handle → Code → Option End → List Handle → Type 0
+Stops h hs codes.Ok h' hs' = HasStopped h hs h' hs'
+Stops h hs codes.Shared h' hs' = ComesHome h hs h' hs'
+Stops h hs codes.Closed h' hs' = IsClosed h × IsSame h hs h' hs'
+Stops h hs codes.Rests h' hs' = Rests h × IsSame h hs h' hs'
+Stops h hs _ h' hs' = ⊥
+
+-- A heap at rest has settled: just the slots that registers reach hold objects, with true counts.
+pub record HasSettled (h h' : Option End) (told : Settled) : Type 0 where
+  pub before : Core
+  pub was : rests_in h ≡ Some before
+  pub after : Core
+  pub is : rests_in h' ≡ Some after
+  pub config : after.config ≡ before.config
+  pub settled : IsSettled after
+  pub settles : IsSettling before after
+  pub epochs : told.epochs ≡ 3 + under_way before.collector.phase
+  pub freed : after.collector.freed ≡ before.collector.freed + told.freed
+  pub live : told.live ≡ taken_slots after
+  pub registers : (sight after).registers ≡ (sight before).registers
+  pub stands : (heap : Heap) (number : ℕ → ℕ) → StandsBy heap (sight before) number → StandsBy heap (sight after) number
+  pub made : after.made ≡ before.made
+
+-- fewer than four epochs are left
+pub record HasFewEpochs (h : Option End) : Type 0 where
+  pub world : Core
+  pub is : rests_in h ≡ Some world
+  pub few : 2 ^ 24 ≤ world.epoch + 4
+
+abbrev pub Settles : Option End → Settled → Code → Option End → Settled → Type 0
+Settles h told codes.Ok h' told' = HasSettled h h' told'
+Settles h told codes.Closed h' told' = IsClosed h × (h' ≡ h) × (told' ≡ told)
+Settles h told codes.Runs h' told' = Runs h × (h' ≡ h) × (told' ≡ told)
+Settles h told codes.EpochsSpent h' told' = HasFewEpochs h × (h' ≡ h) × (told' ≡ told)
+Settles h told _ h' told' = ⊥
+
+-- One turn of the collector. Its list grows by the word found, and by what the mailbox held where it took one; its record, the answer
+-- and the cause of the answer follow.
+pub record Turns (before after : Gathers) (turn : Turn) : Type 0 where
+  pub spent : next_of (gathers_now before) ≡ None → (after ≡ before) × (turn ≡ turns.EpochsSpent)
+  pub turned : (op : Op) → next_of (gathers_now before) ≡ Some op
+      → (b : Beat) × (after ≡ record before { crew = crew_more before.crew b }) × (gathers_now after ≡ gathered (gathers_now before) b) × (turn ≡ turn_of (gathers_now before) (word_of b))
+  pub cause : (word : ℕ) → turn ≡ turn_of (gathers_now before) word → HasCause (gathers_now before) word (took_of (gathers_now before) word) turn
+
+pub record HasTurned (h h' : Option End) (told : Turned) : Type 0 where
+  pub before : Collecting
+  pub was : collects_in h ≡ Some before
+  pub after : Collecting
+  pub is : collects_in h' ≡ Some after
+  pub turn : Turn
+  pub turns : Turns before.collector after.collector turn
+  pub told_so : told ≡ turned_of turn
+  -- nothing else of the handle changes
+  pub heap : arc_value after.heap ≡ arc_value before.heap
+  pub home : after.home.items ≡ before.home.items
+  pub count : after.count ≡ before.count
+
+-- the handle is open, and no heap runs in it
+pub record IsAtRest (h : Option End) : Type 0 where
+  pub is_open : IsSome h
+  pub collects : collects_in h ≡ None
+  pub mutates : mutates_in h ≡ None
+
+abbrev pub TurnsIn : Option End → Turned → Code → Option End → Turned → Type 0
+TurnsIn h told codes.Ok h' told' = HasTurned h h' told'
+TurnsIn h told codes.Closed h' told' = IsClosed h × (h' ≡ h) × (told' ≡ told)
+TurnsIn h told codes.Rests h' told' = IsAtRest h × (h' ≡ h) × (told' ≡ told)
+TurnsIn h told codes.Other h' told' = IsSome (mutates_in h) × (h' ≡ h) × (told' ≡ told)
+TurnsIn h told _ h' told' = ⊥
+
+-- what stays of a mutator's handle
+pub record KeepsMutator (before after : Mutating) : Type 0 where
+  pub heap : arc_value after.heap ≡ arc_value before.heap
+  pub is : after.mutator ≡ record before.mutator { log = after.mutator.log }
+
+-- A command was carried out: the mutator's list grew by it and its steps, and what is told is the answer that the list makes up, each
+-- refusal with its cause there.
+pub record HasAsked (h : Option End) (cmd : Cmd) (h' : Option End) (told : Asked) : Type 0 where
+  pub before : Mutating
+  pub was : mutates_in h ≡ Some before
+  pub valid : IsValid (has before.mutator) (works.Command cmd)
+  pub after : Mutating
+  pub is : mutates_in h' ≡ Some after
+  pub kept : KeepsMutator before after
+  pub answer : Told
+  pub grows : Works (works.Command cmd) before.mutator.log after.mutator.log
+  pub answered : answer_of (has after.mutator) ≡ Some (makes.Answered answer)
+  pub causes : IsAnswered (has before.mutator) cmd before.mutator.log after.mutator.log (has after.mutator) answer
+  pub line : Tells (has before.mutator) before.mutator.log after.mutator.log ((cmd, answer) ∷ [])
+  pub told_so : told ≡ asked_of answer.answer
+
+-- a mutator may not ask this: a register or the field isn't there
+pub record LacksOperand (h : Option End) (asked : Option Cmd) : Type 0 where
+  pub mutating : Mutating
+  pub is : mutates_in h ≡ Some mutating
+  pub lacks : (cmd : Cmd) → asked ≡ Some cmd → IsValid (has mutating.mutator) (works.Command cmd) → ⊥
+
+abbrev pub Asks : Option End → Option Cmd → Asked → Code → Option End → Asked → Type 0
+Asks h asked told codes.Ok h' told' = (cmd : Cmd) × (asked ≡ Some cmd) × HasAsked h cmd h' told'
+Asks h asked told codes.Range h' told' = LacksOperand h asked × (h' ≡ h) × (told' ≡ told)
+Asks h asked told codes.Closed h' told' = IsClosed h × (h' ≡ h) × (told' ≡ told)
+Asks h asked told codes.Rests h' told' = IsAtRest h × (h' ≡ h) × (told' ≡ told)
+Asks h asked told codes.Other h' told' = IsSome (collects_in h) × (h' ≡ h) × (told' ≡ told)
+Asks h asked told _ h' told' = ⊥
+
+-- A mutator polled: `crossed` is the epoch that it crossed into, or 0.
+pub record HasPolled (h h' : Option End) (crossed : ℕ) : Type 0 where
+  pub before : Mutating
+  pub was : mutates_in h ≡ Some before
+  pub after : Mutating
+  pub is : mutates_in h' ≡ Some after
+  pub kept : KeepsMutator before after
+  pub epoch : Option ℕ
+  pub grows : Works works.Poll before.mutator.log after.mutator.log
+  pub answered : answer_of (has after.mutator) ≡ Some (makes.Crossed epoch)
+  pub line : Tells (has before.mutator) before.mutator.log after.mutator.log []
+  pub told_so : crossed ≡ unwrap_or epoch 0
+
+abbrev pub Polls : Option End → ℕ → Code → Option End → ℕ → Type 0
+Polls h crossed codes.Ok h' crossed' = HasPolled h h' crossed'
+Polls h crossed codes.Closed h' crossed' = IsClosed h × (h' ≡ h) × (crossed' ≡ crossed)
+Polls h crossed codes.Rests h' crossed' = IsAtRest h × (h' ≡ h) × (crossed' ≡ crossed)
+Polls h crossed codes.Other h' crossed' = IsSome (collects_in h) × (h' ≡ h) × (crossed' ≡ crossed)
+Polls h crossed _ h' crossed' = ⊥
+
+-- a slot of a heap at rest was looked at
+pub record HasLooked (h : Option End) (slot : ℕ) (told : Slot) : Type 0 where
+  pub world : Core
+  pub is : rests_in h ≡ Some world
+  pub there : slot < world.config.slots
+  pub told_so : told ≡ slot_told (label_of (slice_index_or world.headers slot 0)) (slot_at world.collector.counts slot).count
+
+-- there is no such slot
+pub record LacksSlot (h : Option End) (slot : ℕ) : Type 0 where
+  pub world : Core
+  pub is : rests_in h ≡ Some world
+  pub lacks : world.config.slots ≤ slot
+
+abbrev pub Looks : Option End → ℕ → Slot → Code → Slot → Type 0
+Looks h slot told codes.Ok told' = HasLooked h slot told'
+Looks h slot told codes.Range told' = LacksSlot h slot × (told' ≡ told)
+Looks h slot told codes.Closed told' = IsClosed h × (told' ≡ told)
+Looks h slot told codes.Runs told' = Runs h × (told' ≡ told)
+Looks h slot told _ told' = ⊥
+
+-- its totals as C reads them
+abbrev pub totals_in : Core → Totals
+totals_in w = record { born = w.made; freed = w.collector.freed; epoch = w.epoch; collections = w.collector.collections; cycles_freed = w.collector.sets.freed; cycles_refused_delta = w.collector.sets.delta; cycles_refused_sigma = w.collector.sets.sigma }
+
+-- the totals of a heap at rest
+pub record HasTotals (h : Option End) (told : Totals) : Type 0 where
+  pub world : Core
+  pub is : rests_in h ≡ Some world
+  pub told_so : told ≡ totals_in world
+
+abbrev pub Tallies : Option End → Totals → Code → Totals → Type 0
+Tallies h told codes.Ok told' = HasTotals h told'
+Tallies h told codes.Closed told' = IsClosed h × (told' ≡ told)
+Tallies h told codes.Runs told' = Runs h × (told' ≡ told)
+Tallies h told _ told' = ⊥
+
+-- how many slots of a heap at rest hold objects
+pub record HasCounted (h : Option End) (taken : ℕ) : Type 0 where
+  pub world : Core
+  pub is : rests_in h ≡ Some world
+  pub told_so : taken ≡ taken_slots world
+
+abbrev pub Counts : Option End → ℕ → Code → ℕ → Type 0
+Counts h taken codes.Ok taken' = HasCounted h taken'
+Counts h taken codes.Closed taken' = IsClosed h × (taken' ≡ taken)
+Counts h taken codes.Runs taken' = Runs h × (taken' ≡ taken)
+Counts h taken _ taken' = ⊥

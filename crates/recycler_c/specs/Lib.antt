@@ -1,0 +1,7 @@
+pub mod Boxed
+pub mod Calls
+pub mod Codes
+pub mod First
+pub mod Narrow
+pub mod Shown
+pub mod Standing

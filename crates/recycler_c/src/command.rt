@@ -1,0 +1,142 @@
+//! Commands and polls of a mutator that is out.
+ghost use Rattle.std.specs.Prelude.{Some, ◌≡◌, if◌then◌else◌, None};
+ghost use Rattle.recycler_c.specs.Calls.{Asks, Polls};
+ghost use Rattle.recycler_c.specs.Narrow.{narrow, byte as is_byte};
+ghost use Rattle.rec_model.specs.declared.command.Cmd.TheVariants as commands;
+
+use crate::code::Code;
+use crate::end::End;
+use crate::handle::Handle;
+use crate::told::{Asked, show_answer};
+use rec_model::Cmd;
+use std::alloc::Global;
+
+/// Carries out a command; `None` is one with a number that no byte holds.
+pub fn ask(alloc: Global, mutator: &mut Handle, cmd: Option<Cmd>, told: &mut Asked) -> Code
+    ensures { Asks mutator.old.owned.held cmd told.old result mutator.new.owned.held told.new }
+{
+    if !mutator.full {
+        return Code::Closed;
+    }
+    let mut whole = mutator.take(alloc);
+    let code = ask_in(&mut whole, cmd, told);
+    mutator.put(whole);
+    code
+}
+
+fn ask_in(end: &mut End, cmd: Option<Cmd>, told: &mut Asked) -> Code
+    ensures { Asks (Some end.old) cmd told.old result (Some end.new) told.new }
+{
+    match end {
+        End::Mutating(out) => {
+            let Some(cmd) = cmd else {
+                return Code::Range;
+            };
+            if !out.can_ask(&cmd) {
+                return Code::Range;
+            }
+            let answered = out.mutator.command(&out.heap, cmd);
+            *told = show_answer(answered.answer);
+            Code::Ok
+        }
+        End::Collecting(_) => Code::Other,
+        _ => Code::Rests,
+    }
+}
+
+/// Crosses into the requested epoch, if the mutator isn't in it: which one, or 0.
+pub fn poll(alloc: Global, mutator: &mut Handle, crossed: &mut u32) -> Code
+    ensures { Polls mutator.old.owned.held crossed.old result mutator.new.owned.held crossed.new }
+{
+    if !mutator.full {
+        return Code::Closed;
+    }
+    let mut whole = mutator.take(alloc);
+    let code = poll_in(&mut whole, crossed);
+    mutator.put(whole);
+    code
+}
+
+fn poll_in(end: &mut End, crossed: &mut u32) -> Code
+    ensures { Polls (Some end.old) crossed.old result (Some end.new) crossed.new }
+{
+    match end {
+        End::Mutating(out) => {
+            let epoch = out.mutator.poll(&out.heap);
+            *crossed = epoch.unwrap_or(0);
+            Code::Ok
+        }
+        End::Collecting(_) => Code::Other,
+        _ => Code::Rests,
+    }
+}
+
+// The number as a byte, if it fits one.
+fn byte(number: u32) -> Option<u8>
+    ensures { result ≡ (if is_byte number then Some number else None) }
+{
+    if number < 256 {
+        Some(number as u8)
+    } else {
+        None
+    }
+}
+
+pub fn new(reg: u32, label: u32) -> Option<Cmd>
+    ensures { result ≡ narrow (commands.New reg label) }
+{
+    Some(Cmd::New {
+        reg: byte(reg)?,
+        label,
+    })
+}
+
+pub fn null(reg: u32) -> Option<Cmd>
+    ensures { result ≡ narrow (commands.Null reg) }
+{
+    Some(Cmd::Null { reg: byte(reg)? })
+}
+
+pub fn copy(dst: u32, src: u32) -> Option<Cmd>
+    ensures { result ≡ narrow (commands.Copy dst src) }
+{
+    Some(Cmd::Copy {
+        dst: byte(dst)?,
+        src: byte(src)?,
+    })
+}
+
+pub fn get(dst: u32, src: u32, field: u32) -> Option<Cmd>
+    ensures { result ≡ narrow (commands.Get dst src field) }
+{
+    Some(Cmd::Get {
+        dst: byte(dst)?,
+        src: byte(src)?,
+        field: byte(field)?,
+    })
+}
+
+pub fn put(src: u32, field: u32, val: u32) -> Option<Cmd>
+    ensures { result ≡ narrow (commands.Put src field val) }
+{
+    Some(Cmd::Put {
+        src: byte(src)?,
+        field: byte(field)?,
+        val: byte(val)?,
+    })
+}
+
+pub fn value(reg: u32) -> Option<Cmd>
+    ensures { result ≡ narrow (commands.Value reg) }
+{
+    Some(Cmd::Value { reg: byte(reg)? })
+}
+
+pub fn same(a: u32, b: u32) -> Option<Cmd>
+    ensures { result ≡ narrow (commands.Same a b) }
+{
+    Some(Cmd::Same {
+        a: byte(a)?,
+        b: byte(b)?,
+    })
+}

@@ -1,0 +1,107 @@
+//! What a handle owns.
+ghost use Rattle.std.specs.Prelude.{◌≡◌, ◌%◌, ◌<◌, ◌≤◌, All, length, vec_capacity};
+ghost use Rattle.std.specs.Arc.{arc_value};
+ghost use Rattle.rec_table.specs.Held.{IsCollectorOf, IsMutatorOf};
+ghost use Rattle.recycler_c.specs.First.{AreFirst};
+ghost use Rattle.rec_core.specs.Worked.{AreIdle};
+ghost use Rattle.rec_world.specs.World.{IsWorld};
+
+use rec_model::Cmd;
+use rec_table::{Collector, Heap, Mutator};
+use rec_world::World;
+use std::marker::Model;
+use std::sync::Arc;
+
+/// A heap at rest: no mutator of it works, and all mailboxes are home.
+#[derive(Drop)]
+pub struct Resting {
+    world: World,
+}
+
+impl Model for Resting {
+    ghost use Rattle.std.specs.Prelude.{◌≡◌, ◌%◌, All};
+    ghost use Rattle.rec_core.specs.Core.{Core};
+    ghost use Rattle.rec_core.specs.Worked.{AreIdle};
+    ghost use Rattle.rec_world.specs.World.{IsWorld};
+
+    ghost Value = { Core };
+
+    ghost view = { λ r. r.world };
+
+    ghost invariant = { λ r. AreIdle r.world × All (λ word. word % 2 ≡ 0) r.world.crossing × IsWorld r.world };
+}
+
+impl Resting {
+    pub fn of(world: World) -> Resting
+        requires idle { AreIdle world }
+        requires home { All (λ word. word % 2 ≡ 0) world.crossing }
+        requires kept { IsWorld world }
+        ensures { result ≡ world }
+    {
+        Resting { world }
+    }
+
+    pub fn into_world(self) -> World
+        ensures world { result ≡ self }
+        ensures idle { AreIdle result }
+        ensures home { All (λ word. word % 2 ≡ 0) result.crossing }
+        ensures kept { IsWorld result }
+    {
+        self.world
+    }
+
+    pub fn world(&self) -> &World
+        ensures { result.now ≡ self.now }
+    {
+        &self.world
+    }
+}
+
+/// The collector of a running heap. Its mutators are out, in handles of their own; or all are home, where the heap could not be
+/// stopped.
+#[derive(Drop)]
+pub struct Collecting {
+    pub heap: Arc<Heap>,
+    pub collector: Collector,
+    // Those that are home, in order of number, with room for all.
+    pub home: Vec<Mutator>,
+    // How many mutators the heap has.
+    pub count: usize,
+    pub ghost own: { IsCollectorOf (arc_value heap) collector },
+    pub ghost counted: { count ≡ (arc_value heap).world.config.mutators },
+    pub ghost few: { (1 ≤ count) × (count ≤ 8) },
+    pub ghost first: { AreFirst (arc_value heap) home.items },
+    pub ghost whole: { 0 < length home.items → length home.items ≡ count },
+    pub ghost room: { count ≤ vec_capacity home },
+}
+
+/// A mutator of a running heap, with the heap.
+#[derive(Drop)]
+pub struct Mutating {
+    pub heap: Arc<Heap>,
+    pub mutator: Mutator,
+    pub ghost own: { IsMutatorOf (arc_value heap) mutator },
+}
+
+impl Mutating {
+    ghost use Rattle.std.specs.Prelude.{◌↔◌, IsTrue};
+    ghost use Rattle.rec_mutator.specs.Private.{IsValid};
+    ghost use Rattle.rec_mutator.specs.declared.work.Work.TheVariants as works;
+    ghost use Rattle.rec_table.specs.Held.{has};
+
+    /// Whether its registers and the field are there.
+    pub fn can_ask(&self, cmd: &Cmd) -> bool
+        ensures { IsTrue result ↔ IsValid (has self.now.mutator) (works.Command cmd.now) }
+    {
+        self.mutator.valid(cmd)
+    }
+}
+
+/// What the box of a handle holds. A mutator's is vacant while the heap rests.
+#[derive(Drop)]
+pub enum End {
+    Vacant,
+    Resting(Resting),
+    Collecting(Collecting),
+    Mutating(Mutating),
+}

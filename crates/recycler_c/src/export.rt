@@ -1,0 +1,198 @@
+//! What C calls. Each export calls one function of the modules beside this one.
+ghost use Rattle.std.specs.Prelude.{◌≡◌};
+ghost use Rattle.rec_model.specs.declared.command.Cmd.TheVariants as commands;
+ghost use Rattle.recycler_c.specs.Calls.{Asks, Closes, Counts, Looks, Opens, Polls, Settles, Starts, Stops, Tallies, TurnsIn, held};
+ghost use Rattle.recycler_c.specs.Codes.{Answers};
+ghost use Rattle.recycler_c.specs.Narrow.{narrow};
+
+use crate::handle::Handle;
+use crate::recycler::Recycler;
+use crate::told::{Asked, Settled, Slot, Totals, Turned};
+use crate::{collecting, command, looking, opening, running};
+use rec_world::Config;
+use std::alloc::Global;
+
+#[unsafe(no_mangle)]
+pub extern "C" fn recycler_open(
+    alloc: Global,
+    r: &mut Recycler,
+    slots: u32,
+    fields: u32,
+    registers: u32,
+    mutators: u32,
+    log_entries: u32,
+    first_epoch: u32,
+) -> u32
+    ensures { Answers result (λ code. Opens (record { slots = slots; fields = fields; registers = registers; mutators = mutators; log_entries = log_entries; first_epoch = first_epoch }) (held r.old) r.old.mutators code (held r.new) r.new.mutators) }
+{
+    let config = Config {
+        slots,
+        fields,
+        registers,
+        mutators,
+        log_entries,
+        first_epoch,
+    };
+    opening::open(alloc, &mut r.collector, &mut r.mutators, config).number()
+}
+
+#[unsafe(no_mangle)]
+pub extern "C" fn recycler_close(alloc: Global, r: &mut Recycler) -> u32
+    ensures { Answers result (λ code. Closes (held r.old) r.old.mutators code (held r.new) r.new.mutators) }
+{
+    opening::close(alloc, &mut r.collector, &mut r.mutators).number()
+}
+
+#[unsafe(no_mangle)]
+pub extern "C" fn recycler_start(alloc: Global, r: &mut Recycler) -> u32
+    ensures { Answers result (λ code. Starts (held r.old) r.old.mutators code (held r.new) r.new.mutators) }
+{
+    running::start(alloc, &mut r.collector, &mut r.mutators).number()
+}
+
+#[unsafe(no_mangle)]
+pub extern "C" fn recycler_stop(alloc: Global, r: &mut Recycler) -> u32
+    ensures { Answers result (λ code. Stops (held r.old) r.old.mutators code (held r.new) r.new.mutators) }
+{
+    running::stop(alloc, &mut r.collector, &mut r.mutators).number()
+}
+
+#[unsafe(no_mangle)]
+pub extern "C" fn recycler_settle(alloc: Global, r: &mut Recycler, told: &mut Settled) -> u32
+    ensures settles { Answers result (λ code. Settles (held r.old) told.old code (held r.new) told.new) }
+    ensures mutators { r.new.mutators ≡ r.old.mutators }
+{
+    looking::settle_in(alloc, &mut r.collector, told).number()
+}
+
+#[unsafe(no_mangle)]
+pub extern "C" fn recycler_slot(alloc: Global, r: &mut Recycler, slot: u32, told: &mut Slot) -> u32
+    ensures looks { Answers result (λ code. Looks (held r.old) slot told.old code told.new) }
+    ensures collector { held r.new ≡ held r.old }
+    ensures mutators { r.new.mutators ≡ r.old.mutators }
+{
+    looking::look(alloc, &mut r.collector, slot, told).number()
+}
+
+#[unsafe(no_mangle)]
+pub extern "C" fn recycler_taken(alloc: Global, r: &mut Recycler, taken: &mut u32) -> u32
+    ensures counts { Answers result (λ code. Counts (held r.old) taken.old code taken.new) }
+    ensures collector { held r.new ≡ held r.old }
+    ensures mutators { r.new.mutators ≡ r.old.mutators }
+{
+    looking::count(alloc, &mut r.collector, taken).number()
+}
+
+#[unsafe(no_mangle)]
+pub extern "C" fn recycler_totals(alloc: Global, r: &mut Recycler, told: &mut Totals) -> u32
+    ensures tallies { Answers result (λ code. Tallies (held r.old) told.old code told.new) }
+    ensures collector { held r.new ≡ held r.old }
+    ensures mutators { r.new.mutators ≡ r.old.mutators }
+{
+    looking::total(alloc, &mut r.collector, told).number()
+}
+
+#[unsafe(no_mangle)]
+pub extern "C" fn recycler_turn(alloc: Global, collector: &mut Handle, told: &mut Turned) -> u32
+    ensures { Answers result (λ code. TurnsIn collector.old.owned.held told.old code collector.new.owned.held told.new) }
+{
+    collecting::turn(alloc, collector, told).number()
+}
+
+#[unsafe(no_mangle)]
+pub extern "C" fn recycler_poll(alloc: Global, mutator: &mut Handle, crossed: &mut u32) -> u32
+    ensures { Answers result (λ code. Polls mutator.old.owned.held crossed.old code mutator.new.owned.held crossed.new) }
+{
+    command::poll(alloc, mutator, crossed).number()
+}
+
+#[unsafe(no_mangle)]
+pub extern "C" fn recycler_new(
+    alloc: Global,
+    mutator: &mut Handle,
+    reg: u32,
+    label: u32,
+    told: &mut Asked,
+) -> u32
+    ensures { Answers result (λ code. Asks mutator.old.owned.held (narrow (commands.New reg label)) told.old code mutator.new.owned.held told.new) }
+{
+    command::ask(alloc, mutator, command::new(reg, label), told).number()
+}
+
+#[unsafe(no_mangle)]
+pub extern "C" fn recycler_null(
+    alloc: Global,
+    mutator: &mut Handle,
+    reg: u32,
+    told: &mut Asked,
+) -> u32
+    ensures { Answers result (λ code. Asks mutator.old.owned.held (narrow (commands.Null reg)) told.old code mutator.new.owned.held told.new) }
+{
+    command::ask(alloc, mutator, command::null(reg), told).number()
+}
+
+#[unsafe(no_mangle)]
+pub extern "C" fn recycler_copy(
+    alloc: Global,
+    mutator: &mut Handle,
+    dst: u32,
+    src: u32,
+    told: &mut Asked,
+) -> u32
+    ensures { Answers result (λ code. Asks mutator.old.owned.held (narrow (commands.Copy dst src)) told.old code mutator.new.owned.held told.new) }
+{
+    command::ask(alloc, mutator, command::copy(dst, src), told).number()
+}
+
+#[unsafe(no_mangle)]
+pub extern "C" fn recycler_get(
+    alloc: Global,
+    mutator: &mut Handle,
+    dst: u32,
+    src: u32,
+    field: u32,
+    told: &mut Asked,
+) -> u32
+    ensures { Answers result (λ code. Asks mutator.old.owned.held (narrow (commands.Get dst src field)) told.old code mutator.new.owned.held told.new) }
+{
+    command::ask(alloc, mutator, command::get(dst, src, field), told).number()
+}
+
+#[unsafe(no_mangle)]
+pub extern "C" fn recycler_put(
+    alloc: Global,
+    mutator: &mut Handle,
+    src: u32,
+    field: u32,
+    val: u32,
+    told: &mut Asked,
+) -> u32
+    ensures { Answers result (λ code. Asks mutator.old.owned.held (narrow (commands.Put src field val)) told.old code mutator.new.owned.held told.new) }
+{
+    command::ask(alloc, mutator, command::put(src, field, val), told).number()
+}
+
+#[unsafe(no_mangle)]
+pub extern "C" fn recycler_value(
+    alloc: Global,
+    mutator: &mut Handle,
+    reg: u32,
+    told: &mut Asked,
+) -> u32
+    ensures { Answers result (λ code. Asks mutator.old.owned.held (narrow (commands.Value reg)) told.old code mutator.new.owned.held told.new) }
+{
+    command::ask(alloc, mutator, command::value(reg), told).number()
+}
+
+#[unsafe(no_mangle)]
+pub extern "C" fn recycler_same(
+    alloc: Global,
+    mutator: &mut Handle,
+    a: u32,
+    b: u32,
+    told: &mut Asked,
+) -> u32
+    ensures { Answers result (λ code. Asks mutator.old.owned.held (narrow (commands.Same a b)) told.old code mutator.new.owned.held told.new) }
+{
+    command::ask(alloc, mutator, command::same(a, b), told).number()
+}

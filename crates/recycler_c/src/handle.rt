@@ -1,0 +1,37 @@
+//! What C holds.
+ghost use Rattle.std.specs.Prelude.{◌≡◌, true, false, Some, None, is_some};
+
+use crate::end::End;
+use crate::owned::Owned;
+use std::alloc::Global;
+use std::mem::replace;
+
+/// A handle: it is closed, or owns a box with what it stands for.
+#[repr(C)]
+#[derive(Drop)]
+pub struct Handle {
+    pub full: bool,
+    pub owned: Owned,
+    pub ghost holds: { full ≡ is_some owned.held },
+}
+
+impl Handle {
+    /// Takes its box out. It is closed then.
+    pub fn take(&mut self, alloc: Global) -> Box<End>
+        requires { self.old.full ≡ true }
+        ensures was { self.old.owned.held ≡ Some result.value }
+        ensures closed { self.new.owned.held ≡ None }
+    {
+        self.full = false;
+        replace(&mut self.owned, Owned::empty()).into_box(alloc)
+    }
+
+    /// Puts a box in.
+    pub fn put(&mut self, whole: Box<End>)
+        requires { self.old.full ≡ false }
+        ensures { self.new.owned.held ≡ Some whole.value }
+    {
+        self.owned = Owned::of(whole);
+        self.full = true;
+    }
+}

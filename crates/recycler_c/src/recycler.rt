@@ -1,0 +1,15 @@
+//! A heap as C holds it.
+ghost use Rattle.std.specs.Prelude.{◌≡◌, true};
+ghost use Rattle.recycler_c.specs.Standing.{AreTied, can_collect};
+
+use crate::handle::Handle;
+
+/// A heap's handles: the collector's, which is the heap's while it rests, and its mutators', in order of number.
+#[repr(C)]
+#[derive(Drop)]
+pub struct Recycler {
+    pub collector: Handle,
+    pub mutators: [Handle; 8],
+    pub ghost collects: { can_collect collector.owned.held ≡ true },
+    pub ghost tied: { AreTied collector.owned.held mutators },
+}

@@ -1,0 +1,110 @@
+//! See the collector work: a script is played as `recycler play` does, and what happens is shown, move by move.
+//!
+//! It promises no more than to be safe and to end; what the collector promises is said by the crates below.
+#![tactic(auto)]
+
+mod graph;
+mod page_text;
+mod refusal;
+mod request;
+mod state;
+mod tell;
+mod words;
+
+use anyhow::Context;
+use rec_script::{MOST_BYTES, ScriptError, read};
+use rec_watch::Walk;
+use refusal::refusal;
+use request::{Request, command, what_is_asked};
+use std::alloc::Global;
+use std::io::{self, BufWriter, ErrorKind, Input, IsTerminal, Read};
+use std::process::ExitCode;
+use std::rt::{Env, Files, Stderr};
+use std::{env, fs};
+use tell::Teller;
+
+fn main(rt: HostRuntime) -> anyhow::Result<ExitCode> {
+    let alloc = rt.alloc();
+    let arguments: Vec<String> = env::args(&rt)?.collect(alloc)?;
+    let words: Vec<&str> = arguments.iter().map(|word| word.as_str()).collect(alloc)?;
+    // A note on how far a run has come would stand among what is told on the same terminal.
+    let is_free = !rt.stdout().is_terminal() || words.get(1).copied() == Some("page");
+    let terminal = (is_free && rt.stderr().is_terminal()).then_some(rt.stderr());
+    match run(&rt, alloc, &words, terminal) {
+        Ok(status) => Ok(ExitCode::from(status)),
+        Err(error) => {
+            eprintln!(rt; "recycler_watch: {error:#}")?;
+            Ok(ExitCode::FAILURE)
+        }
+    }
+}
+
+// Does what the words ask. What they ask wrongly is told on standard error.
+fn run<R: Files + AllocGlobal + Input + Print + Eprint>(
+    rt: &R,
+    alloc: Global,
+    words: &[&str],
+    terminal: Option<Stderr>,
+) -> anyhow::Result<u8> {
+    let command = command(alloc)?;
+    let matches = match command.try_get_matches_from(words) {
+        Ok(matches) => matches,
+        Err(error) => {
+            error.print(rt)?;
+            return Ok(u8::try_from(error.exit_code())?);
+        }
+    };
+    let asked = what_is_asked(&matches).context("no such word")?;
+    let bytes = read_bytes(rt, alloc, asked.script).context(asked.script)?;
+    let script = match read(alloc, &bytes) {
+        Ok(script) => script,
+        Err(ScriptError::Bad { line, kind }) => {
+            rt.eprintln(&refusal(alloc, asked.script, &bytes, line, kind)?)?;
+            return Ok(3); // as `recycler` has it
+        }
+        Err(error) => return Err(error.into()),
+    };
+    let walk = Walk::open(alloc, &script, asked.seed, asked.turns)?;
+    write_out(
+        rt,
+        alloc,
+        Teller {
+            alloc,
+            asked,
+            walk,
+            terminal,
+        },
+    )?;
+    Ok(0)
+}
+
+// Tells a run: a page to its file, everything else to standard output.
+fn write_out<R: Files + Print>(
+    rt: &R,
+    alloc: Global,
+    mut teller: Teller<'_>,
+) -> anyhow::Result<()> {
+    if let Request::Page { output } = teller.asked.request {
+        let file = fs::create(rt, output).context(output)?;
+        let mut out = BufWriter::new(alloc, file)?;
+        return teller.tell(&mut out).context(output);
+    }
+    let mut out = BufWriter::new(alloc, io::writer(rt))?;
+    match teller.tell(&mut out) {
+        // Whoever stops to read has seen enough.
+        Err(error) if error.kind() == ErrorKind::BrokenPipe => Ok(()),
+        done => done.context("standard output"),
+    }
+}
+
+// The bytes of a file, or of standard input where the file is `-`. What is longer than a script may be is cut.
+fn read_bytes<R: Files + Input>(rt: &R, alloc: Global, file: &str) -> io::Result<Vec<u8>> {
+    let most = MOST_BYTES as u64 + 1;
+    let mut bytes = Vec::new(alloc);
+    if file == "-" {
+        rt.reader().take(most).read_to_end(&mut bytes)?;
+    } else {
+        fs::open(rt, file)?.take(most).read_to_end(&mut bytes)?;
+    }
+    Ok(bytes)
+}

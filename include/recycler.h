@@ -1,0 +1,194 @@
+/* librecycler_c: a proved concurrent reference-counting collector.
+ *
+ * A `recycler` lies in memory of the caller's, and holds a handle for the collector and one for each mutator. Begin it with
+ * RECYCLER_CLOSED. Its bytes are the library's: a caller passes addresses of it and of its handles, and copies or writes nothing.
+ *
+ * Codes. Every call answers a recycler_code. Each function below names the codes that it can answer; a code means the same everywhere.
+ * A code other than RECYCLER_OK says that the call did nothing: handles and out-parameters are as before. The one exception is
+ * RECYCLER_SHARED. No call aborts, prints, waits or takes a lock.
+ *
+ * Threads. A call that takes a whole `recycler` wants it to itself, with all its handles. While the heap runs, each handle is given to
+ * one call at a time, and calls on different handles may run beside each other: one thread turns &r.collector, and one thread each
+ * carries on &r.mutators[k], which is the mutator with number k + 1. A handle may move to another thread. Order that by the start or
+ * the join of a thread, a lock, or a sequentially consistent atomic. That a handle may move, with what it holds and the pointer to the
+ * heap, is proved (Owned of crates/recycler_c is Send). No call is made from a signal handler, or from the forked child of a process
+ * with threads.
+ *
+ * Memory. recycler_open and recycler_start take memory, by malloc; recycler_close, recycler_stop and a refused call give it back. No
+ * other call takes any. malloc aligns as C says, and malloc, realloc and free are of one allocator.
+ *
+ * A mutator has registers, numbered from 0, and reaches objects by them alone. An object has a label, which the caller chooses as it
+ * makes it, and fields, numbered from 0. A register or a field is null or leads to one object.
+ */
+#ifndef RECYCLER_H
+#define RECYCLER_H
+
+#include <stdbool.h>
+#include <stdint.h>
+
+#ifdef __cplusplus
+extern "C" {
+#endif
+
+typedef enum recycler_code {
+    RECYCLER_OK = 0,
+    RECYCLER_NO_MEMORY = 1,
+    /* the first number of recycler_open that is out of its range */
+    RECYCLER_SLOTS = 2,
+    RECYCLER_FIELDS = 3,
+    RECYCLER_REGISTERS = 4,
+    RECYCLER_MUTATORS = 5,
+    RECYCLER_LOG_ENTRIES = 6,
+    RECYCLER_FIRST_EPOCH = 7,
+    /* the handle is not open; it is open already */
+    RECYCLER_CLOSED_HANDLE = 8,
+    RECYCLER_OPEN_ALREADY = 9,
+    /* the heap runs, and the call is for one at rest; it rests, and the call is for one that runs */
+    RECYCLER_RUNS = 10,
+    RECYCLER_RESTS = 11,
+    /* a mutator's handle where the collector's is wanted, or the other way round */
+    RECYCLER_OTHER_HANDLE = 12,
+    /* a register, a field or a slot is not there */
+    RECYCLER_RANGE = 13,
+    /* fewer than four epochs are left, of 16,777,215 */
+    RECYCLER_EPOCHS_SPENT = 14,
+    /* something else than its handles holds the running heap: no call of this library was seen to make it so */
+    RECYCLER_SHARED = 15
+} recycler_code;
+
+typedef struct recycler_handle {
+    bool full;
+    struct { void *at; } owned;
+} recycler_handle;
+
+typedef struct recycler {
+    recycler_handle collector;
+    recycler_handle mutators[8];
+} recycler;
+
+#define RECYCLER_CLOSED \
+    { { false, { 0 } }, { { false, { 0 } }, { false, { 0 } }, { false, { 0 } }, { false, { 0 } }, \
+                          { false, { 0 } }, { false, { 0 } }, { false, { 0 } }, { false, { 0 } } } }
+
+/* What a command was answered. */
+typedef enum recycler_answer {
+    RECYCLER_DONE = 0,      /* it was made */
+    RECYCLER_NULL = 1,      /* recycler_get: the field is null, and so is the register now */
+    RECYCLER_OBJECT = 2,    /* recycler_get: the field leads to an object, and so does the register now */
+    RECYCLER_VALUE = 3,     /* recycler_value: the object's label is in `label` */
+    RECYCLER_YES = 4,       /* recycler_same: both name one object, or both are null */
+    RECYCLER_NO = 5,        /* recycler_same: they do not */
+    /* the heap refuses; nothing changed */
+    RECYCLER_NO_OBJECT = 6, /* the register that should name an object is null */
+    RECYCLER_FULL = 7,      /* recycler_new: every slot was taken */
+    RECYCLER_BUSY = 8,      /* recycler_new: no free slot was found, but a sweep ran: the freed word in `before` and `after` */
+    RECYCLER_LOG_FULL = 9   /* the mutator's log has no room: poll, and ask again once the collector has turned */
+} recycler_answer;
+
+/* `label`, `before` and `after` are 0 where the answer says nothing of them. */
+typedef struct recycler_asked {
+    uint32_t answer, label;
+    uint64_t before, after;
+} recycler_asked;
+
+/* What a turn of the collector came to. */
+typedef enum recycler_what {
+    RECYCLER_MOVED = 0,
+    RECYCLER_WAITING = 1,   /* the mutator with the number `mutator` has not polled since the epoch was requested; nothing changed */
+    RECYCLER_COLLECTED = 2, /* the collection of `epoch` is complete, with so many slots `freed` */
+    RECYCLER_NO_EPOCH = 3   /* the last epoch is over; nothing changed */
+} recycler_what;
+
+typedef struct recycler_turned {
+    uint32_t what, mutator, epoch, freed;
+} recycler_turned;
+
+/* How many collections settling completed, how many slots they freed, and how many slots hold objects afterwards. */
+typedef struct recycler_settled {
+    uint32_t epochs, freed, live;
+} recycler_settled;
+
+/* Whether a slot holds an object (1 or 0), the object's label (0 where it holds none), and its true count: how many references to it
+ * were counted, which is an epoch or two behind; 1 where the slot is free. */
+typedef struct recycler_slot_told {
+    uint32_t taken, label;
+    uint64_t count;
+} recycler_slot_told;
+
+/* Since the opening: objects born, with the first one; slots freed; the requested epoch; collections completed; and of the sets of
+ * possible garbage cycles, how many were freed, and how many the Delta test and the Sigma test refused. */
+typedef struct recycler_totals_told {
+    uint64_t born, freed;
+    uint32_t epoch, collections;
+    uint64_t cycles_freed, cycles_refused_delta, cycles_refused_sigma;
+} recycler_totals_told;
+
+/* Opens a heap at rest. One object with label 0 stands in slot 0 and in register 0 of each mutator. All memory of the heap and of its
+ * handles is taken here.
+ * slots: objects that fit, 1 to 65,535. fields: of each object, 1 to 16. registers: of each mutator, 1 to 64. mutators: 1 to 8.
+ * log_entries: that a mutator may make in an epoch, 1 to 262,143. first_epoch: 1 to 16,777,215.
+ * Codes: OPEN_ALREADY, the six of the numbers, NO_MEMORY. */
+uint32_t recycler_open(recycler *r, uint32_t slots, uint32_t fields, uint32_t registers, uint32_t mutators, uint32_t log_entries,
+                       uint32_t first_epoch);
+
+/* Closes a heap at rest, and gives back its memory. Codes: CLOSED_HANDLE, RUNS. */
+uint32_t recycler_close(recycler *r);
+
+/* Sets a heap at rest running: &r->collector is its collector's handle then, and &r->mutators[k] the handle of mutator k + 1.
+ * Codes: CLOSED_HANDLE, RUNS, NO_MEMORY, SHARED. After SHARED it runs with all mutators at home: stop it. */
+uint32_t recycler_start(recycler *r);
+
+/* Stops a running heap: it rests, as its threads left it. No memory is taken, and no mutator has to be called first.
+ * Codes: CLOSED_HANDLE, RESTS, SHARED. After SHARED it still runs, but all its mutators are at home: they can be asked nothing
+ * (RESTS), and recycler_stop may be called again. */
+uint32_t recycler_stop(recycler *r);
+
+/* Settles a heap at rest: afterwards just the slots that registers reach hold objects, with true counts. Codes: CLOSED_HANDLE, RUNS,
+ * EPOCHS_SPENT. */
+uint32_t recycler_settle(recycler *r, recycler_settled *told);
+
+/* Looks at a slot of a heap at rest: slot, from 0. Codes: CLOSED_HANDLE, RUNS, RANGE. */
+uint32_t recycler_slot(recycler *r, uint32_t slot, recycler_slot_told *told);
+
+/* Tells how many slots of a heap at rest hold objects. Codes: CLOSED_HANDLE, RUNS. */
+uint32_t recycler_taken(recycler *r, uint32_t *taken);
+
+/* Tells the totals of a heap at rest. Codes: CLOSED_HANDLE, RUNS. */
+uint32_t recycler_totals(recycler *r, recycler_totals_told *told);
+
+/* One step of a collection, on &r->collector. It waits for nobody. Codes: CLOSED_HANDLE, RESTS, OTHER_HANDLE. */
+uint32_t recycler_turn(recycler_handle *collector, recycler_turned *told);
+
+/* The calls below are for &r->mutators[k]. Codes of each: CLOSED_HANDLE, RESTS, OTHER_HANDLE; of the commands RANGE too, where a
+ * register or the field is not there. A command that the heap refuses is answered RECYCLER_OK, with the refusal in `answer`. */
+
+/* Crosses into the requested epoch, if the mutator is not in it: `crossed` is that epoch, or 0. A mutator that does not poll holds up
+ * the collector, so one with nothing to do polls too. */
+uint32_t recycler_poll(recycler_handle *mutator, uint32_t *crossed);
+
+/* Makes an object with this label and null fields, and lets `reg` name it. Any label fits. Answers: DONE, FULL, BUSY, LOG_FULL. */
+uint32_t recycler_new(recycler_handle *mutator, uint32_t reg, uint32_t label, recycler_asked *told);
+
+/* Lets `reg` be null. Answers: DONE. */
+uint32_t recycler_null(recycler_handle *mutator, uint32_t reg, recycler_asked *told);
+
+/* Lets `dst` name what `src` names, null too. Answers: DONE. */
+uint32_t recycler_copy(recycler_handle *mutator, uint32_t dst, uint32_t src, recycler_asked *told);
+
+/* Lets `dst` name what the field of the object in `src` leads to. Answers: NULL, OBJECT, NO_OBJECT. */
+uint32_t recycler_get(recycler_handle *mutator, uint32_t dst, uint32_t src, uint32_t field, recycler_asked *told);
+
+/* Lets the field of the object in `src` lead to what `val` names, null too. Answers: DONE, NO_OBJECT, LOG_FULL. */
+uint32_t recycler_put(recycler_handle *mutator, uint32_t src, uint32_t field, uint32_t val, recycler_asked *told);
+
+/* Tells the label of the object in `reg`. Answers: VALUE, NO_OBJECT. */
+uint32_t recycler_value(recycler_handle *mutator, uint32_t reg, recycler_asked *told);
+
+/* Tells whether both registers name one object, or both are null. Answers: YES, NO. */
+uint32_t recycler_same(recycler_handle *mutator, uint32_t a, uint32_t b, recycler_asked *told);
+
+#ifdef __cplusplus
+}
+#endif
+
+#endif
