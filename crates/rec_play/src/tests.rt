@@ -1,4 +1,4 @@
-ghost use Rattle.std.specs.Prelude.{◌≡◌, ◌≤◌, [], length, IfOk};
+ghost use Rattle.std.specs.Prelude.{◌≡◌, ◌≤◌, [], IfOk};
 ghost use Rattle.std.specs.List.{sum};
 ghost use Rattle.rec_core.specs.Core.{opened};
 ghost use Rattle.rec_play.specs.Played.{AreReady, config_of, lengths_of};
@@ -18,21 +18,20 @@ fn mutator(t: u8) -> Option<Actor> {
     Some(Actor::Mutator(t))
 }
 
-// So many commands for each mutator.
-fn lengths(of_each: &[u32]) -> ArrayVec<u32, MOST_MUTATORS>
-    requires { length of_each.now ≤ 8 }
-{
+// So many commands for each mutator, of which there are eight at most.
+fn lengths(of_each: &[u32]) -> Result<ArrayVec<u32, MOST_MUTATORS>, Fail> {
     let mut lengths = ArrayVec::new();
     for count in of_each {
-        lengths.push(*count);
+        let pushed = lengths.try_push(*count);
+        pushed.ok().ok_or("more than eight mutators")?;
     }
-    lengths
+    Ok(lengths)
 }
 
 // The orders of scripts whose texts come from outside.
 #[test]
 fn draws_three_mutators(rt: HostRuntime) -> Result<(), Fail> {
-    let mut schedule = Schedule::new(lengths(&[0, 3, 2]), 938, 3000);
+    let mut schedule = Schedule::new(lengths(&[0, 3, 2])?, 938, 3000);
     let wanted = [
         mutator(3),
         mutator(3),
@@ -54,7 +53,7 @@ fn draws_three_mutators(rt: HostRuntime) -> Result<(), Fail> {
 
 #[test]
 fn draws_two_mutators(rt: HostRuntime) -> Result<(), Fail> {
-    let mut schedule = Schedule::new(lengths(&[3, 3]), 213, 300);
+    let mut schedule = Schedule::new(lengths(&[3, 3])?, 213, 300);
     let wanted = [
         mutator(1),
         mutator(2),
@@ -75,7 +74,7 @@ fn draws_two_mutators(rt: HostRuntime) -> Result<(), Fail> {
 // The same, with four turns drawn: the rest runs mutator by mutator.
 #[test]
 fn runs_the_rest_mutator_by_mutator(rt: HostRuntime) -> Result<(), Fail> {
-    let mut schedule = Schedule::new(lengths(&[3, 3]), 213, 4);
+    let mut schedule = Schedule::new(lengths(&[3, 3])?, 213, 4);
     for t in [1, 2, 2, 1, 1, 2] {
         assert_eq!(rt; schedule.next_turn(), mutator(t));
     }
