@@ -47,13 +47,10 @@ fn write_arrows<W: Write>(
     from: u32,
     targets: &[Option<u16>],
 ) -> io::Result<()> {
-    let style = if kind == 'm' { "dashed" } else { "solid" };
+    let style = if kind == 'm' { ", style=dashed" } else { "" };
     for (index, target) in targets.iter().enumerate() {
         if let Some(to) = target {
-            writeln!(
-                out,
-                "  {kind}{from} -> s{to} [label={index}, style={style}];"
-            )?;
+            writeln!(out, "  {kind}{from} -> s{to} [label={index}{style}];")?;
         }
     }
     Ok(())
@@ -61,10 +58,8 @@ fn write_arrows<W: Write>(
 
 // A cluster for a set that waits for its tests.
 fn write_set<W: Write>(out: &mut W, number: usize, members: &[u16]) -> io::Result<()> {
-    write!(
-        out,
-        "  subgraph cluster_{number} {{ label=\"set {number}\";"
-    )?;
+    write!(out, "  subgraph cluster_{number} {{")?;
+    write!(out, " label=\"set {number}\";")?;
     for member in members {
         write!(out, " s{member};")?;
     }

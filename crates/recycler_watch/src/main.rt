@@ -46,8 +46,7 @@ fn run<R: Files + AllocGlobal + Input + Print + Eprint>(
     words: &[&str],
     terminal: Option<Stderr>,
 ) -> anyhow::Result<u8> {
-    let command = command(alloc)?;
-    let matches = match command.try_get_matches_from(words) {
+    let matches = match command(alloc)?.try_get_matches_from(words) {
         Ok(matches) => matches,
         Err(error) => {
             error.print(rt)?;
@@ -65,31 +64,24 @@ fn run<R: Files + AllocGlobal + Input + Print + Eprint>(
         Err(error) => return Err(error.into()),
     };
     let walk = Walk::open(alloc, &script, asked.seed, asked.turns)?;
-    write_out(
-        rt,
+    let mut teller = Teller {
         alloc,
-        Teller {
-            alloc,
-            asked,
-            walk,
-            terminal,
-        },
-    )?;
+        asked,
+        walk,
+        terminal,
+    };
+    write_out(rt, &mut teller)?;
     Ok(0)
 }
 
 // Tells a run: a page to its file, everything else to standard output.
-fn write_out<R: Files + Print>(
-    rt: &R,
-    alloc: Global,
-    mut teller: Teller<'_>,
-) -> anyhow::Result<()> {
+fn write_out<R: Files + Print>(rt: &R, teller: &mut Teller<'_>) -> anyhow::Result<()> {
     if let Request::Page { output } = teller.asked.request {
         let file = fs::create(rt, output).context(output)?;
-        let mut out = BufWriter::new(alloc, file)?;
+        let mut out = BufWriter::new(teller.alloc, file)?;
         return teller.tell(&mut out).context(output);
     }
-    let mut out = BufWriter::new(alloc, io::writer(rt))?;
+    let mut out = BufWriter::new(teller.alloc, io::writer(rt))?;
     match teller.tell(&mut out) {
         // Whoever stops to read has seen enough.
         Err(error) if error.kind() == ErrorKind::BrokenPipe => Ok(()),

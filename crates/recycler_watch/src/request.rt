@@ -41,12 +41,7 @@ pub fn command<'a>(alloc: Global) -> Result<Command<'a>, NoMemory> {
     let graph = word(alloc, "graph", "Draws the heap after the moves, for `dot`")?.after_help(
         "Example: recycler_watch graph --to 16 examples/cycle.script | dot -Tsvg",
     );
-    let page = word(
-        alloc,
-        "page",
-        "Writes a page for a browser: the heap, move by move",
-    )?
-    .after_help(
+    let page = word(alloc, "page", "Writes a page for a browser")?.after_help(
         "Example: recycler_watch page -o cycle.html examples/cycle.script\n\nA page has 100,000 moves at most; --from shows later ones.",
     );
     Command::new(alloc, "recycler_watch")
@@ -86,11 +81,7 @@ fn word<'a>(alloc: Global, name: &'a str, about: &'a str) -> Result<Command<'a>,
         .value_name("SCRIPT")
         .help("The script's file, or - for standard input")
         .required(true);
-    let seed = number(
-        alloc,
-        "seed",
-        "Draw the order of the commands from this seed",
-    );
+    let seed = number(alloc, "seed", "Draw the order from this seed");
     let turns = number(alloc, "turns", "Draw so many turns at most, up to 10000000");
     let from = number(alloc, "from", "Begin with this move");
     let to = number(alloc, "to", "End with this move");

@@ -81,21 +81,15 @@ fn crossed(was: &State, is: &State) -> Option<u32> {
         .map(|(_, is)| is.epoch)
 }
 
-// What a command that was carried out found or left.
-fn add_outcome(
-    text: &mut String,
-    mutator: u8,
-    cmd: Cmd,
-    told: Told,
-    is: &State,
-) -> Result<(), NoMemory> {
+// What a command of mutator `t` found or left.
+fn add_outcome(text: &mut String, t: u8, cmd: Cmd, told: Told, is: &State) -> Result<(), NoMemory> {
     match (cmd, told.answer) {
         (Cmd::New { reg, .. }, Answer::Done) => {
-            add_target(text, ", ", is.register(mutator, reg))?;
+            add_target(text, ", ", is.register(t, reg))?;
             text.push_str(" is born")
         }
         (Cmd::Put { src, field, .. }, Answer::Done) => {
-            add_target(text, ", ", is.register(mutator, src))?;
+            add_target(text, ", ", is.register(t, src))?;
             write!(text, ".{field}")?;
             add_target(text, " was ", target(told.saw))?;
             add_target(text, ", now ", target(told.left))
@@ -151,18 +145,14 @@ fn add_changes(text: &mut String, was: &State, is: &State) -> Result<(), NoMemor
 
 // What became of the sets, where one was tested.
 fn add_sets(text: &mut String, was: &Collector, is: &Collector) -> Result<(), NoMemory> {
-    for (before, after, words) in [
-        (was.sets_freed, is.sets_freed, "a set passes both tests"),
-        (
-            was.sets_touched,
-            is.sets_touched,
-            "the Delta test refuses a set",
-        ),
-        (was.sets_held, is.sets_held, "the Sigma test refuses a set"),
-    ] {
-        if before != after {
-            write!(text, "; {words}")?;
-        }
+    if is.sets_freed != was.sets_freed {
+        text.push_str("; a set passes both tests")?;
+    }
+    if is.sets_touched != was.sets_touched {
+        text.push_str("; the Delta test refuses a set")?;
+    }
+    if is.sets_held != was.sets_held {
+        text.push_str("; the Sigma test refuses a set")?;
     }
     Ok(())
 }
