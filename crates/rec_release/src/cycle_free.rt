@@ -136,10 +136,10 @@ fn go_on(counts: &mut Counts, at: Member, fields: u8) -> Option<Member>
     requires unlisted { (x : ℕ) → 0 < times x counts.old.work → times x counts.old.free ≡ 0 }
     ensures { record { at = result; counts = counts.new } ≡ gone_on fields counts.old at }
 {
-    counts.rules();
     if let Some(next) = at.next_field(fields) {
         return Some(next);
     }
+    counts.rules();
     let next = at.next_member(counts.work());
     match next {
         Some(_) => {}

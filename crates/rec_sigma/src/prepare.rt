@@ -111,13 +111,13 @@ fn go_on(counts: &mut Counts, at: At, fields: u8) -> Option<At>
     requires held { IsHeld counts.old at }
     ensures { record { at = result; counts = counts.new } ≡ gone_on fields counts.old at }
 {
-    counts.rules();
     if let Some(member) = at.member.next_field(fields) {
         return Some(At {
             set: at.set,
             member,
         });
     }
+    counts.rules();
     match at.member.next_member(counts.set(at.set)) {
         Some(member) => Some(At {
             set: at.set,
