@@ -2,5 +2,6 @@ pub mod CommandLine
 pub mod Ends
 pub mod Headline
 pub mod Outcome
+pub mod Running
 pub mod Status
 pub mod Whole

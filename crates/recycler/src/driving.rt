@@ -1,6 +1,7 @@
 //! A script is driven: each mutator's commands are carried out on a thread of its own, with the collector beside them.
 ghost use Rattle.std.specs.Prelude.{◌≤◌, IfOk};
 ghost use Rattle.recycler.specs.Outcome.{IsOutcome};
+ghost use Rattle.recycler.specs.Running.{IsSetRunning};
 ghost use Rattle.recycler.specs.declared.command_line.How.TheVariants as hows;
 
 use crate::answer::open_world;
@@ -25,16 +26,7 @@ pub fn drive_script<R: Threads + Wait + Sync, G: Gate>(
     // Each turn requests one epoch more at most.
     ensures epochs { IfOk result (λ outcome. outcome.world.epoch ≤ 10000001) }
 {
-    let world = open_world(alloc, script)?;
-    let journals = journals_for(alloc, script)?;
-    let Ok((heap, mutators, collector)) = Heap::start(alloc, world) else {
-        return Err(NoMemory);
-    };
-    let crew = Crew {
-        mutators,
-        collector,
-        journals,
-    };
+    let (heap, crew) = set_running(alloc, script)?;
     let Ok(crew) = drive(rt, alloc, &heap, crew, script, gate) else {
         return Err(NoMemory);
     };
@@ -46,4 +38,21 @@ pub fn drive_script<R: Threads + Wait + Sync, G: Gate>(
         journals: crew.journals,
         order: None,
     })
+}
+
+// A script's heap, set running, and those who carry it on.
+fn set_running(alloc: Global, script: &Script) -> Result<(Heap, Crew), NoMemory>
+    ensures { IfOk result (λ running. IsSetRunning script.now running.0 running.1) }
+{
+    let world = open_world(alloc, script)?;
+    let journals = journals_for(alloc, script)?;
+    let Ok((heap, mutators, collector)) = Heap::start(alloc, world) else {
+        return Err(NoMemory);
+    };
+    let crew = Crew {
+        mutators,
+        collector,
+        journals,
+    };
+    Ok((heap, crew))
 }

@@ -139,10 +139,7 @@ twice_same hs i k g h d e lt = ap (λ (j : ℕ). held_at (set (set hs i g) i h) 
 pub read_at : (hs : List Handle) (k i : ℕ) (h d : Handle) → k ≡ i → i < length hs → held_at hs k d ≡ held_at hs i h
 read_at hs k i h d e lt = ap (λ (j : ℕ). held_at hs j d) e ∙ ap (λ (x : Handle). x.owned.held) (get_or_default hs i d h lt)
 
--- a handle is full or not by what it holds
-pub full_of : (h : Handle) → IsSome h.owned.held → h.full ≡ true
-full_of h s = h.holds ∙ s
-
+-- a handle that holds nothing isn't full
 pub not_full_of : (h : Handle) → h.owned.held ≡ None → h.full ≡ false
 not_full_of h e = h.holds ∙ ap is_some e
 
