@@ -27,7 +27,7 @@ use Rattle.rec_trial.specs.Tried.{is_of, loaded}
 use Rattle.rec_trial.specs.Trial.{Machine, Work, next_of}
 use Rattle.rec_trial.proofs.Course.{first_view}
 use Rattle.rec_trial.proofs.Holding.{inv_at}
-use Rattle.rec_trial.proofs.Runs.{Told, seen_of, told_run}
+use Rattle.rec_trial.proofs.Runs.{Told, seen_in, seen_of, told_run}
 use Rattle.rec_trial.proofs.Views.{view}
 use Rattle.rec_trial.proofs.AtWork.{named_place}
 use Rattle.rec_core.specs.Cycles.{TrialStands, word_loaded}
@@ -132,8 +132,8 @@ nothing_seen [] e = refl
 nothing_seen (l ∷ loads) e = cc
 
 module _ {fields : ℕ} {before : State} (r : Run) (t : Told fields before r) where
-  invariant_at : (p : Phase) → r.work.machine.phase ≡ p → inv_at p (first_view fields before) (view r.work) (map seen_of r.marking) (map seen_of r.blackening) (map seen_of r.collecting)
-  invariant_at p e = subst (λ k. inv_at k (first_view fields before) (view r.work) (map seen_of r.marking) (map seen_of r.blackening) (map seen_of r.collecting)) e t.course.inv
+  invariant_at : (p : Phase) → r.work.machine.phase ≡ p → inv_at p (first_view fields before) (view r.work) (seen_in r)
+  invariant_at p e = subst (λ k. inv_at k (first_view fields before) (view r.work) (seen_in r)) e t.course.inv
 
   -- the due field is one of its slot
   field_inside : (p : Phase) → r.work.machine.phase ≡ p → (p ≡ Idle → ⊥) → r.work.machine.field < r.work.machine.fields
@@ -144,7 +144,7 @@ module _ {fields : ℕ} {before : State} (r : Run) (t : Told fields before r) wh
 
   -- blackening begins when marking is done
   none_blackened : r.work.machine.phase ≡ Marking → r.blackening ≡ []
-  none_blackened e = nothing_seen r.blackening (invariant_at Marking e).no_blacks
+  none_blackened e = nothing_seen r.blackening (invariant_at Marking e).unscanned.loads
 
   due_fields : r.work.machine.fields ≡ fields
   due_fields = t.course.same.fields

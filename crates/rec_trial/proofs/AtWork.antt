@@ -14,39 +14,24 @@ use Rattle.rec_counts.proofs.Keeping.{members_once}
 use Rattle.rec_counts.proofs.Times.{length-once}
 use Rattle.rec_trial.specs.declared.phase.Phase.{Phase}
 use Rattle.rec_trial.specs.declared.phase.Phase.TheVariants.{Idle, Marking, Scanning, Collecting}
-use Rattle.rec_trial.specs.Loaded.{Run, IsAtWork, noted_at, noted, begun, run_of}
+use Rattle.rec_trial.specs.Loaded.{Run, IsAtWork, noted, begun, run_of}
 use Rattle.rec_trial.specs.Rules.{IsReady, LeadsToUnreleased, AllLeadToUnreleased}
 use Rattle.rec_trial.specs.Trial.{Machine, Work, NamesPlace, next_of, list_of, is_due_at, took_of, started_of}
-use Rattle.rec_trial.proofs.Course.{Course, alive_range, first_view, due_seen, released_same}
-use Rattle.rec_trial.proofs.Deletion.{Seen}
+use Rattle.rec_trial.proofs.Course.{alive_range, first_view, due_seen, released_same}
+use Rattle.rec_trial.proofs.Deletion.{Deletion, Loads, due_at, queue_at}
 use Rattle.rec_trial.proofs.Holding.{inv_at}
 use Rattle.rec_trial.proofs.Midway.{at_work_told, at_work_course, at_work_due}
 use Rattle.rec_trial.proofs.Places.{ltb_yes}
-use Rattle.rec_trial.proofs.Runs.{Told, node_seen, begun_told, still_unreleased, told_next}
-use Rattle.rec_trial.proofs.Totals.{times_here}
+use Rattle.rec_trial.proofs.Runs.{Told, node_seen, begun_told, noted_work, seen_in, still_unreleased, told_next}
+use Rattle.rec_trial.proofs.Totals.{times, times_here}
 use Rattle.rec_trial.proofs.Views.{view, concat_last}
 
 -- the field that is due is one of a marked slot
-record Due (w : Work) : Type 0 where
-  slot : w.machine.slot < length w.counts.slots
-  field : w.machine.field < w.machine.fields
-
-due_at_work : {fields : ℕ} {before : State} (w : Work) {marks blacks finds : List Seen} → Course fields before w marks blacks finds → (p : Phase) → w.machine.phase ≡ p → (p ≡ Idle → ⊥) → is_due_at p w.machine.done w.counts ≡ true → w.machine.slot ≡ get_or (list_of p w.counts) w.machine.done 0 → inv_at p (first_view fields before) (view w) marks blacks finds → Due w
-due_at_work w c Idle e n d node i = absurd (n refl)
-due_at_work w c Marking e n d node i =
-    let l : (view w).at < length w.counts.marked = ltb_yes (view w).at (length w.counts.marked) (sym (due_seen w Marking e) ∙ d) in
-    let q : w.machine.slot ≡ get_or w.counts.marked (view w).at 0 = node ∙ node_seen w Marking e in
-    record { slot = rw q (alive_range w.counts (get_or w.counts.marked (view w).at 0) (i.core.base.alive (get_or w.counts.marked (view w).at 0)) (times_here w.counts.marked (view w).at l)); field = i.place.below }
-due_at_work w c Scanning e n d node i =
-    let l : (view w).at < length w.counts.work = ltb_yes (view w).at (length w.counts.work) (sym (due_seen w Scanning e) ∙ d) in
-    let x : ℕ = get_or w.counts.work (view w).at 0 in
-    let q : w.machine.slot ≡ x = node ∙ node_seen w Scanning e in
-    record { slot = rw q (alive_range w.counts x (i.core.base.alive x) (omega (arith, i.core.parts x, times_here w.counts.work (view w).at l))); field = i.place.below }
-due_at_work w c Collecting e n d node i =
-    let l : (view w).at < length (concat w.counts.sets) = ltb_yes (view w).at (length (concat w.counts.sets)) (sym (due_seen w Collecting e) ∙ d) in
-    let x : ℕ = get_or (concat w.counts.sets) (view w).at 0 in
-    let q : w.machine.slot ≡ x = node ∙ node_seen w Collecting e in
-    record { slot = rw q (alive_range w.counts x (i.core.base.alive x) (omega (arith, i.core.parts x, times_here (concat w.counts.sets) (view w).at l))); field = i.place.below }
+due_within : (o s : Deletion) (ls : Loads) (p : Phase) → (p ≡ Idle → ⊥) → inv_at p o s ls → due_at p s ≡ true → (0 < times (get_or (queue_at p s) s.at 0) s.marked) × ((x : ℕ) → s.released x ≡ true → times x s.marked ≡ 0) × (s.field < s.fields)
+due_within o s ls Idle n i d = absurd (n refl)
+due_within o s ls Marking n i d = (times_here s.marked s.at (ltb_yes s.at (length s.marked) d), i.alive, i.place.below)
+due_within o s ls Scanning n i d = (omega (arith, i.parts (get_or s.work s.at 0), times_here s.work s.at (ltb_yes s.at (length s.work) d)), i.alive, i.place.below)
+due_within o s ls Collecting n i d = (omega (arith, i.parts (get_or s.members s.at 0), times_here s.members s.at (ltb_yes s.at (length s.members) d)), i.alive, i.place.below)
 
 -- the field that is due is the one that comes next
 pub named_place : (m : Machine) (p : Phase) (place : ℕ) → m.phase ≡ p → next_of m ≡ Some (LoadChild place) → (p ≡ Idle → ⊥) × (place ≡ place_of m.slot m.field m.fields)
@@ -59,10 +44,13 @@ named_place m Marking place e h = let k : Some (LoadChild (place_of m.slot m.fie
 named_place m _ place e h = let k : Some (LoadChild (place_of m.slot m.field m.fields)) ≡ Some (LoadChild place) = rw e at h in (λ q. cc, cc)
 
 pub told_place : {fields : ℕ} {before : State} (r : Run) → Told fields before r → NamesPlace (length r.work.counts.slots) r.work.machine
-told_place r t place h =
-    let k = named_place r.work.machine r.work.machine.phase place refl h in
-    let d : Due r.work = due_at_work r.work t.course r.work.machine.phase refl k.0 t.due t.node t.course.inv in
-    rw k.1 (place_within (length r.work.counts.slots) r.work.machine.fields r.work.machine.slot r.work.machine.field d.slot d.field)
+told_place {fields} {before} r t place h =
+    let p : Phase = r.work.machine.phase in
+    let k = named_place r.work.machine p place refl h in
+    let d = due_within (first_view fields before) (view r.work) (seen_in r) p k.0 t.course.inv (sym (due_seen r.work p refl) ∙ t.due) in
+    let x : ℕ = get_or (queue_at p (view r.work)) (view r.work).at 0 in
+    let slot : r.work.machine.slot < length r.work.counts.slots = subst (λ n. n < length r.work.counts.slots) (sym (t.node ∙ node_seen r.work p refl)) (alive_range r.work.counts x (d.1 x) d.0) in
+    rw k.1 (place_within (length r.work.counts.slots) r.work.machine.fields r.work.machine.slot r.work.machine.field slot d.2)
 
 pub at_work_place : (m : Machine) (s : State) → IsAtWork m s → NamesPlace (length s.slots) m
 at_work_place m s a = subst (λ (w : Work). NamesPlace (length w.counts.slots) w.machine) (sym a.is) (told_place (run_of m.fields a.before a.words) (at_work_told m s a))
@@ -100,14 +88,6 @@ pub started_slots : (fields : ℕ) (before : State) (m : Machine) (s : State) �
 started_slots fields before m s f r e = ap (λ (w : Work). length w.counts.slots) e ∙ (begun_told fields before f r).course.rest.slots
 
 -- a trial that learnt a word
-pub noted_work : (r : Run) (word : ℕ) → (noted r word).work ≡ took_of r.work word
-unfolding took_of
-noted_work r word = go r.work.machine.phase refl
-  where
-    go : (p : Phase) → r.work.machine.phase ≡ p → (noted_at p r word).work ≡ took_of r.work word
-    go Idle e = rw e refl
-    go _ e = refl
-
 pub run_more : (fields : ℕ) (before : State) (words : List ℕ) (word : ℕ) → run_of fields before (words ++ word ∷ []) ≡ noted (run_of fields before words) word
 unfolding run_of
 run_more fields before words word = fold-append noted (begun fields before) words (word ∷ [])

@@ -19,10 +19,11 @@ use Rattle.rec_trial.specs.declared.phase.Phase.TheVariants.{Idle, Marking, Scan
 use Rattle.rec_trial.specs.Loaded.{IsAtWork, begins, learns}
 use Rattle.rec_trial.specs.Moves.{touched_if, marked_by, dropped_if, blackened_if, scanned_by, has_rest, whitened, whitened_if, all_whitened, joined_if, collected_by, with_new_set}
 use Rattle.rec_trial.specs.Rules.{CanMark, CanScan, CanCollect, IsReady, LeadsToUnreleased, RulesAt}
-use Rattle.rec_trial.specs.Trial.{Machine, Work, next_of, is_due_at, is_due, roots_moved, scan_moved, set_begun_if, collect_moved, moved_at, moves_left, settled_in, settled, learnt_at, opened_of, started_of, took_of, advanced}
+use Rattle.rec_trial.specs.Trial.{Machine, Work, next_of, is_due_at, is_due, roots_moved, scan_moved, set_begun_if, collect_moved, moved_at, settled, learnt_at, opened_of, started_of, took_of, advanced}
 use Rattle.rec_trial.proofs.Conditions.{unbuffered_white, set_room, marked_in_range, root_range, root_unlisted}
 use Rattle.rec_trial.proofs.Midway.{Midway, at_work_due, at_work_midway, going_midway, moved_midway, rules_midway}
 use Rattle.rec_trial.proofs.Places.{ltb_yes}
+use Rattle.rec_trial.proofs.Settling.{settled_by}
 use Rattle.rec_trial.proofs.Runs.{took_busy, some_set, in_range_if}
 
 -- a slot is marked that is not marked yet
@@ -144,17 +145,8 @@ moved_counted_at Scanning w r k = scan_counted w r k (ltb w.machine.tried (lengt
 moved_counted_at Collecting w r k = collect_counted w r k (ltb w.machine.tried (length w.counts.marked)) refl
 
 -- so after the moves up to the next load
-settled_in_counted : (n : ℕ) (w : Work) → Midway w → IsKept w.counts → IsKept (settled_in n w).counts
-settled_in_counted zero w m k = k
-settled_in_counted (suc n) w m k = go (is_due w) refl (settled_in_counted n (moved_at w.machine.phase w))
-  where
-    go : (b : Bool) → is_due w ≡ b → (Midway (moved_at w.machine.phase w) → IsKept (moved_at w.machine.phase w).counts → IsKept (settled_in n (moved_at w.machine.phase w)).counts) → IsKept (cond b w (settled_in n (moved_at w.machine.phase w))).counts
-    go true e r = k
-    go false e r = r (moved_midway w m e) (moved_counted_at w.machine.phase w (rules_midway w m) k)
-
 settled_counted : (w : Work) → Midway w → IsKept w.counts → IsKept (settled w).counts
-unfolding settled
-settled_counted w m k = settled_in_counted (moves_left w.machine.phase w) w m k
+settled_counted w m k = (settled_by (λ v. Midway v × IsKept v.counts) (λ v h d. (moved_midway v h.0 d, moved_counted_at v.machine.phase v (rules_midway v h.0) h.1)) w (m, k)).1
 
 -- after its start
 pub started_counted : (fields : ℕ) (s : State) → 0 < fields → IsKept s → IsReady s → IsKept (started_of fields s).counts
@@ -172,4 +164,4 @@ took_counted m s a b word lead k =
     let w : Work = record { machine = m; counts = s } in
     let u : State = learnt_at m.phase s (target_of word) in
     let k' : IsKept u = learnt_counted m.phase s m.done (target_of word) (rules_midway w (at_work_midway m s a)) (at_work_due m s a) (in_range_if s (target_of word) lead) k in
-    subst (λ (v : Work). IsKept v.counts) (sym (took_busy w word m.phase refl b)) (settled_counted (record { machine = advanced m; counts = u }) (going_midway (learns a b word lead)) k')
+    subst (λ (v : Work). IsKept v.counts) (sym (took_busy w word b)) (settled_counted (record { machine = advanced m; counts = u }) (going_midway (learns a b word lead)) k')

@@ -52,20 +52,17 @@ seen p s w = record { node = get_or (queue_at p s) s.at 0; field = s.field; word
 
 -- marking
 
+-- a node that is not Gray becomes Gray
 abbrev pub touch_if : Bool → Deletion → ℕ → Deletion
 touch_if true s x = s
 touch_if false s x = record s { colour = changed s.colour x Gray; cyclic = changed s.cyclic x (s.count x); marked = s.marked ++ x ∷ [] }
-
--- a node that is not Gray becomes Gray
-abbrev pub touch : Deletion → ℕ → Deletion
-touch s x = touch_if (is_gray (s.colour x)) s x
 
 abbrev pub take_one : Deletion → ℕ → Deletion
 take_one s x = record s { cyclic = changed s.cyclic x (s.cyclic x - 1) }
 
 abbrev pub mark_word : Deletion → ℕ → Deletion
 mark_word s zero = s
-mark_word s (suc x) = take_one (touch s x) x
+mark_word s (suc x) = take_one (touch_if (is_gray (s.colour x)) s x) x
 
 -- scanning
 
@@ -145,16 +142,21 @@ one_at Marking s = one_root s.roots s
 one_at Scanning s = try_scan (ltb s.tried (length s.marked)) s
 one_at Collecting s = try_collect (ltb s.tried (length s.marked)) s
 
--- a trial with what it loaded in marking, in scanning and in collecting, the last load first
-pub record Story : Type 0 where
-  pub state : Deletion
+-- the words that a trial loaded in marking, in scanning and in collecting, the last one first
+pub record Loads : Type 0 where
   pub marks : List Seen
   pub blacks : List Seen
   pub finds : List Seen
 
+abbrev pub with_load : Phase → Seen → Loads → Loads
+with_load Idle l ls = ls
+with_load Marking l ls = record ls { marks = l ∷ ls.marks }
+with_load Scanning l ls = record ls { blacks = l ∷ ls.blacks }
+with_load Collecting l ls = record ls { finds = l ∷ ls.finds }
+
 -- the load that is due gave this word, and the place moves on
-abbrev pub told_at : Phase → Story → ℕ → Story
-told_at Idle v w = v
-told_at Marking v w = record v { state = advance Marking (mark_word v.state w); marks = seen Marking v.state w ∷ v.marks }
-told_at Scanning v w = record v { state = advance Scanning (scan_word v.state w); blacks = seen Scanning v.state w ∷ v.blacks }
-told_at Collecting v w = record v { state = advance Collecting (find_word v.state w); finds = seen Collecting v.state w ∷ v.finds }
+abbrev pub told_at : Phase → Deletion → ℕ → Deletion
+told_at Idle s w = s
+told_at Marking s w = advance Marking (mark_word s w)
+told_at Scanning s w = advance Scanning (scan_word s w)
+told_at Collecting s w = advance Collecting (find_word s w)

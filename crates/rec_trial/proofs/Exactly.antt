@@ -1,65 +1,126 @@
 -- What a trial promises on words that do not change.
-use Rattle.std.proofs.Common.{◌≡◌, ℕ, suc, Some, List, map, ap, ◌∙◌, arith, inl, inr}
-use Rattle.rec_word.specs.Word.{target_of, predecessor}
-use Rattle.rec_counts.specs.Counts.{State}
+use Rattle.std.proofs.Common.{◌≡◌, ℕ, zero, suc, ◌+◌, ◌-◌, ◌<◌, ◌≤◌, false, eqb, Some, List, [], ◌∷◌, map, refl, sym, ap, ◌∙◌, arith, ◌⊎◌, inl, inr, cond}
+use Rattle.std.proofs.lemmas.Bool.Decides.{nat_tests}
+use Rattle.rec_word.specs.Word.{target_of, predecessor, target_bits}
+use Rattle.rec_counts.specs.Counts.{State, slot_at}
+use Rattle.rec_counts.specs.Lists.{one}
+use Rattle.rec_counts.specs.Lists as in_counts
+use Rattle.rec_counts.specs.Colour.{is_white}
+use Rattle.rec_walk.specs.Load.{Load}
 use Rattle.rec_trial.specs.Loaded.{Run, run_of}
 use Rattle.rec_trial.specs.Still.{AreStill, IsSeed, IsReached, IsHeld, IsExact, TrialIsExact, references, rest}
 use Rattle.rec_trial.specs.Still as still
 use Rattle.rec_trial.specs.Tried.{members}
 use Rattle.rec_trial.proofs.Course.{first_view}
-use Rattle.rec_trial.proofs.Holding.{Over, Seed, FromRoot, Live, Exact}
+use Rattle.rec_trial.proofs.Deletion.{Seen, Deletion}
+use Rattle.rec_trial.proofs.Done.{all_of, within_of, no_white_left}
+use Rattle.rec_trial.proofs.Holding.{named, loaded, edges, Finished, Over, Placed, Seed, Reached, Hot}
 use Rattle.rec_trial.proofs.Holding as law
-use Rattle.rec_trial.proofs.Readings.{code_some, codes, still_tells, references_read}
-use Rattle.rec_trial.proofs.Runs.{Told, told_run, seen_of}
+use Rattle.rec_trial.proofs.Readings.{code_some, codes, references_read}
+use Rattle.rec_trial.proofs.Runs.{Told, told_run, seen_of, seen_in}
 use Rattle.rec_trial.proofs.Steps.{bits_suc}
-use Rattle.rec_trial.proofs.Stills.{exact}
-use Rattle.rec_trial.proofs.Totals.{occurs}
+use Rattle.rec_trial.proofs.Totals.{total, total_below, same, times, occurs, first_whole}
 use Rattle.rec_trial.proofs.Views.{view}
-use Rattle.rec_trial.proofs.Whole.{ended, is_over, none_idle, over_of}
+use Rattle.rec_trial.proofs.Whole.{is_over, over_of}
 
--- a word leads to a slot where its code says so
-leads : (word : ℕ → ℕ → ℕ) (n g x : ℕ) → codes word n g ≡ suc x → target_of (word n g) ≡ Some x
-leads word n g x h = ap predecessor h ∙ bits_suc x
+-- a load of a field of a node led to another
+record Edge (word : ℕ → ℕ → ℕ) (n x : ℕ) (ls : List Seen) : Type 0 where
+  field : ℕ
+  leads : target_of (word n field) ≡ Some x
+  was_loaded : 0 < loaded n field ls
 
-module _ (fields : ℕ) (word : ℕ → ℕ → ℕ) (before : State) where
-  seed_read : {x : ℕ} → Seed (first_view fields before) x → IsSeed before x
-  seed_read {x} k = record { root = omega (arith, occurs x before.roots, k.root); purple = k.is_purple; unreleased = k.live }
+edge_from : (word : ℕ → ℕ → ℕ) (n x : ℕ) (loads : List Load) → AreStill word loads → 0 < edges n x (map seen_of loads) → Edge word n x (map seen_of loads)
+edge_from word n x [] t h = absurd (omega arith)
+edge_from word n x (l ∷ loads) t h = go (split n x (seen_of l) (edges n x (map seen_of loads)) h) (edge_from word n x loads t.1)
+  where
+    split : (n x : ℕ) (l : Seen) (m : ℕ) → 0 < cond (eqb n l.node) (same (suc x) l.word) 0 + m → ((n ≡ l.node) × (suc x ≡ l.word)) ⊎ (0 < m)
+    split n x l m h = grind (arith, nat_tests)
 
-  read_seed : {x : ℕ} → IsSeed before x → Seed (first_view fields before) x
-  read_seed {x} k = record { root = omega (arith, occurs x before.roots, k.root); is_purple = k.purple; live = k.unreleased }
+    go : ((n ≡ l.slot) × (suc x ≡ target_bits l.word)) ⊎ (0 < edges n x (map seen_of loads)) → (0 < edges n x (map seen_of loads) → Edge word n x (map seen_of loads)) → Edge word n x (map seen_of (l ∷ loads))
+    go (inl q) r = record { field = l.field; leads = ap (λ k. target_of (word k l.field)) q.0 ∙ ap target_of (sym t.0) ∙ ap predecessor (sym q.1) ∙ bits_suc x; was_loaded = grind (arith, nat_tests, q.0) }
+    go (inr k) r = let e : Edge word n x (map seen_of loads) = r k in record { field = e.field; leads = e.leads; was_loaded = omega (arith, e.was_loaded) }
 
-  reached_read : {x : ℕ} → FromRoot (first_view fields before) (codes word) x → IsReached fields word before x
-  reached_read (law.FromRoot.seed k) = still.IsReached.seed (seed_read k)
-  reached_read (law.FromRoot.along {n} {x} p g l q) = still.IsReached.along (reached_read p) g l (leads word n g x q)
+named_from : (word : ℕ → ℕ → ℕ) (n g x : ℕ) (loads : List Load) → AreStill word loads → codes word n g ≡ suc x → loaded n g (map seen_of loads) ≤ named x (map seen_of loads)
+named_from word n g x [] t q = omega arith
+named_from word n g x (l ∷ loads) t q = omega (arith, named_from word n g x loads t.1 q, here (codes word) l.slot l.field (target_bits l.word) (ap target_bits t.0) q)
+  where
+    here : (code : ℕ → ℕ → ℕ) (a b c : ℕ) → c ≡ code a b → code n g ≡ suc x → cond (eqb n a) (same g b) 0 ≤ same (suc x) c
+    here code a b c e q = grind (arith, nat_tests)
 
-  read_reached : {x : ℕ} → IsReached fields word before x → FromRoot (first_view fields before) (codes word) x
-  read_reached (still.IsReached.seed k) = law.FromRoot.seed (read_seed k)
-  read_reached (still.IsReached.along {n} {x} p g l q) = law.FromRoot.along (read_reached p) g l (code_some (codes word n g) x q)
+named_sum : (word : ℕ → ℕ → ℕ) (x : ℕ) (loads : List Load) → AreStill word loads → named x (map seen_of loads) ≡ total (λ l. same (suc x) (codes word l.node l.field)) (map seen_of loads)
+named_sum word x [] t = refl
+named_sum word x (l ∷ loads) t = omega (arith, ap (λ k. same (suc x) (target_bits k)) t.0, named_sum word x loads t.1)
 
-  module _ (marked : List ℕ) where
-    held_read : {x : ℕ} → Live (first_view fields before) (codes word) marked x → IsHeld fields word marked before x
-    held_read (law.Live.warm {x} m r) = still.IsHeld.rests (omega (arith, occurs x marked, m)) (omega (arith, references_read fields word marked x, r))
-    held_read (law.Live.along {n} {x} p g l q) = still.IsHeld.along (held_read p) g l (leads word n g x q)
+module _ (fields : ℕ) (word : ℕ → ℕ → ℕ) (before : State) (r : Run) (marked work : List ℕ) (f : Finished (first_view fields before) (record (view r.work) { marked = marked; work = work }) (seen_in r)) (tm : AreStill word r.marking) (tb : AreStill word r.blackening) where
+  width : (view r.work).fields ≡ fields
+  width = f.kept.fields
 
-    read_held : {x : ℕ} → IsHeld fields word marked before x → Live (first_view fields before) (codes word) marked x
-    read_held (still.IsHeld.rests {x} m r) = law.Live.warm (omega (arith, occurs x marked, m)) (omega (arith, references_read fields word marked x, r))
-    read_held (still.IsHeld.along {n} {x} p g l q) = law.Live.along (read_held p) g l (code_some (codes word n g) x q)
+  -- a field of a marked slot leads to a marked slot
+  closed : (n g x : ℕ) → 0 < times n marked → g < fields → target_of (word n g) ≡ Some x → 0 < times x marked
+  closed n g x h l q = go (times x marked) refl
+    where
+      is_named : 0 < named x (map seen_of r.marking)
+      is_named = omega (arith, all_of f.marks_all n g (omega (arith, l, width)), named_from word n g x r.marking tm (code_some (codes word n g) x q))
+
+      go : (m : ℕ) → times x marked ≡ m → 0 < times x marked
+      go zero z = absurd (omega (arith, f.fresh x z, is_named))
+      go (suc m) z = omega arith
+
+  reached_of : {x : ℕ} → Reached (first_view fields before) (map seen_of r.marking) x → IsReached fields word before x
+  reached_of (law.Reached.seed {x} k) = still.IsReached.seed (record { root = omega (arith, occurs x before.roots, k.root); purple = k.is_purple; unreleased = k.live })
+  reached_of (law.Reached.along {n} {x} p h) =
+      let d : Edge word n x (map seen_of r.marking) = edge_from word n x r.marking tm h in
+      still.IsReached.along (reached_of p) d.field (omega (arith, width, within_of f.marks_all n d.field d.was_loaded)) d.leads
+
+  marked_of : {x : ℕ} → IsReached fields word before x → 0 < times x marked
+  marked_of (still.IsReached.seed {x} k) = f.seeds x (record { root = omega (arith, occurs x before.roots, k.root); is_purple = k.purple; live = k.unreleased })
+  marked_of (still.IsReached.along {n} {x} p g l q) = closed n g x (marked_of p) l q
+
+  rest_is : (x : ℕ) → 0 < times x marked → (view r.work).cyclic x ≡ rest fields word marked before x
+  rest_is x h =
+      let a : (view r.work).cyclic x ≡ (view r.work).count x - total (λ n. total_below (λ g. same (suc x) (codes word n g)) (view r.work).fields) marked = omega (arith, f.rest x h, named_sum word x r.marking tm, f.marks_all.swept (λ n g. same (suc x) (codes word n g)), first_whole (λ n. total_below (λ g. same (suc x) (codes word n g)) (view r.work).fields) marked) in
+      let b : (view r.work).cyclic x ≡ (view r.work).count x - total (λ n. total_below (λ g. same (suc x) (codes word n g)) fields) marked = rw width at a in
+      omega (arith, b, ap (λ (g : ℕ → ℕ). g x) f.kept.count, references_read fields word marked x)
+
+  -- a marked slot is black or a member
+  black_or_member : (x : ℕ) → 0 < times x marked → 1 ≡ times x work + times x (members r.work.counts)
+  black_or_member x h = fit (times x work) (times x (members r.work.counts)) (f.parts x) (f.once x) h (no_white_left f x h)
+    where
+      fit : {m : ℕ} (w j : ℕ) → m ≡ one (is_white ((view r.work).colour x)) + w + j → m ≤ 1 → 0 < m → is_white ((view r.work).colour x) ≡ false → 1 ≡ w + j
+      fit w j a b k c = grind arith
+
+  held_of : {x : ℕ} → Hot marked (view r.work).cyclic (map seen_of r.blackening) x → IsHeld fields word marked before x
+  held_of (law.Hot.warm {x} h p) = still.IsHeld.rests (omega (arith, occurs x marked, h)) (omega (arith, rest_is x h))
+  held_of (law.Hot.along {n} {x} p h) =
+      let d : Edge word n x (map seen_of r.blackening) = edge_from word n x r.blackening tb h in
+      still.IsHeld.along (held_of p) d.field (omega (arith, width, within_of f.blacks_all n d.field d.was_loaded)) d.leads
+
+  worked_of : {x : ℕ} → IsHeld fields word marked before x → 0 < times x work
+  worked_of (still.IsHeld.rests {x} m p) = go (times x work) refl (omega (arith, occurs x marked, m))
+    where
+      go : (n : ℕ) → times x work ≡ n → 0 < times x marked → 0 < times x work
+      go zero z h = absurd (omega (arith, rest_is x h, f.rest x h, f.enough x (omega (arith, black_or_member x h)), p))
+      go (suc n) z h = omega arith
+  worked_of (still.IsHeld.along {n} {x} p g l q) =
+      let marked_here : 0 < times n marked = omega (arith, f.parts n, worked_of p) in
+      let is_named : 0 < named x (map seen_of r.blackening) = omega (arith, all_of f.blacks_all n g (omega (arith, l, width)), worked_of p, named_from word n g x r.blackening tb (code_some (codes word n g) x q)) in
+      omega (arith, black_or_member x (closed n g x marked_here l q), f.unnamed x is_named)
+
+  is_exact : IsExact fields word before r marked
+  is_exact = record {
+    marked_reached = λ x m. reached_of (f.reached x (omega (arith, occurs x marked, m)));
+    reached_marked = λ x p. omega (arith, occurs x marked, marked_of p);
+    members_unheld = λ x m p. omega (arith, occurs x (members r.work.counts), m, worked_of p, f.parts x, f.once x);
+    unheld_members = λ x m n. unheld x (omega (arith, occurs x marked, m)) n (times x (members r.work.counts)) refl;
+  }
+    where
+      unheld : (x : ℕ) → 0 < times x marked → (IsHeld fields word marked before x → ⊥) → (n : ℕ) → times x (members r.work.counts) ≡ n → 0 < in_counts.times x (members r.work.counts)
+      unheld x h none zero z = absurd (none (held_of (f.hot x (omega (arith, black_or_member x h)))))
+      unheld x h none (suc n) z = omega (arith, occurs x (members r.work.counts))
 
 pub whole_exact : (fields : ℕ) (word : ℕ → ℕ → ℕ) (before : State) (words : List ℕ) → TrialIsExact fields word before words
 whole_exact fields word before words f k a h tm tb =
     let r : Run = run_of fields before words in
     let t : Told fields before r = told_run fields before words f k a in
-    let o : Over (first_view fields before) (view r.work) (map seen_of r.marking) (map seen_of r.blackening) (map seen_of r.collecting) = over_of fields before r t h in
-    let e : Exact (first_view fields before) (codes word) (ended fields before r t k o) = exact (first_view fields before) (codes word) (ended fields before r t k o) (record { fields = t.course.same.fields; count = t.course.same.count; released = t.course.same.released }) o.end (still_tells word r.marking tm) (still_tells word r.blackening tb) in (
-      o.marked,
-      is_over fields before r t k o (none_idle r.work.machine h),
-      record {
-        marked_reached = λ x m. reached_read fields word before (e.marked_from x (omega (arith, occurs x o.marked, m)));
-        reached_marked = λ x p. omega (arith, occurs x o.marked, e.from_marked x (read_reached fields word before p));
-        members_unheld = λ x m p. e.not_both x (omega (arith, occurs x (members r.work.counts), m)) (read_held fields word before o.marked p);
-        unheld_members = λ x m n. elim (e.member_or_live x (omega (arith, occurs x o.marked, m))) [
-          | inl j ↦ omega (arith, occurs x (members r.work.counts), j)
-          | inr p ↦ absurd (n (held_read fields word before o.marked p))
-        ];
-      },
-    )
+    let o : Over (first_view fields before) (view r.work) (seen_in r) = over_of fields before r t h in
+    (o.marked, is_over fields before r t k o h, is_exact fields word before r o.marked o.work o.end tm tb)

@@ -1,5 +1,5 @@
 -- What holds of a trial, phase by phase, on any words that name nodes which are not released.
-use Rattle.std.proofs.Common.{◌≡◌, ℕ, zero, suc, ◌+◌, ◌-◌, ◌<◌, ◌≤◌, Bool, true, false, List, [], ◌∷◌, length, get_or, eqb, ◌⊎◌, cond}
+use Rattle.std.proofs.Common.{◌≡◌, ℕ, zero, suc, ◌+◌, ◌-◌, ◌<◌, ◌≤◌, Bool, true, false, List, [], length, get_or, eqb, cond}
 use Rattle.rec_counts.specs.declared.colour.Colour.{Colour}
 use Rattle.rec_counts.specs.declared.colour.Colour.TheVariants.{Purple}
 use Rattle.rec_trial.specs.declared.phase.Phase.{Phase}
@@ -7,7 +7,7 @@ use Rattle.rec_trial.specs.declared.phase.Phase.TheVariants.{Idle, Marking, Scan
 use Rattle.rec_counts.specs.Lists.{one}
 use Rattle.rec_counts.specs.Colour.{is_black, is_gray, is_white, is_orange}
 use Rattle.rec_trial.proofs.Totals.{total, total_of_first, total_below, same, times}
-use Rattle.rec_trial.proofs.Deletion.{Seen, Deletion, Story}
+use Rattle.rec_trial.proofs.Deletion.{Seen, Deletion, Loads}
 
 -- how many of the loaded words name a node
 abbrev pub named : ℕ → List Seen → ℕ
@@ -44,79 +44,95 @@ pub record Placed (fields : ℕ) (xs : List ℕ) (at field : ℕ) (ls : List See
   pub below : field < fields
   pub rests : at ≡ length xs → field ≡ 0
 
+-- a list of nodes whose fields nothing loaded, since it is empty
+pub record NotBegun (xs : List ℕ) (ls : List Seen) : Type 0 where
+  pub nodes : xs ≡ []
+  pub loads : ls ≡ []
+
+-- what a trial never changes
+pub record SameOf (o : Deletion) (wide : ℕ) (counts : ℕ → ℕ) (out : ℕ → Bool) : Type 0 where
+  pub fields : wide ≡ o.fields
+  pub count : counts ≡ o.count
+  pub released : out ≡ o.released
+
+abbrev pub Same : Deletion → Deletion → Type 0
+Same o s = SameOf o s.fields s.count s.released
+
 -- the marked list, the rests
-pub record BaseOf (o : Deletion) (released : ℕ → Bool) (cyclic : ℕ → ℕ) (count : ℕ → ℕ) (marked : List ℕ) (marks : List Seen) : Type 0 where
+pub record BaseOf (o : Deletion) (fields : ℕ) (released : ℕ → Bool) (cyclic count : ℕ → ℕ) (marked : List ℕ) (marks : List Seen) : Type 0 where
+  pub kept : SameOf o fields count released
   pub once : (x : ℕ) → times x marked ≤ 1
   pub alive : (x : ℕ) → released x ≡ true → times x marked ≡ 0
   pub rest : (x : ℕ) → 0 < times x marked → cyclic x ≡ count x - named x marks
   pub fresh : (x : ℕ) → times x marked ≡ 0 → named x marks ≡ 0
-  pub reached : (x : ℕ) → 0 < times x marked → Reached o marks x
 
--- while marking: just the Gray nodes are marked, and each seed is marked or still a root
-pub record MarkedOf (o : Deletion) (released : ℕ → Bool) (cyclic : ℕ → ℕ) (count : ℕ → ℕ) (marked : List ℕ) (colour : ℕ → Colour) (roots : List ℕ) (work : List ℕ) (members : List ℕ) (marks : List Seen) : Type 0 where
-  pub base : BaseOf o released cyclic count marked marks
+-- just the Gray nodes are marked, and the others keep their colours
+pub record GraysOf (o : Deletion) (marked : List ℕ) (colour : ℕ → Colour) : Type 0 where
   pub grays : (x : ℕ) → times x marked ≡ one (is_gray (colour x))
   pub no_white : (x : ℕ) → is_white (colour x) ≡ false
-  pub roots_old : (x : ℕ) → 0 < times x roots → 0 < times x o.roots
   pub colours_old : (x : ℕ) → times x marked ≡ 0 → colour x ≡ o.colour x
-  pub seeds : (x : ℕ) → Seed o x → 0 < times x roots + times x marked
-  pub alive_old : released ≡ o.released
-  pub no_work : work ≡ []
-  pub no_members : members ≡ []
 
-abbrev pub Marked : Deletion → Deletion → List Seen → Type 0
-Marked o s marks = MarkedOf o s.released s.cyclic s.count s.marked s.colour s.roots s.work s.members marks
+-- each seed is marked or still a root
+pub record SeedsOf (o : Deletion) (marked roots : List ℕ) : Type 0 where
+  pub roots_old : (x : ℕ) → 0 < times x roots → 0 < times x o.roots
+  pub seeds : (x : ℕ) → Seed o x → 0 < times x roots + times x marked
 
 -- while marking, with the place in the marked list
-pub record WhileMarking (o s : Deletion) (marks blacks finds : List Seen) : Type 0 where
-  pub core : Marked o s marks
-  pub place : Placed s.fields s.marked s.at s.field marks
-  pub no_blacks : blacks ≡ []
-  pub no_finds : finds ≡ []
+pub record WhileMarking (o s : Deletion) (ls : Loads) : Type 0 where
+  pub base : BaseOf o s.fields s.released s.cyclic s.count s.marked ls.marks
+  pub open base use *
+  pub look : GraysOf o s.marked s.colour
+  pub open look use *
+  pub queue : SeedsOf o s.marked s.roots
+  pub open queue use *
+  pub reached : (x : ℕ) → 0 < times x s.marked → Reached o ls.marks x
+  pub place : Placed s.fields s.marked s.at s.field ls.marks
+  pub unscanned : NotBegun s.work ls.blacks
+  pub uncollected : NotBegun s.members ls.finds
 
--- while scanning: a marked node is Gray or in the work list, and what is there is Black and held by something outside
-pub record ScannedOf (o : Deletion) (fields : ℕ) (released : ℕ → Bool) (cyclic : ℕ → ℕ) (count : ℕ → ℕ) (marked : List ℕ) (colour : ℕ → Colour) (work : List ℕ) (members : List ℕ) (tried : ℕ) (marks blacks : List Seen) : Type 0 where
-  pub base : BaseOf o released cyclic count marked marks
-  pub marks_all : Placed fields marked (length marked) 0 marks
+-- marking is over
+pub record AllMarked (o : Deletion) (fields : ℕ) (released : ℕ → Bool) (cyclic count : ℕ → ℕ) (marked : List ℕ) (marks : List Seen) : Type 0 where
+  pub base : BaseOf o fields released cyclic count marked marks
+  pub open base use *
   pub seeds : (x : ℕ) → Seed o x → 0 < times x marked
-  pub hot : (x : ℕ) → 0 < times x work → Hot marked cyclic blacks x
+  pub reached : (x : ℕ) → 0 < times x marked → Reached o marks x
+  pub marks_all : Placed fields marked (length marked) 0 marks
+
+-- a marked node is Gray or in the work list, and what is there is Black
+pub record ScannedOf (o : Deletion) (marked work : List ℕ) (colour : ℕ → Colour) : Type 0 where
   pub parts : (x : ℕ) → times x marked ≡ one (is_gray (colour x)) + times x work
   pub worked : (x : ℕ) → times x work ≤ one (is_black (colour x))
   pub no_white : (x : ℕ) → is_white (colour x) ≡ false
-  pub unnamed : (x : ℕ) → 0 < named x blacks → is_gray (colour x) ≡ false
-  pub tested : (x : ℕ) → 0 < total_of_first (same x) tried marked → is_gray (colour x) ≡ true → cyclic x ≡ 0
-  pub tries : tried ≤ length marked
-  pub no_members : members ≡ []
   pub colours_old : (x : ℕ) → times x marked ≡ 0 → colour x ≡ o.colour x
 
-abbrev pub Scanned : Deletion → Deletion → List Seen → List Seen → Type 0
-Scanned o s marks blacks = ScannedOf o s.fields s.released s.cyclic s.count s.marked s.colour s.work s.members s.tried marks blacks
+-- while scanning, with the place in the work list: something outside holds what is there
+pub record WhileScanning (o s : Deletion) (ls : Loads) : Type 0 where
+  pub all : AllMarked o s.fields s.released s.cyclic s.count s.marked ls.marks
+  pub open all use *
+  pub split : ScannedOf o s.marked s.work s.colour
+  pub open split use *
+  pub hot : (x : ℕ) → 0 < times x s.work → Hot s.marked s.cyclic ls.blacks x
+  pub unnamed : (x : ℕ) → 0 < named x ls.blacks → is_gray (s.colour x) ≡ false
+  pub tested : (x : ℕ) → 0 < total_of_first (same x) s.tried s.marked → is_gray (s.colour x) ≡ true → s.cyclic x ≡ 0
+  pub tries : s.tried ≤ length s.marked
+  pub place : Placed s.fields s.work s.at s.field ls.blacks
+  pub uncollected : NotBegun s.members ls.finds
 
--- while scanning, with the place in the work list
-pub record WhileScanning (o s : Deletion) (marks blacks finds : List Seen) : Type 0 where
-  pub core : Scanned o s marks blacks
-  pub place : Placed s.fields s.work s.at s.field blacks
-  pub no_finds : finds ≡ []
-
--- while collecting: a marked node is White, or in the work list, or a member, and no Black node led to a White one or a member
-pub record CollectedOf (o : Deletion) (fields : ℕ) (released : ℕ → Bool) (cyclic : ℕ → ℕ) (count : ℕ → ℕ) (marked : List ℕ) (colour : ℕ → Colour) (work : List ℕ) (members : List ℕ) (tried : ℕ) (marks blacks finds : List Seen) : Type 0 where
-  pub base : BaseOf o released cyclic count marked marks
-  pub marks_all : Placed fields marked (length marked) 0 marks
-  pub blacks_all : Placed fields work (length work) 0 blacks
-  pub seeds : (x : ℕ) → Seed o x → 0 < times x marked
+-- scanning is over
+pub record AllScanned (o : Deletion) (fields : ℕ) (released : ℕ → Bool) (cyclic count : ℕ → ℕ) (marked work : List ℕ) (marks blacks : List Seen) : Type 0 where
+  pub all : AllMarked o fields released cyclic count marked marks
+  pub open all use *
   pub hot : (x : ℕ) → 0 < times x work → Hot marked cyclic blacks x
+  pub blacks_all : Placed fields work (length work) 0 blacks
+
+-- a marked node is White, or in the work list, or a member, and no Black node led to a White one or a member
+pub record CollectedOf (o : Deletion) (count : ℕ → ℕ) (marked work members : List ℕ) (colour : ℕ → Colour) (marks blacks : List Seen) : Type 0 where
   pub parts : (x : ℕ) → times x marked ≡ one (is_white (colour x)) + times x work + times x members
   pub worked : (x : ℕ) → times x work ≤ one (is_black (colour x))
   pub oranges : (x : ℕ) → times x members ≤ one (is_orange (colour x))
   pub unnamed : (x : ℕ) → 0 < named x blacks → one (is_white (colour x)) + times x members ≡ 0
   pub enough : (x : ℕ) → 0 < one (is_white (colour x)) + times x members → count x ≤ named x marks
-  pub tested : (x : ℕ) → 0 < total_of_first (same x) tried marked → is_white (colour x) ≡ false
-  pub tries : tried ≤ length marked
-  pub found : (x : ℕ) → 0 < named x finds → is_white (colour x) ≡ false
   pub colours_old : (x : ℕ) → times x marked ≡ 0 → colour x ≡ o.colour x
-
-abbrev pub Collected : Deletion → Deletion → List Seen → List Seen → List Seen → Type 0
-Collected o s marks blacks finds = CollectedOf o s.fields s.released s.cyclic s.count s.marked s.colour s.work s.members s.tried marks blacks finds
 
 -- sets in order of finding: no loaded word of a set names a node of a later one
 pub record OrderedOf (members : List ℕ) (set_of : ℕ → ℕ) (sets at : ℕ) (finds : List Seen) : Type 0 where
@@ -126,96 +142,44 @@ pub record OrderedOf (members : List ℕ) (set_of : ℕ → ℕ) (sets at : ℕ)
   pub sources : (n x : ℕ) → 0 < edges n x finds → 0 < times n members
   pub backward : (n x : ℕ) → 0 < edges n x finds → 0 < times x members → set_of x ≤ set_of n
 
-abbrev pub Ordered : Deletion → List Seen → Type 0
-Ordered s finds = OrderedOf s.members s.set_of s.sets s.at finds
-
 -- while collecting, with the place among the members
-pub record WhileCollecting (o s : Deletion) (marks blacks finds : List Seen) : Type 0 where
-  pub core : Collected o s marks blacks finds
-  pub place : Placed s.fields s.members s.at s.field finds
-  pub order : Ordered s finds
+pub record WhileCollecting (o s : Deletion) (ls : Loads) : Type 0 where
+  pub scanned : AllScanned o s.fields s.released s.cyclic s.count s.marked s.work ls.marks ls.blacks
+  pub open scanned use *
+  pub split : CollectedOf o s.count s.marked s.work s.members s.colour ls.marks ls.blacks
+  pub open split use *
+  pub tested : (x : ℕ) → 0 < total_of_first (same x) s.tried s.marked → is_white (s.colour x) ≡ false
+  pub tries : s.tried ≤ length s.marked
+  pub found : (x : ℕ) → 0 < named x ls.finds → is_white (s.colour x) ≡ false
+  pub place : Placed s.fields s.members s.at s.field ls.finds
+  pub order : OrderedOf s.members s.set_of s.sets s.at ls.finds
 
 -- when all members are worked off, and all marked nodes were looked at
-pub record Finished (o s : Deletion) (marks blacks finds : List Seen) : Type 0 where
-  pub core : Collected o s marks blacks finds
-  pub place : Placed s.fields s.members s.at s.field finds
-  pub order : Ordered s finds
+pub record Finished (o s : Deletion) (ls : Loads) : Type 0 where
+  pub now : WhileCollecting o s ls
+  pub open now use *
   pub all_found : s.at ≡ length s.members
   pub all_tried : s.tried ≡ length s.marked
 
 -- a trial that is over, and what was marked and what became Black in it
-pub record Over (o s : Deletion) (marks blacks finds : List Seen) : Type 0 where
+pub record Over (o s : Deletion) (ls : Loads) : Type 0 where
   pub marked : List ℕ
   pub work : List ℕ
-  pub end : Finished o (record s { marked = marked; work = work }) marks blacks finds
+  pub end : Finished o (record s { marked = marked; work = work }) ls
   pub no_marked : s.marked ≡ []
   pub no_work : s.work ≡ []
 
 -- what holds in each phase
-abbrev pub inv_at : Phase → Deletion → Deletion → List Seen → List Seen → List Seen → Type 0
-inv_at Idle o s marks blacks finds = Over o s marks blacks finds
-inv_at Marking o s marks blacks finds = WhileMarking o s marks blacks finds
-inv_at Scanning o s marks blacks finds = WhileScanning o s marks blacks finds
-inv_at Collecting o s marks blacks finds = WhileCollecting o s marks blacks finds
+abbrev pub inv_at : Phase → Deletion → Deletion → Loads → Type 0
+inv_at Idle o s ls = Over o s ls
+inv_at Marking o s ls = WhileMarking o s ls
+inv_at Scanning o s ls = WhileScanning o s ls
+inv_at Collecting o s ls = WhileCollecting o s ls
 
-abbrev pub Inv : Deletion → Deletion → List Seen → List Seen → List Seen → Type 0
-Inv o s marks blacks finds = inv_at s.phase o s marks blacks finds
-
--- what a trial never changes
-pub record Same (s t : Deletion) : Type 0 where
-  pub fields : t.fields ≡ s.fields
-  pub count : t.count ≡ s.count
-  pub released : t.released ≡ s.released
+abbrev pub Inv : Deletion → Deletion → Loads → Type 0
+Inv o s ls = inv_at s.phase o s ls
 
 -- a word names nothing, or a node that is not released
 abbrev pub Alive : (ℕ → Bool) → ℕ → Type 0
 Alive released zero = Unit {0}
 Alive released (suc x) = released x ≡ false
-
--- where a trial may begin
-pub record Ready (s : Deletion) : Type 0 where
-  pub wide : 0 < s.fields
-  pub no_gray : (x : ℕ) → is_gray (s.colour x) ≡ false
-  pub no_white : (x : ℕ) → is_white (s.colour x) ≡ false
-
--- what a trial promises on any words that name unreleased nodes, in every state
-pub record Careful (s : Deletion) (v : Story) : Type 0 where
-  pub counts : v.state.count ≡ s.count
-  pub marks_once : (n g : ℕ) → loaded n g v.marks ≤ 1
-  pub blacks_once : (n g : ℕ) → loaded n g v.blacks ≤ 1
-  pub finds_once : (n g : ℕ) → loaded n g v.finds ≤ 1
-  pub sets_once : (x : ℕ) → times x v.state.members ≤ 1
-  pub sets_alive : (x : ℕ) → 0 < times x v.state.members → s.released x ≡ false
-
--- and once it is done
-pub record Right (s : Deletion) (v : Story) : Type 0 where
-  pub enough : (x : ℕ) → 0 < times x v.state.members → s.count x ≤ named x v.marks
-  pub member_or_black : (x : ℕ) → 0 < times x v.state.marked → times x v.state.members + one (is_black (v.state.colour x)) ≡ 1
-  pub unnamed : (x : ℕ) → 0 < named x v.blacks → times x v.state.members ≡ 0
-  pub members_marked : (x : ℕ) → times x v.state.members ≤ times x v.state.marked
-  pub none_later : (n x : ℕ) → 0 < edges n x v.finds → 0 < times x v.state.members → v.state.set_of x ≤ v.state.set_of n
-
--- each loaded word is the one of its place
-abbrev pub Tells : (ℕ → ℕ → ℕ) → List Seen → Type 0
-Tells word [] = Unit {0}
-Tells word (l ∷ ls) = (l.word ≡ word l.node l.field) × Tells word ls
-
--- on a path of fields from a purple root that is not released
-pub data FromRoot (o : Deletion) (word : ℕ → ℕ → ℕ) : ℕ → Type 0 where
-  seed : {x : ℕ} → Seed o x → FromRoot o word x
-  along : {n x : ℕ} → FromRoot o word n → (g : ℕ) → g < o.fields → word n g ≡ suc x → FromRoot o word x
-
--- the fields of the marked nodes that name a node
-abbrev pub fields_naming : (ℕ → ℕ → ℕ) → ℕ → List ℕ → ℕ → ℕ
-fields_naming word fields marked x = total (λ n. total_below (λ g. same (suc x) (word n g)) fields) marked
-
--- on a path of fields from a marked node with a rest
-pub data Live (o : Deletion) (word : ℕ → ℕ → ℕ) (marked : List ℕ) : ℕ → Type 0 where
-  warm : {x : ℕ} → 0 < times x marked → 0 < o.count x - fields_naming word o.fields marked x → Live o word marked x
-  along : {n x : ℕ} → Live o word marked n → (g : ℕ) → g < o.fields → word n g ≡ suc x → Live o word marked x
-
-pub record Exact (o : Deletion) (word : ℕ → ℕ → ℕ) (v : Story) : Type 0 where
-  pub marked_from : (x : ℕ) → 0 < times x v.state.marked → FromRoot o word x
-  pub from_marked : (x : ℕ) → FromRoot o word x → 0 < times x v.state.marked
-  pub member_or_live : (x : ℕ) → 0 < times x v.state.marked → (0 < times x v.state.members) ⊎ Live o word v.state.marked x
-  pub not_both : (x : ℕ) → 0 < times x v.state.members → Live o word v.state.marked x → ⊥

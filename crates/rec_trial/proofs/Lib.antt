@@ -1,16 +1,12 @@
-pub mod Bounds
-pub mod Finds
 pub mod Deletion
 pub mod Done
 pub mod Holding
 pub mod Keeps
 pub mod Marks
-pub mod Moving
 pub mod Orders
 pub mod Places
 pub mod Promised
 pub mod Scans
-pub mod Stills
 pub mod Totals
 pub mod Turns
 pub mod Views

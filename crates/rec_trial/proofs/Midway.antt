@@ -1,5 +1,5 @@
 -- A trial that goes on without a load: what holds of it, and what its next move requires.
-use Rattle.std.proofs.Common.{◌≡◌, ℕ, ◌<◌, Bool, true, false, eqb, ltb, cond, List, [], ◌∷◌, ◌++◌, length, map, refl, sym, ap, subst, ◌∙◌, arith}
+use Rattle.std.proofs.Common.{◌≡◌, ℕ, ◌<◌, Bool, true, false, eqb, ltb, cond, List, [], ◌∷◌, ◌++◌, length, refl, sym, ap, subst, ◌∙◌, arith}
 use Rattle.std.specs.List.{concat}
 use Rattle.std.proofs.lemmas.Bool.Decides.{nat_tests}
 use Rattle.rec_counts.specs.Counts.{State, IsKept, slot_at}
@@ -10,14 +10,14 @@ use Rattle.rec_counts.proofs.Keeping.{roots_once}
 use Rattle.rec_counts.proofs.Times.{times-nil, times-cons, times-append, one-le}
 use Rattle.rec_trial.specs.declared.phase.Phase.{Phase}
 use Rattle.rec_trial.specs.declared.phase.Phase.TheVariants.{Idle, Marking, Scanning, Collecting}
-use Rattle.rec_trial.specs.Loaded.{Run, IsAtWork, GoesOn, begins, learns, run_of}
+use Rattle.rec_trial.specs.Loaded.{IsAtWork, GoesOn, begins, learns, run_of}
 use Rattle.rec_trial.specs.Rules.{IsReady, RulesAt, released_among}
 use Rattle.rec_trial.specs.Trial.{Machine, Work, is_due, moved_at, settled}
 use Rattle.rec_trial.proofs.Course.{Course, first_view, moved_course, released_same}
-use Rattle.rec_trial.proofs.Deletion.{Seen}
+use Rattle.rec_trial.proofs.Deletion.{Loads}
 use Rattle.rec_trial.proofs.Holding.{inv_at}
 use Rattle.rec_trial.proofs.Rest.{Rest}
-use Rattle.rec_trial.proofs.Runs.{Told, seen_of, learnt_course, opened_course, told_run}
+use Rattle.rec_trial.proofs.Runs.{Told, seen_in, learnt_course, opened_course, told_run}
 use Rattle.rec_trial.proofs.Settling.{settled_at_once, settled_after}
 use Rattle.rec_trial.proofs.Totals.{occurs}
 use Rattle.rec_trial.proofs.Views.{view}
@@ -28,37 +28,22 @@ pub record Midway (w : Work) : Type 0 where
   pub before : State
   pub kept : IsKept before
   pub ready : IsReady before
-  pub marks : List Seen
-  pub blacks : List Seen
-  pub finds : List Seen
-  pub course : Course fields before w marks blacks finds
+  pub loads : Loads
+  pub course : Course fields before w loads
 
 -- a trial at work
 pub at_work_told : (m : Machine) (s : State) (a : IsAtWork m s) → Told m.fields a.before (run_of m.fields a.before a.words)
 at_work_told m s a = told_run m.fields a.before a.words a.wide a.ready a.named
 
-pub at_work_course : (m : Machine) (s : State) (a : IsAtWork m s) → Course m.fields a.before (record { machine = m; counts = s }) (map seen_of (run_of m.fields a.before a.words).marking) (map seen_of (run_of m.fields a.before a.words).blackening) (map seen_of (run_of m.fields a.before a.words).collecting)
-at_work_course m s a =
-    let r : Run = run_of m.fields a.before a.words in
-    subst (λ v. Course m.fields a.before v (map seen_of r.marking) (map seen_of r.blackening) (map seen_of r.collecting)) (sym a.is) (at_work_told m s a).course
+pub at_work_course : (m : Machine) (s : State) (a : IsAtWork m s) → Course m.fields a.before (record { machine = m; counts = s }) (seen_in (run_of m.fields a.before a.words))
+at_work_course m s a = subst (λ v. Course m.fields a.before v (seen_in (run_of m.fields a.before a.words))) (sym a.is) (at_work_told m s a).course
 
 pub at_work_due : (m : Machine) (s : State) → IsAtWork m s → is_due (record { machine = m; counts = s }) ≡ true
 at_work_due m s a = ap is_due a.is ∙ (at_work_told m s a).due
 
 pub going_midway : {m : Machine} {s : State} → GoesOn m s → Midway (record { machine = m; counts = s })
-going_midway (begins {fields} {s} f kept ready) = record { fields = fields; before = s; kept = kept; ready = ready; marks = []; blacks = []; finds = []; course = opened_course fields s f ready }
-going_midway (learns {m} {s} a busy word lead) =
-    let w : Work = record { machine = m; counts = s } in
-    record {
-      fields = m.fields;
-      before = a.before;
-      kept = a.kept;
-      ready = a.ready;
-      marks = _;
-      blacks = _;
-      finds = _;
-      course = learnt_course w (at_work_course m s a) m.phase refl (at_work_due m s a) busy word lead;
-    }
+going_midway (begins {fields} {s} f kept ready) = record { fields = fields; before = s; kept = kept; ready = ready; loads = _; course = opened_course fields s f ready }
+going_midway (learns {m} {s} a busy word lead) = record { fields = m.fields; before = a.before; kept = a.kept; ready = a.ready; loads = _; course = learnt_course (record { machine = m; counts = s }) (at_work_course m s a) (at_work_due m s a) busy word lead }
 
 -- the released ones of some slots
 pub times_released : (x : ℕ) (s : State) (xs : List ℕ) → in_counts.times x (released_among s xs) ≡ cond (slot_at s x).released (in_counts.times x xs) 0
@@ -96,19 +81,19 @@ unlisted_now before s kept ready e old x h r =
 
 -- what the next move requires
 module _ (w : Work) (m : Midway w) where
-  rules_by : (p : Phase) → inv_at p (first_view m.fields m.before) (view w) m.marks m.blacks m.finds → Rest m.before p w.counts → RulesAt p w.counts
+  rules_by : (p : Phase) → inv_at p (first_view m.fields m.before) (view w) m.loads → Rest m.before p w.counts → RulesAt p w.counts
   rules_by Idle i r = tt
   rules_by Marking i r = record {
-    gray = λ x. occurs x w.counts.marked ∙ i.core.grays x;
-    unlisted = λ x h o. unlisted_now m.before w.counts m.kept m.ready r.free (λ y k. omega (arith, occurs y m.before.roots, i.core.roots_old y (omega (arith, occurs y w.counts.roots, k)))) x h (sym (released_same w m.course x) ∙ o);
+    gray = λ x. occurs x w.counts.marked ∙ i.grays x;
+    unlisted = λ x h o. unlisted_now m.before w.counts m.kept m.ready r.free (λ y k. omega (arith, occurs y m.before.roots, i.roots_old y (omega (arith, occurs y w.counts.roots, k)))) x h (sym (released_same w m.course x) ∙ o);
   }
   rules_by Scanning i r = record {
-    work = λ x. omega (arith, occurs x w.counts.work, i.core.worked x);
-    gray = λ x e. let n : one (is_gray (slot_at w.counts x).colour) ≡ 1 = ap one e in omega (arith, occurs x w.counts.marked, i.core.parts x);
+    work = λ x. omega (arith, occurs x w.counts.work, i.worked x);
+    gray = λ x e. let n : one (is_gray (slot_at w.counts x).colour) ≡ 1 = ap one e in omega (arith, occurs x w.counts.marked, i.parts x);
   }
   rules_by Collecting i r = record {
     roots = r.no_roots;
-    members = λ x. omega (arith, occurs x (concat w.counts.sets), i.core.oranges x);
+    members = λ x. omega (arith, occurs x (concat w.counts.sets), i.oranges x);
     few = r.few;
   }
 
@@ -116,11 +101,11 @@ module _ (w : Work) (m : Midway w) where
   rules_midway = rules_by w.machine.phase m.course.inv m.course.rest
 
   pub moved_midway : is_due w ≡ false → Midway (moved_at w.machine.phase w)
-  moved_midway d = record { fields = m.fields; before = m.before; kept = m.kept; ready = m.ready; marks = m.marks; blacks = m.blacks; finds = m.finds; course = moved_course w m.course d }
+  moved_midway d = record { fields = m.fields; before = m.before; kept = m.kept; ready = m.ready; loads = m.loads; course = moved_course w m.course d }
 
 -- what learning a word requires
 pub at_work_midway : (m : Machine) (s : State) → IsAtWork m s → Midway (record { machine = m; counts = s })
-at_work_midway m s a = record { fields = m.fields; before = a.before; kept = a.kept; ready = a.ready; marks = _; blacks = _; finds = _; course = at_work_course m s a }
+at_work_midway m s a = record { fields = m.fields; before = a.before; kept = a.kept; ready = a.ready; loads = _; course = at_work_course m s a }
 
 -- moves on the way to the next load
 pub record OnTheWay (first now : Work) : Type 0 where

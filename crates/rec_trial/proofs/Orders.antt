@@ -1,11 +1,10 @@
 -- Sets in order of finding.
 use Rattle.std.proofs.Common.{◌≡◌, ℕ, zero, suc, ◌+◌, ◌<◌, ◌≤◌, Bool, true, false, eqb, List, [], ◌∷◌, ◌++◌, length, get_or, refl, arith, ◌⊎◌, inl, inr, cond}
 use Rattle.std.proofs.lemmas.Bool.Decides.{nat_tests}
-use Rattle.rec_trial.proofs.Totals.{same, times, changed}
 use Rattle.rec_trial.proofs.Deletion.{Seen, next_at}
 use Rattle.rec_trial.proofs.Holding.{OrderedOf, named, edges}
-use Rattle.rec_trial.proofs.Totals.{get_grown, times_here}
-use Rattle.rec_trial.proofs.Marks.{times_push, pick}
+use Rattle.rec_trial.proofs.Totals.{same, times, changed, get_grown, times_here}
+use Rattle.rec_trial.proofs.Marks.{times_push, push_kept}
 
 pub ordered_none : (set_of : ℕ → ℕ) (sets : ℕ) → OrderedOf [] set_of sets 0 []
 ordered_none set_of sets = record {
@@ -60,11 +59,13 @@ module _ (members : List ℕ) (set_of : ℕ → ℕ) (sets at : ℕ) (finds : Li
   -- a node that no loaded word names joins the last set
   pub ordered_join : (x : ℕ) → 0 < sets → named x finds ≡ 0 → times x members ≡ 0 → OrderedOf (members ++ x ∷ []) (changed set_of x sets) sets at finds
   ordered_join x some none new = record {
-    bounded = λ y h. bounded_at y (pick y x (times y members) (omega (arith, times_push y x members)));
-    positive = λ y h. positive_at y (pick y x (times y members) (omega (arith, times_push y x members)));
+    bounded = push_kept (λ y. changed set_of x sets y ≤ sets) x members (omega (arith, put_here x refl)) (λ y h. omega (arith, put_other y h, d.bounded y h));
+    positive = push_kept (λ y. 0 < changed set_of x sets y) x members (omega (arith, put_here x refl)) (λ y h. omega (arith, put_other y h, d.positive y h));
     current = λ k a c. current_at k a (get_push members x k c);
     sources = λ n y e. omega (arith, times_push n x members, d.sources n y e);
-    backward = λ n y e k. backward_at n y e (pick y x (times y members) (omega (arith, times_push y x members)));
+    backward = λ n y e k. push_kept (λ y. 0 < edges n y finds → changed set_of x sets y ≤ changed set_of x sets n) x members
+        (λ e. absurd (omega (arith, edge_named n x finds, none)))
+        (λ y h e. omega (arith, put_other y h, put_other n (d.sources n y e), d.backward n y e h)) y k e;
   }
     where
       put_here : (y : ℕ) → y ≡ x → changed set_of x sets y ≡ sets
@@ -73,21 +74,9 @@ module _ (members : List ℕ) (set_of : ℕ → ℕ) (sets at : ℕ) (finds : Li
       put_other : (y : ℕ) → 0 < times y members → changed set_of x sets y ≡ set_of y
       put_other y h = grind (arith, nat_tests, new)
 
-      bounded_at : (y : ℕ) → (y ≡ x) ⊎ (0 < times y members) → changed set_of x sets y ≤ sets
-      bounded_at y (inl e) = omega (arith, put_here y e)
-      bounded_at y (inr h) = omega (arith, put_other y h, d.bounded y h)
-
-      positive_at : (y : ℕ) → (y ≡ x) ⊎ (0 < times y members) → 0 < changed set_of x sets y
-      positive_at y (inl e) = omega (arith, put_here y e)
-      positive_at y (inr h) = omega (arith, put_other y h, d.positive y h)
-
       current_at : (k : ℕ) → at ≤ k → (k < length members) ⊎ (get_or (members ++ x ∷ []) k 0 ≡ x) → changed set_of x sets (get_or (members ++ x ∷ []) k 0) ≡ sets
       current_at k a (inl h) = rw (get_grown members (x ∷ []) k h) (omega (arith, put_other (get_or members k 0) (times_here members k h), d.current k a h))
       current_at k a (inr e) = put_here (get_or (members ++ x ∷ []) k 0) e
-
-      backward_at : (n y : ℕ) → 0 < edges n y finds → (y ≡ x) ⊎ (0 < times y members) → changed set_of x sets y ≤ changed set_of x sets n
-      backward_at n y e (inl q) = absurd (let z : named y finds ≡ 0 = rw q none in omega (arith, edge_named n y finds))
-      backward_at n y e (inr h) = omega (arith, put_other y h, put_other n (d.sources n y e), d.backward n y e h)
 
   -- a set begins
   pub ordered_begin : at ≡ length members → OrderedOf members set_of (suc sets) at finds

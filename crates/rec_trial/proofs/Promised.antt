@@ -6,9 +6,9 @@ use Rattle.rec_trial.specs.Loaded.{Run, noted, run_of}
 use Rattle.rec_trial.specs.Promised.{IsTrial, unloaded}
 use Rattle.rec_trial.specs.Rules.{IsReady, LeadsToUnreleased, AllLeadToUnreleased}
 use Rattle.rec_trial.specs.Trial.{Machine, Work, took_of, started_of}
-use Rattle.rec_trial.proofs.AtWork.{all_lead_more, noted_work, run_more}
+use Rattle.rec_trial.proofs.AtWork.{all_lead_more, run_more}
 use Rattle.rec_trial.proofs.Exactly.{whole_exact}
-use Rattle.rec_trial.proofs.Runs.{still_unreleased}
+use Rattle.rec_trial.proofs.Runs.{noted_work, still_unreleased}
 use Rattle.rec_trial.proofs.Whole.{whole_careful, whole_ends, whole_over}
 use Rattle.rec_trial.proofs.Witnesses.{whole_witnessed}
 

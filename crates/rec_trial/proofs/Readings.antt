@@ -5,11 +5,11 @@ use Rattle.std.proofs.lemmas.Bool.Decides.{nat_tests}
 use Rattle.std.proofs.lemmas.List.Sums.{sum_by-cons}
 use Rattle.rec_word.specs.Word.{target_of, is_slot, predecessor, target_bits}
 use Rattle.rec_counts.specs.Lists.{one}
-use Rattle.rec_walk.specs.Load.{Load}
-use Rattle.rec_trial.specs.Still.{AreStill}
+use Rattle.rec_walk.specs.Load.{Load, leads_to}
 use Rattle.rec_trial.specs.Tried as tried
 use Rattle.rec_trial.specs.Tried.{is_of}
-use Rattle.rec_trial.proofs.Holding.{named, loaded, edges, Tells}
+use Rattle.rec_trial.proofs.Deletion.{Seen}
+use Rattle.rec_trial.proofs.Holding.{named, loaded, edges}
 use Rattle.rec_trial.proofs.Runs.{seen_of}
 use Rattle.rec_trial.proofs.Steps.{bits_suc}
 use Rattle.rec_trial.proofs.Totals.{same, total, total_below}
@@ -33,32 +33,27 @@ both : (a b : Bool) → one (cond a b false) ≡ cond a (one b) 0
 both true b = refl
 both false b = refl
 
+counted : (p : Load → Bool) (f : Seen → ℕ) → ((l : Load) → one (p l) ≡ f (seen_of l)) → (loads : List Load) → count_by p loads ≡ total f (map seen_of loads)
+counted p f h [] = refl
+counted p f h (l ∷ loads) = omega (arith, sum_by-cons (λ k. one (p k)) l loads, h l, counted p f h loads)
+
 pub loaded_read : (x g : ℕ) (loads : List Load) → tried.loaded x g loads ≡ loaded x g (map seen_of loads)
 unfolding tried.loaded
-loaded_read x g [] = refl
-loaded_read x g (l ∷ loads) =
-    let here : one (is_of x g l) ≡ cond (eqb x l.slot) (same g l.field) 0 = both (eqb x l.slot) (eqb g l.field) in
-    omega (arith, sum_by-cons (λ k. one (is_of x g k)) l loads, here, loaded_read x g loads)
+loaded_read x g = counted (is_of x g) (λ l. cond (eqb x l.node) (same g l.field) 0) (λ l. both (eqb x l.slot) (eqb g l.field))
 
 pub naming_read : (x : ℕ) (loads : List Load) → tried.naming x loads ≡ named x (map seen_of loads)
 unfolding tried.naming
-naming_read x [] = refl
-naming_read x (l ∷ loads) = omega (arith, sum_by-cons (λ (k : Load). one (is_slot x (target_of k.word))) l loads, leads_code x (target_bits l.word), naming_read x loads)
+naming_read x = counted (leads_to x) (λ l. same (suc x) l.word) (λ l. leads_code x (target_bits l.word))
 
 pub edges_read : (n x : ℕ) (loads : List Load) → tried.edges n x loads ≡ edges n x (map seen_of loads)
 unfolding tried.edges
-edges_read n x [] = refl
-edges_read n x (l ∷ loads) =
-    let here : one (cond (eqb n l.slot) (is_slot x (target_of l.word)) false) ≡ cond (eqb n l.slot) (same (suc x) (target_bits l.word)) 0 = both (eqb n l.slot) (is_slot x (target_of l.word)) ∙ ap (λ m. cond (eqb n l.slot) m 0) (leads_code x (target_bits l.word)) in
-    omega (arith, sum_by-cons (λ (k : Load). one (cond (eqb n k.slot) (is_slot x (target_of k.word)) false)) l loads, here, edges_read n x loads)
+edges_read n x =
+    counted (λ l. cond (eqb n l.slot) (leads_to x l) false) (λ l. cond (eqb n l.node) (same (suc x) l.word) 0)
+    (λ l. both (eqb n l.slot) (leads_to x l) ∙ ap (λ m. cond (eqb n l.slot) m 0) (leads_code x (target_bits l.word)))
 
 -- words that do not change
 abbrev pub codes : (word : ℕ → ℕ → ℕ) → ℕ → ℕ → ℕ
 codes word n g = target_bits (word n g)
-
-pub still_tells : (word : ℕ → ℕ → ℕ) (loads : List Load) → AreStill word loads → Tells (codes word) (map seen_of loads)
-still_tells word [] a = tt
-still_tells word (l ∷ loads) a = (ap target_bits a.0, still_tells word loads a.1)
 
 -- a sum over the numbers below one, from the front
 pub below_front : (f : ℕ → ℕ) (n : ℕ) → total_below f (suc n) ≡ f 0 + total_below (λ g. f (suc g)) n

@@ -94,3 +94,16 @@ settled_after w d =
   where
     one_more : settled_in (suc (moves_left w.machine.phase w)) w ≡ settled_in (moves_left w.machine.phase w) (moved_at w.machine.phase w)
     one_more = rw d refl
+
+-- what each move keeps, all of them keep
+settled_in_by : (P : Work → Type 0) → ((w : Work) → P w → is_due w ≡ false → P (moved_at w.machine.phase w)) → (n : ℕ) (w : Work) → P w → P (settled_in n w)
+settled_in_by P more zero w h = h
+settled_in_by P more (suc n) w h = go (is_due w) refl (settled_in_by P more n (moved_at w.machine.phase w))
+  where
+    go : (b : Bool) → is_due w ≡ b → (P (moved_at w.machine.phase w) → P (settled_in n (moved_at w.machine.phase w))) → P (cond b w (settled_in n (moved_at w.machine.phase w)))
+    go true e r = h
+    go false e r = r (more w h e)
+
+pub settled_by : (P : Work → Type 0) → ((w : Work) → P w → is_due w ≡ false → P (moved_at w.machine.phase w)) → (w : Work) → P w → P (settled w)
+unfolding settled
+settled_by P more w h = settled_in_by P more (moves_left w.machine.phase w) w h

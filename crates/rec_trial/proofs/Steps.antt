@@ -50,7 +50,7 @@ touched_length s x true = refl
 touched_length s x false = length-set s.slots x (record (slot_at s x) { colour = Gray; cyclic = (slot_at s x).count })
 
 module _ (m : Machine) (s : State) where
-  view_marked : (x : ℕ) → x < length s.slots → view_of m (one_off (touched s x) x) ≡ plain.take_one (plain.touch (view_of m s) x) x
+  view_marked : (x : ℕ) → x < length s.slots → view_of m (one_off (touched s x) x) ≡ plain.take_one (plain.touch_if (is_gray (slot_at s x).colour) (view_of m s) x) x
   view_marked x l = go (is_gray (slot_at s x).colour)
     where
       go : (b : Bool) → view_of m (one_off (touched_if b s x) x) ≡ plain.take_one (plain.touch_if b (view_of m s) x) x

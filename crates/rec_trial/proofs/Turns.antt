@@ -1,150 +1,315 @@
--- One word is learnt, as functions: what holds stays.
-use Rattle.std.proofs.Common.{◌≡◌, ℕ, zero, suc, ◌<◌, Bool, true, false, ltb, List, [], ◌∷◌, ◌++◌, length, get_or, refl, sym, subst, arith, length-append}
+-- One word is learnt, or a move is made between two loads, as functions: what holds stays.
+use Rattle.std.proofs.Common.{◌≡◌, ℕ, zero, suc, ◌+◌, ◌-◌, ◌<◌, ◌≤◌, Bool, true, false, ltb, List, [], ◌∷◌, ◌++◌, length, get_or, refl, sym, subst, ◌∙◌, arith, length-append}
 use Rattle.std.proofs.lemmas.Bool.Decides.{nat_tests}
+use Rattle.rec_counts.specs.Lists.{one}
+use Rattle.rec_counts.specs.declared.colour.Colour.{Colour}
+use Rattle.rec_counts.specs.declared.colour.Colour.TheVariants.{Purple}
 use Rattle.rec_counts.specs.Colour.{is_gray, is_white}
-use Rattle.rec_trial.proofs.Totals.{changed, times}
-use Rattle.rec_trial.proofs.Deletion.{Seen, Deletion, Story, blacken_if, join_if, touch_if, take_one, mark_word, scan_word, find_word, advance, seen, due_at, told_at}
 use Rattle.rec_trial.specs.declared.phase.Phase.{Phase}
 use Rattle.rec_trial.specs.declared.phase.Phase.TheVariants.{Idle, Marking, Scanning, Collecting}
-use Rattle.rec_trial.proofs.Holding.{WhileMarking, WhileScanning, WhileCollecting, inv_at, Inv, Same, Alive, Ready}
-use Rattle.rec_trial.proofs.Marks.{marked_null, marked_old, marked_new}
-use Rattle.rec_trial.proofs.Totals.{times_here, get_grown}
-use Rattle.rec_trial.proofs.Orders.{ordered_word, ordered_join}
-use Rattle.rec_trial.proofs.Places.{placed_grow, placed_step, ltb_yes}
-use Rattle.rec_trial.proofs.Scans.{scanned_null, scanned_word, scanned_named}
-use Rattle.rec_trial.proofs.Finds.{collected_null, collected_word, collected_join}
-use Rattle.rec_trial.proofs.Moving.{unfound, unjoined}
+use Rattle.rec_trial.proofs.Totals.{total_of_first, same, times, times_here, get_grown, first_more, first_whole}
+use Rattle.rec_trial.proofs.Deletion.{Seen, Deletion, Loads, with_load, blacken_if, join_if, touch_if, take_one, mark_word, scan_word, find_word, advance, seen, due_at, told_at, whiten, has_rest, begin_set_if, try_scan, try_collect, one_root, root_if, one_at, drop_root}
+use Rattle.rec_trial.proofs.Holding.{WhileMarking, WhileScanning, WhileCollecting, CollectedOf, OrderedOf, Placed, NotBegun, Reached, Hot, Seed, named, inv_at, Inv, Alive}
+use Rattle.rec_trial.proofs.Holding as law
+use Rattle.rec_trial.proofs.Marks.{times_push, push_kept, reached_grow, edge_here, base_load, base_push, unmarked, grays_push, seeds_push, seeds_drop}
+use Rattle.rec_trial.proofs.Orders.{ordered_none, ordered_word, ordered_join, ordered_begin}
+use Rattle.rec_trial.proofs.Places.{placed_grow, placed_step, placed_all, placed_begin, ltb_no, ltb_yes}
+use Rattle.rec_trial.proofs.Scans.{hot_grow, scanned_push, collected_push}
 
-module _ (o s : Deletion) (marks blacks finds : List Seen) where
-  mark_kept : WhileMarking o s marks blacks finds → ltb s.at (length s.marked) ≡ true → (w : ℕ) → Alive s.released w → WhileMarking o (advance Marking (mark_word s w)) (seen Marking s w ∷ marks) blacks finds
-  mark_kept m d zero a = record {
-    core = marked_null o s marks m.core (get_or s.marked s.at 0) s.field;
-    place = placed_step m.place (ltb_yes s.at (length s.marked) d) 0 (ltb (suc s.field) s.fields) refl;
-    no_blacks = m.no_blacks;
-    no_finds = m.no_finds;
+clash : (b : Bool) → b ≡ true → b ≡ false → ⊥
+clash b p q = cc
+
+-- a Gray node is marked, so that no word names one that is not
+unnamed_word : (n w y : ℕ) (c : Colour) → n ≡ one (is_gray c) → (w ≡ suc y → is_gray c ≡ true) → n ≡ 0 → same (suc y) w ≡ 0
+unnamed_word n w y c e g z = grind (arith, nat_tests, g)
+
+not_purple : (c : Colour) → c ≡ Purple → is_gray c ≡ false
+not_purple c e = rw e refl
+
+module _ (o s : Deletion) (ls : Loads) where
+  -- a word in marking that names nothing, or a Gray node
+  mark_loaded : WhileMarking o s ls → s.at < length s.marked → (w : ℕ) (less : ℕ → ℕ) → ((y : ℕ) → less y ≡ s.cyclic y - same (suc y) w) → ((y : ℕ) → w ≡ suc y → is_gray (s.colour y) ≡ true) → WhileMarking o (advance Marking (record s { cyclic = less })) (with_load Marking (seen Marking s w) ls)
+  mark_loaded m d w less e g = record {
+    base = base_load m.base (seen Marking s w) less e (λ y. unnamed_word (times y s.marked) w y (s.colour y) (m.grays y) (g y));
+    look = m.look;
+    queue = m.queue;
+    reached = λ y h. reached_grow (seen Marking s w) (m.reached y h);
+    place = placed_step m.place d w (ltb (suc s.field) s.fields) refl;
+    unscanned = m.unscanned;
+    uncollected = m.uncollected;
   }
+
+  mark_kept : WhileMarking o s ls → s.at < length s.marked → (w : ℕ) → Alive s.released w → WhileMarking o (advance Marking (mark_word s w)) (with_load Marking (seen Marking s w) ls)
+  mark_kept m d zero a = mark_loaded m d 0 s.cyclic (λ y. grind (arith, nat_tests)) (λ y q. absurd (omega arith))
   mark_kept m d (suc x) a = go (is_gray (s.colour x)) refl
     where
-      go : (b : Bool) → is_gray (s.colour x) ≡ b → WhileMarking o (advance Marking (take_one (touch_if b s x) x)) (seen Marking s (suc x) ∷ marks) blacks finds
-      go true e = record {
-        core = marked_old o s marks m.core x (get_or s.marked s.at 0) s.field e;
-        place = placed_step m.place (ltb_yes s.at (length s.marked) d) (suc x) (ltb (suc s.field) s.fields) refl;
-        no_blacks = m.no_blacks;
-        no_finds = m.no_finds;
-      }
-      go false e = record {
-        core = marked_new o s marks m.core x (get_or s.marked s.at 0) s.field e a (times_here s.marked s.at (ltb_yes s.at (length s.marked) d));
-        place = placed_grow (placed_step m.place (ltb_yes s.at (length s.marked) d) (suc x) (ltb (suc s.field) s.fields) refl) (x ∷ []);
-        no_blacks = m.no_blacks;
-        no_finds = m.no_finds;
-      }
+      go : (b : Bool) → is_gray (s.colour x) ≡ b → WhileMarking o (advance Marking (take_one (touch_if b s x) x)) (with_load Marking (seen Marking s (suc x)) ls)
+      go true e = mark_loaded m d (suc x) (take_one s x).cyclic (λ y. grind (arith, nat_tests)) (λ y q. cc)
+      go false e =
+          let new : times x s.marked ≡ 0 = unmarked m.look x e in
+          let l : Seen = seen Marking s (suc x) in
+          record {
+            base = base_load (base_push m.base x new a) l (take_one (touch_if false s x) x).cyclic (λ y. grind (arith, nat_tests)) (λ y h. grind (arith, nat_tests, times_push y x s.marked));
+            look = grays_push m.look x new;
+            queue = seeds_push m.queue x;
+            reached = push_kept (Reached o (l ∷ ls.marks)) x s.marked (law.Reached.along (reached_grow l (m.reached l.node (times_here s.marked s.at d))) (edge_here l.node s.field x ls.marks)) (λ y h. reached_grow l (m.reached y h));
+            place = placed_grow (placed_step m.place d (suc x) (ltb (suc s.field) s.fields) refl) (x ∷ []);
+            unscanned = m.unscanned;
+            uncollected = m.uncollected;
+          }
 
-  scan_kept : WhileScanning o s marks blacks finds → ltb s.at (length s.work) ≡ true → (w : ℕ) → WhileScanning o (advance Scanning (scan_word s w)) marks (seen Scanning s w ∷ blacks) finds
-  scan_kept m d zero = record {
-    core = scanned_null o s marks blacks m.core (get_or s.work s.at 0) s.field;
-    place = placed_step m.place (ltb_yes s.at (length s.work) d) 0 (ltb (suc s.field) s.fields) refl;
-    no_finds = m.no_finds;
+  -- a word in scanning that names nothing Gray
+  scan_loaded : WhileScanning o s ls → s.at < length s.work → (w : ℕ) → ((y : ℕ) → w ≡ suc y → is_gray (s.colour y) ≡ false) → WhileScanning o (advance Scanning s) (with_load Scanning (seen Scanning s w) ls)
+  scan_loaded m d w none = record {
+    all = m.all;
+    split = m.split;
+    hot = λ y h. hot_grow (seen Scanning s w) (m.hot y h);
+    unnamed = λ y a. grind (arith, nat_tests, m.unnamed y, none y);
+    tested = m.tested;
+    tries = m.tries;
+    place = placed_step m.place d w (ltb (suc s.field) s.fields) refl;
+    uncollected = m.uncollected;
   }
+
+  scan_kept : WhileScanning o s ls → s.at < length s.work → (w : ℕ) → WhileScanning o (advance Scanning (scan_word s w)) (with_load Scanning (seen Scanning s w) ls)
+  scan_kept m d zero = scan_loaded m d 0 (λ y q. absurd (omega arith))
   scan_kept m d (suc x) = go (is_gray (s.colour x)) refl
     where
-      go : (b : Bool) → is_gray (s.colour x) ≡ b → WhileScanning o (advance Scanning (blacken_if b s x)) marks (seen Scanning s (suc x) ∷ blacks) finds
-      go false e = record {
-        core = scanned_word o s marks blacks m.core x (get_or s.work s.at 0) s.field e;
-        place = placed_step m.place (ltb_yes s.at (length s.work) d) (suc x) (ltb (suc s.field) s.fields) refl;
-        no_finds = m.no_finds;
-      }
-      go true e = record {
-        core = scanned_named o s marks blacks m.core x (get_or s.work s.at 0) s.field e (times_here s.work s.at (ltb_yes s.at (length s.work) d));
-        place = placed_grow (placed_step m.place (ltb_yes s.at (length s.work) d) (suc x) (ltb (suc s.field) s.fields) refl) (x ∷ []);
-        no_finds = m.no_finds;
+      go : (b : Bool) → is_gray (s.colour x) ≡ b → WhileScanning o (advance Scanning (blacken_if b s x)) (with_load Scanning (seen Scanning s (suc x)) ls)
+      go false e = scan_loaded m d (suc x) (λ y q. cc)
+      go true e = let l : Seen = seen Scanning s (suc x) in record {
+        all = m.all;
+        split = scanned_push m.split x e (m.once x);
+        hot = push_kept (Hot s.marked s.cyclic (l ∷ ls.blacks)) x s.work (law.Hot.along (hot_grow l (m.hot l.node (times_here s.work s.at d))) (edge_here l.node s.field x ls.blacks)) (λ y h. hot_grow l (m.hot y h));
+        unnamed = λ y a. grind (arith, nat_tests, m.unnamed y);
+        tested = λ y a b. grind (arith, nat_tests, m.tested y a);
+        tries = m.tries;
+        place = placed_grow (placed_step m.place d (suc x) (ltb (suc s.field) s.fields) refl) (x ∷ []);
+        uncollected = m.uncollected;
       }
 
-  find_kept : WhileCollecting o s marks blacks finds → ltb s.at (length s.members) ≡ true → (w : ℕ) → WhileCollecting o (advance Collecting (find_word s w)) marks blacks (seen Collecting s w ∷ finds)
-  find_kept m d zero = record {
-    core = collected_null o s marks blacks finds m.core (get_or s.members s.at 0) s.field;
-    place = placed_step m.place (ltb_yes s.at (length s.members) d) 0 (ltb (suc s.field) s.fields) refl;
-    order = ordered_word s.members s.set_of s.sets s.at finds m.order (ltb_yes s.at (length s.members) d) 0 s.field (ltb (suc s.field) s.fields);
+  -- a White node joins, which no loaded word names
+  joined : WhileCollecting o s ls → (x : ℕ) → is_white (s.colour x) ≡ true → (sets : ℕ) → 0 < sets → OrderedOf s.members s.set_of sets s.at ls.finds → WhileCollecting o (join_if true (record s { sets = sets }) x) ls
+  joined m x e sets some order = record {
+    scanned = m.scanned;
+    split = collected_push m.split x e (m.once x);
+    tested = λ y a. grind (arith, nat_tests, m.tested y a);
+    tries = m.tries;
+    found = λ y a. grind (arith, nat_tests, m.found y a);
+    place = placed_grow m.place (x ∷ []);
+    order = ordered_join s.members s.set_of sets s.at ls.finds order x some (unfound (named x ls.finds) (m.found x)) (unjoined (m.parts x) (m.once x));
   }
-  find_kept m d (suc x) = go (is_white (s.colour x)) refl
     where
-      go : (b : Bool) → is_white (s.colour x) ≡ b → WhileCollecting o (advance Collecting (join_if b s x)) marks blacks (seen Collecting s (suc x) ∷ finds)
-      go false e = record {
-        core = collected_word o s marks blacks finds m.core x (get_or s.members s.at 0) s.field e;
-        place = placed_step m.place (ltb_yes s.at (length s.members) d) (suc x) (ltb (suc s.field) s.fields) refl;
-        order = ordered_word s.members s.set_of s.sets s.at finds m.order (ltb_yes s.at (length s.members) d) (suc x) s.field (ltb (suc s.field) s.fields);
+      unfound : (n : ℕ) → (0 < n → is_white (s.colour x) ≡ false) → n ≡ 0
+      unfound zero h = refl
+      unfound (suc n) h = absurd (clash (is_white (s.colour x)) e (h (omega arith)))
+
+      unjoined : times x s.marked ≡ one (is_white (s.colour x)) + times x s.work + times x s.members → times x s.marked ≤ 1 → times x s.members ≡ 0
+      unjoined a b = grind arith
+
+  -- a word in collecting that names nothing White
+  find_loaded : WhileCollecting o s ls → s.at < length s.members → (w : ℕ) → ((y : ℕ) → w ≡ suc y → is_white (s.colour y) ≡ false) → WhileCollecting o (advance Collecting s) (with_load Collecting (seen Collecting s w) ls)
+  find_loaded m d w none = record {
+    scanned = m.scanned;
+    split = m.split;
+    tested = m.tested;
+    tries = m.tries;
+    found = λ y a. grind (arith, nat_tests, m.found y, none y);
+    place = placed_step m.place d w (ltb (suc s.field) s.fields) refl;
+    order = ordered_word s.members s.set_of s.sets s.at ls.finds m.order d w s.field (ltb (suc s.field) s.fields);
+  }
+
+  -- a root leaves that is no seed, or marked
+  dropped : WhileMarking o s ls → (x : ℕ) (xs : List ℕ) → s.roots ≡ x ∷ xs → (Seed o x → 0 < times x s.marked) → WhileMarking o (drop_root s x xs) ls
+  dropped m x xs r none = record {
+    base = m.base;
+    look = m.look;
+    queue = seeds_drop m.queue x xs r none;
+    reached = m.reached;
+    place = m.place;
+    unscanned = m.unscanned;
+    uncollected = m.uncollected;
+  }
+
+  -- a seed is marked
+  seeded : WhileMarking o s ls → (x : ℕ) → 0 < times x s.roots → s.colour x ≡ Purple → s.released x ≡ false → WhileMarking o (touch_if false s x) ls
+  seeded m x here e live =
+      let new : times x s.marked ≡ 0 = unmarked m.look x (not_purple (s.colour x) e) in
+      record {
+        base = base_push m.base x new live;
+        look = grays_push m.look x new;
+        queue = seeds_push m.queue x;
+        reached = push_kept (Reached o ls.marks) x s.marked (law.Reached.seed (record { root = m.roots_old x here; is_purple = sym (m.colours_old x new) ∙ e; live = rw (← m.kept.released) live })) m.reached;
+        place = placed_grow m.place (x ∷ []);
+        unscanned = m.unscanned;
+        uncollected = m.uncollected;
       }
-      go true e = record {
-        core = collected_word o (join_if true s x) marks blacks finds (collected_join o s marks blacks finds m.core x e) x (get_or s.members s.at 0) s.field (grind (arith, nat_tests));
-        place = placed_grow (placed_step m.place (ltb_yes s.at (length s.members) d) (suc x) (ltb (suc s.field) s.fields) refl) (x ∷ []);
-        order =
-            let h : s.at < length s.members = ltb_yes s.at (length s.members) d in
-            let some : 0 < s.sets = omega (arith, m.order.current s.at (omega arith) h, m.order.positive (get_or s.members s.at 0) (times_here s.members s.at h)) in
-            rw (get_grown s.members (x ∷ []) s.at h) at (ordered_word (s.members ++ x ∷ []) (changed s.set_of x s.sets) s.sets s.at finds (ordered_join s.members s.set_of s.sets s.at finds m.order x some (unfound o s marks blacks finds m.core x e) (unjoined o s marks blacks finds m.core x e)) (omega (arith, length-append s.members (x ∷ []))) (suc x) s.field (ltb (suc s.field) s.fields));
-      }
 
--- a turn keeps what holds
-pub told_kept : (o : Deletion) (p : Phase) (v : Story) → inv_at p o v.state v.marks v.blacks v.finds → v.state.phase ≡ p → due_at p v.state ≡ true → (w : ℕ) → Alive v.state.released w → Inv o (told_at p v w).state (told_at p v w).marks (told_at p v w).blacks (told_at p v w).finds
-told_kept o Idle v i e d w a = subst (λ p. inv_at p o v.state v.marks v.blacks v.finds) (sym e) i
-told_kept o Marking v i e d w a = mark_kept o v.state v.marks v.blacks v.finds i d w a
-told_kept o Scanning v i e d w a = scan_kept o v.state v.marks v.blacks v.finds i d w
-told_kept o Collecting v i e d w a = find_kept o v.state v.marks v.blacks v.finds i d w
+  scan_begun : WhileMarking o s ls → due_at Marking s ≡ false → s.roots ≡ [] → WhileScanning o (one_root [] s) ls
+  scan_begun m d r = record {
+    all = record { base = m.base; seeds = λ y k. omega (arith, m.seeds y k, no_roots y); reached = m.reached; marks_all = placed_all m.place d };
+    split = record {
+      parts = λ y. rw m.unscanned.nodes (omega (arith, m.grays y));
+      worked = λ y. rw m.unscanned.nodes (omega arith);
+      no_white = m.no_white;
+      colours_old = m.colours_old;
+    };
+    hot = λ y h. absurd (let k : 0 < times y [] = rw m.unscanned.nodes at h in omega arith);
+    unnamed = λ y h. absurd (let k : 0 < named y [] = rw m.unscanned.loads at h in omega arith);
+    tested = λ y a b. absurd (omega arith);
+    tries = omega arith;
+    place = placed_begin m.unscanned (omega (arith, m.place.below));
+    uncollected = m.uncollected;
+  }
+    where
+      no_roots : (y : ℕ) → times y s.roots ≡ 0
+      no_roots y = rw r refl
 
-mark_same : (s : Deletion) (w : ℕ) → Same s (advance Marking (mark_word s w))
-mark_same s zero = record { fields = refl; count = refl; released = refl }
-mark_same s (suc x) = go (is_gray (s.colour x))
+  -- a marked node is blackened that has a rest
+  blackened : WhileScanning o s ls → (x : ℕ) → is_gray (s.colour x) ≡ true → 0 < s.cyclic x → WhileScanning o (blacken_if true s x) ls
+  blackened m x e warm = record {
+    all = m.all;
+    split = scanned_push m.split x e (m.once x);
+    hot = push_kept (Hot s.marked s.cyclic ls.blacks) x s.work (law.Hot.warm (grind (arith, m.parts x, e)) warm) m.hot;
+    unnamed = λ y a. grind (arith, nat_tests, m.unnamed y a);
+    tested = λ y a b. grind (arith, nat_tests, m.tested y a);
+    tries = m.tries;
+    place = placed_grow m.place (x ∷ []);
+    uncollected = m.uncollected;
+  }
+
+  -- a marked node was looked at
+  scan_tried : WhileScanning o s ls → s.tried < length s.marked → (is_gray (s.colour (get_or s.marked s.tried 0)) ≡ true → s.cyclic (get_or s.marked s.tried 0) ≡ 0) → WhileScanning o (record s { phase = Scanning; tried = suc s.tried }) ls
+  scan_tried m h e = record {
+    all = m.all;
+    split = m.split;
+    hot = m.hot;
+    unnamed = m.unnamed;
+    tested = λ y a b. grind (arith, nat_tests, m.tested y, first_more (same y) s.tried s.marked h);
+    tries = h;
+    place = m.place;
+    uncollected = m.uncollected;
+  }
+
+  find_tried : WhileCollecting o s ls → s.tried < length s.marked → is_white (s.colour (get_or s.marked s.tried 0)) ≡ false → WhileCollecting o (record s { phase = Collecting; tried = suc s.tried }) ls
+  find_tried m h e = record {
+    scanned = m.scanned;
+    split = m.split;
+    tested = λ y a. grind (arith, nat_tests, m.tested y, first_more (same y) s.tried s.marked h);
+    tries = h;
+    found = m.found;
+    place = m.place;
+    order = m.order;
+  }
+
+  find_begun : WhileScanning o s ls → due_at Scanning s ≡ false → s.tried ≡ length s.marked → WhileCollecting o (try_scan false s) ls
+  find_begun m d h = record {
+    scanned = record { all = m.all; hot = m.hot; blacks_all = placed_all m.place d };
+    split = record {
+      parts = λ y. rw m.uncollected.nodes (grind (arith, nat_tests, m.parts y, m.no_white y));
+      worked = λ y. grind (arith, nat_tests, m.worked y);
+      oranges = λ y. rw m.uncollected.nodes (omega arith);
+      unnamed = λ y a. rw m.uncollected.nodes (grind (arith, nat_tests, m.unnamed y a, m.no_white y));
+      enough = λ y a. enough_at y (was_gray y a);
+      colours_old = λ y h. grind (arith, nat_tests, m.colours_old y h, m.parts y);
+    };
+    tested = λ y a. absurd (omega arith);
+    tries = omega arith;
+    found = λ y a. absurd (let k : 0 < named y [] = rw m.uncollected.loads at a in omega arith);
+    place = placed_begin m.uncollected (omega (arith, m.place.below));
+    order = rw (m.uncollected.nodes, m.uncollected.loads) (ordered_none s.set_of s.sets);
+  }
+    where
+      was_gray : (y : ℕ) → 0 < one (is_white (whiten s.colour y)) + times y s.members → is_gray (s.colour y) ≡ true
+      was_gray y a = let b : 0 < one (is_white (whiten s.colour y)) + 0 = rw m.uncollected.nodes at a in grind (arith, nat_tests, b, m.no_white y)
+
+      enough_at : (y : ℕ) → is_gray (s.colour y) ≡ true → s.count y ≤ named y ls.marks
+      enough_at y g =
+          let in_marked : 0 < times y s.marked = grind (arith, m.parts y, g) in
+          let was_tried : 0 < total_of_first (same y) s.tried s.marked = rw h (omega (arith, in_marked, first_whole (same y) s.marked)) in
+          omega (arith, m.tested y was_tried g, m.rest y in_marked)
+
+find_kept : (o s : Deletion) (ls : Loads) → WhileCollecting o s ls → s.at < length s.members → (w : ℕ) → WhileCollecting o (advance Collecting (find_word s w)) (with_load Collecting (seen Collecting s w) ls)
+find_kept o s ls m d zero = find_loaded o s ls m d 0 (λ y q. absurd (omega arith))
+find_kept o s ls m d (suc x) = go (is_white (s.colour x)) refl
   where
-    go : (b : Bool) → Same s (advance Marking (take_one (touch_if b s x) x))
-    go true = record { fields = refl; count = refl; released = refl }
-    go false = record { fields = refl; count = refl; released = refl }
+    go : (b : Bool) → is_white (s.colour x) ≡ b → WhileCollecting o (advance Collecting (join_if b s x)) (with_load Collecting (seen Collecting s (suc x)) ls)
+    go false e = find_loaded o s ls m d (suc x) (λ y q. cc)
+    go true e =
+        let some : 0 < s.sets = omega (arith, m.order.current s.at (omega arith) d, m.order.positive (get_or s.members s.at 0) (times_here s.members s.at d)) in
+        let j : WhileCollecting o (join_if true s x) ls = joined o s ls m x e s.sets some m.order in
+        rw (get_grown s.members (x ∷ []) s.at d) at (find_loaded o (join_if true s x) ls j (omega (arith, length-append s.members (x ∷ []))) (suc x) (λ y q. grind (arith, nat_tests)))
 
-scan_same : (s : Deletion) (w : ℕ) → Same s (advance Scanning (scan_word s w))
-scan_same s zero = record { fields = refl; count = refl; released = refl }
-scan_same s (suc x) = go (is_gray (s.colour x))
-  where
-    go : (b : Bool) → Same s (advance Scanning (blacken_if b s x))
-    go true = record { fields = refl; count = refl; released = refl }
-    go false = record { fields = refl; count = refl; released = refl }
+-- a word keeps what holds
+pub told_kept : (o : Deletion) (p : Phase) (s : Deletion) (ls : Loads) → inv_at p o s ls → s.phase ≡ p → due_at p s ≡ true → (w : ℕ) → Alive s.released w → Inv o (told_at p s w) (with_load p (seen p s w) ls)
+told_kept o Idle s ls i e d w a = subst (λ p. inv_at p o s ls) (sym e) i
+told_kept o Marking s ls i e d w a = mark_kept o s ls i (ltb_yes s.at (length s.marked) d) w a
+told_kept o Scanning s ls i e d w a = scan_kept o s ls i (ltb_yes s.at (length s.work) d) w
+told_kept o Collecting s ls i e d w a = find_kept o s ls i (ltb_yes s.at (length s.members) d) w
 
-find_same : (s : Deletion) (w : ℕ) → Same s (advance Collecting (find_word s w))
-find_same s zero = record { fields = refl; count = refl; released = refl }
-find_same s (suc x) = go (is_white (s.colour x))
-  where
-    go : (b : Bool) → Same s (advance Collecting (join_if b s x))
-    go true = record { fields = refl; count = refl; released = refl }
-    go false = record { fields = refl; count = refl; released = refl }
+module _ (o s : Deletion) (ls : Loads) where
+  root_kept : WhileMarking o s ls → (x : ℕ) (xs : List ℕ) → s.roots ≡ x ∷ xs → (b : Bool) → s.released x ≡ b → (c : Colour) → s.colour x ≡ c → Inv o (root_if b c s x xs) ls
+  root_kept m x xs r true e c k = dropped o s ls m x xs r (λ q. absurd (clash (s.released x) e (rw m.kept.released q.live)))
+  root_kept m x xs r false e Purple k = dropped o (touch_if false s x) ls (seeded o s ls m x (rw r (grind (arith, nat_tests))) k e) x xs r (λ q. grind (arith, nat_tests, times_push x x s.marked))
+  root_kept m x xs r false e _ k = dropped o s ls m x xs r (λ q. no_seed (times x s.marked) (m.colours_old x) q)
+    where
+      no_seed : (n : ℕ) → (n ≡ 0 → s.colour x ≡ o.colour x) → Seed o x → 0 < n
+      no_seed zero h q = let w : s.colour x ≡ Purple = h refl ∙ q.is_purple in cc
+      no_seed (suc n) h q = omega arith
 
-pub told_same : (p : Phase) (v : Story) (w : ℕ) → Same v.state (told_at p v w).state
-told_same Idle v w = record { fields = refl; count = refl; released = refl }
-told_same Marking v w = mark_same v.state w
-told_same Scanning v w = scan_same v.state w
-told_same Collecting v w = find_same v.state w
+  roots_kept : WhileMarking o s ls → due_at Marking s ≡ false → (rs : List ℕ) → s.roots ≡ rs → Inv o (one_root rs s) ls
+  roots_kept m d [] r = scan_begun o s ls m d r
+  roots_kept m d (x ∷ xs) r = root_kept m x xs r (s.released x) refl (s.colour x) refl
+
+  scan_on_kept : WhileScanning o s ls → due_at Scanning s ≡ false → (b : Bool) → ltb s.tried (length s.marked) ≡ b → Inv o (try_scan b s) ls
+  scan_on_kept m d false e = find_begun o s ls m d (omega (arith, m.tries, ltb_no s.tried (length s.marked) e))
+  scan_on_kept m d true e = go (get_or s.marked s.tried 0) refl (has_rest s (get_or s.marked s.tried 0)) refl
+    where
+      go : (x : ℕ) → get_or s.marked s.tried 0 ≡ x → (b : Bool) → has_rest s x ≡ b → WhileScanning o (record (blacken_if b s x) { phase = Scanning; tried = suc s.tried }) ls
+      go x at false q = scan_tried o s ls m (ltb_yes s.tried (length s.marked) e) (rw at (λ g. grind (arith, nat_tests)))
+      go x at true q = scan_tried o (blacken_if true s x) ls (blackened o s ls m x (grind (arith, nat_tests)) (grind (arith, nat_tests))) (ltb_yes s.tried (length s.marked) e) (rw at (λ g. grind (arith, nat_tests, g)))
+
+  collect_on_kept : WhileCollecting o s ls → due_at Collecting s ≡ false → (b : Bool) → ltb s.tried (length s.marked) ≡ b → Inv o (try_collect b s) ls
+  collect_on_kept m d false e = record {
+    marked = s.marked;
+    work = s.work;
+    end = record {
+      now = record { scanned = m.scanned; split = m.split; tested = m.tested; tries = m.tries; found = m.found; place = m.place; order = m.order };
+      all_found = omega (arith, m.place.inside, ltb_no s.at (length s.members) d);
+      all_tried = omega (arith, m.tries, ltb_no s.tried (length s.marked) e);
+    };
+    no_marked = refl;
+    no_work = refl;
+  }
+  collect_on_kept m d true e = go (get_or s.marked s.tried 0) refl (is_white (s.colour (get_or s.marked s.tried 0))) refl
+    where
+      go : (x : ℕ) → get_or s.marked s.tried 0 ≡ x → (b : Bool) → is_white (s.colour x) ≡ b → WhileCollecting o (record (begin_set_if b s x) { phase = Collecting; tried = suc s.tried }) ls
+      go x at false q = find_tried o s ls m (ltb_yes s.tried (length s.marked) e) (rw at q)
+      go x at true q =
+          let order = ordered_begin s.members s.set_of s.sets s.at ls.finds m.order (omega (arith, m.place.inside, ltb_no s.at (length s.members) d)) in
+          find_tried o (begin_set_if true s x) ls (joined o s ls m x q (suc s.sets) (omega arith) order) (ltb_yes s.tried (length s.marked) e) (rw at (grind (arith, nat_tests)))
+
+  -- a silent move keeps what holds
+  pub one_kept : (p : Phase) → inv_at p o s ls → due_at p s ≡ false → Inv o (one_at p s) ls
+  one_kept Idle i d = cc
+  one_kept Marking i d = roots_kept i d s.roots refl
+  one_kept Scanning i d = scan_on_kept i d (ltb s.tried (length s.marked)) refl
+  one_kept Collecting i d = collect_on_kept i d (ltb s.tried (length s.marked)) refl
 
 -- a trial that is about to begin
-pub opening_kept : (s : Deletion) → Ready s → s.phase ≡ Marking → s.marked ≡ [] → s.work ≡ [] → s.members ≡ [] → s.at ≡ 0 → s.field ≡ 0 → WhileMarking s s [] [] []
-opening_kept s r p m w j a f = record {
-  core = record {
-    base = record {
-      once = λ x. rw m (omega arith);
-      alive = λ x h. rw m refl;
-      rest = λ x h. absurd (let k : 0 < times x [] = rw m at h in omega arith);
-      fresh = λ x h. refl;
-      reached = λ x h. absurd (let k : 0 < times x [] = rw m at h in omega arith);
-    };
-    grays = λ x. rw (m, r.no_gray x) refl;
-    no_white = r.no_white;
-    roots_old = λ x h. h;
-    colours_old = λ x h. refl;
-    seeds = λ x k. omega (arith, k.root);
-    alive_old = refl;
-    no_work = w;
-    no_members = j;
+pub opening_kept : (s : Deletion) → 0 < s.fields → ((x : ℕ) → is_gray (s.colour x) ≡ false) → ((x : ℕ) → is_white (s.colour x) ≡ false) → s.marked ≡ [] → s.work ≡ [] → s.members ≡ [] → s.at ≡ 0 → s.field ≡ 0 → WhileMarking s s (record { marks = []; blacks = []; finds = [] })
+opening_kept s wide no_gray no_white m w j a f = record {
+  base = record {
+    kept = record { fields = refl; count = refl; released = refl };
+    once = λ x. rw m (omega arith);
+    alive = λ x h. rw m refl;
+    rest = λ x h. absurd (let k : 0 < times x [] = rw m at h in omega arith);
+    fresh = λ x h. refl;
   };
-  place = rw (m, a, f) (record {
-    swept = λ φ. refl;
-    inside = omega arith;
-    below = r.wide;
-    rests = λ q. refl;
-  });
-  no_blacks = refl;
-  no_finds = refl;
+  look = record { grays = λ x. rw (m, no_gray x) refl; no_white = no_white; colours_old = λ x h. refl };
+  queue = record { roots_old = λ x h. h; seeds = λ x k. omega (arith, k.root) };
+  reached = λ x h. absurd (let k : 0 < times x [] = rw m at h in omega arith);
+  place = rw (a, f) (placed_begin (record { nodes = m; loads = refl }) wide);
+  unscanned = record { nodes = w; loads = refl };
+  uncollected = record { nodes = j; loads = refl };
 }

@@ -24,7 +24,7 @@ pub returns-clause-took : goal.returns-clause-took
 returns-clause-took c =
     let w : Work = record { machine = c.args.self.now; counts = c.args.counts.now } in
     let e : ◌≡◌ {A = Work} (record { machine = c.settle.new.self; counts = c.settle.new.counts }) (settled (record { machine = advanced c.args.self.now; counts = learnt_at c.args.self.now.phase c.args.counts.now (target_of c.args.word) })) = rw (c.advance.ensures, c.learn.ensures, c.target.ensures.target) at c.settle.ensures in
-    c.point.ensures ∙ ap (λ (v : Work). pointed v) e ∙ sym (took_busy w c.args.word c.args.self.now.phase refl c.requires.busy)
+    c.point.ensures ∙ ap (λ (v : Work). pointed v) e ∙ sym (took_busy w c.args.word c.requires.busy)
 
 pub returns-clause-kept : goal.returns-clause-kept
 returns-clause-kept c = took_at_work c.args.self.now c.args.counts.now c.requires.kept c.args.word c.requires.named c.point.new.self c.settle.new.counts (returns-clause-took c)
