@@ -1,12 +1,12 @@
 -- What a sweep keeps of the counts.
-use Rattle.std.proofs.Common.{◌≡◌, ◌<◌, ℕ, false, eqb, inl, inr, List, [], ◌∷◌, Some, drop, slice_get, arith, refl, ap, ◌∙◌}
+use Rattle.std.proofs.Common.{◌≡◌, ℕ, false, eqb, inl, inr, [], ◌∷◌, drop, arith, refl, ap, ◌∙◌}
 use Rattle.std.proofs.lemmas.Bool.Decides.{eqb_tells}
 use Rattle.rec_counts.specs.declared.slot.Slot.{Slot}
 use Rattle.rec_counts.specs.Counts.{State, slot_at}
-use Rattle.rec_counts.specs.Lists.{one, times}
+use Rattle.rec_counts.specs.Lists.{one}
 use Rattle.rec_counts.specs.Slot.{swept_clean}
 use Rattle.rec_counts.proofs.Keeping.{field_kept}
-use Rattle.rec_counts.proofs.Times.{times-nil, times-cons, times_rest, one-same}
+use Rattle.rec_counts.proofs.Times.{times-nil, times-cons, times_rest}
 use Rattle.rec_release.specs.Sweep.{AreUnbuffered, swept}
 
 pub unbuffered_rest : (s : State) → AreUnbuffered s → AreUnbuffered (record s { free = drop 1 s.free })
