@@ -119,7 +119,7 @@ tidy_listed_if true s a e i = record {
 }
 tidy_listed_if false s a e i = record {
   untried = record { marked = i.untried.marked; no_gray = i.untried.no_gray; no_white = i.untried.no_white };
-  apart = (lists_keep s s.work (s.free ++ a.slot ∷ [])).keeps.apart i.apart;
+  apart = (lists_keep true s s.work (s.free ++ a.slot ∷ [])).apart i.apart;
   all_zeros = i.all_zeros;
   outside = outside_on s (listed_if false s a.slot) (same_lowers s (listed_if false s a.slot) (λ x. refl)) i.outside;
   listed = λ x l r u. omega (arith, i.listed x l r u, times_push x s.free a.slot);
@@ -145,9 +145,9 @@ tidy_first (z ∷ zs) s e k i =
         no_gray = kept_by_all (λ (w : Slot). is_gray w.colour) s z v (i.untried.no_gray z) i.untried.no_gray;
         no_white = kept_by_all (λ (w : Slot). is_white w.colour) s z v (i.untried.no_white z) i.untried.no_white;
       };
-      apart = subst (λ ys. IsApart (without_first ys s)) e ((next_keeps s k).keeps.apart i.apart);
+      apart = subst (λ ys. IsApart (without_first ys s)) e ((next_keeps true s k).apart i.apart);
       outside = outside_on s (without_first (z ∷ zs) s) (first_lowers (z ∷ zs) s) i.outside;
-      all_zeros = subst (λ ys. AllZerosButOrange (without_first ys s)) e ((next_keeps s k).keeps.zeros i.all_zeros);
+      all_zeros = subst (λ ys. AllZerosButOrange (without_first ys s)) e ((next_keeps true s k).zeros i.all_zeros);
       listed = λ x l r b. elim (eqb_tells x z) [
         | inl q ↦ let n : one (eqb x z) ≡ 1 = ap one q.0 in omega (arith, n)
         | inr q ↦ omega (arith, i.listed x (omega (arith, l, length-set s.slots z v)) (sym (released_same s z x q.1) ∙ r) (sym (buffered x) ∙ b))
@@ -200,7 +200,7 @@ tidy_given s k f i =
 pub tidy_listed : {fields : ℕ} → (s : State) → IsTidy fields s None → IsTidy fields (listed s) None
 tidy_listed s i = record {
   untried = record { marked = i.untried.marked; no_gray = i.untried.no_gray; no_white = i.untried.no_white };
-  apart = (lists_keep s [] (s.free ++ s.work)).keeps.apart i.apart;
+  apart = (lists_keep true s [] (s.free ++ s.work)).apart i.apart;
   all_zeros = i.all_zeros;
   outside = outside_on s (listed s) (same_lowers s (listed s) (λ x. refl)) i.outside;
   listed = λ x l r b. omega (arith, i.listed x l r b, times-append x s.free s.work);

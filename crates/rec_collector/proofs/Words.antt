@@ -12,7 +12,7 @@ use Rattle.rec_walk.specs.declared.member.Member.{Member}
 use Rattle.rec_walk.specs.Walk.{IsOf}
 use Rattle.rec_release.specs.Release.{IsAtWork, IsHeld, Machine, next_of as release_next, op_at}
 use Rattle.rec_release.specs.Sweep.{next_of as sweep_next}
-use Rattle.rec_release.proofs.Sweeping.{first_in}
+use Rattle.rec_counts.proofs.Front.{first_in}
 use Rattle.rec_sigma.specs.Prepare as preps
 use Rattle.rec_sigma.specs.Prepared.{LoadsWithin}
 use Rattle.rec_sigma.proofs.Bounds.{names_place}

@@ -16,7 +16,7 @@ use Rattle.rec_release.specs.Sweep.{next_of as sweep_next, op_at as sweep_op_at}
 use Rattle.rec_release.specs.TakenOff.{IsApart}
 use Rattle.rec_release.specs.declared.at.At.{At}
 use Rattle.rec_walk.specs.declared.member.Member.{Member}
-use Rattle.rec_release.proofs.Sweeping.{first_in}
+use Rattle.rec_counts.proofs.Front.{first_in}
 use Rattle.rec_sigma.specs.Prepare.{next_of as prep_next, op_at as prep_op_at}
 use Rattle.rec_sigma.specs.declared.at.At as loads
 use Rattle.rec_trial.specs.Trial.{Machine as Trial, next_of as trial_next, op_at as trial_op_at}

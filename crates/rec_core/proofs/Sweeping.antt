@@ -32,7 +32,7 @@ use Rattle.rec_counts.proofs.Times.{times-nil, times-cons, times_part, times_res
 use Rattle.rec_release.specs.declared.at.At.{At}
 use Rattle.rec_walk.specs.declared.member.Member.{Member}
 use Rattle.rec_release.specs.Sweep.{swept}
-use Rattle.rec_release.proofs.Sweeping.{first_in}
+use Rattle.rec_counts.proofs.Front.{first_in}
 use Rattle.rec_mutator.specs.Private.{Private}
 use Rattle.rec_mutator.specs.declared.phase.Phase as phases
 use Rattle.rec_mutator.specs.declared.phase.Phase.TheVariants as at

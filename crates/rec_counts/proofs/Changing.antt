@@ -1,13 +1,14 @@
 -- Slots that a list names are changed one after another.
-use Rattle.std.proofs.Common.{◌≡◌, ℕ, ◌+◌, ◌<◌, Bool, true, eqb, ltb, List, length, take, get_or, arith, sym, ◌∙◌, ap, inl, inr}
+use Rattle.std.proofs.Common.{◌≡◌, ℕ, ◌+◌, ◌<◌, ◌≤◌, Bool, true, false, eqb, ltb, List, length, take, get_or, refl, arith, sym, ◌∙◌, ap, inl, inr}
 use Rattle.std.proofs.Math.ListN.{set}
-use Rattle.std.proofs.lemmas.List.{get_or-set_same, get_or-set_other}
+use Rattle.std.proofs.lemmas.List.{get_or-set_same, get_or-set_other, length-set, take_all, ext_get_or}
 use Rattle.std.proofs.lemmas.Bool.{lt-ltb}
 use Rattle.std.proofs.lemmas.Bool.Decides.{eqb_tells}
 use Rattle.rec_counts.specs.declared.slot.Slot.{Slot}
+use Rattle.rec_counts.specs.Counts.{State, slot_at, with_slot}
 use Rattle.rec_counts.specs.Lists.{one, times}
 use Rattle.rec_counts.specs.Slot.{absent}
-use Rattle.rec_counts.proofs.Times.{times_more}
+use Rattle.rec_counts.proofs.Times.{times-nil, times_more}
 
 -- one slot more is changed, by a change that changes nothing where it was made before
 pub changed_more : (change : Bool → Slot → Slot) → ((b : Bool) (v : Slot) → change true (change b v) ≡ change true v) →
@@ -28,3 +29,28 @@ changed_more change twice slots old members i l r h x =
           let n : times x (take (i + 1) members) ≡ times x (take i members) = omega (arith, t, times_more x members i l) in
           get_or-set_other slots m x (change true (get_or slots m absent)) absent q.1 ∙ h x ∙ ap (λ k. change (ltb 0 k) (get_or old x absent)) (sym n)
     ]
+
+-- From s to t, those of the list before a place are changed, and nothing else.
+pub record Changed (change : Bool → Slot → Slot) (members : List ℕ) (s t : State) (i : ℕ) : Type 0 where
+  pub rest : t ≡ record s { slots = t.slots }
+  pub many : length t.slots ≡ length s.slots
+  pub slots : (x : ℕ) → slot_at t x ≡ change (ltb 0 (times x (take i members))) (slot_at s x)
+
+pub changed_none : (change : Bool → Slot → Slot) → ((v : Slot) → change false v ≡ v) → (members : List ℕ) (s t : State) → t ≡ s → Changed change members s t 0
+changed_none change same members s t e = rw e (record { rest = refl; many = refl; slots = λ x. rw (times-nil x) (sym (same (slot_at s x))) })
+
+pub changed_on : (change : Bool → Slot → Slot) → ((b : Bool) (v : Slot) → change true (change b v) ≡ change true v) → (members : List ℕ) (s t : State) (i : ℕ) → i < length members → get_or members i 0 < length s.slots →
+    Changed change members s t i → (u : State) → u ≡ with_slot t (get_or members i 0) (change true (slot_at t (get_or members i 0))) → Changed change members s u (i + 1)
+changed_on change twice members s t i l r d u e =
+    let m : ℕ = get_or members i 0 in
+    rw e (record {
+      rest = ap (λ (w : State). record w { slots = set t.slots m (change true (slot_at t m)) }) d.rest;
+      many = length-set t.slots m (change true (slot_at t m)) ∙ d.many;
+      slots = changed_more change twice t.slots s.slots members i l (omega (arith, r, d.many)) d.slots;
+    })
+
+-- all of them are changed
+pub changed_all : (change : Bool → Slot → Slot) (members : List ℕ) (s t : State) (i : ℕ) (now : List Slot) → length members ≤ i → length now ≡ length s.slots →
+    ((x : ℕ) → get_or now x absent ≡ change (ltb 0 (times x members)) (slot_at s x)) → Changed change members s t i → t ≡ record s { slots = now }
+changed_all change members s t i now l n h d = d.rest ∙ ap {A = List Slot} {B = State} (λ slots. record s { slots = slots })
+    (ext_get_or absent t.slots now (d.many ∙ sym n) (λ x m. d.slots x ∙ ap (λ xs. change (ltb 0 (times x xs)) (slot_at s x)) (take_all i members l) ∙ sym (h x)))

@@ -1,6 +1,6 @@
 -- One decrement: what it leaves, what it counts, and which slots stand in the zeros afterwards.
 use Rattle.std.proofs.Common.{◌≡◌, ℕ, ◌+◌, ◌-◌, ◌<◌, ◌≤◌, Bool, true, false, eqb, List, [], ◌∷◌, ◌++◌, length, get_or, refl, arith, sym, ◌∙◌, ap, subst, inl, inr}
-use Rattle.std.proofs.lemmas.List.{append-nil, length-set, get_or-set_same, get_or-set_other, get_or_past, set_past}
+use Rattle.std.proofs.lemmas.List.{append-nil, length-set, get_or-set_same, get_or-set_other, get_or_past}
 use Rattle.std.proofs.lemmas.Bool.{cases_lt, eq-eqb, false≢true}
 use Rattle.std.proofs.lemmas.Bool.Decides.{eqb_tells}
 use Rattle.rec_counts.specs.declared.slot.Slot.{Slot}
@@ -10,7 +10,7 @@ use Rattle.rec_counts.specs.Counts.{State, slot_at, with_slot, sent, decremented
 use Rattle.rec_counts.specs.Lists.{one, times}
 use Rattle.rec_counts.specs.Rest.{KeepsRest, AreZeros, AllZeros}
 use Rattle.rec_counts.specs.Slot.{absent, lessened, lessened_if, due_of, due_if}
-use Rattle.rec_counts.proofs.Keeping.{field_kept, keep_slot}
+use Rattle.rec_counts.proofs.Keeping.{field_kept, keep_slot, less_at}
 use Rattle.rec_counts.proofs.Lessening.{to_zeros, to_roots, keep_zero, keep_root, ToNothing, to_nothing}
 use Rattle.rec_counts.proofs.Times.{times-nil, times-cons, times-append, times_push, one-le, one-same}
 
@@ -68,30 +68,11 @@ sent_slots Root s x = refl
 pub same_slot : (s : State) (x y : ℕ) → slot_at (decremented s x) y ≡ slot_at (with_slot s x (lessened (slot_at s x))) y
 same_slot s x y = ap (λ ss. get_or ss y absent) (sent_slots (due_of (slot_at s x)) (with_slot s x (lessened (slot_at s x))) x)
 
--- past the last slot nothing is written
-written_past : (s : State) (x : ℕ) (v : Slot) → length s.slots ≤ x → slot_at (with_slot s x v) x ≡ absent
-written_past s x v l = ap (λ ss. get_or ss x absent) (set_past s.slots x v l) ∙ get_or_past s.slots x absent l
-
 -- the count of the slot falls by one, if it has one
 pub decremented_less : (s : State) (x y : ℕ) → (slot_at (decremented s x) y).count ≡ (slot_at s y).count - one (eqb y x)
 decremented_less s x y =
     let v : Slot = slot_at s x in
-    let e : (slot_at (decremented s x) y).count ≡ (slot_at (with_slot s x (lessened v)) y).count = ap (λ (w : Slot). w.count) (same_slot s x y) in
-    let c : (lessened v).count ≡ v.count - 1 = (lessened_keeps v.released (eqb v.count 1) v).3 in
-    elim (eqb_tells y x) [
-      | inl q ↦ let n : one (eqb y x) ≡ 1 = ap one q.0 in
-          let o : (slot_at s y).count ≡ v.count = ap (λ z. (slot_at s z).count) q.1 in
-          let p : (slot_at (with_slot s x (lessened v)) y).count ≡ (slot_at (with_slot s x (lessened v)) x).count = ap (λ z. (slot_at (with_slot s x (lessened v)) z).count) q.1 in
-          elim (cases_lt x (length s.slots)) [
-            | inl l ↦ let f : (slot_at (with_slot s x (lessened v)) x).count ≡ v.count - 1 = ap (λ (w : Slot). w.count) (get_or-set_same s.slots x (lessened v) absent l) ∙ c in omega (arith, e, n, o, p, f)
-            | inr l ↦ let f : (slot_at (with_slot s x (lessened v)) x).count ≡ 0 = ap (λ (w : Slot). w.count) (written_past s x (lessened v) l) in
-                let g : v.count ≡ 0 = ap (λ (w : Slot). w.count) (get_or_past s.slots x absent l) in
-                omega (arith, e, n, o, p, f, g)
-          ]
-      | inr q ↦ let f : (slot_at (with_slot s x (lessened v)) y).count ≡ (slot_at s y).count = ap (λ (w : Slot). w.count) (get_or-set_other s.slots x y (lessened v) absent q.1) in
-          let n : one (eqb y x) ≡ 0 = ap one q.0 in
-          omega (arith, e, f, n)
-    ]
+    ap (λ (w : Slot). w.count) (same_slot s x y) ∙ less_at (λ (w : Slot). w.count) s.slots x (lessened v) refl (lessened_keeps v.released (eqb v.count 1) v).3 y
 
 -- a slot with a count is there
 pub in_range_counted : (s : State) (x : ℕ) → 0 < (slot_at s x).count → x < length s.slots

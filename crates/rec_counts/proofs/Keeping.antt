@@ -11,8 +11,8 @@ use Rattle.rec_counts.specs.Slot.{absent, fresh, is_in, unrooted, unrooted_if, u
 use Rattle.rec_counts.specs.Lists.{one, times, EachOnce}
 use Rattle.rec_counts.specs.Groups.{with_member, earlier_sets, last_set}
 use Rattle.rec_counts.specs.Kept.{Kept}
-use Rattle.rec_counts.specs.Counts.{State, slot_at, IsKept, without_last_set}
-use Rattle.rec_counts.proofs.Times.{times-nil, times-append, times_push, times_part, times_parts, times-cons, one-le, one-same, in_range_once, once_none, room_once}
+use Rattle.rec_counts.specs.Counts.{State, slot_at, IsKept, IsLastSetNew, without_last_set}
+use Rattle.rec_counts.proofs.Times.{times-nil, times-append, times_at, times_push, times_part, times_parts, times-cons, one-le, one-same, in_range_once, once_none, room_once}
 
 -- what a slot has, after a write that keeps it there
 pub field_kept : {A : Type 0} (f : Slot → A) (slots : List Slot) (x : ℕ) (v : Slot) → f v ≡ f (get_or slots x absent) → (y : ℕ) → f (get_or (set slots x v) y absent) ≡ f (get_or slots y absent)
@@ -23,6 +23,17 @@ field_kept f slots x v e y =
         | inr l ↦ rw (set_past slots x v l) refl
       ]
       | inr q ↦ ap f (get_or-set_other slots x y v absent q.1)
+    ]
+
+-- what falls by one where a slot is written, and stays elsewhere
+pub less_at : (f : Slot → ℕ) (slots : List Slot) (x : ℕ) (v : Slot) → f absent ≡ 0 → f v ≡ f (get_or slots x absent) - 1 → (y : ℕ) → f (get_or (set slots x v) y absent) ≡ f (get_or slots y absent) - one (eqb y x)
+less_at f slots x v z e y =
+    elim (eqb_tells y x) [
+      | inl q ↦ rw q.1 (elim (cases_lt x (length slots)) [
+        | inl l ↦ omega (arith, one-same x, ap f (get_or-set_same slots x v absent l), e)
+        | inr l ↦ omega (arith, ap (λ ss. f (get_or ss x absent)) (set_past slots x v l), ap f (get_or_past slots x absent l), z)
+      ])
+      | inr q ↦ let n : one (eqb y x) ≡ 0 = ap one q.0 in omega (arith, n, ap f (get_or-set_other slots x y v absent q.1))
     ]
 
 -- another number of slots with the same buffers
@@ -364,10 +375,22 @@ slots_kept k now e b s = record {
   few_slots = rw e k.few_slots;
 }
 
--- the last set has each slot at most once
-pub last_once : (s : State) → IsKept s → EachOnce (length s.slots) (last_set s.sets)
-last_once s k x = omega (arith, members_once k x, times_part x s.sets (length s.sets - 1))
+-- each set has each slot at most once
+pub each_once : (s : State) (number : ℕ) → IsKept s → EachOnce (length s.slots) (get_or s.sets number [])
+each_once s number k x = omega (arith, members_once k x, times_part x s.sets number)
 
--- the last set is dropped, where nothing stands in the work list
+-- a member is a slot
+pub member_in_range : (s : State) (number i : ℕ) → IsKept s → i < length (get_or s.sets number []) → get_or (get_or s.sets number []) i 0 < length s.slots
+member_in_range s number i k l = in_range_once _ _ _ (each_once s number k) (times_at (get_or s.sets number []) i l)
+
+-- so has the last set
+pub last_once : (s : State) → IsKept s → EachOnce (length s.slots) (last_set s.sets)
+last_once s k = each_once s (length s.sets - 1) k
+
+-- where nothing stands in the work list, no slot of the last set does
+pub last_new : (s : State) → s.work ≡ [] → IsKept s → IsLastSetNew s
+last_new s work k y = omega (arith, ap (times y) work, times-nil y, last_once s k y, one-le (ltb y (length s.slots)))
+
+-- so the last set can be dropped
 pub dropped_kept : (s : State) → 0 < length s.sets → s.work ≡ [] → IsKept s → IsKept (without_last_set s)
-dropped_kept s some work k = keep_drop k some (λ y. omega (arith, ap (times y) work, times-nil y, last_once s k y, one-le (ltb y (length s.slots))))
+dropped_kept s some work k = keep_drop k some (last_new s work k)

@@ -49,6 +49,20 @@ pub test_of : (n : ℕ) (b : Bool) → n ≡ one b → ltb 0 n ≡ b
 test_of n true e = rw e refl
 test_of n false e = rw e refl
 
+-- what holds of one more in a list
+pub inside_more : (P : ℕ → Type 0) (xs : List ℕ) (i : ℕ) → i < length xs → P (get_or xs i 0) → ((x : ℕ) → 0 < times x (take i xs) → P x) → (x : ℕ) → 0 < times x (take (i + 1) xs) → P x
+inside_more P xs i l p h x t = elim (eqb_tells x (get_or xs i 0)) [
+  | inl q ↦ rw q.1 p
+  | inr q ↦ let n : one (eqb x (get_or xs i 0)) ≡ 0 = ap one q.0 in h x (omega (arith, t, n, times_more x xs i l))
+]
+
+-- and of one more at its end
+pub inside_push : (P : ℕ → Type 0) (xs : List ℕ) (y : ℕ) → P y → ((x : ℕ) → 0 < times x xs → P x) → (x : ℕ) → 0 < times x (xs ++ y ∷ []) → P x
+inside_push P xs y p h x t = elim (eqb_tells x y) [
+  | inl q ↦ rw q.1 p
+  | inr q ↦ let n : one (eqb x y) ≡ 0 = ap one q.0 in h x (omega (arith, t, n, times_push x xs y))
+]
+
 -- without the first, each stands there no more often
 pub times_rest : (x : ℕ) (xs : List ℕ) → times x (drop 1 xs) ≤ times x xs
 times_rest x [] = omega arith

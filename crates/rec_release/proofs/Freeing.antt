@@ -10,17 +10,16 @@ use Rattle.rec_walk.specs.Walk.{behind, first_in, places_left, IsOf}
 use Rattle.rec_walk.proofs.Given.{given_by}
 use Rattle.rec_walk.proofs.Walks.{behind_left, behind_stands, first_left, Stands}
 use Rattle.rec_counts.specs.Counts.{State, slot_at, IsKept}
-use Rattle.rec_counts.specs.Groups.{earlier_sets, last_set}
+use Rattle.rec_counts.specs.Groups.{last_set}
 use Rattle.rec_counts.specs.Lists.{one, times}
 use Rattle.rec_counts.proofs.Times.{times-append, times-nil}
 use Rattle.rec_release.specs.CycleFree.{given_up, given_up_slot, gone_on, listed, listed_behind, work_of, started_of, took_of, Next, Work, IsAtWork, IsFreeable}
 use Rattle.rec_release.specs.Freed.{held_of, listed_of, Freed, FreedTo, HasFreed}
 use Rattle.rec_release.specs.Released.{leading}
-use Rattle.rec_release.proofs.Giving.{given_count, given_is_work, given_many, given_released, given_work}
-use Rattle.rec_release.specs.TakenOff.{taken_off, AllZerosButOrange, IsApart, KeepsOrange}
-use Rattle.rec_release.proofs.Orange.{given_apart, given_orange, given_zeros, gone_keeps, keeps_orange, KeepsAll}
-use Rattle.rec_release.proofs.TakenOff.{off_count, off_most, ready_off, KeepsMost}
-use Rattle.rec_release.proofs.Places.{leading-nil, leading_push}
+use Rattle.rec_release.proofs.Giving.{given_count, given_is_work, given_released, given_work}
+use Rattle.rec_release.specs.TakenOff.{taken_off}
+use Rattle.rec_release.proofs.Orange.{gone_keeps, Keeps}
+use Rattle.rec_release.proofs.TakenOff.{leading-nil, leading_push, off_count, off_most, ready_off, KeepsMost}
 
 -- the same freeing, with its parts told otherwise
 retold : {fields : ℕ} {before : State} {members left left' listed listed' held held' : List ℕ} {after : State} {loads : List Load} → left' ≡ left → listed' ≡ listed → held' ≡ held → Freed fields before members left listed held after loads → Freed fields before members left' listed' held' after loads
@@ -166,65 +165,17 @@ whole_freeing fields before words l k f =
 -- what a word leaves, as its call tells, with the field that comes next
 pub record Goes (fields : ℕ) (a : Member) (s : State) (word : ℕ) (n : Next) : Type 0 where
   pub kept : IsAtWork (work_of fields n).machine n.counts
-  pub slots : length n.counts.slots ≡ length s.slots
-  pub sets : n.counts.sets ≡ s.sets
-  pub all_but_orange : AllZerosButOrange s → AllZerosButOrange n.counts
-  pub apart : IsApart s → IsApart n.counts
-  pub orange : KeepsOrange [] s n.counts
+  pub keeps : Keeps true s n.counts
   pub whole : (before : State) (loads : List Load) → FreedTo fields before (Some a) s loads → FreedTo fields before n.at n.counts (loads ++ loaded_at (Some a) word)
 
 pub goes_on : (fields : ℕ) (a : Member) (s : State) (word : ℕ) → IsAtWork (record { fields = fields; at = Some a }) s → IfSome (target_of word) (λ x. 0 < (slot_at s x).count) → Goes fields a s word (gone_on fields (taken_off true s (target_of word)) a)
-goes_on fields a s word w h =
-    let off : State = taken_off true s (target_of word) in
-    let most : KeepsMost s off = off_most true s (target_of word) in
-    let all : KeepsAll s (gone_on fields off a).counts = gone_keeps fields s (target_of word) a h in
-    record {
-      kept = gone_work fields off a (off_work fields s (target_of word) a w);
-      slots = many off (behind fields off.work a) ∙ most.slots;
-      sets = same off (behind fields off.work a) ∙ most.sets;
-      all_but_orange = all.keeps.zeros;
-      apart = all.keeps.apart;
-      orange = keeps_orange all;
-      whole = λ before loads r. (came_more fields before a s loads word w r).law;
-    }
-  where
-    many : (u : State) (at : Option Member) → length (listed_behind u at).counts.slots ≡ length u.slots
-    many u None = refl
-    many u (Some b) = refl
-
-    same : (u : State) (at : Option Member) → (listed_behind u at).counts.sets ≡ u.sets
-    same u None = refl
-    same u (Some b) = refl
+goes_on fields a s word w h = record {
+  kept = gone_work fields (taken_off true s (target_of word)) a (off_work fields s (target_of word) a w);
+  keeps = gone_keeps fields s (target_of word) a h;
+  whole = λ before loads r. (came_more fields before a s loads word w r).law;
+}
 
 -- what is learnt, where a field is due
 pub took_some : (fields : ℕ) (a : Member) (s : State) (word : ℕ) → took_of (record { machine = record { fields = fields; at = Some a }; counts = s }) word ≡ work_of fields (gone_on fields (taken_off true s (target_of word)) a)
 unfolding took_of
 took_some fields a s word = refl
-
--- what the beginning leaves, as its call tells
-pub record Begins (fields : ℕ) (s : State) (n : Next) : Type 0 where
-  pub field : IfSome n.at (λ (a : Member). a.field < fields)
-  pub started : (at : Option Member) → work_of fields n ≡ started_of (record { fields = fields; at = at }) s
-  pub kept : IsAtWork (work_of fields n).machine n.counts
-  pub slots : length n.counts.slots ≡ length s.slots
-  pub sets : n.counts.sets ≡ earlier_sets s.sets
-  pub all_but_orange : AllZerosButOrange s → AllZerosButOrange n.counts
-  pub apart : IsApart s → IsApart n.counts
-  pub orange : KeepsOrange (last_set s.sets) s n.counts
-  pub whole : FreedTo fields s n.at n.counts []
-
-pub begins : (fields : ℕ) (s : State) → 0 < fields → IsKept s → IsFreeable s → Begins fields s (record { at = first_in (last_set s.sets); counts = given_up s })
-unfolding started_of
-begins fields s l k f =
-    let c : Came fields s (work_of fields (record { at = first_in (last_set s.sets); counts = given_up s })) [] = came_first fields s l k f in
-    record {
-      field = c.work.field;
-      started = λ at. refl;
-      kept = c.work;
-      slots = given_many s;
-      sets = refl;
-      all_but_orange = given_zeros s;
-      apart = given_apart s k f;
-      orange = given_orange s k;
-      whole = c.law;
-    }

@@ -1,20 +1,19 @@
 -- What a release keeps of the counts, move by move.
-use Rattle.std.proofs.Common.{◌≡◌, ◌≢◌, ℕ, ◌+◌, ◌<◌, ◌≤◌, Bool, true, false, eqb, ltb, Option, None, Some, IsNone, List, [], ◌∷◌, length, refl, arith, sym, ◌∙◌, ap, inl, inr}
+use Rattle.std.proofs.Common.{◌≡◌, ◌≢◌, ℕ, ◌+◌, ◌<◌, Bool, true, false, eqb, Option, Some, IsNone, List, [], ◌∷◌, length, refl, arith, sym, ◌∙◌, ap, inl, inr}
 use Rattle.std.proofs.lemmas.List.{length-set, get_or-set_same, get_or-set_other}
-use Rattle.std.proofs.lemmas.Bool.{cases_lt, false≢true, cond-true, cond-false, lt-ltb, le-ltb}
+use Rattle.std.proofs.lemmas.Bool.{cases_lt, false≢true}
 use Rattle.std.proofs.lemmas.Bool.Decides.{eqb_tells}
-use Rattle.rec_word.specs.Word.{target_of}
 use Rattle.rec_counts.specs.declared.slot.Slot.{Slot}
 use Rattle.rec_counts.specs.Counts.{State, slot_at, with_slot}
 use Rattle.rec_counts.specs.Lists.{one, times}
-use Rattle.rec_counts.specs.Rest.{AreZeros, AllZeros}
+use Rattle.rec_counts.specs.Rest.{AreZeros}
 use Rattle.rec_counts.specs.Slot.{absent}
 use Rattle.rec_counts.proofs.Keeping.{field_kept, unreleased_within}
-use Rattle.rec_counts.proofs.Times.{times-cons, times_push, one-same}
+use Rattle.rec_counts.proofs.Times.{times-cons, times_push, one-none, one-same, one-some}
 use Rattle.rec_release.specs.declared.at.At.{At}
-use Rattle.rec_release.specs.Release.{listed_if, emptied, first_of, without_first, with_next, op_at, next_of, took_of, IsReady, IsHeld, IsAtWork}
+use Rattle.rec_release.specs.Release.{listed_if, emptied, first_of, without_first, with_next, op_at, next_of, IsReady, IsHeld, IsAtWork}
 use Rattle.rec_release.specs.TakenOff.{taken_off}
-use Rattle.rec_release.proofs.TakenOff.{all_zeros_off, off_most, ready_off, KeepsMost}
+use Rattle.rec_release.proofs.TakenOff.{off_most, ready_off, KeepsMost}
 
 pub held_off : (lowers : Bool) (s : State) (t : Option ℕ) (a : At) → IsHeld s a → IsHeld (taken_off lowers s t) a
 held_off lowers s t a h =
@@ -66,11 +65,20 @@ released_same s z y ne = ap (λ (w : Slot). w.released) (get_or-set_other s.slot
 pub released_first : (s : State) (z : ℕ) → z < length s.slots → (slot_at (with_slot s z (record (slot_at s z) { released = true })) z).released ≡ true
 released_first s z l = ap (λ (w : Slot). w.released) (get_or-set_same s.slots z _ absent l)
 
+pub first_released : (z : ℕ) (zs : List ℕ) (s : State) → s.zeros ≡ z ∷ zs → AreZeros s → (x : ℕ) → one (slot_at (without_first (z ∷ zs) s) x).released ≡ one (slot_at s x).released + one (eqb x z)
+first_released z zs s e k x =
+    let u : (slot_at s z).released ≡ false = k.unreleased z (omega (arith, ap (times z) e, times-cons z z zs, one-same z)) in
+    elim (eqb_tells x z) [
+      | inl q ↦ rw q.1 (omega (arith, one-same z, ap one u, ap one (released_first s z (unreleased_within s z u))))
+      | inr q ↦ let n : one (eqb x z) ≡ 0 = ap one q.0 in omega (arith, n, ap one (released_same s z x q.1))
+    ]
+
 pub next_work : (fields : ℕ) (lowers : Bool) (s : State) (zs : List ℕ) → s.zeros ≡ zs → 0 < fields → IsReady s → IsAtWork (record { fields = fields; at = first_of zs; lowers = lowers }) (without_first zs s)
 next_work fields lowers s [] e f k = record { field = tt; held = tt; ready = k }
 next_work fields lowers s (z ∷ zs) e f k =
     let first : FirstZero s z zs = first_zero s z zs e k in
     let n : (y : ℕ) → times y s.zeros ≡ one (eqb y z) + times y zs = λ y. ap (times y) e ∙ times-cons y z zs in
+    let new : (y : ℕ) → one (slot_at (without_first (z ∷ zs) s) y).released ≡ one (slot_at s y).released + one (eqb y z) = first_released z zs s e k.zeros in
     record {
       field = f;
       held = record {
@@ -82,15 +90,9 @@ next_work fields lowers s (z ∷ zs) e f k =
         zeros = record {
           once = λ y. omega (arith, n y, k.zeros.once y);
           none = λ y h. field_kept (λ (w : Slot). w.count) s.slots z (record (slot_at s z) { released = true }) refl y ∙ k.zeros.none y (omega (arith, h, n y));
-          unreleased = λ y h. elim (eqb_tells y z) [
-            | inl q ↦ absurd (omega (arith, h, ap (λ w. times w zs) q.1, first.once))
-            | inr q ↦ released_same s z y q.1 ∙ k.zeros.unreleased y (omega (arith, h, n y))
-          ];
+          unreleased = λ y h. one-none _ (omega (arith, h, n y, new y, k.zeros.once y, ap one (k.zeros.unreleased y (omega (arith, h, n y)))));
         };
-        free = λ y h. elim (eqb_tells y z) [
-          | inl q ↦ absurd (omega (arith, h, ap (λ w. times w s.free) q.1, first.unlisted))
-          | inr q ↦ released_same s z y q.1 ∙ k.free y h
-        ];
+        free = λ y h. one-some _ (omega (arith, new y, ap one (k.free y h)));
       };
     }
 
@@ -106,21 +108,6 @@ none_in fields (z ∷ zs) s e n = absurd (false≢true (sym n))
 pub none_left : (fields : ℕ) (lowers : Bool) (s : State) → IsNone (next_of (with_next fields lowers s).machine) → (with_next fields lowers s).counts.zeros ≡ []
 unfolding next_of
 none_left fields lowers s n = none_in fields s.zeros s refl n
-
--- what is learnt, where another field of the slot is left
-pub took_on : (fields : ℕ) (lowers : Bool) (a : At) (s : State) (word : ℕ) → a.field + 1 < fields → took_of (record { machine = record { fields = fields; at = Some a; lowers = lowers }; counts = s }) word ≡ record { machine = record { fields = fields; at = Some (record { slot = a.slot; field = a.field + 1 }); lowers = lowers }; counts = taken_off lowers s (target_of word) }
-unfolding took_of
-took_on fields lowers a s word l = cond-true (ltb (a.field + 1) fields) _ _ (lt-ltb (a.field + 1) fields l)
-
--- where it was the last
-pub took_last : (fields : ℕ) (lowers : Bool) (a : At) (s : State) (word : ℕ) → fields ≤ a.field + 1 → took_of (record { machine = record { fields = fields; at = Some a; lowers = lowers }; counts = s }) word ≡ with_next fields lowers (emptied (taken_off lowers s (target_of word)) a.slot)
-unfolding took_of
-took_last fields lowers a s word l = cond-false (ltb (a.field + 1) fields) _ _ (le-ltb (a.field + 1) fields l)
-
--- where the work is done
-pub took_none : (fields : ℕ) (lowers : Bool) (s : State) (word : ℕ) → took_of (record { machine = record { fields = fields; at = None; lowers = lowers }; counts = s }) word ≡ record { machine = record { fields = fields; at = None; lowers = lowers }; counts = s }
-unfolding took_of
-took_none fields lowers s word = refl
 
 -- the counts are as the release left them, after each of these
 pub work_on : (fields : ℕ) (lowers : Bool) (a : At) (s : State) (t : Option ℕ) → IsAtWork (record { fields = fields; at = Some a; lowers = lowers }) s → a.field + 1 < fields → IsAtWork (record { fields = fields; at = Some (record { slot = a.slot; field = a.field + 1 }); lowers = lowers }) (taken_off lowers s t)
@@ -158,35 +145,3 @@ emptied_sets s x = listed_sets (slot_at s x).buffered s x
 pub next_sets : (zs : List ℕ) (s : State) → (without_first zs s).sets ≡ s.sets
 next_sets [] s = refl
 next_sets (z ∷ zs) s = refl
-
-all_zeros_listed : (b : Bool) (s : State) (x : ℕ) → AllZeros s → AllZeros (listed_if b s x)
-all_zeros_listed true s x k = k
-all_zeros_listed false s x k = k
-
--- a slot that is not released once the first of the zeros is: it was not, and is not that one
-pub record Unzeroed (s : State) (z : ℕ) (zs : List ℕ) (y : ℕ) : Type 0 where
-  pub unreleased : (slot_at s y).released ≡ false
-  pub found : 0 < times y s.zeros → 0 < times y zs
-
-pub still_zero : (z : ℕ) (zs : List ℕ) (s : State) → s.zeros ≡ z ∷ zs → AreZeros s → (y : ℕ) → (slot_at (without_first (z ∷ zs) s) y).released ≡ false → Unzeroed s z zs y
-still_zero z zs s e k y r =
-    let more : (x : ℕ) → times x s.zeros ≡ one (eqb x z) + times x zs = λ x. ap (times x) e ∙ times-cons x z zs in
-    let l : z < length s.slots = unreleased_within s z (k.unreleased z (omega (arith, more z, one-same z))) in
-    elim (eqb_tells y z) [
-      | inl q ↦ absurd (false≢true (sym r ∙ ap (λ w. (slot_at (with_slot s z (record (slot_at s z) { released = true })) w).released) q.1 ∙ released_first s z l))
-      | inr q ↦ let o : one (eqb y z) ≡ 0 = ap one q.0 in record { unreleased = sym (released_same s z y q.1) ∙ r; found = λ h. omega (arith, h, more y, o) }
-    ]
-
--- the next zero is released: the others stay
-pub all_zeros_next : (zs : List ℕ) (s : State) → s.zeros ≡ zs → AreZeros s → AllZeros s → AllZeros (without_first zs s)
-all_zeros_next [] s e z k = k
-all_zeros_next (x ∷ zs) s e z k = λ y r n.
-    let u : Unzeroed s x zs y = still_zero x zs s e z y r in
-    u.found (k y u.unreleased (sym (field_kept (λ (w : Slot). w.count) s.slots x (record (slot_at s x) { released = true }) refl y) ∙ n))
-
--- so does the last field of a slot, where no target is lowered: the slot is emptied, and the next zero is taken out
-pub all_zeros_last : (s : State) (t : Option ℕ) (x : ℕ) → (slot_at s x).released ≡ true → IsReady s → AllZeros s → AllZeros (without_first (emptied (taken_off false s t) x).zeros (emptied (taken_off false s t) x))
-all_zeros_last s t x r ready k =
-    let off : State = taken_off false s t in
-    let released : (slot_at off x).released ≡ true = (off_most false s t).released x ∙ r in
-    all_zeros_next (emptied off x).zeros (emptied off x) refl (ready_emptied off x released (ready_off false s t ready)).zeros (all_zeros_listed (slot_at off x).buffered off x (all_zeros_off s t k))

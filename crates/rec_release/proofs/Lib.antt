@@ -2,9 +2,7 @@ pub mod Freeing
 pub mod Giving
 pub mod Keeping
 pub mod Kept
-pub mod Moves
 pub mod Orange
-pub mod Places
 pub mod Runs
 pub mod Sweeping
 pub mod Sweeps

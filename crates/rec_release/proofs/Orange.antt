@@ -1,18 +1,18 @@
 -- What the moves of a release and of a freeing keep of the orange slots, and of the zeros that are not orange.
-use Rattle.std.proofs.Common.{◌≡◌, ◌≢◌, ℕ, ◌+◌, ◌-◌, ◌<◌, ◌⊎◌, Bool, true, false, eqb, ltb, Option, Some, None, IfSome, List, [], ◌∷◌, ◌++◌, length, map, get_or, refl, arith, sym, ◌∙◌, ap, subst, inl, inr}
+use Rattle.std.proofs.Common.{◌≡◌, ℕ, ◌+◌, ◌-◌, ◌<◌, ◌⊎◌, Bool, true, false, eqb, ltb, Option, Some, None, IfSome, List, [], ◌∷◌, ◌++◌, length, map, get_or, refl, arith, sym, ◌∙◌, ap, subst, inl, inr}
 use Rattle.std.specs.List.{concat}
 use Rattle.std.proofs.lemmas.Bool.{cases_lt, eq-eqb, false≢true}
-use Rattle.std.proofs.lemmas.List.{get_or-set_same, set_past, get_or_past}
+use Rattle.std.proofs.lemmas.List.{get_or-set_same, length-set, set_past, get_or_past}
 use Rattle.rec_counts.specs.declared.colour.Colour.{Colour}
-use Rattle.rec_counts.specs.declared.colour.Colour.TheVariants.{Black, Purple, Gray, White, Orange}
+use Rattle.rec_counts.specs.declared.colour.Colour.TheVariants.{Black, Orange}
 use Rattle.rec_counts.specs.declared.slot.Slot.{Slot}
 use Rattle.rec_counts.specs.Counts.{State, IsKept, slot_at, with_slot, decremented}
 use Rattle.rec_counts.specs.Groups.{last_set, earlier_sets}
 use Rattle.rec_counts.specs.Lists.{one, times}
-use Rattle.rec_counts.specs.Rest.{AreZeros}
+use Rattle.rec_counts.specs.Rest.{AllZeros, AreZeros, KeepsRest}
 use Rattle.rec_counts.specs.Slot.{absent, is_in, lessened, lessened_if, lowered, out_of_set, unbuffered_if}
 use Rattle.rec_counts.specs.Colour.{is_orange}
-use Rattle.rec_counts.proofs.Decrementing.{rest_decremented, zeros_from, ZerosFrom, zero_found, same_slot}
+use Rattle.rec_counts.proofs.Decrementing.{all_zeros_kept, decremented_less, rest_decremented, zeros_from, ZerosFrom, zero_found, same_slot}
 use Rattle.rec_counts.proofs.Keeping.{field_kept, keep_drop, map_at, last_once}
 use Rattle.rec_counts.proofs.Times.{times-nil, times-append, times-cons, one-le, one-same, one-none}
 use Rattle.rec_walk.specs.declared.member.Member.{Member}
@@ -21,8 +21,8 @@ use Rattle.rec_release.specs.CycleFree.{dead_if, given_up, gone_on, listed_behin
 use Rattle.rec_release.specs.Release.{emptied, listed_if, without_first, IsReady}
 use Rattle.rec_release.specs.TakenOff.{down_if, is_lowered, taken_off, AllZerosButOrange, IsApart, IsMember, KeepsOrange}
 use Rattle.rec_release.proofs.Giving.{given_slot}
-use Rattle.rec_release.proofs.Keeping.{Unzeroed, ready_emptied, still_zero}
-use Rattle.rec_release.proofs.TakenOff.{off_most, ready_off, written}
+use Rattle.rec_release.proofs.Keeping.{first_released, ready_emptied}
+use Rattle.rec_release.proofs.TakenOff.{down_most, off_most, ready_off, written, KeepsMost}
 
 -- what is written isn't Orange
 pub not_orange_at : (s : State) (x : ℕ) (v : Slot) → (v.colour ≡ Orange → ⊥) → (slot_at (with_slot s x v) x).colour ≡ Orange → ⊥
@@ -34,76 +34,74 @@ not_orange_at s x v h o = elim (cases_lt x (length s.slots)) [
       cc
 ]
 
--- what each move keeps
-pub record Keeps (s t : State) : Type 0 where
+-- What each move keeps. One of a machine that lowers leaves the orange slots as they are, and one of a machine that doesn't
+-- leaves all zeros in the zeros.
+pub record Keeps (lowers : Bool) (s t : State) : Type 0 where
+  pub slots : length t.slots ≡ length s.slots
+  pub sets : t.sets ≡ s.sets
+  pub all_zeros : lowers ≡ false → AllZeros s → AllZeros t
   pub zeros : AllZerosButOrange s → AllZerosButOrange t
   pub apart : IsApart s → IsApart t
   pub before : (x : ℕ) → (slot_at t x).colour ≡ Orange → (slot_at s x).colour ≡ Orange
+  pub kept : lowers ≡ true → (x : ℕ) → (slot_at s x).colour ≡ Orange → (slot_at t x).colour ≡ Orange
 
-keeps_on : {s t u : State} → Keeps s t → Keeps t u → Keeps s u
-keeps_on k l = record { zeros = λ z. l.zeros (k.zeros z); apart = λ a. l.apart (k.apart a); before = λ x o. k.before x (l.before x o) }
+keeps_on : {lowers : Bool} {s t u : State} → Keeps lowers s t → Keeps lowers t u → Keeps lowers s u
+keeps_on k l = record {
+  slots = l.slots ∙ k.slots;
+  sets = l.sets ∙ k.sets;
+  all_zeros = λ e a. l.all_zeros e (k.all_zeros e a);
+  zeros = λ a. l.zeros (k.zeros a);
+  apart = λ a. l.apart (k.apart a);
+  before = λ x o. k.before x (l.before x o);
+  kept = λ e x o. l.kept e x (k.kept e x o);
+}
 
--- and one that leaves the orange slots as they are
-pub record KeepsAll (s t : State) : Type 0 where
-  pub keeps : Keeps s t
-  pub kept : (x : ℕ) → (slot_at s x).colour ≡ Orange → (slot_at t x).colour ≡ Orange
-
-pub all_on : {s t u : State} → KeepsAll s t → KeepsAll t u → KeepsAll s u
-all_on k l = record { keeps = keeps_on k.keeps l.keeps; kept = λ x o. l.kept x (k.kept x o) }
-
-pub keeps_orange : {s t : State} → KeepsAll s t → KeepsOrange [] s t
-keeps_orange k = record { kept = λ x n o. k.kept x o; before = λ x o. (times-nil x, k.keeps.before x o) }
+pub keeps_orange : {lowers : Bool} {s t : State} → Keeps lowers s t → lowers ≡ true → KeepsOrange [] s t
+keeps_orange k e = record { kept = λ x n o. k.kept e x o; before = λ x o. (times-nil x, k.before x o) }
 
 -- a slot stays a member
 member_on : (s t : State) (x : ℕ) → t.sets ≡ s.sets → times x t.zeros ≡ 0 → (slot_at t x).released ≡ (slot_at s x).released → IsMember s x → IsMember t x
 member_on s t x e z r m = record { member = subst (λ sets. 0 < times x (concat sets)) (sym e) m.member; no_zero = z; unreleased = r ∙ m.unreleased }
 
 -- other lists for work and for what is free
-pub lists_keep : (s : State) (work free : List ℕ) → KeepsAll s (record s { work = work; free = free })
-lists_keep s work free = record {
-  keeps = record {
-    zeros = λ z. z;
-    apart = λ a x o. member_on s (record s { work = work; free = free }) x refl (a x o).no_zero refl (a x o);
-    before = λ x o. o;
-  };
-  kept = λ x o. o;
+pub lists_keep : (lowers : Bool) (s : State) (work free : List ℕ) → Keeps lowers s (record s { work = work; free = free })
+lists_keep lowers s work free = record {
+  slots = refl;
+  sets = refl;
+  all_zeros = λ e a. a;
+  zeros = λ a. a;
+  apart = λ a x o. member_on s (record s { work = work; free = free }) x refl (a x o).no_zero refl (a x o);
+  before = λ x o. o;
+  kept = λ e x o. o;
 }
 
-listed_keeps : (b : Bool) (s : State) (x : ℕ) → KeepsAll s (listed_if b s x)
-listed_keeps true s x = lists_keep s s.work s.free
-listed_keeps false s x = lists_keep s s.work (s.free ++ x ∷ [])
-
--- a slot is emptied
-emptied_keeps : (s : State) (x : ℕ) → KeepsAll s (emptied s x)
-emptied_keeps s x = listed_keeps (slot_at s x).buffered s x
+listed_keeps : (b lowers : Bool) (s : State) (x : ℕ) → Keeps lowers s (listed_if b s x)
+listed_keeps true lowers s x = lists_keep lowers s s.work s.free
+listed_keeps false lowers s x = lists_keep lowers s s.work (s.free ++ x ∷ [])
 
 -- the next zero is released
-first_keeps : (zs : List ℕ) (s : State) → s.zeros ≡ zs → AreZeros s → KeepsAll s (without_first zs s)
-first_keeps [] s e k = lists_keep s s.work s.free
-first_keeps (z ∷ zs) s e k =
+first_keeps : (zs : List ℕ) (lowers : Bool) (s : State) → s.zeros ≡ zs → AreZeros s → Keeps lowers s (without_first zs s)
+first_keeps [] lowers s e k = lists_keep lowers s s.work s.free
+first_keeps (z ∷ zs) lowers s e k =
     let v : Slot = record (slot_at s z) { released = true } in
     let colour : (x : ℕ) → (slot_at (with_slot s z v) x).colour ≡ (slot_at s x).colour = λ x. field_kept (λ (w : Slot). w.colour) s.slots z v refl x in
     let count : (x : ℕ) → (slot_at (with_slot s z v) x).count ≡ (slot_at s x).count = λ x. field_kept (λ (w : Slot). w.count) s.slots z v refl x in
     let n : (x : ℕ) → times x s.zeros ≡ one (eqb x z) + times x zs = λ x. ap (times x) e ∙ times-cons x z zs in
+    let new : (x : ℕ) → one (slot_at (with_slot s z v) x).released ≡ one (slot_at s x).released + one (eqb x z) = first_released z zs s e k in
+    let old : (x : ℕ) → (slot_at (with_slot s z v) x).released ≡ false → (slot_at s x).released ≡ false = λ x r. one-none _ (omega (arith, new x, ap one r)) in
     record {
-      keeps = record {
-        zeros = λ a x r c o. let u : Unzeroed s z zs x = still_zero z zs s e k x r in u.found (a x u.unreleased (sym (count x) ∙ c) (λ q. o (colour x ∙ q)));
-        apart = λ a x o. let m : IsMember s x = a x (sym (colour x) ∙ o) in
-            record {
-              member = m.member;
-              no_zero = omega (arith, n x, m.no_zero);
-              unreleased = elim (written s z v x) [
-                | inl q ↦ absurd (omega (arith, n x, m.no_zero, ap (λ y. one (eqb y z)) q.0, one-same z))
-                | inr q ↦ ap (λ (w : Slot). w.released) q ∙ m.unreleased
-              ];
-            };
-        before = λ x o. sym (colour x) ∙ o;
-      };
-      kept = λ x o. colour x ∙ o;
+      slots = length-set s.slots z v;
+      sets = refl;
+      all_zeros = λ _ a x r c. omega (arith, n x, new x, ap one r, a x (old x r) (sym (count x) ∙ c));
+      zeros = λ a x r c o. omega (arith, n x, new x, ap one r, a x (old x r) (sym (count x) ∙ c) (λ q. o (colour x ∙ q)));
+      apart = λ a x o. let m : IsMember s x = a x (sym (colour x) ∙ o) in
+          record { member = m.member; no_zero = omega (arith, n x, m.no_zero); unreleased = one-none _ (omega (arith, new x, ap one m.unreleased, n x, m.no_zero)) };
+      before = λ x o. sym (colour x) ∙ o;
+      kept = λ _ x o. colour x ∙ o;
     }
 
-pub next_keeps : (s : State) → AreZeros s → KeepsAll s (without_first s.zeros s)
-next_keeps s k = first_keeps s.zeros s refl k
+pub next_keeps : (lowers : Bool) (s : State) → AreZeros s → Keeps lowers s (without_first s.zeros s)
+next_keeps lowers s k = first_keeps s.zeros lowers s refl k
 
 -- the colour of a target that is lowered
 pub orange_from : (c : Colour) → is_orange c ≡ true → c ≡ Orange
@@ -150,88 +148,55 @@ orange_before s y x o = elim (decremented_at s y x) [
   | inr q ↦ ap (λ (w : Slot). w.colour) (sym q) ∙ o
 ]
 
--- a reference is taken off by a decrement
-decrement_keeps : (s : State) (y : ℕ) → 0 < (slot_at s y).count → Keeps s (decremented s y)
-decrement_keeps s y h =
+-- a reference is taken off, by lowering an orange slot or by a decrement
+down_keeps : (b lowers : Bool) (s : State) (y : ℕ) → is_lowered lowers (slot_at s y).colour ≡ b → 0 < (slot_at s y).count → Keeps lowers s (down_if b s y)
+down_keeps true lowers s y e h =
+    let v : Slot = lowered (slot_at s y) in
+    let colour : (x : ℕ) → (slot_at (with_slot s y v) x).colour ≡ (slot_at s x).colour = λ x. field_kept (λ (w : Slot). w.colour) s.slots y v refl x in
+    let most : KeepsMost s (with_slot s y v) = down_most true s y in
+    record {
+      slots = most.slots;
+      sets = refl;
+      all_zeros = λ f. absurd (false≢true (sym (ap (λ b. is_lowered b (slot_at s y).colour) f) ∙ e));
+      zeros = λ a x r c o. elim (written s y v x) [
+        | inl q ↦ absurd (o (colour x ∙ ap (λ z. (slot_at s z).colour) q.0 ∙ lowered_orange lowers (slot_at s y).colour e))
+        | inr q ↦ a x (sym (most.released x) ∙ r) (ap (λ (w : Slot). w.count) (sym q) ∙ c) (λ p. o (colour x ∙ p))
+      ];
+      apart = λ a x o. let m : IsMember s x = a x (sym (colour x) ∙ o) in member_on s (with_slot s y v) x refl m.no_zero (most.released x) m;
+      before = λ x o. sym (colour x) ∙ o;
+      kept = λ _ x o. colour x ∙ o;
+    }
+down_keeps false lowers s y e h =
     let f : ZerosFrom s y = zeros_from s y in
     let n : (x : ℕ) → times x (decremented s y).zeros ≡ times x s.zeros + times x f.more = λ x. ap (times x) f.zeros ∙ times-append x s.zeros f.more in
-    let k = rest_decremented s y in
+    let k : KeepsRest s (decremented s y) = rest_decremented s y in
     record {
+      slots = k.slots;
+      sets = k.sets;
+      all_zeros = λ _. all_zeros_kept s y;
       zeros = λ a x r c o. elim (decremented_at s y x) [
-        | inl q ↦ let last : (slot_at s y).count ≡ 1 = omega (arith, h, c, ap (λ (w : Slot). w.count) q.1, lessened_count s y) in
+        | inl q ↦ let last : (slot_at s y).count ≡ 1 = omega (arith, h, c, ap (λ z. (slot_at (decremented s y) z).count) q.0, decremented_less s y y, one-same y) in
             subst (λ z. 0 < times z (decremented s y).zeros) (sym q.0) (zero_found s y (ap (λ z. (slot_at s z).released) (sym q.0) ∙ sym (k.released x) ∙ r) last)
         | inr q ↦ let old : 0 < times x s.zeros = a x (ap (λ (w : Slot). w.released) (sym q) ∙ r) (ap (λ (w : Slot). w.count) (sym q) ∙ c) (λ p. o (ap (λ (w : Slot). w.colour) q ∙ p)) in omega (arith, n x, old)
       ];
       apart = λ a x o. let m : IsMember s x = a x (orange_before s y x o) in member_on s (decremented s y) x k.sets (omega (arith, n x, m.no_zero, unjoined s y x m.unreleased o)) (k.released x) m;
       before = orange_before s y;
-    }
-  where
-    lessened_count_if : (r l : Bool) (v : Slot) → (lessened_if r l v).count ≡ v.count - 1
-    lessened_count_if true l v = refl
-    lessened_count_if false true v = refl
-    lessened_count_if false false v = refl
-
-    lessened_count : (t : State) (z : ℕ) → (lessened (slot_at t z)).count ≡ (slot_at t z).count - 1
-    lessened_count t z = lessened_count_if (slot_at t z).released (eqb (slot_at t z).count 1) (slot_at t z)
-
--- a reference to an orange slot is taken off by lowering it
-lower_keeps : (s : State) (y : ℕ) → (slot_at s y).colour ≡ Orange → KeepsAll s (with_slot s y (lowered (slot_at s y)))
-lower_keeps s y e =
-    let v : Slot = lowered (slot_at s y) in
-    let colour : (x : ℕ) → (slot_at (with_slot s y v) x).colour ≡ (slot_at s x).colour = λ x. field_kept (λ (w : Slot). w.colour) s.slots y v refl x in
-    let released : (x : ℕ) → (slot_at (with_slot s y v) x).released ≡ (slot_at s x).released = λ x. field_kept (λ (w : Slot). w.released) s.slots y v refl x in
-    record {
-      keeps = record {
-        zeros = λ a x r c o. elim (written s y v x) [
-          | inl q ↦ absurd (o (colour x ∙ ap (λ z. (slot_at s z).colour) q.0 ∙ e))
-          | inr q ↦ a x (sym (released x) ∙ r) (ap (λ (w : Slot). w.count) (sym q) ∙ c) (λ p. o (colour x ∙ p))
-        ];
-        apart = λ a x o. let m : IsMember s x = a x (sym (colour x) ∙ o) in member_on s (with_slot s y v) x refl m.no_zero (released x) m;
-        before = λ x o. sym (colour x) ∙ o;
-      };
-      kept = λ x o. colour x ∙ o;
+      kept = λ l x o. elim (decremented_at s y x) [
+        | inl q ↦ absurd (false≢true (sym e ∙ ap (λ b. is_lowered b (slot_at s y).colour) l ∙ ap is_orange (ap (λ z. (slot_at s z).colour) (sym q.0) ∙ o)))
+        | inr q ↦ ap (λ (w : Slot). w.colour) q ∙ o
+      ];
     }
 
-down_keeps : (b : Bool) (s : State) (y : ℕ) → (b ≡ true → (slot_at s y).colour ≡ Orange) → 0 < (slot_at s y).count → Keeps s (down_if b s y)
-down_keeps true s y e h = (lower_keeps s y (e refl)).keeps
-down_keeps false s y e h = decrement_keeps s y h
-
--- a reference is taken off
-pub off_keeps : (lowers : Bool) (s : State) (t : Option ℕ) → IfSome t (λ x. 0 < (slot_at s x).count) → Keeps s (taken_off lowers s t)
-off_keeps lowers s None h = (lists_keep s s.work s.free).keeps
-off_keeps lowers s (Some y) h = down_keeps (is_lowered lowers (slot_at s y).colour) s y (lowered_orange lowers (slot_at s y).colour) h
-
--- a decrement of another slot leaves a slot orange
-unlike : (s : State) (y : ℕ) (c : Colour) → (slot_at s y).colour ≡ c → c ≢ Orange → (x : ℕ) → (slot_at s x).colour ≡ Orange → (slot_at (decremented s y) x).colour ≡ Orange
-unlike s y c e n x o = elim (decremented_at s y x) [
-  | inl q ↦ absurd (n (sym e ∙ ap (λ z. (slot_at s z).colour) (sym q.0) ∙ o))
-  | inr q ↦ ap (λ (w : Slot). w.colour) q ∙ o
-]
-
-down_all : (c : Colour) (s : State) (y : ℕ) → (slot_at s y).colour ≡ c → (x : ℕ) → (slot_at s x).colour ≡ Orange → (slot_at (down_if (is_orange c) s y) x).colour ≡ Orange
-down_all Orange s y e x o = (lower_keeps s y e).kept x o
-down_all Black s y e x o = unlike s y Black e (λ q. cc) x o
-down_all Purple s y e x o = unlike s y Purple e (λ q. cc) x o
-down_all Gray s y e x o = unlike s y Gray e (λ q. cc) x o
-down_all White s y e x o = unlike s y White e (λ q. cc) x o
-
--- where orange targets are lowered, they stay orange
-pub off_keeps_all : (s : State) (t : Option ℕ) → IfSome t (λ x. 0 < (slot_at s x).count) → KeepsAll s (taken_off true s t)
-off_keeps_all s None h = lists_keep s s.work s.free
-off_keeps_all s (Some y) h = record { keeps = off_keeps true s (Some y) h; kept = down_all (slot_at s y).colour s y refl }
+pub off_keeps : (lowers : Bool) (s : State) (t : Option ℕ) → IfSome t (λ x. 0 < (slot_at s x).count) → Keeps lowers s (taken_off lowers s t)
+off_keeps lowers s None h = lists_keep lowers s s.work s.free
+off_keeps lowers s (Some y) h = down_keeps (is_lowered lowers (slot_at s y).colour) lowers s y refl h
 
 -- the last field of a slot: the slot is emptied, and the next zero is released
-end_keeps : (lowers : Bool) (s : State) (t : Option ℕ) (x : ℕ) → (slot_at s x).released ≡ true → IsReady s → (let u : State = emptied (taken_off lowers s t) x in KeepsAll (taken_off lowers s t) (without_first u.zeros u))
-end_keeps lowers s t x r ready =
+pub last_keeps : (lowers : Bool) (s : State) (t : Option ℕ) (x : ℕ) → (slot_at s x).released ≡ true → IsReady s → IfSome t (λ y. 0 < (slot_at s y).count) → (let u : State = emptied (taken_off lowers s t) x in Keeps lowers s (without_first u.zeros u))
+last_keeps lowers s t x r ready h =
     let off : State = taken_off lowers s t in
-    let released : (slot_at off x).released ≡ true = (off_most lowers s t).released x ∙ r in
-    all_on (emptied_keeps off x) (next_keeps (emptied off x) (ready_emptied off x released (ready_off lowers s t ready)).zeros)
-
-pub last_keeps : (lowers : Bool) (s : State) (t : Option ℕ) (x : ℕ) → (slot_at s x).released ≡ true → IsReady s → IfSome t (λ y. 0 < (slot_at s y).count) → (let u : State = emptied (taken_off lowers s t) x in Keeps s (without_first u.zeros u))
-last_keeps lowers s t x r ready h = keeps_on (off_keeps lowers s t h) (end_keeps lowers s t x r ready).keeps
-
-pub last_keeps_all : (s : State) (t : Option ℕ) (x : ℕ) → (slot_at s x).released ≡ true → IsReady s → IfSome t (λ y. 0 < (slot_at s y).count) → (let u : State = emptied (taken_off true s t) x in KeepsAll s (without_first u.zeros u))
-last_keeps_all s t x r ready h = all_on (off_keeps_all s t h) (end_keeps true s t x r ready)
+    keeps_on (off_keeps lowers s t h)
+    (keeps_on (listed_keeps (slot_at off x).buffered lowers off x) (next_keeps lowers (emptied off x) (ready_emptied off x ((off_most lowers s t).released x ∙ r) (ready_off lowers s t ready)).zeros))
 
 -- the last set is given up: its members are Black
 given_orange_if : (b : Bool) (v : Slot) → (dead_if b (unbuffered_if b v)).colour ≡ Orange → (b ≡ false) × (v.colour ≡ Orange)
@@ -277,10 +242,10 @@ given_zeros s a = λ x r c o.
     a x (ap (λ (v : Slot). v.released) (sym same) ∙ r) (ap (λ (v : Slot). v.count) (sym same) ∙ c) (λ q. o (ap (λ (v : Slot). v.colour) same ∙ q))
 
 -- another field comes next, or all members go to the free list
-behind_keeps : (at : Option Member) (s : State) → KeepsAll s (listed_behind s at).counts
-behind_keeps (Some a) s = lists_keep s s.work s.free
-behind_keeps None s = lists_keep s [] (s.free ++ s.work)
+behind_keeps : (at : Option Member) (s : State) → Keeps true s (listed_behind s at).counts
+behind_keeps (Some a) s = lists_keep true s s.work s.free
+behind_keeps None s = lists_keep true s [] (s.free ++ s.work)
 
 -- a word of a freeing
-pub gone_keeps : (fields : ℕ) (s : State) (t : Option ℕ) (a : Member) → IfSome t (λ x. 0 < (slot_at s x).count) → KeepsAll s (gone_on fields (taken_off true s t) a).counts
-gone_keeps fields s t a h = all_on (off_keeps_all s t h) (behind_keeps (behind fields (taken_off true s t).work a) (taken_off true s t))
+pub gone_keeps : (fields : ℕ) (s : State) (t : Option ℕ) (a : Member) → IfSome t (λ x. 0 < (slot_at s x).count) → Keeps true s (gone_on fields (taken_off true s t) a).counts
+gone_keeps fields s t a h = keeps_on (off_keeps true s t h) (behind_keeps (behind fields (taken_off true s t).work a) (taken_off true s t))

@@ -1,20 +1,13 @@
 -- What a sweep keeps of the counts.
-use Rattle.std.proofs.Common.{◌≡◌, ◌<◌, ℕ, false, eqb, inl, inr, List, [], ◌∷◌, Some, drop, slice_get, arith, refl, ap, ◌∙◌}
+use Rattle.std.proofs.Common.{◌≡◌, ℕ, false, eqb, inl, inr, [], ◌∷◌, drop, arith, refl, ap, ◌∙◌}
 use Rattle.std.proofs.lemmas.Bool.Decides.{eqb_tells}
 use Rattle.rec_counts.specs.declared.slot.Slot.{Slot}
 use Rattle.rec_counts.specs.Counts.{State, slot_at}
-use Rattle.rec_counts.specs.Lists.{one, times}
+use Rattle.rec_counts.specs.Lists.{one}
 use Rattle.rec_counts.specs.Slot.{swept_clean}
 use Rattle.rec_counts.proofs.Keeping.{field_kept}
-use Rattle.rec_counts.proofs.Times.{times-nil, times-cons, times_rest, one-same}
+use Rattle.rec_counts.proofs.Times.{times-nil, times-cons, times_rest}
 use Rattle.rec_release.specs.Sweep.{AreUnbuffered, swept}
-
--- what comes first stands in the list
-pub first_in : (xs : List ℕ) (x : ℕ) → slice_get xs 0 ≡ Some x → 0 < times x xs
-first_in [] x e = cc
-first_in (y ∷ ys) x e =
-    let q : y ≡ x = cc in
-    omega (arith, ap (λ z. times z (y ∷ ys)) q, times-cons y y ys, one-same y)
 
 pub unbuffered_rest : (s : State) → AreUnbuffered s → AreUnbuffered (record s { free = drop 1 s.free })
 unbuffered_rest s k = λ y h. k y (omega (arith, h, times_rest y s.free))

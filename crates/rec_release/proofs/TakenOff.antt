@@ -1,17 +1,19 @@
 -- What taking off a reference leaves, whether its target is lowered or decremented.
-use Rattle.std.proofs.Common.{◌≡◌, ℕ, ◌-◌, ◌<◌, ◌⊎◌, Bool, true, false, eqb, Option, Some, None, List, [], ◌++◌, length, get_or, refl, arith, sym, ◌∙◌, ap, subst, inl, inr}
-use Rattle.std.proofs.lemmas.List.{append-nil, length-set, get_or-set_same, get_or-set_other, get_or_past, set_past}
+use Rattle.std.proofs.Common.{◌≡◌, ℕ, ◌+◌, ◌-◌, ◌<◌, ◌⊎◌, Bool, true, false, cond, eqb, Option, Some, None, List, [], ◌∷◌, ◌++◌, length, get_or, refl, arith, sym, ◌∙◌, ap, subst, inl, inr}
+use Rattle.std.proofs.lemmas.List.{append-nil, length-set, get_or-set_same, get_or-set_other, set_past}
+use Rattle.std.proofs.lemmas.List.Sums.{sum_by_push}
 use Rattle.std.proofs.lemmas.Bool.{cases_lt}
 use Rattle.std.proofs.lemmas.Bool.Decides.{eqb_tells}
-use Rattle.rec_word.specs.Word.{is_slot}
+use Rattle.rec_word.specs.Word.{is_slot, target_of}
 use Rattle.rec_counts.specs.declared.slot.Slot.{Slot}
 use Rattle.rec_counts.specs.Counts.{State, slot_at, with_slot, decremented}
 use Rattle.rec_counts.specs.Lists.{one, times}
-use Rattle.rec_counts.specs.Rest.{AllZeros, AreZeros, KeepsRest}
+use Rattle.rec_counts.specs.Rest.{AreZeros, KeepsRest}
 use Rattle.rec_counts.specs.Slot.{absent, lowered}
-use Rattle.rec_counts.proofs.Decrementing.{all_zeros_kept, buffered_kept, decremented_less, rest_decremented, unbuffered_before, zeros_from, zeros_kept, ZerosFrom}
-use Rattle.rec_counts.proofs.Keeping.{field_kept}
+use Rattle.rec_counts.proofs.Decrementing.{buffered_kept, decremented_less, rest_decremented, unbuffered_before, zeros_from, zeros_kept, ZerosFrom}
+use Rattle.rec_counts.proofs.Keeping.{field_kept, less_at}
 use Rattle.rec_release.specs.Release.{IsReady}
+use Rattle.rec_release.specs.Released.{leading}
 use Rattle.rec_release.specs.TakenOff.{down_if, is_lowered, taken_off}
 
 -- a slot after a write: it was written, or it is as it was
@@ -22,21 +24,6 @@ written s y v x = elim (eqb_tells x y) [
     | inr l ↦ inr (ap (λ slots. get_or slots x absent) (set_past s.slots y v l))
   ]
   | inr q ↦ inr (get_or-set_other s.slots y x v absent q.1)
-]
-
-lowered_less : (s : State) (y x : ℕ) → (slot_at (with_slot s y (lowered (slot_at s y))) x).count ≡ (slot_at s x).count - one (eqb x y)
-lowered_less s y x = elim (eqb_tells x y) [
-  | inl q ↦ let n : one (eqb x y) ≡ 1 = ap one q.0 in elim (cases_lt y (length s.slots)) [
-    | inl l ↦ let e : (slot_at (with_slot s y (lowered (slot_at s y))) x).count ≡ (slot_at s x).count - 1 =
-        ap (λ z. (slot_at (with_slot s y (lowered (slot_at s y))) z).count) q.1 ∙ ap (λ (v : Slot). v.count) (get_or-set_same s.slots y (lowered (slot_at s y)) absent l) ∙ ap (λ z. (slot_at s z).count - 1) (sym q.1) in
-        omega (arith, e, n)
-    | inr l ↦ let e : (slot_at (with_slot s y (lowered (slot_at s y))) x).count ≡ (slot_at s x).count = ap (λ slots. (get_or slots x absent).count) (set_past s.slots y (lowered (slot_at s y)) l) in
-        let z : (slot_at s x).count ≡ 0 = ap (λ w. (slot_at s w).count) q.1 ∙ ap (λ (v : Slot). v.count) (get_or_past s.slots y absent l) in
-        omega (arith, e, z)
-  ]
-  | inr q ↦ let n : one (eqb x y) ≡ 0 = ap one q.0 in
-      let e : (slot_at (with_slot s y (lowered (slot_at s y))) x).count ≡ (slot_at s x).count = ap (λ (v : Slot). v.count) (get_or-set_other s.slots y x (lowered (slot_at s y)) absent q.1) in
-      omega (arith, e, n)
 ]
 
 -- what taking off leaves
@@ -55,10 +42,10 @@ pub record KeepsMost (s t : State) : Type 0 where
   pub unbuffered : (x : ℕ) → (slot_at t x).buffered ≡ false → (slot_at s x).buffered ≡ false
 
 down_count : (b : Bool) (s : State) (y x : ℕ) → (slot_at (down_if b s y) x).count ≡ (slot_at s x).count - one (eqb x y)
-down_count true s y x = lowered_less s y x
+down_count true s y x = less_at (λ (v : Slot). v.count) s.slots y (lowered (slot_at s y)) refl refl x
 down_count false s y x = decremented_less s y x
 
-down_most : (b : Bool) (s : State) (y : ℕ) → KeepsMost s (down_if b s y)
+pub down_most : (b : Bool) (s : State) (y : ℕ) → KeepsMost s (down_if b s y)
 down_most true s y =
     let v : Slot = lowered (slot_at s y) in
     let released : (x : ℕ) → (slot_at (with_slot s y v) x).released ≡ (slot_at s x).released = λ x. field_kept (λ (w : Slot). w.released) s.slots y v refl x in
@@ -72,7 +59,7 @@ down_most true s y =
       released = released;
       set = λ x. field_kept (λ (w : Slot). w.set) s.slots y v refl x;
       zeros = ([], sym (append-nil s.zeros));
-      ready = λ a. record { once = a.once; none = λ x h. omega (arith, lowered_less s y x, a.none x h); unreleased = λ x h. released x ∙ a.unreleased x h };
+      ready = λ a. record { once = a.once; none = λ x h. omega (arith, down_count true s y x, a.none x h); unreleased = λ x h. released x ∙ a.unreleased x h };
       buffered = λ x r. buffered x;
       unbuffered = λ x b. sym (buffered x) ∙ b;
     }
@@ -119,7 +106,11 @@ ready_off lowers s t r =
     let k : KeepsMost s (taken_off lowers s t) = off_most lowers s t in
     record { zeros = k.ready r.zeros; free = λ x h. k.released x ∙ r.free x (subst (λ xs. 0 < times x xs) k.free h) }
 
--- where no target is lowered, all zeros still stand in the zeros
-pub all_zeros_off : (s : State) (t : Option ℕ) → AllZeros s → AllZeros (taken_off false s t)
-all_zeros_off s None k = k
-all_zeros_off s (Some x) k = all_zeros_kept s x k
+-- the words that lead to a slot
+pub leading-nil : (x : ℕ) → leading x [] ≡ 0
+unfolding leading
+leading-nil x = refl
+
+pub leading_push : (x : ℕ) (words : List ℕ) (word : ℕ) → leading x (words ++ word ∷ []) ≡ leading x words + one (is_slot x (target_of word))
+unfolding leading
+leading_push x words word = sum_by_push (λ w. cond (is_slot x (target_of w)) 1 0) words word

@@ -1,5 +1,7 @@
-use Rattle.rec_release.proofs.Giving.{dead_slot}
+use Rattle.std.proofs.Common.{refl}
+use Rattle.std.proofs.lemmas.List.{get_or-set_same, set-set}
+use Rattle.rec_counts.specs.Slot.{absent}
 use Rattle.rec_release.proofs.cycle_free.give_up_slot.Goals as goal
 
 pub returns : goal.returns
-returns c = dead_slot c.args.counts.now c.args.slot c.requires c.release.new.self c.release.ensures c.set_colour.new.self c.set_colour.ensures
+returns c = rw (c.set_colour.ensures, c.release.ensures, get_or-set_same c.args.counts.now.slots c.args.slot _ absent c.requires, set-set) refl

@@ -1,7 +1,7 @@
 use Rattle.std.proofs.Common.{◌≡◌, ◌<◌, Some, length, slice_get, arith, sym, ap, ◌∙◌}
 use Rattle.rec_counts.specs.Counts.{State}
+use Rattle.rec_counts.proofs.Front.{first_in}
 use Rattle.rec_counts.proofs.Times.{in_range_once}
-use Rattle.rec_release.proofs.Sweeping.{first_in}
 use Rattle.rec_release.proofs.release.release_next.Goals as goal
 
 pub release-requires : goal.release-requires

@@ -1,4 +1,4 @@
-use Rattle.std.proofs.Common.{◌≡◌, ℕ, true, Option, Some, None, IsSome, sym, subst, ap, ◌∙◌}
+use Rattle.std.proofs.Common.{◌≡◌, ℕ, true, Option, Some, None, IsSome, refl, sym, subst, ap, ◌∙◌}
 use Rattle.std.proofs.lemmas.Bool.{false≢true}
 use Rattle.rec_word.specs.Word.{target_of}
 use Rattle.rec_walk.specs.declared.member.Member.{Member}
@@ -6,6 +6,7 @@ use Rattle.rec_counts.specs.Counts.{State}
 use Rattle.rec_release.specs.CycleFree.{Machine, gone_on, next_of, took_of, work_of, IsAtWork}
 use Rattle.rec_release.specs.TakenOff.{taken_off}
 use Rattle.rec_release.proofs.Freeing.{goes_on, took_some, Goes}
+use Rattle.rec_release.proofs.Orange.{keeps_orange}
 use Rattle.rec_release.proofs.cycle_free.CycleFree.took.Goals as goal
 
 pub returns-in_default : goal.returns-in_default
@@ -27,10 +28,10 @@ returns c =
     record {
       took = ap (work_of f) e ∙ sym (took_some f a s c.args.word) ∙ ap (λ (p : Machine). took_of (record { machine = p; counts = s }) c.args.word) (sym m);
       kept = g.kept;
-      slots = g.slots;
-      sets = g.sets;
-      all_but_orange = g.all_but_orange;
-      apart = g.apart;
-      orange = g.orange;
+      slots = g.keeps.slots;
+      sets = g.keeps.sets;
+      all_but_orange = g.keeps.zeros;
+      apart = g.keeps.apart;
+      orange = keeps_orange g.keeps refl;
       whole = rw m g.whole;
     }

@@ -1,21 +1,31 @@
-use Rattle.std.proofs.Common.{refl}
-use Rattle.rec_release.proofs.Runs.{at_work, begins, Begins}
+use Rattle.std.proofs.Common.{◌≡◌, ◌∙◌, ℕ, Bool, false, true, IsNone, [], refl, sym, subst}
+use Rattle.rec_counts.specs.Counts.{State}
+use Rattle.rec_release.specs.Release.{Work, next_of, started_of, with_next, IsAtWork}
+use Rattle.rec_release.specs.Released.{Released}
+use Rattle.rec_release.proofs.Keeping.{none_left, work_next}
+use Rattle.rec_release.proofs.Orange.{keeps_orange, next_keeps, Keeps}
+use Rattle.rec_release.proofs.Runs.{at_work, came_first}
 use Rattle.rec_release.proofs.release.Release.start.Goals as goal
 
 pub returns : goal.returns
+unfolding started_of
 returns c =
-    let b : Begins c.self.inside.fields c.args.lowers c.args.counts.now (at_work c.self.inside.fields c.args.lowers c.release_next-self-inside.result c.release_next-self-inside.new.counts) =
-    rw (c.release_next-self-inside.ensures.first, c.release_next-self-inside.ensures.released) (begins c.self.inside.fields c.args.lowers c.args.counts.now c.self.invariant.0 c.requires.ready) in
+    let f : ℕ = c.self.inside.fields in
+    let b : Bool = c.args.lowers in
+    let s : State = c.args.counts.now in
+    let e : at_work f b c.release_next-self-inside.result c.release_next-self-inside.new.counts ≡ with_next f b s = rw (c.release_next-self-inside.ensures.first, c.release_next-self-inside.ensures.released) refl in
+    let n = came_first f b s c.self.invariant.0 c.requires.ready in
+    let k : (l : Bool) → Keeps l s c.release_next-self-inside.new.counts = λ l. rw c.release_next-self-inside.ensures.released (next_keeps l s c.requires.ready.zeros) in
     record {
-      started = rw (← c.self.view_is) (b.started c.self.inside.at c.self.inside.lowers);
-      kept = b.kept;
-      slots = b.slots;
+      started = rw (← c.self.view_is) e;
+      kept = subst (λ (v : Work). IsAtWork v.machine v.counts) (sym e) (work_next f b s c.self.invariant.0 c.requires.ready);
+      slots = (k b).slots;
       lowers = refl;
-      sets = b.sets;
-      done = b.done;
-      all_zeros = b.all_zeros;
-      all_but_orange = b.all_but_orange;
-      apart = b.apart;
-      orange = b.orange;
-      whole = b.whole;
+      sets = (k b).sets;
+      done = subst (λ (v : Work). IsNone (next_of v.machine) → v.counts.zeros ≡ []) (sym e) (none_left f b s);
+      all_zeros = (k false).all_zeros refl;
+      all_but_orange = (k b).zeros;
+      apart = (k b).apart;
+      orange = keeps_orange (k true) refl;
+      whole = (n.slots, subst (λ (v : Work). Released f s v.machine.at v.counts [] [] n.slots) (sym (e ∙ n.is)) n.law);
     }

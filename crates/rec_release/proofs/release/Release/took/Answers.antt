@@ -1,11 +1,14 @@
-use Rattle.std.proofs.Common.{◌≡◌, ℕ, Bool, Option, Some, None, IsSome, sym, subst, ap, ◌∙◌}
+use Rattle.std.proofs.Common.{◌≡◌, ℕ, ◌++◌, Bool, Option, Some, None, IsSome, [], ◌∷◌, take, sym, subst, ap, ◌∙◌}
 use Rattle.std.proofs.lemmas.Bool.{false≢true}
+use Rattle.rec_word.specs.Place.{places_from}
 use Rattle.rec_word.specs.Word.{target_of}
 use Rattle.rec_counts.specs.Counts.{State}
 use Rattle.rec_release.specs.declared.at.At.{At}
 use Rattle.rec_release.specs.Release.{Machine, Work, gone_on, next_of, took_of, IsAtWork}
+use Rattle.rec_release.specs.Released.{Released}
 use Rattle.rec_release.specs.TakenOff.{taken_off}
-use Rattle.rec_release.proofs.Runs.{at_work, goes_on, more_whole, took_some, Goes}
+use Rattle.rec_release.proofs.Orange.{keeps_orange}
+use Rattle.rec_release.proofs.Runs.{at_work, came_more, goes_on, took_some, Goes}
 use Rattle.rec_release.proofs.release.Release.took.Goals as goal
 
 pub returns-in_default : goal.returns-in_default
@@ -24,18 +27,19 @@ returns c =
     let k : IsAtWork (record { fields = f; at = Some a; lowers = b }) s = subst (λ (p : Machine). IsAtWork p s) m c.requires.kept in
     let v : Work = at_work f b c.go_on-self-inside.result c.go_on-self-inside.new.counts in
     let e : v ≡ gone_on f b a (taken_off b s (target_of c.args.word)) = c.go_on-self-inside.ensures.gone b ∙ ap (λ (u : State). gone_on f b a u) (c.take_off.ensures ∙ ap (taken_off b s) c.target.ensures.target) in
-    let t : v ≡ took_of (at_work f b (Some a) s) c.args.word = e ∙ sym (took_some f b a s c.args.word) in
-    let g : Goes f b a s c.args.word v = subst (Goes f b a s c.args.word) (sym e) (goes_on f b a s c.args.word k c.requires.counted) in
+    let g : Goes f b s v = subst (Goes f b s) (sym e) (goes_on f b a s (target_of c.args.word) k c.requires.counted) in
     record {
-      took = t ∙ ap (λ (p : Machine). took_of (record { machine = p; counts = s }) c.args.word) (sym m);
+      took = e ∙ sym (took_some f b a s c.args.word) ∙ ap (λ (p : Machine). took_of (record { machine = p; counts = s }) c.args.word) (sym m);
       kept = g.kept;
-      slots = g.slots;
+      slots = g.keeps.slots;
       lowers = ap (λ (p : Machine). p.lowers) (sym m);
-      sets = g.sets;
+      sets = g.keeps.sets;
       done = g.done;
-      all_zeros = g.all_zeros;
-      all_but_orange = g.all_but_orange;
-      apart = g.apart;
-      orange = g.orange;
-      whole = rw m (λ before words from slots r. more_whole f b before a s words from slots c.args.word v k.field t r);
+      all_zeros = g.keeps.all_zeros;
+      all_but_orange = g.keeps.zeros;
+      apart = g.keeps.apart;
+      orange = keeps_orange g.keeps;
+      whole = rw m (λ before words from slots r.
+          let n = came_more f b before a s words from slots c.args.word k.field r in
+          (n.slots, subst (λ (u : Work). Released f before u.machine.at u.counts (words ++ c.args.word ∷ []) (from ++ take 1 (places_from f a.slot a.field)) n.slots) (sym (e ∙ n.is)) n.law));
     }

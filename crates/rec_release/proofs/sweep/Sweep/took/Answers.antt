@@ -1,7 +1,8 @@
 use Rattle.std.proofs.Common.{◌≡◌, ◌<◌, Some, length, slice_get, arith, rules, sym, ap, ◌∙◌}
 use Rattle.rec_counts.specs.Counts.{State, slot_at}
+use Rattle.rec_counts.proofs.Front.{first_in}
 use Rattle.rec_counts.proofs.Times.{in_range_once}
-use Rattle.rec_release.proofs.Sweeping.{first_in, unbuffered_rest, unbuffered_swept}
+use Rattle.rec_release.proofs.Sweeping.{unbuffered_rest, unbuffered_swept}
 use Rattle.rec_release.proofs.sweep.Sweep.took.Goals as goal
 use Rattle.rec_release.proofs.sweep.Sweep.took.Goals.{in-Some, in_default}
 
