@@ -13,7 +13,7 @@ use Rattle.rec_walk.specs.declared.member.Member.{Member}
 use Rattle.rec_collector.specs.Clearing.{HasExchanged, IsClearing, IsDone, IsWide}
 use Rattle.rec_collector.specs.Followed.{followed, next_in, relieved, tested_on, trial_started, with_freed, with_offers, with_released}
 use Rattle.rec_collector.specs.Given.{IsCovered}
-use Rattle.rec_collector.specs.Kept.{IsAt, IsAtRest, IsMachine, IsTesting}
+use Rattle.rec_collector.specs.Kept.{IsAt, IsMachine, IsTesting}
 use Rattle.rec_collector.specs.Offered.{KeepsOffered}
 use Rattle.rec_collector.specs.Parts.{Parts}
 use Rattle.rec_collector.specs.Private.{Private, parts_of}
@@ -21,12 +21,11 @@ use Rattle.rec_collector.specs.Testing.{is_busy_at, tested, told, zeros_released
 use Rattle.rec_collector.specs.Took.{batched}
 use Rattle.rec_collector.specs.declared.phase.Phase.{Phase}
 use Rattle.rec_collector.specs.declared.phase.Phase.TheVariants.{Returning, Releasing, Freeing}
-use Rattle.rec_collector.proofs.Batched.{batched_clear, resting_clear}
-use Rattle.rec_collector.proofs.Clearing.{clear_counted, clear_ready, clear_uncoloured, relieved_clear, released_clear, tested_clear, tested_ends, tested_kept, zeros_clear}
+use Rattle.rec_collector.proofs.Batched.{batched_clear, none_released, resting_clear}
+use Rattle.rec_collector.proofs.Clearing.{clear_counted, clear_listed, clear_ready, clear_uncoloured, relieved_clear, released_clear, tested_clear, tested_ends, tested_kept, zeros_clear}
 use Rattle.rec_collector.proofs.Counting.{freed_kept, released_kept, relieved_kept, zeros_kept}
 use Rattle.rec_collector.proofs.Exchanging.{exchanged_few, none_exchanged, released_exchanged, relieved_exchanged, tested_exchanged, zeros_exchanged}
 use Rattle.rec_collector.proofs.Landing.{Fits, Lands, fits_all, landed, now_at, told_at}
-use Rattle.rec_collector.proofs.Listing.{clear_listed}
 use Rattle.rec_collector.proofs.Offering.{where_keeps, where_kept, where_listed, where_ready, where_uncoloured}
 use Rattle.rec_collector.proofs.Told.{KeepsNumbers, freed_same, freed_told, numbers_on, released_same, released_told, relieved_same, relieved_told, tested_same, tested_told, told_and_left, zeros_same, zeros_told}
 use Rattle.rec_collector.proofs.Trying.{started_tried, tried_lands}
@@ -155,10 +154,6 @@ freed_clears p word k e c =
       told = omega (arith, told_at p Freeing k e, freed_told w word, relieved_told (with_freed w word));
     }
 
--- at rest the parts are clear
-pub rest_clears : (p : Private) → IsAtRest p → IsClearing (parts_of p)
-rest_clears p a = resting_clear (parts_of p) a.untried a.idle a.unprepared a.apart a.none a.counted a.outside a.zeros a.free a.work a.still a.unfreed
-
 -- a batch can be applied, and the parts are then clear
 covered_falls : (s : State) (newer older : List Contents) → s.zeros ≡ [] → IsCovered s newer older → CanFall (all_up s (flat_map up_targets newer)) (flat_map down_targets older)
 covered_falls s newer older z c =
@@ -171,7 +166,7 @@ covered_clears w newer older z c still unfreed i = batched_clear w newer older (
 batched_clears : (p : Private) (t : ℕ) → IsMachine p → p.phase ≡ Returning t → IsCovered p.counts p.newer p.older → IsClearing (batched p)
 batched_clears p t k e c =
     let a : IsAt p (Returning t) = now_at p (Returning t) k e in
-    covered_clears (parts_of p) p.newer p.older a.rest.zeros c a.rest.still a.rest.unfreed (rest_clears p a.rest)
+    covered_clears (parts_of p) p.newer p.older a.rest.zeros c a.rest.still a.rest.unfreed (resting_clear (parts_of p) a.rest)
 
 batched_same : (p : Private) → KeepsNumbers (parts_of p) (batched p)
 batched_same p = record { release_fields = refl; freeing_fields = refl; trial = refl; prep = refl; offers = refl; slots = (batch_rests p.counts p.newer p.older).slots }
@@ -187,7 +182,7 @@ begun_clears p t k e last c =
     let b : IsClearing w = batched_clears p t k e c in
     let rests : KeepsRest p.counts w.counts = batch_rests p.counts p.newer p.older in
     let clear = zeros_clear false w k.fields a.rest.still a.rest.unfreed b in
-    let none : HasExchanged w 0 = none_exchanged w (λ x l. rests.released x ∙ a.rest.none x (omega (arith, l, rests.slots))) a.rest.still a.rest.unfreed in
+    let none : HasExchanged w 0 = none_exchanged w (λ x l. rests.released x ∙ none_released a.rest x (omega (arith, l, rests.slots))) a.rest.still a.rest.unfreed in
     record {
       clearing = clear.0;
       done = clear.1;
@@ -195,7 +190,7 @@ begun_clears p t k e last c =
       exchanged = 0;
       exchanges = zeros_exchanged false w 0 a.rest.still b none;
       turns = omega (arith, a.turns, last);
-      due = a.rest.due;
+      due = a.due;
       fits = fits_on (fits_self p k) (numbers_on (batched_same p) (zeros_same false w));
       told = omega (arith, told_at p (Returning t) k e, batched_told p, zeros_told false w);
     }

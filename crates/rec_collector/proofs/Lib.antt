@@ -13,7 +13,6 @@ pub mod Judging
 pub mod Keeping
 pub mod Landing
 pub mod Limits
-pub mod Listing
 pub mod Mailbox
 pub mod Offers
 pub mod OfferedTo

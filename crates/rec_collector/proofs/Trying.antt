@@ -21,14 +21,13 @@ use Rattle.rec_trial.proofs.Keeps.{KeepsCounts, LeavesNothing, at_work_few, at_w
 use Rattle.rec_trial.proofs.Midway.{times_released}
 use Rattle.rec_trial.proofs.Whole.{whole_over}
 use Rattle.rec_collector.specs.Followed.{prep_started, trial_begun, tried, tried_at, with_tried}
-use Rattle.rec_collector.specs.Kept.{IsMachine, IsTried, IsTrying, all_fields}
+use Rattle.rec_collector.specs.Kept.{AreOnTrial, IsListed, IsMachine, IsTried, IsTrying, all_fields}
 use Rattle.rec_collector.specs.Parts.{Parts}
 use Rattle.rec_collector.specs.Private.{Private, parts_of}
 use Rattle.rec_collector.specs.Testing.{told}
 use Rattle.rec_collector.specs.Zeros.{AreCounted}
 use Rattle.rec_collector.specs.declared.phase.Phase.TheVariants.{Trying}
 use Rattle.rec_collector.proofs.Landing.{Fits, Lands, fits_all, now_at, told_at}
-use Rattle.rec_collector.proofs.Listing.{IsListed}
 use Rattle.rec_collector.proofs.Preparing.{prepared_lands, started_prepared}
 
 module _ (s t : State) (k : KeepsCounts s t) (old : IsKeptCounts s) (new : IsKeptCounts t) (l : IsListed s) where
@@ -90,15 +89,9 @@ over_apart m s a n none z = λ x e.
 
 -- A collection has come to `w` in its trial.
 pub record HasTried (p : Private) (w : Parts) : Type 0 where
-  pub kept : IsAtWork w.trial w.counts
+  pub on_trial : AreOnTrial w.counts w.release w.freeing w.trial w.prep
+  pub open on_trial use *
   pub counts : IsKeptCounts w.counts
-  pub uncoloured : (x : ℕ) → (slot_at kept.before x).colour ≢ Orange
-  pub counted : AreCounted w.counts
-  pub listed : IsListed w.counts
-  pub zeros : w.counts.zeros ≡ []
-  pub still : w.release.at ≡ None
-  pub unfreed : w.freeing.at ≡ None
-  pub unprepared : w.prep.at ≡ None
   pub fits : Fits p w
   pub due : p.due ≡ None
   pub turns : p.turns ≤ 2 * length p.newer + all_fields p + length kept.words
@@ -128,15 +121,17 @@ started_tried p w f ready k listed none counted zeros still unfreed unprepared f
     let fields : v.machine.fields ≡ w.trial.fields = started_fields w.trial.fields w.counts f ready in
     let counts : IsKeptCounts v.counts = started_counted w.trial.fields w.counts f k ready in
     record {
-      kept = record { wide = omega (arith, f, fields); before = w.counts; words = []; kept = k; ready = ready; named = tt; is = sym (run_none w.trial.fields w.counts) ∙ ap (λ n. (run_of n w.counts []).work) (sym fields) };
+      on_trial = record {
+        kept = record { wide = omega (arith, f, fields); before = w.counts; words = []; kept = k; ready = ready; named = tt; is = sym (run_none w.trial.fields w.counts) ∙ ap (λ n. (run_of n w.counts []).work) (sym fields) };
+        uncoloured = none;
+        counted = counted_on w.counts v.counts keeps counted;
+        zeros = keeps.zeros ∙ zeros;
+        still = still;
+        unfreed = unfreed;
+        unprepared = unprepared;
+        places = still_listed w.counts v.counts keeps k counts listed;
+      };
       counts = counts;
-      uncoloured = none;
-      counted = counted_on w.counts v.counts keeps counted;
-      listed = still_listed w.counts v.counts keeps k counts listed;
-      zeros = keeps.zeros ∙ zeros;
-      still = still;
-      unfreed = unfreed;
-      unprepared = unprepared;
       fits = tried_fits p w v fits keeps.slots fields;
       due = due;
       turns = omega (arith, turns);
@@ -154,15 +149,17 @@ took_tried p word k e l =
     let more : length (took_at_work p.trial p.counts a.kept word l v.machine v.counts refl).words ≡ length a.kept.words + 1 = ap length (took_words p.trial p.counts a.kept word l v.machine v.counts refl) ∙ length_push a.kept.words word in
     let all : length p.counts.slots * p.trial.fields ≡ all_fields p = ap (λ n. length p.counts.slots * n) k.trial_fields in
     record {
-      kept = took_at_work p.trial p.counts a.kept word l v.machine v.counts refl;
+      on_trial = record {
+        kept = took_at_work p.trial p.counts a.kept word l v.machine v.counts refl;
+        uncoloured = subst (λ (b : State). (x : ℕ) → (slot_at b x).colour ≢ Orange) (sym (took_before p.trial p.counts a.kept word l v.machine v.counts refl)) a.uncoloured;
+        counted = counted_on p.counts v.counts keeps a.counted;
+        zeros = keeps.zeros ∙ a.zeros;
+        still = a.still;
+        unfreed = a.unfreed;
+        unprepared = a.unprepared;
+        places = still_listed p.counts v.counts keeps k.counts counts a.places;
+      };
       counts = counts;
-      uncoloured = subst (λ (b : State). (x : ℕ) → (slot_at b x).colour ≢ Orange) (sym (took_before p.trial p.counts a.kept word l v.machine v.counts refl)) a.uncoloured;
-      counted = counted_on p.counts v.counts keeps a.counted;
-      listed = still_listed p.counts v.counts keeps k.counts counts (record { listed = a.listed; only = a.only; unbuffered = a.unbuffered });
-      zeros = keeps.zeros ∙ a.zeros;
-      still = a.still;
-      unfreed = a.unfreed;
-      unprepared = a.unprepared;
       fits = record { slots = keeps.slots; release_fields = refl; freeing_fields = k.freeing_fields; trial_fields = took_fields p.trial p.counts a.kept word l ∙ k.trial_fields; prep_fields = k.prep_fields };
       due = a.due;
       turns = omega (arith, a.turns, more);
@@ -184,8 +181,8 @@ over_tried p w h n =
       work = l.work;
       still = h.still;
       unfreed = h.unfreed;
-      listed = λ x i t. omega (arith, h.listed.listed x i t, ap (times x) l.roots, times-nil x);
-      unbuffered = h.listed.unbuffered;
+      listed = λ x i t. omega (arith, h.listed x i t, ap (times x) l.roots, times-nil x);
+      unbuffered = h.unbuffered;
     }
 
 -- what follows
@@ -203,21 +200,7 @@ tried_lands p w f h = go (next_of w.trial) refl
       under = refl;
       none = refl;
       told = h.told;
-      now = record {
-        kept = h.kept;
-        busy = subst (λ (op : Option Op). IsSome op) (sym e) refl;
-        uncoloured = h.uncoloured;
-        counted = h.counted;
-        zeros = h.zeros;
-        still = h.still;
-        unfreed = h.unfreed;
-        unprepared = h.unprepared;
-        due = h.due;
-        listed = h.listed.listed;
-        only = h.listed.only;
-        unbuffered = h.listed.unbuffered;
-        turns = omega (arith, h.turns, all);
-      };
+      now = record { on_trial = h.on_trial; busy = subst (λ (op : Option Op). IsSome op) (sym e) refl; due = h.due; turns = omega (arith, h.turns, all) };
     }
     go None e = prepared_lands p (prep_started w) (
         started_prepared p w (omega (arith, f, h.fits.prep_fields)) (over_tried p w h (subst (λ (op : Option Op). IsNone op) (sym e) refl)) h.counts h.fits h.due (omega (arith, h.turns, h.few)) (omega (arith, h.told, h.counts.few_sets, h.counts.few_slots))

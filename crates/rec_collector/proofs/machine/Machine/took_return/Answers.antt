@@ -1,9 +1,9 @@
 use Rattle.std.proofs.Common.{◌≡◌, ◌≢◌, length, refl, ap, sym, ◌∙◌}
 use Rattle.rec_collector.specs.Inside.{private}
-use Rattle.rec_collector.specs.Private.{Private}
+use Rattle.rec_collector.specs.Private.{Private, parts_of}
 use Rattle.rec_collector.specs.Took.{took_at, turn_at}
 use Rattle.rec_collector.specs.declared.phase.Phase.TheVariants.{Returning}
-use Rattle.rec_collector.proofs.Following.{rest_clears}
+use Rattle.rec_collector.proofs.Batched.{resting_clear}
 use Rattle.rec_collector.proofs.Landing.{now_at}
 use Rattle.rec_collector.proofs.Turning.{batch_follows, return_turns, returned_answer, returned_last, returned_moved, returned_next, turned, turned_keeps}
 use Rattle.rec_collector.proofs.machine.Machine.took_return.Goals as goal
@@ -23,7 +23,7 @@ returns-then-from-len-clause-turn c =
 pub apply_batch-self-inside-requires-clause-clearing : goal.apply_batch-self-inside-requires-clause-clearing
 apply_batch-self-inside-requires-clause-clearing c =
     let p : Private = private c.self.inside in
-    rest_clears p (now_at p (Returning c.args.mutator) c.self.invariant (ap (λ (q : Private). q.phase) c.self.view_is ∙ c.requires.phase)).rest
+    resting_clear (parts_of p) (now_at p (Returning c.args.mutator) c.self.invariant (ap (λ (q : Private). q.phase) c.self.view_is ∙ c.requires.phase)).rest
 
 pub invariant_of-self-2 : goal.invariant_of-self-2
 invariant_of-self-2 c =
