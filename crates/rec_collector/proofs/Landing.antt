@@ -1,13 +1,19 @@
 -- Where a turn lands that works on the parts of the machine: the phase that it came to, and what holds there.
-use Rattle.std.proofs.Common.{◌≡◌, ◌+◌, ◌*◌, ◌^◌, ◌≤◌, length, refl, arith, sym, ap, subst, ◌∙◌}
+use Rattle.std.proofs.Common.{◌≡◌, ℕ, ◌+◌, ◌*◌, ◌^◌, ◌≤◌, false, Option, None, Some, List, [], ◌∷◌, length, refl, arith, sym, ap, subst, ◌∙◌}
+use Rattle.rec_word.specs.declared.op.Op.{Op}
 use Rattle.rec_counts.specs.Counts.{IsKept as IsKeptCounts}
-use Rattle.rec_collector.specs.Followed.{Next}
+use Rattle.rec_release.specs.declared.at.At.{At}
+use Rattle.rec_walk.specs.declared.member.Member.{Member}
+use Rattle.rec_sigma.specs.declared.at.At as loads
+use Rattle.rec_trial.specs.Trial.{next_of as trial_next}
+use Rattle.rec_collector.specs.Followed.{Next, followed, prep_started, prepared, prepared_at, relieved, tested_on, trial_started, tried, tried_at, with_freed, with_loaded, with_released, with_tried}
 use Rattle.rec_collector.specs.Kept.{all_fields, IsAt, IsMachine, IsTold, KeepsSizes, swept_at, under_way}
 use Rattle.rec_collector.specs.Parts.{Parts}
-use Rattle.rec_collector.specs.Private.{Private, with_parts}
-use Rattle.rec_collector.specs.Took.{moved}
+use Rattle.rec_collector.specs.Private.{Private, parts_of, with_parts}
+use Rattle.rec_collector.specs.Testing.{tested, zeros_released}
+use Rattle.rec_collector.specs.Took.{batched, moved}
 use Rattle.rec_collector.specs.declared.phase.Phase.{Phase}
-use Rattle.rec_collector.specs.declared.phase.Phase.TheVariants.{Idle}
+use Rattle.rec_collector.specs.declared.phase.Phase.TheVariants.{Idle, Releasing, Freeing, Trying, Preparing, Opening, Closing}
 
 -- what holds in the phase of a machine
 pub now_at : (p : Private) (phase : Phase) → IsMachine p → p.phase ≡ phase → IsAt p phase
@@ -22,6 +28,52 @@ freed_at p phase k e = subst (λ (f : Phase). p.freed ≤ 2 ^ 16 * p.collections
 
 pub told_at : (p : Private) (phase : Phase) → IsMachine p → p.phase ≡ phase → IsTold p phase
 told_at p phase k e = subst (λ (f : Phase). IsTold p f) e k.told
+
+-- what holds of each phase in which a preparation, a trial or a release may end, holds of the phase that follows it
+module _ (P : Phase → Type 0) (preparing : P Preparing) (opening : P Opening) (closing : P (Closing 0)) where
+  pub prepared_phase : (w : Parts) → P (prepared w).phase
+  unfolding prepared
+  prepared_phase w = go w.prep.at w.counts.free
+    where
+      go : (at : Option loads.At) (free : List ℕ) → P (prepared_at (record w { counts = record w.counts { free = free } }) at).phase
+      go (Some a) free = preparing
+      go None [] = closing
+      go None (x ∷ free) = opening
+
+  module _ (trying : P Trying) where
+    pub tried_phase : (w : Parts) → P (tried w).phase
+    unfolding tried
+    tried_phase w = go (trial_next w.trial)
+      where
+        go : (op : Option Op) → P (tried_at w op).phase
+        go None = prepared_phase (prep_started w)
+        go (Some o) = trying
+
+    pub followed_phase : P Freeing → P Releasing → (w : Parts) → P (followed w).phase
+    unfolding followed
+    followed_phase freeing releasing w = go v.release.at v.freeing.at
+      where
+        v : Parts
+        v = tested (length w.counts.sets) w
+
+        go : (at : Option At) (member : Option Member) → P (tested_on v at member).phase
+        go at (Some m) = freeing
+        go (Some a) None = releasing
+        go None None = tried_phase (trial_started v)
+
+-- what a word makes of the parts, by phase, where they are at work
+abbrev pub work_of : Private → (word : ℕ) → Phase → Next
+work_of p word Releasing = followed (with_released (parts_of p) word)
+work_of p word Freeing = followed (relieved (with_freed (parts_of p) word))
+work_of p word Trying = tried (with_tried (parts_of p) word)
+work_of p word Preparing = prepared (with_loaded (parts_of p) word)
+work_of p word _ = followed (zeros_released false (batched p))
+
+-- and what holds of the phase that follows
+pub work_phase : (P : Phase → Type 0) → P Releasing → P Freeing → P Trying → P Preparing → P Opening → P (Closing 0) → (p : Private) (word : ℕ) (phase : Phase) → P (work_of p word phase).phase
+work_phase P r f t l o c p word Trying = tried_phase P l o c t (with_tried (parts_of p) word)
+work_phase P r f t l o c p word Preparing = prepared_phase P l o c (with_loaded (parts_of p) word)
+work_phase P r f t l o c p word _ = followed_phase P l o c t f r _
 
 -- these parts have as many slots, and as many fields a slot, as the machine
 pub record Fits (p : Private) (w : Parts) : Type 0 where
