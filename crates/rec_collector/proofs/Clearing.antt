@@ -31,7 +31,7 @@ use Rattle.rec_sigma.proofs.Renewals.{refurbished_last}
 use Rattle.rec_trial.specs.Rules as trials
 use Rattle.rec_trial.specs.Trial.{next_of as trial_next}
 use Rattle.rec_sigma.proofs.Kept.{refurbished_kept}
-use Rattle.rec_collector.specs.Clearing.{IsClearing, IsDone, IsTidy}
+use Rattle.rec_collector.specs.Clearing.{IsClearing, IsDone, IsTidy, IsWide}
 use Rattle.rec_collector.specs.Kept.{IsListed}
 use Rattle.rec_collector.specs.Followed.{relieved, with_freed, with_released}
 use Rattle.rec_collector.specs.Parts.{Parts}
@@ -39,10 +39,9 @@ use Rattle.rec_collector.specs.Zeros.{AreCounted}
 use Rattle.rec_collector.specs.Testing.{is_busy, last_tested, tested, verdict_of, with_release, zeros_released}
 use Rattle.rec_collector.specs.declared.verdict.Verdict.{Verdict}
 use Rattle.rec_collector.specs.declared.verdict.Verdict.TheVariants.{Passed}
-use Rattle.rec_collector.proofs.Counting.{Counted, last_kept}
+use Rattle.rec_collector.proofs.Counting.{Counted, freed_kept, last_kept, last_told, released_kept, released_told, relieved_kept, relieved_told, wide_on, zeros_kept, zeros_told}
 use Rattle.rec_collector.proofs.Goings.{freed_by, freed_last, freed_off, first_work, last_by, last_given, last_refused, none_some, released_by, released_emptied, released_last, released_more, released_off, relieved_by, some_none, tested_all, released_most}
 use Rattle.rec_collector.proofs.Judging.{none_busy}
-use Rattle.rec_collector.proofs.Told.{last_same}
 use Rattle.rec_collector.proofs.Tidy.{tidy_emptied, tidy_given, tidy_listed, tidy_next, tidy_off, tidy_refurbished}
 pub use Rattle.rec_collector.proofs.Goings.{last_sets}
 pub use Rattle.rec_collector.proofs.Judging.{last_freeable, last_refusable}
@@ -213,36 +212,35 @@ pub last_clear : (w : Parts) → 0 < w.release.fields → 0 < w.freeing.fields �
 last_clear w wide freed some idle k c d = last_by (λ v. IsClearing v × IsDone v) w (λ e. given_clear w freed some idle e k c d)
     (λ verdict. zeros_clear true (last_refused verdict w) wide (none_busy w idle).0 (none_busy w idle).1 (refused_clear verdict w some idle k c d))
 
--- sets are tested
+-- what holds where the next set may be tested
 pub record StaysClear (v : Parts) : Type 0 where
-  pub wide : 0 < v.release.fields
-  pub freed : 0 < v.freeing.fields
-  pub kept : IsKept v.counts
-  pub clear : IsClearing v
+  pub wide : IsWide v
+  pub counts : IsKept v.counts
+  pub clearing : IsClearing v
   pub done : IsDone v
 
+pub zeros_stay : (w : Parts) → IsWide w → w.release.at ≡ None → w.freeing.at ≡ None → IsKept w.counts → IsClearing w → StaysClear (zeros_released false w)
+zeros_stay w wide still unfreed k c = let v = zeros_clear false w wide.0 still unfreed c in record { wide = wide_on (zeros_told false w).numbers wide; counts = zeros_kept false w k; clearing = v.0; done = v.1 }
+
+pub released_stays : (w : Parts) (word : ℕ) → IsWide w → IsSome w.release.at → Counted w.counts word → IsKept w.counts → IsClearing w → StaysClear (with_released w word)
+released_stays w word wide busy h k c = let v = released_clear w word busy h k c in record { wide = wide_on (released_told w word).numbers wide; counts = released_kept w word c h k; clearing = v.0; done = v.1 }
+
+pub relieved_stays : (w : Parts) (word : ℕ) → IsWide w → IsSome w.freeing.at → Counted w.counts word → IsKept w.counts → IsClearing w → StaysClear (relieved (with_freed w word))
+relieved_stays w word wide busy h k c =
+    let v = relieved_clear w word wide.0 busy h k c in
+    record { wide = wide_on (relieved_told w word).numbers wide; counts = relieved_kept (with_freed w word) (freed_kept w word c h k); clearing = v.0; done = v.1 }
+
+-- sets are tested
 pub last_stays : (w : Parts) → 0 < length w.counts.sets → is_busy w ≡ false → StaysClear w → StaysClear (last_tested w)
 last_stays w some idle i =
-    let v = last_clear w i.wide i.freed some idle i.kept i.clear i.done in
-    record {
-      wide = omega (arith, i.wide, (last_same w).release_fields);
-      freed = omega (arith, i.freed, (last_same w).freeing_fields);
-      kept = last_kept w some idle i.clear i.done i.kept;
-      clear = v.0;
-      done = v.1;
-    }
+    let v = last_clear w i.wide.0 i.wide.1 some idle i.counts i.clearing i.done in
+    record { wide = wide_on (last_told w some).numbers i.wide; counts = last_kept w some idle i.clearing i.done i.counts; clearing = v.0; done = v.1 }
 
-tested_stays : (n : ℕ) (w : Parts) → n ≤ length w.counts.sets → StaysClear w → StaysClear (tested n w)
+pub tested_stays : (n : ℕ) (w : Parts) → n ≤ length w.counts.sets → StaysClear w → StaysClear (tested n w)
 tested_stays n w l i = tested_all StaysClear last_stays n w l i
 
-pub tested_clear : (n : ℕ) (w : Parts) → 0 < w.release.fields → 0 < w.freeing.fields → n ≤ length w.counts.sets → IsKept w.counts → IsClearing w → IsDone w → IsClearing (tested n w) × IsDone (tested n w)
-tested_clear n w wide freed l k c d = let t = tested_stays n w l (record { wide = wide; freed = freed; kept = k; clear = c; done = d }) in (t.clear, t.done)
-
-pub tested_kept : (n : ℕ) (w : Parts) → 0 < w.release.fields → 0 < w.freeing.fields → n ≤ length w.counts.sets → IsClearing w → IsDone w → IsKept w.counts → IsKept (tested n w).counts
-tested_kept n w wide freed l c d k = (tested_stays n w l (record { wide = wide; freed = freed; kept = k; clear = c; done = d })).kept
-
 -- where nothing is at work after as many tests as there were sets, no set is left
-ends_after : (n : ℕ) (w : Parts) → length w.counts.sets ≡ n → is_busy (tested n w) ≡ false → (tested n w).counts.sets ≡ []
+pub ends_after : (n : ℕ) (w : Parts) → length w.counts.sets ≡ n → is_busy (tested n w) ≡ false → (tested n w).counts.sets ≡ []
 unfolding tested
 ends_after zero w e idle = nil_from_length w.counts.sets e
 ends_after (suc n) w e idle = go (is_busy w) refl idle (ends_after n (last_tested w) (omega (arith, e, last_sets w (omega (arith, e)))))
@@ -250,9 +248,6 @@ ends_after (suc n) w e idle = go (is_busy w) refl idle (ends_after n (last_teste
     go : (b : Bool) → is_busy w ≡ b → is_busy (cond b w (tested n (last_tested w))) ≡ false → (is_busy (tested n (last_tested w)) ≡ false → (tested n (last_tested w)).counts.sets ≡ []) → (cond b w (tested n (last_tested w))).counts.sets ≡ []
     go true f i next = absurd (false≢true (sym i ∙ f))
     go false f i next = next i
-
-pub tested_ends : (w : Parts) → IsKept w.counts → IsClearing w → IsDone w → is_busy (tested (length w.counts.sets) w) ≡ false → (tested (length w.counts.sets) w).counts.sets ≡ []
-tested_ends w k c d idle = ends_after (length w.counts.sets) w refl idle
 
 -- once no set is left a trial can begin
 pub clear_ready : (w : Parts) → IsKept w.counts → IsClearing w → IsDone w → w.release.at ≡ None → w.freeing.at ≡ None → w.counts.sets ≡ [] → trials.IsReady w.counts

@@ -7,10 +7,9 @@ use Rattle.rec_log.specs.declared.contents.Contents.{Contents}
 use Rattle.rec_release.specs.Sweep as sweeps
 use Rattle.rec_release.proofs.Kept.{sweep_kept}
 use Rattle.rec_collector.specs.Followed.{Next, followed, prepared, relieved, tried, with_freed, with_loaded, with_released, with_tried}
-use Rattle.rec_collector.specs.Given.{IsCovered, IsGiven, IsGivenAt, IsSized}
-use Rattle.rec_collector.specs.Kept.{IsMachine, swept_at, under_way}
+use Rattle.rec_collector.specs.Given.{IsGiven, IsGivenAt, IsSized}
+use Rattle.rec_collector.specs.Kept.{IsMachine}
 use Rattle.rec_collector.specs.Next.{is_spent}
-use Rattle.rec_collector.specs.Parts.{Parts}
 use Rattle.rec_collector.specs.Private.{Private, parts_of}
 use Rattle.rec_collector.specs.Step.{IsBetween}
 use Rattle.rec_collector.specs.Testing.{zeros_released}

@@ -7,13 +7,14 @@ use Rattle.rec_walk.specs.declared.member.Member.{Member}
 use Rattle.rec_sigma.specs.declared.at.At as loads
 use Rattle.rec_trial.specs.Trial.{next_of as trial_next}
 use Rattle.rec_collector.specs.Followed.{Next, followed, prep_started, prepared, prepared_at, relieved, tested_on, trial_started, tried, tried_at, with_freed, with_loaded, with_released, with_tried}
-use Rattle.rec_collector.specs.Kept.{all_fields, IsAt, IsMachine, IsTold, KeepsSizes, swept_at, under_way}
+use Rattle.rec_collector.specs.Kept.{all_fields, HaveFields, IsAt, IsMachine, IsTold, KeepsSizes, swept_at, under_way}
 use Rattle.rec_collector.specs.Parts.{Parts}
 use Rattle.rec_collector.specs.Private.{Private, parts_of, with_parts}
 use Rattle.rec_collector.specs.Testing.{tested, zeros_released}
 use Rattle.rec_collector.specs.Took.{batched, moved}
 use Rattle.rec_collector.specs.declared.phase.Phase.{Phase}
 use Rattle.rec_collector.specs.declared.phase.Phase.TheVariants.{Idle, Releasing, Freeing, Trying, Preparing, Opening, Closing}
+use Rattle.rec_collector.proofs.Counting.{KeepsNumbers}
 
 -- what holds in the phase of a machine
 pub now_at : (p : Private) (phase : Phase) → IsMachine p → p.phase ≡ phase → IsAt p phase
@@ -79,9 +80,24 @@ work_phase P r f t l o c p word _ = followed_phase P l o c t f r _
 pub record Fits (p : Private) (w : Parts) : Type 0 where
   pub slots : length w.counts.slots ≡ length p.counts.slots
   pub release_fields : w.release.fields ≡ p.release.fields
-  pub freeing_fields : w.freeing.fields ≡ p.release.fields
-  pub trial_fields : w.trial.fields ≡ p.release.fields
-  pub prep_fields : w.prep.fields ≡ p.release.fields
+  pub widths : HaveFields w.release.fields w.trial.fields w.freeing.fields w.prep.fields
+  pub open widths use *
+
+pub fits_self : (p : Private) → IsMachine p → Fits p (parts_of p)
+fits_self p k = record { slots = refl; release_fields = refl; widths = k.widths }
+
+pub fits_on : {p : Private} {w v : Parts} → Fits p w → KeepsNumbers w v → Fits p v
+fits_on f k = record {
+  slots = k.slots ∙ f.slots;
+  release_fields = k.release_fields ∙ f.release_fields;
+  widths = record {
+    fields = omega (arith, f.fields, k.release_fields);
+    trial_fields = k.trial_fields ∙ f.trial_fields ∙ sym k.release_fields;
+    freeing_fields = k.freeing_fields ∙ f.freeing_fields ∙ sym k.release_fields;
+    prep_fields = k.prep_fields ∙ f.prep_fields ∙ sym k.release_fields;
+    few_fields = omega (arith, f.few_fields, k.release_fields);
+  };
+}
 
 -- so as many fields in all
 pub fits_all : (p : Private) (w : Parts) → Fits p w → length w.counts.slots * w.release.fields ≡ all_fields p
@@ -105,13 +121,7 @@ landed_keeps p n phase k e under none l = record {
   epoch = k.epoch;
   collections = omega (arith, under_way_at p phase k e, under, l.under);
   freed = omega (arith, freed_at p phase k e, none, l.none);
-  widths = record {
-    fields = omega (arith, k.fields, l.fits.release_fields);
-    trial_fields = l.fits.trial_fields ∙ sym l.fits.release_fields;
-    freeing_fields = l.fits.freeing_fields ∙ sym l.fits.release_fields;
-    prep_fields = l.fits.prep_fields ∙ sym l.fits.release_fields;
-    few_fields = omega (arith, k.few_fields, l.fits.release_fields);
-  };
+  widths = l.fits.widths;
   rows = k.rows;
   counts = l.counts;
   told = l.told;

@@ -25,7 +25,6 @@ pub mod Steps
 pub mod Sweeping
 pub mod Tested
 pub mod Tidy
-pub mod Told
 pub mod Touched
 pub mod Touching
 pub mod Trying

@@ -1,25 +1,19 @@
 -- What a step leaves in the mailbox that it looks at.
-use Rattle.std.proofs.Common.{◌≡◌, ◌≢◌, inl, inr, ℕ, ◌+◌, ◌==◌, Bool, true, false, cond, Option, None, Some, List, [], ◌∷◌, length, refl, sym, ap, ◌∙◌}
+use Rattle.std.proofs.Common.{◌≡◌, ◌≢◌, inl, inr, ℕ, ◌+◌, ◌==◌, Bool, true, false, cond, Option, None, Some, length, refl, sym, ap, ◌∙◌}
 use Rattle.std.proofs.lemmas.Bool.{cases_eq, eq-eqb, ne_eqb}
 use Rattle.rec_word.specs.Mailbox.{crossing_word}
 use Rattle.rec_word.specs.declared.mailbox.Mailbox.TheVariants.{Retired}
-use Rattle.rec_word.specs.declared.op.Op.{Op}
 use Rattle.rec_log.specs.declared.contents.Contents.{Contents}
-use Rattle.rec_release.specs.declared.at.At.{At}
-use Rattle.rec_walk.specs.declared.member.Member.{Member}
-use Rattle.rec_sigma.specs.declared.at.At as loads
-use Rattle.rec_trial.specs.Trial.{next_of as trial_next}
-use Rattle.rec_collector.specs.Followed.{followed, prep_started, prepared, prepared_at, relieved, sweep_phase, tested_on, trial_started, tried, tried_at, with_freed, with_loaded, with_released, with_tried, Next}
+use Rattle.rec_collector.specs.Followed.{followed, prepared, tried, Next}
 use Rattle.rec_collector.specs.Given.{IsGiven}
 use Rattle.rec_collector.specs.Kept.{IsMachine}
 use Rattle.rec_collector.specs.Next.{is_spent, next_of}
 use Rattle.rec_collector.specs.Parts.{Parts}
-use Rattle.rec_collector.specs.Private.{parts_of, with_parts, Private}
+use Rattle.rec_collector.specs.Private.{with_parts, Private}
 use Rattle.rec_collector.specs.Step.{IsBetween, LeavesBox, WholeStep}
-use Rattle.rec_collector.specs.Testing.{tested, zeros_released}
-use Rattle.rec_collector.specs.Took.{batched, came, ended_if, left_at, left_of, moved, step_of, swept_phase, took_at, took_of, turn_of}
+use Rattle.rec_collector.specs.Took.{came, ended_if, left_at, left_of, moved, step_of, swept_phase, took_at, took_of, turn_of}
 use Rattle.rec_collector.specs.declared.phase.Phase.{Phase}
-use Rattle.rec_collector.specs.declared.phase.Phase.TheVariants.{Idle, Looking, Swapping, Returning, Releasing, Freeing, Trying, Preparing, Opening, Sweeping, Closing}
+use Rattle.rec_collector.specs.declared.phase.Phase.TheVariants.{Idle, Looking, Swapping, Returning, Opening, Sweeping, Closing}
 use Rattle.rec_collector.proofs.Landing.{followed_phase, prepared_phase, tried_phase, work_of, work_phase}
 use Rattle.rec_collector.proofs.Steps.{step_made}
 

@@ -21,7 +21,7 @@ use Rattle.rec_collector.specs.Private.{Private, parts_of}
 use Rattle.rec_collector.specs.Testing.{told}
 use Rattle.rec_collector.specs.declared.phase.Phase.{Phase}
 use Rattle.rec_collector.specs.declared.phase.Phase.TheVariants.{Preparing, Opening, Closing}
-use Rattle.rec_collector.proofs.Landing.{Fits, Lands, fits_all, landed, now_at, told_at}
+use Rattle.rec_collector.proofs.Landing.{Fits, Lands, fits_all, fits_on, fits_self, landed, now_at, told_at}
 use Rattle.rec_collector.proofs.Limits.{loads_few}
 use Rattle.rec_collector.proofs.Outside.{prepared_outside}
 
@@ -64,16 +64,16 @@ pub record HasPrepared (p : Private) (w : Parts) : Type 0 where
   pub told : told w.sets + length w.counts.sets ≤ 2 ^ 16 * (p.collections + 1)
 
 -- it has begun
-pub started_prepared : (p : Private) (w : Parts) → 0 < w.prep.fields → IsTried w → IsKeptCounts w.counts → Fits p w → p.due ≡ None → p.turns ≤ 1 + 2 * length p.newer + 4 * all_fields p
+pub started_prepared : (p : Private) (w : Parts) → IsTried w → IsKeptCounts w.counts → Fits p w → p.due ≡ None → p.turns ≤ 1 + 2 * length p.newer + 4 * all_fields p
     → told w.sets + length w.counts.sets ≤ 2 ^ 16 * (p.collections + 1) → HasPrepared p (prep_started w)
 unfolding preps.started_of
-started_prepared p w f t k fits due turns told =
-    let c : Came w.prep.fields w.counts (preps.started_of w.prep w.counts) [] = came_first w.prep.fields w.counts f k.numbers in
+started_prepared p w t k fits due turns told =
+    let c : Came w.prep.fields w.counts (preps.started_of w.prep w.counts) [] = came_first w.prep.fields w.counts (omega (arith, fits.fields, fits.prep_fields)) k.numbers in
     let o : KeepsOthers w.counts (preps.started_of w.prep w.counts).counts = next_set_others w.counts 0 in
     record {
       preparation = record { tried = others_tried w (preps.started_of w.prep w.counts) o t; kept = c.work; before = w.counts; before_kept = k; loads = []; prepares = c.law };
       counts = others_kept w.counts _ o k;
-      fits = record { slots = o.many ∙ fits.slots; release_fields = fits.release_fields; freeing_fields = fits.freeing_fields; trial_fields = fits.trial_fields; prep_fields = fits.prep_fields };
+      fits = fits_on fits (record { slots = o.many; release_fields = refl; freeing_fields = refl; trial_fields = refl; prep_fields = refl });
       due = due;
       turns = omega (arith, turns);
       told = rw o.sets told;
@@ -109,7 +109,7 @@ took_prepared p word k e =
         prepares = rw c.fields_kept c.law;
       };
       counts = others_kept p.counts _ o k.counts;
-      fits = record { slots = o.many; release_fields = refl; freeing_fields = k.freeing_fields; trial_fields = k.trial_fields; prep_fields = c.fields_kept ∙ k.prep_fields };
+      fits = fits_on (fits_self p k) (record { slots = o.many; release_fields = refl; freeing_fields = refl; trial_fields = refl; prep_fields = c.fields_kept });
       due = a.due;
       turns = omega (arith, a.turns, length-append a.loads (loaded_at p.prep.at word), loaded_one p.prep.at word a.busy);
       told = rw o.sets (told_at p Preparing k e);
@@ -123,7 +123,7 @@ sweep_follows p w phase made h e = record {
   turns =
       let all : length w.counts.slots * w.release.fields ≡ all_fields p = fits_all p w h.fits in
       let few : length h.loads ≤ length w.counts.slots * w.prep.fields = loads_few w.prep.fields h.before w.prep.at w.counts h.loads h.before_kept h.prepares in
-      let same : length w.counts.slots * w.prep.fields ≡ length w.counts.slots * w.release.fields = ap (λ n. length w.counts.slots * n) (h.fits.prep_fields ∙ sym h.fits.release_fields) in
+      let same : length w.counts.slots * w.prep.fields ≡ length w.counts.slots * w.release.fields = ap (λ n. length w.counts.slots * n) h.fits.prep_fields in
       omega (arith, h.turns, few, all, same);
 }
 

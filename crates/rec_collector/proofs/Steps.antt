@@ -30,7 +30,7 @@ use Rattle.rec_collector.specs.declared.turn.Turn.TheVariants.{Moved, Waiting, E
 use Rattle.rec_collector.specs.declared.verdict.Verdict.{Verdict}
 use Rattle.rec_collector.specs.declared.verdict.Verdict.TheVariants.{Passed, Touched, Held}
 use Rattle.rec_collector.proofs.Clearing.{last_stays, StaysClear}
-use Rattle.rec_collector.proofs.Following.{HasCleared, begun_clears, cleared_wide, freed_clears, released_clears}
+use Rattle.rec_collector.proofs.Following.{HasCleared, begun_clears, freed_clears, released_clears}
 use Rattle.rec_collector.proofs.Goings.{last_sets}
 use Rattle.rec_collector.proofs.Judging.{last_refusable, none_busy}
 use Rattle.rec_collector.proofs.UnderTest.{tested_busy, tested_next_on, tested_none}
@@ -107,13 +107,13 @@ tested_on_from (suc n) p w box e c = go (is_busy w) refl (tested_on_from n p (la
         let left : length (last_tested w).counts.sets ≡ n = omega (arith, e, last_sets w some) in
         let same : tested (suc n) w ≡ tested n (last_tested w) = tested_next_on n w b in
         let idle = none_busy w b in
-        let r : LastRefurbished w.counts (refurbished_of w.counts) = refurbished_last w.counts c.kept (last_refusable w some b c.kept c.clear c.done) in
+        let r : LastRefurbished w.counts (refurbished_of w.counts) = refurbished_last w.counts c.counts (last_refusable w some b c.counts c.clearing c.done) in
         subst (λ (v : Parts). ClearsOn p (went p (tested_next v) box) (came_turn p.epoch (tested_next v).phase) w) (sym same)
         (ClearsOn.tests (last_tested w) idle.1 idle.0 some (last_test w r) (more left (last_stays w some b c)))
 
-cleared_on : (p : Private) (w : Parts) (box : Contents) → 0 < p.release.fields → HasCleared p w → ClearsOn p (went p (followed w) box) (came_turn p.epoch (followed w).phase) w
+cleared_on : (p : Private) (w : Parts) (box : Contents) → HasCleared p w → ClearsOn p (went p (followed w) box) (came_turn p.epoch (followed w).phase) w
 unfolding followed
-cleared_on p w box f h = let wide = cleared_wide p w f h.fits in tested_on_from (length w.counts.sets) p w box refl (record { wide = wide.0; freed = wide.1; kept = h.counts; clear = h.clearing; done = h.done })
+cleared_on p w box h = tested_on_from (length w.counts.sets) p w box refl h.stays
 
 -- the phase of a turn that changes nothing
 same_swapped : (p : Private) (box : Contents) (phase : Phase) → p.phase ≡ phase → IsBetween phase → swapped_of p box ≡ p
@@ -150,7 +150,7 @@ return_step p word box t k is c = go (t == length p.newer) refl
 
     go : (b : Bool) → (t == length p.newer) ≡ b
         → Step p word box (Some (ReturnBox t p.epoch)) (swapped_of (cond b (came p (followed w)) (moved p (Looking (t + 1)))) box) (cond b (came_turn p.epoch (followed w).phase) Moved)
-    go true e = let last : t ≡ length p.newer = eqb-true t (length p.newer) e in Step.apply t is last refl (cleared_on p w box k.fields (begun_clears p t k is last (c last)))
+    go true e = let last : t ≡ length p.newer = eqb-true t (length p.newer) e in Step.apply t is last refl (cleared_on p w box (begun_clears p t k is last (c last)))
     go false e = Step.give_back t is (λ q. false≢true (sym e ∙ eq-eqb t (length p.newer) q)) refl (record { after = refl; answer = refl })
 
 swept_step : (p : Private) (word : ℕ) (box : Contents) (n : ℕ) (w : sweeps.Work) → p.phase ≡ Sweeping n → w ≡ sweeps.took_of (record { due = p.due; counts = p.counts }) word → (due : Option ℕ) → w.due ≡ due
@@ -166,8 +166,8 @@ step_at p word box Idle k is b g = idle_step p word box is
 step_at p word box (Looking t) k is b g = look_step p word box t is
 step_at p word box (Swapping t) k is b g = absurd b
 step_at p word box (Returning t) k is b g = return_step p word box t k is g
-step_at p word box Releasing k is b g = let w : Parts = with_released (parts_of p) word in Step.release is refl (cleared_on p w box k.fields (released_clears p word k is g))
-step_at p word box Freeing k is b g = let w : Parts = relieved (with_freed (parts_of p) word) in Step.freeing is refl (cleared_on p w box k.fields (freed_clears p word k is g))
+step_at p word box Releasing k is b g = let w : Parts = with_released (parts_of p) word in Step.release is refl (cleared_on p w box (released_clears p word k is g))
+step_at p word box Freeing k is b g = let w : Parts = relieved (with_freed (parts_of p) word) in Step.freeing is refl (cleared_on p w box (freed_clears p word k is g))
 step_at p word box Trying k is b g = Step.trial is refl (tried_on p (with_tried (parts_of p) word) box)
 step_at p word box Preparing k is b g = Step.preparation is refl (prepared_on p (with_loaded (parts_of p) word) box)
 step_at p word box Opening k is b g = Step.begin_sweep is refl (record { after = refl; answer = refl })

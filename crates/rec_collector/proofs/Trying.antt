@@ -27,7 +27,7 @@ use Rattle.rec_collector.specs.Private.{Private, parts_of}
 use Rattle.rec_collector.specs.Testing.{told}
 use Rattle.rec_collector.specs.Zeros.{AreCounted}
 use Rattle.rec_collector.specs.declared.phase.Phase.TheVariants.{Trying}
-use Rattle.rec_collector.proofs.Landing.{Fits, Lands, fits_all, now_at, told_at}
+use Rattle.rec_collector.proofs.Landing.{Fits, Lands, fits_all, fits_on, fits_self, now_at, told_at}
 use Rattle.rec_collector.proofs.Preparing.{prepared_lands, started_prepared}
 
 module _ (s t : State) (k : KeepsCounts s t) (old : IsKeptCounts s) (new : IsKeptCounts t) (l : IsListed s) where
@@ -98,25 +98,16 @@ pub record HasTried (p : Private) (w : Parts) : Type 0 where
   pub few : length kept.words ≤ 3 * all_fields p + 1
   pub told : told w.sets ≤ 2 ^ 16 * p.collections
 
--- the numbers stay
-tried_fits : (p : Private) (w : Parts) (v : Work) → Fits p w → length v.counts.slots ≡ length w.counts.slots → v.machine.fields ≡ w.trial.fields → Fits p (record w { counts = v.counts; trial = v.machine })
-tried_fits p w v f slots fields = record {
-  slots = slots ∙ f.slots;
-  release_fields = f.release_fields;
-  freeing_fields = f.freeing_fields;
-  trial_fields = fields ∙ f.trial_fields;
-  prep_fields = f.prep_fields;
-}
-
 -- no true count changes
 counted_on : (s t : State) → KeepsCounts s t → AreCounted s → AreCounted t
 counted_on s t k c = λ x r. omega (arith, k.counts x, c x (sym (k.released x) ∙ r))
 
 -- it has begun
-pub started_tried : (p : Private) (w : Parts) → 0 < w.trial.fields → IsReady w.counts → IsKeptCounts w.counts → IsListed w.counts → ((x : ℕ) → (slot_at w.counts x).colour ≢ Orange) → AreCounted w.counts → w.counts.zeros ≡ [] → w.release.at ≡ None → w.freeing.at ≡ None → w.prep.at ≡ None
+pub started_tried : (p : Private) (w : Parts) → IsReady w.counts → IsKeptCounts w.counts → IsListed w.counts → ((x : ℕ) → (slot_at w.counts x).colour ≢ Orange) → AreCounted w.counts → w.counts.zeros ≡ [] → w.release.at ≡ None → w.freeing.at ≡ None → w.prep.at ≡ None
     → Fits p w → p.due ≡ None → p.turns ≤ 2 * length p.newer + all_fields p → told w.sets ≤ 2 ^ 16 * p.collections → HasTried p (trial_begun w)
-started_tried p w f ready k listed none counted zeros still unfreed unprepared fits due turns told =
+started_tried p w ready k listed none counted zeros still unfreed unprepared fits due turns told =
     let v : Work = started_of w.trial.fields w.counts in
+    let f : 0 < w.trial.fields = omega (arith, fits.fields, fits.trial_fields) in
     let keeps : KeepsCounts w.counts v.counts = started_keeps w.trial.fields w.counts f ready in
     let fields : v.machine.fields ≡ w.trial.fields = started_fields w.trial.fields w.counts f ready in
     let counts : IsKeptCounts v.counts = started_counted w.trial.fields w.counts f k ready in
@@ -132,7 +123,7 @@ started_tried p w f ready k listed none counted zeros still unfreed unprepared f
         places = still_listed w.counts v.counts keeps k counts listed;
       };
       counts = counts;
-      fits = tried_fits p w v fits keeps.slots fields;
+      fits = fits_on fits (record { slots = keeps.slots; release_fields = refl; freeing_fields = refl; trial_fields = fields; prep_fields = refl });
       due = due;
       turns = omega (arith, turns);
       few = omega arith;
@@ -160,7 +151,7 @@ took_tried p word k e l =
         places = still_listed p.counts v.counts keeps k.counts counts a.places;
       };
       counts = counts;
-      fits = record { slots = keeps.slots; release_fields = refl; freeing_fields = k.freeing_fields; trial_fields = took_fields p.trial p.counts a.kept word l ∙ k.trial_fields; prep_fields = k.prep_fields };
+      fits = fits_on (fits_self p k) (record { slots = keeps.slots; release_fields = refl; freeing_fields = refl; trial_fields = took_fields p.trial p.counts a.kept word l; prep_fields = refl });
       due = a.due;
       turns = omega (arith, a.turns, more);
       few = omega (arith, more, at_work_few p.trial p.counts a.kept a.busy, all);
@@ -186,9 +177,9 @@ over_tried p w h n =
     }
 
 -- what follows
-pub tried_lands : (p : Private) (w : Parts) → 0 < p.release.fields → HasTried p w → Lands p (tried w)
+pub tried_lands : (p : Private) (w : Parts) → HasTried p w → Lands p (tried w)
 unfolding tried
-tried_lands p w f h = go (next_of w.trial) refl
+tried_lands p w h = go (next_of w.trial) refl
   where
     all : length w.counts.slots * w.release.fields ≡ all_fields p
     all = fits_all p w h.fits
@@ -203,5 +194,5 @@ tried_lands p w f h = go (next_of w.trial) refl
       now = record { on_trial = h.on_trial; busy = subst (λ (op : Option Op). IsSome op) (sym e) refl; due = h.due; turns = omega (arith, h.turns, all) };
     }
     go None e = prepared_lands p (prep_started w) (
-        started_prepared p w (omega (arith, f, h.fits.prep_fields)) (over_tried p w h (subst (λ (op : Option Op). IsNone op) (sym e) refl)) h.counts h.fits h.due (omega (arith, h.turns, h.few)) (omega (arith, h.told, h.counts.few_sets, h.counts.few_slots))
+        started_prepared p w (over_tried p w h (subst (λ (op : Option Op). IsNone op) (sym e) refl)) h.counts h.fits h.due (omega (arith, h.turns, h.few)) (omega (arith, h.told, h.counts.few_sets, h.counts.few_slots))
         )

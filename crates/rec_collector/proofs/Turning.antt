@@ -1,13 +1,10 @@
 -- A turn that works on the parts of the machine, as its calls tell.
-use Rattle.std.proofs.Common.{◌≡◌, ◌≢◌, ℕ, ◌+◌, ◌<◌, ◌==◌, false, List, refl, ap, sym, subst, length, IfSome, ◌∙◌}
+use Rattle.std.proofs.Common.{◌≡◌, ◌≢◌, ℕ, ◌+◌, ◌==◌, false, List, refl, ap, sym, subst, length, ◌∙◌}
 use Rattle.std.proofs.lemmas.Bool.{cond-true, cond-false, eq-eqb, ne_eqb}
-use Rattle.rec_word.specs.Word.{target_of}
 use Rattle.rec_log.specs.declared.contents.Contents.{Contents}
-use Rattle.rec_counts.specs.Counts.{slot_at}
 use Rattle.rec_apply.specs.Batch.{batch}
-use Rattle.rec_trial.specs.Rules.{LeadsToUnreleased}
-use Rattle.rec_collector.specs.Followed.{Next, followed, prepared, relieved, tried, with_freed, with_loaded, with_released, with_tried}
-use Rattle.rec_collector.specs.Given.{IsCovered, IsGiven, IsGivenAt}
+use Rattle.rec_collector.specs.Followed.{Next, followed}
+use Rattle.rec_collector.specs.Given.{IsGiven, IsGivenAt}
 use Rattle.rec_collector.specs.Kept.{IsMachine, KeepsSizes, swept_at, under_way}
 use Rattle.rec_collector.specs.Private.{Private, parts_of}
 use Rattle.rec_collector.specs.Testing.{zeros_released}
@@ -33,10 +30,10 @@ IsWork p _ = ⊥
 -- what follows it lands
 pub work_lands : (p : Private) (word : ℕ) (phase : Phase) → IsMachine p → p.phase ≡ phase → IsGivenAt p word phase → IsWork p phase → Lands p (work_of p word phase)
 unfolding IsGivenAt
-work_lands p word (Returning t) k e g last = followed_lands p _ k.fields (begun_clears p t k e last (g last))
-work_lands p word Releasing k e g at_work = followed_lands p _ k.fields (released_clears p word k e g)
-work_lands p word Freeing k e g at_work = followed_lands p _ k.fields (freed_clears p word k e g)
-work_lands p word Trying k e g at_work = tried_lands p _ k.fields (took_tried p word k e g)
+work_lands p word (Returning t) k e g last = followed_lands p _ (begun_clears p t k e last (g last))
+work_lands p word Releasing k e g at_work = followed_lands p _ (released_clears p word k e g)
+work_lands p word Freeing k e g at_work = followed_lands p _ (freed_clears p word k e g)
+work_lands p word Trying k e g at_work = tried_lands p _ (took_tried p word k e g)
 work_lands p word Preparing k e g at_work = prepared_lands p _ (took_prepared p word k e)
 work_lands p word _ k e g at_work = absurd at_work
 
