@@ -1,8 +1,8 @@
 -- A batch leaves the counts tidy, and so a collection begins with parts that are clear.
-use Rattle.std.proofs.Common.{◌≡◌, ℕ, ◌<◌, true, false, Option, None, Some, IsNone, List, [], ◌∷◌, length, refl, arith, sym, ◌∙◌, ap, subst, inl, inr}
+use Rattle.std.proofs.Common.{◌≡◌, ℕ, ◌<◌, true, false, Option, None, Some, List, [], ◌∷◌, refl, arith, sym, ◌∙◌, ap, subst, inl, inr}
 use Rattle.std.specs.List.{flat_map}
 use Rattle.std.proofs.lemmas.List.{length-set}
-use Rattle.std.proofs.lemmas.Bool.{false≢true}
+use Rattle.std.proofs.lemmas.Bool.{cases_Bool}
 use Rattle.rec_log.specs.declared.contents.Contents.{Contents}
 use Rattle.rec_counts.specs.declared.colour.Colour.TheVariants.{Black, Orange}
 use Rattle.rec_counts.specs.declared.slot.Slot.{Slot}
@@ -18,19 +18,21 @@ use Rattle.rec_apply.specs.Batch.{all_counted, CanFall, all_down, all_up, batch,
 use Rattle.rec_apply.proofs.Falling.{fall_first, fall_right, fall_zeros_all}
 use Rattle.rec_apply.proofs.Resting.{rest_all_up}
 use Rattle.rec_apply.proofs.Whole.{batch_rests}
+use Rattle.rec_release.specs.CycleFree as frees
+use Rattle.rec_release.specs.Release as releases
 use Rattle.rec_release.specs.Release.{IsReady}
 use Rattle.rec_release.specs.TakenOff.{AllZerosButOrange, IsApart, IsMember}
 use Rattle.rec_release.specs.declared.at.At.{At}
 use Rattle.rec_release.proofs.TakenOff.{written}
-use Rattle.rec_trial.specs.Trial.{next_of as trial_next}
+use Rattle.rec_sigma.specs.Prepare as preps
+use Rattle.rec_trial.specs.Trial.{Machine as Trial}
 use Rattle.rec_trial.proofs.Worked.{kept_by_all}
-use Rattle.rec_collector.specs.Clearing.{IsClearing, IsUntried}
-use Rattle.rec_collector.specs.Outside.{AreOutside}
+use Rattle.rec_collector.specs.Clearing.{IsClearing, IsTidy}
+use Rattle.rec_collector.specs.Kept.{AreResting, IsAtRest, NoneReleased}
 use Rattle.rec_collector.specs.Parts.{Parts}
-use Rattle.rec_collector.specs.Zeros.{AreCounted}
-use Rattle.rec_collector.proofs.Clearing.{clearing, freeing_idle, release_idle, tidy_of}
+use Rattle.rec_collector.proofs.Clearing.{release_idle, unfreed_clear}
 use Rattle.rec_collector.proofs.Outside.{outside_on, raised_lowers}
-use Rattle.rec_collector.proofs.Tidy.{tidy_off, IsTidy}
+use Rattle.rec_collector.proofs.Tidy.{tidy_off}
 
 -- a slot that was incremented is Black
 raised_apart : (s : State) (x : ℕ) → IsApart s → IsApart (with_slot s x (raised (slot_at s x)))
@@ -116,29 +118,34 @@ batched_clear w newer older c still unfreed i =
       zeros = fall_zeros_all (all_up s (flat_map up_targets newer)) (flat_map down_targets older) c.zeros;
       free = (released_rests s t k released).free;
     } in
-    let work : t.work ≡ [] = k.work ∙ i.work unfreed in
-    clearing (record w { counts = t }) i.idle i.unprepared (tidy_batch s newer older c w.release.at released (tidy_of i)) (release_idle w.release t still ready) (freeing_idle w.freeing t unfreed work ready) (inl still) (λ e. work)
+    unfreed_clear (record w { counts = t }) i.idle i.unprepared (tidy_batch s newer older c w.release.at released i.tidy) (release_idle w.release t still ready) unfreed (k.work ∙ i.work unfreed)
 
 -- nothing stands in an empty list
 nowhere : {P : Type 0} (xs : List ℕ) (x : ℕ) → xs ≡ [] → 0 < times x xs → P
 nowhere xs x e h = absurd (omega (arith, h, ap (times x) e, times-nil x))
 
--- parts are clear where no slot is released and nothing is to be done
-pub resting_clear : (w : Parts) → IsUntried w.counts → IsNone (trial_next w.trial) → w.prep.at ≡ None → IsApart w.counts → ((x : ℕ) → x < length w.counts.slots → (slot_at w.counts x).released ≡ false) → AreCounted w.counts → AreOutside w.prep.fields w.counts →
-    w.counts.zeros ≡ [] → w.counts.free ≡ [] → w.counts.work ≡ [] → w.release.at ≡ None → w.freeing.at ≡ None → IsClearing w
-resting_clear w untried idle unprepared apart none counted outside zeros free work still unfreed =
+-- at rest no slot is released
+pub none_released : {s : State} {r : releases.Machine} {f : frees.Machine} {t : Trial} {p : preps.Machine} → AreResting s r f t p → NoneReleased s
+none_released {s} a x l = elim (cases_Bool (slot_at s x).released) [
+  | inl t ↦ nowhere s.free x a.free (a.listed x l t)
+  | inr t ↦ t
+]
+
+-- and the parts are clear
+pub resting_clear : (w : Parts) → IsAtRest w → IsClearing w
+resting_clear w a =
     let s : State = w.counts in
     let ready : IsReady s = record {
-      zeros = record { once = λ x. omega (arith, ap (times x) zeros, times-nil x); none = λ x h. nowhere s.zeros x zeros h; unreleased = λ x h. nowhere s.zeros x zeros h };
-      free = λ x h. nowhere s.free x free h;
+      zeros = record { once = λ x. omega (arith, ap (times x) a.zeros, times-nil x); none = λ x h. nowhere s.zeros x a.zeros h; unreleased = λ x h. nowhere s.zeros x a.zeros h };
+      free = λ x h. nowhere s.free x a.free h;
     } in
     let tidy : IsTidy w.prep.fields s w.release.at = record {
-      untried = untried;
-      apart = apart;
-      outside = outside;
-      all_zeros = λ x r n o. absurd (omega (arith, n, counted x r));
-      listed = λ x l r b. absurd (false≢true (sym (none x l) ∙ r));
-      unbuffered = λ x h. nowhere s.free x free h;
-      held = λ x h. nowhere s.work x work h;
+      untried = a.untried;
+      apart = a.apart;
+      outside = a.outside;
+      all_zeros = λ x r n o. absurd (omega (arith, n, a.counted x r));
+      listed = λ x l r b. nowhere s.free x a.free (a.listed x l r);
+      unbuffered = a.unbuffered;
+      held = λ x h. nowhere s.work x a.work h;
     } in
-    clearing w idle unprepared tidy (release_idle w.release s still ready) (freeing_idle w.freeing s unfreed work ready) (inl still) (λ e. work)
+    unfreed_clear w a.idle a.unprepared tidy (release_idle w.release s a.still ready) a.unfreed a.work

@@ -1,65 +1,31 @@
 -- Why each answer of a turn comes, by the phase.
-use Rattle.std.proofs.Common.{◌≡◌, ◌≢◌, ℕ, ◌+◌, ◌≤◌, ◌^◌, ◌==◌, Bool, true, false, cond, Option, None, Some, IsSome, IsNone, List, [], ◌∷◌, length, refl, arith, sym, ap, subst, ◌∙◌, inl, inr}
+use Rattle.std.proofs.Common.{◌≡◌, ◌≢◌, ℕ, ◌+◌, ◌≤◌, ◌^◌, ◌==◌, Bool, true, false, cond, Option, None, Some, IsSome, IsNone, length, refl, arith, sym, ap, subst, ◌∙◌, inl, inr}
 use Rattle.std.proofs.lemmas.Bool.{false≢true, cond-true, cond-false, eq-eqb, ne_eqb, eqb-true, cases_eq}
 use Rattle.rec_word.specs.Mailbox.{crossing_word}
 use Rattle.rec_word.specs.declared.mailbox.Mailbox.TheVariants.{Retired}
 use Rattle.rec_word.specs.declared.op.Op.{Op}
 use Rattle.rec_word.specs.declared.op.Op.TheVariants.{StoreEpoch}
-use Rattle.rec_release.specs.declared.at.At.{At}
-use Rattle.rec_walk.specs.declared.member.Member.{Member}
 use Rattle.rec_release.specs.CycleFree as frees
 use Rattle.rec_release.specs.Release as releases
 use Rattle.rec_release.specs.Sweep.{next_of as sweep_next}
 use Rattle.rec_sigma.specs.Prepare as preps
-use Rattle.rec_sigma.specs.declared.at.At as loads
 use Rattle.rec_trial.specs.Trial.{next_of as trial_next}
 use Rattle.rec_collector.specs.Causes.{HasCause}
-use Rattle.rec_collector.specs.Followed.{Next, followed, prep_started, prepared, prepared_at, relieved, sweep_phase, tested_next, tested_on, trial_started, tried, tried_at, with_freed, with_loaded, with_released, with_tried}
+use Rattle.rec_collector.specs.Followed.{Next}
 use Rattle.rec_collector.specs.Kept.{IsMachine, swept_at}
 use Rattle.rec_collector.specs.Next.{is_spent, next_at, next_of}
-use Rattle.rec_collector.specs.Parts.{Parts}
-use Rattle.rec_collector.specs.Private.{Private, parts_of}
-use Rattle.rec_collector.specs.Testing.{tested, zeros_released}
-use Rattle.rec_collector.specs.Took.{batched, came, came_turn, ended_if, moved, swept_phase, took_at, took_of, turn_at, turn_of}
+use Rattle.rec_collector.specs.Private.{Private}
+use Rattle.rec_collector.specs.Took.{came, came_turn, ended_if, moved, swept_phase, took_at, took_of, turn_at, turn_of}
 use Rattle.rec_collector.specs.declared.phase.Phase.{Phase}
 use Rattle.rec_collector.specs.declared.phase.Phase.TheVariants.{Idle, Looking, Swapping, Returning, Releasing, Freeing, Trying, Preparing, Opening, Sweeping, Closing}
 use Rattle.rec_collector.specs.declared.turn.Turn.TheVariants.{Moved, Waiting, EpochsSpent}
 use Rattle.rec_collector.proofs.Answering.{freeing_next, prep_next, release_next}
-use Rattle.rec_collector.proofs.Landing.{landed, now_at, under_way_at}
+use Rattle.rec_collector.proofs.Landing.{landed, now_at, under_way_at, work_of, work_phase}
 use Rattle.rec_collector.proofs.Sweeping.{due_slot}
 
--- nothing is swept yet where a trial, its preparation or a release came so far
-none_swept : (free : List ℕ) → swept_at (sweep_phase free) ≡ 0
-none_swept [] = refl
-none_swept (x ∷ free) = refl
-
-prepared_none : (w : Parts) → swept_at (prepared w).phase ≡ 0
-unfolding prepared
-prepared_none w = go w.prep.at
-  where
-    go : (at : Option loads.At) → swept_at (prepared_at w at).phase ≡ 0
-    go None = none_swept w.counts.free
-    go (Some a) = refl
-
-tried_none : (w : Parts) → swept_at (tried w).phase ≡ 0
-unfolding tried
-tried_none w = go (trial_next w.trial)
-  where
-    go : (op : Option Op) → swept_at (tried_at w op).phase ≡ 0
-    go None = prepared_none (prep_started w)
-    go (Some o) = refl
-
-tested_none : (w : Parts) → swept_at (tested_next w).phase ≡ 0
-tested_none w = go w.release.at w.freeing.at
-  where
-    go : (at : Option At) (member : Option Member) → swept_at (tested_on w at member).phase ≡ 0
-    go at (Some m) = refl
-    go (Some a) None = refl
-    go None None = tried_none (trial_started w)
-
-followed_none : (w : Parts) → swept_at (followed w).phase ≡ 0
-unfolding followed
-followed_none w = tested_none (tested (length w.counts.sets) w)
+-- nothing is swept yet where the parts were at work
+work_none : (p : Private) (word : ℕ) (phase : Phase) → swept_at (work_of p word phase).phase ≡ 0
+work_none p word phase = work_phase (λ f. swept_at f ≡ 0) refl refl refl refl refl refl p word phase
 
 -- a turn that came to these parts and this phase, from a phase that has swept nothing
 came_cause : (p : Private) (word : ℕ) (n : Next) → p.collections + 1 ≤ p.epoch → swept_at p.phase ≡ 0 → swept_at n.phase ≡ 0 → HasCause p word (came p n) (came_turn p.epoch n.phase)
@@ -91,14 +57,11 @@ unfolding took_at turn_at
 cause_at p word Idle is k = idle_cause p word (is_spent p) refl is
 cause_at p word (Looking t) is k = look_cause p word t (word == crossing_word p.epoch Retired) refl is
 cause_at p word (Swapping t) is k = (refl, refl, ap (λ f. p.freed + swept_at f) is)
-cause_at p word (Returning t) is k = let w : Parts = zeros_released false (batched p) in return_cause p word t (followed w) (t == length p.newer) (under_way_at p (Returning t) k is) is (followed_none w)
-cause_at p word Releasing is k = let w : Parts = with_released (parts_of p) word in came_cause p word (followed w) (under_way_at p Releasing k is) (ap swept_at is) (followed_none w)
-cause_at p word Freeing is k = let w : Parts = relieved (with_freed (parts_of p) word) in came_cause p word (followed w) (under_way_at p Freeing k is) (ap swept_at is) (followed_none w)
-cause_at p word Trying is k = let w : Parts = with_tried (parts_of p) word in came_cause p word (tried w) (under_way_at p Trying k is) (ap swept_at is) (tried_none w)
-cause_at p word Preparing is k = let w : Parts = with_loaded (parts_of p) word in came_cause p word (prepared w) (under_way_at p Preparing k is) (ap swept_at is) (prepared_none w)
+cause_at p word (Returning t) is k = return_cause p word t (work_of p word (Returning t)) (t == length p.newer) (under_way_at p (Returning t) k is) is (work_none p word (Returning t))
 cause_at p word Opening is k = (refl, refl, ap (λ f. p.freed + swept_at f) is)
 cause_at p word (Sweeping n) is k = (refl, refl, sweep_cause p n _ is)
 cause_at p word (Closing n) is k = (omega (arith, under_way_at p (Closing n) k is), sym (ap swept_at is), refl, refl, refl, refl)
+cause_at p word phase is k = came_cause p word (work_of p word phase) (under_way_at p phase k is) (ap swept_at is) (work_none p word phase)
 
 -- why an answer comes
 pub has_cause : (p : Private) (word : ℕ) → IsMachine p → HasCause p word (took_of p word) (turn_of p word)

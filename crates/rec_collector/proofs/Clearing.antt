@@ -1,8 +1,8 @@
 -- From a batch to the next trial: what holds of the parts while slots are released and sets tested stays, move by move, and at the
 -- end a trial can begin.
-use Rattle.std.proofs.Common.{◌≡◌, ◌≢◌, ◌⊎◌, ℕ, zero, suc, ◌+◌, ◌-◌, ◌<◌, ◌≤◌, Bool, true, false, cond, None, Some, IsNone, IsSome, IfSome, get_or, List, [], ◌∷◌, ◌++◌, length, slice_get, refl, arith, sym, ◌∙◌, ap, subst, inl, inr}
+use Rattle.std.proofs.Common.{◌≡◌, ◌≢◌, ℕ, zero, suc, ◌+◌, ◌-◌, ◌<◌, ◌≤◌, Bool, true, false, cond, Option, None, Some, IsNone, IsSome, IfSome, get_or, List, [], ◌∷◌, ◌++◌, length, slice_get, refl, arith, sym, ◌∙◌, ap, subst, inl, inr}
 use Rattle.std.specs.List.{concat}
-use Rattle.std.proofs.lemmas.Bool.{cases_lt, false≢true}
+use Rattle.std.proofs.lemmas.Bool.{cases_Bool, cases_lt, false≢true}
 use Rattle.std.proofs.lemmas.List.{nil_from_length}
 use Rattle.rec_word.specs.Word.{target_of}
 use Rattle.rec_counts.specs.declared.colour.Colour.TheVariants.{Orange}
@@ -18,6 +18,7 @@ use Rattle.rec_release.specs.Release as releases
 use Rattle.rec_release.specs.Release.{started_of as zeros_started, emptied, first_of, with_next, without_first, IsReady}
 use Rattle.rec_release.specs.declared.at.At.{At}
 use Rattle.rec_walk.specs.declared.member.Member.{Member}
+use Rattle.rec_release.specs.Released.{is_at}
 use Rattle.rec_release.proofs.Freeing.{off_work}
 use Rattle.rec_walk.proofs.Walks.{first_none}
 use Rattle.rec_release.proofs.Giving.{given_is_work}
@@ -30,42 +31,20 @@ use Rattle.rec_sigma.proofs.Renewals.{refurbished_last}
 use Rattle.rec_trial.specs.Rules as trials
 use Rattle.rec_trial.specs.Trial.{next_of as trial_next}
 use Rattle.rec_sigma.proofs.Kept.{refurbished_kept}
-use Rattle.rec_collector.specs.Clearing.{IsClearing, IsDone}
+use Rattle.rec_collector.specs.Clearing.{IsClearing, IsDone, IsTidy, IsWide}
+use Rattle.rec_collector.specs.Kept.{IsListed}
 use Rattle.rec_collector.specs.Followed.{relieved, with_freed, with_released}
 use Rattle.rec_collector.specs.Parts.{Parts}
 use Rattle.rec_collector.specs.Zeros.{AreCounted}
 use Rattle.rec_collector.specs.Testing.{is_busy, last_tested, tested, verdict_of, with_release, zeros_released}
 use Rattle.rec_collector.specs.declared.verdict.Verdict.{Verdict}
 use Rattle.rec_collector.specs.declared.verdict.Verdict.TheVariants.{Passed}
-use Rattle.rec_collector.proofs.Counting.{Counted, last_kept}
+use Rattle.rec_collector.proofs.Counting.{Counted, freed_kept, last_kept, last_told, released_kept, released_told, relieved_kept, relieved_told, wide_on, zeros_kept, zeros_told}
 use Rattle.rec_collector.proofs.Goings.{freed_by, freed_last, freed_off, first_work, last_by, last_given, last_refused, none_some, released_by, released_emptied, released_last, released_more, released_off, relieved_by, some_none, tested_all, released_most}
 use Rattle.rec_collector.proofs.Judging.{none_busy}
-use Rattle.rec_collector.proofs.Told.{last_same}
-use Rattle.rec_collector.proofs.Tidy.{tidy_emptied, tidy_given, tidy_listed, tidy_next, tidy_off, tidy_refurbished, IsTidy}
+use Rattle.rec_collector.proofs.Tidy.{tidy_emptied, tidy_given, tidy_listed, tidy_next, tidy_off, tidy_refurbished}
 pub use Rattle.rec_collector.proofs.Goings.{last_sets}
 pub use Rattle.rec_collector.proofs.Judging.{last_freeable, last_refusable}
-
-pub tidy_of : {w : Parts} → IsClearing w → IsTidy w.prep.fields w.counts w.release.at
-tidy_of c = record { untried = c.untried; apart = c.apart; all_zeros = c.all_zeros; outside = c.outside; listed = c.listed; unbuffered = c.unbuffered; held = c.held }
-
--- what is left to show of parts whose trial and preparation stay at rest
-pub clearing : (w : Parts) → IsNone (trial_next w.trial) → w.prep.at ≡ None → IsTidy w.prep.fields w.counts w.release.at → releases.IsAtWork w.release w.counts → frees.IsAtWork w.freeing w.counts →
-    ((w.release.at ≡ None) ⊎ (w.freeing.at ≡ None)) → (w.freeing.at ≡ None → w.counts.work ≡ []) → IsClearing w
-clearing w i p t r f o k = record {
-  untried = t.untried;
-  idle = i;
-  unprepared = p;
-  apart = t.apart;
-  all_zeros = t.all_zeros;
-  outside = t.outside;
-  listed = t.listed;
-  unbuffered = t.unbuffered;
-  held = t.held;
-  release = r;
-  freeing = f;
-  one = o;
-  work = k;
-}
 
 -- a release, and the freeing of a set, that have nothing to do
 pub release_idle : (m : releases.Machine) (s : State) → m.at ≡ None → IsReady s → releases.IsAtWork m s
@@ -79,6 +58,14 @@ freeing_idle m s e n r = record {
   released = λ x h. absurd (omega (arith, h, ap (times x) n, times-nil x));
   ready = r;
 }
+
+-- what is left to show of parts where no set is freed
+pub unfreed_clear : (w : Parts) → IsNone (trial_next w.trial) → w.prep.at ≡ None → IsTidy w.prep.fields w.counts w.release.at → releases.IsAtWork w.release w.counts → w.freeing.at ≡ None → w.counts.work ≡ [] → IsClearing w
+unfreed_clear w i p t r u k = record { tidy = t; idle = i; unprepared = p; release = r; freeing = freeing_idle w.freeing w.counts u k r.ready; one = inr u; work = λ e. k }
+
+-- and where no slot is released
+unreleased_clear : (w : Parts) → IsNone (trial_next w.trial) → w.prep.at ≡ None → w.release.at ≡ None → IsTidy w.prep.fields w.counts None → frees.IsAtWork w.freeing w.counts → (w.freeing.at ≡ None → w.counts.work ≡ []) → IsClearing w
+unreleased_clear w i p e t f k = record { tidy = subst (IsTidy w.prep.fields w.counts) (sym e) t; idle = i; unprepared = p; release = release_idle w.release w.counts e f.ready; freeing = f; one = inl e; work = k }
 
 listed_work : (b : Bool) (s : State) (x : ℕ) → (releases.listed_if b s x).work ≡ s.work
 listed_work true s x = refl
@@ -99,8 +86,8 @@ next_clear lowers w wide still unfreed c =
     let t : State = without_first s.zeros s in
     let r : releases.IsAtWork (with_next w.release.fields lowers s).machine t = work_next w.release.fields lowers s wide c.release.ready in
     let work : t.work ≡ [] = first_work s.zeros s ∙ c.work unfreed in
-    let tidy : IsTidy w.prep.fields t (first_of s.zeros) = tidy_next s c.release.ready.zeros (subst (IsTidy w.prep.fields s) still (tidy_of c)) in (
-      clearing (with_release w (with_next w.release.fields lowers s)) c.idle c.unprepared tidy r (freeing_idle w.freeing t unfreed work r.ready) (inr unfreed) (λ e. work),
+    let tidy : IsTidy w.prep.fields t (first_of s.zeros) = tidy_next s c.release.ready.zeros (subst (IsTidy w.prep.fields s) still c.tidy) in (
+      unfreed_clear (with_release w (with_next w.release.fields lowers s)) c.idle c.unprepared tidy r unfreed work,
       λ e f. first_done s.zeros s refl e,
     )
 
@@ -133,19 +120,18 @@ module _ (w : Parts) (word : ℕ) (counted : Counted w.counts word) (c : IsClear
     work = (released_most w word).work ∙ c.work (release_alone w a c e)
 
     tidy : IsTidy w.prep.fields (released_off w word) (Some a)
-    tidy = subst (IsTidy w.prep.fields (released_off w word)) e (tidy_off w.release.lowers w.counts (target_of word) w.release.at counted c.release.ready (λ x h. absurd (omega (arith, h, ap (times x) (c.work (release_alone w a c e)), times-nil x))) (tidy_of c))
+    tidy = subst (IsTidy w.prep.fields (released_off w word)) e (tidy_off w.release.lowers w.counts (target_of word) w.release.at counted c.release.ready (λ x h. absurd (omega (arith, h, ap (times x) (c.work (release_alone w a c e)), times-nil x))) c.tidy)
 
     more_clear : a.field + 1 < w.release.fields → IsClearing (released_more w word a)
     more_clear l =
         let r = work_on w.release.fields w.release.lowers a w.counts (target_of word) (release_at_work w a c e) l in
-        clearing (released_more w word a) c.idle c.unprepared (tidy_more (released_off w word) a tidy) r (freeing_idle w.freeing (released_off w word) (release_alone w a c e) work ready) (inr (release_alone w a c e)) (λ f. work)
+        unfreed_clear (released_more w word a) c.idle c.unprepared (tidy_more (released_off w word) a tidy) r (release_alone w a c e) work
 
     emptied_clear : IsClearing (released_emptied w word a)
     emptied_clear =
         let held : releases.IsHeld (released_off w word) a = held_off w.release.lowers w.counts (target_of word) a (release_at_work w a c e).held in
         let ready' : IsReady (emptied (released_off w word) a.slot) = ready_emptied (released_off w word) a.slot held.released ready in
-        let work' : (emptied (released_off w word) a.slot).work ≡ [] = emptied_work (released_off w word) a.slot ∙ work in
-        clearing (released_emptied w word a) c.idle c.unprepared (tidy_emptied (released_off w word) a tidy) (release_idle (released_emptied w word a).release (emptied (released_off w word) a.slot) refl ready') (freeing_idle w.freeing (emptied (released_off w word) a.slot) (release_alone w a c e) work' ready') (inr (release_alone w a c e)) (λ f. work')
+        unfreed_clear (released_emptied w word a) c.idle c.unprepared (tidy_emptied (released_off w word) a tidy) (release_idle (released_emptied w word a).release (emptied (released_off w word) a.slot) refl ready') (release_alone w a c e) (emptied_work (released_off w word) a.slot ∙ work)
 
     last_clears : IsClearing (released_last w word a) × IsDone (released_last w word a)
     last_clears = let field : a.field < w.release.fields = (release_at_work w a c e).field in next_clear w.release.lowers (released_emptied w word a) (omega (arith, field)) refl (release_alone w a c e) emptied_clear
@@ -163,14 +149,14 @@ module _ (w : Parts) (word : ℕ) (counted : Counted w.counts word) (c : IsClear
   freeing_left : frees.IsAtWork (record { fields = w.freeing.fields; at = Some a }) (freed_off w word)
   freeing_left = off_work w.freeing.fields w.counts (target_of word) a (freeing_at_work w a c e)
 
-  tidy_left : IsTidy w.prep.fields (freed_off w word) w.release.at
-  tidy_left = tidy_off true w.counts (target_of word) w.release.at counted c.freeing.ready c.freeing.released (tidy_of c)
+  tidy_left : IsTidy w.prep.fields (freed_off w word) None
+  tidy_left = tidy_off true w.counts (target_of word) None counted c.freeing.ready c.freeing.released (subst (IsTidy w.prep.fields w.counts) still c.tidy)
 
   -- another field comes next
   freed_on_clear : (b : Member) → b.field < w.freeing.fields → IsOf (freed_off w word).work b → IsClearing (record w { counts = freed_off w word; freeing = record { fields = w.freeing.fields; at = Some b } })
   freed_on_clear b f i =
       let k : frees.IsAtWork (record { fields = w.freeing.fields; at = Some b }) (freed_off w word) = record { field = f; held = i; unlisted = freeing_left.unlisted; released = freeing_left.released; ready = freeing_left.ready } in
-      clearing (record w { counts = freed_off w word; freeing = record { fields = w.freeing.fields; at = Some b } }) c.idle c.unprepared tidy_left (release_idle w.release (freed_off w word) still freeing_left.ready) k (inl still) (λ g. cc)
+      unreleased_clear (record w { counts = freed_off w word; freeing = record { fields = w.freeing.fields; at = Some b } }) c.idle c.unprepared still tidy_left k (λ g. cc)
 
   freed_last_clear : IsClearing (freed_last w word)
   freed_last_clear =
@@ -181,7 +167,7 @@ module _ (w : Parts) (word : ℕ) (counted : Counted w.counts word) (c : IsClear
           | inr l ↦ freeing_left.released x (omega (arith, h, l, times-append x (freed_off w word).free (freed_off w word).work))
         ];
       } in
-      clearing (freed_last w word) c.idle c.unprepared (subst (IsTidy w.prep.fields (frees.listed (freed_off w word))) (sym still) (tidy_listed (freed_off w word) (subst (IsTidy w.prep.fields (freed_off w word)) still tidy_left))) (release_idle w.release (frees.listed (freed_off w word)) still ready) (freeing_idle (freed_last w word).freeing (frees.listed (freed_off w word)) refl refl ready) (inl still) (λ f. refl)
+      unreleased_clear (freed_last w word) c.idle c.unprepared still (tidy_listed (freed_off w word) tidy_left) (freeing_idle (freed_last w word).freeing (frees.listed (freed_off w word)) refl refl ready) (λ f. refl)
 
 pub freed_clear : (w : Parts) (word : ℕ) → IsSome w.freeing.at → Counted w.counts word → IsKept w.counts → IsClearing w → IsClearing (with_freed w word)
 freed_clear w word busy h k c = freed_by IsClearing w word (λ e. none_some w.freeing.at e busy)
@@ -203,7 +189,7 @@ given_clear w wide some idle passed k c d =
     let e = none_busy w idle in
     let f : frees.IsFreeable s = last_freeable w some idle passed k c d in
     let r : frees.IsAtWork (last_given w).freeing (given_up s) = given_is_work s w.freeing.fields wide k f in (
-      clearing (last_given w) c.idle c.unprepared (subst (IsTidy w.prep.fields (given_up s)) (sym e.0) (tidy_given s k f (subst (IsTidy w.prep.fields s) e.0 (tidy_of c)))) (release_idle w.release (given_up s) e.0 r.ready) r (inl e.0)
+      unreleased_clear (last_given w) c.idle c.unprepared e.0 (tidy_given s k f (subst (IsTidy w.prep.fields s) e.0 c.tidy)) r
           (λ g. ap (λ ws. ws ++ last_set s.sets) f.work ∙ nothing_first (last_set s.sets) (first_none (slice_get (last_set s.sets) 0) g)),
       λ g h. d e.0 e.1,
     )
@@ -220,42 +206,41 @@ refused_clear verdict w some idle k c d =
       free = released_after s (last_set s.sets) (slice_get (last_set s.sets) 0) t r c.release.ready.free;
     } in
     let work : t.work ≡ [] = r.work ∙ f.work in
-    clearing (last_refused verdict w) c.idle c.unprepared (subst (IsTidy w.prep.fields t) (sym e.0) (tidy_refurbished s t k f c.release.ready r (subst (IsTidy w.prep.fields s) e.0 (tidy_of c)))) (release_idle w.release t e.0 ready) (freeing_idle w.freeing t e.1 work ready) (inl e.0) (λ g. work)
+    unreleased_clear (last_refused verdict w) c.idle c.unprepared e.0 (tidy_refurbished s t k f c.release.ready r (subst (IsTidy w.prep.fields s) e.0 c.tidy)) (freeing_idle w.freeing t e.1 work ready) (λ g. work)
 
 pub last_clear : (w : Parts) → 0 < w.release.fields → 0 < w.freeing.fields → 0 < length w.counts.sets → is_busy w ≡ false → IsKept w.counts → IsClearing w → IsDone w → IsClearing (last_tested w) × IsDone (last_tested w)
 last_clear w wide freed some idle k c d = last_by (λ v. IsClearing v × IsDone v) w (λ e. given_clear w freed some idle e k c d)
     (λ verdict. zeros_clear true (last_refused verdict w) wide (none_busy w idle).0 (none_busy w idle).1 (refused_clear verdict w some idle k c d))
 
--- sets are tested
+-- what holds where the next set may be tested
 pub record StaysClear (v : Parts) : Type 0 where
-  pub wide : 0 < v.release.fields
-  pub freed : 0 < v.freeing.fields
-  pub kept : IsKept v.counts
-  pub clear : IsClearing v
+  pub wide : IsWide v
+  pub counts : IsKept v.counts
+  pub clearing : IsClearing v
   pub done : IsDone v
 
+pub zeros_stay : (w : Parts) → IsWide w → w.release.at ≡ None → w.freeing.at ≡ None → IsKept w.counts → IsClearing w → StaysClear (zeros_released false w)
+zeros_stay w wide still unfreed k c = let v = zeros_clear false w wide.0 still unfreed c in record { wide = wide_on (zeros_told false w).numbers wide; counts = zeros_kept false w k; clearing = v.0; done = v.1 }
+
+pub released_stays : (w : Parts) (word : ℕ) → IsWide w → IsSome w.release.at → Counted w.counts word → IsKept w.counts → IsClearing w → StaysClear (with_released w word)
+released_stays w word wide busy h k c = let v = released_clear w word busy h k c in record { wide = wide_on (released_told w word).numbers wide; counts = released_kept w word c h k; clearing = v.0; done = v.1 }
+
+pub relieved_stays : (w : Parts) (word : ℕ) → IsWide w → IsSome w.freeing.at → Counted w.counts word → IsKept w.counts → IsClearing w → StaysClear (relieved (with_freed w word))
+relieved_stays w word wide busy h k c =
+    let v = relieved_clear w word wide.0 busy h k c in
+    record { wide = wide_on (relieved_told w word).numbers wide; counts = relieved_kept (with_freed w word) (freed_kept w word c h k); clearing = v.0; done = v.1 }
+
+-- sets are tested
 pub last_stays : (w : Parts) → 0 < length w.counts.sets → is_busy w ≡ false → StaysClear w → StaysClear (last_tested w)
 last_stays w some idle i =
-    let v = last_clear w i.wide i.freed some idle i.kept i.clear i.done in
-    record {
-      wide = omega (arith, i.wide, (last_same w).release_fields);
-      freed = omega (arith, i.freed, (last_same w).freeing_fields);
-      kept = last_kept w some idle i.clear i.done i.kept;
-      clear = v.0;
-      done = v.1;
-    }
+    let v = last_clear w i.wide.0 i.wide.1 some idle i.counts i.clearing i.done in
+    record { wide = wide_on (last_told w some).numbers i.wide; counts = last_kept w some idle i.clearing i.done i.counts; clearing = v.0; done = v.1 }
 
-tested_stays : (n : ℕ) (w : Parts) → n ≤ length w.counts.sets → StaysClear w → StaysClear (tested n w)
+pub tested_stays : (n : ℕ) (w : Parts) → n ≤ length w.counts.sets → StaysClear w → StaysClear (tested n w)
 tested_stays n w l i = tested_all StaysClear last_stays n w l i
 
-pub tested_clear : (n : ℕ) (w : Parts) → 0 < w.release.fields → 0 < w.freeing.fields → n ≤ length w.counts.sets → IsKept w.counts → IsClearing w → IsDone w → IsClearing (tested n w) × IsDone (tested n w)
-tested_clear n w wide freed l k c d = let t = tested_stays n w l (record { wide = wide; freed = freed; kept = k; clear = c; done = d }) in (t.clear, t.done)
-
-pub tested_kept : (n : ℕ) (w : Parts) → 0 < w.release.fields → 0 < w.freeing.fields → n ≤ length w.counts.sets → IsClearing w → IsDone w → IsKept w.counts → IsKept (tested n w).counts
-tested_kept n w wide freed l c d k = (tested_stays n w l (record { wide = wide; freed = freed; kept = k; clear = c; done = d })).kept
-
 -- where nothing is at work after as many tests as there were sets, no set is left
-ends_after : (n : ℕ) (w : Parts) → length w.counts.sets ≡ n → is_busy (tested n w) ≡ false → (tested n w).counts.sets ≡ []
+pub ends_after : (n : ℕ) (w : Parts) → length w.counts.sets ≡ n → is_busy (tested n w) ≡ false → (tested n w).counts.sets ≡ []
 unfolding tested
 ends_after zero w e idle = nil_from_length w.counts.sets e
 ends_after (suc n) w e idle = go (is_busy w) refl idle (ends_after n (last_tested w) (omega (arith, e, last_sets w (omega (arith, e)))))
@@ -263,9 +248,6 @@ ends_after (suc n) w e idle = go (is_busy w) refl idle (ends_after n (last_teste
     go : (b : Bool) → is_busy w ≡ b → is_busy (cond b w (tested n (last_tested w))) ≡ false → (is_busy (tested n (last_tested w)) ≡ false → (tested n (last_tested w)).counts.sets ≡ []) → (cond b w (tested n (last_tested w))).counts.sets ≡ []
     go true f i next = absurd (false≢true (sym i ∙ f))
     go false f i next = next i
-
-pub tested_ends : (w : Parts) → IsKept w.counts → IsClearing w → IsDone w → is_busy (tested (length w.counts.sets) w) ≡ false → (tested (length w.counts.sets) w).counts.sets ≡ []
-tested_ends w k c d idle = ends_after (length w.counts.sets) w refl idle
 
 -- once no set is left a trial can begin
 pub clear_ready : (w : Parts) → IsKept w.counts → IsClearing w → IsDone w → w.release.at ≡ None → w.freeing.at ≡ None → w.counts.sets ≡ [] → trials.IsReady w.counts
@@ -291,3 +273,18 @@ clear_counted w k c d still unfreed none x r = elim (cases_lt 0 (slot_at w.count
   | inl l ↦ l
   | inr l ↦ absurd (omega (arith, c.all_zeros x r (omega (arith, l)) (clear_uncoloured w k c d still unfreed none x), ap (times x) (d still unfreed), times-nil x))
 ]
+
+-- and every released slot is in the free list or waits in the root buffer
+pub clear_listed : (w : Parts) → IsKept w.counts → IsClearing w → IsDone w → w.release.at ≡ None → w.freeing.at ≡ None → w.counts.sets ≡ [] → IsListed w.counts
+clear_listed w k c d still unfreed none = record {
+  listed = λ x l r. elim (cases_Bool (slot_at w.counts x).buffered) [
+    | inl b ↦
+        let in_sets : times x (concat w.counts.sets) ≡ 0 = ap (λ (sets : List (List ℕ)). times x (concat sets)) none ∙ times-nil x in
+        omega (arith, k.buffers x, in_sets, ap one b)
+    | inr b ↦
+        let in_work : times x w.counts.work ≡ 0 = ap (times x) (c.work unfreed) ∙ times-nil x in
+        omega (arith, c.listed x l r b, in_work, ap (λ (o : Option At). one (is_at x o)) still)
+  ];
+  only = c.release.ready.free;
+  unbuffered = c.unbuffered;
+}

@@ -9,7 +9,7 @@ use Rattle.rec_collector.specs.Parts.{Parts}
 use Rattle.rec_collector.specs.Private.{Private, parts_of}
 use Rattle.rec_collector.specs.Zeros.{AreCounted, AreTheZeros}
 use Rattle.rec_collector.specs.declared.phase.Phase.{Phase}
-use Rattle.rec_collector.specs.declared.phase.Phase.TheVariants.{Idle, Releasing, Freeing, Trying, Preparing, Opening, Sweeping, Closing}
+use Rattle.rec_collector.specs.declared.phase.Phase.TheVariants.{Looking, Swapping, Returning, Releasing, Freeing, Trying, Preparing}
 
 -- where each slot has a count, there are none
 none_exact : (s : State) → s.zeros ≡ [] → AreCounted s → AreTheZeros s
@@ -26,15 +26,14 @@ clear_exact w c x = (
 )
 
 exact_at : (p : Private) (phase : Phase) → IsAt p phase → AreTheZeros p.counts
-exact_at p Idle a = none_exact p.counts a.0.zeros a.0.counted
 exact_at p Releasing a = clear_exact (parts_of p) a.0.clearing
 exact_at p Freeing a = clear_exact (parts_of p) a.0.clearing
 exact_at p Trying a = none_exact p.counts a.zeros a.counted
 exact_at p Preparing a = none_exact p.counts a.tried.zeros a.tried.counted
-exact_at p Opening a = none_exact p.counts a.0.tried.zeros a.0.tried.counted
-exact_at p (Sweeping n) a = none_exact p.counts a.0.tried.zeros a.0.tried.counted
-exact_at p (Closing n) a = none_exact p.counts a.0.tried.zeros a.0.tried.counted
-exact_at p _ a = none_exact p.counts a.rest.zeros a.rest.counted
+exact_at p (Looking t) a = none_exact p.counts a.rest.zeros a.rest.counted
+exact_at p (Swapping t) a = none_exact p.counts a.rest.zeros a.rest.counted
+exact_at p (Returning t) a = none_exact p.counts a.rest.zeros a.rest.counted
+exact_at p _ a = none_exact p.counts a.0.zeros a.0.counted
 
 pub machine_exact : (p : Private) → IsMachine p → AreTheZeros p.counts
 machine_exact p k = exact_at p p.phase k.now

@@ -32,9 +32,8 @@ use Rattle.rec_collector.specs.Parts.{Parts}
 use Rattle.rec_collector.specs.Testing.{is_busy, last_tested, tested, with_release, zeros_released}
 use Rattle.rec_collector.specs.declared.verdict.Verdict.{Verdict}
 use Rattle.rec_collector.proofs.Clearing.{freed_clear, last_stays, refused_clear, StaysClear, release_alone, release_at_work, freeing_at_work}
-use Rattle.rec_collector.proofs.Counting.{Counted}
+use Rattle.rec_collector.proofs.Counting.{Counted, last_told}
 use Rattle.rec_collector.proofs.Goings.{freed_by, freed_last, freed_more, freed_next, freed_off, last_by, last_given, last_refused, none_some, released_by, released_emptied, released_last, released_more, released_off, relieved_by, tested_all, released_most, freed_most}
-use Rattle.rec_collector.proofs.Told.{last_same}
 use Rattle.rec_collector.proofs.Judging.{last_freeable, last_refusable, none_busy}
 
 -- no more fields were exchanged than there are
@@ -201,16 +200,12 @@ record HasTested (n : ℕ) (v : Parts) : Type 0 where
   pub exchanged : HasExchanged v n
 
 last_has : (n : ℕ) (w : Parts) → 0 < length w.counts.sets → is_busy w ≡ false → HasTested n w → HasTested n (last_tested w)
-last_has n w some idle i = record {
-  stays = last_stays w some idle i.stays;
-  same = (last_same w).freeing_fields ∙ i.same ∙ sym (last_same w).release_fields;
-  exchanged = last_exchanged w n i.same some idle i.stays.kept i.stays.clear i.stays.done i.exchanged;
-}
+last_has n w some idle i =
+    let k = last_told w some in
+    record { stays = last_stays w some idle i.stays; same = k.freeing_fields ∙ i.same ∙ sym k.release_fields; exchanged = last_exchanged w n i.same some idle i.stays.counts i.stays.clearing i.stays.done i.exchanged }
 
-pub tested_exchanged : (count : ℕ) (w : Parts) (n : ℕ) → 0 < w.release.fields → w.freeing.fields ≡ w.release.fields → count ≤ length w.counts.sets → IsKept w.counts → IsClearing w → IsDone w → HasExchanged w n → HasExchanged (tested count w) n
-tested_exchanged count w n wide same l k c d h =
-    let stays : StaysClear w = record { wide = wide; freed = omega (arith, wide, same); kept = k; clear = c; done = d } in
-    (tested_all (HasTested n) (last_has n) count w l (record { stays = stays; same = same; exchanged = h })).exchanged
+pub tested_exchanged : (count : ℕ) (w : Parts) (n : ℕ) → w.freeing.fields ≡ w.release.fields → count ≤ length w.counts.sets → StaysClear w → HasExchanged w n → HasExchanged (tested count w) n
+tested_exchanged count w n same l stays h = (tested_all (HasTested n) (last_has n) count w l (record { stays = stays; same = same; exchanged = h })).exchanged
 
 -- where no slot is released, none was exchanged
 pub none_exchanged : (w : Parts) → ((x : ℕ) → x < length w.counts.slots → (slot_at w.counts x).released ≡ false) → w.release.at ≡ None → w.freeing.at ≡ None → HasExchanged w 0

@@ -1,43 +1,18 @@
 -- What every machine keeps holds while an epoch is requested and the buffers of the mutators are gathered.
-use Rattle.std.proofs.Common.{◌≡◌, ◌≢◌, ℕ, ◌+◌, ◌-◌, ◌*◌, ◌^◌, ◌<◌, ◌≤◌, ◌==◌, true, false, Bool, cond, inl, inr, IsNone, length, set, refl, arith, sym, ◌∙◌, ap, subst}
+use Rattle.std.proofs.Common.{◌≡◌, ◌≢◌, ℕ, ◌+◌, ◌-◌, ◌*◌, ◌^◌, ◌<◌, ◌≤◌, ◌==◌, true, false, Bool, cond, inl, inr, length, set, refl, arith, sym, ◌∙◌, ap, subst}
 use Rattle.std.proofs.lemmas.List.{length-set, get_or-set_same, get_or-set_other}
 use Rattle.std.proofs.lemmas.Bool.{cases_eq, cases_lt, eq-eqb, false≢true}
 use Rattle.rec_word.specs.Mailbox.{crossing_word}
 use Rattle.rec_word.specs.declared.mailbox.Mailbox.TheVariants.{Retired}
 use Rattle.rec_log.specs.declared.contents.Contents.{Contents}
-use Rattle.rec_release.specs.TakenOff.{IsApart}
-use Rattle.rec_trial.specs.Trial.{next_of}
-use Rattle.rec_collector.specs.Clearing.{IsUntried}
 use Rattle.rec_collector.specs.Given.{IsSized}
-use Rattle.rec_collector.specs.Kept.{AreSized, AreSpare, IsAt, IsAtRest, IsMachine, IsTold, NoneReleased, swept_at, under_way}
+use Rattle.rec_collector.specs.Kept.{AreSized, AreSpare, IsAt, IsMachine, IsTold, swept_at, under_way}
 use Rattle.rec_collector.specs.Next.{is_spent}
-use Rattle.rec_collector.specs.Outside.{AreOutside}
-use Rattle.rec_collector.specs.Parts.{Parts}
-use Rattle.rec_collector.specs.Private.{Private, blank, buffer_at, parts_of}
-use Rattle.rec_collector.specs.Zeros.{AreCounted}
+use Rattle.rec_collector.specs.Private.{Private, blank, buffer_at}
 use Rattle.rec_collector.specs.Took.{moved, swapped_at, took_at}
 use Rattle.rec_collector.specs.declared.phase.Phase.{Phase}
 use Rattle.rec_collector.specs.declared.phase.Phase.TheVariants.{Idle, Looking, Swapping, Returning}
 use Rattle.rec_collector.proofs.Landing.{freed_at, now_at, told_at, under_way_at}
-
--- what is at rest stays so with the same parts and sweep
-still_rests : (p q : Private) → parts_of q ≡ parts_of p → q.due ≡ p.due → IsAtRest p → IsAtRest q
-still_rests p q e due a = record {
-  untried = subst (λ (w : Parts). IsUntried w.counts) (sym e) a.untried;
-  idle = subst (λ (w : Parts). IsNone (next_of w.trial)) (sym e) a.idle;
-  unprepared = ap (λ (w : Parts). w.prep.at) e ∙ a.unprepared;
-  apart = subst (λ (w : Parts). IsApart w.counts) (sym e) a.apart;
-  none = subst (λ (w : Parts). NoneReleased w.counts) (sym e) a.none;
-  counted = subst (λ (w : Parts). AreCounted w.counts) (sym e) a.counted;
-  outside = subst (λ (w : Parts). AreOutside w.prep.fields w.counts) (sym e) a.outside;
-  zeros = ap (λ (w : Parts). w.counts.zeros) e ∙ a.zeros;
-  roots = ap (λ (w : Parts). w.counts.roots) e ∙ a.roots;
-  free = ap (λ (w : Parts). w.counts.free) e ∙ a.free;
-  work = ap (λ (w : Parts). w.counts.work) e ∙ a.work;
-  still = ap (λ (w : Parts). w.release.at) e ∙ a.still;
-  unfreed = ap (λ (w : Parts). w.freeing.at) e ∙ a.unfreed;
-  due = due ∙ a.due;
-}
 
 -- a turn that changes the epoch and the phase alone
 moved_keeps : (p : Private) (epoch : ℕ) (phase : Phase) → IsMachine p → epoch < 2 ^ 24 → p.collections + under_way phase ≤ epoch → p.freed ≤ 2 ^ 16 * p.collections + swept_at phase
@@ -46,16 +21,8 @@ moved_keeps p epoch phase k fits under freed told now = record {
   epoch = fits;
   collections = under;
   freed = freed;
-  fields = k.fields;
-  trial_fields = k.trial_fields;
-  freeing_fields = k.freeing_fields;
-  prep_fields = k.prep_fields;
-  few_fields = k.few_fields;
-  mutators = k.mutators;
-  few = k.few;
-  both = k.both;
-  newer = k.newer;
-  older = k.older;
+  widths = k.widths;
+  rows = k.rows;
   counts = k.counts;
   told = told;
   now = now;
@@ -76,7 +43,7 @@ idle_keeps p word k e = go (is_spent p) refl
         let next : p.epoch + 1 ≢ 2 ^ 24 = λ q. false≢true (sym s ∙ eq-eqb (p.epoch + 1) (2 ^ 24) q) in
         let fits : p.epoch + 1 < 2 ^ 24 = elim (cases_lt (p.epoch + 1) (2 ^ 24)) [ inl l ↦ l | inr l ↦ absurd (next (omega (arith, l, k.epoch))) ] in
         moved_keeps p (p.epoch + 1) (Looking 1) k fits (omega (arith, under_way_at p Idle k e)) (freed_at p Idle k e) (told_at p Idle k e)
-        (record { rest = still_rests p requested refl refl a.0; first = omega arith; there = omega (arith, k.mutators); spares = a.1; turns = omega (arith, a.2) })
+        (record { rest = a.0; first = omega arith; there = omega (arith, k.mutators); spares = a.1; turns = omega (arith, a.2); due = a.3 })
 
 -- the mailbox of a mutator is held where it has crossed
 pub look_keeps : (p : Private) (word t : ℕ) → IsMachine p → p.phase ≡ Looking t → IsMachine (took_at p word (Looking t))
@@ -88,7 +55,7 @@ look_keeps p word t k e = go (word == crossing_word p.epoch Retired)
     go true =
         let a : IsAt p (Looking t) = now_at p (Looking t) k e in
         moved_keeps p p.epoch (Swapping t) k k.epoch (under_way_at p (Looking t) k e) (freed_at p (Looking t) k e) (told_at p (Looking t) k e)
-        (record { rest = still_rests p (moved p (Swapping t)) refl refl a.rest; first = a.first; there = a.there; spares = a.spares; turns = omega (arith, a.turns, a.first) })
+        (record { rest = a.rest; first = a.first; there = a.there; spares = a.spares; turns = omega (arith, a.turns, a.first); due = a.due })
 
 -- the next mutator's mailbox follows
 pub next_keeps : (p : Private) (t : ℕ) → IsMachine p → p.phase ≡ Returning t → t ≢ length p.newer → IsMachine (moved p (Looking (t + 1)))
@@ -98,15 +65,16 @@ next_keeps p t k e other =
     let same : t + 1 - 1 ≡ t = omega arith in
     moved_keeps p p.epoch (Looking (t + 1)) k k.epoch (under_way_at p (Returning t) k e) (freed_at p (Returning t) k e) (told_at p (Returning t) k e)
     (record {
-      rest = still_rests p (moved p (Looking (t + 1))) refl refl a.rest;
+      rest = a.rest;
       first = omega arith;
       there = omega (arith, more);
       spares = subst (λ from. AreSpare p from) (sym same) a.spares;
       turns = omega (arith, a.turns);
+      due = a.due;
     })
 
 -- a buffer joins the newer ones
-swap_sized : (p : Private) (i : ℕ) (box : Contents) → IsSized p.registers p.capacity box → AreSized p p.newer → AreSized p (set p.newer i box)
+swap_sized : (p : Private) (i : ℕ) (box : Contents) → IsSized p.registers p.capacity box → AreSized p.registers p.capacity p.newer → AreSized p.registers p.capacity (set p.newer i box)
 swap_sized p i box z k = λ j l.
     let m : j < length p.newer = omega (arith, l, length-set p.newer i box) in
     elim (cases_eq j i) [
@@ -123,23 +91,16 @@ swap_keeps p t box z k e =
       epoch = k.epoch;
       collections = under_way_at p (Swapping t) k e;
       freed = freed_at p (Swapping t) k e;
-      fields = k.fields;
-      trial_fields = k.trial_fields;
-      freeing_fields = k.freeing_fields;
-      prep_fields = k.prep_fields;
-      few_fields = k.few_fields;
-      mutators = omega (arith, k.mutators, many);
-      few = omega (arith, k.few, many);
-      both = k.both ∙ sym many;
-      newer = swap_sized p (t - 1) box z k.newer;
-      older = k.older;
+      widths = k.widths;
+      rows = record { mutators = omega (arith, k.mutators, many); few = omega (arith, k.few, many); both = k.both ∙ sym many; newer = swap_sized p (t - 1) box z k.newer; older = k.older };
       counts = k.counts;
       told = told_at p (Swapping t) k e;
       now = record {
-        rest = still_rests p (record p { phase = Returning t; newer = set p.newer (t - 1) box }) refl refl a.rest;
+        rest = a.rest;
         first = a.first;
         there = omega (arith, a.there, many);
         spares = λ j f l. get_or-set_other p.newer (t - 1) j box (blank 0 0) (λ q. absurd (omega (arith, a.first, f, q))) ∙ a.spares j (omega (arith, f)) (omega (arith, l, many));
         turns = a.turns;
+        due = a.due;
       };
     }

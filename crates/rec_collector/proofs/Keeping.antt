@@ -7,22 +7,19 @@ use Rattle.rec_log.specs.declared.contents.Contents.{Contents}
 use Rattle.rec_release.specs.Sweep as sweeps
 use Rattle.rec_release.proofs.Kept.{sweep_kept}
 use Rattle.rec_collector.specs.Followed.{Next, followed, prepared, relieved, tried, with_freed, with_loaded, with_released, with_tried}
-use Rattle.rec_collector.specs.Given.{IsCovered, IsGiven, IsGivenAt, IsSized}
-use Rattle.rec_collector.specs.Kept.{IsMachine, swept_at, under_way}
+use Rattle.rec_collector.specs.Given.{IsGiven, IsGivenAt, IsSized}
+use Rattle.rec_collector.specs.Kept.{IsMachine}
 use Rattle.rec_collector.specs.Next.{is_spent}
-use Rattle.rec_collector.specs.Parts.{Parts}
 use Rattle.rec_collector.specs.Private.{Private, parts_of}
 use Rattle.rec_collector.specs.Step.{IsBetween}
 use Rattle.rec_collector.specs.Testing.{zeros_released}
 use Rattle.rec_collector.specs.Took.{batched, came, ended_if, moved, step_of, swapped_at, swapped_of, took_at, took_of}
 use Rattle.rec_collector.specs.declared.phase.Phase.{Phase}
 use Rattle.rec_collector.specs.declared.phase.Phase.TheVariants.{Idle, Looking, Swapping, Returning, Releasing, Freeing, Trying, Preparing, Opening, Sweeping, Closing}
-use Rattle.rec_collector.proofs.Following.{begun_clears, followed_lands, freed_clears, released_clears}
 use Rattle.rec_collector.proofs.Gathering.{idle_keeps, look_keeps, next_keeps, swap_keeps}
-use Rattle.rec_collector.proofs.Landing.{Lands, landed, landed_keeps}
-use Rattle.rec_collector.proofs.Preparing.{prepared_lands, took_prepared}
+use Rattle.rec_collector.proofs.Landing.{landed, work_of}
 use Rattle.rec_collector.proofs.Sweeping.{ended_keeps, opening_keeps, sweeping_keeps}
-use Rattle.rec_collector.proofs.Trying.{took_tried, tried_lands}
+use Rattle.rec_collector.proofs.Turning.{IsWork, work_keeps}
 
 -- where nothing is to be swept, the collection is complete
 ended_if_keeps : (p : Private) (phase : Phase) → IsMachine p → p.phase ≡ phase → IsMachine (ended_if phase p)
@@ -30,19 +27,16 @@ ended_if_keeps p (Closing n) k e = ended_keeps p n k e
 ended_if_keeps p _ k e = k
 
 -- a turn that works on the parts
-came_keeps : (p : Private) (n : Next) (phase : Phase) → IsMachine p → p.phase ≡ phase → under_way phase ≡ 1 → swept_at phase ≡ 0 → Lands p n → IsMachine (came p n)
-came_keeps p n phase k e under none l = ended_if_keeps (landed p n) n.phase (landed_keeps p n phase k e under none l) refl
+came_keeps : (p : Private) (word : ℕ) (phase : Phase) → IsMachine p → p.phase ≡ phase → IsGivenAt p word phase → IsWork p phase → IsMachine (came p (work_of p word phase))
+came_keeps p word phase k e g at_work = let n : Next = work_of p word phase in ended_if_keeps (landed p n) n.phase (work_keeps p word phase k e g at_work) refl
 
 -- a mailbox was given back
-return_keeps : (p : Private) (word t : ℕ) → IsMachine p → p.phase ≡ Returning t → (t ≡ length p.newer → IsCovered p.counts p.newer p.older) → IsMachine (took_at p word (Returning t))
+return_keeps : (p : Private) (word t : ℕ) → IsMachine p → p.phase ≡ Returning t → IsGivenAt p word (Returning t) → IsMachine (took_at p word (Returning t))
 unfolding took_at
-return_keeps p word t k e c = go (t == length p.newer) refl
+return_keeps p word t k e g = go (t == length p.newer) refl
   where
-    w : Parts
-    w = zeros_released false (batched p)
-
-    go : (b : Bool) → (t == length p.newer) ≡ b → IsMachine (cond b (came p (followed w)) (moved p (Looking (t + 1))))
-    go true q = let last : t ≡ length p.newer = eqb-true t (length p.newer) q in came_keeps p (followed w) (Returning t) k e refl refl (followed_lands p w k.fields (begun_clears p t k e last (c last)))
+    go : (b : Bool) → (t == length p.newer) ≡ b → IsMachine (cond b (came p (work_of p word (Returning t))) (moved p (Looking (t + 1))))
+    go true q = came_keeps p word (Returning t) k e g (eqb-true t (length p.newer) q)
     go false q = next_keeps p t k e (λ last. false≢true (sym q ∙ eq-eqb t (length p.newer) last))
 
 -- what is learnt
@@ -52,13 +46,10 @@ took_keeps_at p word Idle k e g = idle_keeps p word k e
 took_keeps_at p word (Looking t) k e g = look_keeps p word t k e
 took_keeps_at p word (Swapping t) k e g = absurd g
 took_keeps_at p word (Returning t) k e g = return_keeps p word t k e g
-took_keeps_at p word Releasing k e g = let w : Parts = with_released (parts_of p) word in came_keeps p (followed w) Releasing k e refl refl (followed_lands p w k.fields (released_clears p word k e g))
-took_keeps_at p word Freeing k e g = let w : Parts = relieved (with_freed (parts_of p) word) in came_keeps p (followed w) Freeing k e refl refl (followed_lands p w k.fields (freed_clears p word k e g))
-took_keeps_at p word Trying k e g = let w : Parts = with_tried (parts_of p) word in came_keeps p (tried w) Trying k e refl refl (tried_lands p w k.fields (took_tried p word k e g))
-took_keeps_at p word Preparing k e g = let w : Parts = with_loaded (parts_of p) word in came_keeps p (prepared w) Preparing k e refl refl (prepared_lands p w (took_prepared p word k e))
 took_keeps_at p word Opening k e g = opening_keeps p k e
 took_keeps_at p word (Sweeping n) k e g = sweeping_keeps p n word k e (sweep_kept p.counts p.due k.counts)
 took_keeps_at p word (Closing n) k e g = ended_keeps p n k e
+took_keeps_at p word phase k e g = came_keeps p word phase k e g tt
 
 took_keeps : (p : Private) (word : ℕ) → IsMachine p → IsGiven p word → IsMachine (took_of p word)
 unfolding took_of IsGiven

@@ -13,7 +13,6 @@ pub mod Judging
 pub mod Keeping
 pub mod Landing
 pub mod Limits
-pub mod Listing
 pub mod Mailbox
 pub mod Offers
 pub mod OfferedTo
@@ -26,7 +25,6 @@ pub mod Steps
 pub mod Sweeping
 pub mod Tested
 pub mod Tidy
-pub mod Told
 pub mod Touched
 pub mod Touching
 pub mod Trying

@@ -1,58 +1,33 @@
 -- What a step leaves in the mailbox that it looks at.
-use Rattle.std.proofs.Common.{◌≡◌, ◌≢◌, inl, inr, ℕ, ◌+◌, ◌==◌, Bool, true, false, cond, Option, None, Some, List, [], ◌∷◌, length, refl, sym, ap, ◌∙◌}
+use Rattle.std.proofs.Common.{◌≡◌, ◌≢◌, inl, inr, ℕ, ◌+◌, ◌==◌, Bool, true, false, cond, Option, None, Some, length, refl, sym, ap, ◌∙◌}
 use Rattle.std.proofs.lemmas.Bool.{cases_eq, eq-eqb, ne_eqb}
 use Rattle.rec_word.specs.Mailbox.{crossing_word}
 use Rattle.rec_word.specs.declared.mailbox.Mailbox.TheVariants.{Retired}
-use Rattle.rec_word.specs.declared.op.Op.{Op}
 use Rattle.rec_log.specs.declared.contents.Contents.{Contents}
-use Rattle.rec_release.specs.declared.at.At.{At}
-use Rattle.rec_walk.specs.declared.member.Member.{Member}
-use Rattle.rec_sigma.specs.declared.at.At as loads
-use Rattle.rec_trial.specs.Trial.{next_of as trial_next}
-use Rattle.rec_collector.specs.Followed.{followed, prep_started, prepared, prepared_at, relieved, sweep_phase, tested_on, trial_started, tried, tried_at, with_freed, with_loaded, with_released, with_tried, Next}
+use Rattle.rec_collector.specs.Followed.{followed, prepared, tried, Next}
 use Rattle.rec_collector.specs.Given.{IsGiven}
 use Rattle.rec_collector.specs.Kept.{IsMachine}
 use Rattle.rec_collector.specs.Next.{is_spent, next_of}
 use Rattle.rec_collector.specs.Parts.{Parts}
-use Rattle.rec_collector.specs.Private.{parts_of, with_parts, Private}
+use Rattle.rec_collector.specs.Private.{with_parts, Private}
 use Rattle.rec_collector.specs.Step.{IsBetween, LeavesBox, WholeStep}
-use Rattle.rec_collector.specs.Testing.{tested, zeros_released}
-use Rattle.rec_collector.specs.Took.{batched, came, ended_if, left_at, left_of, moved, step_of, swept_phase, took_at, took_of, turn_of}
+use Rattle.rec_collector.specs.Took.{came, ended_if, left_at, left_of, moved, step_of, swept_phase, took_at, took_of, turn_of}
 use Rattle.rec_collector.specs.declared.phase.Phase.{Phase}
-use Rattle.rec_collector.specs.declared.phase.Phase.TheVariants.{Idle, Looking, Swapping, Returning, Releasing, Freeing, Trying, Preparing, Opening, Sweeping, Closing}
+use Rattle.rec_collector.specs.declared.phase.Phase.TheVariants.{Idle, Looking, Swapping, Returning, Opening, Sweeping, Closing}
+use Rattle.rec_collector.proofs.Landing.{followed_phase, prepared_phase, tried_phase, work_of, work_phase}
 use Rattle.rec_collector.proofs.Steps.{step_made}
 
 -- what follows a word in the middle of a collection holds no mailbox
 pub prepared_between : (w : Parts) → IsBetween (prepared w).phase
-unfolding prepared
-prepared_between w = at w.prep.at
-  where
-    swept : (free : List ℕ) → IsBetween (sweep_phase free)
-    swept [] = tt
-    swept (x ∷ free) = tt
-
-    at : (x : Option loads.At) → IsBetween (prepared_at w x).phase
-    at (Some a) = tt
-    at None = swept w.counts.free
+prepared_between w = prepared_phase IsBetween tt tt tt w
 
 pub tried_between : (w : Parts) → IsBetween (tried w).phase
-unfolding tried
-tried_between w = at (trial_next w.trial)
-  where
-    at : (x : Option Op) → IsBetween (tried_at w x).phase
-    at (Some op) = tt
-    at None = prepared_between (prep_started w)
+tried_between w = tried_phase IsBetween tt tt tt tt w
 
 pub followed_between : (w : Parts) → IsBetween (followed w).phase
-unfolding followed
-followed_between w = at (tested (length w.counts.sets) w).release.at (tested (length w.counts.sets) w).freeing.at
-  where
-    at : (x : Option At) (m : Option Member) → IsBetween (tested_on (tested (length w.counts.sets) w) x m).phase
-    at x (Some m) = tt
-    at (Some a) None = tt
-    at None None = tried_between (trial_started (tested (length w.counts.sets) w))
+followed_between w = followed_phase IsBetween tt tt tt tt tt tt w
 
-pub came_leaves : (p : Private) (box : Contents) (n : Next) → IsBetween n.phase → left_of (came p n) box ≡ box
+came_leaves : (p : Private) (box : Contents) (n : Next) → IsBetween n.phase → left_of (came p n) box ≡ box
 unfolding left_of left_at
 came_leaves p box n between = at n.phase between
   where
@@ -80,15 +55,11 @@ leaves_at p word box (Swapping t) is between = absurd between
 leaves_at p word box (Returning t) is between = keeps_in p word box _ (Returning t) is (λ t. λ e. cc) (go (t == length p.newer))
   where
     next : Next
-    next = followed (zeros_released false (batched p))
+    next = work_of p word (Returning t)
 
     go : (last : Bool) → left_of (cond last (came p next) (moved p (Looking (t + 1)))) box ≡ box
-    go true = came_leaves p box next (followed_between (zeros_released false (batched p)))
+    go true = came_leaves p box next (followed_between _)
     go false = refl
-leaves_at p word box Releasing is between = keeps_in p word box _ Releasing is (λ t. λ e. cc) (came_leaves p box (followed (with_released (parts_of p) word)) (followed_between (with_released (parts_of p) word)))
-leaves_at p word box Freeing is between = keeps_in p word box _ Freeing is (λ t. λ e. cc) (came_leaves p box (followed (relieved (with_freed (parts_of p) word))) (followed_between (relieved (with_freed (parts_of p) word))))
-leaves_at p word box Trying is between = keeps_in p word box _ Trying is (λ t. λ e. cc) (came_leaves p box (tried (with_tried (parts_of p) word)) (tried_between (with_tried (parts_of p) word)))
-leaves_at p word box Preparing is between = keeps_in p word box _ Preparing is (λ t. λ e. cc) (came_leaves p box (prepared (with_loaded (parts_of p) word)) (prepared_between (with_loaded (parts_of p) word)))
 leaves_at p word box Opening is between = keeps_in p word box _ Opening is (λ t. λ e. cc) refl
 leaves_at p word box (Sweeping n) is between = keeps_in p word box _ (Sweeping n) is (λ t. λ e. cc) (go _)
   where
@@ -96,6 +67,7 @@ leaves_at p word box (Sweeping n) is between = keeps_in p word box _ (Sweeping n
     go None = refl
     go (Some x) = refl
 leaves_at p word box (Closing n) is between = keeps_in p word box _ (Closing n) is (λ t. λ e. cc) refl
+leaves_at p word box phase is between = keeps_in p word box _ phase is (λ t. λ e. cc) (came_leaves p box (work_of p word phase) (work_phase IsBetween tt tt tt tt tt tt p word phase))
 
 leaves_box : (p : Private) (word : ℕ) (box : Contents) → IsBetween p.phase → LeavesBox p word box (left_of (took_of p word) box)
 unfolding took_of

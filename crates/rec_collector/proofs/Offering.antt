@@ -15,10 +15,10 @@ use Rattle.rec_counts.proofs.Keeping.{map_at}
 use Rattle.rec_trial.specs.Rules.{IsReady}
 use Rattle.rec_trial.specs.Still.{IsSeed}
 use Rattle.rec_collector.specs.Followed.{with_offers}
+use Rattle.rec_collector.specs.Kept.{IsListed}
 use Rattle.rec_collector.specs.Offered.{offered, offered_if, offered_slot, offered_where, is_missing, is_missing_if, missing, AreOffered, KeepsOffered}
 use Rattle.rec_collector.specs.Parts.{Parts}
 use Rattle.rec_collector.proofs.Apart.{times_filter}
-use Rattle.rec_collector.proofs.Listing.{IsListed}
 
 -- a slot that is offered
 offered_at : (s : State) (x : ℕ) → slot_at (offered s) x ≡ offered_slot (slot_at s x)

@@ -9,20 +9,19 @@ use Rattle.rec_counts.proofs.Times.{length-once}
 use Rattle.rec_release.specs.TakenOff.{IsApart, IsMember}
 use Rattle.rec_sigma.specs.declared.at.At.{At}
 use Rattle.rec_sigma.specs.Prepare as preps
-use Rattle.rec_walk.specs.Load.{Load}
 use Rattle.rec_sigma.specs.Prepared.{KeepsOthers, PreparedTo, loaded_at}
 use Rattle.rec_sigma.proofs.Cyclics.{others_same}
 use Rattle.rec_sigma.proofs.Runs.{Came, came_first, came_on, more_others, next_set_others}
 use Rattle.rec_sigma.proofs.Kept.{others_kept}
 use Rattle.rec_collector.specs.Clearing.{IsUntried}
 use Rattle.rec_collector.specs.Followed.{next_in, prep_started, prepared, prepared_at, sweep_phase, with_loaded, with_prep}
-use Rattle.rec_collector.specs.Kept.{IsMachine, IsPreparing, IsSweeping, IsTried, all_fields}
+use Rattle.rec_collector.specs.Kept.{AreInPreparation, IsMachine, IsPreparing, IsSweeping, IsTried, all_fields}
 use Rattle.rec_collector.specs.Parts.{Parts}
 use Rattle.rec_collector.specs.Private.{Private, parts_of}
 use Rattle.rec_collector.specs.Testing.{told}
 use Rattle.rec_collector.specs.declared.phase.Phase.{Phase}
 use Rattle.rec_collector.specs.declared.phase.Phase.TheVariants.{Preparing, Opening, Closing}
-use Rattle.rec_collector.proofs.Landing.{Fits, Lands, fits_all, landed, now_at, told_at}
+use Rattle.rec_collector.proofs.Landing.{Fits, Lands, fits_all, fits_on, fits_self, landed, now_at, told_at}
 use Rattle.rec_collector.proofs.Limits.{loads_few}
 use Rattle.rec_collector.proofs.Outside.{prepared_outside}
 
@@ -56,34 +55,25 @@ others_tried w v o t = record {
 
 -- A collection has come to `w` in its preparation.
 pub record HasPrepared (p : Private) (w : Parts) : Type 0 where
-  pub tried : IsTried w
+  pub preparation : AreInPreparation w.counts w.release w.freeing w.trial w.prep
+  pub open preparation use *
   pub counts : IsKeptCounts w.counts
-  pub kept : preps.IsAtWork w.prep w.counts
-  pub before : State
-  pub before_kept : IsKeptCounts before
-  pub loads : List Load
-  pub prepares : PreparedTo w.prep.fields before w.prep.at w.counts loads
   pub fits : Fits p w
   pub due : p.due ≡ None
   pub turns : p.turns ≤ 1 + 2 * length p.newer + 4 * all_fields p + length loads
   pub told : told w.sets + length w.counts.sets ≤ 2 ^ 16 * (p.collections + 1)
 
 -- it has begun
-pub started_prepared : (p : Private) (w : Parts) → 0 < w.prep.fields → IsTried w → IsKeptCounts w.counts → Fits p w → p.due ≡ None → p.turns ≤ 1 + 2 * length p.newer + 4 * all_fields p
+pub started_prepared : (p : Private) (w : Parts) → IsTried w → IsKeptCounts w.counts → Fits p w → p.due ≡ None → p.turns ≤ 1 + 2 * length p.newer + 4 * all_fields p
     → told w.sets + length w.counts.sets ≤ 2 ^ 16 * (p.collections + 1) → HasPrepared p (prep_started w)
 unfolding preps.started_of
-started_prepared p w f t k fits due turns told =
-    let c : Came w.prep.fields w.counts (preps.started_of w.prep w.counts) [] = came_first w.prep.fields w.counts f k.numbers in
+started_prepared p w t k fits due turns told =
+    let c : Came w.prep.fields w.counts (preps.started_of w.prep w.counts) [] = came_first w.prep.fields w.counts (omega (arith, fits.fields, fits.prep_fields)) k.numbers in
     let o : KeepsOthers w.counts (preps.started_of w.prep w.counts).counts = next_set_others w.counts 0 in
     record {
-      tried = others_tried w (preps.started_of w.prep w.counts) o t;
+      preparation = record { tried = others_tried w (preps.started_of w.prep w.counts) o t; kept = c.work; before = w.counts; before_kept = k; loads = []; prepares = c.law };
       counts = others_kept w.counts _ o k;
-      kept = c.work;
-      before = w.counts;
-      before_kept = k;
-      loads = [];
-      prepares = c.law;
-      fits = record { slots = o.many ∙ fits.slots; release_fields = fits.release_fields; freeing_fields = fits.freeing_fields; trial_fields = fits.trial_fields; prep_fields = fits.prep_fields };
+      fits = fits_on fits (record { slots = o.many; release_fields = refl; freeing_fields = refl; trial_fields = refl; prep_fields = refl });
       due = due;
       turns = omega (arith, turns);
       told = rw o.sets told;
@@ -110,14 +100,16 @@ took_prepared p word k e =
     came_on p.prep.fields a.before w a.loads word a.before_kept.numbers (record { fields_kept = refl; work = a.kept; law = a.prepares }) in
     let o : KeepsOthers p.counts (preps.took_of w word).counts = took_others w word in
     record {
-      tried = others_tried (parts_of p) (preps.took_of w word) o a.tried;
+      preparation = record {
+        tried = others_tried (parts_of p) (preps.took_of w word) o a.tried;
+        kept = c.work;
+        before = a.before;
+        before_kept = a.before_kept;
+        loads = a.loads ++ loaded_at p.prep.at word;
+        prepares = rw c.fields_kept c.law;
+      };
       counts = others_kept p.counts _ o k.counts;
-      kept = c.work;
-      before = a.before;
-      before_kept = a.before_kept;
-      loads = a.loads ++ loaded_at p.prep.at word;
-      prepares = rw c.fields_kept c.law;
-      fits = record { slots = o.many; release_fields = refl; freeing_fields = k.freeing_fields; trial_fields = k.trial_fields; prep_fields = c.fields_kept ∙ k.prep_fields };
+      fits = fits_on (fits_self p k) (record { slots = o.many; release_fields = refl; freeing_fields = refl; trial_fields = refl; prep_fields = c.fields_kept });
       due = a.due;
       turns = omega (arith, a.turns, length-append a.loads (loaded_at p.prep.at word), loaded_one p.prep.at word a.busy);
       told = rw o.sets (told_at p Preparing k e);
@@ -126,14 +118,12 @@ took_prepared p word k e =
 -- a sweep follows, or has ended
 sweep_follows : (p : Private) (w : Parts) (phase : Phase) (made : ℕ) → HasPrepared p w → w.prep.at ≡ None → IsSweeping (landed p (next_in phase w)) 0 made
 sweep_follows p w phase made h e = record {
-  tried = h.tried;
-  unprepared = e;
-  outside = prepared_outside w.prep.fields h.before w.counts h.loads h.before_kept (subst (λ (at : Option At). PreparedTo w.prep.fields h.before at w.counts h.loads) e h.prepares);
+  before = record { tried = h.tried; unprepared = e; outside = prepared_outside w.prep.fields h.before w.counts h.loads h.before_kept (subst (λ (at : Option At). PreparedTo w.prep.fields h.before at w.counts h.loads) e h.prepares) };
   left = omega (arith, length-once (length w.counts.slots) w.counts.free h.counts.free_once);
   turns =
       let all : length w.counts.slots * w.release.fields ≡ all_fields p = fits_all p w h.fits in
       let few : length h.loads ≤ length w.counts.slots * w.prep.fields = loads_few w.prep.fields h.before w.prep.at w.counts h.loads h.before_kept h.prepares in
-      let same : length w.counts.slots * w.prep.fields ≡ length w.counts.slots * w.release.fields = ap (λ n. length w.counts.slots * n) (h.fits.prep_fields ∙ sym h.fits.release_fields) in
+      let same : length w.counts.slots * w.prep.fields ≡ length w.counts.slots * w.release.fields = ap (λ n. length w.counts.slots * n) h.fits.prep_fields in
       omega (arith, h.turns, few, all, same);
 }
 
@@ -157,15 +147,5 @@ prepared_lands p w h = go w.prep.at refl
       under = refl;
       none = refl;
       told = h.told;
-      now = record {
-        tried = h.tried;
-        kept = h.kept;
-        busy = subst (λ (o : Option At). IsSome o) (sym e) refl;
-        before = h.before;
-        before_kept = h.before_kept;
-        loads = h.loads;
-        prepares = h.prepares;
-        due = h.due;
-        turns = omega (arith, h.turns, all);
-      };
+      now = record { preparation = h.preparation; busy = subst (λ (o : Option At). IsSome o) (sym e) refl; due = h.due; turns = omega (arith, h.turns, all) };
     }

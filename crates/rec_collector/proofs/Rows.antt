@@ -23,20 +23,20 @@ cleared_more bs i d l = let e : suc i ≡ i + 1 = omega arith in cleared_next bs
 cleared_spare : (p : Private) (b : Contents) → IsSized p.registers p.capacity b → cleared b ≡ spare p
 cleared_spare p b h = rw (h.0, h.1) refl
 
-pub cleared_sized : (p : Private) (bs : List Contents) → AreSized p bs → AreSized p (map cleared bs)
+pub cleared_sized : (p : Private) (bs : List Contents) → AreSized p.registers p.capacity bs → AreSized p.registers p.capacity (map cleared bs)
 cleared_sized p bs k = λ i l.
     let m : i < length bs = omega (arith, l, length-map bs cleared) in
     let e : buffer_at (map cleared bs) i ≡ spare p = get_or-map cleared bs i (blank 0 0) (blank 0 0) m ∙ cleared_spare p (buffer_at bs i) (k i m) in
     (ap (λ (b : Contents). length b.snapshot) e ∙ length-replicate p.registers _, ap (λ (b : Contents). b.capacity) e)
 
-pub cleared_spares : (p : Private) (from : ℕ) → AreSized p p.older → AreSpare (ended p) from
+pub cleared_spares : (p : Private) (from : ℕ) → AreSized p.registers p.capacity p.older → AreSpare (ended p) from
 cleared_spares p from k = λ i f l.
     let m : i < length p.older = omega (arith, l, length-map p.older cleared) in
     get_or-map cleared p.older i (blank 0 0) (blank 0 0) m ∙ cleared_spare p (buffer_at p.older i) (k i m)
 
 -- each of a row that was opened
-pub row_sized : (p : Private) (n : ℕ) (b : Contents) → IsSized p.registers p.capacity b → AreSized p (replicate n b)
-row_sized p n b k = λ i l.
+pub row_sized : (registers capacity n : ℕ) (b : Contents) → IsSized registers capacity b → AreSized registers capacity (replicate n b)
+row_sized registers capacity n b k = λ i l.
     let e : buffer_at (replicate n b) i ≡ b = get_or-replicate n i b (blank 0 0) (omega (arith, l, length-replicate n b)) in
     (ap (λ (c : Contents). length c.snapshot) e ∙ k.0, ap (λ (c : Contents). c.capacity) e ∙ k.1)
 

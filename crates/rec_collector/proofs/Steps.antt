@@ -1,12 +1,12 @@
 -- What comes next and what is learnt are a step, by the phase.
-use Rattle.std.proofs.Common.{◌≡◌, ◌≢◌, inl, inr, ℕ, zero, suc, ◌+◌, ◌-◌, ◌^◌, ◌<◌, ◌==◌, true, false, Bool, Option, None, Some, List, [], ◌∷◌, length, refl, arith, sym, ap, subst, ◌∙◌}
-use Rattle.std.proofs.lemmas.Bool.{cond-true, cond-false, eq-eqb, ne_eqb, cases_eq}
+use Rattle.std.proofs.Common.{◌≡◌, ◌≢◌, ℕ, zero, suc, ◌+◌, ◌-◌, ◌^◌, ◌<◌, ◌==◌, true, false, Bool, cond, Option, None, Some, List, [], ◌∷◌, length, refl, arith, sym, ap, subst, ◌∙◌}
+use Rattle.std.proofs.lemmas.Bool.{eq-eqb, eqb-true, false≢true}
 use Rattle.std.proofs.lemmas.List.{nil_from_length}
 use Rattle.rec_word.specs.Mailbox.{crossing_word}
 use Rattle.rec_word.specs.declared.mailbox.Mailbox.TheVariants.{Retired}
 use Rattle.rec_word.specs.declared.op.Op.{Op}
+use Rattle.rec_word.specs.declared.op.Op.TheVariants.{StoreEpoch, LookBox, ReturnBox}
 use Rattle.rec_log.specs.declared.contents.Contents.{Contents}
-use Rattle.rec_counts.specs.Counts.{IsKept as IsKeptCounts}
 use Rattle.rec_release.specs.Sweep as sweeps
 use Rattle.rec_release.specs.declared.at.At.{At}
 use Rattle.rec_walk.specs.declared.member.Member.{Member}
@@ -15,7 +15,6 @@ use Rattle.rec_sigma.specs.Settling.{refurbished_of}
 use Rattle.rec_sigma.specs.declared.at.At as loads
 use Rattle.rec_sigma.proofs.Renewals.{refurbished_last}
 use Rattle.rec_trial.specs.Trial.{next_of as trial_next}
-use Rattle.rec_collector.specs.Clearing.{IsClearing, IsDone}
 use Rattle.rec_collector.specs.Followed.{Next, followed, next_in, prep_started, prepared, prepared_at, relieved, sweep_phase, tested_next, tested_on, trial_started, tried, tried_at, with_freed, with_loaded, with_released, with_tried}
 use Rattle.rec_collector.specs.Given.{IsCovered, IsGiven, IsGivenAt}
 use Rattle.rec_collector.specs.Kept.{IsMachine}
@@ -24,19 +23,17 @@ use Rattle.rec_collector.specs.Parts.{Parts}
 use Rattle.rec_collector.specs.Private.{Private, parts_of}
 use Rattle.rec_collector.specs.Step.{Step, ClearsOn, IsTested, PreparesOn, TriesOn, IsNext, IsBetween}
 use Rattle.rec_collector.specs.Testing.{is_busy, is_busy_at, last_tested, tested, tested_as, verdict_of, zeros_released}
-use Rattle.rec_collector.specs.Took.{batched, came, came_turn, moved, returned, step_of, swapped_of, swapped_at, swept_phase, took_at, took_of, turn_at, turn_of}
+use Rattle.rec_collector.specs.Took.{batched, came, came_turn, moved, step_of, swapped_of, swapped_at, swept_phase, took_at, took_of, turn_at, turn_of}
 use Rattle.rec_collector.specs.declared.phase.Phase.{Phase}
 use Rattle.rec_collector.specs.declared.phase.Phase.TheVariants.{Idle, Looking, Swapping, Returning, Releasing, Freeing, Trying, Preparing, Opening, Sweeping, Closing}
-use Rattle.rec_collector.specs.declared.turn.Turn.TheVariants.{Moved}
+use Rattle.rec_collector.specs.declared.turn.Turn.TheVariants.{Moved, Waiting, EpochsSpent}
 use Rattle.rec_collector.specs.declared.verdict.Verdict.{Verdict}
 use Rattle.rec_collector.specs.declared.verdict.Verdict.TheVariants.{Passed, Touched, Held}
-use Rattle.rec_collector.proofs.Clearing.{last_clear}
-use Rattle.rec_collector.proofs.Counting.{last_kept}
-use Rattle.rec_collector.proofs.Following.{HasCleared, begun_clears, cleared_wide, freed_clears, released_clears}
+use Rattle.rec_collector.proofs.Clearing.{last_stays, StaysClear}
+use Rattle.rec_collector.proofs.Following.{HasCleared, begun_clears, freed_clears, released_clears}
 use Rattle.rec_collector.proofs.Goings.{last_sets}
 use Rattle.rec_collector.proofs.Judging.{last_refusable, none_busy}
-use Rattle.rec_collector.proofs.Told.{last_same}
-use Rattle.rec_collector.proofs.UnderTest.{tested_busy, tested_next_on, tested_none, wide_on}
+use Rattle.rec_collector.proofs.UnderTest.{tested_busy, tested_next_on, tested_none}
 use Rattle.rec_collector.proofs.Verdicts.{verdict_held, verdict_passed, verdict_touched}
 
 none_some : {A : Type 0} (x : A) → Some x ≢ None
@@ -50,7 +47,7 @@ abbrev went : Private → Next → Contents → Private
 went p n box = swapped_of (came p n) box
 
 -- a preparation that came so far
-prepared_on : (p : Private) (w : Parts) (box : Contents) → PreparesOn p w (went p (prepared w) box) (came_turn p.epoch (prepared w).phase)
+pub prepared_on : (p : Private) (w : Parts) (box : Contents) → PreparesOn p w (went p (prepared w) box) (came_turn p.epoch (prepared w).phase)
 unfolding prepared swapped_of swapped_at
 prepared_on p w box = go w.prep.at refl
   where
@@ -63,7 +60,7 @@ prepared_on p w box = go w.prep.at refl
     go (Some a) e = PreparesOn.more (λ n. none_some a (sym e ∙ n)) (record { after = refl; answer = refl })
 
 -- a trial that came so far
-tried_on : (p : Private) (w : Parts) (box : Contents) → TriesOn p w (went p (tried w) box) (came_turn p.epoch (tried w).phase)
+pub tried_on : (p : Private) (w : Parts) (box : Contents) → TriesOn p w (went p (tried w) box) (came_turn p.epoch (tried w).phase)
 unfolding tried swapped_of swapped_at
 tried_on p w box = go (trial_next w.trial) refl
   where
@@ -91,28 +88,16 @@ works_on p w box none = go w.release.at w.freeing.at refl refl
     go (Some a) None e f = ClearsOn.releases_on f (λ n. none_some a (sym e ∙ n)) (record { after = refl; answer = refl })
     go None None e f = ClearsOn.tries f e (none e f) (tried_on p (trial_started w) box)
 
--- a release, or the freeing of a set, that came so far
-pub record CanTest (w : Parts) : Type 0 where
-  pub wide : (0 < w.release.fields) × (0 < w.freeing.fields)
-  pub counts : IsKeptCounts w.counts
-  pub clearing : IsClearing w
-  pub done : IsDone w
-
-last_can : (w : Parts) → 0 < length w.counts.sets → is_busy w ≡ false → CanTest w → CanTest (last_tested w)
-last_can w some idle c =
-    let clear = last_clear w c.wide.0 c.wide.1 some idle c.counts c.clearing c.done in
-    record { wide = wide_on (last_same w) c.wide; counts = last_kept w some idle c.clearing c.done c.counts; clearing = clear.0; done = clear.1 }
-
 busy_works : (w : Parts) → is_busy w ≡ true → w.release.at ≡ None → w.freeing.at ≡ None → w.counts.sets ≡ []
 busy_works w b e f = let q : true ≡ false = sym b ∙ ap (λ at. is_busy_at at w.freeing.at) e ∙ ap (is_busy_at None) f in cc
 
-tested_on_from : (n : ℕ) (p : Private) (w : Parts) (box : Contents) → length w.counts.sets ≡ n → CanTest w → ClearsOn p (went p (tested_next (tested n w)) box) (came_turn p.epoch (tested_next (tested n w)).phase) w
+tested_on_from : (n : ℕ) (p : Private) (w : Parts) (box : Contents) → length w.counts.sets ≡ n → StaysClear w → ClearsOn p (went p (tested_next (tested n w)) box) (came_turn p.epoch (tested_next (tested n w)).phase) w
 tested_on_from zero p w box e c =
     let same : tested zero w ≡ w = tested_none zero w refl in
     subst (λ (v : Parts). ClearsOn p (went p (tested_next v) box) (came_turn p.epoch (tested_next v).phase) w) (sym same) (works_on p w box (λ still unfreed. nil_from_length w.counts.sets e))
 tested_on_from (suc n) p w box e c = go (is_busy w) refl (tested_on_from n p (last_tested w) box)
   where
-    go : (b : Bool) → is_busy w ≡ b → (length (last_tested w).counts.sets ≡ n → CanTest (last_tested w) → ClearsOn p (went p (tested_next (tested n (last_tested w))) box) (came_turn p.epoch (tested_next (tested n (last_tested w))).phase) (last_tested w))
+    go : (b : Bool) → is_busy w ≡ b → (length (last_tested w).counts.sets ≡ n → StaysClear (last_tested w) → ClearsOn p (went p (tested_next (tested n (last_tested w))) box) (came_turn p.epoch (tested_next (tested n (last_tested w))).phase) (last_tested w))
         → ClearsOn p (went p (tested_next (tested (suc n) w)) box) (came_turn p.epoch (tested_next (tested (suc n) w)).phase) w
     go true b more =
         let same : tested (suc n) w ≡ w = tested_busy (suc n) w b in
@@ -124,11 +109,11 @@ tested_on_from (suc n) p w box e c = go (is_busy w) refl (tested_on_from n p (la
         let idle = none_busy w b in
         let r : LastRefurbished w.counts (refurbished_of w.counts) = refurbished_last w.counts c.counts (last_refusable w some b c.counts c.clearing c.done) in
         subst (λ (v : Parts). ClearsOn p (went p (tested_next v) box) (came_turn p.epoch (tested_next v).phase) w) (sym same)
-        (ClearsOn.tests (last_tested w) idle.1 idle.0 some (last_test w r) (more left (last_can w some b c)))
+        (ClearsOn.tests (last_tested w) idle.1 idle.0 some (last_test w r) (more left (last_stays w some b c)))
 
-cleared_on : (p : Private) (w : Parts) (box : Contents) → 0 < p.release.fields → HasCleared p w → ClearsOn p (went p (followed w) box) (came_turn p.epoch (followed w).phase) w
+cleared_on : (p : Private) (w : Parts) (box : Contents) → HasCleared p w → ClearsOn p (went p (followed w) box) (came_turn p.epoch (followed w).phase) w
 unfolding followed
-cleared_on p w box f h = tested_on_from (length w.counts.sets) p w box refl (record { wide = cleared_wide p w f h.fits; counts = h.counts; clearing = h.clearing; done = h.done })
+cleared_on p w box h = tested_on_from (length w.counts.sets) p w box refl h.stays
 
 -- the phase of a turn that changes nothing
 same_swapped : (p : Private) (box : Contents) (phase : Phase) → p.phase ≡ phase → IsBetween phase → swapped_of p box ≡ p
@@ -141,53 +126,32 @@ same_swapped p box phase e b = ap (swapped_at p box) e ∙ go phase b
 
 idle_step : (p : Private) (word : ℕ) (box : Contents) → p.phase ≡ Idle → Step p word box (next_at p Idle) (swapped_of (took_at p word Idle) box) (turn_at p word Idle)
 unfolding next_at took_at turn_at swapped_of swapped_at
-idle_step p word box is = elim (cases_eq (p.epoch + 1) (2 ^ 24)) [
-  | inl e ↦
-      let t : is_spent p ≡ true = eq-eqb (p.epoch + 1) (2 ^ 24) e in
-      Step.spent is e (cond-true (is_spent p) _ _ t) (ap (λ (q : Private). swapped_of q box) (cond-true (is_spent p) _ _ t) ∙ same_swapped p box Idle is tt) (cond-true (is_spent p) _ _ t)
-  | inr e ↦
-      let t : is_spent p ≡ false = ne_eqb (p.epoch + 1) (2 ^ 24) e in
-      Step.request is e (cond-false (is_spent p) _ _ t) (record {
-        after = ap (λ (q : Private). swapped_of q box) (cond-false (is_spent p) _ _ t);
-        answer = cond-false (is_spent p) _ _ t;
-      })
-]
+idle_step p word box is = go (is_spent p) refl
+  where
+    go : (b : Bool) → is_spent p ≡ b → Step p word box (cond b None (Some (StoreEpoch (p.epoch + 1)))) (swapped_of (cond b p (moved (record p { epoch = p.epoch + 1 }) (Looking 1))) box) (cond b EpochsSpent Moved)
+    go true e = Step.spent is (eqb-true (p.epoch + 1) (2 ^ 24) e) refl (same_swapped p box Idle is tt) refl
+    go false e = Step.request is (λ q. false≢true (sym e ∙ eq-eqb (p.epoch + 1) (2 ^ 24) q)) refl (record { after = refl; answer = refl })
 
 look_step : (p : Private) (word : ℕ) (box : Contents) (t : ℕ) → p.phase ≡ Looking t → Step p word box (next_at p (Looking t)) (swapped_of (took_at p word (Looking t)) box) (turn_at p word (Looking t))
 unfolding next_at took_at turn_at swapped_of swapped_at
-look_step p word box t is = elim (cases_eq word (crossing_word p.epoch Retired)) [
-  | inl e ↦
-      let b : (word == crossing_word p.epoch Retired) ≡ true = eq-eqb word (crossing_word p.epoch Retired) e in
-      Step.gather t is e refl (record {
-        after = ap (λ (q : Private). swapped_of q box) (cond-true (word == crossing_word p.epoch Retired) _ _ b);
-        answer = cond-true (word == crossing_word p.epoch Retired) _ _ b;
-      })
-  | inr e ↦
-      let b : (word == crossing_word p.epoch Retired) ≡ false = ne_eqb word (crossing_word p.epoch Retired) e in
-      Step.wait t is e refl (ap (λ (q : Private). swapped_of q box) (cond-false (word == crossing_word p.epoch Retired) _ _ b) ∙ same_swapped p box (Looking t) is tt) (cond-false (word == crossing_word p.epoch Retired) _ _ b)
-]
+look_step p word box t is = go (word == crossing_word p.epoch Retired) refl
+  where
+    go : (b : Bool) → (word == crossing_word p.epoch Retired) ≡ b → Step p word box (Some (LookBox t p.epoch)) (swapped_of (cond b (moved p (Swapping t)) p) box) (cond b Moved (Waiting t))
+    go true e = Step.gather t is (eqb-true word (crossing_word p.epoch Retired) e) refl (record { after = refl; answer = refl })
+    go false e = Step.wait t is (λ q. false≢true (sym e ∙ eq-eqb word (crossing_word p.epoch Retired) q)) refl (same_swapped p box (Looking t) is tt) refl
 
 -- with the last mailbox the batch is applied
-applied_step : (p : Private) (word : ℕ) (box : Contents) (t : ℕ) → IsMachine p → p.phase ≡ Returning t → t ≡ length p.newer → IsCovered p.counts p.newer p.older → Step p word box (next_at p (Returning t)) (swapped_of (returned p t) box) (turn_at p word (Returning t))
-unfolding next_at turn_at
-applied_step p word box t k is e c =
-    let w : Parts = zeros_released false (batched p) in
-    let b : (t == length p.newer) ≡ true = eq-eqb t (length p.newer) e in
-    let whole : ClearsOn p (swapped_of (returned p t) box) (turn_at p word (Returning t)) w =
-    rw (cond-true (t == length p.newer) (came p (followed w)) (moved p (Looking (t + 1))) b, cond-true (t == length p.newer) (came_turn p.epoch (followed w).phase) Moved b) (cleared_on p w box k.fields (begun_clears p t k is e c)) in
-    Step.apply t is e refl whole
-
 return_step : (p : Private) (word : ℕ) (box : Contents) (t : ℕ) → IsMachine p → p.phase ≡ Returning t → (t ≡ length p.newer → IsCovered p.counts p.newer p.older) → Step p word box (next_at p (Returning t)) (swapped_of (took_at p word (Returning t)) box) (turn_at p word (Returning t))
 unfolding next_at took_at turn_at swapped_of swapped_at
-return_step p word box t k is c = elim (cases_eq t (length p.newer)) [
-  | inl e ↦ applied_step p word box t k is e (c e)
-  | inr e ↦
-      let b : (t == length p.newer) ≡ false = ne_eqb t (length p.newer) e in
-      Step.give_back t is e refl (record {
-        after = ap (λ (q : Private). swapped_of q box) (cond-false (t == length p.newer) _ _ b);
-        answer = cond-false (t == length p.newer) _ _ b;
-      })
-]
+return_step p word box t k is c = go (t == length p.newer) refl
+  where
+    w : Parts
+    w = zeros_released false (batched p)
+
+    go : (b : Bool) → (t == length p.newer) ≡ b
+        → Step p word box (Some (ReturnBox t p.epoch)) (swapped_of (cond b (came p (followed w)) (moved p (Looking (t + 1)))) box) (cond b (came_turn p.epoch (followed w).phase) Moved)
+    go true e = let last : t ≡ length p.newer = eqb-true t (length p.newer) e in Step.apply t is last refl (cleared_on p w box (begun_clears p t k is last (c last)))
+    go false e = Step.give_back t is (λ q. false≢true (sym e ∙ eq-eqb t (length p.newer) q)) refl (record { after = refl; answer = refl })
 
 swept_step : (p : Private) (word : ℕ) (box : Contents) (n : ℕ) (w : sweeps.Work) → p.phase ≡ Sweeping n → w ≡ sweeps.took_of (record { due = p.due; counts = p.counts }) word → (due : Option ℕ) → w.due ≡ due
     → Step p word box (sweeps.next_of p.due) (swapped_of (moved (record p { counts = w.counts; due = w.due; freed = p.freed + 1 }) (swept_phase (n + 1) due)) box) Moved
@@ -202,8 +166,8 @@ step_at p word box Idle k is b g = idle_step p word box is
 step_at p word box (Looking t) k is b g = look_step p word box t is
 step_at p word box (Swapping t) k is b g = absurd b
 step_at p word box (Returning t) k is b g = return_step p word box t k is g
-step_at p word box Releasing k is b g = let w : Parts = with_released (parts_of p) word in Step.release is refl (cleared_on p w box k.fields (released_clears p word k is g))
-step_at p word box Freeing k is b g = let w : Parts = relieved (with_freed (parts_of p) word) in Step.freeing is refl (cleared_on p w box k.fields (freed_clears p word k is g))
+step_at p word box Releasing k is b g = let w : Parts = with_released (parts_of p) word in Step.release is refl (cleared_on p w box (released_clears p word k is g))
+step_at p word box Freeing k is b g = let w : Parts = relieved (with_freed (parts_of p) word) in Step.freeing is refl (cleared_on p w box (freed_clears p word k is g))
 step_at p word box Trying k is b g = Step.trial is refl (tried_on p (with_tried (parts_of p) word) box)
 step_at p word box Preparing k is b g = Step.preparation is refl (prepared_on p (with_loaded (parts_of p) word) box)
 step_at p word box Opening k is b g = Step.begin_sweep is refl (record { after = refl; answer = refl })

@@ -1,7 +1,7 @@
 -- A sweep goes on, and a collection ends.
 use Rattle.std.proofs.Common.{◌≡◌, ◌≢◌, ◌⊎◌, ℕ, ◌+◌, ◌*◌, ◌^◌, ◌<◌, ◌≤◌, true, eqb, inl, inr, Option, None, Some, IsNone, IsSome, List, [], ◌∷◌, length, map, drop, slice_get, refl, arith, sym, ◌∙◌, ap, subst}
 use Rattle.std.proofs.lemmas.List.{length-set, length-map, get_or-set_same, get_or-set_other, get_or_past}
-use Rattle.std.proofs.lemmas.Bool.{cases_Bool, cases_lt, false≢true}
+use Rattle.std.proofs.lemmas.Bool.{cases_lt, false≢true}
 use Rattle.std.proofs.lemmas.Bool.Decides.{eqb_tells}
 use Rattle.rec_counts.specs.declared.colour.Colour.TheVariants.{Black, Orange}
 use Rattle.rec_counts.specs.declared.slot.Slot.{Slot}
@@ -9,9 +9,9 @@ use Rattle.rec_counts.specs.Lists.{one, times}
 use Rattle.rec_counts.specs.Counts.{State, slot_at, IsKept as IsKeptCounts}
 use Rattle.rec_counts.specs.Slot.{absent, swept_clean}
 use Rattle.rec_counts.specs.Colour.{is_gray, is_white}
-use Rattle.rec_counts.proofs.Times.{times-cons, times-nil}
+use Rattle.rec_counts.proofs.Times.{times-cons}
 use Rattle.rec_release.specs.Sweep as sweeps
-use Rattle.rec_release.specs.Sweep.{AreUnbuffered, swept, took_of, started_of, next_of}
+use Rattle.rec_release.specs.Sweep.{swept, took_of, started_of, next_of}
 use Rattle.rec_release.specs.TakenOff.{IsApart, IsMember}
 use Rattle.rec_release.proofs.Sweeping.{unbuffered_swept}
 use Rattle.rec_release.proofs.TakenOff.{written}
@@ -19,7 +19,7 @@ use Rattle.rec_trial.proofs.Worked.{kept_by_all}
 use Rattle.rec_collector.specs.Clearing.{IsUntried}
 use Rattle.rec_collector.specs.Parts.{Parts}
 use Rattle.rec_collector.specs.Private.{Private, parts_of}
-use Rattle.rec_collector.specs.Kept.{IsAt, IsMachine, IsTried, NoneReleased}
+use Rattle.rec_collector.specs.Kept.{ArePrepared, IsAt, IsMachine, IsSweeping, IsTried}
 use Rattle.rec_collector.specs.Zeros.{AreCounted}
 use Rattle.rec_collector.specs.Took.{cleared, ended, moved, swept_phase, swept_one, took_at, with_sweep}
 use Rattle.rec_collector.specs.declared.phase.Phase.{Phase}
@@ -37,19 +37,11 @@ opening_keeps p k e =
       epoch = k.epoch;
       collections = under_way_at p Opening k e;
       freed = freed_at p Opening k e;
-      fields = k.fields;
-      trial_fields = k.trial_fields;
-      freeing_fields = k.freeing_fields;
-      prep_fields = k.prep_fields;
-      few_fields = k.few_fields;
-      mutators = k.mutators;
-      few = k.few;
-      both = k.both;
-      newer = k.newer;
-      older = k.older;
+      widths = k.widths;
+      rows = k.rows;
       counts = k.counts;
       told = told_at p Opening k e;
-      now = (record { tried = a.0.tried; unprepared = a.0.unprepared; outside = a.0.outside; left = a.0.left; turns = omega (arith, a.0.turns) }, a.1, refl);
+      now = (record { before = a.0.before; left = a.0.left; turns = omega (arith, a.0.turns) }, a.1, refl);
     }
 
 first_gone : (free : List ℕ) (x y : ℕ) → slice_get free 0 ≡ Some x → times y free ≡ one (eqb y x) + times y (drop 1 free)
@@ -115,72 +107,41 @@ swept_tried w x first t = record {
   unbuffered = unbuffered_swept w.counts x t.unbuffered;
 }
 
+swept_prepared : (w : Parts) (x : ℕ) → slice_get w.counts.free 0 ≡ Some x → ArePrepared w.counts w.release w.freeing w.trial w.prep → ArePrepared (swept w.counts x) w.release w.freeing w.trial w.prep
+swept_prepared w x first k = record { tried = swept_tried w x first k.tried; unprepared = k.unprepared; outside = outside_on w.counts (swept w.counts x) (swept_lowers w.counts x) k.outside }
+
 -- a slot more is swept
 swept_keeps_on : (p : Private) (n x : ℕ) (r : List ℕ) → IsMachine p → p.phase ≡ Sweeping n → slice_get p.counts.free 0 ≡ Some x → drop 1 p.counts.free ≡ r → length p.counts.free ≡ length r + 1
     → IsKeptCounts (swept p.counts x) → IsMachine (moved (record p { counts = swept p.counts x; due = slice_get r 0; freed = p.freed + 1 }) (swept_phase (n + 1) (slice_get r 0)))
-swept_keeps_on p n x [] k e first left len s =
-    let a : IsAt p (Sweeping n) = now_at p (Sweeping n) k e in
-    let many : length (swept p.counts x).slots ≡ length p.counts.slots = length-set p.counts.slots x (swept_clean (slot_at p.counts x)) in
-    let d : p.freed ≤ 2 ^ 16 * p.collections + n = freed_at p (Sweeping n) k e in
-    record {
-      epoch = k.epoch;
-      collections = under_way_at p (Sweeping n) k e;
-      freed = omega (arith, d);
-      fields = k.fields;
-      trial_fields = k.trial_fields;
-      freeing_fields = k.freeing_fields;
-      prep_fields = k.prep_fields;
-      few_fields = k.few_fields;
-      mutators = k.mutators;
-      few = k.few;
-      both = k.both;
-      newer = k.newer;
-      older = k.older;
-      counts = s;
-      told = told_at p (Sweeping n) k e;
-      now = (
-        record {
-          tried = swept_tried (parts_of p) x first a.0.tried;
-          unprepared = a.0.unprepared;
-          outside = outside_on p.counts (swept p.counts x) (swept_lowers p.counts x) a.0.outside;
-          left = omega (arith, a.0.left, len, many, ap length left);
-          turns = omega (arith, a.0.turns, ap (λ m. m * p.release.fields) many);
-        },
-        left,
-        refl,
-      );
+swept_keeps_on p n x r k e first left len s = go r left len
+  where
+    a : IsAt p (Sweeping n)
+    a = now_at p (Sweeping n) k e
+
+    many : length (swept p.counts x).slots ≡ length p.counts.slots
+    many = length-set p.counts.slots x (swept_clean (slot_at p.counts x))
+
+    after : (ys : List ℕ) → Private
+    after ys = moved (record p { counts = swept p.counts x; due = slice_get ys 0; freed = p.freed + 1 }) (swept_phase (n + 1) (slice_get ys 0))
+
+    on : (ys : List ℕ) → drop 1 p.counts.free ≡ ys → length p.counts.free ≡ length ys + 1 → IsSweeping (after ys) (n + 1) (n + 1 + 1)
+    on ys l m = record {
+      before = swept_prepared (parts_of p) x first a.0.before;
+      left = omega (arith, a.0.left, m, many, ap length l);
+      turns = omega (arith, a.0.turns, ap (λ m. m * p.release.fields) many);
     }
-swept_keeps_on p n x (y ∷ ys) k e first left len s =
-    let a : IsAt p (Sweeping n) = now_at p (Sweeping n) k e in
-    let many : length (swept p.counts x).slots ≡ length p.counts.slots = length-set p.counts.slots x (swept_clean (slot_at p.counts x)) in
-    let d : p.freed ≤ 2 ^ 16 * p.collections + n = freed_at p (Sweeping n) k e in
-    record {
+
+    go : (ys : List ℕ) → drop 1 p.counts.free ≡ ys → length p.counts.free ≡ length ys + 1 → IsMachine (after ys)
+    go [] l m = record { epoch = k.epoch; collections = under_way_at p (Sweeping n) k e; freed = omega (arith, freed_at p (Sweeping n) k e); widths = k.widths; rows = k.rows; counts = s; told = told_at p (Sweeping n) k e; now = (on [] l m, l, refl) }
+    go (y ∷ ys) l m = record {
       epoch = k.epoch;
       collections = under_way_at p (Sweeping n) k e;
-      freed = omega (arith, d);
-      fields = k.fields;
-      trial_fields = k.trial_fields;
-      freeing_fields = k.freeing_fields;
-      prep_fields = k.prep_fields;
-      few_fields = k.few_fields;
-      mutators = k.mutators;
-      few = k.few;
-      both = k.both;
-      newer = k.newer;
-      older = k.older;
+      freed = omega (arith, freed_at p (Sweeping n) k e);
+      widths = k.widths;
+      rows = k.rows;
       counts = s;
       told = told_at p (Sweeping n) k e;
-      now = (
-        record {
-          tried = swept_tried (parts_of p) x first a.0.tried;
-          unprepared = a.0.unprepared;
-          outside = outside_on p.counts (swept p.counts x) (swept_lowers p.counts x) a.0.outside;
-          left = omega (arith, a.0.left, len, many, ap length left);
-          turns = omega (arith, a.0.turns, ap (λ m. m * p.release.fields) many);
-        },
-        omega (arith, ap length left),
-        sym (ap (λ zs. slice_get zs 0) left),
-      );
+      now = (on (y ∷ ys) l m, omega (arith, ap length l), sym (ap (λ zs. slice_get zs 0) l));
     }
 
 -- a slot is due while any is left
@@ -209,13 +170,6 @@ sweeping_keeps p n word k e s = go p.counts.free refl
         let r : drop 1 p.counts.free ≡ rest = ap (drop 1) f in
         subst (λ (v : sweeps.Work). IsMachine (swept_one p n v)) (sym w) (swept_keeps_on p n x (drop 1 p.counts.free) k e (ap (λ xs. slice_get xs 0) f) refl (omega (arith, ap length f, ap length r)) t)
 
--- with an empty free list no slot is released
-none_left : (s : State) → s.free ≡ [] → ((y : ℕ) → y < length s.slots → (slot_at s y).released ≡ true → 0 < times y s.free) → NoneReleased s
-none_left s f k = λ y l. elim (cases_Bool (slot_at s y).released) [
-  | inl t ↦ absurd (omega (arith, k y l t, ap (times y) f, times-nil y))
-  | inr t ↦ t
-]
-
 -- the collection is complete
 pub ended_keeps : (p : Private) (n : ℕ) → IsMachine p → p.phase ≡ Closing n → IsMachine (ended p)
 ended_keeps p n k e =
@@ -226,37 +180,15 @@ ended_keeps p n k e =
       epoch = k.epoch;
       collections = omega (arith, under_way_at p (Closing n) k e);
       freed = omega (arith, d, a.0.left, k.counts.few_slots);
-      fields = k.fields;
-      trial_fields = k.trial_fields;
-      freeing_fields = k.freeing_fields;
-      prep_fields = k.prep_fields;
-      few_fields = k.few_fields;
-      mutators = omega (arith, k.mutators, m);
-      few = omega (arith, k.few, m);
-      both = sym m;
-      newer = cleared_sized p p.older k.older;
-      older = k.newer;
+      widths = k.widths;
+      rows = record { mutators = omega (arith, k.mutators, m); few = omega (arith, k.few, m); both = sym m; newer = cleared_sized p p.older k.older; older = k.newer };
       counts = k.counts;
       told = told_at p (Closing n) k e;
       now = (
-        record {
-          untried = a.0.tried.untried;
-          idle = a.0.tried.idle;
-          unprepared = a.0.unprepared;
-          apart = a.0.tried.apart;
-          none = none_left p.counts a.1 a.0.tried.listed;
-          counted = a.0.tried.counted;
-          outside = a.0.outside;
-          zeros = a.0.tried.zeros;
-          roots = a.0.tried.roots;
-          free = a.1;
-          work = a.0.tried.work;
-          still = a.0.tried.still;
-          unfreed = a.0.tried.unfreed;
-          due = a.2;
-        },
+        record { prepared = a.0.before; free = a.1 },
         cleared_spares p 0 k.older,
         refl,
+        a.2,
       );
     }
 

@@ -21,7 +21,6 @@ use Rattle.rec_counts.proofs.Times.{times-append, times-cons, times-nil, times_p
 use Rattle.rec_release.specs.declared.at.At.{At}
 use Rattle.rec_release.specs.CycleFree.{dead_if, given_up, listed, IsFreeable}
 use Rattle.rec_release.specs.Release.{emptied, first_of, listed_if, without_first, IsReady}
-use Rattle.rec_release.specs.Sweep.{AreUnbuffered}
 use Rattle.rec_release.specs.TakenOff.{down_if, is_lowered, taken_off, AllZerosButOrange, IsApart}
 use Rattle.rec_release.proofs.Giving.{given_many, given_slot}
 use Rattle.rec_release.proofs.Keeping.{released_same}
@@ -32,20 +31,9 @@ use Rattle.rec_sigma.specs.declared.fate.Fate.TheVariants as fates
 use Rattle.rec_sigma.specs.Refurbish.{fate_at, fate_if, is_free, is_root, is_zero, refurbished, IsRefusable, LastRefurbished}
 use Rattle.rec_sigma.proofs.Refused.{released_after, same_count, same_released}
 use Rattle.rec_trial.proofs.Worked.{kept_by_all, lessened_colour}
-use Rattle.rec_collector.specs.Clearing.{AreHeld, AreListed, IsUntried}
-use Rattle.rec_collector.specs.Outside.{AreOutside}
+use Rattle.rec_collector.specs.Clearing.{IsTidy}
 use Rattle.rec_collector.proofs.Apart.{apart_refurbished, times_filter}
 use Rattle.rec_collector.proofs.Outside.{first_lowers, given_lowers, off_lowers, outside_on, refurbished_lowers, same_lowers}
-
--- what is known of the counts of slots with so many fields, while this field is due of a released slot
-pub record IsTidy (fields : ℕ) (s : State) (at : Option At) : Type 0 where
-  pub untried : IsUntried s
-  pub apart : IsApart s
-  pub all_zeros : AllZerosButOrange s
-  pub outside : AreOutside fields s
-  pub listed : AreListed s at
-  pub unbuffered : AreUnbuffered s
-  pub held : AreHeld s
 
 -- a colour that no slot has, which is neither Black nor Purple, no slot has after each of the moves
 module _ (f : Colour → Bool) (black : f Black ≡ false) (purple : f Purple ≡ false) where

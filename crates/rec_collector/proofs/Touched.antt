@@ -1,5 +1,5 @@
 -- A step leaves an orange member as it was, or lowers it, and names it nowhere.
-use Rattle.std.proofs.Common.{◌≡◌, ◌⊎◌, ℕ, ◌+◌, ◌-◌, ◌<◌, ◌==◌, ◌&&◌, not, Bool, true, false, Option, None, Some, IfSome, List, length, flat_map, refl, sym, ap, subst, ◌∙◌, arith, inl, inr}
+use Rattle.std.proofs.Common.{◌≡◌, ◌⊎◌, ℕ, ◌+◌, ◌-◌, ◌<◌, ◌==◌, ◌&&◌, not, Bool, true, false, Option, None, Some, IfSome, IsSome, List, length, flat_map, refl, sym, ap, subst, ◌∙◌, arith, inl, inr}
 use Rattle.std.proofs.lemmas.Bool.{cases_lt, cond-true, cond-false, eq-eqb, ne_eqb}
 use Rattle.std.proofs.lemmas.Bool.Decides.{eqb_tells}
 use Rattle.std.proofs.lemmas.List.{get_or_past}
@@ -28,15 +28,15 @@ use Rattle.rec_collector.specs.Parts.{Parts}
 use Rattle.rec_collector.specs.Private.{Private, parts_of}
 use Rattle.rec_collector.specs.Step.{Step, GoesOn, PreparesOn, TriesOn, ClearsOn, IsNext, IsTested, IsBetween}
 use Rattle.rec_collector.specs.Testing.{zeros_released}
-use Rattle.rec_collector.specs.Took.{step_of, turn_of}
-use Rattle.rec_collector.specs.Next.{next_of}
+use Rattle.rec_collector.specs.Took.{step_of, swapped_of, took_at, took_of, turn_of}
 use Rattle.rec_collector.specs.Touched.{decrements, IsOrangeIn, named_at, named_by, tried_at, WasUntouched}
 use Rattle.rec_collector.specs.declared.phase.Phase.{Phase}
 use Rattle.rec_collector.specs.declared.phase.Phase.TheVariants.{Returning, Releasing, Freeing, Trying, Preparing}
 use Rattle.rec_collector.specs.declared.turn.Turn.{Turn}
+use Rattle.rec_collector.proofs.Batched.{none_released}
 use Rattle.rec_collector.proofs.Goings.{freed_by, freed_off, none_some, relieved_by, released_by, released_off}
 use Rattle.rec_collector.proofs.Outside.{Lowers, first_lowers, given_lowers, off_lowers, refurbished_lowers, same_lowers, swept_lowers}
-use Rattle.rec_collector.proofs.Steps.{step_made}
+use Rattle.rec_collector.proofs.Steps.{prepared_on, step_made, tried_on}
 use Rattle.rec_collector.proofs.Touching.{batch_same, down_names}
 use Rattle.rec_collector.proofs.Landing.{now_at}
 
@@ -89,18 +89,19 @@ emptied_same true s y x = refl
 emptied_same false s y x = refl
 
 -- a word came out of a field of a released slot
-released_spares : (w : Parts) (word x : ℕ) → IsApart w.counts → IfSome (target_of word) (λ y. 0 < (slot_at w.counts y).count) → Spares w.counts (with_released w word).counts x (decrements w.release.lowers w.counts (target_of word) x) ⊎ (w.release.at ≡ None)
-released_spares w word x a h = released_by (λ v. Spares w.counts v.counts x (decrements w.release.lowers w.counts (target_of word) x) ⊎ (w.release.at ≡ None)) w word
-    (λ e. inr e)
-    (λ at e l. inl off)
+released_spares : (w : Parts) (word x : ℕ) → IsSome w.release.at → IsApart w.counts → IfSome (target_of word) (λ y. 0 < (slot_at w.counts y).count) → Spares w.counts (with_released w word).counts x (decrements w.release.lowers w.counts (target_of word) x)
+released_spares w word x busy a h = released_by (λ v. Spares w.counts v.counts x n) w word (λ e. none_some w.release.at e busy) (λ at e l. off)
     (λ at e l.
-    let t : State = emptied (released_off w word) at.slot in
-    inl (spares_on w.counts t (without_first t.zeros t) x (decrements w.release.lowers w.counts (target_of word) x) 0 (decrements w.release.lowers w.counts (target_of word) x)
-    (spares_on w.counts (released_off w word) t x (decrements w.release.lowers w.counts (target_of word) x) 0 (decrements w.release.lowers w.counts (target_of word) x) off
-    (lowers_spares (released_off w word) t x (same_lowers (released_off w word) t (emptied_same (slot_at (released_off w word) at.slot).buffered (released_off w word) at.slot))) (omega arith))
-    (lowers_spares t (without_first t.zeros t) x (first_lowers t.zeros t)) (omega arith)))
+    let s : State = released_off w word in
+    let t : State = emptied s at.slot in
+    spares_on w.counts t (without_first t.zeros t) x n 0 n
+    (spares_on w.counts s t x n 0 n off (lowers_spares s t x (same_lowers s t (emptied_same (slot_at s at.slot).buffered s at.slot))) (omega arith))
+    (lowers_spares t (without_first t.zeros t) x (first_lowers t.zeros t)) (omega arith))
   where
-    off : Spares w.counts (released_off w word) x (decrements w.release.lowers w.counts (target_of word) x)
+    n : ℕ
+    n = decrements w.release.lowers w.counts (target_of word) x
+
+    off : Spares w.counts (released_off w word) x n
     off = off_spares w.release.lowers w.counts (target_of word) x a h
 
 -- the zeros are to be released
@@ -109,15 +110,17 @@ unfolding releases.started_of
 zeros_spares lowers w x = lowers_spares w.counts (without_first w.counts.zeros w.counts) x (first_lowers w.counts.zeros w.counts)
 
 -- a word came out of a field of a member of the set that is freed
-freed_spares : (w : Parts) (word x : ℕ) → IsApart w.counts → IfSome (target_of word) (λ y. 0 < (slot_at w.counts y).count) → Spares w.counts (with_freed w word).counts x (decrements true w.counts (target_of word) x) ⊎ (w.freeing.at ≡ None)
-freed_spares w word x a h = freed_by (λ v. Spares w.counts v.counts x (decrements true w.counts (target_of word) x) ⊎ (w.freeing.at ≡ None)) w word
-    (λ e. inr e)
-    (λ at e l. inl off)
-    (λ at e l m. inl off)
-    (λ at e l m. inl (spares_on w.counts (freed_off w word) (frees.listed (freed_off w word)) x (decrements true w.counts (target_of word) x) 0 (decrements true w.counts (target_of word) x) off
-    (lowers_spares (freed_off w word) (frees.listed (freed_off w word)) x (same_lowers (freed_off w word) (frees.listed (freed_off w word)) (λ y. refl))) (omega arith)))
+freed_spares : (w : Parts) (word x : ℕ) → IsSome w.freeing.at → IsApart w.counts → IfSome (target_of word) (λ y. 0 < (slot_at w.counts y).count) → Spares w.counts (with_freed w word).counts x (decrements true w.counts (target_of word) x)
+freed_spares w word x busy a h = freed_by (λ v. Spares w.counts v.counts x n) w word (λ e. none_some w.freeing.at e busy) (λ at e l. off) (λ at e l m. off)
+    (λ at e l m. spares_on w.counts s (frees.listed s) x n 0 n off (lowers_spares s (frees.listed s) x (same_lowers s (frees.listed s) (λ y. refl))) (omega arith))
   where
-    off : Spares w.counts (freed_off w word) x (decrements true w.counts (target_of word) x)
+    s : State
+    s = freed_off w word
+
+    n : ℕ
+    n = decrements true w.counts (target_of word) x
+
+    off : Spares w.counts s x n
     off = off_spares true w.counts (target_of word) x a h
 
 relieved_spares : (w : Parts) (x : ℕ) → Spares w.counts (relieved w).counts x 0
@@ -140,17 +143,21 @@ pub tries_late : (p q : Private) (w : Parts) (turn : Turn) → TriesOn p w q tur
 tries_late p q w turn (TriesOn.more busy g) = ap (λ (r : Private). tried_at r.epoch r.phase) g.after
 tries_late p q w turn (TriesOn.prepares done on) = prepares_late p q _ turn on
 
+-- what a step leaves of an orange member, and sets
+abbrev Leaves : State → Private → (x named : ℕ) → Type 0
+Leaves s q x named = Spares s q.counts x named × HasSets q.phase
+
 -- what follows a release or the freeing of a set, up to the next trial
-clears_spare : (p q : Private) (turn : Turn) (x : ℕ) {w : Parts} → ClearsOn p q turn w → (tried_at q.epoch q.phase ≡ p.epoch → ⊥) → Spares w.counts q.counts x 0
-clears_spare p q turn x {w} (ClearsOn.frees_on busy g) early = same_spares w.counts q.counts x (ap (λ (r : Private). r.counts) g.after)
-clears_spare p q turn x {w} (ClearsOn.releases_on unfreed busy g) early = same_spares w.counts q.counts x (ap (λ (r : Private). r.counts) g.after)
-clears_spare p q turn x {w} (ClearsOn.tests v unfreed still some tested on) early = spares_on w.counts v.counts q.counts x 0 0 0 (tested_spares w v x tested) (clears_spare p q turn x on early) (omega arith)
-clears_spare p q turn x (ClearsOn.tries unfreed still none on) early = absurd (early (tries_late p q _ turn on))
+clears_leave : (p q : Private) (turn : Turn) (x : ℕ) {w : Parts} → ClearsOn p q turn w → (tried_at q.epoch q.phase ≡ p.epoch → ⊥) → Leaves w.counts q x 0
+clears_leave p q turn x {w} (ClearsOn.frees_on busy g) early = (same_spares w.counts q.counts x (ap (λ (r : Private). r.counts) g.after), subst HasSets (sym (ap (λ (r : Private). r.phase) g.after)) tt)
+clears_leave p q turn x {w} (ClearsOn.releases_on unfreed busy g) early = (same_spares w.counts q.counts x (ap (λ (r : Private). r.counts) g.after), subst HasSets (sym (ap (λ (r : Private). r.phase) g.after)) tt)
+clears_leave p q turn x {w} (ClearsOn.tests v unfreed still some tested on) early = let more = clears_leave p q turn x on early in (spares_on w.counts v.counts q.counts x 0 0 0 (tested_spares w v x tested) more.0 (omega arith), more.1)
+clears_leave p q turn x (ClearsOn.tries unfreed still none on) early = absurd (early (tries_late p q _ turn on))
 
 -- at rest no member is released
-rest_unreleased : (p : Private) (number x : ℕ) → IsAtRest p → (slot_at p.counts x).set ≡ Some number → (slot_at p.counts x).released ≡ false
+rest_unreleased : (p : Private) (number x : ℕ) → IsAtRest (parts_of p) → (slot_at p.counts x).set ≡ Some number → (slot_at p.counts x).released ≡ false
 rest_unreleased p number x r is = elim (cases_lt x (length p.counts.slots)) [
-  | inl below ↦ r.none x below
+  | inl below ↦ none_released r x below
   | inr past ↦ let none : None ≡ Some number = ap (λ (v : Slot). v.set) (sym (get_or_past p.counts.slots x absent past)) ∙ is in absurd (cc)
 ]
 
@@ -158,7 +165,7 @@ rest_unreleased p number x r is = elim (cases_lt x (length p.counts.slots)) [
 batch_sets : (s : State) (newer older : List Contents) (x : ℕ) → (slot_at (batch s newer older) x).set ≡ (slot_at s x).set
 batch_sets s newer older x = (rest_all_down (all_up s (flat_map up_targets newer)) (flat_map down_targets older)).set x ∙ (rest_all_up s (flat_map up_targets newer)).set x
 
-batched_spares : (p : Private) (x : ℕ) → IsAtRest p → Spares p.counts (batch p.counts p.newer p.older) x (added x p.newer + taken x p.older)
+batched_spares : (p : Private) (x : ℕ) → IsAtRest (parts_of p) → Spares p.counts (batch p.counts p.newer p.older) x (added x p.newer + taken x p.older)
 batched_spares p x r number o =
     let was : (slot_at p.counts x).set ≡ Some number = sym (batch_sets p.counts p.newer p.older x) ∙ o.0 in
     let b = batch_same p.counts p.newer p.older x (rest_unreleased p number x r was) o.1 in
@@ -182,90 +189,67 @@ module _ (p q : Private) (word x : ℕ) (turn : Turn) (k : IsMachine p) (same : 
   named_as : {phase : Phase} → p.phase ≡ phase → named_by p word x ≡ named_at p word x phase
   named_as e = ap (named_at p word x) e
 
-  goes_spare : {r : Private} {next : Phase} → r.counts ≡ p.counts → GoesOn r q turn next → named_by p word x ≡ 0 → Spares p.counts q.counts x (named_by p word x)
-  goes_spare e g none = subst (Spares p.counts q.counts x) (sym none) (same_spares p.counts q.counts x (ap (λ (r : Private). r.counts) g.after ∙ e))
+  -- a step that names nothing and leaves the counts
+  leaves : {s : State} {next : Phase} → q.counts ≡ s → s ≡ p.counts → q.phase ≡ next → HasSets next → named_by p word x ≡ 0 → Leaves p.counts q x (named_by p word x)
+  leaves e f phase has none = (subst (Spares p.counts q.counts x) (sym none) (same_spares p.counts q.counts x (e ∙ f)), subst HasSets (sym phase) has)
 
-  step_spares : {box : Contents} {op : Option Op} → IsGiven p word → HasSets p.phase → Step p word box op q turn → Spares p.counts q.counts x (named_by p word x)
+  goes : {r : Private} {next : Phase} → GoesOn r q turn next → r.counts ≡ p.counts → HasSets next → named_by p word x ≡ 0 → Leaves p.counts q x (named_by p word x)
+  goes g e has none = leaves (ap (λ (r : Private). r.counts) g.after) e (ap (λ (r : Private). r.phase) g.after) has none
+
+  -- the sets are tested, after a move that names the slot so often
+  clears : {w : Parts} {n : ℕ} → ClearsOn p q turn w → under_way p.phase ≡ 1 → tried_at p.epoch p.phase ≡ p.epoch - 1 → Spares p.counts w.counts x n → named_by p word x ≡ n → Leaves p.counts q x (named_by p word x)
+  clears {w} {n} on way was s e =
+      let c = clears_leave p q turn x on (early way was) in
+      (spares_on p.counts w.counts q.counts x n 0 (named_by p word x) s c.0 (omega (arith, e)), c.1)
+
+  step_leaves : {box : Contents} {op : Option Op} → IsGiven p word → HasSets p.phase → Step p word box op q turn → Leaves p.counts q x (named_by p word x)
   unfolding IsGiven IsGivenAt sweeps.took_of
-  step_spares given has (Step.spent at last none is t) = subst (Spares p.counts q.counts x) (sym (named_as at)) (same_spares p.counts q.counts x (ap (λ (r : Private). r.counts) is))
-  step_spares given has (Step.request at more is g) = goes_spare refl g (named_as at)
-  step_spares given has (Step.wait t at other is same_as turned) = subst (Spares p.counts q.counts x) (sym (named_as at)) (same_spares p.counts q.counts x (ap (λ (r : Private). r.counts) same_as))
-  step_spares given has (Step.gather t at crossed is g) = goes_spare refl g (named_as at)
-  step_spares given has (Step.give_back t at other is g) = goes_spare refl g (named_as at ∙ cond-false (t == length p.newer) (added x p.newer + taken x p.older) 0 (ne_eqb t (length p.newer) other))
-  step_spares given has (Step.apply t at last is on) =
+  step_leaves given has (Step.spent at last none is t) = leaves (ap (λ (r : Private). r.counts) is) refl (ap (λ (r : Private). r.phase) is) has (named_as at)
+  step_leaves given has (Step.request at more is g) = goes g refl tt (named_as at)
+  step_leaves given has (Step.wait t at other is kept turned) = leaves (ap (λ (r : Private). r.counts) kept) refl (ap (λ (r : Private). r.phase) kept) has (named_as at)
+  step_leaves given has (Step.gather t at crossed is g) = goes g refl tt (named_as at)
+  step_leaves given has (Step.give_back t at other is g) = goes g refl tt (named_as at ∙ cond-false (t == length p.newer) (added x p.newer + taken x p.older) 0 (ne_eqb t (length p.newer) other))
+  step_leaves given has (Step.apply t at last is on) =
       let w : Parts = record (parts_of p) { counts = batch p.counts p.newer p.older } in
-      let n : named_by p word x ≡ added x p.newer + taken x p.older = named_as at ∙ cond-true (t == length p.newer) (added x p.newer + taken x p.older) 0 (eq-eqb t (length p.newer) last) in
-      let rest = (now_at p (Returning t) k at).rest in
-      spares_on p.counts w.counts q.counts x (added x p.newer + taken x p.older) 0 (named_by p word x) (batched_spares p x rest)
-      (spares_on w.counts (zeros_released false w).counts q.counts x 0 0 0 (zeros_spares false w x) (clears_spare p q turn x on (early (ap under_way at) (ap (tried_at p.epoch) at))) (omega arith)) (omega (arith, n))
-  step_spares given has (Step.release at is on) =
-      let w : Parts = with_released (parts_of p) word in
+      let n : ℕ = added x p.newer + taken x p.older in
+      clears on (ap under_way at) (ap (tried_at p.epoch) at)
+      (spares_on p.counts w.counts (zeros_released false w).counts x n 0 n (batched_spares p x (now_at p (Returning t) k at).rest) (zeros_spares false w x) (omega arith))
+      (named_as at ∙ cond-true (t == length p.newer) n 0 (eq-eqb t (length p.newer) last))
+  step_leaves given has (Step.release at is on) =
       let now = now_at p Releasing k at in
-      let h : IfSome (target_of word) (λ y. 0 < (slot_at p.counts y).count) = subst (IsGivenAt p word) at given in
-      let c = clears_spare p q turn x on (early (ap under_way at) (ap (tried_at p.epoch) at)) in
-      elim (released_spares (parts_of p) word x now.0.clearing.apart h) [
-        | inl s ↦ spares_on p.counts w.counts q.counts x (decrements p.release.lowers p.counts (target_of word) x) 0 (named_by p word x) s c (omega (arith, named_as at))
-        | inr none ↦ none_some p.release.at none now.1
-      ]
-  step_spares given has (Step.freeing at is on) =
+      clears on (ap under_way at) (ap (tried_at p.epoch) at) (released_spares (parts_of p) word x now.1 now.0.clearing.apart (subst (IsGivenAt p word) at given)) (named_as at)
+  step_leaves given has (Step.freeing at is on) =
       let v : Parts = with_freed (parts_of p) word in
-      let w : Parts = relieved v in
+      let n : ℕ = decrements true p.counts (target_of word) x in
       let now = now_at p Freeing k at in
-      let h : IfSome (target_of word) (λ y. 0 < (slot_at p.counts y).count) = subst (IsGivenAt p word) at given in
-      let c = clears_spare p q turn x on (early (ap under_way at) (ap (tried_at p.epoch) at)) in
-      elim (freed_spares (parts_of p) word x now.0.clearing.apart h) [
-        | inl s ↦ spares_on p.counts w.counts q.counts x (decrements true p.counts (target_of word) x) 0 (named_by p word x) (spares_on p.counts v.counts w.counts x (decrements true p.counts (target_of word) x) 0 (decrements true p.counts (target_of word) x) s (relieved_spares v x) (omega arith)) c (omega (arith, named_as at))
-        | inr none ↦ none_some p.freeing.at none now.1
-      ]
-  step_spares given has (Step.trial at is on) = absurd (subst HasSets at has)
-  step_spares given has (Step.preparation at is on) = absurd (subst HasSets at has)
-  step_spares given has (Step.begin_sweep at is g) = goes_spare (counts_started p) g (named_as at)
-  step_spares given has (Step.sweep swept u next at is took follows g) =
-      let counts : q.counts ≡ u.counts = ap (λ (r : Private). r.counts) g.after in
-      subst (Spares p.counts q.counts x) (sym (named_as at)) (subst (λ t. Spares p.counts t x 0) (sym (counts ∙ ap (λ (v : sweeps.Work). v.counts) took)) (sweeps_spare p.due))
+      clears on (ap under_way at) (ap (tried_at p.epoch) at)
+      (spares_on p.counts v.counts (relieved v).counts x n 0 n (freed_spares (parts_of p) word x now.1 now.0.clearing.apart (subst (IsGivenAt p word) at given)) (relieved_spares v x) (omega arith)) (named_as at)
+  step_leaves given has (Step.trial at is on) = absurd (subst HasSets at has)
+  step_leaves given has (Step.preparation at is on) = absurd (subst HasSets at has)
+  step_leaves given has (Step.begin_sweep at is g) = goes g (counts_started p) tt (named_as at)
+  step_leaves given has (Step.sweep swept u next at is took follows g) =
+      let counts : q.counts ≡ u.counts = ap (λ (r : Private). r.counts) g.after in (
+        subst (Spares p.counts q.counts x) (sym (named_as at)) (subst (λ t. Spares p.counts t x 0) (sym (counts ∙ ap (λ (v : sweeps.Work). v.counts) took)) (sweeps_spare p.due)),
+        subst HasSets (sym (ap (λ (r : Private). r.phase) g.after)) (swept_has follows),
+      )
     where
       sweeps_spare : (due : Option ℕ) → Spares p.counts (sweeps.took_at (record { due = p.due; counts = p.counts }) due).counts x 0
       sweeps_spare None = lowers_spares p.counts p.counts x (same_lowers p.counts p.counts (λ y. refl))
       sweeps_spare (Some z) = lowers_spares p.counts (sweeps.swept p.counts z) x (swept_lowers p.counts z)
-  step_spares given has (Step.end_sweep swept at is e) = subst (Spares p.counts q.counts x) (sym (named_as at)) (same_spares p.counts q.counts x (ap (λ (r : Private). r.counts) e.after))
+
+      swept_has : IsNext swept u next → HasSets next
+      swept_has (IsNext.more busy is) = subst HasSets (sym is) tt
+      swept_has (IsNext.last done is) = subst HasSets (sym is) tt
+  step_leaves given has (Step.end_sweep swept at is e) = leaves (ap (λ (r : Private). r.counts) e.after) refl (ap (λ (r : Private). r.phase) e.after) tt (named_as at)
 
 -- what a step leaves of an orange member, up to the next trial
 pub untouched : (p : Private) (word : ℕ) (box : Contents) (number x : ℕ) → IsMachine p → IsBetween p.phase → IsGiven p word → HasSets p.phase → tried_at (step_of p word box).epoch (step_of p word box).phase ≡ tried_at p.epoch p.phase
     → IsOrangeIn (step_of p word box).counts number x → WasUntouched p.counts (step_of p word box).counts number x (named_by p word x)
-untouched p word box number x k between given has same o = step_spares p (step_of p word box) word x (turn_of p word) k same given has (step_made p word box k between given) number o
+untouched p word box number x k between given has same o = (step_leaves p (step_of p word box) word x (turn_of p word) k same given has (step_made p word box k between given)).0 number o
 
--- what follows a release or the freeing of a set has sets still, up to the next trial
-clears_has : (p q : Private) (turn : Turn) {w : Parts} → ClearsOn p q turn w → (tried_at q.epoch q.phase ≡ p.epoch → ⊥) → HasSets q.phase
-clears_has p q turn (ClearsOn.frees_on busy g) early = subst HasSets (sym (ap (λ (r : Private). r.phase) g.after)) tt
-clears_has p q turn (ClearsOn.releases_on unfreed busy g) early = subst HasSets (sym (ap (λ (r : Private). r.phase) g.after)) tt
-clears_has p q turn (ClearsOn.tests v unfreed still some tested on) early = clears_has p q turn on early
-clears_has p q turn (ClearsOn.tries unfreed still none on) early = absurd (early (tries_late p q _ turn on))
-
-goes_has : {p q : Private} {turn : Turn} {next : Phase} → GoesOn p q turn next → HasSets next → HasSets q.phase
-goes_has g has = subst HasSets (sym (ap (λ (r : Private). r.phase) g.after)) has
-
-swept_has : {swept : ℕ} {w : sweeps.Work} {next : Phase} → IsNext swept w next → HasSets next
-swept_has (IsNext.more busy is) = subst HasSets (sym is) tt
-swept_has (IsNext.last done is) = subst HasSets (sym is) tt
-
--- so does every step up to the next trial
-step_has : (p q : Private) (word : ℕ) (box : Contents) (op : Option Op) (turn : Turn) → IsMachine p → tried_at q.epoch q.phase ≡ tried_at p.epoch p.phase → HasSets p.phase → Step p word box op q turn → HasSets q.phase
-step_has p q word box op turn k same has (Step.spent at last none is t) = subst (λ (r : Private). HasSets r.phase) (sym is) has
-step_has p q word box op turn k same has (Step.request at more is g) = goes_has g tt
-step_has p q word box op turn k same has (Step.wait t at other is kept turned) = subst (λ (r : Private). HasSets r.phase) (sym kept) has
-step_has p q word box op turn k same has (Step.gather t at crossed is g) = goes_has g tt
-step_has p q word box op turn k same has (Step.give_back t at other is g) = goes_has g tt
-step_has p q word box op turn k same has (Step.apply t at last is on) = clears_has p q turn on (early p q word 0 turn k same (ap under_way at) (ap (tried_at p.epoch) at))
-step_has p q word box op turn k same has (Step.release at is on) = clears_has p q turn on (early p q word 0 turn k same (ap under_way at) (ap (tried_at p.epoch) at))
-step_has p q word box op turn k same has (Step.freeing at is on) = clears_has p q turn on (early p q word 0 turn k same (ap under_way at) (ap (tried_at p.epoch) at))
-step_has p q word box op turn k same has (Step.trial at is on) = absurd (subst HasSets at has)
-step_has p q word box op turn k same has (Step.preparation at is on) = absurd (subst HasSets at has)
-step_has p q word box op turn k same has (Step.begin_sweep at is g) = goes_has g tt
-step_has p q word box op turn k same has (Step.sweep swept u next at is took follows g) = goes_has g (swept_has follows)
-step_has p q word box op turn k same has (Step.end_sweep swept at is e) = subst HasSets (sym (ap (λ (r : Private). r.phase) e.after)) tt
-
+-- and sets
 pub has_on : (p : Private) (word : ℕ) (box : Contents) → IsMachine p → IsBetween p.phase → IsGiven p word → HasSets p.phase → tried_at (step_of p word box).epoch (step_of p word box).phase ≡ tried_at p.epoch p.phase → HasSets (step_of p word box).phase
-has_on p word box k between given has same = step_has p (step_of p word box) word box (next_of p) (turn_of p word) k same has (step_made p word box k between given)
+has_on p word box k between given has same = (step_leaves p (step_of p word box) word 0 (turn_of p word) k same given has (step_made p word box k between given)).1
 
 -- A preparation took in a word: it goes on, or is done.
 pub record LoadsOn (w : Parts) (q : Private) : Type 0 where
@@ -275,55 +259,26 @@ pub record LoadsOn (w : Parts) (q : Private) : Type 0 where
 
 prepares_loads : (p q : Private) (w : Parts) (turn : Turn) → PreparesOn p w q turn → LoadsOn w q
 prepares_loads p q w turn (PreparesOn.more busy g) = record { counts = ap (λ (r : Private). r.counts) g.after; prep = ap (λ (r : Private). r.prep) g.after; goes = inl (ap (λ (r : Private). r.phase) g.after) }
-prepares_loads p q w turn (PreparesOn.sweeps_next done some g) = record { counts = ap (λ (r : Private). r.counts) g.after; prep = ap (λ (r : Private). r.prep) g.after; goes = inr (goes_has g tt, done) }
+prepares_loads p q w turn (PreparesOn.sweeps_next done some g) = record { counts = ap (λ (r : Private). r.counts) g.after; prep = ap (λ (r : Private). r.prep) g.after; goes = inr (subst HasSets (sym (ap (λ (r : Private). r.phase) g.after)) tt, done) }
 prepares_loads p q w turn (PreparesOn.completes done none e) = record { counts = ap (λ (r : Private). r.counts) e.after; prep = ap (λ (r : Private). r.prep) e.after; goes = inr (subst HasSets (sym (ap (λ (r : Private). r.phase) e.after)) tt, done) }
 
-pub loads_on : (p : Private) (word : ℕ) (box : Contents) → IsMachine p → IsBetween p.phase → IsGiven p word → p.phase ≡ Preparing → LoadsOn (with_loaded (parts_of p) word) (step_of p word box)
-loads_on p word box k between given at = go (step_made p word box k between given)
-  where
-    other : {phase : Phase} → p.phase ≡ phase → (Preparing ≡ phase → ⊥) → LoadsOn (with_loaded (parts_of p) word) (step_of p word box)
-    other e n = absurd (n (sym at ∙ e))
+tries_loads : (p q : Private) (w : Parts) (turn : Turn) → TriesOn p w q turn → q.phase ≡ Preparing → LoadsOn (prep_started w) q
+tries_loads p q w turn (TriesOn.more busy g) next = let e : Preparing ≡ Trying = sym next ∙ ap (λ (r : Private). r.phase) g.after in absurd (cc)
+tries_loads p q w turn (TriesOn.prepares over on) next = prepares_loads p q (prep_started w) turn on
 
-    go : Step p word box (next_of p) (step_of p word box) (turn_of p word) → LoadsOn (with_loaded (parts_of p) word) (step_of p word box)
-    go (Step.spent e last none is t) = other e (λ z. cc)
-    go (Step.request e more is g) = other e (λ z. cc)
-    go (Step.wait t e apart is kept turned) = other e (λ z. cc)
-    go (Step.gather t e crossed is g) = other e (λ z. cc)
-    go (Step.give_back t e apart is g) = other e (λ z. cc)
-    go (Step.apply t e last is on) = other e (λ z. cc)
-    go (Step.release e is on) = other e (λ z. cc)
-    go (Step.freeing e is on) = other e (λ z. cc)
-    go (Step.trial e is on) = other e (λ z. cc)
-    go (Step.preparation e is on) = prepares_loads p (step_of p word box) (with_loaded (parts_of p) word) (turn_of p word) on
-    go (Step.begin_sweep e is g) = other e (λ z. cc)
-    go (Step.sweep swept u next e is took follows g) = other e (λ z. cc)
-    go (Step.end_sweep swept e is ends) = other e (λ z. cc)
+pub loads_on : (p : Private) (word : ℕ) (box : Contents) → IsMachine p → IsBetween p.phase → IsGiven p word → p.phase ≡ Preparing → LoadsOn (with_loaded (parts_of p) word) (step_of p word box)
+unfolding step_of took_of took_at
+loads_on p word box k between given at =
+    let w : Parts = with_loaded (parts_of p) word in
+    subst (LoadsOn w) (sym (ap (λ f. swapped_of (took_at p word f) box) at)) (prepares_loads p _ w _ (prepared_on p w box))
 
 -- a trial took in its last word, and a preparation begins
 pub begins_on : (p : Private) (word : ℕ) (box : Contents) → IsMachine p → IsBetween p.phase → IsGiven p word → p.phase ≡ Trying → (step_of p word box).phase ≡ Preparing → LoadsOn (prep_started (with_tried (parts_of p) word)) (step_of p word box)
-begins_on p word box k between given at next = go (step_made p word box k between given)
-  where
-    other : {phase : Phase} → p.phase ≡ phase → (Trying ≡ phase → ⊥) → LoadsOn (prep_started (with_tried (parts_of p) word)) (step_of p word box)
-    other e n = absurd (n (sym at ∙ e))
-
-    tries : TriesOn p (with_tried (parts_of p) word) (step_of p word box) (turn_of p word) → LoadsOn (prep_started (with_tried (parts_of p) word)) (step_of p word box)
-    tries (TriesOn.more busy g) = let e : Preparing ≡ Trying = sym next ∙ ap (λ (r : Private). r.phase) g.after in absurd (cc)
-    tries (TriesOn.prepares over on) = prepares_loads p (step_of p word box) (prep_started (with_tried (parts_of p) word)) (turn_of p word) on
-
-    go : Step p word box (next_of p) (step_of p word box) (turn_of p word) → LoadsOn (prep_started (with_tried (parts_of p) word)) (step_of p word box)
-    go (Step.spent e last none is t) = other e (λ z. cc)
-    go (Step.request e more is g) = other e (λ z. cc)
-    go (Step.wait t e apart is kept turned) = other e (λ z. cc)
-    go (Step.gather t e crossed is g) = other e (λ z. cc)
-    go (Step.give_back t e apart is g) = other e (λ z. cc)
-    go (Step.apply t e last is on) = other e (λ z. cc)
-    go (Step.release e is on) = other e (λ z. cc)
-    go (Step.freeing e is on) = other e (λ z. cc)
-    go (Step.trial e is on) = tries on
-    go (Step.preparation e is on) = other e (λ z. cc)
-    go (Step.begin_sweep e is g) = other e (λ z. cc)
-    go (Step.sweep swept u next e is took follows g) = other e (λ z. cc)
-    go (Step.end_sweep swept e is ends) = other e (λ z. cc)
+unfolding step_of took_of took_at
+begins_on p word box k between given at next =
+    let w : Parts = with_tried (parts_of p) word in
+    let e : step_of p word box ≡ swapped_of (took_at p word Trying) box = ap (λ f. swapped_of (took_at p word f) box) at in
+    subst (LoadsOn (prep_started w)) (sym e) (tries_loads p _ w _ (tried_on p w box) (ap (λ (q : Private). q.phase) (sym e) ∙ next))
 
 -- what an orange member's outside count was, it is, less what was lowered
 pub outside_later : {before s t : State} {loads : List Load} {number x n : ℕ} → IsOutside before s loads number x → WasUntouched s t number x n → IsOutside before t loads number x

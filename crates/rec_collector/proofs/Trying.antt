@@ -21,14 +21,13 @@ use Rattle.rec_trial.proofs.Keeps.{KeepsCounts, LeavesNothing, at_work_few, at_w
 use Rattle.rec_trial.proofs.Midway.{times_released}
 use Rattle.rec_trial.proofs.Whole.{whole_over}
 use Rattle.rec_collector.specs.Followed.{prep_started, trial_begun, tried, tried_at, with_tried}
-use Rattle.rec_collector.specs.Kept.{IsMachine, IsTried, IsTrying, all_fields}
+use Rattle.rec_collector.specs.Kept.{AreOnTrial, IsListed, IsMachine, IsTried, IsTrying, all_fields}
 use Rattle.rec_collector.specs.Parts.{Parts}
 use Rattle.rec_collector.specs.Private.{Private, parts_of}
 use Rattle.rec_collector.specs.Testing.{told}
 use Rattle.rec_collector.specs.Zeros.{AreCounted}
 use Rattle.rec_collector.specs.declared.phase.Phase.TheVariants.{Trying}
-use Rattle.rec_collector.proofs.Landing.{Fits, Lands, fits_all, now_at, told_at}
-use Rattle.rec_collector.proofs.Listing.{IsListed}
+use Rattle.rec_collector.proofs.Landing.{Fits, Lands, fits_all, fits_on, fits_self, now_at, told_at}
 use Rattle.rec_collector.proofs.Preparing.{prepared_lands, started_prepared}
 
 module _ (s t : State) (k : KeepsCounts s t) (old : IsKeptCounts s) (new : IsKeptCounts t) (l : IsListed s) where
@@ -90,54 +89,41 @@ over_apart m s a n none z = λ x e.
 
 -- A collection has come to `w` in its trial.
 pub record HasTried (p : Private) (w : Parts) : Type 0 where
-  pub kept : IsAtWork w.trial w.counts
+  pub on_trial : AreOnTrial w.counts w.release w.freeing w.trial w.prep
+  pub open on_trial use *
   pub counts : IsKeptCounts w.counts
-  pub uncoloured : (x : ℕ) → (slot_at kept.before x).colour ≢ Orange
-  pub counted : AreCounted w.counts
-  pub listed : IsListed w.counts
-  pub zeros : w.counts.zeros ≡ []
-  pub still : w.release.at ≡ None
-  pub unfreed : w.freeing.at ≡ None
-  pub unprepared : w.prep.at ≡ None
   pub fits : Fits p w
   pub due : p.due ≡ None
   pub turns : p.turns ≤ 2 * length p.newer + all_fields p + length kept.words
   pub few : length kept.words ≤ 3 * all_fields p + 1
   pub told : told w.sets ≤ 2 ^ 16 * p.collections
 
--- the numbers stay
-tried_fits : (p : Private) (w : Parts) (v : Work) → Fits p w → length v.counts.slots ≡ length w.counts.slots → v.machine.fields ≡ w.trial.fields → Fits p (record w { counts = v.counts; trial = v.machine })
-tried_fits p w v f slots fields = record {
-  slots = slots ∙ f.slots;
-  release_fields = f.release_fields;
-  freeing_fields = f.freeing_fields;
-  trial_fields = fields ∙ f.trial_fields;
-  prep_fields = f.prep_fields;
-}
-
 -- no true count changes
 counted_on : (s t : State) → KeepsCounts s t → AreCounted s → AreCounted t
 counted_on s t k c = λ x r. omega (arith, k.counts x, c x (sym (k.released x) ∙ r))
 
 -- it has begun
-pub started_tried : (p : Private) (w : Parts) → 0 < w.trial.fields → IsReady w.counts → IsKeptCounts w.counts → IsListed w.counts → ((x : ℕ) → (slot_at w.counts x).colour ≢ Orange) → AreCounted w.counts → w.counts.zeros ≡ [] → w.release.at ≡ None → w.freeing.at ≡ None → w.prep.at ≡ None
+pub started_tried : (p : Private) (w : Parts) → IsReady w.counts → IsKeptCounts w.counts → IsListed w.counts → ((x : ℕ) → (slot_at w.counts x).colour ≢ Orange) → AreCounted w.counts → w.counts.zeros ≡ [] → w.release.at ≡ None → w.freeing.at ≡ None → w.prep.at ≡ None
     → Fits p w → p.due ≡ None → p.turns ≤ 2 * length p.newer + all_fields p → told w.sets ≤ 2 ^ 16 * p.collections → HasTried p (trial_begun w)
-started_tried p w f ready k listed none counted zeros still unfreed unprepared fits due turns told =
+started_tried p w ready k listed none counted zeros still unfreed unprepared fits due turns told =
     let v : Work = started_of w.trial.fields w.counts in
+    let f : 0 < w.trial.fields = omega (arith, fits.fields, fits.trial_fields) in
     let keeps : KeepsCounts w.counts v.counts = started_keeps w.trial.fields w.counts f ready in
     let fields : v.machine.fields ≡ w.trial.fields = started_fields w.trial.fields w.counts f ready in
     let counts : IsKeptCounts v.counts = started_counted w.trial.fields w.counts f k ready in
     record {
-      kept = record { wide = omega (arith, f, fields); before = w.counts; words = []; kept = k; ready = ready; named = tt; is = sym (run_none w.trial.fields w.counts) ∙ ap (λ n. (run_of n w.counts []).work) (sym fields) };
+      on_trial = record {
+        kept = record { wide = omega (arith, f, fields); before = w.counts; words = []; kept = k; ready = ready; named = tt; is = sym (run_none w.trial.fields w.counts) ∙ ap (λ n. (run_of n w.counts []).work) (sym fields) };
+        uncoloured = none;
+        counted = counted_on w.counts v.counts keeps counted;
+        zeros = keeps.zeros ∙ zeros;
+        still = still;
+        unfreed = unfreed;
+        unprepared = unprepared;
+        places = still_listed w.counts v.counts keeps k counts listed;
+      };
       counts = counts;
-      uncoloured = none;
-      counted = counted_on w.counts v.counts keeps counted;
-      listed = still_listed w.counts v.counts keeps k counts listed;
-      zeros = keeps.zeros ∙ zeros;
-      still = still;
-      unfreed = unfreed;
-      unprepared = unprepared;
-      fits = tried_fits p w v fits keeps.slots fields;
+      fits = fits_on fits (record { slots = keeps.slots; release_fields = refl; freeing_fields = refl; trial_fields = fields; prep_fields = refl });
       due = due;
       turns = omega (arith, turns);
       few = omega arith;
@@ -154,16 +140,18 @@ took_tried p word k e l =
     let more : length (took_at_work p.trial p.counts a.kept word l v.machine v.counts refl).words ≡ length a.kept.words + 1 = ap length (took_words p.trial p.counts a.kept word l v.machine v.counts refl) ∙ length_push a.kept.words word in
     let all : length p.counts.slots * p.trial.fields ≡ all_fields p = ap (λ n. length p.counts.slots * n) k.trial_fields in
     record {
-      kept = took_at_work p.trial p.counts a.kept word l v.machine v.counts refl;
+      on_trial = record {
+        kept = took_at_work p.trial p.counts a.kept word l v.machine v.counts refl;
+        uncoloured = subst (λ (b : State). (x : ℕ) → (slot_at b x).colour ≢ Orange) (sym (took_before p.trial p.counts a.kept word l v.machine v.counts refl)) a.uncoloured;
+        counted = counted_on p.counts v.counts keeps a.counted;
+        zeros = keeps.zeros ∙ a.zeros;
+        still = a.still;
+        unfreed = a.unfreed;
+        unprepared = a.unprepared;
+        places = still_listed p.counts v.counts keeps k.counts counts a.places;
+      };
       counts = counts;
-      uncoloured = subst (λ (b : State). (x : ℕ) → (slot_at b x).colour ≢ Orange) (sym (took_before p.trial p.counts a.kept word l v.machine v.counts refl)) a.uncoloured;
-      counted = counted_on p.counts v.counts keeps a.counted;
-      listed = still_listed p.counts v.counts keeps k.counts counts (record { listed = a.listed; only = a.only; unbuffered = a.unbuffered });
-      zeros = keeps.zeros ∙ a.zeros;
-      still = a.still;
-      unfreed = a.unfreed;
-      unprepared = a.unprepared;
-      fits = record { slots = keeps.slots; release_fields = refl; freeing_fields = k.freeing_fields; trial_fields = took_fields p.trial p.counts a.kept word l ∙ k.trial_fields; prep_fields = k.prep_fields };
+      fits = fits_on (fits_self p k) (record { slots = keeps.slots; release_fields = refl; freeing_fields = refl; trial_fields = took_fields p.trial p.counts a.kept word l; prep_fields = refl });
       due = a.due;
       turns = omega (arith, a.turns, more);
       few = omega (arith, more, at_work_few p.trial p.counts a.kept a.busy, all);
@@ -184,14 +172,14 @@ over_tried p w h n =
       work = l.work;
       still = h.still;
       unfreed = h.unfreed;
-      listed = λ x i t. omega (arith, h.listed.listed x i t, ap (times x) l.roots, times-nil x);
-      unbuffered = h.listed.unbuffered;
+      listed = λ x i t. omega (arith, h.listed x i t, ap (times x) l.roots, times-nil x);
+      unbuffered = h.unbuffered;
     }
 
 -- what follows
-pub tried_lands : (p : Private) (w : Parts) → 0 < p.release.fields → HasTried p w → Lands p (tried w)
+pub tried_lands : (p : Private) (w : Parts) → HasTried p w → Lands p (tried w)
 unfolding tried
-tried_lands p w f h = go (next_of w.trial) refl
+tried_lands p w h = go (next_of w.trial) refl
   where
     all : length w.counts.slots * w.release.fields ≡ all_fields p
     all = fits_all p w h.fits
@@ -203,22 +191,8 @@ tried_lands p w f h = go (next_of w.trial) refl
       under = refl;
       none = refl;
       told = h.told;
-      now = record {
-        kept = h.kept;
-        busy = subst (λ (op : Option Op). IsSome op) (sym e) refl;
-        uncoloured = h.uncoloured;
-        counted = h.counted;
-        zeros = h.zeros;
-        still = h.still;
-        unfreed = h.unfreed;
-        unprepared = h.unprepared;
-        due = h.due;
-        listed = h.listed.listed;
-        only = h.listed.only;
-        unbuffered = h.listed.unbuffered;
-        turns = omega (arith, h.turns, all);
-      };
+      now = record { on_trial = h.on_trial; busy = subst (λ (op : Option Op). IsSome op) (sym e) refl; due = h.due; turns = omega (arith, h.turns, all) };
     }
     go None e = prepared_lands p (prep_started w) (
-        started_prepared p w (omega (arith, f, h.fits.prep_fields)) (over_tried p w h (subst (λ (op : Option Op). IsNone op) (sym e) refl)) h.counts h.fits h.due (omega (arith, h.turns, h.few)) (omega (arith, h.told, h.counts.few_sets, h.counts.few_slots))
+        started_prepared p w (over_tried p w h (subst (λ (op : Option Op). IsNone op) (sym e) refl)) h.counts h.fits h.due (omega (arith, h.turns, h.few)) (omega (arith, h.told, h.counts.few_sets, h.counts.few_slots))
         )

@@ -29,18 +29,23 @@ AreListed s at = (x : ℕ) → x < length s.slots → (slot_at s x).released ≡
 abbrev pub AreHeld : State → Type 0
 AreHeld s = (x : ℕ) → 0 < times x s.work → (slot_at s x).buffered ≡ false
 
--- Slots are released, or a set is freed, or neither; and nothing else is at work. Each slot that has no count, is not released and
--- not Orange stands in the zeros.
+-- What is known of the counts of slots with so many fields, while this field is due of a released slot. Each slot that has no count, is
+-- not released and not Orange stands in the zeros.
+pub record IsTidy (fields : ℕ) (s : State) (at : Option At) : Type 0 where
+  pub untried : IsUntried s
+  pub apart : IsApart s
+  pub all_zeros : AllZerosButOrange s
+  pub outside : AreOutside fields s
+  pub listed : AreListed s at
+  pub unbuffered : AreUnbuffered s
+  pub held : AreHeld s
+
+-- Slots are released, or a set is freed, or neither; and nothing else is at work.
 pub record IsClearing (w : Parts) : Type 0 where
-  pub untried : IsUntried w.counts
+  pub tidy : IsTidy w.prep.fields w.counts w.release.at
+  pub open tidy use *
   pub idle : IsNone (trial_next w.trial)
   pub unprepared : w.prep.at ≡ None
-  pub apart : IsApart w.counts
-  pub all_zeros : AllZerosButOrange w.counts
-  pub outside : AreOutside w.prep.fields w.counts
-  pub listed : AreListed w.counts w.release.at
-  pub unbuffered : AreUnbuffered w.counts
-  pub held : AreHeld w.counts
   pub release : releases.IsAtWork w.release w.counts
   pub freeing : frees.IsAtWork w.freeing w.counts
   pub one : (w.release.at ≡ None) ⊎ (w.freeing.at ≡ None)

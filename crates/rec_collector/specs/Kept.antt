@@ -4,13 +4,15 @@ use Rattle.rec_log.specs.declared.contents.Contents.{Contents}
 use Rattle.rec_counts.specs.declared.colour.Colour.TheVariants.{Orange}
 use Rattle.rec_counts.specs.Counts.{State, slot_at, IsKept as IsKeptCounts}
 use Rattle.rec_counts.specs.Lists.{times}
+use Rattle.rec_release.specs.CycleFree as frees
+use Rattle.rec_release.specs.Release as releases
 use Rattle.rec_release.specs.Sweep.{AreUnbuffered}
 use Rattle.rec_release.specs.TakenOff.{IsApart}
 use Rattle.rec_sigma.specs.Prepare as preps
 use Rattle.rec_walk.specs.Load.{Load}
 use Rattle.rec_sigma.specs.Prepared as prepared
 use Rattle.rec_trial.specs.Loaded as trials
-use Rattle.rec_trial.specs.Trial.{next_of as trial_next}
+use Rattle.rec_trial.specs.Trial.{Machine as Trial, next_of as trial_next}
 use Rattle.rec_collector.specs.Clearing.{IsUntried, IsClearing, HasExchanged}
 use Rattle.rec_collector.specs.Given.{IsSized}
 use Rattle.rec_collector.specs.Outside.{AreOutside}
@@ -29,9 +31,9 @@ all_fields p = length p.counts.slots * p.release.fields
 abbrev pub limit_of : Private → ℕ
 limit_of p = 6 * all_fields p + 2 * length p.counts.slots + 3 * length p.newer + 16
 
--- each of these buffers has the registers and the room of this machine
-abbrev pub AreSized : Private → List Contents → Type 0
-AreSized p buffers = (place : ℕ) → place < length buffers → IsSized p.registers p.capacity (buffer_at buffers place)
+-- each of these buffers has so many registers, and this room
+abbrev pub AreSized : (registers capacity : ℕ) → List Contents → Type 0
+AreSized registers capacity buffers = (place : ℕ) → place < length buffers → IsSized registers capacity (buffer_at buffers place)
 
 -- the newer buffers from this place on are spares still
 abbrev pub AreSpare : Private → (place : ℕ) → Type 0
@@ -41,30 +43,55 @@ AreSpare p from = (place : ℕ) → from ≤ place → place < length p.newer �
 abbrev pub NoneReleased : State → Type 0
 NoneReleased s = (x : ℕ) → x < length s.slots → (slot_at s x).released ≡ false
 
--- Nothing is to be released, tried or swept. Each slot has a count.
-pub record IsAtRest (p : Private) : Type 0 where
-  pub untried : IsUntried p.counts
-  pub idle : IsNone (trial_next p.trial)
-  pub unprepared : p.prep.at ≡ None
-  pub apart : IsApart p.counts
-  pub none : NoneReleased p.counts
-  pub outside : AreOutside p.prep.fields p.counts
-  pub counted : AreCounted p.counts
-  pub zeros : p.counts.zeros ≡ []
-  pub roots : p.counts.roots ≡ []
-  pub free : p.counts.free ≡ []
-  pub work : p.counts.work ≡ []
-  pub still : p.release.at ≡ None
-  pub unfreed : p.freeing.at ≡ None
-  pub due : p.due ≡ None
+-- Every released slot is in the free list or waits in the root buffer, and the free list has released slots alone, none of them
+-- buffered.
+pub record IsListed (s : State) : Type 0 where
+  pub listed : (x : ℕ) → x < length s.slots → (slot_at s x).released ≡ true → 0 < times x s.free + times x s.roots
+  pub only : (x : ℕ) → 0 < times x s.free → (slot_at s x).released ≡ true
+  pub unbuffered : AreUnbuffered s
+
+-- Nothing is left to release or to try, and each slot has a count. Every released slot is in the free list, and no slot of it is
+-- buffered.
+pub record AreTried (s : State) (release : releases.Machine) (freeing : frees.Machine) (trial : Trial) : Type 0 where
+  pub untried : IsUntried s
+  pub idle : IsNone (trial_next trial)
+  pub apart : IsApart s
+  pub counted : AreCounted s
+  pub zeros : s.zeros ≡ []
+  pub roots : s.roots ≡ []
+  pub work : s.work ≡ []
+  pub still : release.at ≡ None
+  pub unfreed : freeing.at ≡ None
+  pub listed : (x : ℕ) → x < length s.slots → (slot_at s x).released ≡ true → 0 < times x s.free
+  pub unbuffered : AreUnbuffered s
+
+abbrev pub IsTried : Parts → Type 0
+IsTried w = AreTried w.counts w.release w.freeing w.trial
+
+-- nor is anything left to prepare
+pub record ArePrepared (s : State) (release : releases.Machine) (freeing : frees.Machine) (trial : Trial) (prep : preps.Machine) : Type 0 where
+  pub tried : AreTried s release freeing trial
+  pub open tried use *
+  pub unprepared : prep.at ≡ None
+  pub outside : AreOutside prep.fields s
+
+-- nor to sweep
+pub record AreResting (s : State) (release : releases.Machine) (freeing : frees.Machine) (trial : Trial) (prep : preps.Machine) : Type 0 where
+  pub prepared : ArePrepared s release freeing trial prep
+  pub open prepared use *
+  pub free : s.free ≡ []
+
+abbrev pub IsAtRest : Parts → Type 0
+IsAtRest w = AreResting w.counts w.release w.freeing w.trial w.prep
 
 -- so many mailboxes were given back; the mutator at work is there, and so many turns were made
 pub record IsGathering (p : Private) (t given_back made : ℕ) : Type 0 where
-  pub rest : IsAtRest p
+  pub rest : IsAtRest (parts_of p)
   pub first : 0 < t
   pub there : t ≤ length p.newer
   pub spares : AreSpare p given_back
   pub turns : p.turns ≡ made
+  pub due : p.due ≡ None
 
 -- Slots are released, or a set is freed. Each turn since the batch exchanged another field.
 pub record IsTesting (p : Private) : Type 0 where
@@ -74,60 +101,53 @@ pub record IsTesting (p : Private) : Type 0 where
   pub turns : p.turns ≤ 1 + 2 * length p.newer + exchanged
   pub due : p.due ≡ None
 
--- A trial is at work, and nothing is left to release. Every released slot is in the free list or waits in the root buffer, and
--- the free list has released slots alone, none of them buffered. No slot was Orange as it began. Each turn since took in a word.
-pub record IsTrying (p : Private) : Type 0 where
-  pub kept : trials.IsAtWork p.trial p.counts
-  pub busy : IsSome (trial_next p.trial)
+-- A trial is at work or over, and nothing is left to release. No slot was Orange as it began.
+pub record AreOnTrial (s : State) (release : releases.Machine) (freeing : frees.Machine) (trial : Trial) (prep : preps.Machine) : Type 0 where
+  pub kept : trials.IsAtWork trial s
   pub uncoloured : (x : ℕ) → (slot_at kept.before x).colour ≢ Orange
-  pub counted : AreCounted p.counts
-  pub zeros : p.counts.zeros ≡ []
-  pub still : p.release.at ≡ None
-  pub unfreed : p.freeing.at ≡ None
-  pub unprepared : p.prep.at ≡ None
+  pub counted : AreCounted s
+  pub zeros : s.zeros ≡ []
+  pub still : release.at ≡ None
+  pub unfreed : freeing.at ≡ None
+  pub unprepared : prep.at ≡ None
+  pub places : IsListed s
+  pub open places use *
+
+-- a trial is at work: each turn since it began took in a word
+pub record IsTrying (p : Private) : Type 0 where
+  pub on_trial : AreOnTrial p.counts p.release p.freeing p.trial p.prep
+  pub open on_trial use *
+  pub busy : IsSome (trial_next p.trial)
   pub due : p.due ≡ None
-  pub listed : (x : ℕ) → x < length p.counts.slots → (slot_at p.counts x).released ≡ true → 0 < times x p.counts.free + times x p.counts.roots
-  pub only : (x : ℕ) → 0 < times x p.counts.free → (slot_at p.counts x).released ≡ true
-  pub unbuffered : AreUnbuffered p.counts
   pub turns : p.turns ≤ 1 + 2 * length p.newer + all_fields p + length kept.words
 
--- Nothing is left to release or to try. Every released slot is in the free list, and no slot of it is buffered.
-pub record IsTried (w : Parts) : Type 0 where
-  pub untried : IsUntried w.counts
-  pub idle : IsNone (trial_next w.trial)
-  pub apart : IsApart w.counts
-  pub counted : AreCounted w.counts
-  pub zeros : w.counts.zeros ≡ []
-  pub roots : w.counts.roots ≡ []
-  pub work : w.counts.work ≡ []
-  pub still : w.release.at ≡ None
-  pub unfreed : w.freeing.at ≡ None
-  pub listed : (x : ℕ) → x < length w.counts.slots → (slot_at w.counts x).released ≡ true → 0 < times x w.counts.free
-  pub unbuffered : AreUnbuffered w.counts
-
--- The sets that a trial found are prepared. Each turn since took in a word.
-pub record IsPreparing (p : Private) : Type 0 where
-  pub tried : IsTried (parts_of p)
-  pub kept : preps.IsAtWork p.prep p.counts
-  pub busy : IsSome p.prep.at
+-- the sets that a trial found are prepared, or were
+pub record AreInPreparation (s : State) (release : releases.Machine) (freeing : frees.Machine) (trial : Trial) (prep : preps.Machine) : Type 0 where
+  pub tried : AreTried s release freeing trial
+  pub kept : preps.IsAtWork prep s
   pub before : State
   pub before_kept : IsKeptCounts before
   pub loads : List Load
-  pub prepares : prepared.PreparedTo p.prep.fields before p.prep.at p.counts loads
+  pub prepares : prepared.PreparedTo prep.fields before prep.at s loads
+
+-- they are: each turn since this began took in a word
+pub record IsPreparing (p : Private) : Type 0 where
+  pub preparation : AreInPreparation p.counts p.release p.freeing p.trial p.prep
+  pub open preparation use *
+  pub busy : IsSome p.prep.at
   pub due : p.due ≡ None
   pub turns : p.turns ≤ 2 + 2 * length p.newer + 4 * all_fields p + length loads
 
 -- A sweep is at work, or about to begin or to end: so many were swept, and the others are left.
 pub record IsSweeping (p : Private) (swept made : ℕ) : Type 0 where
-  pub tried : IsTried (parts_of p)
-  pub unprepared : p.prep.at ≡ None
-  pub outside : AreOutside p.prep.fields p.counts
+  pub before : ArePrepared p.counts p.release p.freeing p.trial p.prep
+  pub open before use *
   pub left : swept + length p.counts.free ≤ length p.counts.slots
   pub turns : p.turns ≤ 2 + 2 * length p.newer + 5 * all_fields p + made
 
 -- what holds in each phase
 abbrev pub IsAt : Private → Phase → Type 0
-IsAt p Idle = IsAtRest p × AreSpare p 0 × (p.turns ≡ 0)
+IsAt p Idle = IsAtRest (parts_of p) × AreSpare p 0 × (p.turns ≡ 0) × (p.due ≡ None)
 IsAt p (Looking t) = IsGathering p t (t - 1) (2 * t - 1)
 IsAt p (Swapping t) = IsGathering p t (t - 1) (2 * t)
 IsAt p (Returning t) = IsGathering p t t (2 * t)
@@ -160,21 +180,31 @@ abbrev pub under_way : Phase → ℕ
 under_way Idle = 0
 under_way _ = 1
 
+-- slots have as many fields for each machine: some, and few
+pub record HaveFields (n trial freeing prep : ℕ) : Type 0 where
+  pub fields : 0 < n
+  pub trial_fields : trial ≡ n
+  pub freeing_fields : freeing ≡ n
+  pub prep_fields : prep ≡ n
+  pub few_fields : n < 2 ^ 8
+
+-- each mutator has two buffers, and there are some mutators, and few
+pub record AreRows (registers capacity : ℕ) (news olds : List Contents) : Type 0 where
+  pub mutators : 0 < length news
+  pub few : length news < 2 ^ 8
+  pub both : length olds ≡ length news
+  pub newer : AreSized registers capacity news
+  pub older : AreSized registers capacity olds
+
 -- what every machine keeps
 pub record IsMachine (p : Private) : Type 0 where
   pub epoch : p.epoch < 2 ^ 24
   pub collections : p.collections + under_way p.phase ≤ p.epoch
   pub freed : p.freed ≤ 2 ^ 16 * p.collections + swept_at p.phase
-  pub fields : 0 < p.release.fields
-  pub trial_fields : p.trial.fields ≡ p.release.fields
-  pub freeing_fields : p.freeing.fields ≡ p.release.fields
-  pub prep_fields : p.prep.fields ≡ p.release.fields
-  pub few_fields : p.release.fields < 2 ^ 8
-  pub mutators : 0 < length p.newer
-  pub few : length p.newer < 2 ^ 8
-  pub both : length p.older ≡ length p.newer
-  pub newer : AreSized p p.newer
-  pub older : AreSized p p.older
+  pub widths : HaveFields p.release.fields p.trial.fields p.freeing.fields p.prep.fields
+  pub open widths use *
+  pub rows : AreRows p.registers p.capacity p.newer p.older
+  pub open rows use *
   pub counts : IsKeptCounts p.counts
   pub told : IsTold p p.phase
   pub now : IsAt p p.phase

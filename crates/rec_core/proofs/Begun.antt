@@ -102,7 +102,7 @@ module _ (w : Core) (t : ℕ) (kept : IsKept w) (phase : w.collector.phase ≡ R
   -- nothing is at work on the counts that the batch made
   batch_clear : IsClearing batched
   batch_clear =
-      let before : IsClearing (parts_of c) = resting_clear (parts_of c) rest.untried rest.idle rest.unprepared rest.apart rest.none rest.counted rest.outside rest.zeros rest.free rest.work rest.still rest.unfreed in
+      let before : IsClearing (parts_of c) = resting_clear (parts_of c) rest in
       batched_clear (parts_of c) c.newer c.older (falls w t kept phase last) rest.still rest.unfreed before
 
   -- The batch is applied, and the first of its zeros is released.

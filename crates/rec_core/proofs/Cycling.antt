@@ -19,6 +19,7 @@ use Rattle.rec_sigma.specs.Prepared as prepared
 use Rattle.rec_collector.specs.Private.{Private}
 use Rattle.rec_collector.specs.Kept.{IsMachine, IsAt, NoneReleased}
 use Rattle.rec_collector.specs.declared.phase.Phase.{Phase}
+use Rattle.rec_collector.proofs.Batched.{none_released}
 use Rattle.rec_collector.specs.declared.phase.Phase.TheVariants.{Idle, Looking, Swapping, Returning, Releasing, Freeing, Trying, Preparing, Opening, Sweeping, Closing}
 use Rattle.rec_core.specs.Cycles.{is_member, AreFields}
 use Rattle.rec_core.specs.CyclesAt.{IsLoading, AreSeen, HasCyclesAt}
@@ -64,10 +65,10 @@ listed_alive s k listed unbuffered node pos member = unreleased_in s node (λ be
 
 -- no machine releases a member before the next batch
 pub machine_alive : (c : Private) (phase : Phase) → IsMachine c → IsAt c phase → AreAliveAt (λ node. (slot_in c.counts node).released) c.counts phase
-machine_alive c Idle m now = none_alive c.counts now.0.none
-machine_alive c (Looking t) m now = none_alive c.counts now.rest.none
-machine_alive c (Swapping t) m now = none_alive c.counts now.rest.none
-machine_alive c (Returning t) m now = none_alive c.counts now.rest.none
+machine_alive c Idle m now = none_alive c.counts (none_released now.0)
+machine_alive c (Looking t) m now = none_alive c.counts (none_released now.rest)
+machine_alive c (Swapping t) m now = none_alive c.counts (none_released now.rest)
+machine_alive c (Returning t) m now = none_alive c.counts (none_released now.rest)
 machine_alive c Releasing m now = tt
 machine_alive c Freeing m now = tt
 machine_alive c Trying m now = tt

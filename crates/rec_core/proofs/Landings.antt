@@ -47,6 +47,7 @@ use Rattle.rec_collector.specs.Took.{cleared, ended, moved}
 use Rattle.rec_collector.specs.declared.phase.Phase.{Phase}
 use Rattle.rec_collector.specs.declared.phase.Phase.TheVariants.{Idle, Looking, Swapping, Returning, Releasing, Freeing, Trying, Preparing, Opening, Sweeping, Closing}
 use Rattle.rec_collector.specs.declared.turn.Turn.{Turn}
+use Rattle.rec_collector.proofs.Batched.{none_released}
 use Rattle.rec_collector.proofs.Offering.{where_keeps, where_kept, where_ready}
 use Rattle.rec_core.specs.Config.{IsMutator}
 use Rattle.rec_core.specs.Core.{Core}
@@ -411,7 +412,7 @@ module _ (w : Core) (crossing words : List ℕ) (q : collectors.Private) (machin
         sound = l.sound;
         accounted = move_accounted (Move.dropping drops) l.accounted;
         uncounted = λ none. move_uncounted (Move.dropping drops) l.accounted (l.uncounted unfreed);
-        cycles = sets_wait_moved v.counts (Move.dropping drops) tt l.accounted (none_alive v.counts its.now.0.none) waits;
+        cycles = sets_wait_moved v.counts (Move.dropping drops) tt l.accounted (none_alive v.counts (none_released its.now.0)) waits;
       } in
       subst (λ (x : collectors.Private). IsKept (record w { crossing = crossing; words = words; collector = x })) (sym is) whole
 

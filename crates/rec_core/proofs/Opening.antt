@@ -28,6 +28,7 @@ use Rattle.rec_collector.specs.Kept as collector_kept
 use Rattle.rec_collector.specs.Private as collectors
 use Rattle.rec_collector.specs.declared.phase.Phase.TheVariants.{Idle}
 use Rattle.rec_collector.proofs.Opening.{opened_keeps}
+use Rattle.rec_collector.proofs.Batched.{none_released}
 use Rattle.rec_core.specs.Config.{IsConfig, IsMutator}
 use Rattle.rec_core.specs.Core.{Core, spare_of, opened, nobody, opened_mutator, opened_mutators}
 use Rattle.rec_core.specs.Kept.{IsOwn, IsBufferOf, IsMadeIn, IsActor, HasCollector, IsScanning, IsKept}
@@ -126,7 +127,7 @@ collector_opened config is =
       newer = λ t there. subst (IsBufferOf config (config.first_epoch - 1)) (sym (get_or-replicate config.mutators (t - 1) (spare_of config) (collectors.blank 0 0) (place_there config t there))) (spare_buffer config (config.first_epoch - 1));
       older = λ t there. subst (IsBufferOf config (config.first_epoch - 1)) (sym (get_or-replicate config.mutators (t - 1) (first_snapshot config) (collectors.blank 0 0) (place_there config t there))) (first_buffer config (config.first_epoch - 1) is);
       listed = λ x more. absurd (omega (arith, more, times-nil x));
-      emptied = λ x f below within released. absurd (false≢true (sym (machine.now.0.none x (omega (arith, slots))) ∙ released));
+      emptied = λ x f below within released. absurd (false≢true (sym (none_released machine.now.0 x (omega (arith, slots))) ∙ released));
     }
 
 -- sums over the buffers of the opened heap: only the older ones add anything

@@ -19,6 +19,7 @@ use Rattle.rec_model.proofs.Members.{is_in-left, is_in-right, is_in-head, is_in-
 use Rattle.rec_apply.specs.Targets.{named}
 use Rattle.rec_apply.proofs.Naming.{named-nil, named-cons}
 use Rattle.rec_collector.specs.declared.phase.Phase.TheVariants.{Idle}
+use Rattle.rec_collector.proofs.Batched.{none_released}
 use Rattle.rec_core.specs.Core.{Core, sight}
 use Rattle.rec_core.specs.Kept.{IsKept}
 use Rattle.rec_core.specs.Resting.{IsHeldIn, AreCounted, AreWithinReach}
@@ -104,7 +105,7 @@ settled w kept idle within counted = record {
         let slots : length w.collector.counts.slots ≡ w.config.slots = kept.collector.slots in
         let headers : length w.headers ≡ w.config.slots = kept.headers in
         let now = now_at w Idle kept idle in
-        let unreleased : (slot_at w.collector.counts x).released ≡ false = now.0.none x (omega (arith, below, slots)) in
+        let unreleased : (slot_at w.collector.counts x).released ≡ false = none_released now.0 x (omega (arith, below, slots)) in
         elim (reached_or_not (roots (sight w).registers) (targets_of (sight w)) w.config.slots (λ n from. taken_slot w kept n (reached_is_taken (sight w) kept.sound n from)) x) [
           | inl from ↦ from
           | inr not_so ↦ absurd (within x unreleased (λ held. elim (held_reached w kept x held) [

@@ -97,7 +97,7 @@ module _ (w : Core) (t : ℕ) (kept : IsKept w) (phase : w.collector.phase ≡ R
 
   clear : IsClearing (batched c)
   clear =
-      let before : IsClearing (parts_of c) = resting_clear (parts_of c) rest.untried rest.idle rest.unprepared rest.apart rest.none rest.counted rest.outside rest.zeros rest.free rest.work rest.still rest.unfreed in
+      let before : IsClearing (parts_of c) = resting_clear (parts_of c) rest in
       batched_clear (parts_of c) c.newer c.older (falls w t kept phase last) rest.still rest.unfreed before
 
   -- The batch is applied. No zeros are left of it, as the counts come to what fields and registers name.

@@ -1,11 +1,12 @@
-use Rattle.std.proofs.Common.{◌≡◌, ◌≢◌, length, refl, ap, sym, ◌∙◌}
+use Rattle.std.proofs.Common.{◌≡◌, ◌≢◌, length, ap, sym, ◌∙◌}
+use Rattle.rec_collector.specs.Given.{IsGivenAt}
 use Rattle.rec_collector.specs.Inside.{private}
-use Rattle.rec_collector.specs.Private.{Private}
+use Rattle.rec_collector.specs.Private.{Private, parts_of}
 use Rattle.rec_collector.specs.Took.{took_at, turn_at}
 use Rattle.rec_collector.specs.declared.phase.Phase.TheVariants.{Returning}
-use Rattle.rec_collector.proofs.Following.{rest_clears}
+use Rattle.rec_collector.proofs.Batched.{resting_clear}
 use Rattle.rec_collector.proofs.Landing.{now_at}
-use Rattle.rec_collector.proofs.Turning.{batch_follows, return_turns, returned_answer, returned_last, returned_moved, returned_next, turned, turned_keeps}
+use Rattle.rec_collector.proofs.Turning.{batch_follows, returned_answer, returned_last, returned_moved, returned_next, turned, turned_keeps}
 use Rattle.rec_collector.proofs.machine.Machine.took_return.Goals as goal
 
 pub returns-then-from-len-clause-took : goal.returns-then-from-len-clause-took
@@ -23,20 +24,20 @@ returns-then-from-len-clause-turn c =
 pub apply_batch-self-inside-requires-clause-clearing : goal.apply_batch-self-inside-requires-clause-clearing
 apply_batch-self-inside-requires-clause-clearing c =
     let p : Private = private c.self.inside in
-    rest_clears p (now_at p (Returning c.args.mutator) c.self.invariant (ap (λ (q : Private). q.phase) c.self.view_is ∙ c.requires.phase)).rest
+    resting_clear (parts_of p) (now_at p (Returning c.args.mutator) c.self.invariant (ap (λ (q : Private). q.phase) c.self.view_is ∙ c.requires.phase)).rest
 
 pub invariant_of-self-2 : goal.invariant_of-self-2
+unfolding IsGivenAt
 invariant_of-self-2 c =
-    let p : Private = private c.self.inside in
     let last : c.args.mutator ≡ length c.self.inside.newer.items = sym c.from.ensures ∙ c.if-from-len.false ∙ c.len.ensures ∙ c.self.inside.newer.ok.0 in
-    turned_keeps p _ _ (Returning c.args.mutator) c.self.invariant (ap (λ (q : Private). q.phase) c.self.view_is ∙ c.requires.phase) refl refl (batch_follows p _ _ _ c.apply_batch-self-inside.ensures c.deref.ensures.value c.deref-2.ensures.value)
-    (return_turns p c.args.self.now c.args.mutator c.self.invariant c.self.view_is c.requires.phase last c.requires.covered)
+    turned_keeps _ _ 0 (Returning c.args.mutator) _ c.self.invariant c.self.view_is c.requires.phase c.requires.covered last (batch_follows (private c.self.inside) _ _ _ c.apply_batch-self-inside.ensures c.deref.ensures.value c.deref-2.ensures.value)
 
 pub returns : goal.returns
+unfolding IsGivenAt
 returns c =
     let p : Private = private c.self.inside in
     let last : c.args.mutator ≡ length c.self.inside.newer.items = sym c.from.ensures ∙ c.if-from-len.false ∙ c.len.ensures ∙ c.self.inside.newer.ok.0 in
     let ends = c.end_if_nothing_is_free.ensures in
-    let t = turned p c.args.self.now 0 (Returning c.args.mutator) _ _ _ _ c.self.view_is (returned_last p c.args.mutator last) (returned_answer p c.args.mutator last) (batch_follows p _ _ _ c.apply_batch-self-inside.ensures c.deref.ensures.value c.deref-2.ensures.value)
-    (return_turns p c.args.self.now c.args.mutator c.self.invariant c.self.view_is c.requires.phase last c.requires.covered) ends.took ends.turn ends.same in
-    record { took = t.took; turn = t.turn; same = t.same; kept = ends.kept }
+    let t = turned p _ 0 (Returning c.args.mutator) _ c.self.invariant c.self.view_is c.requires.phase c.requires.covered last (batch_follows p _ _ _ c.apply_batch-self-inside.ensures c.deref.ensures.value c.deref-2.ensures.value) _ _
+    (returned_last p c.args.mutator last) (returned_answer p c.args.mutator last) ends.took ends.turn ends.same in
+    record { took = t.0; turn = t.1; same = t.2; kept = ends.kept }

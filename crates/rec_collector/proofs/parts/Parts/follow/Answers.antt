@@ -24,7 +24,7 @@ returns-then-is_some-2 c =
 pub start_trial-requires-clause-idle : goal.start_trial-requires-clause-idle
 start_trial-requires-clause-idle c =
     let kept : IsKeptCounts c.args.self.now.counts = subst (λ (v : Parts). IsKeptCounts v.counts) c.self.view_is c.rules.ensures in
-    (tested_still c.args.self.now c.test_sets.new.self c.test_sets.ensures kept c.requires.clearing c.requires.done c.requires.wide).idle
+    (tested_still c.args.self.now c.test_sets.new.self c.test_sets.ensures (record { wide = c.requires.wide; counts = kept; clearing = c.requires.clearing; done = c.requires.done })).clearing.idle
 
 pub start_trial-requires-clause-ready : goal.start_trial-requires-clause-ready
 start_trial-requires-clause-ready c =
@@ -32,13 +32,13 @@ start_trial-requires-clause-ready c =
     let kept : IsKeptCounts c.args.self.now.counts = subst (λ (v : Parts). IsKeptCounts v.counts) c.self.view_is c.rules.ensures in
     let e : is_some (frees.next_of w.freeing) ≡ false = ap (λ (v : Parts). is_some (frees.next_of v.freeing)) (sym c.self-2.view_is) ∙ sym (ap (λ (o : Option Op). is_some o) c.next.ensures.next) ∙ sym c.is_some.ensures ∙ c.if-is_some.false in
     let b : is_some (releases.next_of w.release) ≡ false = ap (λ (v : Parts). is_some (releases.next_of v.release)) (sym c.self-2.view_is) ∙ sym (ap (λ (o : Option Op). is_some o) c.next-2.ensures.next) ∙ sym c.is_some-2.ensures ∙ c.if-is_some-2.false in
-    tested_ready c.args.self.now w c.test_sets.ensures kept c.requires.clearing c.requires.done c.requires.wide
+    tested_ready c.args.self.now w c.test_sets.ensures (record { wide = c.requires.wide; counts = kept; clearing = c.requires.clearing; done = c.requires.done })
     (none_of w.release.at (sym (release_next w.release) ∙ b)) (none_of w.freeing.at (sym (freeing_next w.freeing) ∙ e))
 
 pub after_trial-requires : goal.after_trial-requires
 after_trial-requires c =
     let kept : IsKeptCounts c.args.self.now.counts = subst (λ (v : Parts). IsKeptCounts v.counts) c.self.view_is c.rules.ensures in
-    ap (λ (v : Parts). v.prep.at) c.start_trial.ensures ∙ (tested_still c.args.self.now c.test_sets.new.self c.test_sets.ensures kept c.requires.clearing c.requires.done c.requires.wide).unprepared
+    ap (λ (v : Parts). v.prep.at) c.start_trial.ensures ∙ (tested_still c.args.self.now c.test_sets.new.self c.test_sets.ensures (record { wide = c.requires.wide; counts = kept; clearing = c.requires.clearing; done = c.requires.done })).clearing.unprepared
 
 pub returns : goal.returns
 returns c =

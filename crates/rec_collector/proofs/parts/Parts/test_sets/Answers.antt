@@ -7,14 +7,8 @@ use Rattle.rec_collector.proofs.parts.Parts.test_sets.Goals as goal
 
 pub loop-self-init : goal.loop-self-init
 loop-self-init c =
-    record {
-      clearing = c.requires.clearing;
-      done = c.requires.done;
-      told = c.requires.told;
-      wide = c.requires.wide;
-      counts = subst (λ (w : Parts). IsKeptCounts w.counts) c.self.view_is c.rules.ensures;
-      same = refl;
-    }
+    let counts : IsKeptCounts c.args.self.now.counts = subst (λ (w : Parts). IsKeptCounts w.counts) c.self.view_is c.rules.ensures in
+    record { stays = record { wide = c.requires.wide; counts = counts; clearing = c.requires.clearing; done = c.requires.done }; told = c.requires.told; same = refl }
 
 pub test_last-requires-clause-clearing : goal.test_last-requires-clause-clearing
 test_last-requires-clause-clearing c = c.loop-self.invariant.clearing
