@@ -73,14 +73,6 @@ collected_counted : (s : State) (t : Option ℕ) → CanCollect s → 0 < length
 collected_counted s None c some l k = k
 collected_counted s (Some x) c some l k = joined_counted s x (is_white (slot_at s x).colour) l some (unbuffered_white s k c x) k
 
--- the next marked slot is scanned
-rest_gray : (v : Slot) → has_rest v ≡ true → is_gray v.colour ≡ true
-rest_gray v e = go (is_gray v.colour) refl e
-  where
-    go : (b : Bool) → is_gray v.colour ≡ b → cond b (ltb 0 v.cyclic) false ≡ true → b ≡ true
-    go true g e = refl
-    go false g e = e
-
 -- whitening changes colours alone
 whitened_same : {A : Type 0} (f : Slot → A) → ((v : Slot) → f (record v { colour = White }) ≡ f v) → (s : State) (x : ℕ) → f (slot_at (all_whitened s) x) ≡ f (slot_at s x)
 whitened_same f h s x = ap f (get_or-map whitened s.slots x absent) ∙ go (is_gray (slot_at s x).colour)
@@ -109,7 +101,7 @@ moved_counted {w} (root_freed x xs e o) c k =
 moved_counted {w} (root_marked x xs e o q) c k = touched_counted (without_root (x ∷ xs) w.counts) x false (root_range w.counts k (x ∷ xs) e x refl) (λ _. unmarked w.counts c x (ap is_gray q)) (keep_pop_root k x xs _ e refl refl)
 moved_counted (root_passed x xs e o q) c k = keep_pop_root k x xs _ e refl refl
 moved_counted (scan_passes l h) c k = k
-moved_counted {w} (scan_blackens l h) c k = blackened_counted w.counts (tried_slot w) true (marked_in_range w.counts k w.machine.tried l) (λ _. unworked w.counts c (tried_slot w) (rest_gray (slot_at w.counts (tried_slot w)) h)) k
+moved_counted {w} (scan_blackens l g n) c k = blackened_counted w.counts (tried_slot w) true (marked_in_range w.counts k w.machine.tried l) (λ _. unworked w.counts c (tried_slot w) g) k
 moved_counted {w} (collect_begins l) c k = whitened_counted w.counts k
 moved_counted (set_passes l h) c k = k
 moved_counted {w} (set_begins l h) c k =

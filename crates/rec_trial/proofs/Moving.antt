@@ -1,11 +1,12 @@
 -- What one move without a load does, case by case.
-use Rattle.std.proofs.Common.{◌≡◌, ℕ, ◌+◌, ◌<◌, ◌≤◌, Bool, true, false, ltb, List, [], ◌∷◌, ◌++◌, length, get_or, refl, sym}
+use Rattle.std.proofs.Common.{◌≡◌, ℕ, ◌+◌, ◌<◌, ◌≤◌, Bool, true, false, ltb, List, [], ◌∷◌, ◌++◌, length, get_or, refl, sym, arith}
 use Rattle.std.proofs.lemmas.Bool.{false≢true}
+use Rattle.std.proofs.lemmas.Bool.Decides.{nat_tests}
 use Rattle.rec_counts.specs.declared.colour.Colour.{Colour}
 use Rattle.rec_counts.specs.declared.colour.Colour.TheVariants.{Purple}
 use Rattle.rec_counts.specs.declared.slot.Slot.{Slot}
 use Rattle.rec_counts.specs.Counts.{State, slot_at, without_root}
-use Rattle.rec_counts.specs.Colour.{is_purple, is_white}
+use Rattle.rec_counts.specs.Colour.{is_gray, is_purple, is_white}
 use Rattle.rec_counts.proofs.Keeping.{field_kept}
 use Rattle.rec_trial.specs.declared.phase.Phase.{Phase}
 use Rattle.rec_trial.specs.declared.phase.Phase.TheVariants.{Idle, Marking, Scanning, Collecting}
@@ -28,8 +29,8 @@ pub data Moved (w : Work) : Phase → Work → Type 0 where
   root_freed : (x : ℕ) (xs : List ℕ) → w.counts.roots ≡ x ∷ xs → (slot_at w.counts x).released ≡ true → Moved w Marking (record { machine = record w.machine { phase = Marking }; counts = record (without_root (x ∷ xs) w.counts) { free = w.counts.free ++ x ∷ [] } })
   root_marked : (x : ℕ) (xs : List ℕ) → w.counts.roots ≡ x ∷ xs → (slot_at w.counts x).released ≡ false → (slot_at w.counts x).colour ≡ Purple → Moved w Marking (record { machine = record w.machine { phase = Marking }; counts = touched_if false (without_root (x ∷ xs) w.counts) x })
   root_passed : (x : ℕ) (xs : List ℕ) → w.counts.roots ≡ x ∷ xs → (slot_at w.counts x).released ≡ false → is_purple (slot_at w.counts x).colour ≡ false → Moved w Marking (record { machine = record w.machine { phase = Marking }; counts = without_root (x ∷ xs) w.counts })
-  scan_passes : w.machine.tried < length w.counts.marked → has_rest (slot_at w.counts (tried_slot w)) ≡ false → Moved w Scanning (record { machine = next_try Scanning w.machine; counts = w.counts })
-  scan_blackens : w.machine.tried < length w.counts.marked → has_rest (slot_at w.counts (tried_slot w)) ≡ true → Moved w Scanning (record { machine = next_try Scanning w.machine; counts = blackened_if true w.counts (tried_slot w) })
+  scan_passes : w.machine.tried < length w.counts.marked → (is_gray (slot_at w.counts (tried_slot w)).colour ≡ true → (slot_at w.counts (tried_slot w)).cyclic ≡ 0) → Moved w Scanning (record { machine = next_try Scanning w.machine; counts = w.counts })
+  scan_blackens : w.machine.tried < length w.counts.marked → is_gray (slot_at w.counts (tried_slot w)).colour ≡ true → 0 < (slot_at w.counts (tried_slot w)).cyclic → Moved w Scanning (record { machine = next_try Scanning w.machine; counts = blackened_if true w.counts (tried_slot w) })
   collect_begins : length w.counts.marked ≤ w.machine.tried → Moved w Scanning (record { machine = begun_at Collecting w.machine.fields; counts = all_whitened w.counts })
   set_passes : w.machine.tried < length w.counts.marked → is_white (slot_at w.counts (tried_slot w)).colour ≡ false → Moved w Collecting (record { machine = next_try Collecting w.machine; counts = w.counts })
   set_begins : w.machine.tried < length w.counts.marked → is_white (slot_at w.counts (tried_slot w)).colour ≡ true → Moved w Collecting (record { machine = record (next_try Collecting w.machine) { done = 0 }; counts = joined_if true (with_new_set w.counts) (tried_slot w) })
@@ -52,9 +53,18 @@ module _ (w : Work) where
   scan_moves false e = collect_begins (ltb_no w.machine.tried (length w.counts.marked) e)
   scan_moves true e = go (has_rest (slot_at w.counts (tried_slot w))) refl
     where
+      was_gray : (v : Slot) → has_rest v ≡ true → is_gray v.colour ≡ true
+      was_gray v h = grind (arith, nat_tests)
+
+      is_warm : (v : Slot) → has_rest v ≡ true → 0 < v.cyclic
+      is_warm v h = grind (arith, nat_tests)
+
+      no_rest : (v : Slot) → has_rest v ≡ false → is_gray v.colour ≡ true → v.cyclic ≡ 0
+      no_rest v h g = grind (arith, nat_tests)
+
       go : (b : Bool) → has_rest (slot_at w.counts (tried_slot w)) ≡ b → Moved w Scanning (record { machine = next_try Scanning w.machine; counts = blackened_if b w.counts (tried_slot w) })
-      go true h = scan_blackens (ltb_yes w.machine.tried (length w.counts.marked) e) h
-      go false h = scan_passes (ltb_yes w.machine.tried (length w.counts.marked) e) h
+      go true h = scan_blackens (ltb_yes w.machine.tried (length w.counts.marked) e) (was_gray (slot_at w.counts (tried_slot w)) h) (is_warm (slot_at w.counts (tried_slot w)) h)
+      go false h = scan_passes (ltb_yes w.machine.tried (length w.counts.marked) e) (no_rest (slot_at w.counts (tried_slot w)) h)
 
   collect_moves : (more : Bool) → ltb w.machine.tried (length w.counts.marked) ≡ more → Moved w Collecting (collect_moved more w)
   collect_moves false e = ends (ltb_no w.machine.tried (length w.counts.marked) e)
