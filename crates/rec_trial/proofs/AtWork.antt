@@ -47,9 +47,9 @@ pub told_place : {fields : ℕ} {before : State} (r : Run) → Told fields befor
 told_place {fields} {before} r t place h =
     let p : Phase = r.work.machine.phase in
     let k = named_place r.work.machine p place refl h in
-    let d = due_within (first_view fields before) (view r.work) (seen_in r) p k.0 t.course.inv (sym (due_seen r.work p refl) ∙ t.due) in
+    let d = due_within (first_view fields before) (view r.work) (seen_in r) p k.0 t.course.inv (sym (due_seen r.work p) ∙ t.due) in
     let x : ℕ = get_or (queue_at p (view r.work)) (view r.work).at 0 in
-    let slot : r.work.machine.slot < length r.work.counts.slots = subst (λ n. n < length r.work.counts.slots) (sym (t.node ∙ node_seen r.work p refl)) (alive_range r.work.counts x (d.1 x) d.0) in
+    let slot : r.work.machine.slot < length r.work.counts.slots = subst (λ n. n < length r.work.counts.slots) (sym (t.node ∙ node_seen r.work p)) (alive_range r.work.counts x (d.1 x) d.0) in
     rw k.1 (place_within (length r.work.counts.slots) r.work.machine.fields r.work.machine.slot r.work.machine.field slot d.2)
 
 pub at_work_place : (m : Machine) (s : State) → IsAtWork m s → NamesPlace (length s.slots) m

@@ -128,14 +128,15 @@ pub marked_in_range : (s : State) → IsKept s → (i : ℕ) → i < length s.ma
 marked_in_range s k i l = in_range_once (length s.slots) s.marked (get_or s.marked i 0) k.marked_once (times_at s.marked i l)
 
 -- so is the first root
+first_is : (x y : ℕ) → Some x ≡ Some y → x ≡ y
+first_is x y h = cc
+
+pub first_there : (s : State) (x : ℕ) (xs : List ℕ) → s.roots ≡ x ∷ xs → 0 < in_counts.times x s.roots
+first_there s x xs e = rw e (omega (arith, times-cons x x xs, one-same x))
+
 pub root_range : (s : State) → IsKept s → (rs : List ℕ) → s.roots ≡ rs → (x : ℕ) → Some x ≡ slice_get rs 0 → x < length (without_root rs s).slots
 root_range s k [] e x h = cc
-root_range s k (y ∷ ys) e x h =
-    let q : x ≡ y = first_is x y h in
-    omega (arith, q, first_root_in_range k y ys e, length-set s.slots y (record (slot_at s y) { buffered = false }))
-  where
-    first_is : (x y : ℕ) → Some x ≡ Some y → x ≡ y
-    first_is x y h = cc
+root_range s k (y ∷ ys) e x h = omega (arith, first_is x y h, first_root_in_range k y ys e, length-set s.slots y (record (slot_at s y) { buffered = false }))
 
 pub whiten_range : (i : ℕ) (now then : State) → IsKept then → Whitening i now then → i < length then.marked → get_or then.marked i 0 < length now.slots
 whiten_range i now then k w l = omega (arith, marked_in_range then k i l, w.many)
@@ -144,10 +145,5 @@ whiten_range i now then k w l = omega (arith, marked_in_range then k i l, w.many
 pub root_unlisted : (s : State) → CanMark s → (rs : List ℕ) → s.roots ≡ rs → (x : ℕ) → Some x ≡ slice_get rs 0 → (slot_at (without_root rs s) x).released ≡ true → in_counts.times x (without_root rs s).free ≡ 0
 root_unlisted s c [] e x h r = cc
 root_unlisted s c (y ∷ ys) e x h r =
-    let q : x ≡ y = first_is x y h in
-    let same : (slot_at (without_root (y ∷ ys) s) x).released ≡ (slot_at s x).released = field_kept (λ (v : Slot). v.released) s.slots y (record (slot_at s y) { buffered = false }) refl x in
-    let here : 0 < in_counts.times x s.roots = rw (e, q) (omega (arith, times-cons y y ys, one-same y)) in
-    c.unlisted x here (sym same ∙ r)
-  where
-    first_is : (x y : ℕ) → Some x ≡ Some y → x ≡ y
-    first_is x y h = cc
+    let here : 0 < in_counts.times x s.roots = rw (first_is x y h) (first_there s y ys e) in
+    c.unlisted x here (sym (field_kept (λ (v : Slot). v.released) s.slots y (record (slot_at s y) { buffered = false }) refl x) ∙ r)

@@ -20,7 +20,8 @@ use Rattle.rec_trial.specs.Loaded.{IsAtWork, begins, learns}
 use Rattle.rec_trial.specs.Moves.{touched_if, marked_by, dropped_if, blackened_if, scanned_by, has_rest, whitened, whitened_if, all_whitened, joined_if, collected_by, with_new_set}
 use Rattle.rec_trial.specs.Rules.{CanMark, CanScan, CanCollect, IsReady, LeadsToUnreleased, RulesAt}
 use Rattle.rec_trial.specs.Trial.{Machine, Work, next_of, is_due_at, is_due, roots_moved, scan_moved, set_begun_if, collect_moved, moved_at, settled, learnt_at, opened_of, started_of, took_of, advanced}
-use Rattle.rec_trial.proofs.Conditions.{unbuffered_white, set_room, marked_in_range, root_range, root_unlisted}
+use Rattle.rec_trial.proofs.Conditions.{unbuffered_white, set_room, marked_in_range, root_range, first_there}
+use Rattle.rec_trial.proofs.Moving.{Moved, scan_begins, root_freed, root_marked, root_passed, scan_passes, scan_blackens, collect_begins, set_passes, set_begins, ends, tried_slot, moved}
 use Rattle.rec_trial.proofs.Midway.{Midway, at_work_due, at_work_midway, going_midway, moved_midway, rules_midway}
 use Rattle.rec_trial.proofs.Places.{ltb_yes}
 use Rattle.rec_trial.proofs.Settling.{settled_by}
@@ -72,33 +73,6 @@ collected_counted : (s : State) (t : Option ℕ) → CanCollect s → 0 < length
 collected_counted s None c some l k = k
 collected_counted s (Some x) c some l k = joined_counted s x (is_white (slot_at s x).colour) l some (unbuffered_white s k c x) k
 
--- a slot that left the root buffer
-dropped_counted : (s : State) (x : ℕ) (out : Bool) (c : Colour) → x < length s.slots → (out ≡ true → in_counts.times x s.free ≡ 0) → (c ≡ Purple → in_counts.times x s.marked ≡ 0) → IsKept s → IsKept (dropped_if out c s x)
-dropped_counted s x true c l new un k = relisted k k.marked_once k.work_once k.zeros_once (once_push _ s.free x k.free_once (new refl) l)
-dropped_counted s x false Purple l new un k = touched_counted s x false l (λ e. un refl) k
-dropped_counted s x false _ l new un k = k
-
-not_gray : (c : Colour) → c ≡ Purple → is_gray c ≡ false
-not_gray c e = ap is_gray e
-
-roots_counted : (w : Work) → CanMark w.counts → IsKept w.counts → (rs : List ℕ) → w.counts.roots ≡ rs → IsKept (roots_moved rs w).counts
-roots_counted w c k [] e = k
-roots_counted w c k (x ∷ xs) e =
-    let t : State = without_root (x ∷ xs) w.counts in
-    let v : Slot = record (slot_at w.counts x) { buffered = false } in
-    let colour : (slot_at t x).colour ≡ (slot_at w.counts x).colour = field_kept (λ (u : Slot). u.colour) w.counts.slots x v refl x in
-    dropped_counted t x (slot_at t x).released (slot_at t x).colour (root_range w.counts k (x ∷ xs) e x refl) (root_unlisted w.counts c (x ∷ xs) e x refl)
-    (λ p. unmarked w.counts c x (not_gray (slot_at w.counts x).colour (sym colour ∙ p)))
-    (keep_pop_root k x xs v e refl refl)
-
--- the next marked slot is scanned
-rest_gray : (v : Slot) → has_rest v ≡ true → is_gray v.colour ≡ true
-rest_gray v e = go (is_gray v.colour) refl e
-  where
-    go : (b : Bool) → is_gray v.colour ≡ b → cond b (ltb 0 v.cyclic) false ≡ true → b ≡ true
-    go true g e = refl
-    go false g e = e
-
 -- whitening changes colours alone
 whitened_same : {A : Type 0} (f : Slot → A) → ((v : Slot) → f (record v { colour = White }) ≡ f v) → (s : State) (x : ℕ) → f (slot_at (all_whitened s) x) ≡ f (slot_at s x)
 whitened_same f h s x = ap f (get_or-map whitened s.slots x absent) ∙ go (is_gray (slot_at s x).colour)
@@ -119,34 +93,26 @@ whitened_counted s k = record {
   few_slots = rw (length-map s.slots whitened) k.few_slots;
 }
 
-scan_counted : (w : Work) → CanScan w.counts → IsKept w.counts → (more : Bool) → ltb w.machine.tried (length w.counts.marked) ≡ more → IsKept (scan_moved more w).counts
-scan_counted w c k true e =
-    let x : ℕ = get_or w.counts.marked w.machine.tried 0 in
-    blackened_counted w.counts x (has_rest (slot_at w.counts x)) (marked_in_range w.counts k w.machine.tried (ltb_yes w.machine.tried (length w.counts.marked) e))
-    (λ r. unworked w.counts c x (rest_gray (slot_at w.counts x) r)) k
-scan_counted w c k false e = whitened_counted w.counts k
-
--- the next marked slot is collected
-set_counted : (w : Work) (x : ℕ) → CanCollect w.counts → x < length w.counts.slots → IsKept w.counts → (b : Bool) → is_white (slot_at w.counts x).colour ≡ b → IsKept (set_begun_if b w x).counts
-set_counted w x c l k false e = k
-set_counted w x c l k true e =
-    joined_counted (with_new_set w.counts) x true l (omega (arith, length-append w.counts.sets ([] ∷ []))) (λ q. unbuffered_white w.counts k c x e) (keep_begin k (set_room w.counts k c x l e))
-
-collect_counted : (w : Work) → CanCollect w.counts → IsKept w.counts → (more : Bool) → ltb w.machine.tried (length w.counts.marked) ≡ more → IsKept (collect_moved more w).counts
-collect_counted w c k true e =
-    let x : ℕ = get_or w.counts.marked w.machine.tried 0 in
-    set_counted w x c (marked_in_range w.counts k w.machine.tried (ltb_yes w.machine.tried (length w.counts.marked) e)) k (is_white (slot_at w.counts x).colour) refl
-collect_counted w c k false e = relisted k (once_none _) (once_none _) k.zeros_once k.free_once
-
-moved_counted_at : (p : Phase) (w : Work) → RulesAt p w.counts → IsKept w.counts → IsKept (moved_at p w).counts
-moved_counted_at Idle w r k = k
-moved_counted_at Marking w r k = roots_counted w r k w.counts.roots refl
-moved_counted_at Scanning w r k = scan_counted w r k (ltb w.machine.tried (length w.counts.marked)) refl
-moved_counted_at Collecting w r k = collect_counted w r k (ltb w.machine.tried (length w.counts.marked)) refl
+moved_counted : {w v : Work} {p : Phase} → Moved w p v → RulesAt p w.counts → IsKept w.counts → IsKept v.counts
+moved_counted (scan_begins e) c k = k
+moved_counted {w} (root_freed x xs e o) c k =
+    let kept = keep_pop_root k x xs _ e refl refl in
+    relisted kept kept.marked_once kept.work_once kept.zeros_once (once_push _ w.counts.free x kept.free_once (c.unlisted x (first_there w.counts x xs e) o) (root_range w.counts k (x ∷ xs) e x refl))
+moved_counted {w} (root_marked x xs e o q) c k = touched_counted (without_root (x ∷ xs) w.counts) x false (root_range w.counts k (x ∷ xs) e x refl) (λ _. unmarked w.counts c x (ap is_gray q)) (keep_pop_root k x xs _ e refl refl)
+moved_counted (root_passed x xs e o q) c k = keep_pop_root k x xs _ e refl refl
+moved_counted (scan_passes l h) c k = k
+moved_counted {w} (scan_blackens l g n) c k = blackened_counted w.counts (tried_slot w) true (marked_in_range w.counts k w.machine.tried l) (λ _. unworked w.counts c (tried_slot w) g) k
+moved_counted {w} (collect_begins l) c k = whitened_counted w.counts k
+moved_counted (set_passes l h) c k = k
+moved_counted {w} (set_begins l h) c k =
+    let x : ℕ = tried_slot w in
+    let range : x < length w.counts.slots = marked_in_range w.counts k w.machine.tried l in
+    joined_counted (with_new_set w.counts) x true range (omega (arith, length-append w.counts.sets ([] ∷ []))) (λ _. unbuffered_white w.counts k c x h) (keep_begin k (set_room w.counts k c x range h))
+moved_counted (ends l) c k = relisted k (once_none _) (once_none _) k.zeros_once k.free_once
 
 -- so after the moves up to the next load
 settled_counted : (w : Work) → Midway w → IsKept w.counts → IsKept (settled w).counts
-settled_counted w m k = (settled_by (λ v. Midway v × IsKept v.counts) (λ v h d. (moved_midway v h.0 d, moved_counted_at v.machine.phase v (rules_midway v h.0) h.1)) w (m, k)).1
+settled_counted w m k = (settled_by (λ v. Midway v × IsKept v.counts) (λ v h d. (moved_midway v h.0 d, moved_counted (moved v v.machine.phase d) (rules_midway v h.0) h.1)) w (m, k)).1
 
 -- after its start
 pub started_counted : (fields : ℕ) (s : State) → 0 < fields → IsKept s → IsReady s → IsKept (started_of fields s).counts

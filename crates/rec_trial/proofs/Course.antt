@@ -1,25 +1,29 @@
 -- The course of a trial over the counts: what holds of it by functions, and of the lists beside.
-use Rattle.std.proofs.Common.{◌≡◌, ℕ, ◌+◌, ◌<◌, ◌≤◌, Bool, true, false, ltb, List, [], ◌∷◌, length, get_or, refl, sym, ap, subst, ◌∙◌, arith}
+use Rattle.std.proofs.Common.{◌≡◌, ℕ, zero, suc, ◌+◌, ◌<◌, ◌≤◌, Bool, true, false, ltb, List, [], ◌∷◌, length, get_or, refl, sym, ap, subst, ◌∙◌, arith, add-one}
 use Rattle.std.specs.List.{concat}
-use Rattle.std.proofs.lemmas.List.{length-append}
+use Rattle.std.proofs.lemmas.List.{length-append, length-set}
 use Rattle.std.proofs.lemmas.Bool.{false≢true}
 use Rattle.std.proofs.lemmas.Bool.Decides.{nat_tests}
-use Rattle.rec_counts.specs.Counts.{State, slot_at}
+use Rattle.rec_counts.specs.Counts.{State, slot_at, without_root}
+use Rattle.rec_counts.specs.Colour.{is_purple}
 use Rattle.rec_counts.specs.Groups.{last_set, earlier_sets}
 use Rattle.rec_counts.proofs.Keeping.{unreleased_within}
 use Rattle.rec_trial.specs.declared.phase.Phase.{Phase}
 use Rattle.rec_trial.specs.declared.phase.Phase.TheVariants.{Idle, Marking, Scanning, Collecting}
-use Rattle.rec_trial.specs.Trial.{Work, is_due_at, is_due, moved_at, opened_of}
+use Rattle.rec_trial.specs.Moves.{touched_if, all_whitened, joined_if, with_new_set}
+use Rattle.rec_trial.specs.Trial.{Machine, Work, begun_at, is_due_at, is_due, moved_at, opened_of}
+use Rattle.rec_trial.proofs.Totals.{times, times_here}
 use Rattle.rec_trial.proofs.Deletion.{Deletion, Loads, due_at}
 use Rattle.rec_trial.proofs.Deletion as plain
-use Rattle.rec_trial.proofs.Holding.{inv_at, Inv, Same}
-use Rattle.rec_trial.proofs.Turns.{one_kept}
+use Rattle.rec_trial.proofs.Holding.{WhileMarking, WhileScanning, WhileCollecting, Seed, inv_at, Inv, Same}
+use Rattle.rec_trial.proofs.Marks.{times_push}
+use Rattle.rec_trial.proofs.Moving.{Moved, scan_begins, root_freed, root_marked, root_passed, scan_passes, scan_blackens, collect_begins, set_passes, set_begins, ends, next_try, tried_slot, moved}
+use Rattle.rec_trial.proofs.Orders.{ordered_begin}
+use Rattle.rec_trial.proofs.Turns.{dropped, seeded, scan_begun, blackened, scan_tried, find_begun, joined, find_tried}
 use Rattle.rec_trial.proofs.Done.{walked_at}
-use Rattle.rec_trial.proofs.Totals.{times, times_here}
-use Rattle.rec_trial.proofs.Places.{ltb_yes, ltb_no}
-use Rattle.rec_trial.proofs.Rest.{Rest, rest_roots, rest_scan, rest_collect}
-use Rattle.rec_trial.proofs.Steps.{view_roots, view_scan, view_collect}
-use Rattle.rec_trial.proofs.Views.{at_of, earlier, view_of, view, view_rootless, concat_last}
+use Rattle.rec_trial.proofs.Places.{ltb_no}
+use Rattle.rec_trial.proofs.Rest.{Rest, moved_rest}
+use Rattle.rec_trial.proofs.Views.{at_of, earlier, view_of, view, view_touched, view_blackened, view_joined, view_whitened, view_rootless, concat_last, concat_new, earlier_new}
 
 -- the trial as it began
 abbrev pub first_view : (fields : ℕ) → State → Deletion
@@ -34,6 +38,10 @@ pub record Course (fields : ℕ) (before : State) (w : Work) (ls : Loads) : Type
 pub course_of : {fields : ℕ} {before : State} (w : Work) {ls : Loads} → Inv (first_view fields before) (view w) ls → Rest before w.machine.phase w.counts → Course fields before w ls
 course_of {fields} {before} w {ls} i r = record { inv = i; same = (walked_at w.machine.phase (first_view fields before) (view w) ls i).kept; rest = r }
 
+-- the trial in this phase
+abbrev pub at_phase : Phase → Work → Work
+at_phase p w = record w { machine = record (w.machine) { phase = p } }
+
 -- a load is due where it is seen to be due
 shifted : (e a b : ℕ) → ltb (e + a) (e + b) ≡ ltb a b
 shifted e a b = grind (arith, nat_tests)
@@ -41,14 +49,11 @@ shifted e a b = grind (arith, nat_tests)
 members_are : (s : State) → length (concat s.sets) ≡ earlier s + length (last_set s.sets)
 members_are s = ap length (concat_last s.sets) ∙ length-append (concat (earlier_sets s.sets)) (last_set s.sets)
 
-pub due_seen : (w : Work) (p : Phase) → w.machine.phase ≡ p → is_due_at p w.machine.done w.counts ≡ due_at p (view w)
-due_seen w Idle e = refl
-due_seen w Marking e = λ i. ltb (at_of (sym e i) w.machine.done (earlier w.counts)) (length w.counts.marked)
-due_seen w Scanning e = λ i. ltb (at_of (sym e i) w.machine.done (earlier w.counts)) (length w.counts.work)
-due_seen w Collecting e =
+pub due_seen : (w : Work) (p : Phase) → is_due_at p w.machine.done w.counts ≡ due_at p (view (at_phase p w))
+due_seen w Collecting =
     sym (shifted (earlier w.counts) w.machine.done (length (last_set w.counts.sets)))
     ∙ ap (λ n. ltb (earlier w.counts + w.machine.done) n) (sym (members_are w.counts))
-    ∙ (λ i. ltb (at_of (sym e i) w.machine.done (earlier w.counts)) (length (concat w.counts.sets)))
+due_seen w _ = refl
 
 -- what is marked is in range
 pub alive_range : (s : State) (x : ℕ) → ((slot_at s x).released ≡ true → times x s.marked ≡ 0) → 0 < times x s.marked → x < length s.slots
@@ -58,43 +63,84 @@ alive_range s x h l = go (slot_at s x).released refl
     go true e = absurd (omega (arith, h e, l))
     go false e = unreleased_within s x e
 
-tried_range : (s : State) (k : ℕ) → ((x : ℕ) → (slot_at s x).released ≡ true → times x s.marked ≡ 0) → ltb k (length s.marked) ≡ true → get_or s.marked k 0 < length s.slots
-tried_range s k h e = alive_range s (get_or s.marked k 0) (h (get_or s.marked k 0)) (times_here s.marked k (ltb_yes k (length s.marked) e))
+tried_range : (s : State) (k : ℕ) → ((x : ℕ) → (slot_at s x).released ≡ true → times x s.marked ≡ 0) → k < length s.marked → get_or s.marked k 0 < length s.slots
+tried_range s k h l = alive_range s (get_or s.marked k 0) (h (get_or s.marked k 0)) (times_here s.marked k l)
 
 no_sets : (sets : List (List ℕ)) → length sets ≤ length (concat sets) → concat sets ≡ [] → sets ≡ []
 no_sets [] h e = refl
 no_sets (xs ∷ sets) h e = absurd (omega (arith, ap length e))
 
--- a move keeps all this
+-- a move keeps what holds
+module _ (o : Deletion) (w : Work) (ls : Loads) where
+  -- what is seen of the trial in this phase, with another number of slots that it looked at
+  abbrev seen_at : Phase → ℕ → Deletion
+  seen_at p n = record (view (at_phase p w)) { tried = n }
+
+  moved_kept : {before : State} {v : Work} {p : Phase} → Moved w p v → Rest before p w.counts → is_due_at p w.machine.done w.counts ≡ false → inv_at p o (view (at_phase p w)) ls → Inv o (view v) ls
+  moved_kept (scan_begins e) r d i = scan_begun o (view (at_phase Marking w)) ls i (ltb_no w.machine.done (length w.counts.marked) d) e
+  moved_kept (root_freed x xs e out) r d i =
+      subst (λ s. WhileMarking o s ls) (sym (view_rootless (at_phase Marking w).machine w.counts x xs))
+      (dropped o (view (at_phase Marking w)) ls i x xs e (λ q. absurd (false≢true (sym q.live ∙ sym (ap (λ (f : ℕ → Bool). f x) i.kept.released) ∙ out))))
+  moved_kept (root_marked x xs e live k) r d i =
+      let m : Machine = (at_phase Marking w).machine in
+      let l : x < length w.counts.slots = unreleased_within w.counts x live in
+      let q : view_of m (touched_if false (without_root (x ∷ xs) w.counts) x) ≡ record (plain.touch_if false (view (at_phase Marking w)) x) { roots = xs } = view_touched m (without_root (x ∷ xs) w.counts) x (omega (arith, l, length-set w.counts.slots x (record (slot_at w.counts x) { buffered = false }))) false ∙ ap (λ (s : Deletion). plain.touch_if false s x) (view_rootless m w.counts x xs) in
+      subst (λ s. WhileMarking o s ls) (sym q)
+      (dropped o (plain.touch_if false (view (at_phase Marking w)) x) ls (seeded o (view (at_phase Marking w)) ls i x (rw e (grind (arith, nat_tests))) k live) x xs e (λ q. grind (arith, nat_tests, times_push x x w.counts.marked)))
+  moved_kept (root_passed x xs e live k) r d i =
+      subst (λ s. WhileMarking o s ls) (sym (view_rootless (at_phase Marking w).machine w.counts x xs))
+      (dropped o (view (at_phase Marking w)) ls i x xs e (no_seed (times x w.counts.marked) (i.colours_old x)))
+    where
+      no_seed : (n : ℕ) → (n ≡ 0 → (slot_at w.counts x).colour ≡ o.colour x) → Seed o x → 0 < n
+      no_seed zero h q = absurd (false≢true (sym k ∙ ap is_purple (h refl ∙ q.is_purple)))
+      no_seed (suc n) h q = omega arith
+  moved_kept (scan_passes l h) r d i =
+      subst (λ n. WhileScanning o (seen_at Scanning n) ls) (sym (add-one w.machine.tried))
+      (scan_tried o (view (at_phase Scanning w)) ls i l h)
+  moved_kept (scan_blackens l g c) r d i =
+      let x : ℕ = tried_slot w in
+      subst (λ s. WhileScanning o s ls) (sym (view_blackened (next_try Scanning w.machine) w.counts x (tried_range w.counts w.machine.tried i.alive l) true))
+      (subst (λ n. WhileScanning o (plain.blacken_if true (seen_at Scanning n) x) ls) (sym (add-one w.machine.tried))
+      (scan_tried o (plain.blacken_if true (view (at_phase Scanning w)) x) ls (blackened o (view (at_phase Scanning w)) ls i x g c) l (λ q. grind (arith, nat_tests, q))))
+  moved_kept (collect_begins l) r d i =
+      let none : w.counts.sets ≡ [] = no_sets w.counts.sets r.few i.uncollected.nodes in
+      let a : at_of Collecting 0 (earlier (all_whitened w.counts)) ≡ 0 = rw none refl in
+      subst (λ s. WhileCollecting o s ls) (sym (view_whitened w.counts (begun_at Collecting w.machine.fields)))
+      (subst (λ n. WhileCollecting o (record (view (at_phase Scanning w)) { phase = Collecting; at = n; field = 0; tried = 0; colour = plain.whiten (view w).colour }) ls) (sym a)
+      (find_begun o (view (at_phase Scanning w)) ls i (ltb_no w.machine.done (length w.counts.work) d) (omega (arith, i.tries, l))))
+  moved_kept (set_passes l h) r d i =
+      subst (λ n. WhileCollecting o (seen_at Collecting n) ls) (sym (add-one w.machine.tried))
+      (find_tried o (view (at_phase Collecting w)) ls i l h)
+  moved_kept (set_begins l h) r d i =
+      let x : ℕ = tried_slot w in
+      let s : State = with_new_set w.counts in
+      let n : w.machine.tried + 1 ≡ suc w.machine.tried = add-one w.machine.tried in
+      let k : length s.sets ≡ suc (length w.counts.sets) = omega (arith, length-append w.counts.sets ([] ∷ [])) in
+      let c : concat s.sets ≡ concat w.counts.sets = concat_new w.counts.sets in
+      let full : earlier w.counts + w.machine.done ≡ length (concat w.counts.sets) = omega (arith, i.place.inside, members_are w.counts, ltb_no w.machine.done (length (last_set w.counts.sets)) d) in
+      let a : earlier s + 0 ≡ earlier w.counts + w.machine.done = omega (arith, full, ap (λ (ys : List (List ℕ)). length (concat ys)) (earlier_new w.counts.sets)) in
+      let q : view_of (record (next_try Collecting w.machine) { done = 0 }) (joined_if true s x) ≡ plain.join_if true (record (seen_at Collecting (suc w.machine.tried)) { sets = suc (length w.counts.sets) }) x = view_joined (record (next_try Collecting w.machine) { done = 0 }) s x (tried_range w.counts w.machine.tried i.alive l) (omega (arith, k)) true ∙ (λ j. plain.join_if true (record (view (at_phase Collecting w)) { tried = n j; at = a j; members = c j; sets = k j }) x) in
+      let order = ordered_begin (concat w.counts.sets) (view w).set_of (length w.counts.sets) (earlier w.counts + w.machine.done) ls.finds i.order full in
+      subst (λ s. WhileCollecting o s ls) (sym q)
+      (find_tried o (plain.join_if true (record (view (at_phase Collecting w)) { sets = suc (length w.counts.sets) }) x) ls (joined o (view (at_phase Collecting w)) ls i x h (suc (length w.counts.sets)) (omega arith) order) l (grind (arith, nat_tests)))
+  moved_kept (ends l) r d i = record {
+    marked = w.counts.marked;
+    work = w.counts.work;
+    end = record {
+      now = record { scanned = i.scanned; split = i.split; tested = i.tested; tries = i.tries; found = i.found; place = i.place; order = i.order };
+      all_found = omega (arith, i.place.inside, members_are w.counts, ltb_no w.machine.done (length (last_set w.counts.sets)) d);
+      all_tried = omega (arith, i.tries, l);
+    };
+    no_marked = refl;
+    no_work = refl;
+  }
+
+-- all of it
 module _ {fields : ℕ} {before : State} (w : Work) {ls : Loads} (c : Course fields before w ls) where
   pub released_same : (x : ℕ) → (slot_at w.counts x).released ≡ (slot_at before x).released
   released_same x = ap (λ (f : ℕ → Bool). f x) c.same.released
 
-  moved_by : (p : Phase) → w.machine.phase ≡ p → is_due_at p w.machine.done w.counts ≡ false → view (moved_at p w) ≡ plain.one_at p (view w) → Rest before (moved_at p w).machine.phase (moved_at p w).counts → Course fields before (moved_at p w) ls
-  moved_by p e d q r =
-      let i : inv_at p (first_view fields before) (view w) ls = subst (λ k. inv_at k (first_view fields before) (view w) ls) e c.inv in
-      let k : Inv (first_view fields before) (plain.one_at p (view w)) ls = one_kept (first_view fields before) (view w) ls p i (sym (due_seen w p e) ∙ d) in
-      course_of (moved_at p w) (subst (λ v. Inv (first_view fields before) v ls) (sym q) k) r
-
-  moved_course_at : (p : Phase) → w.machine.phase ≡ p → is_due_at p w.machine.done w.counts ≡ false → inv_at p (first_view fields before) (view w) ls → Rest before p w.counts → Course fields before (moved_at p w) ls
-  moved_course_at Idle e d i r = absurd (false≢true (sym d))
-  moved_course_at Marking e d i r =
-      moved_by Marking e d (view_roots w e w.counts.roots refl)
-      (rest_roots w w.counts.roots refl (λ x xs q. ap (λ (v : Deletion). v.released x) (view_rootless w.machine w.counts x xs) ∙ released_same x) r)
-  moved_course_at Scanning e d i r =
-      moved_by Scanning e d
-      (view_scan w e (no_sets w.counts.sets r.few i.uncollected.nodes) (ltb w.machine.tried (length w.counts.marked)) (λ t. tried_range w.counts w.machine.tried i.alive t))
-      (rest_scan w (ltb w.machine.tried (length w.counts.marked)) r)
-  moved_course_at Collecting e d i r =
-      moved_by Collecting e d
-      (view_collect w e (ltb w.machine.tried (length w.counts.marked)) (λ t. tried_range w.counts w.machine.tried i.alive t) full)
-      (rest_collect w (ltb w.machine.tried (length w.counts.marked)) r)
-    where
-      at_is : (view w).at ≡ earlier w.counts + w.machine.done
-      at_is = λ k. at_of (e k) w.machine.done (earlier w.counts)
-
-      full : earlier w.counts + w.machine.done ≡ length (concat w.counts.sets)
-      full = omega (arith, at_is, i.place.inside, members_are w.counts, ltb_no w.machine.done (length (last_set w.counts.sets)) d)
-
   pub moved_course : is_due w ≡ false → Course fields before (moved_at w.machine.phase w) ls
-  moved_course d = moved_course_at w.machine.phase refl d c.inv c.rest
+  moved_course d =
+      let m : Moved w w.machine.phase (moved_at w.machine.phase w) = moved w w.machine.phase d in
+      course_of (moved_at w.machine.phase w) (moved_kept (first_view fields before) w ls m c.rest d c.inv) (moved_rest m released_same c.rest)

@@ -97,50 +97,9 @@ next_field false field = 0
 abbrev pub advance : Phase → Deletion → Deletion
 advance p s = record s { phase = p; at = next_at (ltb (suc s.field) s.fields) s.at; field = next_field (ltb (suc s.field) s.fields) s.field }
 
--- what is done between two loads
-
-abbrev pub begin_scan : Deletion → Deletion
-begin_scan s = record s { phase = Scanning; at = 0; field = 0; tried = 0 }
-
-abbrev pub drop_root : Deletion → ℕ → List ℕ → Deletion
-drop_root s x xs = record s { phase = Marking; roots = xs }
-
-abbrev pub root_if : Bool → Colour → Deletion → ℕ → List ℕ → Deletion
-root_if true c s x xs = drop_root s x xs
-root_if false Purple s x xs = touch_if false (drop_root s x xs) x
-root_if false _ s x xs = drop_root s x xs
-
-abbrev pub one_root : List ℕ → Deletion → Deletion
-one_root [] s = begin_scan s
-one_root (x ∷ xs) s = root_if (s.released x) (s.colour x) s x xs
-
+-- every Gray node becomes White
 abbrev pub whiten : (ℕ → Colour) → ℕ → Colour
 whiten f x = cond (is_gray (f x)) White (f x)
-
-abbrev pub begin_collect : Deletion → Deletion
-begin_collect s = record s { phase = Collecting; at = 0; field = 0; tried = 0; colour = whiten s.colour }
-
--- a Gray node with a rest is blackened
-abbrev pub has_rest : Deletion → ℕ → Bool
-has_rest s x = cond (is_gray (s.colour x)) (ltb 0 (s.cyclic x)) false
-
-abbrev pub try_scan : Bool → Deletion → Deletion
-try_scan false s = begin_collect s
-try_scan true s = record (blacken_if (has_rest s (get_or s.marked s.tried 0)) s (get_or s.marked s.tried 0)) { phase = Scanning; tried = suc s.tried }
-
-abbrev pub begin_set_if : Bool → Deletion → ℕ → Deletion
-begin_set_if false s x = s
-begin_set_if true s x = join_if true (record s { sets = suc s.sets }) x
-
-abbrev pub try_collect : Bool → Deletion → Deletion
-try_collect false s = record s { phase = Idle; marked = []; work = [] }
-try_collect true s = record (begin_set_if (is_white (s.colour (get_or s.marked s.tried 0))) s (get_or s.marked s.tried 0)) { phase = Collecting; tried = suc s.tried }
-
-abbrev pub one_at : Phase → Deletion → Deletion
-one_at Idle s = s
-one_at Marking s = one_root s.roots s
-one_at Scanning s = try_scan (ltb s.tried (length s.marked)) s
-one_at Collecting s = try_collect (ltb s.tried (length s.marked)) s
 
 -- the words that a trial loaded in marking, in scanning and in collecting, the last one first
 pub record Loads : Type 0 where

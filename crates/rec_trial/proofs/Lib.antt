@@ -3,6 +3,7 @@ pub mod Done
 pub mod Holding
 pub mod Keeps
 pub mod Marks
+pub mod Moving
 pub mod Orders
 pub mod Places
 pub mod Promised

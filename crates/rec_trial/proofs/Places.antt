@@ -41,9 +41,9 @@ placed_grow {fields} {xs} {at} {field} {ls} p ys = record {
     current φ = elim (dec_lt at (length xs)) [ yes h ↦ rw (get_grown xs ys at h) refl | no h ↦ let z : field ≡ 0 = p.rests (omega (arith, p.inside)) in rw z refl ]
 
 -- worked off to its end
-pub placed_all : {fields : ℕ} {xs : List ℕ} {at field : ℕ} {ls : List Seen} → Placed fields xs at field ls → ltb at (length xs) ≡ false → Placed fields xs (length xs) 0 ls
-placed_all {fields} {xs} {at} {field} p e =
-    let a : at ≡ length xs = omega (arith, p.inside, ltb_no at (length xs) e) in
+pub placed_all : {fields : ℕ} {xs : List ℕ} {at field : ℕ} {ls : List Seen} → Placed fields xs at field ls → length xs ≤ at → Placed fields xs (length xs) 0 ls
+placed_all {fields} {xs} {at} {field} p l =
+    let a : at ≡ length xs = omega (arith, p.inside, l) in
     let f : field ≡ 0 = p.rests a in
     rw a at (rw f at p)
 

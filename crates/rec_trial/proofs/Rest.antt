@@ -1,5 +1,5 @@
 -- What a trial leaves of the counts beside the slots: roots, sets, zeros and the free list.
-use Rattle.std.proofs.Common.{◌≡◌, ℕ, ◌-◌, ◌<◌, ◌≤◌, Bool, true, false, cond, Option, None, Some, List, [], ◌∷◌, ◌++◌, length, get_or, refl, sym, ap, ◌∙◌, arith, append_assoc}
+use Rattle.std.proofs.Common.{◌≡◌, ℕ, suc, ◌-◌, ◌<◌, ◌≤◌, Bool, true, false, cond, Option, None, Some, List, [], ◌∷◌, ◌++◌, length, get_or, refl, sym, ap, ◌∙◌, arith, append_assoc}
 use Rattle.std.specs.List.{concat}
 use Rattle.std.proofs.lemmas.List.{length-set, length-map, length-append}
 use Rattle.rec_counts.specs.declared.colour.Colour.{Colour}
@@ -11,7 +11,8 @@ use Rattle.rec_trial.specs.declared.phase.Phase.{Phase}
 use Rattle.rec_trial.specs.declared.phase.Phase.TheVariants.{Marking, Scanning, Collecting}
 use Rattle.rec_trial.specs.Moves.{touched_if, touched, one_off, marked_by, dropped_if, dropped, blackened_if, scanned_by, has_rest, whitened, joined_if, collected_by, with_new_set}
 use Rattle.rec_trial.specs.Rules.{released_among}
-use Rattle.rec_trial.specs.Trial.{Work, roots_moved, scan_moved, set_begun_if, collect_moved}
+use Rattle.rec_trial.specs.Trial.{Work}
+use Rattle.rec_trial.proofs.Moving.{Moved, scan_begins, root_freed, root_marked, root_passed, scan_passes, scan_blackens, collect_begins, set_passes, set_begins, ends, tried_slot}
 use Rattle.rec_trial.proofs.Views.{concat_member, length_member, concat_new}
 
 -- after marking there are no roots
@@ -73,76 +74,47 @@ joined_length s x =
     length-set (with_slot s x v).slots x (record (slot_at (with_slot s x v) x) { buffered = true; set = Some (length s.sets - 1) })
     ∙ length-set s.slots x v
 
--- a member more
-rest_joined : {before : State} {p : Phase} {s : State} (x : ℕ) → 0 < length s.sets → Rest before p s → (b : Bool) → Rest before p (joined_if b s x)
-rest_joined x some r false = r
-rest_joined {s = s} x some r true = record {
-  slots = joined_length s x ∙ r.slots;
+-- a member more, in a last set that may have none yet
+rest_joined : {before : State} {p : Phase} {s : State} (x : ℕ) (sets : List (List ℕ)) → 0 < length sets → length sets ≤ suc (length (concat sets)) → Rest before p s → Rest before p (joined_if true (record s { sets = sets }) x)
+rest_joined {s = s} x sets some few r = record {
+  slots = joined_length (record s { sets = sets }) x ∙ r.slots;
   zeros = r.zeros;
   no_roots = r.no_roots;
-  few = omega (arith, length_member s.sets x, ap length (concat_member s.sets x some), length-append (concat s.sets) (x ∷ []), r.few);
+  few = omega (arith, length_member sets x, ap length (concat_member sets x some), length-append (concat sets) (x ∷ []), few);
   free = r.free;
 }
 
 pub rest_collected : {before : State} {p : Phase} {s : State} → 0 < length s.sets → Rest before p s → (target : Option ℕ) → Rest before p (collected_by s target)
 rest_collected some r None = r
-rest_collected {s = s} some r (Some x) = rest_joined x some r (is_white (slot_at s x).colour)
+rest_collected {before} {p} {s} some r (Some x) = go (is_white (slot_at s x).colour)
+  where
+    go : (b : Bool) → Rest before p (joined_if b s x)
+    go false = r
+    go true = rest_joined x s.sets some (omega (arith, r.few)) r
 
--- a set begins
-rest_begun : {before : State} {p : Phase} {s : State} (x : ℕ) → Rest before p s → Rest before p (joined_if true (with_new_set s) x)
-rest_begun {s = s} x r = record {
-  slots = joined_length (with_new_set s) x ∙ r.slots;
+-- a root leaves, and goes to the free list where it was released
+listed : (before s : State) (x : ℕ) (xs : List ℕ) (out : Bool) → (slot_at before x).released ≡ out → cond out (s.free ++ x ∷ []) s.free ++ released_among before xs ≡ s.free ++ released_among before (x ∷ xs)
+listed before s x xs true e = rw e (append_assoc s.free (x ∷ []) (released_among before xs))
+listed before s x xs false e = rw e refl
+
+rest_left : {before : State} {s : State} (x : ℕ) (xs : List ℕ) → s.roots ≡ x ∷ xs → (out : Bool) → (slot_at before x).released ≡ out → Rest before Marking s → Rest before Marking (record (without_root (x ∷ xs) s) { free = cond out (s.free ++ x ∷ []) s.free })
+rest_left {before} {s} x xs here out e r = record {
+  slots = length-set s.slots x (record (slot_at s x) { buffered = false }) ∙ r.slots;
   zeros = r.zeros;
-  no_roots = r.no_roots;
-  few = omega (arith, length_member (s.sets ++ [] ∷ []) x, ap length (concat_member (s.sets ++ [] ∷ []) x some), length-append (concat (s.sets ++ [] ∷ [])) (x ∷ []), length-append s.sets ([] ∷ []), ap length (concat_new s.sets), r.few);
-  free = r.free;
+  no_roots = tt;
+  few = r.few;
+  free = listed before s x xs out e ∙ ap (λ rs. s.free ++ released_among before rs) (sym here) ∙ r.free;
 }
-  where
-    some : 0 < length (s.sets ++ [] ∷ [])
-    some = omega (arith, length-append s.sets ([] ∷ []))
 
--- a root leaves
-record Dropped (t : State) (x : ℕ) (out : Bool) (u : State) : Type 0 where
-  slots : length u.slots ≡ length t.slots
-  zeros : u.zeros ≡ t.zeros
-  roots : u.roots ≡ t.roots
-  sets : u.sets ≡ t.sets
-  free : u.free ≡ cond out (t.free ++ x ∷ []) t.free
-
-dropped_lists : (t : State) (x : ℕ) (out : Bool) (c : Colour) → Dropped t x out (dropped_if out c t x)
-dropped_lists t x true c = record { slots = refl; zeros = refl; roots = refl; sets = refl; free = refl }
-dropped_lists t x false Purple = let e : SameLists t (touched_if false t x) = same_touched t x false in record { slots = e.slots; zeros = e.zeros; roots = e.roots; sets = e.sets; free = e.free }
-dropped_lists t x false _ = record { slots = refl; zeros = refl; roots = refl; sets = refl; free = refl }
-
-rest_dropped : {before : State} {s : State} (x : ℕ) (xs : List ℕ) → s.roots ≡ x ∷ xs → (slot_at (without_root (x ∷ xs) s) x).released ≡ (slot_at before x).released → Rest before Marking s → Rest before Marking (dropped (without_root (x ∷ xs) s) x)
-rest_dropped {before} {s} x xs here same r =
-    let t : State = without_root (x ∷ xs) s in
-    let d : Dropped t x (slot_at t x).released (dropped t x) = dropped_lists t x (slot_at t x).released (slot_at t x).colour in
-    record {
-      slots = d.slots ∙ length-set s.slots x (record (slot_at s x) { buffered = false }) ∙ r.slots;
-      zeros = d.zeros ∙ r.zeros;
-      no_roots = tt;
-      few = rw d.sets r.few;
-      free = rw (d.free, d.roots, same) (listed (slot_at before x).released refl ∙ ap (λ rs. s.free ++ released_among before rs) (sym here) ∙ r.free);
-    }
-  where
-    listed : (out : Bool) → (slot_at before x).released ≡ out → cond out (s.free ++ x ∷ []) s.free ++ released_among before xs ≡ s.free ++ released_among before (x ∷ xs)
-    listed true e = rw e (append_assoc s.free (x ∷ []) (released_among before xs))
-    listed false e = rw e refl
-
--- the moves
-pub rest_roots : {before : State} (w : Work) (rs : List ℕ) → w.counts.roots ≡ rs → ((x : ℕ) (xs : List ℕ) → rs ≡ x ∷ xs → (slot_at (without_root (x ∷ xs) w.counts) x).released ≡ (slot_at before x).released) → Rest before Marking w.counts → Rest before (roots_moved rs w).machine.phase (roots_moved rs w).counts
-rest_roots w [] e same r = record { slots = r.slots; zeros = r.zeros; no_roots = e; few = r.few; free = r.free }
-rest_roots w (x ∷ xs) e same r = rest_dropped x xs e (same x xs refl) r
-
-pub rest_scan : {before : State} (w : Work) (more : Bool) → Rest before Scanning w.counts → Rest before (scan_moved more w).machine.phase (scan_moved more w).counts
-rest_scan w true r = let x : ℕ = get_or w.counts.marked w.machine.tried 0 in rest_same r (same_blackened w.counts x (has_rest (slot_at w.counts x)))
-rest_scan w false r = record { slots = length-map w.counts.slots whitened ∙ r.slots; zeros = r.zeros; no_roots = r.no_roots; few = r.few; free = r.free }
-
-rest_set : {before : State} (w : Work) (x : ℕ) (b : Bool) → Rest before Collecting w.counts → Rest before (set_begun_if b w x).machine.phase (set_begun_if b w x).counts
-rest_set w x false r = r
-rest_set w x true r = rest_begun x r
-
-pub rest_collect : {before : State} (w : Work) (more : Bool) → Rest before Collecting w.counts → Rest before (collect_moved more w).machine.phase (collect_moved more w).counts
-rest_collect w true r = let x : ℕ = get_or w.counts.marked w.machine.tried 0 in rest_set w x (is_white (slot_at w.counts x).colour) r
-rest_collect w false r = record { slots = r.slots; zeros = r.zeros; no_roots = r.no_roots; few = r.few; free = r.free }
+-- a move
+pub moved_rest : {before : State} {w v : Work} {p : Phase} → Moved w p v → ((x : ℕ) → (slot_at w.counts x).released ≡ (slot_at before x).released) → Rest before p w.counts → Rest before v.machine.phase v.counts
+moved_rest (scan_begins e) same r = record { slots = r.slots; zeros = r.zeros; no_roots = e; few = r.few; free = r.free }
+moved_rest (root_freed x xs e o) same r = rest_left x xs e true (sym (same x) ∙ o) r
+moved_rest {w = w} (root_marked x xs e o k) same r = rest_same (rest_left x xs e false (sym (same x) ∙ o) r) (same_touched (without_root (x ∷ xs) w.counts) x false)
+moved_rest (root_passed x xs e o k) same r = rest_left x xs e false (sym (same x) ∙ o) r
+moved_rest {w = w} (scan_blackens l g c) same r = rest_same r (same_blackened w.counts (tried_slot w) true)
+moved_rest {w = w} (collect_begins l) same r = record { slots = length-map w.counts.slots whitened ∙ r.slots; zeros = r.zeros; no_roots = r.no_roots; few = r.few; free = r.free }
+moved_rest {w = w} (set_begins l h) same r = rest_joined (tried_slot w) (w.counts.sets ++ [] ∷ []) (omega (arith, length-append w.counts.sets ([] ∷ []))) (omega (arith, length-append w.counts.sets ([] ∷ []), ap length (concat_new w.counts.sets), r.few)) r
+moved_rest (ends l) same r = record { slots = r.slots; zeros = r.zeros; no_roots = r.no_roots; few = r.few; free = r.free }
+moved_rest (scan_passes l h) same r = r
+moved_rest (set_passes l h) same r = r

@@ -12,7 +12,7 @@ use Rattle.rec_walk.specs.Load.{Load}
 use Rattle.rec_trial.specs.Loaded.{Run, load_of, noted_at, noted, begun, run_of}
 use Rattle.rec_trial.specs.Rules.{IsReady, LeadsToUnreleased, AllLeadToUnreleased}
 use Rattle.rec_trial.specs.Trial.{Machine, Work, next_of, list_of, is_due_at, is_due, settled, pointed, learnt_at, advanced, advanced_if, took_at, took_of, opened_of, started_of}
-use Rattle.rec_trial.proofs.Course.{Course, course_of, first_view, due_seen, moved_course, released_same}
+use Rattle.rec_trial.proofs.Course.{Course, at_phase, course_of, first_view, due_seen, moved_course, released_same}
 use Rattle.rec_trial.proofs.Deletion.{Deletion, Seen, Loads, seen, queue_at, told_at, with_load}
 use Rattle.rec_trial.proofs.Deletion as plain
 use Rattle.rec_trial.proofs.Holding.{Inv, Alive}
@@ -46,14 +46,11 @@ get_behind (x ∷ xs) ys k =
     rw e (get_behind xs ys k)
 
 -- the due slot is the one that is seen to be due
-pub node_seen : (w : Work) (p : Phase) → w.machine.phase ≡ p → get_or (list_of p w.counts) w.machine.done 0 ≡ get_or (queue_at p (view w)) (view w).at 0
-node_seen w Idle e = refl
-node_seen w Marking e = λ i. get_or w.counts.marked (at_of (sym e i) w.machine.done (earlier w.counts)) 0
-node_seen w Scanning e = λ i. get_or w.counts.work (at_of (sym e i) w.machine.done (earlier w.counts)) 0
-node_seen w Collecting e =
+pub node_seen : (w : Work) (p : Phase) → get_or (list_of p w.counts) w.machine.done 0 ≡ get_or (queue_at p (view (at_phase p w))) (view (at_phase p w)).at 0
+node_seen w Collecting =
     sym (get_behind (concat (earlier_sets w.counts.sets)) (last_set w.counts.sets) w.machine.done)
     ∙ ap (λ (xs : List ℕ). get_or xs (earlier w.counts + w.machine.done) 0) (sym (concat_last w.counts.sets))
-    ∙ (λ i. get_or (concat w.counts.sets) (at_of (sym e i) w.machine.done (earlier w.counts)) 0)
+node_seen w _ = refl
 
 -- what a trial loaded so far
 abbrev pub seen_in : Run → Loads
@@ -66,18 +63,18 @@ learnt_in p w word = record { machine = advanced w.machine; counts = learnt_at p
 abbrev pub learnt : Work → (word : ℕ) → Work
 learnt w word = learnt_in w.machine.phase w word
 
-view_learnt : (w : Work) (p : Phase) → w.machine.phase ≡ p → is_due_at p w.machine.done w.counts ≡ true → IsSome (next_of w.machine) → (word : ℕ) → LeadsToUnreleased w.counts word → view (learnt_in p w word) ≡ told_at p (view w) (target_bits word)
+view_learnt : (w : Work) (p : Phase) → is_due_at p w.machine.done w.counts ≡ true → (word : ℕ) → LeadsToUnreleased w.counts word → IsSome (next_of (at_phase p w).machine) → view (learnt_in p (at_phase p w) word) ≡ told_at p (view (at_phase p w)) (target_bits word)
 unfolding next_of
-view_learnt w Idle e d b word a = absurd (false≢true (rw e at b))
-view_learnt w Marking e d b word a =
-    view_advanced w.machine (learnt_at Marking w.counts (target_of word)) Marking e
-    ∙ ap (λ (v : Deletion). plain.advance Marking v) (view_marked_by w.machine w.counts (target_bits word) (in_range_if w.counts (target_of word) a))
-view_learnt w Scanning e d b word a =
-    view_advanced w.machine (learnt_at Scanning w.counts (target_of word)) Scanning e
-    ∙ ap (λ (v : Deletion). plain.advance Scanning v) (view_scanned_by w.machine w.counts (target_bits word) (in_range_if w.counts (target_of word) a))
-view_learnt w Collecting e d b word a =
-    view_advanced w.machine (learnt_at Collecting w.counts (target_of word)) Collecting e
-    ∙ ap (λ (v : Deletion). plain.advance Collecting v) (view_collected_by w.machine w.counts (target_bits word) (in_range_if w.counts (target_of word) a) (some_set w.counts.sets (omega (arith, ltb_yes w.machine.done (length (last_set w.counts.sets)) d))))
+view_learnt w Idle d word a b = absurd (false≢true b)
+view_learnt w Marking d word a b =
+    view_advanced (at_phase Marking w).machine (learnt_at Marking w.counts (target_of word)) Marking refl
+    ∙ ap (λ (v : Deletion). plain.advance Marking v) (view_marked_by (at_phase Marking w).machine w.counts (target_bits word) (in_range_if w.counts (target_of word) a))
+view_learnt w Scanning d word a b =
+    view_advanced (at_phase Scanning w).machine (learnt_at Scanning w.counts (target_of word)) Scanning refl
+    ∙ ap (λ (v : Deletion). plain.advance Scanning v) (view_scanned_by (at_phase Scanning w).machine w.counts (target_bits word) (in_range_if w.counts (target_of word) a))
+view_learnt w Collecting d word a b =
+    view_advanced (at_phase Collecting w).machine (learnt_at Collecting w.counts (target_of word)) Collecting refl
+    ∙ ap (λ (v : Deletion). plain.advance Collecting v) (view_collected_by (at_phase Collecting w).machine w.counts (target_bits word) (in_range_if w.counts (target_of word) a) (some_set w.counts.sets (omega (arith, ltb_yes w.machine.done (length (last_set w.counts.sets)) d))))
 
 advanced_phase : (m : Machine) → (advanced m).phase ≡ m.phase
 advanced_phase m = go (ltb (m.field + 1) m.fields)
@@ -97,9 +94,9 @@ pub learnt_course : {fields : ℕ} {before : State} (w : Work) {ls : Loads} → 
     Course fields before (learnt w word) (with_load w.machine.phase (seen w.machine.phase (view w) (target_bits word)) ls)
 learnt_course {fields} {before} w {ls} c d b word a =
     let p : Phase = w.machine.phase in
-    let k = told_kept (first_view fields before) p (view w) ls c.inv refl (sym (due_seen w p refl) ∙ d) (target_bits word) (alive_of w.counts (target_bits word) a) in
+    let k = told_kept (first_view fields before) p (view w) ls c.inv refl (sym (due_seen w p) ∙ d) (target_bits word) (alive_of w.counts (target_bits word) a) in
     course_of (learnt w word)
-    (subst (λ s. Inv (first_view fields before) s (with_load p (seen p (view w) (target_bits word)) ls)) (sym (view_learnt w p refl d b word a)) k)
+    (subst (λ s. Inv (first_view fields before) s (with_load p (seen p (view w) (target_bits word)) ls)) (sym (view_learnt w p d word a b)) k)
     (subst (λ k. Rest before k (learnt w word).counts) (sym (advanced_phase w.machine)) (rest_learnt w p d word c.rest))
 
 -- up to the next load
@@ -149,7 +146,7 @@ module _ {fields : ℕ} {before : State} (r : Run) (t : Told fields before r) (w
   told_busy b =
       let p : Phase = r.work.machine.phase in
       let q : pointed (settled (learnt r.work word)) ≡ (noted r word).work = sym (noted_work r word ∙ took_busy r.work word b) in
-      let n : r.work.machine.slot ≡ get_or (queue_at p (view r.work)) (view r.work).at 0 = t.node ∙ node_seen r.work p refl in
+      let n : r.work.machine.slot ≡ get_or (queue_at p (view r.work)) (view r.work).at 0 = t.node ∙ node_seen r.work p in
       let l : with_load p (seen p (view r.work) (target_bits word)) (seen_in r) ≡ seen_in (noted r word) = ap (λ x. with_load p (record { node = x; field = r.work.machine.field; word = target_bits word }) (seen_in r)) (sym n) ∙ noted_seen p r word in
       record {
         course = subst (λ w. Course fields before w (seen_in (noted r word))) q (subst (λ ls. Course fields before (pointed (settled (learnt r.work word))) ls) l (went_course (learnt r.work word) (learnt_course r.work t.course t.due b word a)));

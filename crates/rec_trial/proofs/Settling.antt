@@ -1,52 +1,24 @@
 -- Moves without a load come to an end.
-use Rattle.std.proofs.Common.{◌≡◌, ℕ, zero, suc, ◌+◌, ◌<◌, ◌≤◌, Bool, true, false, ltb, cond, List, [], ◌∷◌, length, get_or, refl, sym, ◌∙◌, arith}
+use Rattle.std.proofs.Common.{◌≡◌, ℕ, zero, suc, ◌+◌, ◌<◌, ◌≤◌, Bool, true, false, ltb, cond, List, [], ◌∷◌, length, get_or, refl, sym, ap, ◌∙◌, arith}
 use Rattle.std.proofs.lemmas.List.{length-append}
-use Rattle.rec_counts.specs.declared.colour.Colour.{Colour}
-use Rattle.rec_counts.specs.declared.colour.Colour.TheVariants.{Purple}
-use Rattle.rec_counts.specs.Counts.{State, slot_at, without_root}
-use Rattle.rec_counts.specs.Colour.{is_white}
 use Rattle.rec_trial.specs.declared.phase.Phase.{Phase}
 use Rattle.rec_trial.specs.declared.phase.Phase.TheVariants.{Idle, Marking, Scanning, Collecting}
-use Rattle.rec_trial.specs.Moves.{dropped_if, has_rest, blackened_if}
-use Rattle.rec_trial.specs.Trial.{Work, is_due_at, is_due, roots_moved, scan_moved, set_begun_if, collect_moved, moved_at, moves_left, settled_in, settled}
-use Rattle.rec_trial.proofs.Places.{ltb_yes}
+use Rattle.rec_trial.specs.Trial.{Work, is_due_at, is_due, moved_at, moves_left, settled_in, settled}
+use Rattle.rec_trial.proofs.Moving.{Moved, root_freed, root_marked, root_passed, scan_passes, scan_blackens, set_passes, set_begins, moved}
 
 -- a move brings the next load nearer
-dropped_less : (w : Work) (x : ℕ) (xs : List ℕ) (t : State) (out : Bool) (c : Colour) → w.counts.roots ≡ x ∷ xs → t.roots ≡ xs → t.marked ≡ w.counts.marked → moves_left Marking (record { machine = record w.machine { phase = Marking }; counts = dropped_if out c t x }) < moves_left Marking w
-dropped_less w x xs t true c e f g = rw (e, f, g) (omega arith)
-dropped_less w x xs t false Purple e f g = rw (e, f, g) (omega (arith, length-append w.counts.marked (x ∷ [])))
-dropped_less w x xs t false _ e f g = rw (e, f, g) (omega arith)
-
-roots_less : (w : Work) (rs : List ℕ) → w.counts.roots ≡ rs → moves_left (roots_moved rs w).machine.phase (roots_moved rs w) < moves_left Marking w
-roots_less w [] e = rw e (omega arith)
-roots_less w (x ∷ xs) e =
-    let t : State = without_root (x ∷ xs) w.counts in
-    dropped_less w x xs t (slot_at t x).released (slot_at t x).colour e refl refl
-
-scan_less : (w : Work) (more : Bool) → ltb w.machine.tried (length w.counts.marked) ≡ more → moves_left (scan_moved more w).machine.phase (scan_moved more w) < moves_left Scanning w
-scan_less w true e = go (has_rest (slot_at w.counts (get_or w.counts.marked w.machine.tried 0))) (ltb_yes w.machine.tried (length w.counts.marked) e)
-  where
-    go : (b : Bool) → w.machine.tried < length w.counts.marked → moves_left Scanning (record { machine = record w.machine { phase = Scanning; tried = w.machine.tried + 1 }; counts = blackened_if b w.counts (get_or w.counts.marked w.machine.tried 0) }) < moves_left Scanning w
-    go true h = omega arith
-    go false h = omega arith
-scan_less w false e = omega arith
-
-collect_less : (w : Work) (more : Bool) → ltb w.machine.tried (length w.counts.marked) ≡ more → moves_left (collect_moved more w).machine.phase (collect_moved more w) < moves_left Collecting w
-collect_less w true e = go (is_white (slot_at w.counts (get_or w.counts.marked w.machine.tried 0)).colour) (ltb_yes w.machine.tried (length w.counts.marked) e)
-  where
-    go : (b : Bool) → w.machine.tried < length w.counts.marked → moves_left (set_begun_if b w (get_or w.counts.marked w.machine.tried 0)).machine.phase (set_begun_if b w (get_or w.counts.marked w.machine.tried 0)) < moves_left Collecting w
-    go true h = omega arith
-    go false h = omega arith
-collect_less w false e = omega arith
-
-moved_less_at : (p : Phase) (w : Work) → is_due_at p w.machine.done w.counts ≡ false → moves_left (moved_at p w).machine.phase (moved_at p w) < moves_left p w
-moved_less_at Idle w d = cc
-moved_less_at Marking w d = roots_less w w.counts.roots refl
-moved_less_at Scanning w d = scan_less w (ltb w.machine.tried (length w.counts.marked)) refl
-moved_less_at Collecting w d = collect_less w (ltb w.machine.tried (length w.counts.marked)) refl
+less_by : {w v : Work} {p : Phase} → Moved w p v → moves_left v.machine.phase v < moves_left p w
+less_by (root_freed x xs e o) = omega (arith, ap length e)
+less_by {w} (root_marked x xs e o k) = omega (arith, ap length e, length-append w.counts.marked (x ∷ []))
+less_by (root_passed x xs e o k) = omega (arith, ap length e)
+less_by (scan_passes l h) = omega arith
+less_by (scan_blackens l g c) = omega arith
+less_by (set_passes l h) = omega arith
+less_by (set_begins l h) = omega arith
+less_by _ = omega arith
 
 pub moved_less : (w : Work) → is_due w ≡ false → moves_left (moved_at w.machine.phase w).machine.phase (moved_at w.machine.phase w) < moves_left w.machine.phase w
-moved_less w d = moved_less_at w.machine.phase w d
+moved_less w d = less_by (moved w w.machine.phase d)
 
 none_left : (p : Phase) (w : Work) → moves_left p w ≤ 0 → is_due_at p w.machine.done w.counts ≡ true
 none_left Idle w h = refl

@@ -1,5 +1,6 @@
--- One word is learnt, or a move is made between two loads, as functions: what holds stays.
+-- One word is learnt, or what a move between two loads does, as functions: what holds stays.
 use Rattle.std.proofs.Common.{◌≡◌, ℕ, zero, suc, ◌+◌, ◌-◌, ◌<◌, ◌≤◌, Bool, true, false, ltb, List, [], ◌∷◌, ◌++◌, length, get_or, refl, sym, subst, ◌∙◌, arith, length-append}
+use Rattle.std.proofs.lemmas.Bool.{false≢true}
 use Rattle.std.proofs.lemmas.Bool.Decides.{nat_tests}
 use Rattle.rec_counts.specs.Lists.{one}
 use Rattle.rec_counts.specs.declared.colour.Colour.{Colour}
@@ -8,16 +9,13 @@ use Rattle.rec_counts.specs.Colour.{is_gray, is_white}
 use Rattle.rec_trial.specs.declared.phase.Phase.{Phase}
 use Rattle.rec_trial.specs.declared.phase.Phase.TheVariants.{Idle, Marking, Scanning, Collecting}
 use Rattle.rec_trial.proofs.Totals.{total_of_first, same, times, times_here, get_grown, first_more, first_whole}
-use Rattle.rec_trial.proofs.Deletion.{Seen, Deletion, Loads, with_load, blacken_if, join_if, touch_if, take_one, mark_word, scan_word, find_word, advance, seen, due_at, told_at, whiten, has_rest, begin_set_if, try_scan, try_collect, one_root, root_if, one_at, drop_root}
+use Rattle.rec_trial.proofs.Deletion.{Seen, Deletion, Loads, with_load, blacken_if, join_if, touch_if, take_one, mark_word, scan_word, find_word, advance, seen, due_at, told_at, whiten}
 use Rattle.rec_trial.proofs.Holding.{WhileMarking, WhileScanning, WhileCollecting, CollectedOf, OrderedOf, Placed, NotBegun, Reached, Hot, Seed, named, inv_at, Inv, Alive}
 use Rattle.rec_trial.proofs.Holding as law
 use Rattle.rec_trial.proofs.Marks.{times_push, push_kept, reached_grow, edge_here, base_load, base_push, unmarked, grays_push, seeds_push, seeds_drop}
 use Rattle.rec_trial.proofs.Orders.{ordered_none, ordered_word, ordered_join, ordered_begin}
 use Rattle.rec_trial.proofs.Places.{placed_grow, placed_step, placed_all, placed_begin, ltb_no, ltb_yes}
 use Rattle.rec_trial.proofs.Scans.{hot_grow, scanned_push, collected_push}
-
-clash : (b : Bool) → b ≡ true → b ≡ false → ⊥
-clash b p q = cc
 
 -- a Gray node is marked, so that no word names one that is not
 unnamed_word : (n w y : ℕ) (c : Colour) → n ≡ one (is_gray c) → (w ≡ suc y → is_gray c ≡ true) → n ≡ 0 → same (suc y) w ≡ 0
@@ -89,7 +87,7 @@ module _ (o s : Deletion) (ls : Loads) where
       }
 
   -- a White node joins, which no loaded word names
-  joined : WhileCollecting o s ls → (x : ℕ) → is_white (s.colour x) ≡ true → (sets : ℕ) → 0 < sets → OrderedOf s.members s.set_of sets s.at ls.finds → WhileCollecting o (join_if true (record s { sets = sets }) x) ls
+  pub joined : WhileCollecting o s ls → (x : ℕ) → is_white (s.colour x) ≡ true → (sets : ℕ) → 0 < sets → OrderedOf s.members s.set_of sets s.at ls.finds → WhileCollecting o (join_if true (record s { sets = sets }) x) ls
   joined m x e sets some order = record {
     scanned = m.scanned;
     split = collected_push m.split x e (m.once x);
@@ -102,7 +100,7 @@ module _ (o s : Deletion) (ls : Loads) where
     where
       unfound : (n : ℕ) → (0 < n → is_white (s.colour x) ≡ false) → n ≡ 0
       unfound zero h = refl
-      unfound (suc n) h = absurd (clash (is_white (s.colour x)) e (h (omega arith)))
+      unfound (suc n) h = absurd (false≢true (sym (h (omega arith)) ∙ e))
 
       unjoined : times x s.marked ≡ one (is_white (s.colour x)) + times x s.work + times x s.members → times x s.marked ≤ 1 → times x s.members ≡ 0
       unjoined a b = grind arith
@@ -120,7 +118,7 @@ module _ (o s : Deletion) (ls : Loads) where
   }
 
   -- a root leaves that is no seed, or marked
-  dropped : WhileMarking o s ls → (x : ℕ) (xs : List ℕ) → s.roots ≡ x ∷ xs → (Seed o x → 0 < times x s.marked) → WhileMarking o (drop_root s x xs) ls
+  pub dropped : WhileMarking o s ls → (x : ℕ) (xs : List ℕ) → s.roots ≡ x ∷ xs → (Seed o x → 0 < times x s.marked) → WhileMarking o (record s { roots = xs }) ls
   dropped m x xs r none = record {
     base = m.base;
     look = m.look;
@@ -132,7 +130,7 @@ module _ (o s : Deletion) (ls : Loads) where
   }
 
   -- a seed is marked
-  seeded : WhileMarking o s ls → (x : ℕ) → 0 < times x s.roots → s.colour x ≡ Purple → s.released x ≡ false → WhileMarking o (touch_if false s x) ls
+  pub seeded : WhileMarking o s ls → (x : ℕ) → 0 < times x s.roots → s.colour x ≡ Purple → s.released x ≡ false → WhileMarking o (touch_if false s x) ls
   seeded m x here e live =
       let new : times x s.marked ≡ 0 = unmarked m.look x (not_purple (s.colour x) e) in
       record {
@@ -145,7 +143,7 @@ module _ (o s : Deletion) (ls : Loads) where
         uncollected = m.uncollected;
       }
 
-  scan_begun : WhileMarking o s ls → due_at Marking s ≡ false → s.roots ≡ [] → WhileScanning o (one_root [] s) ls
+  pub scan_begun : WhileMarking o s ls → length s.marked ≤ s.at → s.roots ≡ [] → WhileScanning o (record s { phase = Scanning; at = 0; field = 0; tried = 0 }) ls
   scan_begun m d r = record {
     all = record { base = m.base; seeds = λ y k. omega (arith, m.seeds y k, no_roots y); reached = m.reached; marks_all = placed_all m.place d };
     split = record {
@@ -166,7 +164,7 @@ module _ (o s : Deletion) (ls : Loads) where
       no_roots y = rw r refl
 
   -- a marked node is blackened that has a rest
-  blackened : WhileScanning o s ls → (x : ℕ) → is_gray (s.colour x) ≡ true → 0 < s.cyclic x → WhileScanning o (blacken_if true s x) ls
+  pub blackened : WhileScanning o s ls → (x : ℕ) → is_gray (s.colour x) ≡ true → 0 < s.cyclic x → WhileScanning o (blacken_if true s x) ls
   blackened m x e warm = record {
     all = m.all;
     split = scanned_push m.split x e (m.once x);
@@ -179,7 +177,7 @@ module _ (o s : Deletion) (ls : Loads) where
   }
 
   -- a marked node was looked at
-  scan_tried : WhileScanning o s ls → s.tried < length s.marked → (is_gray (s.colour (get_or s.marked s.tried 0)) ≡ true → s.cyclic (get_or s.marked s.tried 0) ≡ 0) → WhileScanning o (record s { phase = Scanning; tried = suc s.tried }) ls
+  pub scan_tried : WhileScanning o s ls → s.tried < length s.marked → (is_gray (s.colour (get_or s.marked s.tried 0)) ≡ true → s.cyclic (get_or s.marked s.tried 0) ≡ 0) → WhileScanning o (record s { tried = suc s.tried }) ls
   scan_tried m h e = record {
     all = m.all;
     split = m.split;
@@ -191,7 +189,7 @@ module _ (o s : Deletion) (ls : Loads) where
     uncollected = m.uncollected;
   }
 
-  find_tried : WhileCollecting o s ls → s.tried < length s.marked → is_white (s.colour (get_or s.marked s.tried 0)) ≡ false → WhileCollecting o (record s { phase = Collecting; tried = suc s.tried }) ls
+  pub find_tried : WhileCollecting o s ls → s.tried < length s.marked → is_white (s.colour (get_or s.marked s.tried 0)) ≡ false → WhileCollecting o (record s { tried = suc s.tried }) ls
   find_tried m h e = record {
     scanned = m.scanned;
     split = m.split;
@@ -202,7 +200,7 @@ module _ (o s : Deletion) (ls : Loads) where
     order = m.order;
   }
 
-  find_begun : WhileScanning o s ls → due_at Scanning s ≡ false → s.tried ≡ length s.marked → WhileCollecting o (try_scan false s) ls
+  pub find_begun : WhileScanning o s ls → length s.work ≤ s.at → s.tried ≡ length s.marked → WhileCollecting o (record s { phase = Collecting; at = 0; field = 0; tried = 0; colour = whiten s.colour }) ls
   find_begun m d h = record {
     scanned = record { all = m.all; hot = m.hot; blacks_all = placed_all m.place d };
     split = record {
@@ -246,55 +244,6 @@ told_kept o Idle s ls i e d w a = subst (λ p. inv_at p o s ls) (sym e) i
 told_kept o Marking s ls i e d w a = mark_kept o s ls i (ltb_yes s.at (length s.marked) d) w a
 told_kept o Scanning s ls i e d w a = scan_kept o s ls i (ltb_yes s.at (length s.work) d) w
 told_kept o Collecting s ls i e d w a = find_kept o s ls i (ltb_yes s.at (length s.members) d) w
-
-module _ (o s : Deletion) (ls : Loads) where
-  root_kept : WhileMarking o s ls → (x : ℕ) (xs : List ℕ) → s.roots ≡ x ∷ xs → (b : Bool) → s.released x ≡ b → (c : Colour) → s.colour x ≡ c → Inv o (root_if b c s x xs) ls
-  root_kept m x xs r true e c k = dropped o s ls m x xs r (λ q. absurd (clash (s.released x) e (rw m.kept.released q.live)))
-  root_kept m x xs r false e Purple k = dropped o (touch_if false s x) ls (seeded o s ls m x (rw r (grind (arith, nat_tests))) k e) x xs r (λ q. grind (arith, nat_tests, times_push x x s.marked))
-  root_kept m x xs r false e _ k = dropped o s ls m x xs r (λ q. no_seed (times x s.marked) (m.colours_old x) q)
-    where
-      no_seed : (n : ℕ) → (n ≡ 0 → s.colour x ≡ o.colour x) → Seed o x → 0 < n
-      no_seed zero h q = let w : s.colour x ≡ Purple = h refl ∙ q.is_purple in cc
-      no_seed (suc n) h q = omega arith
-
-  roots_kept : WhileMarking o s ls → due_at Marking s ≡ false → (rs : List ℕ) → s.roots ≡ rs → Inv o (one_root rs s) ls
-  roots_kept m d [] r = scan_begun o s ls m d r
-  roots_kept m d (x ∷ xs) r = root_kept m x xs r (s.released x) refl (s.colour x) refl
-
-  scan_on_kept : WhileScanning o s ls → due_at Scanning s ≡ false → (b : Bool) → ltb s.tried (length s.marked) ≡ b → Inv o (try_scan b s) ls
-  scan_on_kept m d false e = find_begun o s ls m d (omega (arith, m.tries, ltb_no s.tried (length s.marked) e))
-  scan_on_kept m d true e = go (get_or s.marked s.tried 0) refl (has_rest s (get_or s.marked s.tried 0)) refl
-    where
-      go : (x : ℕ) → get_or s.marked s.tried 0 ≡ x → (b : Bool) → has_rest s x ≡ b → WhileScanning o (record (blacken_if b s x) { phase = Scanning; tried = suc s.tried }) ls
-      go x at false q = scan_tried o s ls m (ltb_yes s.tried (length s.marked) e) (rw at (λ g. grind (arith, nat_tests)))
-      go x at true q = scan_tried o (blacken_if true s x) ls (blackened o s ls m x (grind (arith, nat_tests)) (grind (arith, nat_tests))) (ltb_yes s.tried (length s.marked) e) (rw at (λ g. grind (arith, nat_tests, g)))
-
-  collect_on_kept : WhileCollecting o s ls → due_at Collecting s ≡ false → (b : Bool) → ltb s.tried (length s.marked) ≡ b → Inv o (try_collect b s) ls
-  collect_on_kept m d false e = record {
-    marked = s.marked;
-    work = s.work;
-    end = record {
-      now = record { scanned = m.scanned; split = m.split; tested = m.tested; tries = m.tries; found = m.found; place = m.place; order = m.order };
-      all_found = omega (arith, m.place.inside, ltb_no s.at (length s.members) d);
-      all_tried = omega (arith, m.tries, ltb_no s.tried (length s.marked) e);
-    };
-    no_marked = refl;
-    no_work = refl;
-  }
-  collect_on_kept m d true e = go (get_or s.marked s.tried 0) refl (is_white (s.colour (get_or s.marked s.tried 0))) refl
-    where
-      go : (x : ℕ) → get_or s.marked s.tried 0 ≡ x → (b : Bool) → is_white (s.colour x) ≡ b → WhileCollecting o (record (begin_set_if b s x) { phase = Collecting; tried = suc s.tried }) ls
-      go x at false q = find_tried o s ls m (ltb_yes s.tried (length s.marked) e) (rw at q)
-      go x at true q =
-          let order = ordered_begin s.members s.set_of s.sets s.at ls.finds m.order (omega (arith, m.place.inside, ltb_no s.at (length s.members) d)) in
-          find_tried o (begin_set_if true s x) ls (joined o s ls m x q (suc s.sets) (omega arith) order) (ltb_yes s.tried (length s.marked) e) (rw at (grind (arith, nat_tests)))
-
-  -- a silent move keeps what holds
-  pub one_kept : (p : Phase) → inv_at p o s ls → due_at p s ≡ false → Inv o (one_at p s) ls
-  one_kept Idle i d = cc
-  one_kept Marking i d = roots_kept i d s.roots refl
-  one_kept Scanning i d = scan_on_kept i d (ltb s.tried (length s.marked)) refl
-  one_kept Collecting i d = collect_on_kept i d (ltb s.tried (length s.marked)) refl
 
 -- a trial that is about to begin
 pub opening_kept : (s : Deletion) → 0 < s.fields → ((x : ℕ) → is_gray (s.colour x) ≡ false) → ((x : ℕ) → is_white (s.colour x) ≡ false) → s.marked ≡ [] → s.work ≡ [] → s.members ≡ [] → s.at ≡ 0 → s.field ≡ 0 → WhileMarking s s (record { marks = []; blacks = []; finds = [] })
