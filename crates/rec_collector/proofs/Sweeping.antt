@@ -1,5 +1,5 @@
 -- A sweep goes on, and a collection ends.
-use Rattle.std.proofs.Common.{◌≡◌, ◌≢◌, ◌⊎◌, ℕ, ◌+◌, ◌*◌, ◌^◌, ◌<◌, ◌≤◌, true, eqb, inl, inr, Option, None, Some, IsNone, IsSome, List, [], ◌∷◌, length, map, drop, slice_get, refl, arith, sym, ◌∙◌, ap, subst}
+use Rattle.std.proofs.Common.{◌≡◌, ap, sym, subst, ◌∙◌, ◌≢◌, ◌⊎◌, ℕ, ◌+◌, ◌*◌, ◌^◌, ◌<◌, ◌≤◌, true, eqb, inl, inr, Option, None, Some, IsNone, IsSome, List, [], ◌∷◌, length, map, drop, slice_get, refl, arith}
 use Rattle.std.proofs.lemmas.List.{length-set, length-map, get_or-set_same, get_or-set_other, get_or_past}
 use Rattle.std.proofs.lemmas.Bool.{cases_lt, false≢true}
 use Rattle.std.proofs.lemmas.Bool.Decides.{eqb_tells}
@@ -16,17 +16,26 @@ use Rattle.rec_release.specs.TakenOff.{IsApart, IsMember}
 use Rattle.rec_release.proofs.Sweeping.{unbuffered_swept}
 use Rattle.rec_release.proofs.TakenOff.{written}
 use Rattle.rec_trial.proofs.Worked.{kept_by_all}
+use Rattle.rec_collector.specs.Inside.{private}
+use Rattle.rec_collector.specs.Kept.{IsMachine, ArePrepared, IsAt, IsSweeping, IsTried}
+use Rattle.rec_collector.specs.Private.{Private, parts_of}
+use Rattle.rec_collector.specs.declared.machine.Machine.TheInside.{Inside}
+use Rattle.rec_collector.specs.declared.phase.Phase.{Phase}
 use Rattle.rec_collector.specs.Clearing.{IsUntried}
 use Rattle.rec_collector.specs.Parts.{Parts}
-use Rattle.rec_collector.specs.Private.{Private, parts_of}
-use Rattle.rec_collector.specs.Kept.{ArePrepared, IsAt, IsMachine, IsSweeping, IsTried}
 use Rattle.rec_collector.specs.Zeros.{AreCounted}
 use Rattle.rec_collector.specs.Took.{cleared, ended, moved, swept_phase, swept_one, took_at, with_sweep}
-use Rattle.rec_collector.specs.declared.phase.Phase.{Phase}
 use Rattle.rec_collector.specs.declared.phase.Phase.TheVariants.{Opening, Sweeping, Closing}
 use Rattle.rec_collector.proofs.Landing.{freed_at, now_at, told_at, under_way_at}
 use Rattle.rec_collector.proofs.Outside.{outside_on, swept_lowers}
 use Rattle.rec_collector.proofs.Rows.{cleared_sized, cleared_spares}
+
+-- the same fields make up the same machine
+pub same_machine : {i j : Inside} → i ≡ j → IsMachine (private j) → IsMachine (private i)
+same_machine e k = subst (λ i. IsMachine (private i)) (sym e) k
+
+pub same_phase : {i j : Inside} {p : Private} {phase : Phase} → i ≡ j → private j ≡ p → p.phase ≡ phase → i.phase ≡ phase
+same_phase e v is = ap (λ (i : Inside). i.phase) e ∙ ap (λ (p : Private). p.phase) v ∙ is
 
 -- a sweep begins
 pub opening_keeps : (p : Private) → IsMachine p → p.phase ≡ Opening → IsMachine (took_at p 0 Opening)

@@ -1,39 +1,96 @@
 -- Between a batch and the next trial, the moves on the counts leave them tidy: nothing is Gray or White, the orange slots are apart,
 -- every released slot is somewhere, and what is in the free list or the work list is in no buffer.
-use Rattle.std.proofs.Common.{◌≡◌, ℕ, ◌+◌, ◌-◌, ◌<◌, Bool, true, false, eqb, cond, Option, None, Some, IfSome, List, [], ◌∷◌, ◌++◌, filter, length, slice_get, refl, arith, sym, ◌∙◌, ap, subst, inl, inr}
+use Rattle.std.proofs.Common.{◌≡◌, ℕ, suc, ◌+◌, ◌-◌, ◌<◌, ◌≤◌, eqb, Bool, true, false, cond, Option, List, [], ◌∷◌, filter, length, slice_get, sym, ◌∙◌, ap, subst, arith, inl, inr, None, Some, IfSome, ◌++◌, refl}
+use Rattle.std.specs.List.{concat}
+use Rattle.std.proofs.lemmas.Bool.{true≢false, cases_Bool, cases_lt, eq-eqb, false≢true}
 use Rattle.std.proofs.lemmas.List.{length-set}
-use Rattle.std.proofs.lemmas.Bool.{cases_lt, eq-eqb, false≢true}
 use Rattle.std.proofs.lemmas.Bool.Decides.{eqb_tells}
 use Rattle.rec_word.specs.Word.{is_slot}
-use Rattle.rec_counts.specs.declared.colour.Colour.{Colour}
-use Rattle.rec_counts.specs.declared.colour.Colour.TheVariants.{Black, Purple}
+use Rattle.rec_counts.specs.declared.colour.Colour.TheVariants.{Orange, Black, Purple}
 use Rattle.rec_counts.specs.declared.slot.Slot.{Slot}
+use Rattle.rec_counts.specs.Counts.{State, IsKept, slot_at, with_slot, sent}
+use Rattle.rec_counts.specs.Groups.{last_set, earlier_sets}
+use Rattle.rec_counts.specs.Lists.{one, times}
+use Rattle.rec_counts.specs.Slot.{is_in, lessened, lowered, due_of, unbuffered_if}
+use Rattle.rec_counts.proofs.Times.{times-nil, times-cons, times-append, times_push}
+use Rattle.rec_counts.specs.declared.colour.Colour.{Colour}
 use Rattle.rec_counts.specs.declared.slot.Due.{Due}
 use Rattle.rec_counts.specs.declared.slot.Due.TheVariants.{Nothing, Zero, Root}
-use Rattle.rec_counts.specs.Counts.{State, IsKept, slot_at, with_slot, sent}
-use Rattle.rec_counts.specs.Groups.{last_set}
-use Rattle.rec_counts.specs.Lists.{one, times}
 use Rattle.rec_counts.specs.Rest.{AreZeros}
-use Rattle.rec_counts.specs.Slot.{is_in, lessened, lowered, due_of, unbuffered_if}
 use Rattle.rec_counts.specs.Colour.{is_gray, is_white}
 use Rattle.rec_counts.proofs.Keeping.{field_kept}
-use Rattle.rec_counts.proofs.Times.{times-append, times-cons, times-nil, times_push}
+use Rattle.rec_release.specs.TakenOff.{IsMember, IsApart, down_if, is_lowered, taken_off, AllZerosButOrange}
 use Rattle.rec_release.specs.declared.at.At.{At}
 use Rattle.rec_release.specs.CycleFree.{dead_if, given_up, listed, IsFreeable}
 use Rattle.rec_release.specs.Release.{emptied, first_of, listed_if, without_first, IsReady}
-use Rattle.rec_release.specs.TakenOff.{down_if, is_lowered, taken_off, AllZerosButOrange, IsApart}
 use Rattle.rec_release.proofs.Giving.{given_many, given_slot}
 use Rattle.rec_release.proofs.Keeping.{released_same}
 use Rattle.rec_release.proofs.Orange.{given_apart, given_zeros, lists_keep, next_keeps, off_keeps}
 use Rattle.rec_release.proofs.TakenOff.{off_most, KeepsMost}
 use Rattle.rec_sigma.specs.declared.fate.Fate.{Fate}
+use Rattle.rec_sigma.specs.declared.fate.Fate.TheVariants.{Free}
+use Rattle.rec_sigma.specs.Refurbish.{fate_at, fate_if, is_root, is_zero, refurbished, LastRefurbished, is_free, IsRefusable}
 use Rattle.rec_sigma.specs.declared.fate.Fate.TheVariants as fates
-use Rattle.rec_sigma.specs.Refurbish.{fate_at, fate_if, is_free, is_root, is_zero, refurbished, IsRefusable, LastRefurbished}
 use Rattle.rec_sigma.proofs.Refused.{released_after, same_count, same_released}
 use Rattle.rec_trial.proofs.Worked.{kept_by_all, lessened_colour}
 use Rattle.rec_collector.specs.Clearing.{IsTidy}
-use Rattle.rec_collector.proofs.Apart.{apart_refurbished, times_filter}
 use Rattle.rec_collector.proofs.Outside.{first_lowers, given_lowers, off_lowers, outside_on, refurbished_lowers, same_lowers}
+
+-- what the sets have, the earlier ones and the last have
+times_last : (x : ℕ) (xss : List (List ℕ)) → times x (concat xss) ≡ times x (concat (earlier_sets xss)) + times x (last_set xss)
+times_last x [] = omega (arith, times-nil x)
+times_last x (xs ∷ []) = omega (arith, times-append x xs [], times-nil x)
+times_last x (xs ∷ ys ∷ yss) =
+    let k : length (xs ∷ ys ∷ yss) - 1 ≡ suc (length (ys ∷ yss) - 1) = omega arith in
+    rw k (omega (arith, times-append x xs (concat (ys ∷ yss)), times-append x xs (concat (earlier_sets (ys ∷ yss))), times_last x (ys ∷ yss)))
+
+-- what passes a test stands there no more often
+pub times_filter : (p : ℕ → Bool) (x : ℕ) (xs : List ℕ) → times x (filter p xs) ≤ times x xs
+times_filter p x [] = omega arith
+times_filter p x (y ∷ ys) = go (p y) (times_filter p x ys)
+  where
+    go : (b : Bool) → times x (filter p ys) ≤ times x ys → times x (cond b (y ∷ filter p ys) (filter p ys)) ≤ times x (y ∷ ys)
+    go true i = omega (arith, i, times-cons x y (filter p ys), times-cons x y ys)
+    go false i = omega (arith, i, times-cons x y ys)
+
+-- a refurbished member is Orange only where it was
+refurbished_orange : (f : Fate) (v : Slot) → (refurbished f v).colour ≡ Orange → v.colour ≡ Orange
+refurbished_orange Free v o = o
+refurbished_orange _ v o = cc
+
+-- a member that isn't released is Orange no more
+fate_uncolours : (released none root : Bool) (v : Slot) → released ≡ false → (refurbished (fate_if released none root) v).colour ≡ Orange → ⊥
+fate_uncolours true none root v e o = true≢false e
+fate_uncolours false true root v e o = cc
+fate_uncolours false false true v e o = cc
+fate_uncolours false false false v e o = cc
+
+pub apart_refurbished : (s t : State) → IsKept s → LastRefurbished s t → IsApart s → IsApart t
+apart_refurbished s t k r a = λ x o.
+    let n : ℕ = length s.sets - 1 in
+    let first : Option ℕ = slice_get (last_set s.sets) 0 in
+    let v : Slot = slot_at s x in
+    elim (cases_Bool (is_in n v.set)) [
+      | inl e ↦ let same : slot_at t x ≡ refurbished (fate_at s first x) v = r.inside x (omega (arith, k.numbers n x, ap one e)) in
+          let now : (refurbished (fate_at s first x) v).colour ≡ Orange = ap (λ (w : Slot). w.colour) (sym same) ∙ o in
+          let before : IsMember s x = a x (refurbished_orange (fate_at s first x) v now) in
+          absurd (fate_uncolours v.released (eqb v.count 0) (is_root (is_slot x first) v.colour) v before.unreleased now)
+      | inr e ↦ let none : times x (last_set s.sets) ≡ 0 = k.numbers n x ∙ ap one e in
+          let before : IsMember s x = a x (ap (λ (w : Slot). w.colour) (sym (r.others x none)) ∙ o) in
+          let there : 0 < times x (concat (earlier_sets s.sets)) = omega (arith, before.member, none, times_last x s.sets) in
+          record {
+            member = subst (λ xss. 0 < times x (concat xss)) (sym r.sets) there;
+            no_zero = omega (
+              arith,
+              ap (times x) r.zeros,
+              times-append x s.zeros (filter (λ y. is_zero (fate_at s first y)) (last_set s.sets)),
+              times_filter (λ y. is_zero (fate_at s first y)) x (last_set s.sets),
+              none,
+              before.no_zero,
+            );
+            unreleased = ap (λ (w : Slot). w.released) (r.others x none) ∙ before.unreleased;
+          }
+    ]
 
 -- a colour that no slot has, which is neither Black nor Purple, no slot has after each of the moves
 module _ (f : Colour → Bool) (black : f Black ≡ false) (purple : f Purple ≡ false) where
