@@ -1,6 +1,6 @@
 -- What the two tests of a set say, and what says it. Where nothing is at work the last set can be refurbished, and where it passed its
 -- tests it can be freed; it was tested as the function of the parts says, however that is told.
-use Rattle.std.proofs.Common.{◌≡◌, ℕ, ◌+◌, ◌<◌, Bool, true, false, not, cond, eqb, List, [], ◌∷◌, count_by, arith, refl, sym, ◌∙◌, ap, inl, inr, ◌-◌, Option, None, Some, length}
+use Rattle.std.proofs.Common.{◌≡◌, ℕ, ◌+◌, ◌<◌, Bool, true, false, not, cond, eqb, List, [], ◌∷◌, count_by, arith, refl, sym, ◌∙◌, subst, ap, inl, inr, ◌-◌, Option, None, Some, length}
 use Rattle.std.proofs.lemmas.List.Sums.{sum_by-cons}
 use Rattle.std.proofs.lemmas.Bool.{cases_lt, eqb-true, eq-eqb, ne_eqb, false≢true}
 use Rattle.std.proofs.lemmas.Bool.Decides.{eqb_tells}
@@ -23,6 +23,7 @@ use Rattle.rec_sigma.specs.Refurbish.{IsRefusable, LastRefurbished}
 use Rattle.rec_sigma.specs.Settling.{refurbished_of}
 use Rattle.rec_sigma.proofs.Renewals.{refurbished_last}
 use Rattle.rec_collector.specs.Testing.{touched, verdict_if, verdict_of, is_busy, is_busy_at, counted_by, last_tested, tested_as, zeros_released}
+use Rattle.rec_collector.specs.declared.verdict.Verdict.{Verdict}
 use Rattle.rec_collector.specs.declared.verdict.Verdict.TheVariants.{Passed, Touched, Held}
 use Rattle.rec_collector.specs.Clearing.{IsClearing, IsDone}
 use Rattle.rec_collector.specs.Parts.{Parts}
@@ -58,38 +59,25 @@ untouched s number e x h = orange_from (slot_at s x).colour (none_passes (λ y. 
 orange_untouched : (s : State) (number : ℕ) → AreOrange s number → touched s number ≡ 0
 orange_untouched s number o = all_fail (λ y. not (is_orange (slot_at s y).colour)) (members_of s number) (λ x h. ap (λ c. not (is_orange c)) (o x h))
 
-passed_if : (u h : Bool) → verdict_if u h ≡ Passed → (u ≡ true) × (h ≡ true)
-passed_if false h e = cc
-passed_if true false e = cc
-passed_if true true e = (refl, refl)
-
-touched_if : (u h : Bool) → verdict_if u h ≡ Touched → u ≡ false
-touched_if false h e = refl
-touched_if true false e = cc
-touched_if true true e = cc
-
-held_if : (u h : Bool) → verdict_if u h ≡ Held → (u ≡ true) × (h ≡ false)
-held_if false h e = cc
-held_if true false e = (refl, refl)
-held_if true true e = cc
-
 -- what a verdict says
-pub verdict_passed : (s : State) (number : ℕ) → verdict_of s number ≡ Passed → AreOrange s number × (cyclic_sum s number ≡ 0)
-verdict_passed s number e =
-    let t = passed_if (eqb (touched s number) 0) (eqb (cyclic_sum s number) 0) e in
-    (untouched s number (eqb-true (touched s number) 0 t.0), eqb-true (cyclic_sum s number) 0 t.1)
+abbrev pub Says : State → (number : ℕ) → Verdict → Type 0
+Says s number Passed = AreOrange s number × (cyclic_sum s number ≡ 0)
+Says s number Touched = AreOrange s number → ⊥
+Says s number Held = AreOrange s number × (0 < cyclic_sum s number)
 
-pub verdict_touched : (s : State) (number : ℕ) → verdict_of s number ≡ Touched → AreOrange s number → ⊥
-verdict_touched s number e o =
-    let t = touched_if (eqb (touched s number) 0) (eqb (cyclic_sum s number) 0) e in
-    false≢true (sym t ∙ eq-eqb (touched s number) 0 (orange_untouched s number o))
-
-pub verdict_held : (s : State) (number : ℕ) → verdict_of s number ≡ Held → AreOrange s number × (0 < cyclic_sum s number)
-verdict_held s number e =
-    let t = held_if (eqb (touched s number) 0) (eqb (cyclic_sum s number) 0) e in (
-      untouched s number (eqb-true (touched s number) 0 t.0),
-      elim (cases_lt 0 (cyclic_sum s number)) [ inl l ↦ l | inr l ↦ absurd (false≢true (sym t.1 ∙ eq-eqb (cyclic_sum s number) 0 (omega (arith, l)))) ],
+pub verdict_says : (s : State) (number : ℕ) → Says s number (verdict_of s number)
+verdict_says s number = go (eqb (touched s number) 0) (eqb (cyclic_sum s number) 0) refl refl
+  where
+    go : (u h : Bool) → eqb (touched s number) 0 ≡ u → eqb (cyclic_sum s number) 0 ≡ h → Says s number (verdict_if u h)
+    go false h e f = λ o. false≢true (sym e ∙ eq-eqb (touched s number) 0 (orange_untouched s number o))
+    go true true e f = (untouched s number (eqb-true (touched s number) 0 e), eqb-true (cyclic_sum s number) 0 f)
+    go true false e f = (
+      untouched s number (eqb-true (touched s number) 0 e),
+      elim (cases_lt 0 (cyclic_sum s number)) [ inl l ↦ l | inr l ↦ absurd (false≢true (sym f ∙ eq-eqb (cyclic_sum s number) 0 (omega (arith, l)))) ],
     )
+
+pub verdict_passed : (s : State) (number : ℕ) → verdict_of s number ≡ Passed → AreOrange s number × (cyclic_sum s number ≡ 0)
+verdict_passed s number e = subst (Says s number) e (verdict_says s number)
 
 -- and what says it
 pub passed_verdict : (s : State) (number : ℕ) → AreOrange s number → cyclic_sum s number ≡ 0 → verdict_of s number ≡ Passed

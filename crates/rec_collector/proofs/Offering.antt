@@ -2,7 +2,8 @@
 use Rattle.std.proofs.Common.{◌≡◌, ◌≢◌, ℕ, zero, suc, ◌+◌, ◌<◌, ◌≤◌, Bool, true, false, eqb, cond, List, [], ◌∷◌, length, filter, refl, arith, sym, ◌∙◌, ap, subst, inl, inr, ◌-◌, ◌++◌, map, take, drop, set, get_or}
 use Rattle.std.specs.List.{concat, range_with_len}
 use Rattle.std.proofs.lemmas.Bool.{cases_Bool, cases_eq, cases_lt, eq-eqb, ne_eqb}
-use Rattle.std.proofs.lemmas.List.{get_or_past, length-map, append-nil, append_assoc, drop_all, get_or-append_right, get_or-drop, get_or-set_same, get_or_default, length-append, length-drop, length-take, set-set, take_all}
+use Rattle.std.proofs.lemmas.List.FromFn.{filter_of_map_range_with_len_more}
+use Rattle.std.proofs.lemmas.List.{map-id, get_or_past, length-map, append-nil, append_assoc, drop_all, get_or-append_right, get_or-drop, get_or-set_same, get_or_default, length-append, length-drop, length-take, set-set, take_all}
 use Rattle.std.proofs.lemmas.List.Edits.{map_over_more}
 use Rattle.rec_counts.specs.declared.colour.Colour.{Colour}
 use Rattle.rec_counts.specs.declared.colour.Colour.TheVariants.{Purple, Orange}
@@ -19,7 +20,6 @@ use Rattle.rec_collector.specs.Followed.{with_offers}
 use Rattle.rec_collector.specs.Kept.{IsListed}
 use Rattle.rec_collector.specs.Offered.{offered, offered_if, offered_slot, offered_where, is_missing, is_missing_if, missing, AreOffered, KeepsOffered, offered_one, rooted_if}
 use Rattle.rec_collector.specs.Parts.{Parts}
-use Rattle.rec_collector.proofs.Tidy.{times_filter}
 
 -- a slot that is offered
 offered_at : (s : State) (x : ℕ) → slot_at (offered s) x ≡ offered_slot (slot_at s x)
@@ -65,47 +65,38 @@ where_keeps false s = record {
   zeros = refl;
 }
 
--- a number stands in a range once, where it is in it
-before_range : (x a n : ℕ) → x < a → times x (range_with_len a n) ≡ 0
-before_range x a zero l = times-nil x
-before_range x a (suc n) l =
-    let other : one (eqb x a) ≡ 0 = ap one (ne_eqb x a (λ e. omega (arith, e, l))) in
-    omega (arith, times-cons x a (range_with_len (a + 1) n), other, before_range x (a + 1) n (omega (arith, l)))
+-- the next number of a range, where it passes
+filter_more : (p : ℕ → Bool) (n : ℕ) → filter p (range_with_len 0 (n + 1)) ≡ filter p (range_with_len 0 n) ++ cond (p n) (n ∷ []) []
+filter_more p n = simp map-id at (filter_of_map_range_with_len_more p (λ x. x) 0 n n (omega arith))
 
-past_range : (x a n : ℕ) → a + n ≤ x → times x (range_with_len a n) ≡ 0
-past_range x a zero l = times-nil x
-past_range x a (suc n) l =
-    let other : one (eqb x a) ≡ 0 = ap one (ne_eqb x a (λ e. omega (arith, e, l))) in
-    omega (arith, times-cons x a (range_with_len (a + 1) n), other, past_range x (a + 1) n (omega (arith, l)))
-
--- so it stands once among those of a range that pass a test, where it passes
-once_passed : (p : ℕ → Bool) (x a n : ℕ) → a ≤ x → x < a + n → times x (filter p (range_with_len a n)) ≡ one (p x)
-once_passed p x a zero l h = absurd (omega (arith, l, h))
-once_passed p x a (suc n) l h = elim (cases_eq x a) [
-  | inl e ↦
-      let none : times x (filter p (range_with_len (a + 1) n)) ≡ 0 = omega (arith, times_filter p x (range_with_len (a + 1) n), before_range x (a + 1) n (omega (arith, e))) in
-      here (p a) (omega (arith, ap one (eq-eqb x a e))) none ∙ ap (λ y. one (p y)) (sym e)
-  | inr e ↦ there (p a) (omega (arith, ap one (ne_eqb x a e))) (once_passed p x (a + 1) n (first e) (omega (arith, h)))
-]
+-- so each number stands once among those below a bound that pass, where it is below and passes
+passed_below : (p : ℕ → Bool) (x n : ℕ) → (x < n → times x (filter p (range_with_len 0 n)) ≡ one (p x)) × (n ≤ x → times x (filter p (range_with_len 0 n)) ≡ 0)
+passed_below p x zero = (λ l. absurd (omega (arith, l)), λ l. times-nil x)
+passed_below p x (suc n) =
+    let i = passed_below p x n in
+    let next : n + 1 ≡ suc n = omega arith in
+    let more : times x (filter p (range_with_len 0 (suc n))) ≡ times x (filter p (range_with_len 0 n)) + times x (cond (p n) (n ∷ []) []) =
+    ap (λ m. times x (filter p (range_with_len 0 m))) (sym next) ∙ ap (times x) (filter_more p n) ∙ times-append x (filter p (range_with_len 0 n)) (cond (p n) (n ∷ []) []) in (
+      λ l. elim (cases_eq x n) [
+        | inl e ↦ omega (arith, more, i.1 (omega (arith, e)), here (p n) (ap one (eq-eqb x n e)), ap (λ y. one (p y)) e)
+        | inr e ↦ omega (arith, more, i.0 (omega (arith, l, e)), there (p n) (ap one (ne_eqb x n e)))
+      ],
+      λ l. omega (arith, more, i.1 (omega (arith, l)), there (p n) (ap one (ne_eqb x n (λ e. omega (arith, e, l))))),
+    )
   where
-    first : x ≢ a → a + 1 ≤ x
-    first e = omega (arith, e, l)
+    here : (b : Bool) → one (eqb x n) ≡ 1 → times x (cond b (n ∷ []) []) ≡ one b
+    here true e = omega (arith, e, times-cons x n [], times-nil x)
+    here false e = times-nil x
 
-    here : (b : Bool) → one (eqb x a) ≡ 1 → times x (filter p (range_with_len (a + 1) n)) ≡ 0 → times x (cond b (a ∷ filter p (range_with_len (a + 1) n)) (filter p (range_with_len (a + 1) n))) ≡ one b
-    here true e none = omega (arith, e, none, times-cons x a (filter p (range_with_len (a + 1) n)))
-    here false e none = none
-
-    there : (b : Bool) → one (eqb x a) ≡ 0 → times x (filter p (range_with_len (a + 1) n)) ≡ one (p x) → times x (cond b (a ∷ filter p (range_with_len (a + 1) n)) (filter p (range_with_len (a + 1) n))) ≡ one (p x)
-    there true e i = omega (arith, e, i, times-cons x a (filter p (range_with_len (a + 1) n)))
-    there false e i = i
+    there : (b : Bool) → one (eqb x n) ≡ 0 → times x (cond b (n ∷ []) []) ≡ 0
+    there true e = omega (arith, e, times-cons x n [], times-nil x)
+    there false e = times-nil x
 
 -- each slot that is missing from the buffers is added to the roots once
 missing_once : (s : State) (x : ℕ) → times x (missing s) ≡ one (is_missing (slot_at s x))
-missing_once s x = elim (cases_lt x (length s.slots)) [
-  | inl l ↦ once_passed (λ y. is_missing (slot_at s y)) x 0 (length s.slots) (omega arith) (omega (arith, l))
-  | inr l ↦
-      let none : one (is_missing (slot_at s x)) ≡ 0 = ap (λ (v : Slot). one (is_missing v)) (get_or_past s.slots x absent l) in
-      omega (arith, none, times_filter (λ y. is_missing (slot_at s y)) x (range_with_len 0 (length s.slots)), past_range x 0 (length s.slots) (omega (arith, l)))
+missing_once s x = let i = passed_below (λ y. is_missing (slot_at s y)) x (length s.slots) in elim (cases_lt x (length s.slots)) [
+  | inl l ↦ i.0 l
+  | inr l ↦ i.1 l ∙ sym (ap (λ (v : Slot). one (is_missing v)) (get_or_past s.slots x absent l))
 ]
 
 offered_roots : (s : State) (x : ℕ) → times x (offered s).roots ≡ times x s.roots + one (is_missing (slot_at s x))
@@ -248,16 +239,6 @@ to_all i s e = ap (λ n. offered_to n s) (sym e) ∙ ap (λ xs. record s { slots
     whole : map offered_slot (take (length s.slots) s.slots) ++ drop (length s.slots) s.slots ≡ map offered_slot s.slots
     whole = rw (take_all (length s.slots) s.slots (omega arith), drop_all (length s.slots) s.slots (omega arith)) (append-nil (map offered_slot s.slots))
 
--- the next number of a range, where it passes
-filter_more : (p : ℕ → Bool) (a n m : ℕ) → a + n ≡ m → filter p (range_with_len a (suc n)) ≡ filter p (range_with_len a n) ++ cond (p m) (m ∷ []) []
-filter_more p a zero m e = let same : a ≡ m = omega (arith, e) in ap (λ x. cond (p x) (x ∷ []) []) same
-filter_more p a (suc n) m e = go (p a) (filter_more p (a + 1) n m (omega (arith, e)))
-  where
-    go : (b : Bool) → filter p (range_with_len (a + 1) (suc n)) ≡ filter p (range_with_len (a + 1) n) ++ cond (p m) (m ∷ []) []
-        → cond b (a ∷ filter p (range_with_len (a + 1) (suc n))) (filter p (range_with_len (a + 1) (suc n))) ≡ cond b (a ∷ filter p (range_with_len (a + 1) n)) (filter p (range_with_len (a + 1) n)) ++ cond (p m) (m ∷ []) []
-    go true h = ap (λ xs. a ∷ xs) h
-    go false h = h
-
 -- the next slot is as it was
 next_same : (i : ℕ) (s : State) → i < length s.slots → slot_at (offered_to i s) i ≡ slot_at s i
 next_same i s l =
@@ -277,9 +258,7 @@ to_next i s t l e =
     let there : i < length now.slots = omega (arith, l, to_range i s) in
     let here : v ≡ get_or now.slots i v = get_or_default now.slots i absent v there in
     let slots : set now.slots i (offered_slot v) ≡ map offered_slot (take (i + 1) s.slots) ++ drop (i + 1) s.slots = map_over_more offered_slot s.slots now.slots i v l refl here in
-    let more : i + 1 ≡ suc i = omega arith in
-    let roots : filter (λ x. is_missing (slot_at s x)) (range_with_len 0 (i + 1)) ≡ filter (λ x. is_missing (slot_at s x)) (range_with_len 0 i) ++ cond (is_missing (slot_at s i)) (i ∷ []) [] =
-    ap (λ n. filter (λ x. is_missing (slot_at s x)) (range_with_len 0 n)) more ∙ filter_more (λ x. is_missing (slot_at s x)) 0 i i (omega arith) in
+    let roots : filter (λ x. is_missing (slot_at s x)) (range_with_len 0 (i + 1)) ≡ filter (λ x. is_missing (slot_at s x)) (range_with_len 0 i) ++ cond (is_missing (slot_at s i)) (i ∷ []) [] = filter_more (λ x. is_missing (slot_at s x)) i in
     e ∙ pushed (is_missing v) (with_slot now i (offered_slot v))
     ∙ ap (λ (xs : List Slot). record s { slots = xs; roots = now.roots ++ cond (is_missing v) (i ∷ []) [] }) slots
     ∙ ap (λ (w : Slot). record s { slots = map offered_slot (take (i + 1) s.slots) ++ drop (i + 1) s.slots; roots = now.roots ++ cond (is_missing w) (i ∷ []) [] }) (next_same i s l)

@@ -9,7 +9,9 @@ use Rattle.std.proofs.lemmas.Bool.Decides.{eqb_tells}
 use Rattle.rec_word.specs.Place.{places_of}
 use Rattle.rec_word.specs.Word.{is_slot}
 use Rattle.rec_log.specs.declared.contents.Contents.{Contents}
-use Rattle.rec_counts.specs.declared.colour.Colour.TheVariants.{Orange}
+use Rattle.rec_counts.specs.declared.colour.Colour.TheVariants.{Black, Orange, Purple}
+use Rattle.rec_counts.specs.declared.colour.Colour.{Colour}
+use Rattle.rec_counts.specs.Colour.{is_gray, is_white}
 use Rattle.rec_counts.specs.declared.slot.Slot.{Slot}
 use Rattle.rec_counts.specs.declared.slot.Due.{Due}
 use Rattle.rec_counts.specs.declared.slot.Due.TheVariants.{Nothing, Zero, Root}
@@ -27,7 +29,7 @@ use Rattle.rec_apply.proofs.Resting.{rest_all_up}
 use Rattle.rec_release.specs.CycleFree.{dead_if, given_up}
 use Rattle.rec_release.specs.Release.{without_first}
 use Rattle.rec_release.specs.Sweep.{swept}
-use Rattle.rec_release.specs.TakenOff.{down_if, is_lowered, taken_off, IsApart}
+use Rattle.rec_release.specs.TakenOff.{down_if, is_lowered, taken_off, IsApart, IsMember}
 use Rattle.rec_release.proofs.Giving.{given_slot}
 use Rattle.rec_release.proofs.TakenOff.{written}
 use Rattle.rec_release.proofs.Orange.{not_orange_at}
@@ -35,6 +37,7 @@ use Rattle.rec_sigma.specs.declared.fate.Fate.{Fate}
 use Rattle.rec_sigma.specs.declared.fate.Fate.TheVariants as fates
 use Rattle.rec_sigma.specs.Refurbish.{refurbished, LastRefurbished}
 use Rattle.rec_sigma.specs.Prepared.{PreparedTo, seen}
+use Rattle.rec_collector.specs.Clearing.{IsUntried}
 use Rattle.rec_collector.specs.Outside.{AreOutside, IsOutside, HasSets}
 use Rattle.rec_collector.specs.Kept.{IsAt, IsMachine}
 use Rattle.rec_collector.specs.Private.{Private}
@@ -64,6 +67,24 @@ outside_on s t l a = record {
       let i : IsOutside a.before s a.loads number x = a.members number x m.set m.colour in
       record { member = i.member; fewer = omega (arith, m.count, i.fewer); cyclic = omega (arith, m.count, m.cyclic, i.fewer, i.cyclic) };
 }
+
+-- orange slots stay apart where each was orange before, and neither the sets nor the zeros change
+pub apart_on : (s t : State) → t.sets ≡ s.sets → t.zeros ≡ s.zeros → ((x : ℕ) → (slot_at t x).colour ≡ Orange → ((slot_at s x).colour ≡ Orange) × ((slot_at t x).released ≡ (slot_at s x).released)) → IsApart s → IsApart t
+apart_on s t sets zeros was a x o =
+    let w = was x o in
+    let m : IsMember s x = a x w.0 in
+    record { member = rw sets m.member; no_zero = rw zeros m.no_zero; unreleased = w.1 ∙ m.unreleased }
+
+-- so they do where a slot becomes Black
+pub black_was : (s : State) (x : ℕ) (v : Slot) → v.colour ≡ Black → (y : ℕ) → (slot_at (with_slot s x v) y).colour ≡ Orange → ((slot_at s y).colour ≡ Orange) × ((slot_at (with_slot s x v) y).released ≡ (slot_at s y).released)
+black_was s x v b y o = elim (written s x v y) [
+  | inl q ↦ let n : Black ≡ Orange = sym b ∙ ap (λ (w : Slot). w.colour) (sym q.1) ∙ o in absurd (cc)
+  | inr q ↦ (ap (λ (w : Slot). w.colour) (sym q) ∙ o, ap (λ (w : Slot). w.released) q)
+]
+
+-- no trial is at work where a move makes no slot Gray or White
+pub untried_on : (s t : State) → t.marked ≡ s.marked → ((f : Colour → Bool) → f Black ≡ false → f Purple ≡ false → ((x : ℕ) → f (slot_at s x).colour ≡ false) → (x : ℕ) → f (slot_at t x).colour ≡ false) → IsUntried s → IsUntried t
+untried_on s t marked keeps u = record { marked = marked ∙ u.marked; no_gray = keeps is_gray refl refl u.no_gray; no_white = keeps is_white refl refl u.no_white }
 
 -- a slot that stays
 was_same : (number : ℕ) (u v : Slot) → v ≡ u → v.set ≡ Some number → v.colour ≡ Orange → WasMember number u v

@@ -38,8 +38,7 @@ use Rattle.rec_collector.specs.Causes.{HasCause}
 use Rattle.rec_collector.proofs.Clearing.{last_stays, StaysClear}
 use Rattle.rec_collector.proofs.Following.{HasCleared, begun_clears, freed_clears, released_clears}
 use Rattle.rec_collector.proofs.Goings.{last_sets}
-use Rattle.rec_collector.proofs.Judging.{last_refusable, none_busy, verdict_held, verdict_passed, verdict_touched}
-use Rattle.rec_collector.proofs.UnderTest.{tested_busy, tested_next_on, tested_none}
+use Rattle.rec_collector.proofs.Judging.{Says, verdict_says, last_refusable, none_busy, Says, verdict_says}
 use Rattle.rec_collector.proofs.Landing.{followed_phase, prepared_phase, tried_phase, work_of, work_phase, landed, now_at, under_way_at}
 use Rattle.rec_collector.proofs.Answering.{freeing_next, prep_next, release_next}
 use Rattle.rec_collector.proofs.Sweeping.{due_slot}
@@ -79,12 +78,12 @@ tried_on p w box = go (trial_next w.trial) refl
 -- the test of the last set
 last_test : (w : Parts) → LastRefurbished w.counts (refurbished_of w.counts) → IsTested w (last_tested w)
 unfolding last_tested
-last_test w r = go (verdict_of w.counts (length w.counts.sets - 1)) refl
+last_test w r = go (verdict_of w.counts (length w.counts.sets - 1)) (verdict_says w.counts (length w.counts.sets - 1))
   where
-    go : (verdict : Verdict) → verdict_of w.counts (length w.counts.sets - 1) ≡ verdict → IsTested w (tested_as verdict w)
-    go Passed e = let v = verdict_passed w.counts (length w.counts.sets - 1) e in IsTested.passes v.0 v.1 refl
-    go Touched e = IsTested.fails_delta (refurbished_of w.counts) (verdict_touched w.counts (length w.counts.sets - 1) e) r refl
-    go Held e = let v = verdict_held w.counts (length w.counts.sets - 1) e in IsTested.fails_sigma (refurbished_of w.counts) v.0 v.1 r refl
+    go : (verdict : Verdict) → Says w.counts (length w.counts.sets - 1) verdict → IsTested w (tested_as verdict w)
+    go Passed v = IsTested.passes v.0 v.1 refl
+    go Touched v = IsTested.fails_delta (refurbished_of w.counts) v r refl
+    go Held v = IsTested.fails_sigma (refurbished_of w.counts) v.0 v.1 r refl
 
 -- something is at work, or no set is left
 works_on : (p : Private) (w : Parts) (box : Contents) → (w.release.at ≡ None → w.freeing.at ≡ None → w.counts.sets ≡ []) → ClearsOn p (went p (tested_next w) box) (came_turn p.epoch (tested_next w).phase) w
@@ -100,24 +99,20 @@ busy_works : (w : Parts) → is_busy w ≡ true → w.release.at ≡ None → w.
 busy_works w b e f = let q : true ≡ false = sym b ∙ ap (λ at. is_busy_at at w.freeing.at) e ∙ ap (is_busy_at None) f in cc
 
 tested_on_from : (n : ℕ) (p : Private) (w : Parts) (box : Contents) → length w.counts.sets ≡ n → StaysClear w → ClearsOn p (went p (tested_next (tested n w)) box) (came_turn p.epoch (tested_next (tested n w)).phase) w
-tested_on_from zero p w box e c =
-    let same : tested zero w ≡ w = tested_none zero w refl in
-    subst (λ (v : Parts). ClearsOn p (went p (tested_next v) box) (came_turn p.epoch (tested_next v).phase) w) (sym same) (works_on p w box (λ still unfreed. nil_from_length w.counts.sets e))
+unfolding tested
+tested_on_from zero p w box e c = works_on p w box (λ still unfreed. nil_from_length w.counts.sets e)
 tested_on_from (suc n) p w box e c = go (is_busy w) refl (tested_on_from n p (last_tested w) box)
   where
+    some : 0 < length w.counts.sets
+    some = omega (arith, e)
+
     go : (b : Bool) → is_busy w ≡ b → (length (last_tested w).counts.sets ≡ n → StaysClear (last_tested w) → ClearsOn p (went p (tested_next (tested n (last_tested w))) box) (came_turn p.epoch (tested_next (tested n (last_tested w))).phase) (last_tested w))
-        → ClearsOn p (went p (tested_next (tested (suc n) w)) box) (came_turn p.epoch (tested_next (tested (suc n) w)).phase) w
-    go true b more =
-        let same : tested (suc n) w ≡ w = tested_busy (suc n) w b in
-        subst (λ (v : Parts). ClearsOn p (went p (tested_next v) box) (came_turn p.epoch (tested_next v).phase) w) (sym same) (works_on p w box (busy_works w b))
+        → ClearsOn p (went p (tested_next (cond b w (tested n (last_tested w)))) box) (came_turn p.epoch (tested_next (cond b w (tested n (last_tested w)))).phase) w
+    go true b more = works_on p w box (busy_works w b)
     go false b more =
-        let some : 0 < length w.counts.sets = omega (arith, e) in
-        let left : length (last_tested w).counts.sets ≡ n = omega (arith, e, last_sets w some) in
-        let same : tested (suc n) w ≡ tested n (last_tested w) = tested_next_on n w b in
         let idle = none_busy w b in
-        let r : LastRefurbished w.counts (refurbished_of w.counts) = refurbished_last w.counts c.counts (last_refusable w some b c.counts c.clearing c.done) in
-        subst (λ (v : Parts). ClearsOn p (went p (tested_next v) box) (came_turn p.epoch (tested_next v).phase) w) (sym same)
-        (ClearsOn.tests (last_tested w) idle.1 idle.0 some (last_test w r) (more left (last_stays w some b c)))
+        ClearsOn.tests (last_tested w) idle.1 idle.0 some (last_test w (refurbished_last w.counts c.counts (last_refusable w some b c.counts c.clearing c.done)))
+        (more (omega (arith, e, last_sets w some)) (last_stays w some b c))
 
 cleared_on : (p : Private) (w : Parts) (box : Contents) → HasCleared p w → ClearsOn p (went p (followed w) box) (came_turn p.epoch (followed w).phase) w
 unfolding followed

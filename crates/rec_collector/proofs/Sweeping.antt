@@ -1,18 +1,16 @@
 -- A sweep goes on, and a collection ends.
-use Rattle.std.proofs.Common.{◌≡◌, ap, sym, subst, ◌∙◌, ◌≢◌, ◌⊎◌, ℕ, ◌+◌, ◌*◌, ◌^◌, ◌<◌, ◌≤◌, true, eqb, inl, inr, Option, None, Some, IsNone, IsSome, List, [], ◌∷◌, length, map, drop, slice_get, refl, arith}
-use Rattle.std.proofs.lemmas.List.{length-set, length-map, get_or-set_same, get_or-set_other, get_or_past}
-use Rattle.std.proofs.lemmas.Bool.{cases_lt, false≢true}
+use Rattle.std.proofs.Common.{◌≡◌, ap, sym, subst, ◌∙◌, ◌≢◌, ℕ, ◌+◌, ◌*◌, ◌^◌, ◌<◌, ◌≤◌, true, eqb, inl, inr, Option, None, Some, IsNone, IsSome, List, [], ◌∷◌, length, map, drop, slice_get, refl, arith}
+use Rattle.std.proofs.lemmas.List.{length-set, length-map, get_or-set_same, get_or-set_other}
+use Rattle.std.proofs.lemmas.Bool.{false≢true}
 use Rattle.std.proofs.lemmas.Bool.Decides.{eqb_tells}
-use Rattle.rec_counts.specs.declared.colour.Colour.TheVariants.{Black, Orange}
 use Rattle.rec_counts.specs.declared.slot.Slot.{Slot}
 use Rattle.rec_counts.specs.Lists.{one, times}
 use Rattle.rec_counts.specs.Counts.{State, slot_at, IsKept as IsKeptCounts}
 use Rattle.rec_counts.specs.Slot.{absent, swept_clean}
-use Rattle.rec_counts.specs.Colour.{is_gray, is_white}
 use Rattle.rec_counts.proofs.Times.{times-cons}
 use Rattle.rec_release.specs.Sweep as sweeps
 use Rattle.rec_release.specs.Sweep.{swept, took_of, started_of, next_of}
-use Rattle.rec_release.specs.TakenOff.{IsApart, IsMember}
+use Rattle.rec_release.specs.TakenOff.{IsApart}
 use Rattle.rec_release.proofs.Sweeping.{unbuffered_swept}
 use Rattle.rec_release.proofs.TakenOff.{written}
 use Rattle.rec_trial.proofs.Worked.{kept_by_all}
@@ -27,7 +25,7 @@ use Rattle.rec_collector.specs.Zeros.{AreCounted}
 use Rattle.rec_collector.specs.Took.{cleared, ended, moved, swept_phase, swept_one, took_at, with_sweep}
 use Rattle.rec_collector.specs.declared.phase.Phase.TheVariants.{Opening, Sweeping, Closing}
 use Rattle.rec_collector.proofs.Landing.{freed_at, now_at, told_at, under_way_at}
-use Rattle.rec_collector.proofs.Outside.{outside_on, swept_lowers}
+use Rattle.rec_collector.proofs.Outside.{apart_on, black_was, untried_on, outside_on, swept_lowers}
 use Rattle.rec_collector.proofs.Rows.{cleared_sized, cleared_spares}
 
 -- the same fields make up the same machine
@@ -72,27 +70,10 @@ swept_listed s x first k y l t = elim (eqb_tells y x) [
 
 -- a swept slot is Black, and so it is of no trial
 swept_untried : (s : State) (x : ℕ) → IsUntried s → IsUntried (swept s x)
-swept_untried s x u = record {
-  marked = u.marked;
-  no_gray = kept_by_all (λ (v : Slot). is_gray v.colour) s x (swept_clean (slot_at s x)) refl u.no_gray;
-  no_white = kept_by_all (λ (v : Slot). is_white v.colour) s x (swept_clean (slot_at s x)) refl u.no_white;
-}
-
-black_orange : Black ≢ Orange
-black_orange e = cc
+swept_untried s x u = untried_on s (swept s x) refl (λ f black purple h. kept_by_all (λ (v : Slot). f v.colour) s x (swept_clean (slot_at s x)) black h) u
 
 swept_apart : (s : State) (x : ℕ) → IsApart s → IsApart (swept s x)
-swept_apart s x a = λ y e. elim (eqb_tells y x) [
-  | inl q ↦ absurd (black_orange (sym (swept_black (cases_lt x (length s.slots))) ∙ sym (ap (λ z. (slot_at (swept s x) z).colour) q.1) ∙ e))
-  | inr q ↦
-      let same : slot_at (swept s x) y ≡ slot_at s y = get_or-set_other s.slots x y (swept_clean (slot_at s x)) absent q.1 in
-      let m : IsMember s y = a y (sym (ap (λ (v : Slot). v.colour) same) ∙ e) in
-      record { member = m.member; no_zero = m.no_zero; unreleased = ap (λ (v : Slot). v.released) same ∙ m.unreleased }
-]
-  where
-    swept_black : (x < length s.slots) ⊎ (length s.slots ≤ x) → (slot_at (swept s x) x).colour ≡ Black
-    swept_black (inl l) = ap (λ (v : Slot). v.colour) (get_or-set_same s.slots x (swept_clean (slot_at s x)) absent l)
-    swept_black (inr l) = ap (λ (v : Slot). v.colour) (get_or_past (swept s x).slots x absent (omega (arith, l, length-set s.slots x (swept_clean (slot_at s x)))))
+swept_apart s x a = apart_on s (swept s x) refl refl (black_was s x (swept_clean (slot_at s x)) refl) a
 
 -- a swept slot has one count
 swept_counted : (s : State) (x : ℕ) → AreCounted s → AreCounted (swept s x)

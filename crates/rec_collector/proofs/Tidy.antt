@@ -17,7 +17,6 @@ use Rattle.rec_counts.specs.declared.colour.Colour.{Colour}
 use Rattle.rec_counts.specs.declared.slot.Due.{Due}
 use Rattle.rec_counts.specs.declared.slot.Due.TheVariants.{Nothing, Zero, Root}
 use Rattle.rec_counts.specs.Rest.{AreZeros}
-use Rattle.rec_counts.specs.Colour.{is_gray, is_white}
 use Rattle.rec_counts.proofs.Keeping.{field_kept}
 use Rattle.rec_release.specs.TakenOff.{IsMember, IsApart, down_if, is_lowered, taken_off, AllZerosButOrange}
 use Rattle.rec_release.specs.declared.at.At.{At}
@@ -34,7 +33,7 @@ use Rattle.rec_sigma.specs.declared.fate.Fate.TheVariants as fates
 use Rattle.rec_sigma.proofs.Refused.{released_after, same_count, same_released}
 use Rattle.rec_trial.proofs.Worked.{kept_by_all, lessened_colour}
 use Rattle.rec_collector.specs.Clearing.{IsTidy}
-use Rattle.rec_collector.proofs.Outside.{first_lowers, given_lowers, off_lowers, outside_on, refurbished_lowers, same_lowers}
+use Rattle.rec_collector.proofs.Outside.{untried_on, first_lowers, given_lowers, off_lowers, outside_on, refurbished_lowers, same_lowers}
 
 -- what the sets have, the earlier ones and the last have
 times_last : (x : ℕ) (xss : List (List ℕ)) → times x (concat xss) ≡ times x (concat (earlier_sets xss)) + times x (last_set xss)
@@ -133,7 +132,7 @@ pub tidy_off : {fields : ℕ} → (lowers : Bool) (s : State) (t : Option ℕ) (
 tidy_off lowers s t at h ready released i =
     let n : KeepsMost s (taken_off lowers s t) = off_most lowers s t in
     record {
-      untried = record { marked = n.marked ∙ i.untried.marked; no_gray = off_colour is_gray refl refl lowers s t i.untried.no_gray; no_white = off_colour is_white refl refl lowers s t i.untried.no_white };
+      untried = untried_on s (taken_off lowers s t) n.marked (λ f black purple h. off_colour f black purple lowers s t h) i.untried;
       apart = (off_keeps lowers s t h).apart i.apart;
       all_zeros = (off_keeps lowers s t h).zeros i.all_zeros;
       outside = outside_on s (taken_off lowers s t) (off_lowers lowers s t i.apart h) i.outside;
@@ -185,11 +184,7 @@ tidy_first (z ∷ zs) s e k i =
     let v : Slot = record (slot_at s z) { released = true } in
     let buffered : (x : ℕ) → (slot_at (with_slot s z v) x).buffered ≡ (slot_at s x).buffered = field_kept (λ (w : Slot). w.buffered) s.slots z v refl in
     record {
-      untried = record {
-        marked = i.untried.marked;
-        no_gray = kept_by_all (λ (w : Slot). is_gray w.colour) s z v (i.untried.no_gray z) i.untried.no_gray;
-        no_white = kept_by_all (λ (w : Slot). is_white w.colour) s z v (i.untried.no_white z) i.untried.no_white;
-      };
+      untried = untried_on s (without_first (z ∷ zs) s) refl (λ f black purple h. kept_by_all (λ (w : Slot). f w.colour) s z v (h z) h) i.untried;
       apart = subst (λ ys. IsApart (without_first ys s)) e ((next_keeps s k).keeps.apart i.apart);
       outside = outside_on s (without_first (z ∷ zs) s) (first_lowers (z ∷ zs) s) i.outside;
       all_zeros = subst (λ ys. AllZerosButOrange (without_first ys s)) e ((next_keeps s k).keeps.zeros i.all_zeros);
@@ -224,7 +219,7 @@ tidy_given s k f i =
     let ms : List ℕ = last_set s.sets in
     let inside : (x : ℕ) → Bool = λ x. is_in n (slot_at s x).set in
     record {
-      untried = record { marked = i.untried.marked; no_gray = given_colour is_gray refl refl s i.untried.no_gray; no_white = given_colour is_white refl refl s i.untried.no_white };
+      untried = untried_on s (given_up s) refl (λ f black purple h. given_colour f black purple s h) i.untried;
       apart = given_apart s k f i.apart;
       all_zeros = given_zeros s i.all_zeros;
       outside = outside_on s (given_up s) (given_lowers s) i.outside;
@@ -299,7 +294,7 @@ tidy_refurbished s t k f ready r i =
     let p : ℕ → Bool = λ y. is_free (fate_at s first y) in
     let free : (x : ℕ) → times x t.free ≡ times x s.free + times x (filter p ms) = λ x. ap (times x) r.free ∙ times-append x s.free (filter p ms) in
     record {
-      untried = record { marked = r.marked ∙ i.untried.marked; no_gray = refurbished_colour is_gray refl refl s t r i.untried.no_gray; no_white = refurbished_colour is_white refl refl s t r i.untried.no_white };
+      untried = untried_on s t r.marked (λ f black purple h. refurbished_colour f black purple s t r h) i.untried;
       apart = apart_refurbished s t k r i.apart;
       all_zeros = zeros_refurbished s t r i.all_zeros;
       outside = outside_on s t (refurbished_lowers s t r) i.outside;

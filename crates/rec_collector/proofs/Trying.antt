@@ -8,11 +8,11 @@ use Rattle.rec_word.specs.declared.op.Op.{Op}
 use Rattle.rec_counts.specs.declared.slot.Slot.{Slot}
 use Rattle.rec_counts.specs.Counts.{State, IsKept as IsKeptCounts, slot_at}
 use Rattle.rec_counts.specs.Lists.{times, one}
-use Rattle.rec_counts.specs.Colour.{is_gray, is_white, is_black}
+use Rattle.rec_counts.specs.Colour.{is_black}
 use Rattle.rec_counts.proofs.Times.{length-once, one-le, times-append, times-nil, one-none}
 use Rattle.rec_counts.specs.declared.colour.Colour.{Colour}
 use Rattle.rec_counts.specs.declared.colour.Colour.TheVariants.{Orange}
-use Rattle.rec_release.specs.TakenOff.{IsApart, IsMember}
+use Rattle.rec_release.specs.TakenOff.{IsApart}
 use Rattle.rec_sigma.specs.declared.at.At.{At}
 use Rattle.rec_sigma.specs.Prepare as preps
 use Rattle.rec_sigma.specs.Prepared.{KeepsOthers, PreparedTo, loaded_at}
@@ -28,7 +28,6 @@ use Rattle.rec_trial.proofs.Counted.{started_counted, took_counted}
 use Rattle.rec_trial.proofs.Keeps.{KeepsCounts, LeavesNothing, at_work_few, at_work_keeps, at_work_over, started_keeps, took_keeps}
 use Rattle.rec_trial.proofs.Midway.{times_released}
 use Rattle.rec_trial.proofs.Whole.{whole_over}
-use Rattle.rec_collector.specs.Clearing.{IsUntried}
 use Rattle.rec_collector.specs.Followed.{next_in, prep_started, prepared, prepared_at, sweep_phase, with_loaded, with_prep, trial_begun, tried, tried_at, with_tried}
 use Rattle.rec_collector.specs.Kept.{AreInPreparation, IsMachine, IsPreparing, IsSweeping, IsTried, all_fields, AreOnTrial, IsListed, IsTrying}
 use Rattle.rec_collector.specs.Parts.{Parts}
@@ -39,26 +38,14 @@ use Rattle.rec_collector.specs.declared.phase.Phase.TheVariants.{Preparing, Open
 use Rattle.rec_collector.specs.Zeros.{AreCounted}
 use Rattle.rec_collector.proofs.Landing.{Fits, Lands, fits_all, fits_on, fits_self, landed, now_at, told_at}
 use Rattle.rec_collector.proofs.Limits.{loads_few}
-use Rattle.rec_collector.proofs.Outside.{prepared_outside}
+use Rattle.rec_collector.proofs.Outside.{apart_on, untried_on, prepared_outside}
 
 -- What a trial has left holds still where no more than cyclic counts change.
-others_untried : {s t : State} → KeepsOthers s t → IsUntried s → IsUntried t
-others_untried o u = record {
-  marked = o.marked ∙ u.marked;
-  no_gray = λ x. ap (λ (v : Slot). is_gray v.colour) (o.slots x) ∙ u.no_gray x;
-  no_white = λ x. ap (λ (v : Slot). is_white v.colour) (o.slots x) ∙ u.no_white x;
-}
-
-others_apart : {s t : State} → KeepsOthers s t → IsApart s → IsApart t
-others_apart {s} {t} o a = λ x e.
-    let m : IsMember s x = a x (sym (ap (λ (v : Slot). v.colour) (o.slots x)) ∙ e) in
-    record { member = rw o.sets m.member; no_zero = rw o.zeros m.no_zero; unreleased = ap (λ (v : Slot). v.released) (o.slots x) ∙ m.unreleased }
-
 others_tried : (w : Parts) (v : preps.Work) → KeepsOthers w.counts v.counts → IsTried w → IsTried (with_prep w v)
 others_tried w v o t = record {
-  untried = others_untried o t.untried;
+  untried = untried_on w.counts v.counts o.marked (λ f black purple h x. ap (λ (u : Slot). f u.colour) (o.slots x) ∙ h x) t.untried;
   idle = t.idle;
-  apart = others_apart o t.apart;
+  apart = apart_on w.counts v.counts o.sets o.zeros (λ x e. (sym (ap (λ (u : Slot). u.colour) (o.slots x)) ∙ e, ap (λ (u : Slot). u.released) (o.slots x))) t.apart;
   counted = λ x r. omega (arith, ap (λ (u : Slot). u.count) (o.slots x), t.counted x (sym (ap (λ (u : Slot). u.released) (o.slots x)) ∙ r));
   zeros = o.zeros ∙ t.zeros;
   roots = o.roots ∙ t.roots;
