@@ -24,12 +24,11 @@ use Rattle.rec_release.specs.declared.at.At.{At}
 use Rattle.rec_release.proofs.TakenOff.{written}
 use Rattle.rec_sigma.specs.Prepare as preps
 use Rattle.rec_trial.specs.Trial.{Machine as Trial}
-use Rattle.rec_trial.proofs.Worked.{kept_by_all}
 use Rattle.rec_collector.specs.Clearing.{IsClearing, IsTidy}
 use Rattle.rec_collector.specs.Kept.{AreResting, IsAtRest, NoneReleased}
 use Rattle.rec_collector.specs.Parts.{Parts}
 use Rattle.rec_collector.proofs.Clearing.{release_idle, unfreed_clear}
-use Rattle.rec_collector.proofs.Outside.{apart_on, black_was, untried_on, outside_on, raised_lowers}
+use Rattle.rec_collector.proofs.Outside.{apart_on, black_was, untried_moved, outside_on, raised_lowers}
 use Rattle.rec_collector.proofs.Tidy.{tidy_off}
 
 -- a slot that was incremented is Black
@@ -50,7 +49,7 @@ tidy_up s (Some x) at i =
     let buffered : (y : ℕ) → (slot_at (with_slot s x v) y).buffered ≡ (slot_at s y).buffered = field_kept (λ (w : Slot). w.buffered) s.slots x v refl in
     let released : (y : ℕ) → (slot_at (with_slot s x v) y).released ≡ (slot_at s y).released = field_kept (λ (w : Slot). w.released) s.slots x v refl in
     record {
-      untried = untried_on s (with_slot s x v) refl (λ f black purple h. kept_by_all (λ (w : Slot). f w.colour) s x v black h) i.untried;
+      untried = untried_moved s (with_slot s x v) refl (raised_lowers s x) i.untried;
       apart = raised_apart s x i.apart;
       all_zeros = raised_zeros s x i.all_zeros;
       outside = outside_on s (with_slot s x v) (raised_lowers s x) i.outside;

@@ -52,9 +52,14 @@ pub record WasMember (number : ℕ) (u v : Slot) : Type 0 where
   pub count : v.count + by ≡ u.count
   pub cyclic : v.cyclic ≡ u.cyclic - by
 
--- so it is of each orange member
+-- A slot after a move: where it is an orange member it was one before; and it has no colour that it hadn't but Black or Purple.
+pub record Moved (u v : Slot) : Type 0 where
+  pub member : (number : ℕ) → v.set ≡ Some number → v.colour ≡ Orange → WasMember number u v
+  pub colours : (f : Colour → Bool) → f Black ≡ false → f Purple ≡ false → f u.colour ≡ false → f v.colour ≡ false
+
+-- so it is of each slot
 abbrev pub Lowers : (s t : State) → Type 0
-Lowers s t = (number x : ℕ) → (slot_at t x).set ≡ Some number → (slot_at t x).colour ≡ Orange → WasMember number (slot_at s x) (slot_at t x)
+Lowers s t = (x : ℕ) → Moved (slot_at s x) (slot_at t x)
 
 -- then the outside counts are right still
 pub outside_on : {fields : ℕ} → (s t : State) → Lowers s t → AreOutside fields s → AreOutside fields t
@@ -63,7 +68,7 @@ outside_on s t l a = record {
   loads = a.loads;
   places = a.places;
   members = λ number x e o.
-      let m = l number x e o in
+      let m = (l x).member number e o in
       let i : IsOutside a.before s a.loads number x = a.members number x m.set m.colour in
       record { member = i.member; fewer = omega (arith, m.count, i.fewer); cyclic = omega (arith, m.count, m.cyclic, i.fewer, i.cyclic) };
 }
@@ -83,41 +88,45 @@ black_was s x v b y o = elim (written s x v y) [
 ]
 
 -- no trial is at work where a move makes no slot Gray or White
-pub untried_on : (s t : State) → t.marked ≡ s.marked → ((f : Colour → Bool) → f Black ≡ false → f Purple ≡ false → ((x : ℕ) → f (slot_at s x).colour ≡ false) → (x : ℕ) → f (slot_at t x).colour ≡ false) → IsUntried s → IsUntried t
-untried_on s t marked keeps u = record { marked = marked ∙ u.marked; no_gray = keeps is_gray refl refl u.no_gray; no_white = keeps is_white refl refl u.no_white }
+pub untried_on : (s t : State) → t.marked ≡ s.marked → ((x : ℕ) (f : Colour → Bool) → f Black ≡ false → f Purple ≡ false → f (slot_at s x).colour ≡ false → f (slot_at t x).colour ≡ false) → IsUntried s → IsUntried t
+untried_on s t marked keeps u = record { marked = marked ∙ u.marked; no_gray = λ x. keeps x is_gray refl refl (u.no_gray x); no_white = λ x. keeps x is_white refl refl (u.no_white x) }
+
+pub untried_moved : (s t : State) → t.marked ≡ s.marked → Lowers s t → IsUntried s → IsUntried t
+untried_moved s t marked l u = untried_on s t marked (λ x. (l x).colours) u
 
 -- a slot that stays
-was_same : (number : ℕ) (u v : Slot) → v ≡ u → v.set ≡ Some number → v.colour ≡ Orange → WasMember number u v
-was_same number u v e s o = record {
-  set = ap (λ (w : Slot). w.set) (sym e) ∙ s;
-  colour = ap (λ (w : Slot). w.colour) (sym e) ∙ o;
-  by = 0;
-  count = omega (arith, ap (λ (w : Slot). w.count) e);
-  cyclic = omega (arith, ap (λ (w : Slot). w.cyclic) e);
+was_same : (u v : Slot) → v ≡ u → Moved u v
+was_same u v e = record {
+  member = λ number s o. record {
+    set = ap (λ (w : Slot). w.set) (sym e) ∙ s;
+    colour = ap (λ (w : Slot). w.colour) (sym e) ∙ o;
+    by = 0;
+    count = omega (arith, ap (λ (w : Slot). w.count) e);
+    cyclic = omega (arith, ap (λ (w : Slot). w.cyclic) e);
+  };
+  colours = λ f black purple h. ap (λ (w : Slot). f w.colour) e ∙ h;
 }
 
 -- no slot changes
 pub same_lowers : (s t : State) → ((x : ℕ) → slot_at t x ≡ slot_at s x) → Lowers s t
-same_lowers s t e number x i o = was_same number (slot_at s x) (slot_at t x) (e x) i o
+same_lowers s t e x = was_same (slot_at s x) (slot_at t x) (e x)
 
 -- one slot is written, of which this is known
-written_lowers : (s : State) (y : ℕ) (v : Slot) → ((number : ℕ) → v.set ≡ Some number → v.colour ≡ Orange → WasMember number (slot_at s y) v) → Lowers s (with_slot s y v)
-written_lowers s y v h number x i o = elim (written s y v x) [
-  | inl q ↦
-      let was : WasMember number (slot_at s y) v = h number (ap (λ (w : Slot). w.set) (sym q.1) ∙ i) (ap (λ (w : Slot). w.colour) (sym q.1) ∙ o) in
-      subst (λ (w : Slot). WasMember number (slot_at s x) w) (sym q.1) (subst (λ z. WasMember number (slot_at s z) v) (sym q.0) was)
-  | inr q ↦ was_same number (slot_at s x) (slot_at (with_slot s y v) x) q i o
+written_lowers : (s : State) (y : ℕ) (v : Slot) → Moved (slot_at s y) v → Lowers s (with_slot s y v)
+written_lowers s y v m x = elim (written s y v x) [
+  | inl q ↦ subst (λ (w : Slot). Moved (slot_at s x) w) (sym q.1) (subst (λ z. Moved (slot_at s z) v) (sym q.0) m)
+  | inr q ↦ was_same (slot_at s x) (slot_at (with_slot s y v) x) q
 ]
 
 -- a slot is incremented
 pub raised_lowers : (s : State) (x : ℕ) → Lowers s (with_slot s x (raised (slot_at s x)))
-raised_lowers s x = written_lowers s x (raised (slot_at s x)) (λ number i o. cc)
+raised_lowers s x = written_lowers s x (raised (slot_at s x)) (record { member = λ number i o. cc; colours = λ f black purple h. black })
 
 -- a reference is taken off: the slot is decremented
-lessened_member : (r l : Bool) (u : Slot) (number : ℕ) → u.released ≡ r → (u.colour ≡ Orange → u.released ≡ false) → (lessened_if r l u).colour ≡ Orange → WasMember number u (lessened_if r l u)
-lessened_member true l u number e a o = absurd (false≢true (sym (a o) ∙ e))
-lessened_member false true u number e a o = cc
-lessened_member false false u number e a o = cc
+lessened_member : (r l : Bool) (u : Slot) → u.released ≡ r → (u.colour ≡ Orange → u.released ≡ false) → Moved u (lessened_if r l u)
+lessened_member true l u e a = record { member = λ number i o. absurd (false≢true (sym (a o) ∙ e)); colours = λ f black purple h. h }
+lessened_member false true u e a = record { member = λ number i o. cc; colours = λ f black purple h. black }
+lessened_member false false u e a = record { member = λ number i o. cc; colours = λ f black purple h. purple }
 
 sent_lowers : (d : Due) (s t : State) (y : ℕ) → Lowers s t → Lowers s (sent d t y)
 sent_lowers Nothing s t y l = l
@@ -126,10 +135,10 @@ sent_lowers Root s t y l = l
 
 -- or lowered
 down_lowers : (b : Bool) (s : State) (y : ℕ) → IsApart s → 0 < (slot_at s y).count → Lowers s (down_if b s y)
-down_lowers true s y a h = written_lowers s y (lowered (slot_at s y)) (λ number i o. record { set = i; colour = o; by = 1; count = omega (arith, h); cyclic = refl })
+down_lowers true s y a h = written_lowers s y (lowered (slot_at s y)) (record { member = λ number i o. record { set = i; colour = o; by = 1; count = omega (arith, h); cyclic = refl }; colours = λ f black purple e. e })
 down_lowers false s y a h =
     let u : Slot = slot_at s y in
-    sent_lowers (due_of u) s (with_slot s y (lessened u)) y (written_lowers s y (lessened u) (λ number i o. lessened_member u.released (eqb u.count 1) u number refl (λ c. (a y c).unreleased) o))
+    sent_lowers (due_of u) s (with_slot s y (lessened u)) y (written_lowers s y (lessened u) (lessened_member u.released (eqb u.count 1) u refl (λ c. (a y c).unreleased)))
 
 pub off_lowers : (lowers : Bool) (s : State) (t : Option ℕ) → IsApart s → IfSome t (λ x. 0 < (slot_at s x).count) → Lowers s (taken_off lowers s t)
 off_lowers lowers s None a h = same_lowers s s (λ x. refl)
@@ -138,33 +147,31 @@ off_lowers lowers s (Some y) a h = down_lowers (is_lowered lowers (slot_at s y).
 -- the next of the zeros is released
 pub first_lowers : (zs : List ℕ) (s : State) → Lowers s (without_first zs s)
 first_lowers [] s = same_lowers s s (λ x. refl)
-first_lowers (z ∷ zs) s = written_lowers s z (record (slot_at s z) { released = true }) (λ number i o. record { set = i; colour = o; by = 0; count = omega arith; cyclic = omega arith })
+first_lowers (z ∷ zs) s = written_lowers s z (record (slot_at s z) { released = true }) (record { member = λ number i o. record { set = i; colour = o; by = 0; count = omega arith; cyclic = omega arith }; colours = λ f black purple h. h })
 
 -- the last set is given up
-given_member : (b : Bool) (u : Slot) (number : ℕ) → (dead_if b (unbuffered_if b u)).set ≡ Some number → (dead_if b (unbuffered_if b u)).colour ≡ Orange → WasMember number u (dead_if b (unbuffered_if b u))
-given_member true u number i o = cc
-given_member false u number i o = was_same number u u refl i o
+given_member : (b : Bool) (u : Slot) → Moved u (dead_if b (unbuffered_if b u))
+given_member true u = record { member = λ number i o. cc; colours = λ f black purple h. black }
+given_member false u = was_same u u refl
 
 pub given_lowers : (s : State) → Lowers s (given_up s)
-given_lowers s number x i o =
-    let b : Bool = is_in (length s.sets - 1) (slot_at s x).set in
-    let q = given_slot s x in
-    subst (λ (v : Slot). WasMember number (slot_at s x) v) (sym q) (given_member b (slot_at s x) number (ap (λ (v : Slot). v.set) (sym q) ∙ i) (ap (λ (v : Slot). v.colour) (sym q) ∙ o))
+given_lowers s x = subst (λ (v : Slot). Moved (slot_at s x) v) (sym (given_slot s x)) (given_member (is_in (length s.sets - 1) (slot_at s x).set) (slot_at s x))
 
 -- the last set is refurbished
-fate_member : (f : Fate) (u v : Slot) (number : ℕ) → v ≡ refurbished f u → v.set ≡ Some number → WasMember number u v
-fate_member fates.Free u v number e i = cc
-fate_member _ u v number e i = cc
+fate_member : (f : Fate) (u : Slot) → Moved u (refurbished f u)
+fate_member fates.Free u = record { member = λ number i o. cc; colours = λ f black purple h. h }
+fate_member fates.Root u = record { member = λ number i o. cc; colours = λ f black purple h. purple }
+fate_member _ u = record { member = λ number i o. cc; colours = λ f black purple h. black }
 
 pub refurbished_lowers : (s t : State) → LastRefurbished s t → Lowers s t
-refurbished_lowers s t r number x i o = elim (cases_lt 0 (times x (last_set s.sets))) [
-  | inl m ↦ fate_member _ (slot_at s x) (slot_at t x) number (r.inside x m) i
-  | inr m ↦ was_same number (slot_at s x) (slot_at t x) (r.others x (omega (arith, m))) i o
+refurbished_lowers s t r x = elim (cases_lt 0 (times x (last_set s.sets))) [
+  | inl m ↦ subst (λ (v : Slot). Moved (slot_at s x) v) (sym (r.inside x m)) (fate_member _ (slot_at s x))
+  | inr m ↦ was_same (slot_at s x) (slot_at t x) (r.others x (omega (arith, m)))
 ]
 
 -- a slot is swept
 pub swept_lowers : (s : State) (x : ℕ) → Lowers s (swept s x)
-swept_lowers s x = written_lowers s x (swept_clean (slot_at s x)) (λ number i o. cc)
+swept_lowers s x = written_lowers s x (swept_clean (slot_at s x)) (record { member = λ number i o. cc; colours = λ f black purple h. black })
 
 -- there are no sets
 pub none_outside : (fields : ℕ) (s : State) → s.sets ≡ [] → ((x : ℕ) → (slot_at s x).set ≡ None) → AreOutside fields s

@@ -13,19 +13,17 @@ use Rattle.rec_release.specs.Sweep.{swept, took_of, started_of, next_of}
 use Rattle.rec_release.specs.TakenOff.{IsApart}
 use Rattle.rec_release.proofs.Sweeping.{unbuffered_swept}
 use Rattle.rec_release.proofs.TakenOff.{written}
-use Rattle.rec_trial.proofs.Worked.{kept_by_all}
 use Rattle.rec_collector.specs.Inside.{private}
 use Rattle.rec_collector.specs.Kept.{IsMachine, ArePrepared, IsAt, IsSweeping, IsTried}
 use Rattle.rec_collector.specs.Private.{Private, parts_of}
 use Rattle.rec_collector.specs.declared.machine.Machine.TheInside.{Inside}
 use Rattle.rec_collector.specs.declared.phase.Phase.{Phase}
-use Rattle.rec_collector.specs.Clearing.{IsUntried}
 use Rattle.rec_collector.specs.Parts.{Parts}
 use Rattle.rec_collector.specs.Zeros.{AreCounted}
 use Rattle.rec_collector.specs.Took.{cleared, ended, moved, swept_phase, swept_one, took_at, with_sweep}
 use Rattle.rec_collector.specs.declared.phase.Phase.TheVariants.{Opening, Sweeping, Closing}
 use Rattle.rec_collector.proofs.Landing.{freed_at, now_at, told_at, under_way_at}
-use Rattle.rec_collector.proofs.Outside.{apart_on, black_was, untried_on, outside_on, swept_lowers}
+use Rattle.rec_collector.proofs.Outside.{apart_on, black_was, untried_moved, outside_on, swept_lowers}
 use Rattle.rec_collector.proofs.Rows.{cleared_sized, cleared_spares}
 
 -- the same fields make up the same machine
@@ -68,10 +66,7 @@ swept_listed s x first k y l t = elim (eqb_tells y x) [
       omega (arith, other, first_gone s.free x y first, k y (omega (arith, l, length-set s.slots x (swept_clean (slot_at s x)))) was)
 ]
 
--- a swept slot is Black, and so it is of no trial
-swept_untried : (s : State) (x : ℕ) → IsUntried s → IsUntried (swept s x)
-swept_untried s x u = untried_on s (swept s x) refl (λ f black purple h. kept_by_all (λ (v : Slot). f v.colour) s x (swept_clean (slot_at s x)) black h) u
-
+-- a swept slot is Black
 swept_apart : (s : State) (x : ℕ) → IsApart s → IsApart (swept s x)
 swept_apart s x a = apart_on s (swept s x) refl refl (black_was s x (swept_clean (slot_at s x)) refl) a
 
@@ -84,7 +79,7 @@ swept_counted s x c = λ y r. elim (written s x (swept_clean (slot_at s x)) y) [
 
 swept_tried : (w : Parts) (x : ℕ) → slice_get w.counts.free 0 ≡ Some x → IsTried w → IsTried (record w { counts = swept w.counts x })
 swept_tried w x first t = record {
-  untried = swept_untried w.counts x t.untried;
+  untried = untried_moved w.counts (swept w.counts x) refl (swept_lowers w.counts x) t.untried;
   idle = t.idle;
   apart = swept_apart w.counts x t.apart;
   counted = swept_counted w.counts x t.counted;

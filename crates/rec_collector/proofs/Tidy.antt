@@ -6,19 +6,17 @@ use Rattle.std.proofs.lemmas.Bool.{true≢false, cases_Bool, cases_lt, eq-eqb, f
 use Rattle.std.proofs.lemmas.List.{length-set}
 use Rattle.std.proofs.lemmas.Bool.Decides.{eqb_tells}
 use Rattle.rec_word.specs.Word.{is_slot}
-use Rattle.rec_counts.specs.declared.colour.Colour.TheVariants.{Orange, Black, Purple}
+use Rattle.rec_counts.specs.declared.colour.Colour.TheVariants.{Orange}
 use Rattle.rec_counts.specs.declared.slot.Slot.{Slot}
-use Rattle.rec_counts.specs.Counts.{State, IsKept, slot_at, with_slot, sent}
+use Rattle.rec_counts.specs.Counts.{State, IsKept, slot_at, with_slot}
 use Rattle.rec_counts.specs.Groups.{last_set, earlier_sets}
 use Rattle.rec_counts.specs.Lists.{one, times}
-use Rattle.rec_counts.specs.Slot.{is_in, lessened, lowered, due_of, unbuffered_if}
+use Rattle.rec_counts.specs.Slot.{is_in, unbuffered_if}
 use Rattle.rec_counts.proofs.Times.{times-nil, times-cons, times-append, times_push}
-use Rattle.rec_counts.specs.declared.colour.Colour.{Colour}
-use Rattle.rec_counts.specs.declared.slot.Due.{Due}
-use Rattle.rec_counts.specs.declared.slot.Due.TheVariants.{Nothing, Zero, Root}
+use Rattle.rec_counts.specs.declared.slot.Due.TheVariants.{Zero}
 use Rattle.rec_counts.specs.Rest.{AreZeros}
 use Rattle.rec_counts.proofs.Keeping.{field_kept}
-use Rattle.rec_release.specs.TakenOff.{IsMember, IsApart, down_if, is_lowered, taken_off, AllZerosButOrange}
+use Rattle.rec_release.specs.TakenOff.{IsMember, IsApart, taken_off, AllZerosButOrange}
 use Rattle.rec_release.specs.declared.at.At.{At}
 use Rattle.rec_release.specs.CycleFree.{dead_if, given_up, listed, IsFreeable}
 use Rattle.rec_release.specs.Release.{emptied, first_of, listed_if, without_first, IsReady}
@@ -31,9 +29,8 @@ use Rattle.rec_sigma.specs.declared.fate.Fate.TheVariants.{Free}
 use Rattle.rec_sigma.specs.Refurbish.{fate_at, fate_if, is_root, is_zero, refurbished, LastRefurbished, is_free, IsRefusable}
 use Rattle.rec_sigma.specs.declared.fate.Fate.TheVariants as fates
 use Rattle.rec_sigma.proofs.Refused.{released_after, same_count, same_released}
-use Rattle.rec_trial.proofs.Worked.{kept_by_all, lessened_colour}
 use Rattle.rec_collector.specs.Clearing.{IsTidy}
-use Rattle.rec_collector.proofs.Outside.{untried_on, first_lowers, given_lowers, off_lowers, outside_on, refurbished_lowers, same_lowers}
+use Rattle.rec_collector.proofs.Outside.{untried_moved, first_lowers, given_lowers, off_lowers, outside_on, refurbished_lowers, same_lowers}
 
 -- what the sets have, the earlier ones and the last have
 times_last : (x : ℕ) (xss : List (List ℕ)) → times x (concat xss) ≡ times x (concat (earlier_sets xss)) + times x (last_set xss)
@@ -91,48 +88,12 @@ apart_refurbished s t k r a = λ x o.
           }
     ]
 
--- a colour that no slot has, which is neither Black nor Purple, no slot has after each of the moves
-module _ (f : Colour → Bool) (black : f Black ≡ false) (purple : f Purple ≡ false) where
-  sent_colour : (d : Due) (s : State) (y : ℕ) → ((x : ℕ) → f (slot_at s x).colour ≡ false) → (x : ℕ) → f (slot_at (sent d s y) x).colour ≡ false
-  sent_colour Nothing s y h x = h x
-  sent_colour Zero s y h x = h x
-  sent_colour Root s y h x = h x
-
-  down_colour : (b : Bool) (s : State) (y : ℕ) → ((x : ℕ) → f (slot_at s x).colour ≡ false) → (x : ℕ) → f (slot_at (down_if b s y) x).colour ≡ false
-  down_colour true s y h = kept_by_all (λ (v : Slot). f v.colour) s y (lowered (slot_at s y)) (h y) h
-  down_colour false s y h =
-      let v : Slot = slot_at s y in
-      sent_colour (due_of v) (with_slot s y (lessened v)) y (kept_by_all (λ (w : Slot). f w.colour) s y (lessened v) (lessened_colour v (λ (w : Slot). f w.colour) (h y) black purple (h y) (h y)) h)
-
-  off_colour : (lowers : Bool) (s : State) (t : Option ℕ) → ((x : ℕ) → f (slot_at s x).colour ≡ false) → (x : ℕ) → f (slot_at (taken_off lowers s t) x).colour ≡ false
-  off_colour lowers s None h = h
-  off_colour lowers s (Some y) h = down_colour (is_lowered lowers (slot_at s y).colour) s y h
-
-  dead_colour : (b : Bool) (v : Slot) → f v.colour ≡ false → f (dead_if b (unbuffered_if b v)).colour ≡ false
-  dead_colour true v h = black
-  dead_colour false v h = h
-
-  given_colour : (s : State) → ((x : ℕ) → f (slot_at s x).colour ≡ false) → (x : ℕ) → f (slot_at (given_up s) x).colour ≡ false
-  given_colour s h x = ap (λ (v : Slot). f v.colour) (given_slot s x) ∙ dead_colour (is_in (length s.sets - 1) (slot_at s x).set) (slot_at s x) (h x)
-
-  fate_colour : (g : Fate) (v : Slot) → f v.colour ≡ false → f (refurbished g v).colour ≡ false
-  fate_colour fates.Free v h = h
-  fate_colour fates.Zero v h = black
-  fate_colour fates.Root v h = purple
-  fate_colour fates.Plain v h = black
-
-  refurbished_colour : (s t : State) → LastRefurbished s t → ((x : ℕ) → f (slot_at s x).colour ≡ false) → (x : ℕ) → f (slot_at t x).colour ≡ false
-  refurbished_colour s t r h x = elim (cases_lt 0 (times x (last_set s.sets))) [
-    | inl l ↦ ap (λ (v : Slot). f v.colour) (r.inside x l) ∙ fate_colour (fate_at s (slice_get (last_set s.sets) 0) x) (slot_at s x) (h x)
-    | inr l ↦ ap (λ (v : Slot). f v.colour) (r.others x (omega (arith, l))) ∙ h x
-  ]
-
 -- a reference is taken off, where what the work list has is released
 pub tidy_off : {fields : ℕ} → (lowers : Bool) (s : State) (t : Option ℕ) (at : Option At) → IfSome t (λ x. 0 < (slot_at s x).count) → IsReady s → ((x : ℕ) → 0 < times x s.work → (slot_at s x).released ≡ true) → IsTidy fields s at → IsTidy fields (taken_off lowers s t) at
 tidy_off lowers s t at h ready released i =
     let n : KeepsMost s (taken_off lowers s t) = off_most lowers s t in
     record {
-      untried = untried_on s (taken_off lowers s t) n.marked (λ f black purple h. off_colour f black purple lowers s t h) i.untried;
+      untried = untried_moved s (taken_off lowers s t) n.marked (off_lowers lowers s t i.apart h) i.untried;
       apart = (off_keeps lowers s t h).apart i.apart;
       all_zeros = (off_keeps lowers s t h).zeros i.all_zeros;
       outside = outside_on s (taken_off lowers s t) (off_lowers lowers s t i.apart h) i.outside;
@@ -184,7 +145,7 @@ tidy_first (z ∷ zs) s e k i =
     let v : Slot = record (slot_at s z) { released = true } in
     let buffered : (x : ℕ) → (slot_at (with_slot s z v) x).buffered ≡ (slot_at s x).buffered = field_kept (λ (w : Slot). w.buffered) s.slots z v refl in
     record {
-      untried = untried_on s (without_first (z ∷ zs) s) refl (λ f black purple h. kept_by_all (λ (w : Slot). f w.colour) s z v (h z) h) i.untried;
+      untried = untried_moved s (without_first (z ∷ zs) s) refl (first_lowers (z ∷ zs) s) i.untried;
       apart = subst (λ ys. IsApart (without_first ys s)) e ((next_keeps s k).keeps.apart i.apart);
       outside = outside_on s (without_first (z ∷ zs) s) (first_lowers (z ∷ zs) s) i.outside;
       all_zeros = subst (λ ys. AllZerosButOrange (without_first ys s)) e ((next_keeps s k).keeps.zeros i.all_zeros);
@@ -219,7 +180,7 @@ tidy_given s k f i =
     let ms : List ℕ = last_set s.sets in
     let inside : (x : ℕ) → Bool = λ x. is_in n (slot_at s x).set in
     record {
-      untried = untried_on s (given_up s) refl (λ f black purple h. given_colour f black purple s h) i.untried;
+      untried = untried_moved s (given_up s) refl (given_lowers s) i.untried;
       apart = given_apart s k f i.apart;
       all_zeros = given_zeros s i.all_zeros;
       outside = outside_on s (given_up s) (given_lowers s) i.outside;
@@ -294,7 +255,7 @@ tidy_refurbished s t k f ready r i =
     let p : ℕ → Bool = λ y. is_free (fate_at s first y) in
     let free : (x : ℕ) → times x t.free ≡ times x s.free + times x (filter p ms) = λ x. ap (times x) r.free ∙ times-append x s.free (filter p ms) in
     record {
-      untried = untried_on s t r.marked (λ f black purple h. refurbished_colour f black purple s t r h) i.untried;
+      untried = untried_moved s t r.marked (refurbished_lowers s t r) i.untried;
       apart = apart_refurbished s t k r i.apart;
       all_zeros = zeros_refurbished s t r i.all_zeros;
       outside = outside_on s t (refurbished_lowers s t r) i.outside;

@@ -43,7 +43,7 @@ use Rattle.rec_collector.proofs.Outside.{apart_on, untried_on, prepared_outside}
 -- What a trial has left holds still where no more than cyclic counts change.
 others_tried : (w : Parts) (v : preps.Work) → KeepsOthers w.counts v.counts → IsTried w → IsTried (with_prep w v)
 others_tried w v o t = record {
-  untried = untried_on w.counts v.counts o.marked (λ f black purple h x. ap (λ (u : Slot). f u.colour) (o.slots x) ∙ h x) t.untried;
+  untried = untried_on w.counts v.counts o.marked (λ x f black purple h. ap (λ (u : Slot). f u.colour) (o.slots x) ∙ h) t.untried;
   idle = t.idle;
   apart = apart_on w.counts v.counts o.sets o.zeros (λ x e. (sym (ap (λ (u : Slot). u.colour) (o.slots x)) ∙ e, ap (λ (u : Slot). u.released) (o.slots x))) t.apart;
   counted = λ x r. omega (arith, ap (λ (u : Slot). u.count) (o.slots x), t.counted x (sym (ap (λ (u : Slot). u.released) (o.slots x)) ∙ r));
