@@ -4,13 +4,11 @@ use Rattle.std.specs.List.{flat_map}
 use Rattle.std.proofs.lemmas.List.{length-set}
 use Rattle.std.proofs.lemmas.Bool.{cases_Bool}
 use Rattle.rec_log.specs.declared.contents.Contents.{Contents}
-use Rattle.rec_counts.specs.declared.colour.Colour.TheVariants.{Black, Orange}
 use Rattle.rec_counts.specs.declared.slot.Slot.{Slot}
 use Rattle.rec_counts.specs.Counts.{State, slot_at, with_slot}
 use Rattle.rec_counts.specs.Lists.{times}
 use Rattle.rec_counts.specs.Rest.{KeepsRest}
 use Rattle.rec_counts.specs.Slot.{raised}
-use Rattle.rec_counts.specs.Colour.{is_gray, is_white}
 use Rattle.rec_counts.proofs.Decrementing.{rest_decremented}
 use Rattle.rec_counts.proofs.Keeping.{field_kept}
 use Rattle.rec_counts.proofs.Times.{times-nil}
@@ -21,27 +19,21 @@ use Rattle.rec_apply.proofs.Whole.{batch_rests}
 use Rattle.rec_release.specs.CycleFree as frees
 use Rattle.rec_release.specs.Release as releases
 use Rattle.rec_release.specs.Release.{IsReady}
-use Rattle.rec_release.specs.TakenOff.{AllZerosButOrange, IsApart, IsMember}
+use Rattle.rec_release.specs.TakenOff.{AllZerosButOrange, IsApart}
 use Rattle.rec_release.specs.declared.at.At.{At}
 use Rattle.rec_release.proofs.TakenOff.{written}
 use Rattle.rec_sigma.specs.Prepare as preps
 use Rattle.rec_trial.specs.Trial.{Machine as Trial}
-use Rattle.rec_trial.proofs.Worked.{kept_by_all}
 use Rattle.rec_collector.specs.Clearing.{IsClearing, IsTidy}
 use Rattle.rec_collector.specs.Kept.{AreResting, IsAtRest, NoneReleased}
 use Rattle.rec_collector.specs.Parts.{Parts}
 use Rattle.rec_collector.proofs.Clearing.{release_idle, unfreed_clear}
-use Rattle.rec_collector.proofs.Outside.{outside_on, raised_lowers}
+use Rattle.rec_collector.proofs.Outside.{apart_on, black_was, untried_moved, outside_on, raised_lowers}
 use Rattle.rec_collector.proofs.Tidy.{tidy_off}
 
 -- a slot that was incremented is Black
 raised_apart : (s : State) (x : ℕ) → IsApart s → IsApart (with_slot s x (raised (slot_at s x)))
-raised_apart s x a y o = elim (written s x (raised (slot_at s x)) y) [
-  | inl q ↦ let b : Black ≡ Orange = ap (λ (v : Slot). v.colour) (sym q.1) ∙ o in cc
-  | inr q ↦
-      let m : IsMember s y = a y (ap (λ (v : Slot). v.colour) (sym q) ∙ o) in
-      record { member = m.member; no_zero = m.no_zero; unreleased = ap (λ (v : Slot). v.released) q ∙ m.unreleased }
-]
+raised_apart s x a = apart_on s (with_slot s x (raised (slot_at s x))) refl refl (black_was s x (raised (slot_at s x)) refl) a
 
 -- and has a count
 raised_zeros : (s : State) (x : ℕ) → AllZerosButOrange s → AllZerosButOrange (with_slot s x (raised (slot_at s x)))
@@ -57,11 +49,7 @@ tidy_up s (Some x) at i =
     let buffered : (y : ℕ) → (slot_at (with_slot s x v) y).buffered ≡ (slot_at s y).buffered = field_kept (λ (w : Slot). w.buffered) s.slots x v refl in
     let released : (y : ℕ) → (slot_at (with_slot s x v) y).released ≡ (slot_at s y).released = field_kept (λ (w : Slot). w.released) s.slots x v refl in
     record {
-      untried = record {
-        marked = i.untried.marked;
-        no_gray = kept_by_all (λ (w : Slot). is_gray w.colour) s x v refl i.untried.no_gray;
-        no_white = kept_by_all (λ (w : Slot). is_white w.colour) s x v refl i.untried.no_white;
-      };
+      untried = untried_moved s (with_slot s x v) refl (raised_lowers s x) i.untried;
       apart = raised_apart s x i.apart;
       all_zeros = raised_zeros s x i.all_zeros;
       outside = outside_on s (with_slot s x v) (raised_lowers s x) i.outside;

@@ -17,7 +17,7 @@ use Rattle.rec_walk.specs.Walk as walks
 use Rattle.rec_release.proofs.Keeping.{next_sets}
 use Rattle.rec_release.proofs.TakenOff.{KeepsMost, off_most}
 use Rattle.rec_sigma.specs.declared.fate.Fate.{Fate}
-use Rattle.rec_sigma.specs.declared.fate.Fate.TheVariants.{Free, Zero, Root, Plain}
+use Rattle.rec_sigma.specs.declared.fate.Fate.TheVariants.{Free}
 use Rattle.rec_sigma.specs.Refurbish.{coloured, fate_at}
 use Rattle.rec_sigma.specs.Settling.{refurbished_of, settled, settled_all}
 use Rattle.rec_sigma.proofs.Renewals.{dropped}
@@ -143,31 +143,24 @@ last_by P w passed refused = go (verdict_of w.counts (length w.counts.sets - 1))
     go Held e = refused Held
 
 -- the sets, and the number of slots, of a state in which all members of the last set got their places
-all_sets : (first : Option ℕ) (xs : List ℕ) (s : State) → (settled_all first xs s).sets ≡ s.sets
-all_sets first [] s = refl
-all_sets first (x ∷ xs) s = let f : Fate = fate_at s first x in all_sets first xs (settled f s x) ∙ one_sets f
+all_same : (first : Option ℕ) (xs : List ℕ) (s : State) → ((settled_all first xs s).sets ≡ s.sets) × (length (settled_all first xs s).slots ≡ length s.slots)
+all_same first [] s = (refl, refl)
+all_same first (x ∷ xs) s =
+    let f : Fate = fate_at s first x in
+    let more = all_same first xs (settled f s x) in
+    (more.0 ∙ (one f).0, more.1 ∙ (one f).1)
   where
-    one_sets : (f : Fate) → (settled f s x).sets ≡ s.sets
-    one_sets Free = refl
-    one_sets _ = refl
-
-all_many : (first : Option ℕ) (xs : List ℕ) (s : State) → length (settled_all first xs s).slots ≡ length s.slots
-all_many first [] s = refl
-all_many first (x ∷ xs) s = let f : Fate = fate_at s first x in all_many first xs (settled f s x) ∙ one_many f
-  where
-    one_many : (f : Fate) → length (settled f s x).slots ≡ length s.slots
-    one_many Free = refl
-    one_many Zero = length-set s.slots x (coloured Zero (slot_at s x))
-    one_many Root = length-set s.slots x (coloured Root (slot_at s x))
-    one_many Plain = length-set s.slots x (coloured Plain (slot_at s x))
+    one : (f : Fate) → ((settled f s x).sets ≡ s.sets) × (length (settled f s x).slots ≡ length s.slots)
+    one Free = (refl, refl)
+    one f = (refl, length-set s.slots x (coloured f (slot_at s x)))
 
 refurbished_sets : (s : State) → (refurbished_of s).sets ≡ earlier_sets s.sets
 unfolding refurbished_of
-refurbished_sets s = all_sets (slice_get (last_set s.sets) 0) (last_set s.sets) (dropped s)
+refurbished_sets s = (all_same (slice_get (last_set s.sets) 0) (last_set s.sets) (dropped s)).0
 
 pub refurbished_many : (s : State) → length (refurbished_of s).slots ≡ length s.slots
 unfolding refurbished_of
-refurbished_many s = all_many (slice_get (last_set s.sets) 0) (last_set s.sets) (dropped s) ∙ length-map s.slots (out_of_set (length s.sets - 1))
+refurbished_many s = (all_same (slice_get (last_set s.sets) 0) (last_set s.sets) (dropped s)).1 ∙ length-map s.slots (out_of_set (length s.sets - 1))
 
 -- the release of the zeros leaves the sets and the number of slots
 pub zeros_sets : (lowers : Bool) (w : Parts) → (zeros_released lowers w).counts.sets ≡ w.counts.sets

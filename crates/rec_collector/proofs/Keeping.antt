@@ -1,25 +1,206 @@
--- What every machine keeps holds after every step, by the phase.
-use Rattle.std.proofs.Common.{◌≡◌, ◌+◌, ℕ, ◌==◌, true, false, Bool, cond, length, refl, sym, ◌∙◌}
-use Rattle.std.proofs.lemmas.Bool.{eq-eqb, eqb-true, false≢true}
+-- What every machine keeps holds after every step, by the phase: while an epoch is requested and the buffers of the mutators are
+-- gathered, and on a turn that works on the parts.
+use Rattle.std.proofs.Common.{◌≡◌, ◌≢◌, ℕ, ◌+◌, ◌-◌, ◌*◌, ◌^◌, ◌<◌, ◌≤◌, ◌==◌, true, false, Bool, cond, inl, inr, length, set, refl, arith, sym, ◌∙◌, ap, subst, List}
+use Rattle.std.proofs.lemmas.List.{length-set, get_or-set_same, get_or-set_other}
+use Rattle.std.proofs.lemmas.Bool.{cases_eq, cases_lt, eq-eqb, false≢true, cond-true, cond-false, ne_eqb, eqb-true}
 use Rattle.rec_word.specs.Mailbox.{crossing_word}
 use Rattle.rec_word.specs.declared.mailbox.Mailbox.TheVariants.{Retired}
 use Rattle.rec_log.specs.declared.contents.Contents.{Contents}
+use Rattle.rec_apply.specs.Batch.{batch}
 use Rattle.rec_release.specs.Sweep as sweeps
 use Rattle.rec_release.proofs.Kept.{sweep_kept}
-use Rattle.rec_collector.specs.Followed.{Next, followed, prepared, relieved, tried, with_freed, with_loaded, with_released, with_tried}
-use Rattle.rec_collector.specs.Given.{IsGiven, IsGivenAt, IsSized}
-use Rattle.rec_collector.specs.Kept.{IsMachine}
+use Rattle.rec_collector.specs.Given.{IsSized, IsGiven, IsGivenAt}
+use Rattle.rec_collector.specs.Kept.{AreSized, AreSpare, IsAt, IsMachine, IsTold, swept_at, under_way, KeepsSizes, IsGathering, IsSweeping, IsTesting}
 use Rattle.rec_collector.specs.Next.{is_spent}
-use Rattle.rec_collector.specs.Private.{Private, parts_of}
-use Rattle.rec_collector.specs.Step.{IsBetween}
-use Rattle.rec_collector.specs.Testing.{zeros_released}
-use Rattle.rec_collector.specs.Took.{batched, came, ended_if, moved, step_of, swapped_at, swapped_of, took_at, took_of}
+use Rattle.rec_collector.specs.Private.{Private, blank, buffer_at, parts_of}
+use Rattle.rec_collector.specs.Took.{moved, swapped_at, took_at, batched, came, came_turn, ended_if, took_of, turn_at, turn_of, step_of, swapped_of}
 use Rattle.rec_collector.specs.declared.phase.Phase.{Phase}
-use Rattle.rec_collector.specs.declared.phase.Phase.TheVariants.{Idle, Looking, Swapping, Returning, Releasing, Freeing, Trying, Preparing, Opening, Sweeping, Closing}
-use Rattle.rec_collector.proofs.Gathering.{idle_keeps, look_keeps, next_keeps, swap_keeps}
-use Rattle.rec_collector.proofs.Landing.{landed, work_of}
+use Rattle.rec_collector.specs.declared.phase.Phase.TheVariants.{Idle, Looking, Swapping, Returning, Releasing, Freeing, Trying, Preparing, Sweeping, Closing, Opening}
+use Rattle.rec_collector.specs.Followed.{Next, followed, prepared, relieved, tried, with_freed, with_loaded, with_released, with_tried}
+use Rattle.rec_collector.specs.Testing.{zeros_released}
+use Rattle.rec_collector.specs.declared.turn.Turn.{Turn}
+use Rattle.rec_collector.specs.declared.turn.Turn.TheVariants.{Moved}
+use Rattle.rec_collector.specs.Step.{IsBetween}
+use Rattle.rec_collector.proofs.Landing.{freed_at, now_at, told_at, under_way_at, Lands, landed, landed_keeps, landed_sizes, sizes_on, work_of}
+use Rattle.rec_collector.proofs.Following.{begun_clears, followed_lands, freed_clears, released_clears}
+use Rattle.rec_collector.proofs.Trying.{prepared_lands, took_prepared, took_tried, tried_lands}
 use Rattle.rec_collector.proofs.Sweeping.{ended_keeps, opening_keeps, sweeping_keeps}
-use Rattle.rec_collector.proofs.Turning.{IsWork, work_keeps}
+
+-- a turn that changes the epoch and the phase alone
+moved_keeps : (p : Private) (epoch : ℕ) (phase : Phase) → IsMachine p → epoch < 2 ^ 24 → p.collections + under_way phase ≤ epoch → p.freed ≤ 2 ^ 16 * p.collections + swept_at phase
+    → IsTold p phase → IsAt (moved (record p { epoch = epoch }) phase) phase → IsMachine (moved (record p { epoch = epoch }) phase)
+moved_keeps p epoch phase k fits under freed told now = record {
+  epoch = fits;
+  collections = under;
+  freed = freed;
+  widths = k.widths;
+  rows = k.rows;
+  counts = k.counts;
+  told = told;
+  now = now;
+}
+
+-- the next epoch is requested, if there is one
+pub idle_keeps : (p : Private) (word : ℕ) → IsMachine p → p.phase ≡ Idle → IsMachine (took_at p word Idle)
+unfolding took_at
+idle_keeps p word k e = go (is_spent p) refl
+  where
+    requested : Private
+    requested = moved (record p { epoch = p.epoch + 1 }) (Looking 1)
+
+    go : (b : Bool) → is_spent p ≡ b → IsMachine (cond b p requested)
+    go true s = k
+    go false s =
+        let a : IsAt p Idle = now_at p Idle k e in
+        let next : p.epoch + 1 ≢ 2 ^ 24 = λ q. false≢true (sym s ∙ eq-eqb (p.epoch + 1) (2 ^ 24) q) in
+        let fits : p.epoch + 1 < 2 ^ 24 = elim (cases_lt (p.epoch + 1) (2 ^ 24)) [ inl l ↦ l | inr l ↦ absurd (next (omega (arith, l, k.epoch))) ] in
+        moved_keeps p (p.epoch + 1) (Looking 1) k fits (omega (arith, under_way_at p Idle k e)) (freed_at p Idle k e) (told_at p Idle k e)
+        (record { rest = a.0; first = omega arith; there = omega (arith, k.mutators); spares = a.1; turns = omega (arith, a.2); due = a.3 })
+
+-- the mailbox of a mutator is held where it has crossed
+pub look_keeps : (p : Private) (word t : ℕ) → IsMachine p → p.phase ≡ Looking t → IsMachine (took_at p word (Looking t))
+unfolding took_at
+look_keeps p word t k e = go (word == crossing_word p.epoch Retired)
+  where
+    go : (b : Bool) → IsMachine (cond b (moved p (Swapping t)) p)
+    go false = k
+    go true =
+        let a : IsAt p (Looking t) = now_at p (Looking t) k e in
+        moved_keeps p p.epoch (Swapping t) k k.epoch (under_way_at p (Looking t) k e) (freed_at p (Looking t) k e) (told_at p (Looking t) k e)
+        (record { rest = a.rest; first = a.first; there = a.there; spares = a.spares; turns = omega (arith, a.turns, a.first); due = a.due })
+
+-- the next mutator's mailbox follows
+pub next_keeps : (p : Private) (t : ℕ) → IsMachine p → p.phase ≡ Returning t → t ≢ length p.newer → IsMachine (moved p (Looking (t + 1)))
+next_keeps p t k e other =
+    let a : IsAt p (Returning t) = now_at p (Returning t) k e in
+    let more : t < length p.newer = elim (cases_lt t (length p.newer)) [ inl l ↦ l | inr l ↦ absurd (other (omega (arith, l, a.there))) ] in
+    let same : t + 1 - 1 ≡ t = omega arith in
+    moved_keeps p p.epoch (Looking (t + 1)) k k.epoch (under_way_at p (Returning t) k e) (freed_at p (Returning t) k e) (told_at p (Returning t) k e)
+    (record {
+      rest = a.rest;
+      first = omega arith;
+      there = omega (arith, more);
+      spares = subst (λ from. AreSpare p from) (sym same) a.spares;
+      turns = omega (arith, a.turns);
+      due = a.due;
+    })
+
+-- a buffer joins the newer ones
+swap_sized : (p : Private) (i : ℕ) (box : Contents) → IsSized p.registers p.capacity box → AreSized p.registers p.capacity p.newer → AreSized p.registers p.capacity (set p.newer i box)
+swap_sized p i box z k = λ j l.
+    let m : j < length p.newer = omega (arith, l, length-set p.newer i box) in
+    elim (cases_eq j i) [
+      | inl q ↦ subst (λ (b : Contents). IsSized p.registers p.capacity b) (sym (ap (buffer_at (set p.newer i box)) q ∙ get_or-set_same p.newer i box (blank 0 0) (omega (arith, m, q)))) z
+      | inr q ↦ subst (λ (b : Contents). IsSized p.registers p.capacity b) (sym (get_or-set_other p.newer i j box (blank 0 0) q)) (k j m)
+    ]
+
+pub swap_keeps : (p : Private) (t : ℕ) (box : Contents) → IsSized p.registers p.capacity box → IsMachine p → p.phase ≡ Swapping t → IsMachine (swapped_at p box (Swapping t))
+unfolding swapped_at
+swap_keeps p t box z k e =
+    let a : IsAt p (Swapping t) = now_at p (Swapping t) k e in
+    let many : length (set p.newer (t - 1) box) ≡ length p.newer = length-set p.newer (t - 1) box in
+    record {
+      epoch = k.epoch;
+      collections = under_way_at p (Swapping t) k e;
+      freed = freed_at p (Swapping t) k e;
+      widths = k.widths;
+      rows = record { mutators = omega (arith, k.mutators, many); few = omega (arith, k.few, many); both = k.both ∙ sym many; newer = swap_sized p (t - 1) box z k.newer; older = k.older };
+      counts = k.counts;
+      told = told_at p (Swapping t) k e;
+      now = record {
+        rest = a.rest;
+        first = a.first;
+        there = omega (arith, a.there, many);
+        spares = λ j f l. get_or-set_other p.newer (t - 1) j box (blank 0 0) (λ q. absurd (omega (arith, a.first, f, q))) ∙ a.spares j (omega (arith, f)) (omega (arith, l, many));
+        turns = a.turns;
+        due = a.due;
+      };
+    }
+
+-- the phases in which a word works on the parts
+abbrev pub IsWork : Private → Phase → Type 0
+IsWork p (Returning t) = t ≡ length p.newer
+IsWork p Releasing = Unit {0}
+IsWork p Freeing = Unit {0}
+IsWork p Trying = Unit {0}
+IsWork p Preparing = Unit {0}
+IsWork p _ = ⊥
+
+-- what follows it lands
+pub work_lands : (p : Private) (word : ℕ) (phase : Phase) → IsMachine p → p.phase ≡ phase → IsGivenAt p word phase → IsWork p phase → Lands p (work_of p word phase)
+unfolding IsGivenAt
+work_lands p word (Returning t) k e g last = followed_lands p _ (begun_clears p t k e last (g last))
+work_lands p word Releasing k e g at_work = followed_lands p _ (released_clears p word k e g)
+work_lands p word Freeing k e g at_work = followed_lands p _ (freed_clears p word k e g)
+work_lands p word Trying k e g at_work = tried_lands p _ (took_tried p word k e g)
+work_lands p word Preparing k e g at_work = prepared_lands p _ (took_prepared p word k e)
+work_lands p word _ k e g at_work = absurd at_work
+
+pub work_keeps : (p : Private) (word : ℕ) (phase : Phase) → IsMachine p → p.phase ≡ phase → IsGivenAt p word phase → IsWork p phase → IsMachine (landed p (work_of p word phase))
+work_keeps p word phase k e g at_work = landed_keeps p (work_of p word phase) phase k e (way phase at_work) (none phase at_work) (work_lands p word phase k e g at_work)
+  where
+    way : (phase : Phase) → IsWork p phase → under_way phase ≡ 1
+    way Idle a = absurd a
+    way _ a = refl
+
+    none : (phase : Phase) → IsWork p phase → swept_at phase ≡ 0
+    none (Sweeping n) a = absurd a
+    none (Closing n) a = absurd a
+    none _ a = refl
+
+-- with the last mailbox given back the batch was applied
+pub returned_last : (p : Private) (t : ℕ) → t ≡ length p.newer → came p (followed (zeros_released false (batched p))) ≡ took_at p 0 (Returning t)
+unfolding took_at
+returned_last p t last = sym (cond-true (t == length p.newer) (came p (followed (zeros_released false (batched p)))) (moved p (Looking (t + 1))) (eq-eqb t (length p.newer) last))
+
+pub returned_answer : (p : Private) (t : ℕ) → t ≡ length p.newer → came_turn p.epoch (followed (zeros_released false (batched p))).phase ≡ turn_at p 0 (Returning t)
+unfolding turn_at
+returned_answer p t last = sym (cond-true (t == length p.newer) (came_turn p.epoch (followed (zeros_released false (batched p))).phase) Moved (eq-eqb t (length p.newer) last))
+
+pub batch_follows : (p : Private) (n : Next) (newer older : List Contents) → n ≡ followed (zeros_released false (record (parts_of p) { counts = batch p.counts newer older })) → newer ≡ p.newer → older ≡ p.older → n ≡ followed (zeros_released false (batched p))
+batch_follows p n newer older e f g =
+    e ∙ ap (λ (b : List Contents). followed (zeros_released false (record (parts_of p) { counts = batch p.counts b older }))) f
+    ∙ ap (λ (b : List Contents). followed (zeros_released false (record (parts_of p) { counts = batch p.counts p.newer b }))) g
+
+-- another one follows
+pub returned_next : (p : Private) (t : ℕ) → t ≢ length p.newer → moved p (Looking (t + 1)) ≡ took_at p 0 (Returning t)
+unfolding took_at
+returned_next p t other = sym (cond-false (t == length p.newer) (came p (followed (zeros_released false (batched p)))) (moved p (Looking (t + 1))) (ne_eqb t (length p.newer) other))
+
+pub returned_moved : (p : Private) (t : ℕ) → t ≢ length p.newer → Moved ≡ turn_at p 0 (Returning t)
+unfolding turn_at
+returned_moved p t other = sym (cond-false (t == length p.newer) (came_turn p.epoch (followed (zeros_released false (batched p))).phase) Moved (ne_eqb t (length p.newer) other))
+
+-- what a word may be, by the phase
+pub asked : (p now : Private) (word : ℕ) (phase : Phase) → p ≡ now → p.phase ≡ phase → IsGiven now word → IsGivenAt now word phase
+unfolding IsGiven
+asked p now word phase v e g = subst (IsGivenAt now word) (ap (λ (q : Private). q.phase) (sym v) ∙ e) g
+
+-- and what is learnt
+pub learnt : (p now : Private) (word : ℕ) (q : Private) (turn : Turn) (phase : Phase) → p ≡ now → p.phase ≡ phase → q ≡ took_at now word phase → turn ≡ turn_at now word phase → (q ≡ took_of now word) × (turn ≡ turn_of now word)
+unfolding took_of turn_of
+learnt p now word q turn phase v e took told =
+    let f : now.phase ≡ phase = ap (λ (r : Private). r.phase) (sym v) ∙ e in
+    (took ∙ sym (ap (took_at now word) f), told ∙ sym (ap (turn_at now word) f))
+
+-- a turn on the parts, as its calls tell: it came to `n`, which is what follows
+module _ (p now : Private) (word : ℕ) (phase : Phase) (n : Next) (k : IsMachine p) (v : p ≡ now) (e : now.phase ≡ phase) (g : IsGivenAt now word phase) (at_work : IsWork p phase) (is : n ≡ work_of p word phase) where
+  abbrev at : p.phase ≡ phase
+  at = ap (λ (q : Private). q.phase) v ∙ e
+
+  abbrev given : IsGivenAt p word phase
+  given = subst (λ (q : Private). IsGivenAt q word phase) (sym v) g
+
+  pub turned_keeps : IsMachine (landed p n)
+  turned_keeps = subst (λ (m : Next). IsMachine (landed p m)) (sym is) (work_keeps p word phase k at given at_work)
+
+  pub turned : (q : Private) (turn : Turn) → came p (work_of p word phase) ≡ took_at p word phase → came_turn p.epoch (work_of p word phase).phase ≡ turn_at p word phase →
+      q ≡ ended_if n.phase (landed p n) → turn ≡ came_turn p.epoch n.phase → KeepsSizes (landed p n) q → (q ≡ took_at now word phase) × (turn ≡ turn_at now word phase) × KeepsSizes now q
+  turned q turn took told ends answers sizes = (
+    ends ∙ ap (came p) is ∙ took ∙ ap (λ (r : Private). took_at r word phase) v,
+    answers ∙ ap (λ (m : Next). came_turn p.epoch m.phase) is ∙ told ∙ ap (λ (r : Private). turn_at r word phase) v,
+    subst (λ (r : Private). KeepsSizes r q) v (sizes_on p (landed p n) q (landed_sizes p n (subst (Lands p) (sym is) (work_lands p word phase k at given at_work))) sizes),
+  )
 
 -- where nothing is to be swept, the collection is complete
 ended_if_keeps : (p : Private) (phase : Phase) → IsMachine p → p.phase ≡ phase → IsMachine (ended_if phase p)
@@ -97,3 +278,46 @@ unfolding step_of swapped_of
 machine_kept p word box k between given sized =
     let q : Private = took_of p word in
     swapped_keeps q box q.phase (took_sized p word box sized) (took_keeps p word k given) refl
+
+module _ (p : Private) (b : Bool) where
+  gathering_on : (t given_back made : ℕ) → IsGathering p t given_back made → IsGathering (record p { offers = b }) t given_back made
+  gathering_on t given_back made g = record { rest = g.rest; first = g.first; there = g.there; spares = g.spares; turns = g.turns; due = g.due }
+
+  testing_on : IsTesting p → IsTesting (record p { offers = b })
+  testing_on t = record {
+    clearing = record { tidy = t.clearing.tidy; idle = t.clearing.idle; unprepared = t.clearing.unprepared; release = t.clearing.release; freeing = t.clearing.freeing; one = t.clearing.one; work = t.clearing.work };
+    exchanged = t.exchanged;
+    exchanges = record { gone = t.exchanges.gone; are = t.exchanges.are; few = t.exchanges.few };
+    turns = t.turns;
+    due = t.due;
+  }
+
+  sweeping_on : (swept made : ℕ) → IsSweeping p swept made → IsSweeping (record p { offers = b }) swept made
+  sweeping_on swept made s = record { before = s.before; left = s.left; turns = s.turns }
+
+  at_on : (phase : Phase) → IsAt p phase → IsAt (record p { offers = b }) phase
+  at_on Idle a = a
+  at_on Releasing a = (testing_on a.0, a.1)
+  at_on Freeing a = (testing_on a.0, a.1)
+  at_on Trying a = record { on_trial = a.on_trial; busy = a.busy; due = a.due; turns = a.turns }
+  at_on Preparing a = record { preparation = a.preparation; busy = a.busy; due = a.due; turns = a.turns }
+  at_on Opening a = (sweeping_on 0 0 a.0, a.1, a.2)
+  at_on (Sweeping n) a = (sweeping_on n _ a.0, a.1, a.2)
+  at_on (Closing n) a = (sweeping_on n _ a.0, a.1, a.2)
+  at_on _ a = gathering_on _ _ _ a
+
+  told_on : (phase : Phase) → IsTold p phase → IsTold (record p { offers = b }) phase
+  told_on Idle t = t
+  told_on _ t = t
+
+  pub offers_kept : IsMachine p → IsMachine (record p { offers = b })
+  offers_kept k = record {
+    epoch = k.epoch;
+    collections = k.collections;
+    freed = k.freed;
+    widths = k.widths;
+    rows = k.rows;
+    counts = k.counts;
+    told = told_on p.phase k.told;
+    now = at_on p.phase k.now;
+  }

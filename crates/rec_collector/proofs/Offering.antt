@@ -1,12 +1,14 @@
--- Every slot is offered to a trial: what that leaves of the counts, and that a trial may begin.
-use Rattle.std.proofs.Common.{◌≡◌, ◌≢◌, ℕ, zero, suc, ◌+◌, ◌<◌, ◌≤◌, Bool, true, false, eqb, cond, List, [], ◌∷◌, length, filter, refl, arith, sym, ◌∙◌, ap, subst, inl, inr}
+-- Every slot is offered to a trial, one after another: what that leaves of the counts, and that a trial may begin.
+use Rattle.std.proofs.Common.{◌≡◌, ◌≢◌, ℕ, zero, suc, ◌+◌, ◌<◌, ◌≤◌, Bool, true, false, eqb, cond, List, [], ◌∷◌, length, filter, refl, arith, sym, ◌∙◌, ap, subst, inl, inr, ◌-◌, ◌++◌, map, take, drop, set, get_or}
 use Rattle.std.specs.List.{concat, range_with_len}
 use Rattle.std.proofs.lemmas.Bool.{cases_Bool, cases_eq, cases_lt, eq-eqb, ne_eqb}
-use Rattle.std.proofs.lemmas.List.{get_or_past, length-map}
+use Rattle.std.proofs.lemmas.List.FromFn.{filter_of_map_range_with_len_more}
+use Rattle.std.proofs.lemmas.List.{map-id, get_or_past, length-map, append-nil, append_assoc, drop_all, get_or-append_right, get_or-drop, get_or-set_same, get_or_default, length-append, length-drop, length-take, set-set, take_all}
+use Rattle.std.proofs.lemmas.List.Edits.{map_over_more}
 use Rattle.rec_counts.specs.declared.colour.Colour.{Colour}
 use Rattle.rec_counts.specs.declared.colour.Colour.TheVariants.{Purple, Orange}
 use Rattle.rec_counts.specs.declared.slot.Slot.{Slot}
-use Rattle.rec_counts.specs.Counts.{State, IsKept, slot_at}
+use Rattle.rec_counts.specs.Counts.{State, IsKept, slot_at, with_slot}
 use Rattle.rec_counts.specs.Lists.{one, times}
 use Rattle.rec_counts.specs.Slot.{absent, is_in}
 use Rattle.rec_counts.specs.Colour.{is_gray, is_white}
@@ -16,9 +18,8 @@ use Rattle.rec_trial.specs.Rules.{IsReady}
 use Rattle.rec_trial.specs.Still.{IsSeed}
 use Rattle.rec_collector.specs.Followed.{with_offers}
 use Rattle.rec_collector.specs.Kept.{IsListed}
-use Rattle.rec_collector.specs.Offered.{offered, offered_if, offered_slot, offered_where, is_missing, is_missing_if, missing, AreOffered, KeepsOffered}
+use Rattle.rec_collector.specs.Offered.{offered, offered_if, offered_slot, offered_where, is_missing, is_missing_if, missing, AreOffered, KeepsOffered, offered_one, rooted_if}
 use Rattle.rec_collector.specs.Parts.{Parts}
-use Rattle.rec_collector.proofs.Apart.{times_filter}
 
 -- a slot that is offered
 offered_at : (s : State) (x : ℕ) → slot_at (offered s) x ≡ offered_slot (slot_at s x)
@@ -64,47 +65,38 @@ where_keeps false s = record {
   zeros = refl;
 }
 
--- a number stands in a range once, where it is in it
-before_range : (x a n : ℕ) → x < a → times x (range_with_len a n) ≡ 0
-before_range x a zero l = times-nil x
-before_range x a (suc n) l =
-    let other : one (eqb x a) ≡ 0 = ap one (ne_eqb x a (λ e. omega (arith, e, l))) in
-    omega (arith, times-cons x a (range_with_len (a + 1) n), other, before_range x (a + 1) n (omega (arith, l)))
+-- the next number of a range, where it passes
+filter_more : (p : ℕ → Bool) (n : ℕ) → filter p (range_with_len 0 (n + 1)) ≡ filter p (range_with_len 0 n) ++ cond (p n) (n ∷ []) []
+filter_more p n = simp map-id at (filter_of_map_range_with_len_more p (λ x. x) 0 n n (omega arith))
 
-past_range : (x a n : ℕ) → a + n ≤ x → times x (range_with_len a n) ≡ 0
-past_range x a zero l = times-nil x
-past_range x a (suc n) l =
-    let other : one (eqb x a) ≡ 0 = ap one (ne_eqb x a (λ e. omega (arith, e, l))) in
-    omega (arith, times-cons x a (range_with_len (a + 1) n), other, past_range x (a + 1) n (omega (arith, l)))
-
--- so it stands once among those of a range that pass a test, where it passes
-once_passed : (p : ℕ → Bool) (x a n : ℕ) → a ≤ x → x < a + n → times x (filter p (range_with_len a n)) ≡ one (p x)
-once_passed p x a zero l h = absurd (omega (arith, l, h))
-once_passed p x a (suc n) l h = elim (cases_eq x a) [
-  | inl e ↦
-      let none : times x (filter p (range_with_len (a + 1) n)) ≡ 0 = omega (arith, times_filter p x (range_with_len (a + 1) n), before_range x (a + 1) n (omega (arith, e))) in
-      here (p a) (omega (arith, ap one (eq-eqb x a e))) none ∙ ap (λ y. one (p y)) (sym e)
-  | inr e ↦ there (p a) (omega (arith, ap one (ne_eqb x a e))) (once_passed p x (a + 1) n (first e) (omega (arith, h)))
-]
+-- so each number stands once among those below a bound that pass, where it is below and passes
+passed_below : (p : ℕ → Bool) (x n : ℕ) → (x < n → times x (filter p (range_with_len 0 n)) ≡ one (p x)) × (n ≤ x → times x (filter p (range_with_len 0 n)) ≡ 0)
+passed_below p x zero = (λ l. absurd (omega (arith, l)), λ l. times-nil x)
+passed_below p x (suc n) =
+    let i = passed_below p x n in
+    let next : n + 1 ≡ suc n = omega arith in
+    let more : times x (filter p (range_with_len 0 (suc n))) ≡ times x (filter p (range_with_len 0 n)) + times x (cond (p n) (n ∷ []) []) =
+    ap (λ m. times x (filter p (range_with_len 0 m))) (sym next) ∙ ap (times x) (filter_more p n) ∙ times-append x (filter p (range_with_len 0 n)) (cond (p n) (n ∷ []) []) in (
+      λ l. elim (cases_eq x n) [
+        | inl e ↦ omega (arith, more, i.1 (omega (arith, e)), here (p n) (ap one (eq-eqb x n e)), ap (λ y. one (p y)) e)
+        | inr e ↦ omega (arith, more, i.0 (omega (arith, l, e)), there (p n) (ap one (ne_eqb x n e)))
+      ],
+      λ l. omega (arith, more, i.1 (omega (arith, l)), there (p n) (ap one (ne_eqb x n (λ e. omega (arith, e, l))))),
+    )
   where
-    first : x ≢ a → a + 1 ≤ x
-    first e = omega (arith, e, l)
+    here : (b : Bool) → one (eqb x n) ≡ 1 → times x (cond b (n ∷ []) []) ≡ one b
+    here true e = omega (arith, e, times-cons x n [], times-nil x)
+    here false e = times-nil x
 
-    here : (b : Bool) → one (eqb x a) ≡ 1 → times x (filter p (range_with_len (a + 1) n)) ≡ 0 → times x (cond b (a ∷ filter p (range_with_len (a + 1) n)) (filter p (range_with_len (a + 1) n))) ≡ one b
-    here true e none = omega (arith, e, none, times-cons x a (filter p (range_with_len (a + 1) n)))
-    here false e none = none
-
-    there : (b : Bool) → one (eqb x a) ≡ 0 → times x (filter p (range_with_len (a + 1) n)) ≡ one (p x) → times x (cond b (a ∷ filter p (range_with_len (a + 1) n)) (filter p (range_with_len (a + 1) n))) ≡ one (p x)
-    there true e i = omega (arith, e, i, times-cons x a (filter p (range_with_len (a + 1) n)))
-    there false e i = i
+    there : (b : Bool) → one (eqb x n) ≡ 0 → times x (cond b (n ∷ []) []) ≡ 0
+    there true e = omega (arith, e, times-cons x n [], times-nil x)
+    there false e = times-nil x
 
 -- each slot that is missing from the buffers is added to the roots once
 missing_once : (s : State) (x : ℕ) → times x (missing s) ≡ one (is_missing (slot_at s x))
-missing_once s x = elim (cases_lt x (length s.slots)) [
-  | inl l ↦ once_passed (λ y. is_missing (slot_at s y)) x 0 (length s.slots) (omega arith) (omega (arith, l))
-  | inr l ↦
-      let none : one (is_missing (slot_at s x)) ≡ 0 = ap (λ (v : Slot). one (is_missing v)) (get_or_past s.slots x absent l) in
-      omega (arith, none, times_filter (λ y. is_missing (slot_at s y)) x (range_with_len 0 (length s.slots)), past_range x 0 (length s.slots) (omega (arith, l)))
+missing_once s x = let i = passed_below (λ y. is_missing (slot_at s y)) x (length s.slots) in elim (cases_lt x (length s.slots)) [
+  | inl l ↦ i.0 l
+  | inr l ↦ i.1 l ∙ sym (ap (λ (v : Slot). one (is_missing v)) (get_or_past s.slots x absent l))
 ]
 
 offered_roots : (s : State) (x : ℕ) → times x (offered s).roots ≡ times x s.roots + one (is_missing (slot_at s x))
@@ -218,3 +210,60 @@ all_offered s k none = record { seeds = seed; keeps = offered_keeps s }
 -- where that was asked for they are offered, and once
 pub offers_whole : (w : Parts) → w.offers ≡ true → IsKept w.counts → w.counts.sets ≡ [] → AreOffered w.counts (with_offers w).counts × ((with_offers w).offers ≡ false)
 offers_whole w e k none = (subst (AreOffered w.counts) (ap (λ b. offered_where b w.counts) (sym e)) (all_offered w.counts k none), refl)
+
+-- a Purple slot is in no buffer, and is pushed to the root buffer
+pub pushed_one : (s t : State) (x : ℕ) → x < length s.slots → (slot_at s x).released ≡ false → t ≡ with_slot s x (record (slot_at s x) { colour = Purple }) → (slot_at t x).buffered ≡ false
+    → record (with_slot t x (record (slot_at t x) { buffered = true })) { roots = t.roots ++ x ∷ [] } ≡ offered_one s x
+pushed_one s t x l r e u =
+    let v : Slot = record (slot_at s x) { colour = Purple } in
+    let a : slot_at (with_slot s x v) x ≡ v = get_or-set_same s.slots x v absent l in
+    let b : set (set s.slots x v) x (record (slot_at (with_slot s x v) x) { buffered = true }) ≡ set s.slots x (record (slot_at s x) { colour = Purple; buffered = true }) =
+    ap (λ (w : Slot). set (set s.slots x v) x (record w { buffered = true })) a ∙ set-set s.slots x v (record v { buffered = true }) in
+    let out : (slot_at s x).buffered ≡ false = sym (ap (λ (q : State). (slot_at q x).buffered) e ∙ ap (λ (w : Slot). w.buffered) a) ∙ u in
+    ap (λ (u : State). record (with_slot u x (record (slot_at u x) { buffered = true })) { roots = u.roots ++ x ∷ [] }) e
+    ∙ ap {A = List Slot} {B = State} (λ slots. record s { slots = slots; roots = s.roots ++ x ∷ [] }) b
+    ∙ sym (ap (λ released. rooted_if (is_missing_if released (slot_at s x).buffered) (with_slot s x (offered_if released (slot_at s x))) x) r
+    ∙ ap (λ buffered. rooted_if (is_missing_if false buffered) (with_slot s x (offered_if false (slot_at s x))) x) out)
+
+-- the slots before this one are offered, in rising order
+abbrev pub offered_to : ℕ → State → State
+offered_to i s = record s { slots = map offered_slot (take i s.slots) ++ drop i s.slots; roots = s.roots ++ filter (λ x. is_missing (slot_at s x)) (range_with_len 0 i) }
+
+pub none_offered : (s : State) → s ≡ offered_to 0 s
+none_offered s = ap (λ xs. record s { roots = xs }) (sym (append-nil s.roots))
+
+pub to_all : (i : ℕ) (s : State) → length s.slots ≡ i → offered_to i s ≡ offered s
+unfolding offered
+to_all i s e = ap (λ n. offered_to n s) (sym e) ∙ ap (λ xs. record s { slots = xs; roots = s.roots ++ filter (λ x. is_missing (slot_at s x)) (range_with_len 0 (length s.slots)) }) whole
+  where
+    whole : map offered_slot (take (length s.slots) s.slots) ++ drop (length s.slots) s.slots ≡ map offered_slot s.slots
+    whole = rw (take_all (length s.slots) s.slots (omega arith), drop_all (length s.slots) s.slots (omega arith)) (append-nil (map offered_slot s.slots))
+
+-- the next slot is as it was
+next_same : (i : ℕ) (s : State) → i < length s.slots → slot_at (offered_to i s) i ≡ slot_at s i
+next_same i s l =
+    let many : length (map offered_slot (take i s.slots)) ≡ i = length-map (take i s.slots) offered_slot ∙ omega (arith, l, length-take i s.slots) in
+    let none : i + (i - i) ≡ i = omega arith in
+    get_or-append_right (map offered_slot (take i s.slots)) (drop i s.slots) i i absent many (omega arith)
+    ∙ get_or-drop i s.slots (i - i) absent ∙ ap (λ n. get_or s.slots n absent) none
+
+pub to_range : (i : ℕ) (s : State) → length (offered_to i s).slots ≡ length s.slots
+to_range i s = omega (arith, length-append (map offered_slot (take i s.slots)) (drop i s.slots), length-map (take i s.slots) offered_slot, length-take i s.slots, length-drop i s.slots)
+
+-- one slot more
+pub to_next : (i : ℕ) (s t : State) → i < length s.slots → t ≡ offered_one (offered_to i s) i → t ≡ offered_to (i + 1) s
+to_next i s t l e =
+    let now : State = offered_to i s in
+    let v : Slot = slot_at now i in
+    let there : i < length now.slots = omega (arith, l, to_range i s) in
+    let here : v ≡ get_or now.slots i v = get_or_default now.slots i absent v there in
+    let slots : set now.slots i (offered_slot v) ≡ map offered_slot (take (i + 1) s.slots) ++ drop (i + 1) s.slots = map_over_more offered_slot s.slots now.slots i v l refl here in
+    let roots : filter (λ x. is_missing (slot_at s x)) (range_with_len 0 (i + 1)) ≡ filter (λ x. is_missing (slot_at s x)) (range_with_len 0 i) ++ cond (is_missing (slot_at s i)) (i ∷ []) [] = filter_more (λ x. is_missing (slot_at s x)) i in
+    e ∙ pushed (is_missing v) (with_slot now i (offered_slot v))
+    ∙ ap (λ (xs : List Slot). record s { slots = xs; roots = now.roots ++ cond (is_missing v) (i ∷ []) [] }) slots
+    ∙ ap (λ (w : Slot). record s { slots = map offered_slot (take (i + 1) s.slots) ++ drop (i + 1) s.slots; roots = now.roots ++ cond (is_missing w) (i ∷ []) [] }) (next_same i s l)
+    ∙ ap (λ xs. record s { slots = map offered_slot (take (i + 1) s.slots) ++ drop (i + 1) s.slots; roots = xs }) (append_assoc s.roots (filter (λ x. is_missing (slot_at s x)) (range_with_len 0 i)) (cond (is_missing (slot_at s i)) (i ∷ []) []) ∙ ap (λ xs. s.roots ++ xs) (sym roots))
+  where
+    pushed : (b : Bool) (u : State) → rooted_if b u i ≡ record u { roots = u.roots ++ cond b (i ∷ []) [] }
+    pushed true u = refl
+    pushed false u = ap (λ xs. record u { roots = xs }) (sym (append-nil u.roots))

@@ -1,31 +1,48 @@
--- What each move leaves of the outside counts: an orange member is as it was, or was lowered.
-use Rattle.std.proofs.Common.{◌≡◌, ℕ, ◌+◌, ◌-◌, ◌<◌, Bool, true, false, eqb, Option, None, Some, IfSome, List, [], ◌∷◌, length, refl, arith, sym, ◌∙◌, ap, subst, inl, inr}
+-- What each move leaves of the outside counts: an orange member is as it was, or was lowered. A batch takes its colour from every
+-- orange slot that it names, and leaves every slot that it does not name as it was.
+use Rattle.std.proofs.Common.{◌≡◌, ℕ, ◌+◌, ◌-◌, ◌<◌, Bool, true, false, eqb, Option, None, Some, IfSome, List, [], ◌∷◌, length, refl, arith, sym, ◌∙◌, ap, subst, inl, inr, ◌≢◌, ◌↔◌, flat_map}
 use Rattle.std.specs.List.{concat}
 use Rattle.std.proofs.lemmas.Bool.{cases_lt, false≢true}
-use Rattle.std.proofs.lemmas.List.{append-nil}
+use Rattle.std.proofs.lemmas.List.{append-nil, get_or-set_other}
 use Rattle.std.proofs.lemmas.Option.{none-some}
+use Rattle.std.proofs.lemmas.Bool.Decides.{eqb_tells}
 use Rattle.rec_word.specs.Place.{places_of}
-use Rattle.rec_counts.specs.declared.colour.Colour.TheVariants.{Orange}
+use Rattle.rec_word.specs.Word.{is_slot}
+use Rattle.rec_log.specs.declared.contents.Contents.{Contents}
+use Rattle.rec_counts.specs.declared.colour.Colour.TheVariants.{Black, Orange, Purple}
+use Rattle.rec_counts.specs.declared.colour.Colour.{Colour}
+use Rattle.rec_counts.specs.Colour.{is_gray, is_white}
 use Rattle.rec_counts.specs.declared.slot.Slot.{Slot}
 use Rattle.rec_counts.specs.declared.slot.Due.{Due}
 use Rattle.rec_counts.specs.declared.slot.Due.TheVariants.{Nothing, Zero, Root}
 use Rattle.rec_counts.specs.Counts.{State, IsKept, slot_at, with_slot, sent}
 use Rattle.rec_counts.specs.Groups.{last_set}
-use Rattle.rec_counts.specs.Lists.{times}
-use Rattle.rec_counts.specs.Slot.{is_in, lessened, lessened_if, lowered, due_of, raised, swept_clean, unbuffered_if}
+use Rattle.rec_counts.specs.Lists.{times, one}
+use Rattle.rec_counts.specs.Slot.{is_in, lessened, lessened_if, lowered, due_of, raised, swept_clean, unbuffered_if, absent}
 use Rattle.rec_counts.proofs.Keeping.{set_there}
+use Rattle.rec_counts.proofs.Decrementing.{rest_decremented}
+use Rattle.rec_walk.specs.Load.{Load}
+use Rattle.rec_apply.specs.Batch.{all_counted, all_down, all_up, batch, counted_down, counted_up, down_targets, up_targets}
+use Rattle.rec_apply.specs.Targets.{added, named, taken}
+use Rattle.rec_apply.proofs.Naming.{added_is, named-cons, named-nil, taken_is}
+use Rattle.rec_apply.proofs.Resting.{rest_all_up}
 use Rattle.rec_release.specs.CycleFree.{dead_if, given_up}
 use Rattle.rec_release.specs.Release.{without_first}
 use Rattle.rec_release.specs.Sweep.{swept}
-use Rattle.rec_release.specs.TakenOff.{down_if, is_lowered, taken_off, IsApart}
+use Rattle.rec_release.specs.TakenOff.{down_if, is_lowered, taken_off, IsApart, IsMember}
 use Rattle.rec_release.proofs.Giving.{given_slot}
 use Rattle.rec_release.proofs.TakenOff.{written}
+use Rattle.rec_release.proofs.Orange.{not_orange_at}
 use Rattle.rec_sigma.specs.declared.fate.Fate.{Fate}
 use Rattle.rec_sigma.specs.declared.fate.Fate.TheVariants as fates
 use Rattle.rec_sigma.specs.Refurbish.{refurbished, LastRefurbished}
-use Rattle.rec_walk.specs.Load.{Load}
-use Rattle.rec_sigma.specs.Prepared.{PreparedTo}
-use Rattle.rec_collector.specs.Outside.{AreOutside, IsOutside}
+use Rattle.rec_sigma.specs.Prepared.{PreparedTo, seen}
+use Rattle.rec_collector.specs.Clearing.{IsUntried}
+use Rattle.rec_collector.specs.Outside.{AreOutside, IsOutside, HasSets}
+use Rattle.rec_collector.specs.Kept.{IsAt, IsMachine}
+use Rattle.rec_collector.specs.Private.{Private}
+use Rattle.rec_collector.specs.declared.phase.Phase.{Phase}
+use Rattle.rec_collector.specs.declared.phase.Phase.TheVariants.{Looking, Swapping, Returning, Releasing, Freeing, Trying, Preparing}
 
 -- the member was one before, and so many references were taken off its counts
 pub record WasMember (number : ℕ) (u v : Slot) : Type 0 where
@@ -35,9 +52,14 @@ pub record WasMember (number : ℕ) (u v : Slot) : Type 0 where
   pub count : v.count + by ≡ u.count
   pub cyclic : v.cyclic ≡ u.cyclic - by
 
--- so it is of each orange member
+-- A slot after a move: where it is an orange member it was one before; and it has no colour that it hadn't but Black or Purple.
+pub record Moved (u v : Slot) : Type 0 where
+  pub member : (number : ℕ) → v.set ≡ Some number → v.colour ≡ Orange → WasMember number u v
+  pub colours : (f : Colour → Bool) → f Black ≡ false → f Purple ≡ false → f u.colour ≡ false → f v.colour ≡ false
+
+-- so it is of each slot
 abbrev pub Lowers : (s t : State) → Type 0
-Lowers s t = (number x : ℕ) → (slot_at t x).set ≡ Some number → (slot_at t x).colour ≡ Orange → WasMember number (slot_at s x) (slot_at t x)
+Lowers s t = (x : ℕ) → Moved (slot_at s x) (slot_at t x)
 
 -- then the outside counts are right still
 pub outside_on : {fields : ℕ} → (s t : State) → Lowers s t → AreOutside fields s → AreOutside fields t
@@ -46,43 +68,65 @@ outside_on s t l a = record {
   loads = a.loads;
   places = a.places;
   members = λ number x e o.
-      let m = l number x e o in
+      let m = (l x).member number e o in
       let i : IsOutside a.before s a.loads number x = a.members number x m.set m.colour in
       record { member = i.member; fewer = omega (arith, m.count, i.fewer); cyclic = omega (arith, m.count, m.cyclic, i.fewer, i.cyclic) };
 }
 
+-- orange slots stay apart where each was orange before, and neither the sets nor the zeros change
+pub apart_on : (s t : State) → t.sets ≡ s.sets → t.zeros ≡ s.zeros → ((x : ℕ) → (slot_at t x).colour ≡ Orange → ((slot_at s x).colour ≡ Orange) × ((slot_at t x).released ≡ (slot_at s x).released)) → IsApart s → IsApart t
+apart_on s t sets zeros was a x o =
+    let w = was x o in
+    let m : IsMember s x = a x w.0 in
+    record { member = rw sets m.member; no_zero = rw zeros m.no_zero; unreleased = w.1 ∙ m.unreleased }
+
+-- so they do where a slot becomes Black
+pub black_was : (s : State) (x : ℕ) (v : Slot) → v.colour ≡ Black → (y : ℕ) → (slot_at (with_slot s x v) y).colour ≡ Orange → ((slot_at s y).colour ≡ Orange) × ((slot_at (with_slot s x v) y).released ≡ (slot_at s y).released)
+black_was s x v b y o = elim (written s x v y) [
+  | inl q ↦ let n : Black ≡ Orange = sym b ∙ ap (λ (w : Slot). w.colour) (sym q.1) ∙ o in absurd (cc)
+  | inr q ↦ (ap (λ (w : Slot). w.colour) (sym q) ∙ o, ap (λ (w : Slot). w.released) q)
+]
+
+-- no trial is at work where a move makes no slot Gray or White
+pub untried_on : (s t : State) → t.marked ≡ s.marked → ((x : ℕ) (f : Colour → Bool) → f Black ≡ false → f Purple ≡ false → f (slot_at s x).colour ≡ false → f (slot_at t x).colour ≡ false) → IsUntried s → IsUntried t
+untried_on s t marked keeps u = record { marked = marked ∙ u.marked; no_gray = λ x. keeps x is_gray refl refl (u.no_gray x); no_white = λ x. keeps x is_white refl refl (u.no_white x) }
+
+pub untried_moved : (s t : State) → t.marked ≡ s.marked → Lowers s t → IsUntried s → IsUntried t
+untried_moved s t marked l u = untried_on s t marked (λ x. (l x).colours) u
+
 -- a slot that stays
-was_same : (number : ℕ) (u v : Slot) → v ≡ u → v.set ≡ Some number → v.colour ≡ Orange → WasMember number u v
-was_same number u v e s o = record {
-  set = ap (λ (w : Slot). w.set) (sym e) ∙ s;
-  colour = ap (λ (w : Slot). w.colour) (sym e) ∙ o;
-  by = 0;
-  count = omega (arith, ap (λ (w : Slot). w.count) e);
-  cyclic = omega (arith, ap (λ (w : Slot). w.cyclic) e);
+was_same : (u v : Slot) → v ≡ u → Moved u v
+was_same u v e = record {
+  member = λ number s o. record {
+    set = ap (λ (w : Slot). w.set) (sym e) ∙ s;
+    colour = ap (λ (w : Slot). w.colour) (sym e) ∙ o;
+    by = 0;
+    count = omega (arith, ap (λ (w : Slot). w.count) e);
+    cyclic = omega (arith, ap (λ (w : Slot). w.cyclic) e);
+  };
+  colours = λ f black purple h. ap (λ (w : Slot). f w.colour) e ∙ h;
 }
 
 -- no slot changes
 pub same_lowers : (s t : State) → ((x : ℕ) → slot_at t x ≡ slot_at s x) → Lowers s t
-same_lowers s t e number x i o = was_same number (slot_at s x) (slot_at t x) (e x) i o
+same_lowers s t e x = was_same (slot_at s x) (slot_at t x) (e x)
 
 -- one slot is written, of which this is known
-written_lowers : (s : State) (y : ℕ) (v : Slot) → ((number : ℕ) → v.set ≡ Some number → v.colour ≡ Orange → WasMember number (slot_at s y) v) → Lowers s (with_slot s y v)
-written_lowers s y v h number x i o = elim (written s y v x) [
-  | inl q ↦
-      let was : WasMember number (slot_at s y) v = h number (ap (λ (w : Slot). w.set) (sym q.1) ∙ i) (ap (λ (w : Slot). w.colour) (sym q.1) ∙ o) in
-      subst (λ (w : Slot). WasMember number (slot_at s x) w) (sym q.1) (subst (λ z. WasMember number (slot_at s z) v) (sym q.0) was)
-  | inr q ↦ was_same number (slot_at s x) (slot_at (with_slot s y v) x) q i o
+written_lowers : (s : State) (y : ℕ) (v : Slot) → Moved (slot_at s y) v → Lowers s (with_slot s y v)
+written_lowers s y v m x = elim (written s y v x) [
+  | inl q ↦ subst (λ (w : Slot). Moved (slot_at s x) w) (sym q.1) (subst (λ z. Moved (slot_at s z) v) (sym q.0) m)
+  | inr q ↦ was_same (slot_at s x) (slot_at (with_slot s y v) x) q
 ]
 
 -- a slot is incremented
 pub raised_lowers : (s : State) (x : ℕ) → Lowers s (with_slot s x (raised (slot_at s x)))
-raised_lowers s x = written_lowers s x (raised (slot_at s x)) (λ number i o. cc)
+raised_lowers s x = written_lowers s x (raised (slot_at s x)) (record { member = λ number i o. cc; colours = λ f black purple h. black })
 
 -- a reference is taken off: the slot is decremented
-lessened_member : (r l : Bool) (u : Slot) (number : ℕ) → u.released ≡ r → (u.colour ≡ Orange → u.released ≡ false) → (lessened_if r l u).colour ≡ Orange → WasMember number u (lessened_if r l u)
-lessened_member true l u number e a o = absurd (false≢true (sym (a o) ∙ e))
-lessened_member false true u number e a o = cc
-lessened_member false false u number e a o = cc
+lessened_member : (r l : Bool) (u : Slot) → u.released ≡ r → (u.colour ≡ Orange → u.released ≡ false) → Moved u (lessened_if r l u)
+lessened_member true l u e a = record { member = λ number i o. absurd (false≢true (sym (a o) ∙ e)); colours = λ f black purple h. h }
+lessened_member false true u e a = record { member = λ number i o. cc; colours = λ f black purple h. black }
+lessened_member false false u e a = record { member = λ number i o. cc; colours = λ f black purple h. purple }
 
 sent_lowers : (d : Due) (s t : State) (y : ℕ) → Lowers s t → Lowers s (sent d t y)
 sent_lowers Nothing s t y l = l
@@ -91,10 +135,10 @@ sent_lowers Root s t y l = l
 
 -- or lowered
 down_lowers : (b : Bool) (s : State) (y : ℕ) → IsApart s → 0 < (slot_at s y).count → Lowers s (down_if b s y)
-down_lowers true s y a h = written_lowers s y (lowered (slot_at s y)) (λ number i o. record { set = i; colour = o; by = 1; count = omega (arith, h); cyclic = refl })
+down_lowers true s y a h = written_lowers s y (lowered (slot_at s y)) (record { member = λ number i o. record { set = i; colour = o; by = 1; count = omega (arith, h); cyclic = refl }; colours = λ f black purple e. e })
 down_lowers false s y a h =
     let u : Slot = slot_at s y in
-    sent_lowers (due_of u) s (with_slot s y (lessened u)) y (written_lowers s y (lessened u) (λ number i o. lessened_member u.released (eqb u.count 1) u number refl (λ c. (a y c).unreleased) o))
+    sent_lowers (due_of u) s (with_slot s y (lessened u)) y (written_lowers s y (lessened u) (lessened_member u.released (eqb u.count 1) u refl (λ c. (a y c).unreleased)))
 
 pub off_lowers : (lowers : Bool) (s : State) (t : Option ℕ) → IsApart s → IfSome t (λ x. 0 < (slot_at s x).count) → Lowers s (taken_off lowers s t)
 off_lowers lowers s None a h = same_lowers s s (λ x. refl)
@@ -103,33 +147,31 @@ off_lowers lowers s (Some y) a h = down_lowers (is_lowered lowers (slot_at s y).
 -- the next of the zeros is released
 pub first_lowers : (zs : List ℕ) (s : State) → Lowers s (without_first zs s)
 first_lowers [] s = same_lowers s s (λ x. refl)
-first_lowers (z ∷ zs) s = written_lowers s z (record (slot_at s z) { released = true }) (λ number i o. record { set = i; colour = o; by = 0; count = omega arith; cyclic = omega arith })
+first_lowers (z ∷ zs) s = written_lowers s z (record (slot_at s z) { released = true }) (record { member = λ number i o. record { set = i; colour = o; by = 0; count = omega arith; cyclic = omega arith }; colours = λ f black purple h. h })
 
 -- the last set is given up
-given_member : (b : Bool) (u : Slot) (number : ℕ) → (dead_if b (unbuffered_if b u)).set ≡ Some number → (dead_if b (unbuffered_if b u)).colour ≡ Orange → WasMember number u (dead_if b (unbuffered_if b u))
-given_member true u number i o = cc
-given_member false u number i o = was_same number u u refl i o
+given_member : (b : Bool) (u : Slot) → Moved u (dead_if b (unbuffered_if b u))
+given_member true u = record { member = λ number i o. cc; colours = λ f black purple h. black }
+given_member false u = was_same u u refl
 
 pub given_lowers : (s : State) → Lowers s (given_up s)
-given_lowers s number x i o =
-    let b : Bool = is_in (length s.sets - 1) (slot_at s x).set in
-    let q = given_slot s x in
-    subst (λ (v : Slot). WasMember number (slot_at s x) v) (sym q) (given_member b (slot_at s x) number (ap (λ (v : Slot). v.set) (sym q) ∙ i) (ap (λ (v : Slot). v.colour) (sym q) ∙ o))
+given_lowers s x = subst (λ (v : Slot). Moved (slot_at s x) v) (sym (given_slot s x)) (given_member (is_in (length s.sets - 1) (slot_at s x).set) (slot_at s x))
 
 -- the last set is refurbished
-fate_member : (f : Fate) (u v : Slot) (number : ℕ) → v ≡ refurbished f u → v.set ≡ Some number → WasMember number u v
-fate_member fates.Free u v number e i = cc
-fate_member _ u v number e i = cc
+fate_member : (f : Fate) (u : Slot) → Moved u (refurbished f u)
+fate_member fates.Free u = record { member = λ number i o. cc; colours = λ f black purple h. h }
+fate_member fates.Root u = record { member = λ number i o. cc; colours = λ f black purple h. purple }
+fate_member _ u = record { member = λ number i o. cc; colours = λ f black purple h. black }
 
 pub refurbished_lowers : (s t : State) → LastRefurbished s t → Lowers s t
-refurbished_lowers s t r number x i o = elim (cases_lt 0 (times x (last_set s.sets))) [
-  | inl m ↦ fate_member _ (slot_at s x) (slot_at t x) number (r.inside x m) i
-  | inr m ↦ was_same number (slot_at s x) (slot_at t x) (r.others x (omega (arith, m))) i o
+refurbished_lowers s t r x = elim (cases_lt 0 (times x (last_set s.sets))) [
+  | inl m ↦ subst (λ (v : Slot). Moved (slot_at s x) v) (sym (r.inside x m)) (fate_member _ (slot_at s x))
+  | inr m ↦ was_same (slot_at s x) (slot_at t x) (r.others x (omega (arith, m)))
 ]
 
 -- a slot is swept
 pub swept_lowers : (s : State) (x : ℕ) → Lowers s (swept s x)
-swept_lowers s x = written_lowers s x (swept_clean (slot_at s x)) (λ number i o. cc)
+swept_lowers s x = written_lowers s x (swept_clean (slot_at s x)) (record { member = λ number i o. cc; colours = λ f black purple h. black })
 
 -- there are no sets
 pub none_outside : (fields : ℕ) (s : State) → s.sets ≡ [] → ((x : ℕ) → (slot_at s x).set ≡ None) → AreOutside fields s
@@ -151,3 +193,124 @@ prepared_outside fields before s loads k p = record {
       let same : (slot_at s x).count ≡ (slot_at before x).count = ap (λ (v : Slot). v.count) (p.others.slots x) in
       record { member = was; fewer = omega (arith, same); cyclic = omega (arith, p.members number x (set_there before number x k was) was, same) };
 }
+
+-- of one slot: what it names loses the colour, and nothing else changes
+pub record Names (s t : State) (name : Option ℕ) (y : ℕ) : Type 0 where
+  pub lost : is_slot y name ≡ true → (slot_at t y).colour ≢ Orange
+  pub kept : is_slot y name ≡ false → slot_at t y ≡ slot_at s y
+
+written_names : (s : State) (x : ℕ) (v : Slot) (y : ℕ) → (y ≡ x → v.colour ≢ Orange) → Names s (with_slot s x v) (Some x) y
+written_names s x v y h = elim (eqb_tells y x) [
+  | inl q ↦ record {
+    lost = λ _ o. not_orange_at s x v (h q.1) (ap (λ z. (slot_at (with_slot s x v) z).colour) (sym q.1) ∙ o);
+    kept = λ e. absurd (false≢true (sym e ∙ q.0));
+  }
+  | inr q ↦ record {
+    lost = λ e. absurd (false≢true (sym q.0 ∙ e));
+    kept = λ _. get_or-set_other s.slots x y v absent q.1;
+  }
+]
+
+raised_black : (v : Slot) → (raised v).colour ≢ Orange
+raised_black v o = cc
+
+lessened_unlike : (r l : Bool) (v : Slot) → r ≡ false → (lessened_if r l v).colour ≢ Orange
+lessened_unlike true l v e o = absurd (false≢true (sym e))
+lessened_unlike false true v e o = cc
+lessened_unlike false false v e o = cc
+
+up_names : (s : State) (name : Option ℕ) (y : ℕ) → Names s (counted_up s name) name y
+up_names s None y = record { lost = λ e. absurd (false≢true e); kept = λ _. refl }
+up_names s (Some x) y = written_names s x (raised (slot_at s x)) y (λ _. raised_black (slot_at s x))
+
+sent_names : (d : Due) (s t : State) (x : ℕ) (name : Option ℕ) (y : ℕ) → Names s t name y → Names s (sent d t x) name y
+sent_names Nothing s t x name y n = n
+sent_names Zero s t x name y n = record { lost = n.lost; kept = n.kept }
+sent_names Root s t x name y n = record { lost = n.lost; kept = n.kept }
+
+pub down_names : (s : State) (name : Option ℕ) (y : ℕ) → (slot_at s y).released ≡ false → Names s (counted_down s name) name y
+down_names s None y r = record { lost = λ e. absurd (false≢true e); kept = λ _. refl }
+down_names s (Some x) y r =
+    let v : Slot = slot_at s x in
+    sent_names (due_of v) s (with_slot s x (lessened v)) x (Some x) y
+    (written_names s x (lessened v) y (λ e. lessened_unlike v.released (eqb v.count 1) v (ap (λ z. (slot_at s z).released) (sym e) ∙ r)))
+
+down_released : (s : State) (name : Option ℕ) (y : ℕ) → (slot_at (counted_down s name) y).released ≡ (slot_at s y).released
+down_released s None y = refl
+down_released s (Some x) y = (rest_decremented s x).released y
+
+-- Of many of them: it is Orange after them exactly where it was before, and none of them names it. Then it is as it was.
+pub record Spares (s t : State) (times y : ℕ) : Type 0 where
+  pub before : (slot_at t y).colour ≡ Orange → (times ≡ 0)
+  pub same : times ≡ 0 → slot_at t y ≡ slot_at s y
+
+first_spares : (s t u : State) (name : Option ℕ) (n m y : ℕ) → Names s t name y → Spares t u n y → m ≡ one (is_slot y name) + n → Spares s u m y
+first_spares s t u name n m y f r e = go (is_slot y name) refl
+  where
+    go : (b : Bool) → is_slot y name ≡ b → Spares s u m y
+    go true q = record {
+      before = λ o. absurd (f.lost q (ap (λ (w : Slot). w.colour) (sym (r.same (r.before o))) ∙ o));
+      same = λ z. let w : one (is_slot y name) ≡ 1 = ap one q in absurd (omega (arith, z, e, w));
+    }
+    go false q =
+        let w : one (is_slot y name) ≡ 0 = ap one q in
+        record { before = λ o. omega (arith, e, w, r.before o); same = λ z. r.same (omega (arith, z, e, w)) ∙ f.kept q }
+
+ups_spare : (s : State) (names : List (Option ℕ)) (y : ℕ) → Spares s (all_up s names) (named y names) y
+unfolding all_counted
+ups_spare s [] y = record { before = λ o. named-nil y; same = λ _. refl }
+ups_spare s (t ∷ ts) y = first_spares s (counted_up s t) (all_up (counted_up s t) ts) t (named y ts) (named y (t ∷ ts)) y (up_names s t y) (ups_spare (counted_up s t) ts y) (named-cons y t ts)
+
+downs_spare : (s : State) (names : List (Option ℕ)) (y : ℕ) → (slot_at s y).released ≡ false → Spares s (all_down s names) (named y names) y
+unfolding all_counted
+downs_spare s [] y r = record { before = λ o. named-nil y; same = λ _. refl }
+downs_spare s (t ∷ ts) y r =
+    first_spares s (counted_down s t) (all_down (counted_down s t) ts) t (named y ts) (named y (t ∷ ts)) y (down_names s t y r) (downs_spare (counted_down s t) ts y (down_released s t y ∙ r)) (named-cons y t ts)
+
+-- a whole batch
+pub batch_touches : (s : State) (newer older : List Contents) (y : ℕ) → (slot_at s y).released ≡ false → ((slot_at (batch s newer older) y).colour ≡ Orange) ↔ (((slot_at s y).colour ≡ Orange) × (added y newer + taken y older ≡ 0))
+batch_touches s newer older y r =
+    let ups : List (Option ℕ) = flat_map up_targets newer in
+    let downs : List (Option ℕ) = flat_map down_targets older in
+    let u = ups_spare s ups y in
+    let d = downs_spare (all_up s ups) downs y ((rest_all_up s ups).released y ∙ r) in (
+      λ o.
+          let none_down : named y downs ≡ 0 = d.before o in
+          let up_orange : (slot_at (all_up s ups) y).colour ≡ Orange = ap (λ (w : Slot). w.colour) (sym (d.same none_down)) ∙ o in
+          let none_up : named y ups ≡ 0 = u.before up_orange in
+          (ap (λ (w : Slot). w.colour) (sym (u.same none_up)) ∙ up_orange, omega (arith, none_up, none_down, added_is y newer, taken_is y older)),
+      λ q.
+          let none_up : named y ups ≡ 0 = omega (arith, q.1, added_is y newer) in
+          let none_down : named y downs ≡ 0 = omega (arith, q.1, taken_is y older) in
+          ap (λ (w : Slot). w.colour) (d.same none_down ∙ u.same none_up) ∙ q.0,
+    )
+
+-- a slot that is Orange after a batch is as it was, and nothing of the batch names it
+pub batch_same : (s : State) (newer older : List Contents) (y : ℕ) → (slot_at s y).released ≡ false → (slot_at (batch s newer older) y).colour ≡ Orange → (slot_at (batch s newer older) y ≡ slot_at s y) × (added y newer + taken y older ≡ 0)
+batch_same s newer older y r o =
+    let ups : List (Option ℕ) = flat_map up_targets newer in
+    let downs : List (Option ℕ) = flat_map down_targets older in
+    let u = ups_spare s ups y in
+    let d = downs_spare (all_up s ups) downs y ((rest_all_up s ups).released y ∙ r) in
+    let unnamed : added y newer + taken y older ≡ 0 = ((batch_touches s newer older y r).0 o).1 in
+    let none_up : named y ups ≡ 0 = omega (arith, unnamed, added_is y newer) in
+    let none_down : named y downs ≡ 0 = omega (arith, unnamed, taken_is y older) in
+    (d.same none_down ∙ u.same none_up, unnamed)
+
+-- the members of the sets of a machine
+outside_at : (p : Private) (phase : Phase) → IsAt p phase → HasSets phase → AreOutside p.prep.fields p.counts
+outside_at p (Looking t) a h = a.rest.outside
+outside_at p (Swapping t) a h = a.rest.outside
+outside_at p (Returning t) a h = a.rest.outside
+outside_at p Releasing a h = a.0.clearing.outside
+outside_at p Freeing a h = a.0.clearing.outside
+outside_at p Trying a h = absurd h
+outside_at p Preparing a h = absurd h
+outside_at p _ a h = a.0.outside
+
+pub machine_outside : (p : Private) → IsMachine p → HasSets p.phase → AreOutside p.prep.fields p.counts
+machine_outside p k h = outside_at p p.phase k.now h
+
+-- it is the true count now, less the words that were seen
+pub outside_cyclic : (fields : ℕ) (s : State) (a : AreOutside fields s) (number x : ℕ) → (slot_at s x).set ≡ Some number → (slot_at s x).colour ≡ Orange → (slot_at s x).cyclic ≡ (slot_at s x).count - seen a.before number a.loads x
+outside_cyclic fields s a number x i o = let m : IsOutside a.before s a.loads number x = a.members number x i o in omega (arith, m.fewer, m.cyclic)

@@ -1,40 +1,47 @@
--- What comes next and what is learnt are a step, by the phase.
-use Rattle.std.proofs.Common.{◌≡◌, ◌≢◌, ℕ, zero, suc, ◌+◌, ◌-◌, ◌^◌, ◌<◌, ◌==◌, true, false, Bool, cond, Option, None, Some, List, [], ◌∷◌, length, refl, arith, sym, ap, subst, ◌∙◌}
-use Rattle.std.proofs.lemmas.Bool.{eq-eqb, eqb-true, false≢true}
+-- What comes next and what is learnt are a step, by the phase; what a step leaves in the mailbox that it looks at, and why each answer of
+-- a turn comes.
+use Rattle.std.proofs.Common.{◌≡◌, ◌≢◌, ℕ, zero, suc, ◌+◌, ◌-◌, ◌^◌, ◌<◌, ◌==◌, true, false, Bool, cond, Option, None, Some, List, [], ◌∷◌, length, refl, arith, sym, ap, subst, ◌∙◌, inl, inr, ◌≤◌, IsSome, IsNone}
+use Rattle.std.proofs.lemmas.Bool.{eq-eqb, eqb-true, false≢true, cases_eq, ne_eqb, cond-true, cond-false}
 use Rattle.std.proofs.lemmas.List.{nil_from_length}
 use Rattle.rec_word.specs.Mailbox.{crossing_word}
 use Rattle.rec_word.specs.declared.mailbox.Mailbox.TheVariants.{Retired}
 use Rattle.rec_word.specs.declared.op.Op.{Op}
 use Rattle.rec_word.specs.declared.op.Op.TheVariants.{StoreEpoch, LookBox, ReturnBox}
 use Rattle.rec_log.specs.declared.contents.Contents.{Contents}
+use Rattle.rec_walk.specs.declared.member.Member.{Member}
 use Rattle.rec_release.specs.Sweep as sweeps
 use Rattle.rec_release.specs.declared.at.At.{At}
-use Rattle.rec_walk.specs.declared.member.Member.{Member}
+use Rattle.rec_release.specs.CycleFree as frees
+use Rattle.rec_release.specs.Release as releases
+use Rattle.rec_release.specs.Sweep.{next_of as sweep_next}
 use Rattle.rec_sigma.specs.Refurbish.{LastRefurbished}
 use Rattle.rec_sigma.specs.Settling.{refurbished_of}
 use Rattle.rec_sigma.specs.declared.at.At as loads
 use Rattle.rec_sigma.proofs.Renewals.{refurbished_last}
+use Rattle.rec_sigma.specs.Prepare as preps
 use Rattle.rec_trial.specs.Trial.{next_of as trial_next}
 use Rattle.rec_collector.specs.Followed.{Next, followed, next_in, prep_started, prepared, prepared_at, relieved, sweep_phase, tested_next, tested_on, trial_started, tried, tried_at, with_freed, with_loaded, with_released, with_tried}
 use Rattle.rec_collector.specs.Given.{IsCovered, IsGiven, IsGivenAt}
-use Rattle.rec_collector.specs.Kept.{IsMachine}
+use Rattle.rec_collector.specs.Kept.{IsMachine, swept_at}
 use Rattle.rec_collector.specs.Next.{is_spent, next_at, next_of}
 use Rattle.rec_collector.specs.Parts.{Parts}
-use Rattle.rec_collector.specs.Private.{Private, parts_of}
-use Rattle.rec_collector.specs.Step.{Step, ClearsOn, IsTested, PreparesOn, TriesOn, IsNext, IsBetween}
+use Rattle.rec_collector.specs.Private.{Private, parts_of, with_parts}
+use Rattle.rec_collector.specs.Step.{Step, ClearsOn, IsTested, PreparesOn, TriesOn, IsNext, IsBetween, LeavesBox, WholeStep}
 use Rattle.rec_collector.specs.Testing.{is_busy, is_busy_at, last_tested, tested, tested_as, verdict_of, zeros_released}
-use Rattle.rec_collector.specs.Took.{batched, came, came_turn, moved, step_of, swapped_of, swapped_at, swept_phase, took_at, took_of, turn_at, turn_of}
+use Rattle.rec_collector.specs.Took.{batched, came, came_turn, moved, step_of, swapped_of, swapped_at, swept_phase, took_at, took_of, turn_at, turn_of, ended_if, left_at, left_of}
 use Rattle.rec_collector.specs.declared.phase.Phase.{Phase}
 use Rattle.rec_collector.specs.declared.phase.Phase.TheVariants.{Idle, Looking, Swapping, Returning, Releasing, Freeing, Trying, Preparing, Opening, Sweeping, Closing}
 use Rattle.rec_collector.specs.declared.turn.Turn.TheVariants.{Moved, Waiting, EpochsSpent}
 use Rattle.rec_collector.specs.declared.verdict.Verdict.{Verdict}
 use Rattle.rec_collector.specs.declared.verdict.Verdict.TheVariants.{Passed, Touched, Held}
+use Rattle.rec_collector.specs.Causes.{HasCause}
 use Rattle.rec_collector.proofs.Clearing.{last_stays, StaysClear}
 use Rattle.rec_collector.proofs.Following.{HasCleared, begun_clears, freed_clears, released_clears}
 use Rattle.rec_collector.proofs.Goings.{last_sets}
-use Rattle.rec_collector.proofs.Judging.{last_refusable, none_busy}
-use Rattle.rec_collector.proofs.UnderTest.{tested_busy, tested_next_on, tested_none}
-use Rattle.rec_collector.proofs.Verdicts.{verdict_held, verdict_passed, verdict_touched}
+use Rattle.rec_collector.proofs.Judging.{Says, verdict_says, last_refusable, none_busy, Says, verdict_says}
+use Rattle.rec_collector.proofs.Landing.{followed_phase, prepared_phase, tried_phase, work_of, work_phase, landed, now_at, under_way_at}
+use Rattle.rec_collector.proofs.Answering.{freeing_next, prep_next, release_next}
+use Rattle.rec_collector.proofs.Sweeping.{due_slot}
 
 none_some : {A : Type 0} (x : A) → Some x ≢ None
 none_some x e = cc
@@ -71,12 +78,12 @@ tried_on p w box = go (trial_next w.trial) refl
 -- the test of the last set
 last_test : (w : Parts) → LastRefurbished w.counts (refurbished_of w.counts) → IsTested w (last_tested w)
 unfolding last_tested
-last_test w r = go (verdict_of w.counts (length w.counts.sets - 1)) refl
+last_test w r = go (verdict_of w.counts (length w.counts.sets - 1)) (verdict_says w.counts (length w.counts.sets - 1))
   where
-    go : (verdict : Verdict) → verdict_of w.counts (length w.counts.sets - 1) ≡ verdict → IsTested w (tested_as verdict w)
-    go Passed e = let v = verdict_passed w.counts (length w.counts.sets - 1) e in IsTested.passes v.0 v.1 refl
-    go Touched e = IsTested.fails_delta (refurbished_of w.counts) (verdict_touched w.counts (length w.counts.sets - 1) e) r refl
-    go Held e = let v = verdict_held w.counts (length w.counts.sets - 1) e in IsTested.fails_sigma (refurbished_of w.counts) v.0 v.1 r refl
+    go : (verdict : Verdict) → Says w.counts (length w.counts.sets - 1) verdict → IsTested w (tested_as verdict w)
+    go Passed v = IsTested.passes v.0 v.1 refl
+    go Touched v = IsTested.fails_delta (refurbished_of w.counts) v r refl
+    go Held v = IsTested.fails_sigma (refurbished_of w.counts) v.0 v.1 r refl
 
 -- something is at work, or no set is left
 works_on : (p : Private) (w : Parts) (box : Contents) → (w.release.at ≡ None → w.freeing.at ≡ None → w.counts.sets ≡ []) → ClearsOn p (went p (tested_next w) box) (came_turn p.epoch (tested_next w).phase) w
@@ -92,24 +99,20 @@ busy_works : (w : Parts) → is_busy w ≡ true → w.release.at ≡ None → w.
 busy_works w b e f = let q : true ≡ false = sym b ∙ ap (λ at. is_busy_at at w.freeing.at) e ∙ ap (is_busy_at None) f in cc
 
 tested_on_from : (n : ℕ) (p : Private) (w : Parts) (box : Contents) → length w.counts.sets ≡ n → StaysClear w → ClearsOn p (went p (tested_next (tested n w)) box) (came_turn p.epoch (tested_next (tested n w)).phase) w
-tested_on_from zero p w box e c =
-    let same : tested zero w ≡ w = tested_none zero w refl in
-    subst (λ (v : Parts). ClearsOn p (went p (tested_next v) box) (came_turn p.epoch (tested_next v).phase) w) (sym same) (works_on p w box (λ still unfreed. nil_from_length w.counts.sets e))
+unfolding tested
+tested_on_from zero p w box e c = works_on p w box (λ still unfreed. nil_from_length w.counts.sets e)
 tested_on_from (suc n) p w box e c = go (is_busy w) refl (tested_on_from n p (last_tested w) box)
   where
+    some : 0 < length w.counts.sets
+    some = omega (arith, e)
+
     go : (b : Bool) → is_busy w ≡ b → (length (last_tested w).counts.sets ≡ n → StaysClear (last_tested w) → ClearsOn p (went p (tested_next (tested n (last_tested w))) box) (came_turn p.epoch (tested_next (tested n (last_tested w))).phase) (last_tested w))
-        → ClearsOn p (went p (tested_next (tested (suc n) w)) box) (came_turn p.epoch (tested_next (tested (suc n) w)).phase) w
-    go true b more =
-        let same : tested (suc n) w ≡ w = tested_busy (suc n) w b in
-        subst (λ (v : Parts). ClearsOn p (went p (tested_next v) box) (came_turn p.epoch (tested_next v).phase) w) (sym same) (works_on p w box (busy_works w b))
+        → ClearsOn p (went p (tested_next (cond b w (tested n (last_tested w)))) box) (came_turn p.epoch (tested_next (cond b w (tested n (last_tested w)))).phase) w
+    go true b more = works_on p w box (busy_works w b)
     go false b more =
-        let some : 0 < length w.counts.sets = omega (arith, e) in
-        let left : length (last_tested w).counts.sets ≡ n = omega (arith, e, last_sets w some) in
-        let same : tested (suc n) w ≡ tested n (last_tested w) = tested_next_on n w b in
         let idle = none_busy w b in
-        let r : LastRefurbished w.counts (refurbished_of w.counts) = refurbished_last w.counts c.counts (last_refusable w some b c.counts c.clearing c.done) in
-        subst (λ (v : Parts). ClearsOn p (went p (tested_next v) box) (came_turn p.epoch (tested_next v).phase) w) (sym same)
-        (ClearsOn.tests (last_tested w) idle.1 idle.0 some (last_test w r) (more left (last_stays w some b c)))
+        ClearsOn.tests (last_tested w) idle.1 idle.0 some (last_test w (refurbished_last w.counts c.counts (last_refusable w some b c.counts c.clearing c.done)))
+        (more (omega (arith, e, last_sets w some)) (last_stays w some b c))
 
 cleared_on : (p : Private) (w : Parts) (box : Contents) → HasCleared p w → ClearsOn p (went p (followed w) box) (came_turn p.epoch (followed w).phase) w
 unfolding followed
@@ -178,3 +181,135 @@ step_at p word box (Closing n) k is b g = Step.end_sweep n is refl (record { aft
 pub step_made : (p : Private) (word : ℕ) (box : Contents) → IsMachine p → IsBetween p.phase → IsGiven p word → Step p word box (next_of p) (step_of p word box) (turn_of p word)
 unfolding next_of step_of took_of turn_of IsGiven
 step_made p word box k b g = step_at p word box p.phase k refl b g
+
+-- what follows a word in the middle of a collection holds no mailbox
+pub prepared_between : (w : Parts) → IsBetween (prepared w).phase
+prepared_between w = prepared_phase IsBetween tt tt tt w
+
+pub tried_between : (w : Parts) → IsBetween (tried w).phase
+tried_between w = tried_phase IsBetween tt tt tt tt w
+
+pub followed_between : (w : Parts) → IsBetween (followed w).phase
+followed_between w = followed_phase IsBetween tt tt tt tt tt tt w
+
+came_leaves : (p : Private) (box : Contents) (n : Next) → IsBetween n.phase → left_of (came p n) box ≡ box
+unfolding left_of left_at
+came_leaves p box n between = at n.phase between
+  where
+    at : (phase : Phase) → IsBetween phase → left_of (ended_if phase (moved (with_parts p n.parts) phase)) box ≡ box
+    at (Swapping t) between = absurd between
+    at _ between = refl
+
+-- a phase in which no mailbox is looked at
+keeps_in : (p : Private) (word : ℕ) (box left : Contents) (phase : Phase) → p.phase ≡ phase → ((t : ℕ) → phase ≢ Looking t) → left ≡ box → LeavesBox p word box left
+keeps_in p word box left phase is other e = LeavesBox.keeps (λ t looks. absurd (other t (sym is ∙ looks))) e
+
+-- by phase
+leaves_at : (p : Private) (word : ℕ) (box : Contents) (phase : Phase) → p.phase ≡ phase → IsBetween phase → LeavesBox p word box (left_of (took_at p word phase) box)
+unfolding took_at left_of left_at
+leaves_at p word box Idle is between = keeps_in p word box _ Idle is (λ t. λ e. cc) (go (is_spent p))
+  where
+    go : (spent : Bool) → left_of (cond spent p (moved (record p { epoch = p.epoch + 1 }) (Looking 1))) box ≡ box
+    go true = ap (left_at p box) is
+    go false = refl
+leaves_at p word box (Looking t) is between = elim (cases_eq word (crossing_word p.epoch Retired)) [
+  | inl e ↦ LeavesBox.empties t is e (ap (λ b. left_of (cond b (moved p (Swapping t)) p) box) (eq-eqb word (crossing_word p.epoch Retired) e))
+  | inr e ↦ LeavesBox.keeps (λ u looks same. e same) (ap (λ b. left_of (cond b (moved p (Swapping t)) p) box) (ne_eqb word (crossing_word p.epoch Retired) e) ∙ ap (left_at p box) is)
+]
+leaves_at p word box (Swapping t) is between = absurd between
+leaves_at p word box (Returning t) is between = keeps_in p word box _ (Returning t) is (λ t. λ e. cc) (go (t == length p.newer))
+  where
+    next : Next
+    next = work_of p word (Returning t)
+
+    go : (last : Bool) → left_of (cond last (came p next) (moved p (Looking (t + 1)))) box ≡ box
+    go true = came_leaves p box next (followed_between _)
+    go false = refl
+leaves_at p word box Opening is between = keeps_in p word box _ Opening is (λ t. λ e. cc) refl
+leaves_at p word box (Sweeping n) is between = keeps_in p word box _ (Sweeping n) is (λ t. λ e. cc) (go _)
+  where
+    go : (x : Option ℕ) → left_at p box (swept_phase (n + 1) x) ≡ box
+    go None = refl
+    go (Some x) = refl
+leaves_at p word box (Closing n) is between = keeps_in p word box _ (Closing n) is (λ t. λ e. cc) refl
+leaves_at p word box phase is between = keeps_in p word box _ phase is (λ t. λ e. cc) (came_leaves p box (work_of p word phase) (work_phase IsBetween tt tt tt tt tt tt p word phase))
+
+leaves_box : (p : Private) (word : ℕ) (box : Contents) → IsBetween p.phase → LeavesBox p word box (left_of (took_of p word) box)
+unfolding took_of
+leaves_box p word box between = leaves_at p word box p.phase refl between
+
+-- a whole step
+pub whole_made : (p : Private) (word : ℕ) (box : Contents) → IsMachine p → IsBetween p.phase → IsGiven p word → WholeStep p word box (next_of p) (step_of p word box) (turn_of p word) (left_of (took_of p word) box)
+whole_made p word box k between given = record { own = step_made p word box k between given; mailbox = leaves_box p word box between }
+
+-- nothing is swept yet where the parts were at work
+work_none : (p : Private) (word : ℕ) (phase : Phase) → swept_at (work_of p word phase).phase ≡ 0
+work_none p word phase = work_phase (λ f. swept_at f ≡ 0) refl refl refl refl refl refl p word phase
+
+-- a turn that came to these parts and this phase, from a phase that has swept nothing
+came_cause : (p : Private) (word : ℕ) (n : Next) → p.collections + 1 ≤ p.epoch → swept_at p.phase ≡ 0 → swept_at n.phase ≡ 0 → HasCause p word (came p n) (came_turn p.epoch n.phase)
+came_cause p word n u z none = go n.phase none
+  where
+    go : (phase : Phase) → swept_at phase ≡ 0 → HasCause p word (ended_if phase (landed p (record { parts = n.parts; phase = phase }))) (came_turn p.epoch phase)
+    go (Sweeping m) none = (refl, refl, omega (arith, z, none))
+    go (Closing m) none = (omega (arith, u), omega (arith, z, none), refl, refl, refl, refl)
+    go _ none = (refl, refl, ap (λ m. p.freed + m) z)
+
+idle_cause : (p : Private) (word : ℕ) (b : Bool) → is_spent p ≡ b → p.phase ≡ Idle → HasCause p word (cond b p (moved (record p { epoch = p.epoch + 1 }) (Looking 1))) (cond b EpochsSpent Moved)
+idle_cause p word true e is = (is, eqb-true (p.epoch + 1) (2 ^ 24) e, refl)
+idle_cause p word false e is = (refl, refl, ap (λ f. p.freed + swept_at f) is)
+
+look_cause : (p : Private) (word t : ℕ) (b : Bool) → (word == crossing_word p.epoch Retired) ≡ b → p.phase ≡ Looking t → HasCause p word (cond b (moved p (Swapping t)) p) (cond b Moved (Waiting t))
+look_cause p word t true e is = (refl, refl, ap (λ f. p.freed + swept_at f) is)
+look_cause p word t false e is = (is, (λ q. false≢true (sym e ∙ eq-eqb word (crossing_word p.epoch Retired) q)), refl)
+
+return_cause : (p : Private) (word t : ℕ) (n : Next) (b : Bool) → p.collections + 1 ≤ p.epoch → p.phase ≡ Returning t → swept_at n.phase ≡ 0 → HasCause p word (cond b (came p n) (moved p (Looking (t + 1)))) (cond b (came_turn p.epoch n.phase) Moved)
+return_cause p word t n true u is none = came_cause p word n u (ap swept_at is) none
+return_cause p word t n false u is none = (refl, refl, ap (λ f. p.freed + swept_at f) is)
+
+sweep_cause : (p : Private) (n : ℕ) (due : Option ℕ) → p.phase ≡ Sweeping n → p.freed + 1 + swept_at p.phase ≡ p.freed + swept_at (swept_phase (n + 1) due)
+sweep_cause p n None is = omega (arith, ap swept_at is)
+sweep_cause p n (Some x) is = omega (arith, ap swept_at is)
+
+cause_at : (p : Private) (word : ℕ) (phase : Phase) → p.phase ≡ phase → IsMachine p → HasCause p word (took_at p word phase) (turn_at p word phase)
+unfolding took_at turn_at
+cause_at p word Idle is k = idle_cause p word (is_spent p) refl is
+cause_at p word (Looking t) is k = look_cause p word t (word == crossing_word p.epoch Retired) refl is
+cause_at p word (Swapping t) is k = (refl, refl, ap (λ f. p.freed + swept_at f) is)
+cause_at p word (Returning t) is k = return_cause p word t (work_of p word (Returning t)) (t == length p.newer) (under_way_at p (Returning t) k is) is (work_none p word (Returning t))
+cause_at p word Opening is k = (refl, refl, ap (λ f. p.freed + swept_at f) is)
+cause_at p word (Sweeping n) is k = (refl, refl, sweep_cause p n _ is)
+cause_at p word (Closing n) is k = (omega (arith, under_way_at p (Closing n) k is), sym (ap swept_at is), refl, refl, refl, refl)
+cause_at p word phase is k = came_cause p word (work_of p word phase) (under_way_at p phase k is) (ap swept_at is) (work_none p word phase)
+
+-- why an answer comes
+pub has_cause : (p : Private) (word : ℕ) → IsMachine p → HasCause p word (took_of p word) (turn_of p word)
+unfolding took_of turn_of
+has_cause p word k = cause_at p word p.phase refl k
+
+-- a mutator that has not crossed is waited for
+pub waits : (p : Private) (word t : ℕ) → p.phase ≡ Looking t → word ≢ crossing_word p.epoch Retired → turn_of p word ≡ Waiting t
+unfolding turn_of turn_at
+waits p word t is other = ap (turn_at p word) is ∙ cond-false (word == crossing_word p.epoch Retired) _ _ (ne_eqb word (crossing_word p.epoch Retired) other)
+
+is_none : {A : Type 0} (x : Option A) → IsSome x → IsNone x → ⊥
+is_none None s n = false≢true s
+is_none (Some x) s n = false≢true (sym n)
+
+spent_at : (p : Private) (word : ℕ) (phase : Phase) → p.phase ≡ phase → IsMachine p → IsNone (next_at p phase) → turn_at p word phase ≡ EpochsSpent
+unfolding next_at turn_at
+spent_at p word Idle is k n = elim (cases_eq (p.epoch + 1) (2 ^ 24)) [
+  | inl e ↦ cond-true (is_spent p) _ _ (eq-eqb (p.epoch + 1) (2 ^ 24) e)
+  | inr e ↦ absurd (false≢true (sym (subst (λ (o : Option Op). IsNone o) (cond-false (is_spent p) None (Some (StoreEpoch (p.epoch + 1))) (ne_eqb (p.epoch + 1) (2 ^ 24) e)) n)))
+]
+spent_at p word Releasing is k n = absurd (is_none (releases.next_of p.release) (release_next p.release ∙ (now_at p Releasing k is).1) n)
+spent_at p word Freeing is k n = absurd (is_none (frees.next_of p.freeing) (freeing_next p.freeing ∙ (now_at p Freeing k is).1) n)
+spent_at p word Trying is k n = absurd (is_none (trial_next p.trial) (now_at p Trying k is).busy n)
+spent_at p word Preparing is k n = absurd (is_none (preps.next_of p.prep) (prep_next p.prep ∙ (now_at p Preparing k is).busy) n)
+spent_at p word (Sweeping m) is k n = absurd (is_none (sweep_next p.due) (due_slot p.counts.free p.due (now_at p (Sweeping m) k is).1 (now_at p (Sweeping m) k is).2) n)
+spent_at p word _ is k n = absurd (false≢true (sym n))
+
+-- where no step comes next, the epochs are spent
+pub spends : (p : Private) (word : ℕ) → IsMachine p → IsNone (next_of p) → turn_of p word ≡ EpochsSpent
+unfolding next_of turn_of
+spends p word k n = spent_at p word p.phase refl k n

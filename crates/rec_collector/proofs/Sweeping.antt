@@ -1,32 +1,37 @@
 -- A sweep goes on, and a collection ends.
-use Rattle.std.proofs.Common.{◌≡◌, ◌≢◌, ◌⊎◌, ℕ, ◌+◌, ◌*◌, ◌^◌, ◌<◌, ◌≤◌, true, eqb, inl, inr, Option, None, Some, IsNone, IsSome, List, [], ◌∷◌, length, map, drop, slice_get, refl, arith, sym, ◌∙◌, ap, subst}
-use Rattle.std.proofs.lemmas.List.{length-set, length-map, get_or-set_same, get_or-set_other, get_or_past}
-use Rattle.std.proofs.lemmas.Bool.{cases_lt, false≢true}
+use Rattle.std.proofs.Common.{◌≡◌, ap, sym, subst, ◌∙◌, ◌≢◌, ℕ, ◌+◌, ◌*◌, ◌^◌, ◌<◌, ◌≤◌, true, eqb, inl, inr, Option, None, Some, IsNone, IsSome, List, [], ◌∷◌, length, map, drop, slice_get, refl, arith}
+use Rattle.std.proofs.lemmas.List.{length-set, length-map, get_or-set_same, get_or-set_other}
+use Rattle.std.proofs.lemmas.Bool.{false≢true}
 use Rattle.std.proofs.lemmas.Bool.Decides.{eqb_tells}
-use Rattle.rec_counts.specs.declared.colour.Colour.TheVariants.{Black, Orange}
 use Rattle.rec_counts.specs.declared.slot.Slot.{Slot}
 use Rattle.rec_counts.specs.Lists.{one, times}
 use Rattle.rec_counts.specs.Counts.{State, slot_at, IsKept as IsKeptCounts}
 use Rattle.rec_counts.specs.Slot.{absent, swept_clean}
-use Rattle.rec_counts.specs.Colour.{is_gray, is_white}
 use Rattle.rec_counts.proofs.Times.{times-cons}
 use Rattle.rec_release.specs.Sweep as sweeps
 use Rattle.rec_release.specs.Sweep.{swept, took_of, started_of, next_of}
-use Rattle.rec_release.specs.TakenOff.{IsApart, IsMember}
+use Rattle.rec_release.specs.TakenOff.{IsApart}
 use Rattle.rec_release.proofs.Sweeping.{unbuffered_swept}
 use Rattle.rec_release.proofs.TakenOff.{written}
-use Rattle.rec_trial.proofs.Worked.{kept_by_all}
-use Rattle.rec_collector.specs.Clearing.{IsUntried}
-use Rattle.rec_collector.specs.Parts.{Parts}
+use Rattle.rec_collector.specs.Inside.{private}
+use Rattle.rec_collector.specs.Kept.{IsMachine, ArePrepared, IsAt, IsSweeping, IsTried}
 use Rattle.rec_collector.specs.Private.{Private, parts_of}
-use Rattle.rec_collector.specs.Kept.{ArePrepared, IsAt, IsMachine, IsSweeping, IsTried}
+use Rattle.rec_collector.specs.declared.machine.Machine.TheInside.{Inside}
+use Rattle.rec_collector.specs.declared.phase.Phase.{Phase}
+use Rattle.rec_collector.specs.Parts.{Parts}
 use Rattle.rec_collector.specs.Zeros.{AreCounted}
 use Rattle.rec_collector.specs.Took.{cleared, ended, moved, swept_phase, swept_one, took_at, with_sweep}
-use Rattle.rec_collector.specs.declared.phase.Phase.{Phase}
 use Rattle.rec_collector.specs.declared.phase.Phase.TheVariants.{Opening, Sweeping, Closing}
 use Rattle.rec_collector.proofs.Landing.{freed_at, now_at, told_at, under_way_at}
-use Rattle.rec_collector.proofs.Outside.{outside_on, swept_lowers}
+use Rattle.rec_collector.proofs.Outside.{apart_on, black_was, untried_moved, outside_on, swept_lowers}
 use Rattle.rec_collector.proofs.Rows.{cleared_sized, cleared_spares}
+
+-- the same fields make up the same machine
+pub same_machine : {i j : Inside} → i ≡ j → IsMachine (private j) → IsMachine (private i)
+same_machine e k = subst (λ i. IsMachine (private i)) (sym e) k
+
+pub same_phase : {i j : Inside} {p : Private} {phase : Phase} → i ≡ j → private j ≡ p → p.phase ≡ phase → i.phase ≡ phase
+same_phase e v is = ap (λ (i : Inside). i.phase) e ∙ ap (λ (p : Private). p.phase) v ∙ is
 
 -- a sweep begins
 pub opening_keeps : (p : Private) → IsMachine p → p.phase ≡ Opening → IsMachine (took_at p 0 Opening)
@@ -61,29 +66,9 @@ swept_listed s x first k y l t = elim (eqb_tells y x) [
       omega (arith, other, first_gone s.free x y first, k y (omega (arith, l, length-set s.slots x (swept_clean (slot_at s x)))) was)
 ]
 
--- a swept slot is Black, and so it is of no trial
-swept_untried : (s : State) (x : ℕ) → IsUntried s → IsUntried (swept s x)
-swept_untried s x u = record {
-  marked = u.marked;
-  no_gray = kept_by_all (λ (v : Slot). is_gray v.colour) s x (swept_clean (slot_at s x)) refl u.no_gray;
-  no_white = kept_by_all (λ (v : Slot). is_white v.colour) s x (swept_clean (slot_at s x)) refl u.no_white;
-}
-
-black_orange : Black ≢ Orange
-black_orange e = cc
-
+-- a swept slot is Black
 swept_apart : (s : State) (x : ℕ) → IsApart s → IsApart (swept s x)
-swept_apart s x a = λ y e. elim (eqb_tells y x) [
-  | inl q ↦ absurd (black_orange (sym (swept_black (cases_lt x (length s.slots))) ∙ sym (ap (λ z. (slot_at (swept s x) z).colour) q.1) ∙ e))
-  | inr q ↦
-      let same : slot_at (swept s x) y ≡ slot_at s y = get_or-set_other s.slots x y (swept_clean (slot_at s x)) absent q.1 in
-      let m : IsMember s y = a y (sym (ap (λ (v : Slot). v.colour) same) ∙ e) in
-      record { member = m.member; no_zero = m.no_zero; unreleased = ap (λ (v : Slot). v.released) same ∙ m.unreleased }
-]
-  where
-    swept_black : (x < length s.slots) ⊎ (length s.slots ≤ x) → (slot_at (swept s x) x).colour ≡ Black
-    swept_black (inl l) = ap (λ (v : Slot). v.colour) (get_or-set_same s.slots x (swept_clean (slot_at s x)) absent l)
-    swept_black (inr l) = ap (λ (v : Slot). v.colour) (get_or_past (swept s x).slots x absent (omega (arith, l, length-set s.slots x (swept_clean (slot_at s x)))))
+swept_apart s x a = apart_on s (swept s x) refl refl (black_was s x (swept_clean (slot_at s x)) refl) a
 
 -- a swept slot has one count
 swept_counted : (s : State) (x : ℕ) → AreCounted s → AreCounted (swept s x)
@@ -94,7 +79,7 @@ swept_counted s x c = λ y r. elim (written s x (swept_clean (slot_at s x)) y) [
 
 swept_tried : (w : Parts) (x : ℕ) → slice_get w.counts.free 0 ≡ Some x → IsTried w → IsTried (record w { counts = swept w.counts x })
 swept_tried w x first t = record {
-  untried = swept_untried w.counts x t.untried;
+  untried = untried_moved w.counts (swept w.counts x) refl (swept_lowers w.counts x) t.untried;
   idle = t.idle;
   apart = swept_apart w.counts x t.apart;
   counted = swept_counted w.counts x t.counted;

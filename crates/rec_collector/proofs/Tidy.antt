@@ -1,82 +1,99 @@
 -- Between a batch and the next trial, the moves on the counts leave them tidy: nothing is Gray or White, the orange slots are apart,
 -- every released slot is somewhere, and what is in the free list or the work list is in no buffer.
-use Rattle.std.proofs.Common.{◌≡◌, ℕ, ◌+◌, ◌-◌, ◌<◌, Bool, true, false, eqb, cond, Option, None, Some, IfSome, List, [], ◌∷◌, ◌++◌, filter, length, slice_get, refl, arith, sym, ◌∙◌, ap, subst, inl, inr}
+use Rattle.std.proofs.Common.{◌≡◌, ℕ, suc, ◌+◌, ◌-◌, ◌<◌, ◌≤◌, eqb, Bool, true, false, cond, Option, List, [], ◌∷◌, filter, length, slice_get, sym, ◌∙◌, ap, subst, arith, inl, inr, None, Some, IfSome, ◌++◌, refl}
+use Rattle.std.specs.List.{concat}
+use Rattle.std.proofs.lemmas.Bool.{true≢false, cases_Bool, cases_lt, eq-eqb, false≢true}
 use Rattle.std.proofs.lemmas.List.{length-set}
-use Rattle.std.proofs.lemmas.Bool.{cases_lt, eq-eqb, false≢true}
 use Rattle.std.proofs.lemmas.Bool.Decides.{eqb_tells}
 use Rattle.rec_word.specs.Word.{is_slot}
-use Rattle.rec_counts.specs.declared.colour.Colour.{Colour}
-use Rattle.rec_counts.specs.declared.colour.Colour.TheVariants.{Black, Purple}
+use Rattle.rec_counts.specs.declared.colour.Colour.TheVariants.{Orange}
 use Rattle.rec_counts.specs.declared.slot.Slot.{Slot}
-use Rattle.rec_counts.specs.declared.slot.Due.{Due}
-use Rattle.rec_counts.specs.declared.slot.Due.TheVariants.{Nothing, Zero, Root}
-use Rattle.rec_counts.specs.Counts.{State, IsKept, slot_at, with_slot, sent}
-use Rattle.rec_counts.specs.Groups.{last_set}
+use Rattle.rec_counts.specs.Counts.{State, IsKept, slot_at, with_slot}
+use Rattle.rec_counts.specs.Groups.{last_set, earlier_sets}
 use Rattle.rec_counts.specs.Lists.{one, times}
+use Rattle.rec_counts.specs.Slot.{is_in, unbuffered_if}
+use Rattle.rec_counts.proofs.Times.{times-nil, times-cons, times-append, times_push}
+use Rattle.rec_counts.specs.declared.slot.Due.TheVariants.{Zero}
 use Rattle.rec_counts.specs.Rest.{AreZeros}
-use Rattle.rec_counts.specs.Slot.{is_in, lessened, lowered, due_of, unbuffered_if}
-use Rattle.rec_counts.specs.Colour.{is_gray, is_white}
 use Rattle.rec_counts.proofs.Keeping.{field_kept}
-use Rattle.rec_counts.proofs.Times.{times-append, times-cons, times-nil, times_push}
+use Rattle.rec_release.specs.TakenOff.{IsMember, IsApart, taken_off, AllZerosButOrange}
 use Rattle.rec_release.specs.declared.at.At.{At}
 use Rattle.rec_release.specs.CycleFree.{dead_if, given_up, listed, IsFreeable}
 use Rattle.rec_release.specs.Release.{emptied, first_of, listed_if, without_first, IsReady}
-use Rattle.rec_release.specs.TakenOff.{down_if, is_lowered, taken_off, AllZerosButOrange, IsApart}
 use Rattle.rec_release.proofs.Giving.{given_many, given_slot}
 use Rattle.rec_release.proofs.Keeping.{released_same}
 use Rattle.rec_release.proofs.Orange.{given_apart, given_zeros, lists_keep, next_keeps, off_keeps}
 use Rattle.rec_release.proofs.TakenOff.{off_most, KeepsMost}
 use Rattle.rec_sigma.specs.declared.fate.Fate.{Fate}
+use Rattle.rec_sigma.specs.declared.fate.Fate.TheVariants.{Free}
+use Rattle.rec_sigma.specs.Refurbish.{fate_at, fate_if, is_root, is_zero, refurbished, LastRefurbished, is_free, IsRefusable}
 use Rattle.rec_sigma.specs.declared.fate.Fate.TheVariants as fates
-use Rattle.rec_sigma.specs.Refurbish.{fate_at, fate_if, is_free, is_root, is_zero, refurbished, IsRefusable, LastRefurbished}
 use Rattle.rec_sigma.proofs.Refused.{released_after, same_count, same_released}
-use Rattle.rec_trial.proofs.Worked.{kept_by_all, lessened_colour}
 use Rattle.rec_collector.specs.Clearing.{IsTidy}
-use Rattle.rec_collector.proofs.Apart.{apart_refurbished, times_filter}
-use Rattle.rec_collector.proofs.Outside.{first_lowers, given_lowers, off_lowers, outside_on, refurbished_lowers, same_lowers}
+use Rattle.rec_collector.proofs.Outside.{untried_moved, first_lowers, given_lowers, off_lowers, outside_on, refurbished_lowers, same_lowers}
 
--- a colour that no slot has, which is neither Black nor Purple, no slot has after each of the moves
-module _ (f : Colour → Bool) (black : f Black ≡ false) (purple : f Purple ≡ false) where
-  sent_colour : (d : Due) (s : State) (y : ℕ) → ((x : ℕ) → f (slot_at s x).colour ≡ false) → (x : ℕ) → f (slot_at (sent d s y) x).colour ≡ false
-  sent_colour Nothing s y h x = h x
-  sent_colour Zero s y h x = h x
-  sent_colour Root s y h x = h x
+-- what the sets have, the earlier ones and the last have
+times_last : (x : ℕ) (xss : List (List ℕ)) → times x (concat xss) ≡ times x (concat (earlier_sets xss)) + times x (last_set xss)
+times_last x [] = omega (arith, times-nil x)
+times_last x (xs ∷ []) = omega (arith, times-append x xs [], times-nil x)
+times_last x (xs ∷ ys ∷ yss) =
+    let k : length (xs ∷ ys ∷ yss) - 1 ≡ suc (length (ys ∷ yss) - 1) = omega arith in
+    rw k (omega (arith, times-append x xs (concat (ys ∷ yss)), times-append x xs (concat (earlier_sets (ys ∷ yss))), times_last x (ys ∷ yss)))
 
-  down_colour : (b : Bool) (s : State) (y : ℕ) → ((x : ℕ) → f (slot_at s x).colour ≡ false) → (x : ℕ) → f (slot_at (down_if b s y) x).colour ≡ false
-  down_colour true s y h = kept_by_all (λ (v : Slot). f v.colour) s y (lowered (slot_at s y)) (h y) h
-  down_colour false s y h =
-      let v : Slot = slot_at s y in
-      sent_colour (due_of v) (with_slot s y (lessened v)) y (kept_by_all (λ (w : Slot). f w.colour) s y (lessened v) (lessened_colour v (λ (w : Slot). f w.colour) (h y) black purple (h y) (h y)) h)
+-- what passes a test stands there no more often
+pub times_filter : (p : ℕ → Bool) (x : ℕ) (xs : List ℕ) → times x (filter p xs) ≤ times x xs
+times_filter p x [] = omega arith
+times_filter p x (y ∷ ys) = go (p y) (times_filter p x ys)
+  where
+    go : (b : Bool) → times x (filter p ys) ≤ times x ys → times x (cond b (y ∷ filter p ys) (filter p ys)) ≤ times x (y ∷ ys)
+    go true i = omega (arith, i, times-cons x y (filter p ys), times-cons x y ys)
+    go false i = omega (arith, i, times-cons x y ys)
 
-  off_colour : (lowers : Bool) (s : State) (t : Option ℕ) → ((x : ℕ) → f (slot_at s x).colour ≡ false) → (x : ℕ) → f (slot_at (taken_off lowers s t) x).colour ≡ false
-  off_colour lowers s None h = h
-  off_colour lowers s (Some y) h = down_colour (is_lowered lowers (slot_at s y).colour) s y h
+-- a refurbished member is Orange only where it was
+refurbished_orange : (f : Fate) (v : Slot) → (refurbished f v).colour ≡ Orange → v.colour ≡ Orange
+refurbished_orange Free v o = o
+refurbished_orange _ v o = cc
 
-  dead_colour : (b : Bool) (v : Slot) → f v.colour ≡ false → f (dead_if b (unbuffered_if b v)).colour ≡ false
-  dead_colour true v h = black
-  dead_colour false v h = h
+-- a member that isn't released is Orange no more
+fate_uncolours : (released none root : Bool) (v : Slot) → released ≡ false → (refurbished (fate_if released none root) v).colour ≡ Orange → ⊥
+fate_uncolours true none root v e o = true≢false e
+fate_uncolours false true root v e o = cc
+fate_uncolours false false true v e o = cc
+fate_uncolours false false false v e o = cc
 
-  given_colour : (s : State) → ((x : ℕ) → f (slot_at s x).colour ≡ false) → (x : ℕ) → f (slot_at (given_up s) x).colour ≡ false
-  given_colour s h x = ap (λ (v : Slot). f v.colour) (given_slot s x) ∙ dead_colour (is_in (length s.sets - 1) (slot_at s x).set) (slot_at s x) (h x)
-
-  fate_colour : (g : Fate) (v : Slot) → f v.colour ≡ false → f (refurbished g v).colour ≡ false
-  fate_colour fates.Free v h = h
-  fate_colour fates.Zero v h = black
-  fate_colour fates.Root v h = purple
-  fate_colour fates.Plain v h = black
-
-  refurbished_colour : (s t : State) → LastRefurbished s t → ((x : ℕ) → f (slot_at s x).colour ≡ false) → (x : ℕ) → f (slot_at t x).colour ≡ false
-  refurbished_colour s t r h x = elim (cases_lt 0 (times x (last_set s.sets))) [
-    | inl l ↦ ap (λ (v : Slot). f v.colour) (r.inside x l) ∙ fate_colour (fate_at s (slice_get (last_set s.sets) 0) x) (slot_at s x) (h x)
-    | inr l ↦ ap (λ (v : Slot). f v.colour) (r.others x (omega (arith, l))) ∙ h x
-  ]
+pub apart_refurbished : (s t : State) → IsKept s → LastRefurbished s t → IsApart s → IsApart t
+apart_refurbished s t k r a = λ x o.
+    let n : ℕ = length s.sets - 1 in
+    let first : Option ℕ = slice_get (last_set s.sets) 0 in
+    let v : Slot = slot_at s x in
+    elim (cases_Bool (is_in n v.set)) [
+      | inl e ↦ let same : slot_at t x ≡ refurbished (fate_at s first x) v = r.inside x (omega (arith, k.numbers n x, ap one e)) in
+          let now : (refurbished (fate_at s first x) v).colour ≡ Orange = ap (λ (w : Slot). w.colour) (sym same) ∙ o in
+          let before : IsMember s x = a x (refurbished_orange (fate_at s first x) v now) in
+          absurd (fate_uncolours v.released (eqb v.count 0) (is_root (is_slot x first) v.colour) v before.unreleased now)
+      | inr e ↦ let none : times x (last_set s.sets) ≡ 0 = k.numbers n x ∙ ap one e in
+          let before : IsMember s x = a x (ap (λ (w : Slot). w.colour) (sym (r.others x none)) ∙ o) in
+          let there : 0 < times x (concat (earlier_sets s.sets)) = omega (arith, before.member, none, times_last x s.sets) in
+          record {
+            member = subst (λ xss. 0 < times x (concat xss)) (sym r.sets) there;
+            no_zero = omega (
+              arith,
+              ap (times x) r.zeros,
+              times-append x s.zeros (filter (λ y. is_zero (fate_at s first y)) (last_set s.sets)),
+              times_filter (λ y. is_zero (fate_at s first y)) x (last_set s.sets),
+              none,
+              before.no_zero,
+            );
+            unreleased = ap (λ (w : Slot). w.released) (r.others x none) ∙ before.unreleased;
+          }
+    ]
 
 -- a reference is taken off, where what the work list has is released
 pub tidy_off : {fields : ℕ} → (lowers : Bool) (s : State) (t : Option ℕ) (at : Option At) → IfSome t (λ x. 0 < (slot_at s x).count) → IsReady s → ((x : ℕ) → 0 < times x s.work → (slot_at s x).released ≡ true) → IsTidy fields s at → IsTidy fields (taken_off lowers s t) at
 tidy_off lowers s t at h ready released i =
     let n : KeepsMost s (taken_off lowers s t) = off_most lowers s t in
     record {
-      untried = record { marked = n.marked ∙ i.untried.marked; no_gray = off_colour is_gray refl refl lowers s t i.untried.no_gray; no_white = off_colour is_white refl refl lowers s t i.untried.no_white };
+      untried = untried_moved s (taken_off lowers s t) n.marked (off_lowers lowers s t i.apart h) i.untried;
       apart = (off_keeps lowers s t h).apart i.apart;
       all_zeros = (off_keeps lowers s t h).zeros i.all_zeros;
       outside = outside_on s (taken_off lowers s t) (off_lowers lowers s t i.apart h) i.outside;
@@ -128,11 +145,7 @@ tidy_first (z ∷ zs) s e k i =
     let v : Slot = record (slot_at s z) { released = true } in
     let buffered : (x : ℕ) → (slot_at (with_slot s z v) x).buffered ≡ (slot_at s x).buffered = field_kept (λ (w : Slot). w.buffered) s.slots z v refl in
     record {
-      untried = record {
-        marked = i.untried.marked;
-        no_gray = kept_by_all (λ (w : Slot). is_gray w.colour) s z v (i.untried.no_gray z) i.untried.no_gray;
-        no_white = kept_by_all (λ (w : Slot). is_white w.colour) s z v (i.untried.no_white z) i.untried.no_white;
-      };
+      untried = untried_moved s (without_first (z ∷ zs) s) refl (first_lowers (z ∷ zs) s) i.untried;
       apart = subst (λ ys. IsApart (without_first ys s)) e ((next_keeps true s k).apart i.apart);
       outside = outside_on s (without_first (z ∷ zs) s) (first_lowers (z ∷ zs) s) i.outside;
       all_zeros = subst (λ ys. AllZerosButOrange (without_first ys s)) e ((next_keeps true s k).zeros i.all_zeros);
@@ -167,7 +180,7 @@ tidy_given s k f i =
     let ms : List ℕ = last_set s.sets in
     let inside : (x : ℕ) → Bool = λ x. is_in n (slot_at s x).set in
     record {
-      untried = record { marked = i.untried.marked; no_gray = given_colour is_gray refl refl s i.untried.no_gray; no_white = given_colour is_white refl refl s i.untried.no_white };
+      untried = untried_moved s (given_up s) refl (given_lowers s) i.untried;
       apart = given_apart s k f i.apart;
       all_zeros = given_zeros s i.all_zeros;
       outside = outside_on s (given_up s) (given_lowers s) i.outside;
@@ -242,7 +255,7 @@ tidy_refurbished s t k f ready r i =
     let p : ℕ → Bool = λ y. is_free (fate_at s first y) in
     let free : (x : ℕ) → times x t.free ≡ times x s.free + times x (filter p ms) = λ x. ap (times x) r.free ∙ times-append x s.free (filter p ms) in
     record {
-      untried = record { marked = r.marked ∙ i.untried.marked; no_gray = refurbished_colour is_gray refl refl s t r i.untried.no_gray; no_white = refurbished_colour is_white refl refl s t r i.untried.no_white };
+      untried = untried_moved s t r.marked (refurbished_lowers s t r) i.untried;
       apart = apart_refurbished s t k r i.apart;
       all_zeros = zeros_refurbished s t r i.all_zeros;
       outside = outside_on s t (refurbished_lowers s t r) i.outside;

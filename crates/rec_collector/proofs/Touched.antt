@@ -35,9 +35,8 @@ use Rattle.rec_collector.specs.declared.phase.Phase.TheVariants.{Returning, Rele
 use Rattle.rec_collector.specs.declared.turn.Turn.{Turn}
 use Rattle.rec_collector.proofs.Batched.{none_released}
 use Rattle.rec_collector.proofs.Goings.{freed_by, freed_off, none_some, relieved_by, released_by, released_off}
-use Rattle.rec_collector.proofs.Outside.{Lowers, first_lowers, given_lowers, off_lowers, refurbished_lowers, same_lowers, swept_lowers}
+use Rattle.rec_collector.proofs.Outside.{Lowers, first_lowers, given_lowers, off_lowers, refurbished_lowers, same_lowers, swept_lowers, batch_same, down_names}
 use Rattle.rec_collector.proofs.Steps.{prepared_on, step_made, tried_on}
-use Rattle.rec_collector.proofs.Touching.{batch_same, down_names}
 use Rattle.rec_collector.proofs.Landing.{now_at}
 
 -- each orange member was one before, and was named so often, which is nowhere
@@ -45,7 +44,7 @@ abbrev Spares : State → State → (x named : ℕ) → Type 0
 Spares s t x named = (number : ℕ) → IsOrangeIn t number x → WasUntouched s t number x named
 
 lowers_spares : (s t : State) (x : ℕ) → Lowers s t → Spares s t x 0
-lowers_spares s t x l number o = let m = l number x o.0 o.1 in record { orange = (m.set, m.colour); lowered = m.by; count = m.count; cyclic = m.cyclic; unnamed = refl }
+lowers_spares s t x l number o = let m = (l x).member number o.0 o.1 in record { orange = (m.set, m.colour); lowered = m.by; count = m.count; cyclic = m.cyclic; unnamed = refl }
 
 -- one after the other
 pub untouched_on : {s t u : State} {number x m n : ℕ} (k : ℕ) → WasUntouched s t number x m → WasUntouched t u number x n → k ≡ m + n → WasUntouched s u number x k
@@ -71,7 +70,7 @@ same_spares s t x e number o = subst (λ u. WasUntouched s u number x 0) (sym e)
 off_spares : (lowers : Bool) (s : State) (target : Option ℕ) (x : ℕ) → IsApart s → IfSome target (λ y. 0 < (slot_at s y).count) → Spares s (taken_off lowers s target) x (decrements lowers s target x)
 off_spares lowers s None x a h number o = lowers_spares s s x (same_lowers s s (λ y. refl)) number o
 off_spares lowers s (Some y) x a h number o =
-    let m = off_lowers lowers s (Some y) a h number x o.0 o.1 in
+    let m = (off_lowers lowers s (Some y) a h x).member number o.0 o.1 in
     record { orange = (m.set, m.colour); lowered = m.by; count = m.count; cyclic = m.cyclic; unnamed = go (x == y) (is_lowered lowers (slot_at s x).colour) refl refl m.colour }
   where
     go : (b l : Bool) → (x == y) ≡ b → is_lowered lowers (slot_at s x).colour ≡ l → (slot_at s x).colour ≡ Orange → one (b && not l) ≡ 0

@@ -4,7 +4,7 @@ use Rattle.rec_model.specs.Pending.{Pending}
 use Rattle.rec_collector.specs.Private.{Private}
 use Rattle.rec_collector.specs.declared.phase.Phase.{Phase}
 use Rattle.rec_collector.specs.declared.phase.Phase.TheVariants.{Idle, Looking, Swapping, Returning, Releasing, Freeing, Trying, Preparing, Opening, Sweeping, Closing}
-use Rattle.rec_collector.proofs.Offers.{offers_kept}
+use Rattle.rec_collector.proofs.Keeping.{offers_kept}
 use Rattle.rec_core.specs.Core.{Core}
 use Rattle.rec_core.specs.CyclesAt.{HasCyclesAt}
 use Rattle.rec_core.specs.Kept.{IsKept}

@@ -20,7 +20,7 @@ use Rattle.rec_collector.specs.Private.{Private, parts_of, with_parts}
 use Rattle.rec_collector.specs.Step.{PreparesOn}
 use Rattle.rec_collector.specs.declared.phase.Phase.TheVariants.{Preparing}
 use Rattle.rec_collector.specs.declared.turn.Turn.{Turn}
-use Rattle.rec_collector.proofs.Preparing.{took_others}
+use Rattle.rec_collector.proofs.Trying.{took_others}
 use Rattle.rec_core.specs.Core.{Core}
 use Rattle.rec_core.specs.Cycles.{AreFields, SetsStand}
 use Rattle.rec_core.specs.CyclesAt.{AreSeen}

@@ -32,8 +32,7 @@ use Rattle.rec_collector.specs.declared.phase.Phase.TheVariants.{Releasing, Free
 use Rattle.rec_collector.specs.declared.turn.Turn.{Turn}
 use Rattle.rec_collector.proofs.Clearing.{clear_ready, last_clear, last_freeable, last_refusable, refused_clear}
 use Rattle.rec_collector.proofs.Goings.{last_by, last_given}
-use Rattle.rec_collector.proofs.Tested.{is_last_tested}
-use Rattle.rec_collector.proofs.Verdicts.{verdict_passed}
+use Rattle.rec_collector.proofs.Judging.{is_last_tested, verdict_passed}
 use Rattle.rec_core.specs.Core.{Core}
 use Rattle.rec_core.specs.Kept.{IsLeftOf, IsKept}
 use Rattle.rec_core.proofs.Counts.{alike_slots, counted_slot, none_release, set_release}

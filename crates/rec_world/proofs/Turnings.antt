@@ -23,7 +23,7 @@ use Rattle.rec_collector.specs.declared.phase.Phase.{Phase}
 use Rattle.rec_collector.specs.declared.phase.Phase.TheVariants.{Idle, Looking, Swapping, Returning, Releasing, Freeing, Trying, Preparing, Opening, Sweeping, Closing}
 use Rattle.rec_collector.specs.declared.turn.Turn.{Turn}
 use Rattle.rec_collector.specs.declared.turn.Turn.TheVariants as turns
-use Rattle.rec_collector.proofs.Mailbox.{prepared_between, tried_between, followed_between}
+use Rattle.rec_collector.proofs.Steps.{prepared_between, tried_between, followed_between}
 use Rattle.rec_collector.proofs.Landing.{under_way_most}
 use Rattle.rec_core.specs.Cells.{Cells, cell, with_cell}
 use Rattle.rec_core.specs.Core.{Core, cells_of, box, crossing_of}

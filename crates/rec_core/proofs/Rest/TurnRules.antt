@@ -24,8 +24,7 @@ use Rattle.rec_collector.specs.Took.{step_of, took_of, turn_of, moved}
 use Rattle.rec_collector.specs.declared.phase.Phase.{Phase}
 use Rattle.rec_collector.specs.declared.phase.Phase.TheVariants.{Idle, Looking, Returning, Releasing, Freeing, Trying, Preparing, Opening, Sweeping, Closing}
 use Rattle.rec_collector.specs.declared.turn.Turn.{Turn}
-use Rattle.rec_collector.proofs.Causes.{has_cause, spends}
-use Rattle.rec_collector.proofs.Steps.{step_made}
+use Rattle.rec_collector.proofs.Steps.{has_cause, spends, step_made}
 use Rattle.rec_core.specs.Cells.{cell}
 use Rattle.rec_core.specs.Core.{Core, cells_of, box, crossing_of}
 use Rattle.rec_core.specs.Kept.{IsKept}

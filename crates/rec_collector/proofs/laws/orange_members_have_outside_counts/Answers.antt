@@ -1,4 +1,4 @@
-use Rattle.rec_collector.proofs.Touching.{machine_outside, outside_cyclic}
+use Rattle.rec_collector.proofs.Outside.{machine_outside, outside_cyclic}
 use Rattle.rec_collector.proofs.laws.orange_members_have_outside_counts.Goals as goal
 
 pub returns-clause-outside : goal.returns-clause-outside

@@ -1,5 +1,5 @@
 use Rattle.std.proofs.Common.{sym, ◌∙◌}
-use Rattle.rec_collector.proofs.OfferedTo.{pushed_one}
+use Rattle.rec_collector.proofs.Offering.{pushed_one}
 use Rattle.rec_collector.proofs.offer.offer.Goals as goal
 
 pub returns-then-not-buffered : goal.returns-then-not-buffered

@@ -1,7 +1,7 @@
 use Rattle.std.proofs.Common.{◌<◌, length, arith, ap, ◌∙◌}
 use Rattle.rec_counts.specs.Counts.{State}
 use Rattle.rec_collector.specs.Offered.{offered_one}
-use Rattle.rec_collector.proofs.OfferedTo.{none_offered, to_all, to_next, to_range}
+use Rattle.rec_collector.proofs.Offering.{none_offered, to_all, to_next, to_range}
 use Rattle.rec_collector.proofs.offer.offer_slots.Goals as goal
 
 pub loop-slot-init : goal.loop-slot-init

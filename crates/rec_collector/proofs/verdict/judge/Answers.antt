@@ -1,7 +1,7 @@
 use Rattle.std.proofs.Common.{◌≡◌, ◌<◌, ℕ, inl, inr, arith, sym, ◌∙◌}
 use Rattle.std.proofs.lemmas.Bool.{cases_lt, false≢true}
 use Rattle.rec_sigma.specs.Judged.{cyclic_sum}
-use Rattle.rec_collector.proofs.Verdicts.{held_verdict, passed_verdict, touched_verdict}
+use Rattle.rec_collector.proofs.Judging.{held_verdict, passed_verdict, touched_verdict}
 use Rattle.rec_collector.proofs.verdict.judge.Goals as goal
 
 pub returns-then-not-delta : goal.returns-then-not-delta

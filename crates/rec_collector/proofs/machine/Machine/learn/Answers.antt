@@ -1,6 +1,6 @@
 use Rattle.rec_collector.specs.Given.{IsGivenAt}
 use Rattle.rec_collector.specs.Took.{took_at, turn_at}
-use Rattle.rec_collector.proofs.Turning.{asked, learnt}
+use Rattle.rec_collector.proofs.Keeping.{asked, learnt}
 use Rattle.rec_collector.proofs.machine.Machine.learn.Goals as goal
 
 pub took_return-requires-clause-covered : goal.took_return-requires-clause-covered

@@ -1,6 +1,6 @@
 use Rattle.std.proofs.Common.{true}
 use Rattle.rec_collector.specs.Inside.{private}
-use Rattle.rec_collector.proofs.Offers.{offers_kept}
+use Rattle.rec_collector.proofs.Keeping.{offers_kept}
 use Rattle.rec_collector.proofs.machine.Machine.offer_all.Goals as goal
 
 pub invariant_of-self : goal.invariant_of-self

@@ -1,6 +1,6 @@
 use Rattle.std.proofs.Common.{◌∙◌}
 use Rattle.rec_collector.specs.Kept.{IsMachine}
-use Rattle.rec_collector.proofs.Causes.{has_cause, waits, spends}
+use Rattle.rec_collector.proofs.Steps.{has_cause, waits, spends}
 use Rattle.rec_collector.proofs.Limits.{within_limit}
 use Rattle.rec_collector.proofs.machine.Machine.took.Goals as goal
 

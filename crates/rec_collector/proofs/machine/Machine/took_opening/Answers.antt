@@ -1,7 +1,6 @@
 use Rattle.rec_collector.specs.declared.phase.Phase.TheVariants.{Opening}
 use Rattle.rec_collector.proofs.Landing.{now_at}
-use Rattle.rec_collector.proofs.Sweeping.{none_due, opening_on}
-use Rattle.rec_collector.proofs.Within.{same_machine, same_phase}
+use Rattle.rec_collector.proofs.Sweeping.{none_due, opening_on, same_machine, same_phase}
 use Rattle.rec_collector.proofs.machine.Machine.took_opening.Goals as goal
 
 pub start-requires-clause-idle : goal.start-requires-clause-idle

@@ -1,5 +1,4 @@
-use Rattle.rec_collector.proofs.Sweeping.{slot_due, sweeping_on}
-use Rattle.rec_collector.proofs.Within.{same_machine, same_phase}
+use Rattle.rec_collector.proofs.Sweeping.{slot_due, sweeping_on, same_machine, same_phase}
 use Rattle.rec_collector.proofs.machine.Machine.took_sweep.Goals as goal
 
 pub took-requires-clause-busy : goal.took-requires-clause-busy

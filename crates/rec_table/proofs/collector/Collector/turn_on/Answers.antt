@@ -5,7 +5,7 @@ use Rattle.rec_collector.specs.Given.{IsGiven}
 use Rattle.rec_collector.specs.Causes.{HasCause}
 use Rattle.rec_collector.specs.Kept.{IsMachine, KeepsSizes}
 use Rattle.rec_collector.specs.declared.turn.Turn.{Turn}
-use Rattle.rec_collector.proofs.Causes.{has_cause}
+use Rattle.rec_collector.proofs.Steps.{has_cause}
 use Rattle.rec_collector.specs.Next.{next_of}
 use Rattle.rec_collector.specs.Private.{Private}
 use Rattle.rec_collector.specs.Step.{IsBetween}
