@@ -21,7 +21,7 @@ use Rattle.rec_collector.specs.Parts.{Parts}
 use Rattle.rec_collector.specs.Private.{parts_of}
 use Rattle.rec_collector.specs.Testing.{zeros_released}
 use Rattle.rec_collector.specs.declared.phase.Phase.TheVariants.{Returning, Releasing}
-use Rattle.rec_collector.proofs.Batched.{batched_clear, resting_clear}
+use Rattle.rec_collector.proofs.Batched.{batched_clear, none_released, resting_clear}
 use Rattle.rec_collector.proofs.Clearing.{zeros_clear}
 use Rattle.rec_core.specs.Config.{IsMutator}
 use Rattle.rec_core.specs.Core.{Core}
@@ -60,13 +60,13 @@ module _ (w : Core) (t : ℕ) (kept : IsKept w) (phase : w.collector.phase ≡ R
   ready = record { zeros = counted_zeros w t kept phase last; free = λ x there. absurd (omega (arith, there, ap (times x) ((counted_rest w t kept phase last).free ∙ rest.free), times-nil x)) }
 
   unreleased : (x : ℕ) → x < w.config.slots → (slot_at s x).released ≡ true → ⊥
-  unreleased x below is = false≢true (sym (rest.none x (omega (arith, below, slots))) ∙ sym ((counted_rest w t kept phase last).released x) ∙ is)
+  unreleased x below is = false≢true (sym (none_released rest x (omega (arith, below, slots))) ∙ sym ((counted_rest w t kept phase last).released x) ∙ is)
 
   -- the members of the sets are not released
   alive : (x : ℕ) → 0 < times x (concat c.counts.sets) → (pending w).released (x + 1) ≡ false
   alive x member =
       let there : x < length c.counts.slots = member_there c.counts x kept.collector.machine.counts member in
-      ap (λ (v : Slot). v.released) (counted_slot c.counts x there) ∙ rest.none x there
+      ap (λ (v : Slot). v.released) (counted_slot c.counts x there) ∙ none_released rest x there
 
   pub batch_comes : HasCome w (slice_set w.crossing (t - 1) (crossing_word w.epoch Spare)) w.words batched
   batch_comes =
