@@ -1,10 +1,10 @@
 -- What always holds of the counts still does after each move and each word of a trial.
-use Rattle.std.proofs.Common.{◌≡◌, ℕ, zero, suc, ◌<◌, ◌≤◌, Bool, true, false, ltb, cond, Option, None, Some, IfSome, IsSome, List, [], ◌∷◌, length, get_or, refl, sym, ap, subst, ◌∙◌, arith}
+use Rattle.std.proofs.Common.{◌≡◌, ℕ, ◌<◌, ◌≤◌, Bool, true, false, Option, None, Some, IfSome, IsSome, [], ◌∷◌, length, refl, sym, ap, subst, ◌∙◌, arith}
 use Rattle.std.proofs.Math.ListN.{get_or-map}
 use Rattle.std.proofs.lemmas.List.{length-set, length-map, length-append}
 use Rattle.rec_word.specs.Word.{target_of}
 use Rattle.rec_counts.specs.declared.colour.Colour.{Colour}
-use Rattle.rec_counts.specs.declared.colour.Colour.TheVariants.{Black, Purple, Gray, White, Orange}
+use Rattle.rec_counts.specs.declared.colour.Colour.TheVariants.{Black, Gray, White, Orange}
 use Rattle.rec_counts.specs.declared.slot.Slot.{Slot}
 use Rattle.rec_counts.specs.Counts.{State, IsKept, slot_at, with_slot, without_root}
 use Rattle.rec_counts.specs.Groups.{last_set}
@@ -17,9 +17,9 @@ use Rattle.rec_counts.proofs.Times.{once_none, once_push}
 use Rattle.rec_trial.specs.declared.phase.Phase.{Phase}
 use Rattle.rec_trial.specs.declared.phase.Phase.TheVariants.{Idle, Marking, Scanning, Collecting}
 use Rattle.rec_trial.specs.Loaded.{IsAtWork, begins, learns}
-use Rattle.rec_trial.specs.Moves.{touched_if, marked_by, dropped_if, blackened_if, scanned_by, has_rest, whitened, whitened_if, all_whitened, joined_if, collected_by, with_new_set}
+use Rattle.rec_trial.specs.Moves.{touched_if, marked_by, blackened_if, scanned_by, whitened, whitened_if, all_whitened, joined_if, collected_by, with_new_set}
 use Rattle.rec_trial.specs.Rules.{CanMark, CanScan, CanCollect, IsReady, LeadsToUnreleased, RulesAt}
-use Rattle.rec_trial.specs.Trial.{Machine, Work, next_of, is_due_at, is_due, roots_moved, scan_moved, set_begun_if, collect_moved, moved_at, settled, learnt_at, opened_of, started_of, took_of, advanced}
+use Rattle.rec_trial.specs.Trial.{Machine, Work, next_of, is_due_at, settled, learnt_at, opened_of, started_of, took_of, advanced}
 use Rattle.rec_trial.proofs.Conditions.{unbuffered_white, set_room, marked_in_range, root_range, first_there}
 use Rattle.rec_trial.proofs.Moving.{Moved, scan_begins, root_freed, root_marked, root_passed, scan_passes, scan_blackens, collect_begins, set_passes, set_begins, ends, tried_slot, moved}
 use Rattle.rec_trial.proofs.Midway.{Midway, at_work_due, at_work_midway, going_midway, moved_midway, rules_midway}

@@ -9,7 +9,7 @@ use Rattle.rec_counts.specs.Colour.{is_purple}
 use Rattle.rec_counts.specs.Groups.{last_set, earlier_sets}
 use Rattle.rec_counts.proofs.Keeping.{unreleased_within}
 use Rattle.rec_trial.specs.declared.phase.Phase.{Phase}
-use Rattle.rec_trial.specs.declared.phase.Phase.TheVariants.{Idle, Marking, Scanning, Collecting}
+use Rattle.rec_trial.specs.declared.phase.Phase.TheVariants.{Marking, Scanning, Collecting}
 use Rattle.rec_trial.specs.Moves.{touched_if, all_whitened, joined_if, with_new_set}
 use Rattle.rec_trial.specs.Trial.{Machine, Work, begun_at, is_due_at, is_due, moved_at, opened_of}
 use Rattle.rec_trial.proofs.Totals.{times, times_here}

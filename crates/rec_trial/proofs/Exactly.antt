@@ -2,7 +2,7 @@
 use Rattle.std.proofs.Common.{◌≡◌, ℕ, zero, suc, ◌+◌, ◌-◌, ◌<◌, ◌≤◌, false, eqb, Some, List, [], ◌∷◌, map, refl, sym, ap, ◌∙◌, arith, ◌⊎◌, inl, inr, cond}
 use Rattle.std.proofs.lemmas.Bool.Decides.{nat_tests}
 use Rattle.rec_word.specs.Word.{target_of, predecessor, target_bits}
-use Rattle.rec_counts.specs.Counts.{State, slot_at}
+use Rattle.rec_counts.specs.Counts.{State}
 use Rattle.rec_counts.specs.Lists.{one}
 use Rattle.rec_counts.specs.Lists as in_counts
 use Rattle.rec_counts.specs.Colour.{is_white}
@@ -12,7 +12,7 @@ use Rattle.rec_trial.specs.Still.{AreStill, IsSeed, IsReached, IsHeld, IsExact, 
 use Rattle.rec_trial.specs.Still as still
 use Rattle.rec_trial.specs.Tried.{members}
 use Rattle.rec_trial.proofs.Course.{first_view}
-use Rattle.rec_trial.proofs.Deletion.{Seen, Deletion}
+use Rattle.rec_trial.proofs.Deletion.{Seen}
 use Rattle.rec_trial.proofs.Done.{all_of, within_of, no_white_left}
 use Rattle.rec_trial.proofs.Holding.{named, loaded, edges, Finished, Over, Placed, Seed, Reached, Hot}
 use Rattle.rec_trial.proofs.Holding as law

@@ -1,13 +1,12 @@
 -- Marking, as functions: what holds after a word, and after a root left.
-use Rattle.std.proofs.Common.{◌≡◌, ℕ, suc, ◌+◌, ◌-◌, ◌<◌, Bool, true, false, List, [], ◌∷◌, ◌++◌, refl, arith, ◌⊎◌, inl, inr}
+use Rattle.std.proofs.Common.{◌≡◌, ℕ, suc, ◌+◌, ◌-◌, ◌<◌, Bool, false, List, [], ◌∷◌, ◌++◌, refl, arith, ◌⊎◌, inl, inr}
 use Rattle.std.proofs.lemmas.Bool.Decides.{nat_tests}
-use Rattle.rec_counts.specs.Lists.{one}
 use Rattle.rec_counts.specs.declared.colour.Colour.{Colour}
 use Rattle.rec_counts.specs.declared.colour.Colour.TheVariants.{Gray}
 use Rattle.rec_counts.specs.Colour.{is_gray}
 use Rattle.rec_trial.proofs.Totals.{same, times, changed, total_append}
 use Rattle.rec_trial.proofs.Deletion.{Seen, Deletion}
-use Rattle.rec_trial.proofs.Holding.{BaseOf, GraysOf, SeedsOf, named, edges, Seed, Reached, seed, along}
+use Rattle.rec_trial.proofs.Holding.{BaseOf, GraysOf, SeedsOf, edges, Seed, Reached, seed, along}
 
 -- one more at the end
 pub times_push : (y x : ℕ) (xs : List ℕ) → times y (xs ++ x ∷ []) ≡ times y xs + same y x

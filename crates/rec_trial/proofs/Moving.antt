@@ -5,7 +5,7 @@ use Rattle.std.proofs.lemmas.Bool.Decides.{nat_tests}
 use Rattle.rec_counts.specs.declared.colour.Colour.{Colour}
 use Rattle.rec_counts.specs.declared.colour.Colour.TheVariants.{Purple}
 use Rattle.rec_counts.specs.declared.slot.Slot.{Slot}
-use Rattle.rec_counts.specs.Counts.{State, slot_at, without_root}
+use Rattle.rec_counts.specs.Counts.{slot_at, without_root}
 use Rattle.rec_counts.specs.Colour.{is_gray, is_purple, is_white}
 use Rattle.rec_counts.proofs.Keeping.{field_kept}
 use Rattle.rec_trial.specs.declared.phase.Phase.{Phase}

@@ -21,7 +21,7 @@ use Rattle.rec_trial.proofs.Rest.{Rest, rest_same, same_marked, same_scanned, re
 use Rattle.rec_trial.proofs.Settling.{settled_by, settled_is_due}
 use Rattle.rec_trial.proofs.Steps.{bits_suc, view_advanced, view_marked_by, view_scanned_by, view_collected_by}
 use Rattle.rec_trial.proofs.Turns.{told_kept, opening_kept}
-use Rattle.rec_trial.proofs.Views.{at_of, earlier, view, concat_last}
+use Rattle.rec_trial.proofs.Views.{earlier, view, concat_last}
 
 abbrev pub seen_of : Load → Seen
 seen_of l = record { node = l.slot; field = l.field; word = target_bits l.word }

@@ -1,8 +1,8 @@
 -- Moves without a load come to an end.
-use Rattle.std.proofs.Common.{◌≡◌, ℕ, zero, suc, ◌+◌, ◌<◌, ◌≤◌, Bool, true, false, ltb, cond, List, [], ◌∷◌, length, get_or, refl, sym, ap, ◌∙◌, arith}
+use Rattle.std.proofs.Common.{◌≡◌, ℕ, zero, suc, ◌<◌, ◌≤◌, Bool, true, false, cond, [], ◌∷◌, length, refl, sym, ap, ◌∙◌, arith}
 use Rattle.std.proofs.lemmas.List.{length-append}
 use Rattle.rec_trial.specs.declared.phase.Phase.{Phase}
-use Rattle.rec_trial.specs.declared.phase.Phase.TheVariants.{Idle, Marking, Scanning, Collecting}
+use Rattle.rec_trial.specs.declared.phase.Phase.TheVariants.{Idle}
 use Rattle.rec_trial.specs.Trial.{Work, is_due_at, is_due, moved_at, moves_left, settled_in, settled}
 use Rattle.rec_trial.proofs.Moving.{Moved, root_freed, root_marked, root_passed, scan_passes, scan_blackens, set_passes, set_begins, moved}
 

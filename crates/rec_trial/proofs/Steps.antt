@@ -1,21 +1,18 @@
 -- What a trial learns and what it does between two loads, seen as a trial by functions.
-use Rattle.std.proofs.Common.{◌≡◌, ℕ, zero, suc, ◌+◌, ◌-◌, ◌<◌, Bool, true, false, eqb, ltb, Some, IfSome, List, [], ◌∷◌, length, get_or, refl, sym, ap, ◌∙◌, arith, add-one}
-use Rattle.std.specs.List.{concat}
-use Rattle.std.proofs.lemmas.List.{length-set, length-append}
+use Rattle.std.proofs.Common.{◌≡◌, ℕ, zero, suc, ◌+◌, ◌-◌, ◌<◌, Bool, true, false, eqb, ltb, Some, IfSome, length, refl, ap, ◌∙◌, arith, add-one}
+use Rattle.std.proofs.lemmas.List.{length-set}
 use Rattle.std.proofs.lemmas.Bool.Decides.{nat_tests}
 use Rattle.rec_word.specs.Word.{predecessor}
-use Rattle.rec_counts.specs.declared.colour.Colour.{Colour}
-use Rattle.rec_counts.specs.declared.colour.Colour.TheVariants.{Purple, Gray}
-use Rattle.rec_counts.specs.Counts.{State, slot_at, without_root}
+use Rattle.rec_counts.specs.declared.colour.Colour.TheVariants.{Gray}
+use Rattle.rec_counts.specs.Counts.{State, slot_at}
 use Rattle.rec_counts.specs.Colour.{is_gray, is_white}
-use Rattle.rec_counts.proofs.Keeping.{unreleased_within}
 use Rattle.rec_trial.specs.declared.phase.Phase.{Phase}
-use Rattle.rec_trial.specs.declared.phase.Phase.TheVariants.{Idle, Marking, Scanning, Collecting}
-use Rattle.rec_trial.specs.Moves.{touched_if, touched, one_off, marked_by, dropped_if, dropped, scanned_by, has_rest, all_whitened, collected_by, with_new_set}
-use Rattle.rec_trial.specs.Trial.{Machine, Work, begun_at, roots_moved, scan_moved, set_begun_if, collect_moved, advanced_if, advanced}
+use Rattle.rec_trial.specs.declared.phase.Phase.TheVariants.{Idle}
+use Rattle.rec_trial.specs.Moves.{touched_if, touched, one_off, marked_by, scanned_by, collected_by}
+use Rattle.rec_trial.specs.Trial.{Machine, advanced_if, advanced}
 use Rattle.rec_trial.proofs.Deletion.{Deletion, next_at, next_field}
 use Rattle.rec_trial.proofs.Deletion as plain
-use Rattle.rec_trial.proofs.Views.{at_of, earlier, view_of, view, view_touched, view_one_off, view_blackened, view_joined, view_whitened, view_rootless, concat_new, earlier_new}
+use Rattle.rec_trial.proofs.Views.{at_of, earlier, view_of, view_touched, view_one_off, view_blackened, view_joined}
 
 pub bits_suc : (x : ℕ) → predecessor (suc x) ≡ Some x
 bits_suc x = go (eqb (suc x) 0) refl

@@ -1,5 +1,5 @@
 -- One word is learnt, or what a move between two loads does, as functions: what holds stays.
-use Rattle.std.proofs.Common.{◌≡◌, ℕ, zero, suc, ◌+◌, ◌-◌, ◌<◌, ◌≤◌, Bool, true, false, ltb, List, [], ◌∷◌, ◌++◌, length, get_or, refl, sym, subst, ◌∙◌, arith, length-append}
+use Rattle.std.proofs.Common.{◌≡◌, ℕ, zero, suc, ◌+◌, ◌-◌, ◌<◌, ◌≤◌, Bool, true, false, ltb, List, [], ◌∷◌, length, get_or, refl, sym, subst, ◌∙◌, arith, length-append}
 use Rattle.std.proofs.lemmas.Bool.{false≢true}
 use Rattle.std.proofs.lemmas.Bool.Decides.{nat_tests}
 use Rattle.rec_counts.specs.Lists.{one}
@@ -13,8 +13,8 @@ use Rattle.rec_trial.proofs.Deletion.{Seen, Deletion, Loads, with_load, blacken_
 use Rattle.rec_trial.proofs.Holding.{WhileMarking, WhileScanning, WhileCollecting, CollectedOf, OrderedOf, Placed, NotBegun, Reached, Hot, Seed, named, inv_at, Inv, Alive}
 use Rattle.rec_trial.proofs.Holding as law
 use Rattle.rec_trial.proofs.Marks.{times_push, push_kept, reached_grow, edge_here, base_load, base_push, unmarked, grays_push, seeds_push, seeds_drop}
-use Rattle.rec_trial.proofs.Orders.{ordered_none, ordered_word, ordered_join, ordered_begin}
-use Rattle.rec_trial.proofs.Places.{placed_grow, placed_step, placed_all, placed_begin, ltb_no, ltb_yes}
+use Rattle.rec_trial.proofs.Orders.{ordered_none, ordered_word, ordered_join}
+use Rattle.rec_trial.proofs.Places.{placed_grow, placed_step, placed_all, placed_begin, ltb_yes}
 use Rattle.rec_trial.proofs.Scans.{hot_grow, scanned_push, collected_push}
 
 -- a Gray node is marked, so that no word names one that is not
