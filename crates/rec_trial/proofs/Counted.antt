@@ -1,6 +1,5 @@
 -- What always holds of the counts still does after each move and each word of a trial.
 use Rattle.std.proofs.Common.{◌≡◌, ℕ, ◌<◌, ◌≤◌, Bool, true, false, Option, None, Some, IfSome, IsSome, [], ◌∷◌, length, refl, sym, ap, subst, ◌∙◌, arith}
-use Rattle.std.proofs.Math.ListN.{get_or-map}
 use Rattle.std.proofs.lemmas.List.{length-set, length-map, length-append}
 use Rattle.rec_word.specs.Word.{target_of}
 use Rattle.rec_counts.specs.declared.colour.Colour.{Colour}
@@ -25,6 +24,7 @@ use Rattle.rec_trial.proofs.Moving.{Moved, scan_begins, root_freed, root_marked,
 use Rattle.rec_trial.proofs.Midway.{Midway, at_work_due, at_work_midway, going_midway, moved_midway, rules_midway}
 use Rattle.rec_trial.proofs.Places.{ltb_yes}
 use Rattle.rec_trial.proofs.Settling.{settled_by}
+use Rattle.rec_trial.proofs.Views.{whitened_same}
 use Rattle.rec_trial.proofs.Runs.{took_busy, some_set, in_range_if}
 
 -- a slot is marked that is not marked yet
@@ -74,13 +74,6 @@ collected_counted s None c some l k = k
 collected_counted s (Some x) c some l k = joined_counted s x (is_white (slot_at s x).colour) l some (unbuffered_white s k c x) k
 
 -- whitening changes colours alone
-whitened_same : {A : Type 0} (f : Slot → A) → ((v : Slot) → f (record v { colour = White }) ≡ f v) → (s : State) (x : ℕ) → f (slot_at (all_whitened s) x) ≡ f (slot_at s x)
-whitened_same f h s x = ap f (get_or-map whitened s.slots x absent) ∙ go (is_gray (slot_at s x).colour)
-  where
-    go : (b : Bool) → f (whitened_if b (slot_at s x)) ≡ f (slot_at s x)
-    go true = h (slot_at s x)
-    go false = refl
-
 whitened_counted : (s : State) → IsKept s → IsKept (all_whitened s)
 whitened_counted s k = record {
   buffers = λ x. k.buffers x ∙ ap one (sym (whitened_same (λ (v : Slot). v.buffered) (λ v. refl) s x));

@@ -105,7 +105,7 @@ module _ (o : Deletion) (w : Work) (ls : Loads) where
   moved_kept (collect_begins l) r d i =
       let none : w.counts.sets ≡ [] = no_sets w.counts.sets r.few i.uncollected.nodes in
       let a : at_of Collecting 0 (earlier (all_whitened w.counts)) ≡ 0 = rw none refl in
-      subst (λ s. WhileCollecting o s ls) (sym (view_whitened w.counts (begun_at Collecting w.machine.fields)))
+      subst (λ s. WhileCollecting o s ls) (sym (view_whitened (begun_at Collecting w.machine.fields) w.counts))
       (subst (λ n. WhileCollecting o (record (view (at_phase Scanning w)) { phase = Collecting; at = n; field = 0; tried = 0; colour = plain.whiten (view w).colour }) ls) (sym a)
       (find_begun o (view (at_phase Scanning w)) ls i (ltb_no w.machine.done (length w.counts.work) d) (omega (arith, i.tries, l))))
   moved_kept (set_passes l h) r d i =

@@ -7,7 +7,6 @@ pub mod Moving
 pub mod Orders
 pub mod Places
 pub mod Promised
-pub mod Scans
 pub mod Totals
 pub mod Turns
 pub mod Views

@@ -60,10 +60,6 @@ pub below_front : (f : ℕ → ℕ) (n : ℕ) → total_below f (suc n) ≡ f 0 
 below_front f zero = omega arith
 below_front f (suc n) = omega (arith, below_front f n)
 
-pub below_same : (f h : ℕ → ℕ) (n : ℕ) → ((g : ℕ) → f g ≡ h g) → total_below f n ≡ total_below h n
-below_same f h zero e = refl
-below_same f h (suc n) e = omega (arith, below_same f h n e, e n)
-
 range_read : (p : ℕ → Bool) (f : ℕ → ℕ) (a n : ℕ) → ((g : ℕ) → one (p (a + g)) ≡ f g) → count_by p (range_with_len a n) ≡ total_below f n
 range_read p f a zero h = refl
 range_read p f a (suc n) h =

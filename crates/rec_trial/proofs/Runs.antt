@@ -1,6 +1,7 @@
 -- Whole trials, word by word.
-use Rattle.std.proofs.Common.{◌≡◌, ℕ, zero, suc, ◌+◌, ◌<◌, Bool, true, false, ltb, Option, None, Some, IfSome, IsSome, List, [], ◌∷◌, ◌++◌, length, map, fold, get_or, refl, sym, ap, subst, ◌∙◌, arith, zero-add, ◌⊎◌, inl, inr}
+use Rattle.std.proofs.Common.{◌≡◌, ℕ, zero, suc, ◌+◌, ◌<◌, Bool, true, false, ltb, Option, None, Some, IfSome, IsSome, List, [], ◌∷◌, ◌++◌, length, map, fold, get_or, refl, sym, ap, subst, ◌∙◌, arith, ◌⊎◌, inl, inr}
 use Rattle.std.specs.List.{concat}
+use Rattle.std.proofs.lemmas.List.{get_or-append-add}
 use Rattle.std.proofs.lemmas.Bool.{false≢true}
 use Rattle.rec_word.specs.Word.{target_of, predecessor, target_bits}
 use Rattle.rec_counts.specs.Counts.{State, slot_at}
@@ -39,16 +40,10 @@ pub some_set : (sets : List (List ℕ)) → 0 < length (last_set sets) → 0 < l
 some_set [] h = absurd (omega arith)
 some_set (xs ∷ sets) h = omega arith
 
-get_behind : (xs ys : List ℕ) (k : ℕ) → get_or (xs ++ ys) (length xs + k) 0 ≡ get_or ys k 0
-get_behind [] ys k = ap (λ n. get_or ys n 0) (zero-add k)
-get_behind (x ∷ xs) ys k =
-    let e : length (x ∷ xs) + k ≡ suc (length xs + k) = omega arith in
-    rw e (get_behind xs ys k)
-
 -- the due slot is the one that is seen to be due
 pub node_seen : (w : Work) (p : Phase) → get_or (list_of p w.counts) w.machine.done 0 ≡ get_or (queue_at p (view (at_phase p w))) (view (at_phase p w)).at 0
 node_seen w Collecting =
-    sym (get_behind (concat (earlier_sets w.counts.sets)) (last_set w.counts.sets) w.machine.done)
+    sym (get_or-append-add (concat (earlier_sets w.counts.sets)) (last_set w.counts.sets) w.machine.done 0)
     ∙ ap (λ (xs : List ℕ). get_or xs (earlier w.counts + w.machine.done) 0) (sym (concat_last w.counts.sets))
 node_seen w _ = refl
 

@@ -15,17 +15,10 @@ use Rattle.rec_trial.proofs.Deletion as plain
 use Rattle.rec_trial.proofs.Views.{at_of, earlier, view_of, view_touched, view_one_off, view_blackened, view_joined}
 
 pub bits_suc : (x : ℕ) → predecessor (suc x) ≡ Some x
-bits_suc x = go (eqb (suc x) 0) refl
-  where
-    not_zero : eqb (suc x) 0 ≡ true → ⊥
-    not_zero e = grind (arith, nat_tests)
-
-    less : suc x - 1 ≡ x
-    less = omega arith
-
-    go : (b : Bool) → eqb (suc x) 0 ≡ b → predecessor (suc x) ≡ Some x
-    go true e = absurd (not_zero e)
-    go false e = rw (e, less) refl
+bits_suc x =
+    let some : eqb (suc x) 0 ≡ false = grind (arith, nat_tests) in
+    let less : suc x - 1 ≡ x = omega arith in
+    rw (some, less) refl
 
 -- the place moves on
 at_next : (p : Phase) (done before : ℕ) → at_of p (done + 1) before ≡ suc (at_of p done before)

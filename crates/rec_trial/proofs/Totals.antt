@@ -50,11 +50,6 @@ pub first_whole : (f : ℕ → ℕ) (xs : List ℕ) → total_of_first f (length
 first_whole f [] = refl
 first_whole f (x ∷ xs) = omega (arith, first_whole f xs)
 
-pub get_grown : (xs ys : List ℕ) (k : ℕ) → k < length xs → get_or (xs ++ ys) k 0 ≡ get_or xs k 0
-get_grown [] ys k h = absurd (omega arith)
-get_grown (x ∷ xs) ys zero h = refl
-get_grown (x ∷ xs) ys (suc k) h = get_grown xs ys k (omega arith)
-
 pub first_le : (f : ℕ → ℕ) (k : ℕ) (xs : List ℕ) → total_of_first f k xs ≤ total f xs
 first_le f zero xs = omega arith
 first_le f (suc k) [] = omega arith

@@ -1,5 +1,6 @@
 -- One word is learnt, or what a move between two loads does, as functions: what holds stays.
 use Rattle.std.proofs.Common.{◌≡◌, ℕ, zero, suc, ◌+◌, ◌-◌, ◌<◌, ◌≤◌, Bool, true, false, ltb, List, [], ◌∷◌, length, get_or, refl, sym, subst, ◌∙◌, arith, length-append}
+use Rattle.std.proofs.Math.ListN.{get_or-append}
 use Rattle.std.proofs.lemmas.Bool.{false≢true}
 use Rattle.std.proofs.lemmas.Bool.Decides.{nat_tests}
 use Rattle.rec_counts.specs.Lists.{one}
@@ -8,14 +9,13 @@ use Rattle.rec_counts.specs.declared.colour.Colour.TheVariants.{Purple}
 use Rattle.rec_counts.specs.Colour.{is_gray, is_white}
 use Rattle.rec_trial.specs.declared.phase.Phase.{Phase}
 use Rattle.rec_trial.specs.declared.phase.Phase.TheVariants.{Idle, Marking, Scanning, Collecting}
-use Rattle.rec_trial.proofs.Totals.{total_of_first, same, times, times_here, get_grown, first_more, first_whole}
+use Rattle.rec_trial.proofs.Totals.{total_of_first, same, times, times_here, first_more, first_whole}
 use Rattle.rec_trial.proofs.Deletion.{Seen, Deletion, Loads, with_load, blacken_if, join_if, touch_if, take_one, mark_word, scan_word, find_word, advance, seen, due_at, told_at, whiten}
 use Rattle.rec_trial.proofs.Holding.{WhileMarking, WhileScanning, WhileCollecting, CollectedOf, OrderedOf, Placed, NotBegun, Reached, Hot, Seed, named, inv_at, Inv, Alive}
 use Rattle.rec_trial.proofs.Holding as law
-use Rattle.rec_trial.proofs.Marks.{times_push, push_kept, reached_grow, edge_here, base_load, base_push, unmarked, grays_push, seeds_push, seeds_drop}
+use Rattle.rec_trial.proofs.Marks.{hot_grow, scanned_push, collected_push, times_push, push_kept, reached_grow, edge_here, base_load, base_push, unmarked, grays_push, seeds_push, seeds_drop}
 use Rattle.rec_trial.proofs.Orders.{ordered_none, ordered_word, ordered_join}
 use Rattle.rec_trial.proofs.Places.{placed_grow, placed_step, placed_all, placed_begin, ltb_yes}
-use Rattle.rec_trial.proofs.Scans.{hot_grow, scanned_push, collected_push}
 
 -- a Gray node is marked, so that no word names one that is not
 unnamed_word : (n w y : ℕ) (c : Colour) → n ≡ one (is_gray c) → (w ≡ suc y → is_gray c ≡ true) → n ≡ 0 → same (suc y) w ≡ 0
@@ -236,7 +236,7 @@ find_kept o s ls m d (suc x) = go (is_white (s.colour x)) refl
     go true e =
         let some : 0 < s.sets = omega (arith, m.order.current s.at (omega arith) d, m.order.positive (get_or s.members s.at 0) (times_here s.members s.at d)) in
         let j : WhileCollecting o (join_if true s x) ls = joined o s ls m x e s.sets some m.order in
-        rw (get_grown s.members (x ∷ []) s.at d) at (find_loaded o (join_if true s x) ls j (omega (arith, length-append s.members (x ∷ []))) (suc x) (λ y q. grind (arith, nat_tests)))
+        rw (get_or-append s.members (x ∷ []) 0 s.at d) at (find_loaded o (join_if true s x) ls j (omega (arith, length-append s.members (x ∷ []))) (suc x) (λ y q. grind (arith, nat_tests)))
 
 -- a word keeps what holds
 pub told_kept : (o : Deletion) (p : Phase) (s : Deletion) (ls : Loads) → inv_at p o s ls → s.phase ≡ p → due_at p s ≡ true → (w : ℕ) → Alive s.released w → Inv o (told_at p s w) (with_load p (seen p s w) ls)

@@ -14,7 +14,7 @@ use Rattle.rec_trial.specs.Tried.{IsCareful, IsOver}
 use Rattle.rec_trial.specs.Witnessed.{word_at, TrialIsWitnessed}
 use Rattle.rec_trial.proofs.Deletion.{Seen}
 use Rattle.rec_trial.proofs.Holding.{named, loaded}
-use Rattle.rec_trial.proofs.Readings.{code_some, codes, loaded_read, naming_read, references_read, below_same, below_front}
+use Rattle.rec_trial.proofs.Readings.{code_some, codes, loaded_read, naming_read, references_read, below_front}
 use Rattle.rec_trial.proofs.Runs.{seen_of}
 use Rattle.rec_trial.proofs.Totals.{total, total_below, same}
 use Rattle.rec_trial.proofs.Whole.{whole_careful, whole_over}
@@ -37,7 +37,7 @@ total_range f a zero = refl
 total_range f a (suc n) =
     let e : f (a + 0) ≡ f a = ap f (omega arith) in
     let next : (k : ℕ) → f (a + 1 + k) ≡ f (a + suc k) = λ k. ap f (omega arith) in
-    omega (arith, e, total_range f (a + 1) n, below_same (λ k. f (a + 1 + k)) (λ k. f (a + suc k)) n next, below_front (λ k. f (a + k)) n)
+    omega (arith, e, total_range f (a + 1) n, below_alike (λ k. f (a + 1 + k)) (λ k. f (a + suc k)) n (λ k l. next k), below_front (λ k. f (a + k)) n)
 
 -- a field that was not loaded has no word
 no_word : (loads : List Load) (n g : ℕ) → loaded n g (map seen_of loads) ≡ 0 → word_at loads n g ≡ 0
@@ -56,7 +56,7 @@ leading loads slots fields x = total_below (λ n. total_below (λ g. same (suc x
 leading_read : (loads : List Load) (slots fields x : ℕ) → references fields (word_at loads) (range_with_len 0 slots) x ≡ leading loads slots fields x
 leading_read loads slots fields x =
     let f : ℕ → ℕ = λ n. total_below (λ g. same (suc x) (codes (word_at loads) n g)) fields in
-    references_read fields (word_at loads) (range_with_len 0 slots) x ∙ total_range f 0 slots ∙ below_same (λ n. f (0 + n)) f slots (λ n. ap f (zero-add n))
+    references_read fields (word_at loads) (range_with_len 0 slots) x ∙ total_range f 0 slots ∙ below_alike (λ n. f (0 + n)) f slots (λ n l. ap f (zero-add n))
 
 -- each load is of a field that there is, and each field was loaded once
 record Spread (slots fields : ℕ) (ls : List Seen) : Type 0 where
