@@ -20,10 +20,9 @@ use Rattle.rec_trial.specs.Moves.{touched_if, marked_by, blackened_if, scanned_b
 use Rattle.rec_trial.specs.Rules.{CanMark, CanScan, CanCollect, IsReady, LeadsToUnreleased, RulesAt}
 use Rattle.rec_trial.specs.Trial.{Machine, Work, next_of, is_due_at, settled, learnt_at, opened_of, started_of, took_of, advanced}
 use Rattle.rec_trial.proofs.Conditions.{unbuffered_white, set_room, marked_in_range, root_range, first_there}
-use Rattle.rec_trial.proofs.Moving.{Moved, scan_begins, root_freed, root_marked, root_passed, scan_passes, scan_blackens, collect_begins, set_passes, set_begins, ends, tried_slot, moved}
+use Rattle.rec_trial.proofs.Moving.{settled_by, Moved, scan_begins, root_freed, root_marked, root_passed, scan_passes, scan_blackens, collect_begins, set_passes, set_begins, ends, tried_slot, moved}
 use Rattle.rec_trial.proofs.Midway.{Midway, at_work_due, at_work_midway, going_midway, moved_midway, rules_midway}
 use Rattle.rec_trial.proofs.Places.{ltb_yes}
-use Rattle.rec_trial.proofs.Settling.{settled_by}
 use Rattle.rec_trial.proofs.Views.{whitened_same}
 use Rattle.rec_trial.proofs.Runs.{took_busy, some_set, in_range_if}
 

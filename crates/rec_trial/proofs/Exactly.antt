@@ -16,11 +16,11 @@ use Rattle.rec_trial.proofs.Deletion.{Seen}
 use Rattle.rec_trial.proofs.Done.{all_of, within_of, no_white_left}
 use Rattle.rec_trial.proofs.Holding.{named, loaded, edges, Finished, Over, Placed, Seed, Reached, Hot}
 use Rattle.rec_trial.proofs.Holding as law
+use Rattle.rec_trial.proofs.Marks.{edge_split}
 use Rattle.rec_trial.proofs.Readings.{code_some, codes, references_read}
 use Rattle.rec_trial.proofs.Runs.{Told, told_run, seen_of, seen_in}
-use Rattle.rec_trial.proofs.Steps.{bits_suc}
 use Rattle.rec_trial.proofs.Totals.{total, total_below, same, times, occurs, first_whole}
-use Rattle.rec_trial.proofs.Views.{view}
+use Rattle.rec_trial.proofs.Views.{bits_suc, view}
 use Rattle.rec_trial.proofs.Whole.{is_over, over_of}
 
 -- a load of a field of a node led to another
@@ -31,11 +31,8 @@ record Edge (word : ℕ → ℕ → ℕ) (n x : ℕ) (ls : List Seen) : Type 0 w
 
 edge_from : (word : ℕ → ℕ → ℕ) (n x : ℕ) (loads : List Load) → AreStill word loads → 0 < edges n x (map seen_of loads) → Edge word n x (map seen_of loads)
 edge_from word n x [] t h = absurd (omega arith)
-edge_from word n x (l ∷ loads) t h = go (split n x (seen_of l) (edges n x (map seen_of loads)) h) (edge_from word n x loads t.1)
+edge_from word n x (l ∷ loads) t h = go (edge_split n x (seen_of l) (map seen_of loads) h) (edge_from word n x loads t.1)
   where
-    split : (n x : ℕ) (l : Seen) (m : ℕ) → 0 < cond (eqb n l.node) (same (suc x) l.word) 0 + m → ((n ≡ l.node) × (suc x ≡ l.word)) ⊎ (0 < m)
-    split n x l m h = grind (arith, nat_tests)
-
     go : ((n ≡ l.slot) × (suc x ≡ target_bits l.word)) ⊎ (0 < edges n x (map seen_of loads)) → (0 < edges n x (map seen_of loads) → Edge word n x (map seen_of loads)) → Edge word n x (map seen_of (l ∷ loads))
     go (inl q) r = record { field = l.field; leads = ap (λ k. target_of (word k l.field)) q.0 ∙ ap target_of (sym t.0) ∙ ap predecessor (sym q.1) ∙ bits_suc x; was_loaded = grind (arith, nat_tests, q.0) }
     go (inr k) r = let e : Edge word n x (map seen_of loads) = r k in record { field = e.field; leads = e.leads; was_loaded = omega (arith, e.was_loaded) }

@@ -10,10 +10,8 @@ pub mod Promised
 pub mod Totals
 pub mod Turns
 pub mod Views
-pub mod Steps
 pub mod Rest
 pub mod Course
-pub mod Settling
 pub mod Runs
 pub mod Conditions
 pub mod Counted

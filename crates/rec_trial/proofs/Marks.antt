@@ -1,5 +1,5 @@
 -- What holds after a word, after a root left, and after one more node is marked, blackened or collected, as functions.
-use Rattle.std.proofs.Common.{◌≡◌, ℕ, suc, ◌+◌, ◌-◌, ◌<◌, Bool, false, List, [], ◌∷◌, ◌++◌, refl, arith, ◌⊎◌, inl, inr, true, ◌≤◌}
+use Rattle.std.proofs.Common.{◌≡◌, ℕ, suc, ◌+◌, ◌-◌, ◌<◌, Bool, false, List, [], ◌∷◌, ◌++◌, refl, arith, ◌⊎◌, inl, inr, true, ◌≤◌, cond, eqb}
 use Rattle.std.proofs.lemmas.Bool.Decides.{nat_tests}
 use Rattle.rec_counts.specs.declared.colour.Colour.{Colour}
 use Rattle.rec_counts.specs.declared.colour.Colour.TheVariants.{Black, Gray, Orange}
@@ -28,6 +28,13 @@ reached_grow l (along r e) = along (reached_grow l r) (omega arith)
 
 pub edge_here : (n g x : ℕ) (ls : List Seen) → 0 < edges n x (record { node = n; field = g; word = suc x } ∷ ls)
 edge_here n g x ls = grind (arith, nat_tests)
+
+-- an edge is that of the last word, or of an earlier one
+pub edge_split : (n x : ℕ) (l : Seen) (ls : List Seen) → 0 < edges n x (l ∷ ls) → ((n ≡ l.node) × (suc x ≡ l.word)) ⊎ (0 < edges n x ls)
+edge_split n x l ls = fit n l.node x l.word (edges n x ls)
+  where
+    fit : (n a x w m : ℕ) → 0 < cond (eqb n a) (same (suc x) w) 0 + m → ((n ≡ a) × (suc x ≡ w)) ⊎ (0 < m)
+    fit n a x w m h = grind (arith, nat_tests)
 
 module _ {o : Deletion} {fields : ℕ} {released : ℕ → Bool} {cyclic count : ℕ → ℕ} {marked : List ℕ} {marks : List Seen} (b : BaseOf o fields released cyclic count marked marks) where
   -- a word takes one off the rest of the node that it names, which is marked

@@ -18,7 +18,7 @@ use Rattle.rec_trial.proofs.Deletion.{Loads}
 use Rattle.rec_trial.proofs.Holding.{inv_at}
 use Rattle.rec_trial.proofs.Rest.{Rest}
 use Rattle.rec_trial.proofs.Runs.{Told, seen_in, learnt_course, opened_course, told_run}
-use Rattle.rec_trial.proofs.Settling.{settled_at_once, settled_after}
+use Rattle.rec_trial.proofs.Moving.{settled_at_once, settled_after}
 use Rattle.rec_trial.proofs.Totals.{occurs}
 use Rattle.rec_trial.proofs.Views.{view}
 

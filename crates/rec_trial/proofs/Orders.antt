@@ -7,7 +7,7 @@ use Rattle.std.proofs.lemmas.Bool.Decides.{nat_tests}
 use Rattle.rec_trial.proofs.Deletion.{Seen, next_at}
 use Rattle.rec_trial.proofs.Holding.{OrderedOf, named, edges}
 use Rattle.rec_trial.proofs.Totals.{same, times, changed, times_here}
-use Rattle.rec_trial.proofs.Marks.{times_push, push_kept}
+use Rattle.rec_trial.proofs.Marks.{times_push, push_kept, edge_split}
 
 pub ordered_none : (set_of : ℕ → ℕ) (sets : ℕ) → OrderedOf [] set_of sets 0 []
 ordered_none set_of sets = record {
@@ -40,16 +40,13 @@ module _ (members : List ℕ) (set_of : ℕ → ℕ) (sets at : ℕ) (finds : Li
     bounded = d.bounded;
     positive = d.positive;
     current = λ k a c. d.current k (before b k a) c;
-    sources = λ n y e. source n y (split n y (get_or members at 0) x (edges n y finds) e);
-    backward = λ n y e k. back n y k (split n y (get_or members at 0) x (edges n y finds) e);
+    sources = λ n y e. source n y (edge_split n y (record { node = get_or members at 0; field = g; word = x }) finds e);
+    backward = λ n y e k. back n y k (edge_split n y (record { node = get_or members at 0; field = g; word = x }) finds e);
   }
     where
       before : (b : Bool) (k : ℕ) → next_at b at ≤ k → at ≤ k
       before true k a = a
       before false k a = omega arith
-
-      split : (n y m x r : ℕ) → 0 < cond (eqb n m) (same (suc y) x) 0 + r → ((n ≡ m) × (suc y ≡ x)) ⊎ (0 < r)
-      split n y m x r e = grind (arith, nat_tests)
 
       source : (n y : ℕ) → ((n ≡ get_or members at 0) × (suc y ≡ x)) ⊎ (0 < edges n y finds) → 0 < times n members
       source n y (inl q) = rw q.0 (times_here members at h)

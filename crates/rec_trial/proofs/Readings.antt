@@ -11,19 +11,13 @@ use Rattle.rec_trial.specs.Tried.{is_of}
 use Rattle.rec_trial.proofs.Deletion.{Seen}
 use Rattle.rec_trial.proofs.Holding.{named, loaded, edges}
 use Rattle.rec_trial.proofs.Runs.{seen_of}
-use Rattle.rec_trial.proofs.Steps.{bits_suc}
+use Rattle.rec_trial.proofs.Views.{bits_suc}
 use Rattle.rec_trial.proofs.Totals.{same, total, total_below}
 
 -- a word leads to a slot exactly where its code is the slot's
-null_leads : (x : ℕ) → one (is_slot x (predecessor 0)) ≡ same (suc x) 0
-null_leads x = grind (arith, nat_tests)
-
 leads_code : (x code : ℕ) → one (is_slot x (predecessor code)) ≡ same (suc x) code
-leads_code x zero = null_leads x
-leads_code x (suc y) = rw (bits_suc y) (next x y)
-  where
-    next : (x y : ℕ) → one (eqb x y) ≡ same (suc x) (suc y)
-    next x y = grind (arith, nat_tests)
+leads_code x zero = grind (arith, nat_tests)
+leads_code x (suc y) = rw (bits_suc y) (grind (arith, nat_tests))
 
 pub code_some : (code x : ℕ) → predecessor code ≡ Some x → code ≡ suc x
 code_some zero x h = cc

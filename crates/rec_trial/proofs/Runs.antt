@@ -19,10 +19,9 @@ use Rattle.rec_trial.proofs.Deletion as plain
 use Rattle.rec_trial.proofs.Holding.{Inv, Alive}
 use Rattle.rec_trial.proofs.Places.{ltb_yes}
 use Rattle.rec_trial.proofs.Rest.{Rest, rest_same, same_marked, same_scanned, rest_collected}
-use Rattle.rec_trial.proofs.Settling.{settled_by, settled_is_due}
-use Rattle.rec_trial.proofs.Steps.{bits_suc, view_advanced, view_marked_by, view_scanned_by, view_collected_by}
+use Rattle.rec_trial.proofs.Moving.{settled_by, settled_is_due}
 use Rattle.rec_trial.proofs.Turns.{told_kept, opening_kept}
-use Rattle.rec_trial.proofs.Views.{earlier, view, concat_last}
+use Rattle.rec_trial.proofs.Views.{bits_suc, view_advanced, view_marked_by, view_scanned_by, view_collected_by, earlier, view, concat_last}
 
 abbrev pub seen_of : Load → Seen
 seen_of l = record { node = l.slot; field = l.field; word = target_bits l.word }

@@ -37,13 +37,11 @@ idle_none : (m : Machine) → m.phase ≡ Idle → IsNone (next_of m)
 unfolding next_of
 idle_none m e = rw e refl
 
-pub none_idle : (m : Machine) → IsNone (next_of m) → m.phase ≡ Idle
-unfolding next_of
-none_idle m h = go m.phase refl
-  where
-    go : (p : Phase) → m.phase ≡ p → p ≡ Idle
-    go Idle e = refl
-    go _ e = absurd (false≢true (sym (rw e at h)))
+none_idle : (m : Machine) → IsNone (next_of m) → m.phase ≡ Idle
+none_idle m h = elim (idle_or_busy m) [
+  | inl e ↦ e
+  | inr b ↦ absurd (false≢true (sym h ∙ b))
+]
 
 stays_idle : (words : List ℕ) (r : Run) → r.work.machine.phase ≡ Idle → fold noted r words ≡ r
 stays_idle [] r e = refl
