@@ -3,20 +3,20 @@ use Rattle.std.proofs.Common.{◌≡◌, ℕ, ◌<◌, ◌≤◌, Bool, true, fa
 use Rattle.std.proofs.lemmas.List.{length-set, length-map, length-append}
 use Rattle.rec_word.specs.Word.{target_of}
 use Rattle.rec_counts.specs.declared.colour.Colour.{Colour}
-use Rattle.rec_counts.specs.declared.colour.Colour.TheVariants.{Black, Gray, White, Orange}
+use Rattle.rec_counts.specs.declared.colour.Colour.TheVariants.{Black, Gray, Orange}
 use Rattle.rec_counts.specs.declared.slot.Slot.{Slot}
 use Rattle.rec_counts.specs.Counts.{State, IsKept, slot_at, with_slot, without_root}
 use Rattle.rec_counts.specs.Groups.{last_set}
 use Rattle.rec_counts.specs.Lists.{one}
 use Rattle.rec_counts.specs.Lists as in_counts
-use Rattle.rec_counts.specs.Slot.{absent, is_in}
+use Rattle.rec_counts.specs.Slot.{is_in}
 use Rattle.rec_counts.specs.Colour.{is_black, is_gray, is_white}
 use Rattle.rec_counts.proofs.Keeping.{field_kept, keep_slot, keep_pop_root, keep_begin, keep_join, relisted}
 use Rattle.rec_counts.proofs.Times.{once_none, once_push}
 use Rattle.rec_trial.specs.declared.phase.Phase.{Phase}
 use Rattle.rec_trial.specs.declared.phase.Phase.TheVariants.{Idle, Marking, Scanning, Collecting}
 use Rattle.rec_trial.specs.Loaded.{IsAtWork, begins, learns}
-use Rattle.rec_trial.specs.Moves.{touched_if, marked_by, blackened_if, scanned_by, whitened, whitened_if, all_whitened, joined_if, collected_by, with_new_set}
+use Rattle.rec_trial.specs.Moves.{touched_if, marked_by, blackened_if, scanned_by, whitened, all_whitened, joined_if, collected_by, with_new_set}
 use Rattle.rec_trial.specs.Rules.{CanMark, CanScan, CanCollect, IsReady, LeadsToUnreleased, RulesAt}
 use Rattle.rec_trial.specs.Trial.{Machine, Work, next_of, is_due_at, settled, learnt_at, opened_of, started_of, took_of, advanced}
 use Rattle.rec_trial.proofs.Conditions.{unbuffered_white, set_room, marked_in_range, root_range, first_there}

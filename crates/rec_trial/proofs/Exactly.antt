@@ -8,13 +8,13 @@ use Rattle.rec_counts.specs.Lists as in_counts
 use Rattle.rec_counts.specs.Colour.{is_white}
 use Rattle.rec_walk.specs.Load.{Load}
 use Rattle.rec_trial.specs.Loaded.{Run, run_of}
-use Rattle.rec_trial.specs.Still.{AreStill, IsSeed, IsReached, IsHeld, IsExact, TrialIsExact, references, rest}
+use Rattle.rec_trial.specs.Still.{AreStill, IsReached, IsHeld, IsExact, TrialIsExact, rest}
 use Rattle.rec_trial.specs.Still as still
 use Rattle.rec_trial.specs.Tried.{members}
 use Rattle.rec_trial.proofs.Course.{first_view}
 use Rattle.rec_trial.proofs.Deletion.{Seen}
 use Rattle.rec_trial.proofs.Done.{all_of, within_of, no_white_left}
-use Rattle.rec_trial.proofs.Holding.{named, loaded, edges, Finished, Over, Placed, Seed, Reached, Hot}
+use Rattle.rec_trial.proofs.Holding.{named, loaded, edges, Finished, Over, Reached, Hot}
 use Rattle.rec_trial.proofs.Holding as law
 use Rattle.rec_trial.proofs.Marks.{edge_split}
 use Rattle.rec_trial.proofs.Readings.{code_some, codes, references_read}

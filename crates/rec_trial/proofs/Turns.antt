@@ -11,7 +11,7 @@ use Rattle.rec_trial.specs.declared.phase.Phase.{Phase}
 use Rattle.rec_trial.specs.declared.phase.Phase.TheVariants.{Idle, Marking, Scanning, Collecting}
 use Rattle.rec_trial.proofs.Totals.{total_of_first, same, times, times_here, first_more, first_whole}
 use Rattle.rec_trial.proofs.Deletion.{Seen, Deletion, Loads, with_load, blacken_if, join_if, touch_if, take_one, mark_word, scan_word, find_word, advance, seen, due_at, told_at, whiten}
-use Rattle.rec_trial.proofs.Holding.{WhileMarking, WhileScanning, WhileCollecting, CollectedOf, OrderedOf, Placed, NotBegun, Reached, Hot, Seed, named, inv_at, Inv, Alive}
+use Rattle.rec_trial.proofs.Holding.{WhileMarking, WhileScanning, WhileCollecting, OrderedOf, Reached, Hot, Seed, named, inv_at, Inv, Alive}
 use Rattle.rec_trial.proofs.Holding as law
 use Rattle.rec_trial.proofs.Marks.{hot_grow, scanned_push, collected_push, times_push, push_kept, reached_grow, edge_here, base_load, base_push, unmarked, grays_push, seeds_push, seeds_drop}
 use Rattle.rec_trial.proofs.Orders.{ordered_none, ordered_word, ordered_join}
