@@ -18,13 +18,10 @@ use Rattle.rec_counts.proofs.Times.{times-nil, times-cons, times_more, times_at,
 use Rattle.rec_trial.specs.Moves.{with_colour, touched_if, whitened, whitened_if, all_whitened}
 use Rattle.rec_trial.specs.Rules.{CanMark, CanScan, CanCollect}
 
-no_member : (c : Colour) (n : ℕ) → n ≤ one (is_orange c) → is_white c ≡ true → n ≡ 0
-no_member c n h e = grind arith
-
 pub unbuffered_white : (s : State) → IsKept s → CanCollect s → (x : ℕ) → is_white (slot_at s x).colour ≡ true → (slot_at s x).buffered ≡ false
 unbuffered_white s k c x e =
     let roots : in_counts.times x s.roots ≡ 0 = ap (in_counts.times x) c.roots ∙ times-nil x in
-    let sets : in_counts.times x (concat s.sets) ≡ 0 = no_member (slot_at s x).colour (in_counts.times x (concat s.sets)) (c.members x) e in
+    let sets : in_counts.times x (concat s.sets) ≡ 0 = grind (arith, c.members x, e) in
     one-none (slot_at s x).buffered (omega (arith, k.buffers x))
 
 -- so there is room for a set more

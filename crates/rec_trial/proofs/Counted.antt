@@ -50,11 +50,8 @@ blackened_counted s x true l new k =
     let k' = keep_slot k x v refl refl in
     relisted k' k'.marked_once (once_push _ s.work x k'.work_once (new refl) (omega (arith, l, length-set s.slots x v))) k'.zeros_once k'.free_once
 
-gray_not_black : (c : Colour) (n : ℕ) → n ≤ one (is_black c) → is_gray c ≡ true → n ≡ 0
-gray_not_black c n h e = grind arith
-
 unworked : (s : State) → CanScan s → (x : ℕ) → is_gray (slot_at s x).colour ≡ true → in_counts.times x s.work ≡ 0
-unworked s c x e = gray_not_black (slot_at s x).colour (in_counts.times x s.work) (c.work x) e
+unworked s c x e = grind (arith, c.work x)
 
 scanned_counted : (s : State) (t : Option ℕ) → CanScan s → IfSome t (λ x. x < length s.slots) → IsKept s → IsKept (scanned_by s t)
 scanned_counted s None c l k = k

@@ -47,11 +47,7 @@ going_midway (learns {m} {s} a busy word lead) = record { fields = m.fields; bef
 
 -- the released ones of some slots
 pub times_released : (x : ℕ) (s : State) (xs : List ℕ) → in_counts.times x (released_among s xs) ≡ cond (slot_at s x).released (in_counts.times x xs) 0
-times_released x s [] = go (slot_at s x).released
-  where
-    go : (b : Bool) → in_counts.times x [] ≡ cond b (in_counts.times x []) 0
-    go true = refl
-    go false = times-nil x
+times_released x s [] = grind (arith, times-nil x)
 times_released x s (y ∷ ys) = go (slot_at s y).released refl (times_released x s ys)
   where
     fit : {a b : ℕ} (m : ℕ) (out : Bool) → a ≡ cond (slot_at s x).released m 0 → (x ≡ y → (slot_at s x).released ≡ out) → b ≡ one (eqb x y) + m → cond out (one (eqb x y) + a) a ≡ cond (slot_at s x).released b 0
