@@ -2,6 +2,7 @@ pub mod Deletion
 pub mod Done
 pub mod Holding
 pub mod Keeps
+pub mod Learning
 pub mod Marks
 pub mod Moving
 pub mod Orders

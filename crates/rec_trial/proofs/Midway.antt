@@ -13,11 +13,11 @@ use Rattle.rec_trial.specs.declared.phase.Phase.TheVariants.{Idle, Marking, Scan
 use Rattle.rec_trial.specs.Loaded.{IsAtWork, GoesOn, begins, learns, run_of}
 use Rattle.rec_trial.specs.Rules.{IsReady, RulesAt, released_among}
 use Rattle.rec_trial.specs.Trial.{Machine, Work, is_due, moved_at, settled}
-use Rattle.rec_trial.proofs.Course.{Course, first_view, moved_course, released_same}
+use Rattle.rec_trial.proofs.Course.{Course, learnt_course, first_view, moved_course, released_same}
 use Rattle.rec_trial.proofs.Deletion.{Loads}
 use Rattle.rec_trial.proofs.Holding.{inv_at}
 use Rattle.rec_trial.proofs.Rest.{Rest}
-use Rattle.rec_trial.proofs.Runs.{Told, seen_in, learnt_course, opened_course, told_run}
+use Rattle.rec_trial.proofs.Runs.{Told, seen_in, opened_course, told_run}
 use Rattle.rec_trial.proofs.Moving.{settled_at_once, settled_after}
 use Rattle.rec_trial.proofs.Totals.{occurs}
 use Rattle.rec_trial.proofs.Views.{view}

@@ -1,5 +1,5 @@
 -- The machine and the counts, seen as a trial by functions: what is done to the counts is done to what is seen.
-use Rattle.std.proofs.Common.{◌≡◌, ℕ, zero, suc, ◌+◌, ◌-◌, ◌<◌, Bool, true, false, eqb, cond, Option, None, Some, List, [], ◌∷◌, ◌++◌, length, get_or, refl, sym, ap, ◌∙◌, arith, inl, inr, append_assoc, ltb, IfSome, add-one}
+use Rattle.std.proofs.Common.{◌≡◌, ℕ, suc, ◌+◌, ◌-◌, ◌<◌, Bool, true, false, eqb, cond, Option, None, Some, List, [], ◌∷◌, ◌++◌, length, get_or, refl, sym, ap, ◌∙◌, arith, inl, inr, append_assoc, ltb, add-one}
 use Rattle.std.proofs.Math.ListN.{set, get_or-map}
 use Rattle.std.specs.List.{concat}
 use Rattle.std.proofs.lemmas.List.{append-nil, get_or-set_same, get_or-set_other, length-set, length-append}
@@ -10,11 +10,11 @@ use Rattle.rec_counts.specs.declared.slot.Slot.{Slot}
 use Rattle.rec_counts.specs.Counts.{State, slot_at, with_slot, without_root}
 use Rattle.rec_counts.specs.Groups.{last_set, earlier_sets, with_member}
 use Rattle.rec_counts.specs.Slot.{absent}
-use Rattle.rec_counts.specs.Colour.{is_gray, is_white}
+use Rattle.rec_counts.specs.Colour.{is_gray}
 use Rattle.rec_counts.proofs.Keeping.{field_kept}
 use Rattle.rec_trial.specs.declared.phase.Phase.{Phase}
 use Rattle.rec_trial.specs.declared.phase.Phase.TheVariants.{Idle, Marking, Scanning, Collecting}
-use Rattle.rec_trial.specs.Moves.{touched_if, one_off, blackened_if, whitened, whitened_if, all_whitened, joined_if, touched, marked_by, scanned_by, collected_by}
+use Rattle.rec_trial.specs.Moves.{touched_if, one_off, blackened_if, whitened, whitened_if, all_whitened, joined_if}
 use Rattle.rec_trial.specs.Trial.{Machine, Work, advanced_if, advanced}
 use Rattle.rec_trial.proofs.Totals.{changed}
 use Rattle.rec_trial.proofs.Deletion.{Deletion, next_at, next_field}
@@ -85,9 +85,8 @@ view_set s x v m a b e cyclic colour =
     λ i. record (view_of m s) { count = count i; cyclic = cyclic i; colour = colour i; released = released i; set_of = in_set i }
 
 module _ (m : Machine) (s : State) (x : ℕ) (l : x < length s.slots) where
-  pub view_touched : (b : Bool) → view_of m (touched_if b s x) ≡ plain.touch_if b (view_of m s) x
-  view_touched true = refl
-  view_touched false =
+  pub view_touched : view_of m (touched_if false s x) ≡ plain.touch (view_of m s) x
+  view_touched =
       let v : Slot = record (slot_at s x) { colour = Gray; cyclic = (slot_at s x).count } in
       let q = view_set s x v m refl refl refl (part_changed (λ (u : Slot). u.cyclic) s x v l) (part_changed (λ (u : Slot). u.colour) s x v l) in
       λ i. record (q i) { marked = s.marked ++ x ∷ [] }
@@ -97,9 +96,8 @@ module _ (m : Machine) (s : State) (x : ℕ) (l : x < length s.slots) where
       let v : Slot = record (slot_at s x) { cyclic = (slot_at s x).cyclic - 1 } in
       view_set s x v m refl refl refl (part_changed (λ (u : Slot). u.cyclic) s x v l) (part_kept (λ (u : Slot). u.colour) s x v refl)
 
-  pub view_blackened : (b : Bool) → view_of m (blackened_if b s x) ≡ plain.blacken_if b (view_of m s) x
-  view_blackened false = refl
-  view_blackened true =
+  pub view_blackened : view_of m (blackened_if true s x) ≡ plain.blacken (view_of m s) x
+  view_blackened =
       let v : Slot = record (slot_at s x) { colour = Black } in
       let q = view_set s x v m refl refl refl (part_kept (λ (u : Slot). u.cyclic) s x v refl) (part_changed (λ (u : Slot). u.colour) s x v l) in
       λ i. record (q i) { work = s.work ++ x ∷ [] }
@@ -142,9 +140,8 @@ concat_new [] = refl
 concat_new (ys ∷ sets) = ap (λ us. ys ++ us) (concat_new sets)
 
 -- a slot joins the last set
-pub view_joined : (m : Machine) (s : State) (x : ℕ) → x < length s.slots → 0 < length s.sets → (b : Bool) → view_of m (joined_if b s x) ≡ plain.join_if b (view_of m s) x
-view_joined m s x l some false = refl
-view_joined m s x l some true =
+pub view_joined : (m : Machine) (s : State) (x : ℕ) → x < length s.slots → 0 < length s.sets → view_of m (joined_if true s x) ≡ plain.join (view_of m s) x
+view_joined m s x l some =
     let v : Slot = record (slot_at s x) { colour = Orange } in
     let t : State = with_slot s x v in
     let u : Slot = record (slot_at t x) { buffered = true; set = Some (length s.sets - 1) } in
@@ -158,7 +155,7 @@ view_joined m s x l some true =
     let members = concat_member s.sets x some in
     let sets = length_member s.sets x in
     let at = ap (λ (ys : List (List ℕ)). at_of m.phase m.done (length (concat ys))) (earlier_member s.sets x some) in
-    λ i. record (plain.join_if true (view_of m s) x) { count = count i; cyclic = cyclic i; colour = colour i; released = released i; set_of = in_set i; members = members i; sets = sets i; at = at i }
+    λ i. record (plain.join (view_of m s) x) { count = count i; cyclic = cyclic i; colour = colour i; released = released i; set_of = in_set i; members = members i; sets = sets i; at = at i }
 
 -- every Gray slot becomes White, and nothing else changes
 pub whitened_same : {A : Type 0} (f : Slot → A) → ((v : Slot) → f (record v { colour = White }) ≡ f v) → (s : State) (x : ℕ) → f (slot_at (all_whitened s) x) ≡ f (slot_at s x)
@@ -202,35 +199,12 @@ at_next : (p : Phase) (done before : ℕ) → at_of p (done + 1) before ≡ suc 
 at_next Idle done before = omega arith
 at_next _ done before = omega arith
 
-pub view_advanced : (m : Machine) (s : State) (p : Phase) → m.phase ≡ p → view_of (advanced m) s ≡ plain.advance p (view_of m s)
-view_advanced m s p e =
-    let f : m.field + 1 ≡ suc m.field = add-one m.field in
-    go (ltb (m.field + 1) m.fields) ∙ (λ i. record (view_of m s) { phase = e i; at = next_at (ltb (f i) m.fields) (view_of m s).at; field = next_field (ltb (f i) m.fields) m.field })
+pub view_advanced : (m : Machine) (s : State) → view_of (advanced m) s ≡ plain.advance (view_of m s)
+view_advanced m s = go (ltb (m.field + 1) m.fields) ∙ (λ i. record (view_of m s) { at = next_at (ltb (f i) m.fields) (view_of m s).at; field = next_field (ltb (f i) m.fields) m.field })
   where
+    f : m.field + 1 ≡ suc m.field
+    f = add-one m.field
+
     go : (b : Bool) → view_of (advanced_if b m) s ≡ record (view_of m s) { at = next_at b (view_of m s).at; field = next_field b m.field }
-    go true = let f : m.field + 1 ≡ suc m.field = add-one m.field in λ i. record (view_of m s) { field = f i }
+    go true = λ i. record (view_of m s) { field = f i }
     go false = let a : at_of m.phase (m.done + 1) (earlier s) ≡ suc (at_of m.phase m.done (earlier s)) = at_next m.phase m.done (earlier s) in λ i. record (view_of m s) { at = a i; field = 0 }
-
--- a target is learnt
-touched_length : (s : State) (x : ℕ) (b : Bool) → length (touched_if b s x).slots ≡ length s.slots
-touched_length s x true = refl
-touched_length s x false = length-set s.slots x (record (slot_at s x) { colour = Gray; cyclic = (slot_at s x).count })
-
-module _ (m : Machine) (s : State) where
-  view_marked : (x : ℕ) → x < length s.slots → view_of m (one_off (touched s x) x) ≡ plain.take_one (plain.touch_if (is_gray (slot_at s x).colour) (view_of m s) x) x
-  view_marked x l = go (is_gray (slot_at s x).colour)
-    where
-      go : (b : Bool) → view_of m (one_off (touched_if b s x) x) ≡ plain.take_one (plain.touch_if b (view_of m s) x) x
-      go b = view_one_off m (touched_if b s x) x (omega (arith, l, touched_length s x b)) ∙ ap (λ (v : Deletion). plain.take_one v x) (view_touched m s x l b)
-
-  pub view_marked_by : (code : ℕ) → IfSome (predecessor code) (λ x. x < length s.slots) → view_of m (marked_by s (predecessor code)) ≡ plain.mark_word (view_of m s) code
-  view_marked_by zero l = refl
-  view_marked_by (suc x) l = let h : x < length s.slots = rw (bits_suc x) at l in rw (bits_suc x) (view_marked x h)
-
-  pub view_scanned_by : (code : ℕ) → IfSome (predecessor code) (λ x. x < length s.slots) → view_of m (scanned_by s (predecessor code)) ≡ plain.scan_word (view_of m s) code
-  view_scanned_by zero l = refl
-  view_scanned_by (suc x) l = let h : x < length s.slots = rw (bits_suc x) at l in rw (bits_suc x) (view_blackened m s x h (is_gray (slot_at s x).colour))
-
-  pub view_collected_by : (code : ℕ) → IfSome (predecessor code) (λ x. x < length s.slots) → 0 < length s.sets → view_of m (collected_by s (predecessor code)) ≡ plain.find_word (view_of m s) code
-  view_collected_by zero l some = refl
-  view_collected_by (suc x) l some = let h : x < length s.slots = rw (bits_suc x) at l in rw (bits_suc x) (view_joined m s x h some (is_white (slot_at s x).colour))

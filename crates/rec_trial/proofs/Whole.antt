@@ -19,6 +19,7 @@ use Rattle.rec_trial.proofs.AtWork.{told_place}
 use Rattle.rec_trial.proofs.Course.{first_view, released_same}
 use Rattle.rec_trial.proofs.Done.{Walked, once_of, within_of, all_of, no_white_left, walked_at, few_loads}
 use Rattle.rec_trial.proofs.Holding.{Over, Placed, inv_at, named}
+use Rattle.rec_trial.proofs.Learning.{busy_phase}
 use Rattle.rec_trial.proofs.Readings.{loaded_read, naming_read, edges_read}
 use Rattle.rec_trial.proofs.Rest.{no_roots_at}
 use Rattle.rec_trial.proofs.Runs.{Told, idle_or_busy, noted_idle, told_run, seen_of, seen_in}
@@ -28,10 +29,6 @@ use Rattle.rec_trial.proofs.Views.{view, set_code}
 -- how much was loaded
 sum_of : Run → ℕ
 sum_of r = length r.marking + length r.blackening + length r.collecting
-
-busy_phase : (m : Machine) → m.phase ≡ Idle → IsSome (next_of m) → ⊥
-unfolding next_of
-busy_phase m e b = false≢true (rw e at b)
 
 idle_none : (m : Machine) → m.phase ≡ Idle → IsNone (next_of m)
 unfolding next_of
