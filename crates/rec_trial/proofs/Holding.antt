@@ -178,8 +178,3 @@ inv_at Collecting o s ls = WhileCollecting o s ls
 
 abbrev pub Inv : Deletion → Deletion → Loads → Type 0
 Inv o s ls = inv_at s.phase o s ls
-
--- a word names nothing, or a node that is not released
-abbrev pub Alive : (ℕ → Bool) → ℕ → Type 0
-Alive released zero = Unit {0}
-Alive released (suc x) = released x ≡ false
