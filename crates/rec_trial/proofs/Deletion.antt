@@ -65,12 +65,10 @@ join s x = record s { colour = changed s.colour x Orange; members = s.members ++
 
 -- the next place
 abbrev pub next_at : Bool → ℕ → ℕ
-next_at true at = at
-next_at false at = suc at
+next_at more at = cond more at (suc at)
 
 abbrev pub next_field : Bool → ℕ → ℕ
-next_field true field = suc field
-next_field false field = 0
+next_field more field = cond more (suc field) 0
 
 abbrev pub advance : Deletion → Deletion
 advance s = record s { at = next_at (ltb (suc s.field) s.fields) s.at; field = next_field (ltb (suc s.field) s.fields) s.field }

@@ -49,8 +49,5 @@ placed_all {fields} {xs} {at} {field} p l =
     rw a at (rw f at p)
 
 -- not worked off yet
-pub placed_none : (fields : ℕ) (xs : List ℕ) → 0 < fields → Placed fields xs 0 0 []
-placed_none fields xs h = record { swept = λ φ. refl; inside = omega arith; below = h; rests = λ q. refl }
-
 pub placed_begin : {fields : ℕ} {xs : List ℕ} {ls : List Seen} → NotBegun xs ls → 0 < fields → Placed fields xs 0 0 ls
-placed_begin {fields} {xs} n h = rw n.loads (placed_none fields xs h)
+placed_begin n h = rw n.loads (record { swept = λ φ. refl; inside = omega arith; below = h; rests = λ q. refl })

@@ -65,13 +65,10 @@ same_functions h = λ i x. h x i
 -- what is seen of the slots after a write
 module _ {A : Type 0} (f : Slot → A) (s : State) (x : ℕ) (v : Slot) where
   part_changed : x < length s.slots → (λ y. f (slot_at (with_slot s x v) y)) ≡ changed (λ y. f (slot_at s y)) x (f v)
-  part_changed l = same_functions (λ y. go y)
-    where
-      go : (y : ℕ) → f (get_or (set s.slots x v) y absent) ≡ cond (eqb y x) (f v) (f (get_or s.slots y absent))
-      go y = elim (eqb_tells y x) [
-        | inl q ↦ rw (q.0, q.1) (ap f (get_or-set_same s.slots x v absent l))
-        | inr q ↦ rw q.0 (ap f (get_or-set_other s.slots x y v absent q.1))
-      ]
+  part_changed l = same_functions (λ y. elim (eqb_tells y x) [
+    | inl q ↦ rw (q.0, q.1) (ap f (get_or-set_same s.slots x v absent l))
+    | inr q ↦ rw q.0 (ap f (get_or-set_other s.slots x y v absent q.1))
+  ])
 
   part_kept : f v ≡ f (slot_at s x) → ◌≡◌ {A = ℕ → A} (λ y. f (slot_at (with_slot s x v) y)) (λ y. f (slot_at s y))
   part_kept e = same_functions (field_kept f s.slots x v e)
