@@ -14,7 +14,7 @@ use Rattle.rec_trial.specs.declared.phase.Phase.{Phase}
 use Rattle.rec_trial.specs.declared.phase.Phase.TheVariants.{Marking, Scanning, Collecting}
 use Rattle.rec_trial.specs.Rules.{LeadsToUnreleased}
 use Rattle.rec_trial.specs.Moves.{touched_if, one_off, all_whitened, joined_if, with_new_set}
-use Rattle.rec_trial.specs.Trial.{Machine, Work, next_of, learnt_at, advanced, advanced_if, begun_at, is_due_at, is_due, moved_at, opened_of}
+use Rattle.rec_trial.specs.Trial.{Machine, Work, next_of, learnt_at, advanced, begun_at, is_due_at, is_due, moved_at, opened_of}
 use Rattle.rec_trial.proofs.Totals.{times, times_here}
 use Rattle.rec_trial.proofs.Deletion.{Deletion, Loads, due_at, seen, with_load}
 use Rattle.rec_trial.proofs.Deletion as plain
@@ -164,13 +164,6 @@ module _ (o : Deletion) (w : Work) (ls : Loads) where
       subst (λ s. WhileCollecting o (plain.advance s) (with_load Collecting (seen Collecting (view (at_phase Collecting w)) (suc x)) ls)) (sym (view_joined (at_phase Collecting w).machine w.counts x l some))
       (find_named o (view (at_phase Collecting w)) ls i (ltb_yes (view (at_phase Collecting w)).at (length (concat w.counts.sets)) d) x g)
 
-advanced_phase : (m : Machine) → (advanced m).phase ≡ m.phase
-advanced_phase m = go (ltb (m.field + 1) m.fields)
-  where
-    go : (b : Bool) → (advanced_if b m).phase ≡ m.phase
-    go true = refl
-    go false = refl
-
 -- all of it
 module _ {fields : ℕ} {before : State} (w : Work) {ls : Loads} (c : Course fields before w ls) where
   pub released_same : (x : ℕ) → (slot_at w.counts x).released ≡ (slot_at before x).released
@@ -188,4 +181,4 @@ module _ {fields : ℕ} {before : State} (w : Work) {ls : Loads} (c : Course fie
       let k : Learnt w.counts p (target_bits word) t = learnt_by w.counts p w.machine.done (target_bits word) (λ e. busy_phase w.machine e b) d a in
       course_of (learnt w word)
       (subst (λ s. Inv (first_view fields before) s (with_load p (seen p (view w) (target_bits word)) ls)) (sym (view_advanced w.machine t)) (learnt_kept (first_view fields before) w ls k (sym (due_seen w p) ∙ d) c.inv))
-      (subst (λ k. Rest before k t) (sym (advanced_phase w.machine)) (learnt_rest k c.rest))
+      (subst (λ k. Rest before k t) (sym (ap (λ (v : Deletion). v.phase) (view_advanced w.machine t))) (learnt_rest k c.rest))

@@ -1,5 +1,5 @@
 -- A trial as functions of its nodes: the theory speaks of it. A word is 0 for null, else the node plus one.
-use Rattle.std.proofs.Common.{ℕ, suc, ◌-◌, Bool, true, false, cond, ltb, List, [], ◌∷◌, ◌++◌, length, get_or}
+use Rattle.std.proofs.Common.{ℕ, suc, ◌-◌, Bool, true, cond, ltb, List, [], ◌∷◌, ◌++◌, length, get_or}
 use Rattle.rec_counts.specs.declared.colour.Colour.{Colour}
 use Rattle.rec_counts.specs.declared.colour.Colour.TheVariants.{Black, Gray, White, Orange}
 use Rattle.rec_counts.specs.Colour.{is_gray}

@@ -163,11 +163,10 @@ whitened_same f h s x = ap f (get_or-map whitened s.slots x absent) ∙ go (is_g
     go false = refl
 
 whitened_colour : (s : State) (x : ℕ) → (slot_at (all_whitened s) x).colour ≡ plain.whiten (λ y. (slot_at s y).colour) x
-whitened_colour s x = ap (λ (v : Slot). v.colour) (get_or-map whitened s.slots x absent) ∙ go (is_gray (slot_at s x).colour)
+whitened_colour s x = ap (λ (v : Slot). v.colour) (get_or-map whitened s.slots x absent) ∙ fit (slot_at s x)
   where
-    go : (b : Bool) → (whitened_if b (slot_at s x)).colour ≡ cond b White (slot_at s x).colour
-    go true = refl
-    go false = refl
+    fit : (v : Slot) → (whitened v).colour ≡ cond (is_gray v.colour) White v.colour
+    fit v = grind arith
 
 pub view_whitened : (m : Machine) (s : State) → view_of m (all_whitened s) ≡ record (view_of m s) { colour = plain.whiten (λ y. (slot_at s y).colour) }
 view_whitened m s =
