@@ -15,6 +15,7 @@ use Rattle.rec_counts.proofs.Keeping.{field_kept, member_room, first_root_in_ran
 use Rattle.rec_counts.proofs.Leaving.{all_of}
 use Rattle.rec_counts.proofs.Times.{times-nil, times-cons, times_more, times_at, in_range_once, one-same, one-none}
 use Rattle.rec_trial.specs.Moves.{with_colour, touched_if, whitened, whitened_if, all_whitened}
+use Rattle.rec_trial.proofs.Totals.{is_false}
 use Rattle.rec_trial.specs.Rules.{CanMark, CanScan, CanCollect}
 
 pub unbuffered_white : (s : State) → IsKept s → CanCollect s → (x : ℕ) → is_white (slot_at s x).colour ≡ true → (slot_at s x).buffered ≡ false
@@ -98,14 +99,10 @@ pub whiten_last : (now then : State) (i : ℕ) → length then.marked ≤ i → 
 whiten_last now then i l c w =
     w.lists ∙ ap (λ (xs : List Slot). record then { slots = xs }) (all_of whitened then.slots now.slots w.many each)
   where
-    none_marked : (x : ℕ) → in_counts.times x then.marked ≡ 0 → (b : Bool) → is_gray (slot_at then x).colour ≡ b → b ≡ false
-    none_marked x h true e = absurd (omega (arith, c.gray x e, h))
-    none_marked x h false e = refl
-
     each : (x : ℕ) → slot_at now x ≡ whitened (slot_at then x)
     each x = elim (w.slots x) [
       | inl h ↦ h
-      | inr h ↦ h.0 ∙ stays (slot_at then x) (none_marked x (ap (in_counts.times x) (sym (take_all i then.marked l)) ∙ h.1) (is_gray (slot_at then x).colour) refl)
+      | inr h ↦ h.0 ∙ stays (slot_at then x) (is_false (is_gray (slot_at then x).colour) (λ e. omega (arith, c.gray x e, h.1, ap (in_counts.times x) (take_all i then.marked l))))
     ]
 
 pub whiten_marked : (i : ℕ) (now then : State) → Whitening i now then → now.marked ≡ then.marked

@@ -15,7 +15,7 @@ use Rattle.rec_trial.specs.declared.phase.Phase.TheVariants.{Marking, Scanning, 
 use Rattle.rec_trial.specs.Rules.{LeadsToUnreleased}
 use Rattle.rec_trial.specs.Moves.{touched_if, one_off, all_whitened, joined_if, with_new_set}
 use Rattle.rec_trial.specs.Trial.{Machine, Work, next_of, learnt_at, advanced, begun_at, is_due_at, is_due, moved_at, opened_of}
-use Rattle.rec_trial.proofs.Totals.{times, times_here}
+use Rattle.rec_trial.proofs.Totals.{nonzero, is_false, times, times_here}
 use Rattle.rec_trial.proofs.Deletion.{Deletion, Loads, due_at, seen, with_load}
 use Rattle.rec_trial.proofs.Deletion as plain
 use Rattle.rec_trial.proofs.Holding.{WhileMarking, WhileScanning, WhileCollecting, Seed, inv_at, Inv, Same}
@@ -61,11 +61,7 @@ due_seen w _ = refl
 
 -- what is marked is in range
 pub alive_range : (s : State) (x : ℕ) → ((slot_at s x).released ≡ true → times x s.marked ≡ 0) → 0 < times x s.marked → x < length s.slots
-alive_range s x h l = go (slot_at s x).released refl
-  where
-    go : (b : Bool) → (slot_at s x).released ≡ b → x < length s.slots
-    go true e = absurd (omega (arith, h e, l))
-    go false e = unreleased_within s x e
+alive_range s x h l = unreleased_within s x (is_false (slot_at s x).released (λ e. omega (arith, h e, l)))
 
 tried_range : (s : State) (k : ℕ) → ((x : ℕ) → (slot_at s x).released ≡ true → times x s.marked ≡ 0) → k < length s.marked → get_or s.marked k 0 < length s.slots
 tried_range s k h l = alive_range s (get_or s.marked k 0) (h (get_or s.marked k 0)) (times_here s.marked k l)
@@ -97,11 +93,7 @@ module _ (o : Deletion) (w : Work) (ls : Loads) where
       (dropped o (plain.touch (view (at_phase Marking w)) x) ls (seeded o (view (at_phase Marking w)) ls i x (rw e (grind (arith, nat_tests))) k live) x xs e (λ q. grind (arith, nat_tests, times_push x x w.counts.marked)))
   moved_kept (root_passed x xs e live k) r d i =
       subst (λ s. WhileMarking o s ls) (sym (view_rootless (at_phase Marking w).machine w.counts x xs))
-      (dropped o (view (at_phase Marking w)) ls i x xs e (no_seed (times x w.counts.marked) (i.colours_old x)))
-    where
-      no_seed : (n : ℕ) → (n ≡ 0 → (slot_at w.counts x).colour ≡ o.colour x) → Seed o x → 0 < n
-      no_seed zero h q = absurd (false≢true (sym k ∙ ap is_purple (h refl ∙ q.is_purple)))
-      no_seed (suc n) h q = omega arith
+      (dropped o (view (at_phase Marking w)) ls i x xs e (λ q. nonzero (times x w.counts.marked) (λ z. false≢true (sym k ∙ ap is_purple (i.colours_old x z ∙ q.is_purple)))))
   moved_kept (scan_passes l h) r d i =
       subst (λ n. WhileScanning o (seen_at Scanning n) ls) (sym (add-one w.machine.tried))
       (scan_tried o (view (at_phase Scanning w)) ls i l h)

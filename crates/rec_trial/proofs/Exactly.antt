@@ -19,7 +19,7 @@ use Rattle.rec_trial.proofs.Holding as law
 use Rattle.rec_trial.proofs.Marks.{edge_split}
 use Rattle.rec_trial.proofs.Readings.{code_some, codes, references_read}
 use Rattle.rec_trial.proofs.Runs.{Told, told_run, seen_of, seen_in}
-use Rattle.rec_trial.proofs.Totals.{total, total_below, same, times, occurs, first_whole}
+use Rattle.rec_trial.proofs.Totals.{nonzero, total, total_below, same, times, occurs, first_whole}
 use Rattle.rec_trial.proofs.Views.{bits_suc, view}
 use Rattle.rec_trial.proofs.Whole.{is_over, over_of}
 
@@ -54,14 +54,9 @@ module _ (fields : ℕ) (word : ℕ → ℕ → ℕ) (before : State) (r : Run) 
 
   -- a field of a marked slot leads to a marked slot
   closed : (n g x : ℕ) → 0 < times n marked → g < fields → target_of (word n g) ≡ Some x → 0 < times x marked
-  closed n g x h l q = go (times x marked) refl
-    where
-      is_named : 0 < named x (map seen_of r.marking)
-      is_named = omega (arith, all_of f.marks_all n g (omega (arith, l, width)), named_from word n g x r.marking tm (code_some (codes word n g) x q))
-
-      go : (m : ℕ) → times x marked ≡ m → 0 < times x marked
-      go zero z = absurd (omega (arith, f.fresh x z, is_named))
-      go (suc m) z = omega arith
+  closed n g x h l q =
+      let is_named : 0 < named x (map seen_of r.marking) = omega (arith, all_of f.marks_all n g (omega (arith, l, width)), named_from word n g x r.marking tm (code_some (codes word n g) x q)) in
+      nonzero (times x marked) (λ z. omega (arith, f.fresh x z, is_named))
 
   reached_of : {x : ℕ} → Reached (first_view fields before) (map seen_of r.marking) x → IsReached fields word before x
   reached_of (law.Reached.seed {x} k) = still.IsReached.seed (record { root = omega (arith, occurs x before.roots, k.root); purple = k.is_purple; unreleased = k.live })
@@ -93,11 +88,9 @@ module _ (fields : ℕ) (word : ℕ → ℕ → ℕ) (before : State) (r : Run) 
       still.IsHeld.along (held_of p) d.field (omega (arith, width, within_of f.blacks_all n d.field d.was_loaded)) d.leads
 
   worked_of : {x : ℕ} → IsHeld fields word marked before x → 0 < times x work
-  worked_of (still.IsHeld.rests {x} m p) = go (times x work) refl (omega (arith, occurs x marked, m))
-    where
-      go : (n : ℕ) → times x work ≡ n → 0 < times x marked → 0 < times x work
-      go zero z h = absurd (omega (arith, rest_is x h, f.rest x h, f.enough x (omega (arith, black_or_member x h)), p))
-      go (suc n) z h = omega arith
+  worked_of (still.IsHeld.rests {x} m p) =
+      let h : 0 < times x marked = omega (arith, occurs x marked, m) in
+      nonzero (times x work) (λ z. omega (arith, z, rest_is x h, f.rest x h, f.enough x (omega (arith, z, black_or_member x h)), p))
   worked_of (still.IsHeld.along {n} {x} p g l q) =
       let marked_here : 0 < times n marked = omega (arith, f.parts n, worked_of p) in
       let is_named : 0 < named x (map seen_of r.blackening) = omega (arith, all_of f.blacks_all n g (omega (arith, l, width)), worked_of p, named_from word n g x r.blackening tb (code_some (codes word n g) x q)) in
@@ -108,12 +101,10 @@ module _ (fields : ℕ) (word : ℕ → ℕ → ℕ) (before : State) (r : Run) 
     marked_reached = λ x m. reached_of (f.reached x (omega (arith, occurs x marked, m)));
     reached_marked = λ x p. omega (arith, occurs x marked, marked_of p);
     members_unheld = λ x m p. omega (arith, occurs x (members r.work.counts), m, worked_of p, f.parts x, f.once x);
-    unheld_members = λ x m n. unheld x (omega (arith, occurs x marked, m)) n (times x (members r.work.counts)) refl;
+    unheld_members = λ x m none.
+        let h : 0 < times x marked = omega (arith, occurs x marked, m) in
+        nonzero (in_counts.times x (members r.work.counts)) (λ z. none (held_of (f.hot x (omega (arith, z, occurs x (members r.work.counts), black_or_member x h)))));
   }
-    where
-      unheld : (x : ℕ) → 0 < times x marked → (IsHeld fields word marked before x → ⊥) → (n : ℕ) → times x (members r.work.counts) ≡ n → 0 < in_counts.times x (members r.work.counts)
-      unheld x h none zero z = absurd (none (held_of (f.hot x (omega (arith, black_or_member x h)))))
-      unheld x h none (suc n) z = omega (arith, occurs x (members r.work.counts))
 
 pub whole_exact : (fields : ℕ) (word : ℕ → ℕ → ℕ) (before : State) (words : List ℕ) → TrialIsExact fields word before words
 whole_exact fields word before words f k a h tm tb =
