@@ -2,7 +2,7 @@
 use Rattle.std.proofs.Common.{◌≡◌, ℕ, ◌+◌, ◌<◌, ◌≤◌, Bool, true, false, eqb, Some, List, [], ◌∷◌, ◌++◌, length, take, get_or, slice_get, refl, sym, ap, ◌∙◌, arith, inl, inr, ◌≢◌, ◌⊎◌}
 use Rattle.std.specs.List.{concat}
 use Rattle.std.proofs.lemmas.List.{get_or-set_same, get_or-set_other, length-set, set-set, take_all}
-use Rattle.std.proofs.lemmas.Bool.{false≢true}
+use Rattle.std.proofs.lemmas.Bool.{false_from_ne_true, false≢true}
 use Rattle.std.proofs.lemmas.Bool.Decides.{eqb_tells}
 use Rattle.rec_counts.specs.declared.colour.Colour.TheVariants.{Gray, White}
 use Rattle.rec_counts.specs.declared.slot.Slot.{Slot}
@@ -15,7 +15,6 @@ use Rattle.rec_counts.proofs.Keeping.{field_kept, member_room, first_root_in_ran
 use Rattle.rec_counts.proofs.Leaving.{all_of}
 use Rattle.rec_counts.proofs.Times.{times-nil, times-cons, times_more, times_at, in_range_once, one-same, one-none}
 use Rattle.rec_trial.specs.Moves.{with_colour, touched_if, whitened, whitened_if, all_whitened}
-use Rattle.rec_trial.proofs.Totals.{is_false}
 use Rattle.rec_trial.specs.Rules.{CanMark, CanScan, CanCollect}
 
 pub unbuffered_white : (s : State) → IsKept s → CanCollect s → (x : ℕ) → is_white (slot_at s x).colour ≡ true → (slot_at s x).buffered ≡ false
@@ -102,7 +101,7 @@ whiten_last now then i l c w =
     each : (x : ℕ) → slot_at now x ≡ whitened (slot_at then x)
     each x = elim (w.slots x) [
       | inl h ↦ h
-      | inr h ↦ h.0 ∙ stays (slot_at then x) (is_false (is_gray (slot_at then x).colour) (λ e. omega (arith, c.gray x e, h.1, ap (in_counts.times x) (take_all i then.marked l))))
+      | inr h ↦ h.0 ∙ stays (slot_at then x) (false_from_ne_true (is_gray (slot_at then x).colour) (λ e. omega (arith, c.gray x e, h.1, ap (in_counts.times x) (take_all i then.marked l))))
     ]
 
 pub whiten_marked : (i : ℕ) (now then : State) → Whitening i now then → now.marked ≡ then.marked

@@ -2,7 +2,7 @@
 use Rattle.std.proofs.Common.{◌≡◌, ℕ, zero, suc, ◌+◌, ◌<◌, ◌≤◌, Bool, true, false, ltb, IsSome, List, [], ◌∷◌, length, get_or, refl, sym, ap, subst, ◌∙◌, arith, add-one}
 use Rattle.std.specs.List.{concat}
 use Rattle.std.proofs.lemmas.List.{length-append, length-set}
-use Rattle.std.proofs.lemmas.Bool.{false≢true}
+use Rattle.std.proofs.lemmas.Bool.{false_from_ne_true, false≢true}
 use Rattle.std.proofs.lemmas.Bool.Decides.{nat_tests}
 use Rattle.rec_word.specs.Word.{target_of, target_bits}
 use Rattle.rec_counts.specs.declared.colour.Colour.TheVariants.{Gray}
@@ -15,7 +15,7 @@ use Rattle.rec_trial.specs.declared.phase.Phase.TheVariants.{Marking, Scanning, 
 use Rattle.rec_trial.specs.Rules.{LeadsToUnreleased}
 use Rattle.rec_trial.specs.Moves.{touched_if, one_off, all_whitened, joined_if, with_new_set}
 use Rattle.rec_trial.specs.Trial.{Machine, Work, next_of, learnt_at, advanced, begun_at, is_due_at, is_due, moved_at, opened_of}
-use Rattle.rec_trial.proofs.Totals.{nonzero, is_false, times, times_here}
+use Rattle.rec_trial.proofs.Totals.{nonzero, times, times_here}
 use Rattle.rec_trial.proofs.Deletion.{Deletion, Loads, due_at, seen, with_load}
 use Rattle.rec_trial.proofs.Deletion as plain
 use Rattle.rec_trial.proofs.Holding.{WhileMarking, WhileScanning, WhileCollecting, Seed, inv_at, Inv, Same}
@@ -61,7 +61,7 @@ due_seen w _ = refl
 
 -- what is marked is in range
 pub alive_range : (s : State) (x : ℕ) → ((slot_at s x).released ≡ true → times x s.marked ≡ 0) → 0 < times x s.marked → x < length s.slots
-alive_range s x h l = unreleased_within s x (is_false (slot_at s x).released (λ e. omega (arith, h e, l)))
+alive_range s x h l = unreleased_within s x (false_from_ne_true (slot_at s x).released (λ e. omega (arith, h e, l)))
 
 tried_range : (s : State) (k : ℕ) → ((x : ℕ) → (slot_at s x).released ≡ true → times x s.marked ≡ 0) → k < length s.marked → get_or s.marked k 0 < length s.slots
 tried_range s k h l = alive_range s (get_or s.marked k 0) (h (get_or s.marked k 0)) (times_here s.marked k l)

@@ -1,5 +1,5 @@
 -- Sums of weights over lists and over numbers, and tests that guard a weight.
-use Rattle.std.proofs.Common.{◌≡◌, ℕ, zero, suc, ◌+◌, ◌<◌, ◌≤◌, Bool, true, false, cond, eqb, List, [], ◌∷◌, ◌++◌, length, take, drop, get_or, refl, ap, arith}
+use Rattle.std.proofs.Common.{◌≡◌, ℕ, zero, suc, ◌+◌, ◌<◌, ◌≤◌, cond, eqb, List, [], ◌∷◌, ◌++◌, length, take, drop, get_or, refl, ap, arith}
 use Rattle.std.proofs.Math.Seq.{take-suc, take-length}
 use Rattle.std.proofs.lemmas.List.{take-append-le, take-append-drop}
 use Rattle.rec_counts.specs.Lists.{one, times as count_times}
@@ -19,14 +19,10 @@ abbrev pub total_below : (ℕ → ℕ) → ℕ → ℕ
 total_below f zero = 0
 total_below f (suc k) = total_below f k + f k
 
--- what is not 0 is more, and what does not hold is false
+-- what is not 0 is more
 pub nonzero : (n : ℕ) → (n ≡ 0 → ⊥) → 0 < n
 nonzero zero h = absurd (h refl)
 nonzero (suc n) h = omega arith
-
-pub is_false : (b : Bool) → (b ≡ true → ⊥) → b ≡ false
-is_false true h = absurd (h refl)
-is_false false h = refl
 
 -- one where the two are equal
 abbrev pub same : ℕ → ℕ → ℕ

@@ -1,6 +1,6 @@
 -- What a trial promises, from what holds of it.
 use Rattle.std.proofs.Common.{◌≡◌, ℕ, zero, suc, ◌+◌, ◌*◌, ◌<◌, ◌≤◌, Bool, true, false, Option, Some, IsNone, IsSome, List, [], ◌∷◌, length, map, fold, refl, sym, ap, subst, ◌∙◌, arith, inl, inr, ◌⊎◌}
-use Rattle.std.proofs.lemmas.Bool.{false≢true, cases_lt}
+use Rattle.std.proofs.lemmas.Bool.{false_from_ne_true, false≢true, cases_lt}
 use Rattle.std.proofs.lemmas.List.{get_or_past, length-map}
 use Rattle.rec_counts.specs.declared.colour.Colour.{Colour}
 use Rattle.rec_counts.specs.declared.slot.Slot.{Slot}
@@ -23,7 +23,7 @@ use Rattle.rec_trial.proofs.Learning.{busy_phase}
 use Rattle.rec_trial.proofs.Readings.{loaded_read, naming_read, edges_read}
 use Rattle.rec_trial.proofs.Rest.{no_roots_at}
 use Rattle.rec_trial.proofs.Runs.{Told, idle_or_busy, noted_idle, told_run, seen_of, seen_in}
-use Rattle.rec_trial.proofs.Totals.{is_false, times, occurs}
+use Rattle.rec_trial.proofs.Totals.{times, occurs}
 use Rattle.rec_trial.proofs.Views.{view, set_code}
 
 -- how much was loaded
@@ -94,7 +94,7 @@ whole_careful fields before words f k a =
       turns = turns_run fields before words;
       place = λ p h. subst (λ m. p < m * r.work.machine.fields) many (told_place r t p h);
       sets_once = λ x. omega (arith, occurs x (members s), joined x);
-      sets_unreleased = λ x h. is_false (slot_at before x).released (λ q. omega (arith, occurs x (members s), h, w.joined x, w.alive x (released_same r.work t.course x ∙ q)));
+      sets_unreleased = λ x h. false_from_ne_true (slot_at before x).released (λ q. omega (arith, occurs x (members s), h, w.joined x, w.alive x (released_same r.work t.course x ∙ q)));
     }
 
 -- after that many words it is over
@@ -153,7 +153,7 @@ module _ (fields : ℕ) (before : State) (r : Run) (t : Told fields before r) (r
       let n : (view r.work).fields ≡ fields = t.course.same.fields in
       record {
         marked_once = λ x. omega (arith, mark x, f.once x);
-        marked_unreleased = λ x h. is_false (slot_at before x).released (λ q. omega (arith, mark x, h, f.alive x (released_same r.work t.course x ∙ q)));
+        marked_unreleased = λ x h. false_from_ne_true (slot_at before x).released (λ q. omega (arith, mark x, h, f.alive x (released_same r.work t.course x ∙ q)));
         marking = λ x g l. omega (arith, loaded_read x g r.marking, mark x, all_of f.marks_all x g (omega (arith, n, l)));
         marking_fields = λ x g h. omega (arith, n, within_of f.marks_all x g (omega (arith, loaded_read x g r.marking, h)));
         member_or_black = λ x h. omega (arith, mem x, one_of x (omega (arith, mark x, h)));
