@@ -1,5 +1,5 @@
 -- The course of a trial over the counts: what holds of it by functions, and of the lists beside.
-use Rattle.std.proofs.Common.{◌≡◌, ℕ, zero, suc, ◌+◌, ◌<◌, ◌≤◌, Bool, true, false, ltb, IsSome, List, [], ◌∷◌, length, get_or, refl, sym, ap, subst, ◌∙◌, arith, add-one}
+use Rattle.std.proofs.Common.{◌≡◌, ℕ, suc, ◌+◌, ◌<◌, ◌≤◌, Bool, true, false, ltb, IsSome, List, [], ◌∷◌, length, get_or, refl, sym, ap, subst, ◌∙◌, arith, add-one}
 use Rattle.std.specs.List.{concat}
 use Rattle.std.proofs.lemmas.List.{length-append, length-set}
 use Rattle.std.proofs.lemmas.Bool.{false_from_ne_true, false≢true}
@@ -18,7 +18,7 @@ use Rattle.rec_trial.specs.Trial.{Machine, Work, next_of, learnt_at, advanced, b
 use Rattle.rec_trial.proofs.Totals.{nonzero, times, times_here}
 use Rattle.rec_trial.proofs.Deletion.{Deletion, Loads, due_at, seen, with_load}
 use Rattle.rec_trial.proofs.Deletion as plain
-use Rattle.rec_trial.proofs.Holding.{WhileMarking, WhileScanning, WhileCollecting, Seed, inv_at, Inv, Same}
+use Rattle.rec_trial.proofs.Holding.{WhileMarking, WhileScanning, WhileCollecting, inv_at, Inv, Same}
 use Rattle.rec_trial.proofs.Marks.{times_push}
 use Rattle.rec_trial.proofs.Learning.{Learnt, marks_none, takes_one, marks, scans_none, blackens, finds_none, joins, busy_phase, learnt_by}
 use Rattle.rec_trial.proofs.Moving.{Moved, scan_begins, root_freed, root_marked, root_passed, scan_passes, scan_blackens, collect_begins, set_passes, set_begins, ends, next_try, tried_slot, moved}

@@ -1,5 +1,5 @@
 -- What a trial promises on words that do not change.
-use Rattle.std.proofs.Common.{◌≡◌, ℕ, zero, suc, ◌+◌, ◌-◌, ◌<◌, ◌≤◌, false, eqb, Some, List, [], ◌∷◌, map, refl, sym, ap, ◌∙◌, arith, ◌⊎◌, inl, inr, cond}
+use Rattle.std.proofs.Common.{◌≡◌, ℕ, suc, ◌+◌, ◌-◌, ◌<◌, ◌≤◌, false, eqb, Some, List, [], ◌∷◌, map, refl, sym, ap, ◌∙◌, arith, ◌⊎◌, inl, inr, cond}
 use Rattle.std.proofs.lemmas.Bool.Decides.{nat_tests}
 use Rattle.rec_word.specs.Word.{target_of, predecessor, target_bits}
 use Rattle.rec_counts.specs.Counts.{State}

@@ -1,7 +1,7 @@
 -- One word is learnt, or what a move between two loads does, as functions: what holds stays.
-use Rattle.std.proofs.Common.{◌≡◌, ℕ, zero, suc, ◌+◌, ◌-◌, ◌<◌, ◌≤◌, true, false, ltb, List, [], ◌∷◌, length, get_or, refl, sym, ◌∙◌, arith, length-append}
+use Rattle.std.proofs.Common.{◌≡◌, ℕ, suc, ◌+◌, ◌-◌, ◌<◌, ◌≤◌, true, false, ltb, List, [], ◌∷◌, length, get_or, refl, sym, inl, inr, ◌∙◌, arith, length-append}
 use Rattle.std.proofs.Math.ListN.{get_or-append}
-use Rattle.std.proofs.lemmas.Bool.{false≢true}
+use Rattle.std.proofs.lemmas.Bool.{false≢true, cases_lt}
 use Rattle.std.proofs.lemmas.Bool.Decides.{nat_tests}
 use Rattle.rec_counts.specs.Lists.{one}
 use Rattle.rec_counts.specs.declared.colour.Colour.{Colour}
@@ -19,9 +19,6 @@ use Rattle.rec_trial.proofs.Places.{placed_grow, placed_step, placed_all, placed
 -- a Gray node is marked, so that no word names one that is not
 unnamed_word : (n w y : ℕ) (c : Colour) → n ≡ one (is_gray c) → (w ≡ suc y → is_gray c ≡ true) → n ≡ 0 → same (suc y) w ≡ 0
 unnamed_word n w y c e g z = grind (arith, nat_tests, g)
-
-not_purple : (c : Colour) → c ≡ Purple → is_gray c ≡ false
-not_purple c e = rw e refl
 
 module _ (o s : Deletion) (ls : Loads) where
   -- a word in marking that names nothing, or a Gray node
@@ -92,12 +89,14 @@ module _ (o s : Deletion) (ls : Loads) where
     tries = m.tries;
     found = λ y a. grind (arith, nat_tests, m.found y a);
     place = placed_grow m.place (x ∷ []);
-    order = ordered_join s.members s.set_of sets s.at ls.finds order x some (unfound (named x ls.finds) (m.found x)) (unjoined (m.parts x) (m.once x));
+    order = ordered_join s.members s.set_of sets s.at ls.finds order x some unfound (unjoined (m.parts x) (m.once x));
   }
     where
-      unfound : (n : ℕ) → (0 < n → is_white (s.colour x) ≡ false) → n ≡ 0
-      unfound zero h = refl
-      unfound (suc n) h = absurd (false≢true (sym (h (omega arith)) ∙ e))
+      unfound : named x ls.finds ≡ 0
+      unfound = elim (cases_lt 0 (named x ls.finds)) [
+        | inl h ↦ absurd (false≢true (sym (m.found x h) ∙ e))
+        | inr z ↦ omega (arith, z)
+      ]
 
       unjoined : times x s.marked ≡ one (is_white (s.colour x)) + times x s.work + times x s.members → times x s.marked ≤ 1 → times x s.members ≡ 0
       unjoined a b = grind arith
@@ -129,7 +128,7 @@ module _ (o s : Deletion) (ls : Loads) where
   -- a seed is marked
   pub seeded : WhileMarking o s ls → (x : ℕ) → 0 < times x s.roots → s.colour x ≡ Purple → s.released x ≡ false → WhileMarking o (touch s x) ls
   seeded m x here e live =
-      let new : times x s.marked ≡ 0 = unmarked m.look x (not_purple (s.colour x) e) in
+      let new : times x s.marked ≡ 0 = unmarked m.look x (rw e refl) in
       record {
         base = base_push m.base x new live;
         look = grays_push m.look x new;

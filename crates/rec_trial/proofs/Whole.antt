@@ -1,5 +1,5 @@
 -- What a trial promises, from what holds of it.
-use Rattle.std.proofs.Common.{◌≡◌, ℕ, zero, suc, ◌+◌, ◌*◌, ◌<◌, ◌≤◌, Bool, true, false, Option, Some, IsNone, IsSome, List, [], ◌∷◌, length, map, fold, refl, sym, ap, subst, ◌∙◌, arith, inl, inr, ◌⊎◌}
+use Rattle.std.proofs.Common.{◌≡◌, ℕ, suc, ◌+◌, ◌*◌, ◌<◌, ◌≤◌, true, false, Option, Some, IsNone, IsSome, List, [], ◌∷◌, length, map, fold, refl, sym, ap, subst, ◌∙◌, arith, inl, inr, ◌⊎◌}
 use Rattle.std.proofs.lemmas.Bool.{false_from_ne_true, false≢true, cases_lt}
 use Rattle.std.proofs.lemmas.List.{get_or_past, length-map}
 use Rattle.rec_counts.specs.declared.colour.Colour.{Colour}
@@ -64,9 +64,6 @@ turns_run : (fields : ℕ) (before : State) (words : List ℕ) → IsSome (next_
 unfolding run_of sum_of
 turns_run fields before words b = omega (arith, turns_by words (begun fields before) b)
 
-past_released : (s : State) (n : ℕ) → length s.slots ≡ n → (x : ℕ) → n ≤ x → (slot_at s x).released ≡ true
-past_released s n e x h = ap (λ (v : Slot). v.released) (get_or_past s.slots x absent (omega (arith, e, h)))
-
 -- at every moment
 pub whole_careful : (fields : ℕ) (before : State) (words : List ℕ) → TrialIsCareful fields before words
 whole_careful fields before words f k a =
@@ -76,7 +73,7 @@ whole_careful fields before words f k a =
     let many : length s.slots ≡ length before.slots = t.course.rest.slots in
     let most : length before.slots * (view r.work).fields ≡ length before.slots * fields = ap (λ n. length before.slots * n) t.course.same.fields in
     let w : Walked (first_view fields before) (view r.work).fields (view r.work).count (view r.work).released (members s) (seen_in r) = walked_at r.work.machine.phase (first_view fields before) (view r.work) (seen_in r) t.course.inv in
-    let out : (x : ℕ) → length before.slots ≤ x → times x w.marked ≡ 0 = λ x l. w.alive x (past_released s (length before.slots) many x l) in
+    let out : (x : ℕ) → length before.slots ≤ x → times x w.marked ≡ 0 = λ x l. w.alive x (ap (λ (v : Slot). v.released) (get_or_past s.slots x absent (omega (arith, many, l)))) in
     let worked : (x : ℕ) → times x w.work ≤ 1 = λ x. omega (arith, w.worked x, w.once x) in
     let joined : (x : ℕ) → times x (members s) ≤ 1 = λ x. omega (arith, w.joined x, w.once x) in
     record {

@@ -1,6 +1,7 @@
 -- Loads as words of fields.
 use Rattle.std.proofs.Common.{◌≡◌, ℕ, zero, suc, ◌+◌, ◌<◌, ◌≤◌, Bool, true, false, eqb, ltb, cond, Some, List, [], ◌∷◌, length, map, refl, ap, ◌∙◌, arith, zero-add}
 use Rattle.std.specs.List.{range_with_len}
+use Rattle.std.proofs.lemmas.Bool.{eqb-true}
 use Rattle.std.proofs.lemmas.Bool.Decides.{nat_tests}
 use Rattle.rec_word.specs.Word.{target_of, target_bits}
 use Rattle.rec_counts.specs.Counts.{State}
@@ -76,14 +77,11 @@ leading_more slots fields x l loads a b none =
     there : (a b v m : ℕ) → a < b → m + cond (ltb a b) v 0 ≡ m + v
     there a b v m h = grind (arith, nat_tests)
 
-    is_same : (a b : ℕ) → eqb a b ≡ true → a ≡ b
-    is_same a b e = grind (arith, nat_tests)
-
     null : (m : ℕ) → m ≡ same (suc x) 0 + m
     null m = grind (arith, nat_tests)
 
     cell : (n g : ℕ) (a b : Bool) → eqb n l.slot ≡ a → eqb g l.field ≡ b → same (suc x) (target_bits (cond (cond a b false) l.word (word_at loads n g))) ≡ same (suc x) (codes (word_at loads) n g) + cond b (cond a more 0) 0
-    cell n g true true e f = let z : word_at loads n g ≡ 0 = no_word loads n g (rw (is_same n l.slot e, is_same g l.field f) none) in rw z (null (same (suc x) (target_bits l.word)))
+    cell n g true true e f = let z : word_at loads n g ≡ 0 = no_word loads n g (rw (eqb-true n l.slot e, eqb-true g l.field f) none) in rw z (null (same (suc x) (target_bits l.word)))
     cell n g true false e f = omega arith
     cell n g false true e f = omega arith
     cell n g false false e f = omega arith
