@@ -20,7 +20,7 @@ use Rattle.rec_trial.specs.Trial.{next_of}
 use Rattle.rec_trial.specs.Witnessed.{word_at, fields_leading}
 use Rattle.rec_trial.proofs.Places.{ltb_yes, ltb_no}
 use Rattle.rec_trial.proofs.Readings.{codes, below_front, references_read}
-use Rattle.rec_trial.proofs.Steps.{bits_suc}
+use Rattle.rec_trial.proofs.Views.{bits_suc}
 use Rattle.rec_trial.proofs.Totals.{same, total_below}
 use Rattle.rec_trial.proofs.Witnesses.{below_alike, total_range}
 use Rattle.rec_core.specs.Cycles.{TrialStands, is_member, word_loaded}

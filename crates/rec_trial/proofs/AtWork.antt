@@ -16,7 +16,7 @@ use Rattle.rec_trial.specs.declared.phase.Phase.{Phase}
 use Rattle.rec_trial.specs.declared.phase.Phase.TheVariants.{Idle, Marking, Scanning, Collecting}
 use Rattle.rec_trial.specs.Loaded.{Run, IsAtWork, noted, begun, run_of}
 use Rattle.rec_trial.specs.Rules.{IsReady, LeadsToUnreleased, AllLeadToUnreleased}
-use Rattle.rec_trial.specs.Trial.{Machine, Work, NamesPlace, next_of, list_of, is_due_at, took_of, started_of}
+use Rattle.rec_trial.specs.Trial.{Machine, Work, NamesPlace, next_of, is_due_at, took_of, started_of}
 use Rattle.rec_trial.proofs.Course.{alive_range, first_view, due_seen, released_same}
 use Rattle.rec_trial.proofs.Deletion.{Deletion, Loads, due_at, queue_at}
 use Rattle.rec_trial.proofs.Holding.{inv_at}

@@ -1,30 +1,26 @@
 -- What the calls of a trial require, from what holds of it.
-use Rattle.std.proofs.Common.{◌≡◌, ℕ, ◌+◌, ◌<◌, ◌≤◌, Bool, true, false, eqb, ltb, cond, Some, List, [], ◌∷◌, ◌++◌, length, take, get_or, slice_get, refl, sym, ap, ◌∙◌, arith, inl, inr}
+use Rattle.std.proofs.Common.{◌≡◌, ℕ, ◌+◌, ◌<◌, ◌≤◌, Bool, true, false, eqb, Some, List, [], ◌∷◌, ◌++◌, length, take, get_or, slice_get, refl, sym, ap, ◌∙◌, arith, inl, inr, ◌≢◌, ◌⊎◌}
 use Rattle.std.specs.List.{concat}
 use Rattle.std.proofs.lemmas.List.{get_or-set_same, get_or-set_other, length-set, set-set, take_all}
-use Rattle.std.proofs.lemmas.Bool.{false≢true, ltb-false, lt-ltb}
+use Rattle.std.proofs.lemmas.Bool.{false_from_ne_true, false≢true}
 use Rattle.std.proofs.lemmas.Bool.Decides.{eqb_tells}
-use Rattle.rec_counts.specs.declared.colour.Colour.{Colour}
 use Rattle.rec_counts.specs.declared.colour.Colour.TheVariants.{Gray, White}
 use Rattle.rec_counts.specs.declared.slot.Slot.{Slot}
 use Rattle.rec_counts.specs.Counts.{State, IsKept, slot_at, with_slot, without_root}
-use Rattle.rec_counts.specs.Lists.{one, EachOnce}
+use Rattle.rec_counts.specs.Lists.{one}
 use Rattle.rec_counts.specs.Lists as in_counts
 use Rattle.rec_counts.specs.Slot.{absent}
-use Rattle.rec_counts.specs.Colour.{is_gray, is_white, is_orange}
+use Rattle.rec_counts.specs.Colour.{is_gray, is_white}
 use Rattle.rec_counts.proofs.Keeping.{field_kept, member_room, first_root_in_range}
 use Rattle.rec_counts.proofs.Leaving.{all_of}
 use Rattle.rec_counts.proofs.Times.{times-nil, times-cons, times_more, times_at, in_range_once, one-same, one-none}
 use Rattle.rec_trial.specs.Moves.{with_colour, touched_if, whitened, whitened_if, all_whitened}
 use Rattle.rec_trial.specs.Rules.{CanMark, CanScan, CanCollect}
 
-no_member : (c : Colour) (n : ℕ) → n ≤ one (is_orange c) → is_white c ≡ true → n ≡ 0
-no_member c n h e = grind arith
-
 pub unbuffered_white : (s : State) → IsKept s → CanCollect s → (x : ℕ) → is_white (slot_at s x).colour ≡ true → (slot_at s x).buffered ≡ false
 unbuffered_white s k c x e =
     let roots : in_counts.times x s.roots ≡ 0 = ap (in_counts.times x) c.roots ∙ times-nil x in
-    let sets : in_counts.times x (concat s.sets) ≡ 0 = no_member (slot_at s x).colour (in_counts.times x (concat s.sets)) (c.members x) e in
+    let sets : in_counts.times x (concat s.sets) ≡ 0 = grind (arith, c.members x, e) in
     one-none (slot_at s x).buffered (omega (arith, k.buffers x))
 
 -- so there is room for a set more
@@ -41,11 +37,11 @@ touched_made s t u x l e f =
     ap (λ (a : State). record a { marked = a.marked ++ x ∷ [] }) g
     ∙ ap (λ (xs : List Slot). record s { slots = xs; marked = s.marked ++ x ∷ [] }) (set-set s.slots x v (record v { cyclic = v.count }))
 
--- whitening, slot by slot of the marked list
+-- whitening, slot by slot of the marked list: a slot that is not done yet is as it was, and does not stand in that part
 pub record Whitening (index : ℕ) (now then : State) : Type 0 where
   pub lists : now ≡ record then { slots = now.slots }
   pub many : length now.slots ≡ length then.slots
-  pub slots : (x : ℕ) → slot_at now x ≡ cond (ltb 0 (in_counts.times x (take index then.marked))) (whitened (slot_at then x)) (slot_at then x)
+  pub slots : (x : ℕ) → (slot_at now x ≡ whitened (slot_at then x)) ⊎ ((slot_at now x ≡ slot_at then x) × (in_counts.times x (take index then.marked) ≡ 0))
 
 not_gray_now : (v : Slot) → is_gray (whitened v).colour ≡ false
 not_gray_now v = go (is_gray v.colour) refl
@@ -60,65 +56,53 @@ white_now v e = rw e refl
 stays : (v : Slot) → is_gray v.colour ≡ false → v ≡ whitened v
 stays v e = rw e refl
 
-once_more : (x : ℕ) (xs : List ℕ) (i : ℕ) → i < length xs → eqb x (get_or xs i 0) ≡ true → ltb 0 (in_counts.times x (take (i + 1) xs)) ≡ true
-once_more x xs i l e = let n : one (eqb x (get_or xs i 0)) ≡ 1 = ap one e in lt-ltb 0 _ (omega (arith, times_more x xs i l))
+colour_same : {u v : Slot} → u ≡ v → is_gray v.colour ≡ is_gray u.colour
+colour_same e = ap (λ (w : Slot). is_gray w.colour) (sym e)
 
-no_more : (x : ℕ) (xs : List ℕ) (i : ℕ) → i < length xs → eqb x (get_or xs i 0) ≡ false → in_counts.times x (take (i + 1) xs) ≡ in_counts.times x (take i xs)
-no_more x xs i l e = let n : one (eqb x (get_or xs i 0)) ≡ 0 = ap one e in omega (arith, times_more x xs i l)
+module _ (i : ℕ) (now then : State) (w : Whitening i now then) (l : i < length then.marked) where
+  -- the next marked slot is done, and the others stay
+  whiten_step : (next : State) → next ≡ record then { slots = next.slots } → length next.slots ≡ length then.slots → slot_at next (get_or then.marked i 0) ≡ whitened (slot_at then (get_or then.marked i 0)) → ((x : ℕ) → x ≢ get_or then.marked i 0 → slot_at next x ≡ slot_at now x) → Whitening (i + 1) next then
+  whiten_step next lists many here other = record {
+    lists = lists;
+    many = many;
+    slots = λ x. elim (eqb_tells x (get_or then.marked i 0)) [
+      | inl q ↦ inl (rw q.1 here)
+      | inr q ↦ elim (w.slots x) [
+        | inl h ↦ inl (other x q.1 ∙ h)
+        | inr h ↦ let n : one (eqb x (get_or then.marked i 0)) ≡ 0 = ap one q.0 in inr (other x q.1 ∙ h.0, omega (arith, times_more x then.marked i l, h.1))
+      ]
+    ];
+  }
 
-module _ (i : ℕ) (now then : State) (w : Whitening i now then) (l : i < length then.marked) (r : get_or then.marked i 0 < length now.slots) where
-  pub whiten_gray : is_gray (slot_at now (get_or then.marked i 0)).colour ≡ true → Whitening (i + 1) (with_colour now (get_or then.marked i 0) White) then
-  whiten_gray g =
+  pub whiten_gray : get_or then.marked i 0 < length now.slots → is_gray (slot_at now (get_or then.marked i 0)).colour ≡ true → Whitening (i + 1) (with_colour now (get_or then.marked i 0) White) then
+  whiten_gray r g =
       let m : ℕ = get_or then.marked i 0 in
       let v : Slot = record (slot_at now m) { colour = White } in
-      record {
-        lists = ap (λ (s : State). with_slot s m v) w.lists;
-        many = length-set now.slots m v ∙ w.many;
-        slots = λ x. elim (eqb_tells x m) [
-          | inl q ↦ rw (once_more x then.marked i l q.0) (rw q.1 (get_or-set_same now.slots m v absent r ∙ new m v refl g (ltb 0 (in_counts.times m (take i then.marked))) (w.slots m)))
-          | inr q ↦ rw (no_more x then.marked i l q.0) (get_or-set_other now.slots m x v absent q.1 ∙ w.slots x)
-        ];
-      }
+      whiten_step (with_slot now m v) (ap (λ (s : State). with_slot s m v) w.lists) (length-set now.slots m v ∙ w.many)
+      (get_or-set_same now.slots m v absent r ∙ new m g (w.slots m)) (λ x n. get_or-set_other now.slots m x v absent n)
     where
-      new : (m : ℕ) (v : Slot) → v ≡ record (slot_at now m) { colour = White } → is_gray (slot_at now m).colour ≡ true → (b : Bool) → slot_at now m ≡ cond b (whitened (slot_at then m)) (slot_at then m) → v ≡ whitened (slot_at then m)
-      new m v e g true h = absurd (false≢true (sym (not_gray_now (slot_at then m)) ∙ ap (λ (u : Slot). is_gray u.colour) (sym h) ∙ g))
-      new m v e g false h = e ∙ ap (λ (u : Slot). record u { colour = White }) h ∙ white_now (slot_at then m) (ap (λ (u : Slot). is_gray u.colour) (sym h) ∙ g)
+      new : (m : ℕ) → is_gray (slot_at now m).colour ≡ true → (slot_at now m ≡ whitened (slot_at then m)) ⊎ ((slot_at now m ≡ slot_at then m) × (in_counts.times m (take i then.marked) ≡ 0)) → record (slot_at now m) { colour = White } ≡ whitened (slot_at then m)
+      new m g (inl h) = absurd (false≢true (sym (not_gray_now (slot_at then m)) ∙ colour_same h ∙ g))
+      new m g (inr h) = ap (λ (u : Slot). record u { colour = White }) h.0 ∙ white_now (slot_at then m) (colour_same h.0 ∙ g)
 
   pub whiten_other : is_gray (slot_at now (get_or then.marked i 0)).colour ≡ false → Whitening (i + 1) now then
-  whiten_other g =
-      let m : ℕ = get_or then.marked i 0 in
-      record {
-        lists = w.lists;
-        many = w.many;
-        slots = λ x. elim (eqb_tells x m) [
-          | inl q ↦ rw (once_more x then.marked i l q.0) (rw q.1 (old m g (ltb 0 (in_counts.times m (take i then.marked))) (w.slots m)))
-          | inr q ↦ rw (no_more x then.marked i l q.0) (w.slots x)
-        ];
-      }
-    where
-      old : (m : ℕ) → is_gray (slot_at now m).colour ≡ false → (b : Bool) → slot_at now m ≡ cond b (whitened (slot_at then m)) (slot_at then m) → slot_at now m ≡ whitened (slot_at then m)
-      old m g true h = h
-      old m g false h = h ∙ stays (slot_at then m) (ap (λ (u : Slot). is_gray u.colour) (sym h) ∙ g)
+  whiten_other g = whiten_step now w.lists w.many (elim (w.slots (get_or then.marked i 0)) [
+    | inl h ↦ h
+    | inr h ↦ h.0 ∙ stays (slot_at then (get_or then.marked i 0)) (colour_same h.0 ∙ g)
+  ]) (λ x n. refl)
 
 pub whiten_first : (s : State) → Whitening 0 s s
-whiten_first s = record { lists = refl; many = refl; slots = λ x. rw (times-nil x) refl }
+whiten_first s = record { lists = refl; many = refl; slots = λ x. inr (refl, times-nil x) }
 
 pub whiten_last : (now then : State) (i : ℕ) → length then.marked ≤ i → CanScan then → Whitening i now then → now ≡ all_whitened then
 whiten_last now then i l c w =
     w.lists ∙ ap (λ (xs : List Slot). record then { slots = xs }) (all_of whitened then.slots now.slots w.many each)
   where
-    none_marked : (x : ℕ) → in_counts.times x then.marked ≡ 0 → (b : Bool) → is_gray (slot_at then x).colour ≡ b → b ≡ false
-    none_marked x h true e = absurd (omega (arith, c.gray x e, h))
-    none_marked x h false e = refl
-
-    at : (x : ℕ) (b : Bool) → ltb 0 (in_counts.times x then.marked) ≡ b → slot_at now x ≡ cond b (whitened (slot_at then x)) (slot_at then x) → slot_at now x ≡ whitened (slot_at then x)
-    at x true e h = h
-    at x false e h =
-        let none : in_counts.times x then.marked ≡ 0 = omega (arith, ltb-false 0 (in_counts.times x then.marked) e) in
-        h ∙ stays (slot_at then x) (none_marked x none (is_gray (slot_at then x).colour) refl)
-
     each : (x : ℕ) → slot_at now x ≡ whitened (slot_at then x)
-    each x = at x (ltb 0 (in_counts.times x then.marked)) refl (w.slots x ∙ ap (λ (xs : List ℕ). cond (ltb 0 (in_counts.times x xs)) (whitened (slot_at then x)) (slot_at then x)) (take_all i then.marked l))
+    each x = elim (w.slots x) [
+      | inl h ↦ h
+      | inr h ↦ h.0 ∙ stays (slot_at then x) (false_from_ne_true (is_gray (slot_at then x).colour) (λ e. omega (arith, c.gray x e, h.1, ap (in_counts.times x) (take_all i then.marked l))))
+    ]
 
 pub whiten_marked : (i : ℕ) (now then : State) → Whitening i now then → now.marked ≡ then.marked
 whiten_marked i now then w = ap (λ (s : State). s.marked) w.lists

@@ -1,8 +1,8 @@
 -- A trial as functions of its nodes: the theory speaks of it. A word is 0 for null, else the node plus one.
-use Rattle.std.proofs.Common.{ℕ, zero, suc, ◌-◌, Bool, true, false, cond, ltb, List, [], ◌∷◌, ◌++◌, length, get_or}
+use Rattle.std.proofs.Common.{ℕ, suc, ◌-◌, Bool, true, cond, ltb, List, [], ◌∷◌, ◌++◌, length, get_or}
 use Rattle.rec_counts.specs.declared.colour.Colour.{Colour}
-use Rattle.rec_counts.specs.declared.colour.Colour.TheVariants.{Black, Purple, Gray, White, Orange}
-use Rattle.rec_counts.specs.Colour.{is_gray, is_white}
+use Rattle.rec_counts.specs.declared.colour.Colour.TheVariants.{Black, Gray, White, Orange}
+use Rattle.rec_counts.specs.Colour.{is_gray}
 use Rattle.rec_trial.specs.declared.phase.Phase.{Phase}
 use Rattle.rec_trial.specs.declared.phase.Phase.TheVariants.{Idle, Marking, Scanning, Collecting}
 use Rattle.rec_trial.proofs.Totals.{changed}
@@ -50,52 +50,28 @@ due_at Collecting s = ltb s.at (length s.members)
 abbrev pub seen : Phase → Deletion → ℕ → Seen
 seen p s w = record { node = get_or (queue_at p s) s.at 0; field = s.field; word = w }
 
--- marking
-
 -- a node that is not Gray becomes Gray
-abbrev pub touch_if : Bool → Deletion → ℕ → Deletion
-touch_if true s x = s
-touch_if false s x = record s { colour = changed s.colour x Gray; cyclic = changed s.cyclic x (s.count x); marked = s.marked ++ x ∷ [] }
+abbrev pub touch : Deletion → ℕ → Deletion
+touch s x = record s { colour = changed s.colour x Gray; cyclic = changed s.cyclic x (s.count x); marked = s.marked ++ x ∷ [] }
 
 abbrev pub take_one : Deletion → ℕ → Deletion
 take_one s x = record s { cyclic = changed s.cyclic x (s.cyclic x - 1) }
 
-abbrev pub mark_word : Deletion → ℕ → Deletion
-mark_word s zero = s
-mark_word s (suc x) = take_one (touch_if (is_gray (s.colour x)) s x) x
+abbrev pub blacken : Deletion → ℕ → Deletion
+blacken s x = record s { colour = changed s.colour x Black; work = s.work ++ x ∷ [] }
 
--- scanning
-
-abbrev pub blacken_if : Bool → Deletion → ℕ → Deletion
-blacken_if false s x = s
-blacken_if true s x = record s { colour = changed s.colour x Black; work = s.work ++ x ∷ [] }
-
-abbrev pub scan_word : Deletion → ℕ → Deletion
-scan_word s zero = s
-scan_word s (suc x) = blacken_if (is_gray (s.colour x)) s x
-
--- collecting
-
-abbrev pub join_if : Bool → Deletion → ℕ → Deletion
-join_if false s x = s
-join_if true s x = record s { colour = changed s.colour x Orange; members = s.members ++ x ∷ []; set_of = changed s.set_of x s.sets }
-
-abbrev pub find_word : Deletion → ℕ → Deletion
-find_word s zero = s
-find_word s (suc x) = join_if (is_white (s.colour x)) s x
+abbrev pub join : Deletion → ℕ → Deletion
+join s x = record s { colour = changed s.colour x Orange; members = s.members ++ x ∷ []; set_of = changed s.set_of x s.sets }
 
 -- the next place
-
 abbrev pub next_at : Bool → ℕ → ℕ
-next_at true at = at
-next_at false at = suc at
+next_at more at = cond more at (suc at)
 
 abbrev pub next_field : Bool → ℕ → ℕ
-next_field true field = suc field
-next_field false field = 0
+next_field more field = cond more (suc field) 0
 
-abbrev pub advance : Phase → Deletion → Deletion
-advance p s = record s { phase = p; at = next_at (ltb (suc s.field) s.fields) s.at; field = next_field (ltb (suc s.field) s.fields) s.field }
+abbrev pub advance : Deletion → Deletion
+advance s = record s { at = next_at (ltb (suc s.field) s.fields) s.at; field = next_field (ltb (suc s.field) s.fields) s.field }
 
 -- every Gray node becomes White
 abbrev pub whiten : (ℕ → Colour) → ℕ → Colour
@@ -112,10 +88,3 @@ with_load Idle l ls = ls
 with_load Marking l ls = record ls { marks = l ∷ ls.marks }
 with_load Scanning l ls = record ls { blacks = l ∷ ls.blacks }
 with_load Collecting l ls = record ls { finds = l ∷ ls.finds }
-
--- the load that is due gave this word, and the place moves on
-abbrev pub told_at : Phase → Deletion → ℕ → Deletion
-told_at Idle s w = s
-told_at Marking s w = advance Marking (mark_word s w)
-told_at Scanning s w = advance Scanning (scan_word s w)
-told_at Collecting s w = advance Collecting (find_word s w)

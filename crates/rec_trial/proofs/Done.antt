@@ -1,5 +1,6 @@
 -- How often a trial loads each field, and the lists that it works off, as functions, in any phase.
-use Rattle.std.proofs.Common.{◌≡◌, ℕ, zero, suc, ◌+◌, ◌*◌, ◌<◌, ◌≤◌, Bool, true, false, eqb, ltb, List, [], ◌∷◌, length, get_or, refl, ◌∙◌, ap, arith, cond, inl, inr}
+use Rattle.std.proofs.Common.{◌≡◌, ℕ, zero, suc, ◌+◌, ◌*◌, ◌<◌, ◌≤◌, Bool, true, false, eqb, ltb, List, [], ◌∷◌, length, take, get_or, refl, ◌∙◌, ap, arith, cond, inl, inr}
+use Rattle.std.proofs.lemmas.List.{length-take-le}
 use Rattle.std.proofs.Math.Nat.{mul-le-mul_left}
 use Rattle.std.proofs.lemmas.Bool.{cases_lt, lt-ltb}
 use Rattle.std.proofs.lemmas.Bool.Decides.{nat_tests}
@@ -21,17 +22,16 @@ below_guarded b g (suc k) = last b g k (total_below (λ j. cond b (same g j) 0) 
     last : (b : Bool) (g k u : ℕ) → u ≡ cond b (one (ltb g k)) 0 → u + cond b (same g k) 0 ≡ cond b (one (ltb g (suc k))) 0
     last b g k u r = grind (arith, nat_tests)
 
-first_guarded : (n g fields at : ℕ) (xs : List ℕ) → total_of_first (λ m. total_below (λ j. cond (eqb n m) (same g j) 0) fields) at xs ≡ cond (ltb g fields) (total_of_first (same n) at xs) 0
-first_guarded n g fields zero xs = grind arith
-first_guarded n g fields (suc at) [] = grind arith
-first_guarded n g fields (suc at) (x ∷ xs) = add (total_of_first (same n) at xs) (eqb n x) (ltb g fields) (first_guarded n g fields at xs) (below_guarded (eqb n x) g fields)
+all_guarded : (n g fields : ℕ) (xs : List ℕ) → total (λ m. total_below (λ j. cond (eqb n m) (same g j) 0) fields) xs ≡ cond (ltb g fields) (times n xs) 0
+all_guarded n g fields [] = grind arith
+all_guarded n g fields (x ∷ xs) = add (times n xs) (eqb n x) (ltb g fields) (all_guarded n g fields xs) (below_guarded (eqb n x) g fields)
   where
     add : {a b : ℕ} (m : ℕ) (c d : Bool) → a ≡ cond d m 0 → b ≡ cond c (one d) 0 → b + a ≡ cond d (one c + m) 0
     add m c d p q = grind arith
 
 module _ {fields : ℕ} {xs : List ℕ} {at field : ℕ} {ls : List Seen} (p : Placed fields xs at field ls) (n g : ℕ) where
   loads_of : loaded n g ls ≡ cond (ltb g fields) (total_of_first (same n) at xs) 0 + cond (eqb n (get_or xs at 0)) (one (ltb g field)) 0
-  loads_of = omega (arith, p.swept (λ a b. cond (eqb n a) (same g b) 0), first_guarded n g fields at xs, below_guarded (eqb n (get_or xs at 0)) g field)
+  loads_of = omega (arith, p.swept (λ a b. cond (eqb n a) (same g b) 0), all_guarded n g fields (take at xs), below_guarded (eqb n (get_or xs at 0)) g field)
 
   pub once_of : times n xs ≤ 1 → loaded n g ls ≤ 1
   once_of h = elim (dec_lt at (length xs)) [
@@ -132,14 +132,13 @@ below_one : (k : ℕ) → total_below (λ g. 1) k ≡ k
 below_one zero = refl
 below_one (suc k) = omega (arith, below_one k)
 
-first_ones : (fields at : ℕ) (xs : List ℕ) → at ≤ length xs → total_of_first (λ n. total_below (λ g. 1) fields) at xs ≡ fields * at
-first_ones fields zero xs h = omega arith
-first_ones fields (suc at) [] h = absurd (omega arith)
-first_ones fields (suc at) (x ∷ xs) h = omega (arith, below_one fields, first_ones fields at xs (omega arith))
+all_ones : (fields : ℕ) (xs : List ℕ) → total (λ n. total_below (λ g. 1) fields) xs ≡ fields * length xs
+all_ones fields [] = omega arith
+all_ones fields (x ∷ xs) = omega (arith, below_one fields, all_ones fields xs)
 
 loads_within : {fields : ℕ} {xs : List ℕ} {at field : ℕ} {ls : List Seen} → Placed fields xs at field ls → length ls ≤ fields * length xs
 loads_within {fields} {xs} {at} {field} {ls} p =
-    let many : length ls ≡ fields * at + field = omega (arith, p.swept (λ n g. 1), count_all ls, first_ones fields at xs p.inside, below_one field) in
+    let many : length ls ≡ fields * at + field = omega (arith, p.swept (λ n g. 1), count_all ls, all_ones fields (take at xs), ap (λ n. fields * n) (length-take-le at xs p.inside), below_one field) in
     elim (dec_lt at (length xs)) [
       | yes l ↦ let k : suc at ≤ length xs = l in omega (arith, many, p.below, mul-le-mul_left fields k)
       | no l ↦ let e : at ≡ length xs = omega (arith, p.inside) in let z : length ls ≡ fields * length xs + field = rw e at many in omega (arith, z, p.rests e)

@@ -1,26 +1,26 @@
 -- What a trial promises on words that do not change.
-use Rattle.std.proofs.Common.{◌≡◌, ℕ, zero, suc, ◌+◌, ◌-◌, ◌<◌, ◌≤◌, false, eqb, Some, List, [], ◌∷◌, map, refl, sym, ap, ◌∙◌, arith, ◌⊎◌, inl, inr, cond}
+use Rattle.std.proofs.Common.{◌≡◌, ℕ, suc, ◌+◌, ◌-◌, ◌<◌, ◌≤◌, false, eqb, Some, List, [], ◌∷◌, map, refl, sym, ap, ◌∙◌, arith, ◌⊎◌, inl, inr, cond}
 use Rattle.std.proofs.lemmas.Bool.Decides.{nat_tests}
 use Rattle.rec_word.specs.Word.{target_of, predecessor, target_bits}
-use Rattle.rec_counts.specs.Counts.{State, slot_at}
+use Rattle.rec_counts.specs.Counts.{State}
 use Rattle.rec_counts.specs.Lists.{one}
 use Rattle.rec_counts.specs.Lists as in_counts
 use Rattle.rec_counts.specs.Colour.{is_white}
 use Rattle.rec_walk.specs.Load.{Load}
 use Rattle.rec_trial.specs.Loaded.{Run, run_of}
-use Rattle.rec_trial.specs.Still.{AreStill, IsSeed, IsReached, IsHeld, IsExact, TrialIsExact, references, rest}
+use Rattle.rec_trial.specs.Still.{AreStill, IsReached, IsHeld, IsExact, TrialIsExact, rest}
 use Rattle.rec_trial.specs.Still as still
 use Rattle.rec_trial.specs.Tried.{members}
 use Rattle.rec_trial.proofs.Course.{first_view}
-use Rattle.rec_trial.proofs.Deletion.{Seen, Deletion}
+use Rattle.rec_trial.proofs.Deletion.{Seen}
 use Rattle.rec_trial.proofs.Done.{all_of, within_of, no_white_left}
-use Rattle.rec_trial.proofs.Holding.{named, loaded, edges, Finished, Over, Placed, Seed, Reached, Hot}
+use Rattle.rec_trial.proofs.Holding.{named, loaded, edges, Finished, Over, Reached, Hot}
 use Rattle.rec_trial.proofs.Holding as law
+use Rattle.rec_trial.proofs.Marks.{edge_split}
 use Rattle.rec_trial.proofs.Readings.{code_some, codes, references_read}
 use Rattle.rec_trial.proofs.Runs.{Told, told_run, seen_of, seen_in}
-use Rattle.rec_trial.proofs.Steps.{bits_suc}
-use Rattle.rec_trial.proofs.Totals.{total, total_below, same, times, occurs, first_whole}
-use Rattle.rec_trial.proofs.Views.{view}
+use Rattle.rec_trial.proofs.Totals.{nonzero, total, total_below, same, times, occurs, first_whole}
+use Rattle.rec_trial.proofs.Views.{bits_suc, view}
 use Rattle.rec_trial.proofs.Whole.{is_over, over_of}
 
 -- a load of a field of a node led to another
@@ -31,11 +31,8 @@ record Edge (word : ℕ → ℕ → ℕ) (n x : ℕ) (ls : List Seen) : Type 0 w
 
 edge_from : (word : ℕ → ℕ → ℕ) (n x : ℕ) (loads : List Load) → AreStill word loads → 0 < edges n x (map seen_of loads) → Edge word n x (map seen_of loads)
 edge_from word n x [] t h = absurd (omega arith)
-edge_from word n x (l ∷ loads) t h = go (split n x (seen_of l) (edges n x (map seen_of loads)) h) (edge_from word n x loads t.1)
+edge_from word n x (l ∷ loads) t h = go (edge_split n x (seen_of l) (map seen_of loads) h) (edge_from word n x loads t.1)
   where
-    split : (n x : ℕ) (l : Seen) (m : ℕ) → 0 < cond (eqb n l.node) (same (suc x) l.word) 0 + m → ((n ≡ l.node) × (suc x ≡ l.word)) ⊎ (0 < m)
-    split n x l m h = grind (arith, nat_tests)
-
     go : ((n ≡ l.slot) × (suc x ≡ target_bits l.word)) ⊎ (0 < edges n x (map seen_of loads)) → (0 < edges n x (map seen_of loads) → Edge word n x (map seen_of loads)) → Edge word n x (map seen_of (l ∷ loads))
     go (inl q) r = record { field = l.field; leads = ap (λ k. target_of (word k l.field)) q.0 ∙ ap target_of (sym t.0) ∙ ap predecessor (sym q.1) ∙ bits_suc x; was_loaded = grind (arith, nat_tests, q.0) }
     go (inr k) r = let e : Edge word n x (map seen_of loads) = r k in record { field = e.field; leads = e.leads; was_loaded = omega (arith, e.was_loaded) }
@@ -57,14 +54,9 @@ module _ (fields : ℕ) (word : ℕ → ℕ → ℕ) (before : State) (r : Run) 
 
   -- a field of a marked slot leads to a marked slot
   closed : (n g x : ℕ) → 0 < times n marked → g < fields → target_of (word n g) ≡ Some x → 0 < times x marked
-  closed n g x h l q = go (times x marked) refl
-    where
-      is_named : 0 < named x (map seen_of r.marking)
-      is_named = omega (arith, all_of f.marks_all n g (omega (arith, l, width)), named_from word n g x r.marking tm (code_some (codes word n g) x q))
-
-      go : (m : ℕ) → times x marked ≡ m → 0 < times x marked
-      go zero z = absurd (omega (arith, f.fresh x z, is_named))
-      go (suc m) z = omega arith
+  closed n g x h l q =
+      let is_named : 0 < named x (map seen_of r.marking) = omega (arith, all_of f.marks_all n g (omega (arith, l, width)), named_from word n g x r.marking tm (code_some (codes word n g) x q)) in
+      nonzero (times x marked) (λ z. omega (arith, f.fresh x z, is_named))
 
   reached_of : {x : ℕ} → Reached (first_view fields before) (map seen_of r.marking) x → IsReached fields word before x
   reached_of (law.Reached.seed {x} k) = still.IsReached.seed (record { root = omega (arith, occurs x before.roots, k.root); purple = k.is_purple; unreleased = k.live })
@@ -96,11 +88,9 @@ module _ (fields : ℕ) (word : ℕ → ℕ → ℕ) (before : State) (r : Run) 
       still.IsHeld.along (held_of p) d.field (omega (arith, width, within_of f.blacks_all n d.field d.was_loaded)) d.leads
 
   worked_of : {x : ℕ} → IsHeld fields word marked before x → 0 < times x work
-  worked_of (still.IsHeld.rests {x} m p) = go (times x work) refl (omega (arith, occurs x marked, m))
-    where
-      go : (n : ℕ) → times x work ≡ n → 0 < times x marked → 0 < times x work
-      go zero z h = absurd (omega (arith, rest_is x h, f.rest x h, f.enough x (omega (arith, black_or_member x h)), p))
-      go (suc n) z h = omega arith
+  worked_of (still.IsHeld.rests {x} m p) =
+      let h : 0 < times x marked = omega (arith, occurs x marked, m) in
+      nonzero (times x work) (λ z. omega (arith, z, rest_is x h, f.rest x h, f.enough x (omega (arith, z, black_or_member x h)), p))
   worked_of (still.IsHeld.along {n} {x} p g l q) =
       let marked_here : 0 < times n marked = omega (arith, f.parts n, worked_of p) in
       let is_named : 0 < named x (map seen_of r.blackening) = omega (arith, all_of f.blacks_all n g (omega (arith, l, width)), worked_of p, named_from word n g x r.blackening tb (code_some (codes word n g) x q)) in
@@ -111,12 +101,10 @@ module _ (fields : ℕ) (word : ℕ → ℕ → ℕ) (before : State) (r : Run) 
     marked_reached = λ x m. reached_of (f.reached x (omega (arith, occurs x marked, m)));
     reached_marked = λ x p. omega (arith, occurs x marked, marked_of p);
     members_unheld = λ x m p. omega (arith, occurs x (members r.work.counts), m, worked_of p, f.parts x, f.once x);
-    unheld_members = λ x m n. unheld x (omega (arith, occurs x marked, m)) n (times x (members r.work.counts)) refl;
+    unheld_members = λ x m none.
+        let h : 0 < times x marked = omega (arith, occurs x marked, m) in
+        nonzero (in_counts.times x (members r.work.counts)) (λ z. none (held_of (f.hot x (omega (arith, z, occurs x (members r.work.counts), black_or_member x h)))));
   }
-    where
-      unheld : (x : ℕ) → 0 < times x marked → (IsHeld fields word marked before x → ⊥) → (n : ℕ) → times x (members r.work.counts) ≡ n → 0 < in_counts.times x (members r.work.counts)
-      unheld x h none zero z = absurd (none (held_of (f.hot x (omega (arith, black_or_member x h)))))
-      unheld x h none (suc n) z = omega (arith, occurs x (members r.work.counts))
 
 pub whole_exact : (fields : ℕ) (word : ℕ → ℕ → ℕ) (before : State) (words : List ℕ) → TrialIsExact fields word before words
 whole_exact fields word before words f k a h tm tb =

@@ -1,5 +1,5 @@
 -- What holds of a trial, phase by phase, on any words that name nodes which are not released.
-use Rattle.std.proofs.Common.{◌≡◌, ℕ, zero, suc, ◌+◌, ◌-◌, ◌<◌, ◌≤◌, Bool, true, false, List, [], length, get_or, eqb, cond}
+use Rattle.std.proofs.Common.{◌≡◌, ℕ, suc, ◌+◌, ◌-◌, ◌<◌, ◌≤◌, Bool, true, false, List, [], length, get_or, eqb, cond}
 use Rattle.rec_counts.specs.declared.colour.Colour.{Colour}
 use Rattle.rec_counts.specs.declared.colour.Colour.TheVariants.{Purple}
 use Rattle.rec_trial.specs.declared.phase.Phase.{Phase}
@@ -178,8 +178,3 @@ inv_at Collecting o s ls = WhileCollecting o s ls
 
 abbrev pub Inv : Deletion → Deletion → Loads → Type 0
 Inv o s ls = inv_at s.phase o s ls
-
--- a word names nothing, or a node that is not released
-abbrev pub Alive : (ℕ → Bool) → ℕ → Type 0
-Alive released zero = Unit {0}
-Alive released (suc x) = released x ≡ false

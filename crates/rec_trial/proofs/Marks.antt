@@ -1,13 +1,12 @@
--- Marking, as functions: what holds after a word, and after a root left.
-use Rattle.std.proofs.Common.{◌≡◌, ℕ, suc, ◌+◌, ◌-◌, ◌<◌, Bool, true, false, List, [], ◌∷◌, ◌++◌, refl, arith, ◌⊎◌, inl, inr}
+-- What holds after a word, after a root left, and after one more node is marked, blackened or collected, as functions.
+use Rattle.std.proofs.Common.{◌≡◌, ℕ, suc, ◌+◌, ◌-◌, ◌<◌, Bool, false, List, [], ◌∷◌, ◌++◌, refl, arith, ◌⊎◌, inl, inr, true, ◌≤◌, cond, eqb}
 use Rattle.std.proofs.lemmas.Bool.Decides.{nat_tests}
-use Rattle.rec_counts.specs.Lists.{one}
 use Rattle.rec_counts.specs.declared.colour.Colour.{Colour}
-use Rattle.rec_counts.specs.declared.colour.Colour.TheVariants.{Gray}
-use Rattle.rec_counts.specs.Colour.{is_gray}
+use Rattle.rec_counts.specs.declared.colour.Colour.TheVariants.{Black, Gray, Orange}
+use Rattle.rec_counts.specs.Colour.{is_gray, is_white}
 use Rattle.rec_trial.proofs.Totals.{same, times, changed, total_append}
 use Rattle.rec_trial.proofs.Deletion.{Seen, Deletion}
-use Rattle.rec_trial.proofs.Holding.{BaseOf, GraysOf, SeedsOf, named, edges, Seed, Reached, seed, along}
+use Rattle.rec_trial.proofs.Holding.{BaseOf, GraysOf, SeedsOf, ScannedOf, CollectedOf, Hot, warm, edges, Seed, Reached, seed, along}
 
 -- one more at the end
 pub times_push : (y x : ℕ) (xs : List ℕ) → times y (xs ++ x ∷ []) ≡ times y xs + same y x
@@ -29,6 +28,13 @@ reached_grow l (along r e) = along (reached_grow l r) (omega arith)
 
 pub edge_here : (n g x : ℕ) (ls : List Seen) → 0 < edges n x (record { node = n; field = g; word = suc x } ∷ ls)
 edge_here n g x ls = grind (arith, nat_tests)
+
+-- an edge is that of the last word, or of an earlier one
+pub edge_split : (n x : ℕ) (l : Seen) (ls : List Seen) → 0 < edges n x (l ∷ ls) → ((n ≡ l.node) × (suc x ≡ l.word)) ⊎ (0 < edges n x ls)
+edge_split n x l ls = fit n l.node x l.word (edges n x ls)
+  where
+    fit : (n a x w m : ℕ) → 0 < cond (eqb n a) (same (suc x) w) 0 + m → ((n ≡ a) × (suc x ≡ w)) ⊎ (0 < m)
+    fit n a x w m h = grind (arith, nat_tests)
 
 module _ {o : Deletion} {fields : ℕ} {released : ℕ → Bool} {cyclic count : ℕ → ℕ} {marked : List ℕ} {marks : List Seen} (b : BaseOf o fields released cyclic count marked marks) where
   -- a word takes one off the rest of the node that it names, which is marked
@@ -78,3 +84,27 @@ module _ {o : Deletion} {marked roots : List ℕ} (q : SeedsOf o marked roots) (
     where
       roots_are : (y : ℕ) → times y roots ≡ same y x + times y xs
       roots_are y = rw here refl
+
+pub hot_grow : {marked : List ℕ} {cyclic : ℕ → ℕ} {blacks : List Seen} {x : ℕ} (l : Seen) → Hot marked cyclic blacks x → Hot marked cyclic (l ∷ blacks) x
+hot_grow l (warm h p) = warm h p
+hot_grow l (along r e) = along (hot_grow l r) (omega arith)
+
+-- a gray node is blackened
+pub scanned_push : {o : Deletion} {marked work : List ℕ} {colour : ℕ → Colour} → ScannedOf o marked work colour → (x : ℕ) → is_gray (colour x) ≡ true → times x marked ≤ 1 → ScannedOf o marked (work ++ x ∷ []) (changed colour x Black)
+scanned_push {o} {marked} {work} c x e once = record {
+  parts = λ y. grind (arith, nat_tests, times_push y x work, c.parts y, c.parts x);
+  worked = λ y. grind (arith, nat_tests, times_push y x work, c.worked y, c.parts x);
+  no_white = λ y. grind (arith, nat_tests, c.no_white y);
+  colours_old = λ y h. grind (arith, nat_tests, c.colours_old y h, c.parts x);
+}
+
+-- a white node joins
+pub collected_push : {o : Deletion} {count : ℕ → ℕ} {marked work members : List ℕ} {colour : ℕ → Colour} {marks blacks : List Seen} → CollectedOf o count marked work members colour marks blacks → (x : ℕ) → is_white (colour x) ≡ true → times x marked ≤ 1 → CollectedOf o count marked work (members ++ x ∷ []) (changed colour x Orange) marks blacks
+collected_push {members = members} c x e once = record {
+  parts = λ y. grind (arith, nat_tests, times_push y x members, c.parts y, c.parts x);
+  worked = λ y. grind (arith, nat_tests, c.worked y, c.worked x);
+  oranges = λ y. grind (arith, nat_tests, times_push y x members, c.oranges y, c.parts x);
+  unnamed = λ y a. grind (arith, nat_tests, times_push y x members, c.unnamed y a);
+  enough = λ y a. grind (arith, nat_tests, times_push y x members, c.enough y, c.enough x);
+  colours_old = λ y h. grind (arith, nat_tests, c.colours_old y h, c.parts x);
+}

@@ -1,5 +1,5 @@
 -- A trial that goes on without a load: what holds of it, and what its next move requires.
-use Rattle.std.proofs.Common.{◌≡◌, ℕ, ◌<◌, Bool, true, false, eqb, ltb, cond, List, [], ◌∷◌, ◌++◌, length, refl, sym, ap, subst, ◌∙◌, arith}
+use Rattle.std.proofs.Common.{◌≡◌, ℕ, ◌+◌, ◌<◌, Bool, true, false, eqb, ltb, cond, List, [], ◌∷◌, ◌++◌, length, refl, sym, ap, subst, ◌∙◌, arith}
 use Rattle.std.specs.List.{concat}
 use Rattle.std.proofs.lemmas.Bool.Decides.{nat_tests}
 use Rattle.rec_counts.specs.Counts.{State, IsKept, slot_at}
@@ -13,12 +13,12 @@ use Rattle.rec_trial.specs.declared.phase.Phase.TheVariants.{Idle, Marking, Scan
 use Rattle.rec_trial.specs.Loaded.{IsAtWork, GoesOn, begins, learns, run_of}
 use Rattle.rec_trial.specs.Rules.{IsReady, RulesAt, released_among}
 use Rattle.rec_trial.specs.Trial.{Machine, Work, is_due, moved_at, settled}
-use Rattle.rec_trial.proofs.Course.{Course, first_view, moved_course, released_same}
+use Rattle.rec_trial.proofs.Course.{Course, learnt_course, first_view, moved_course, released_same}
 use Rattle.rec_trial.proofs.Deletion.{Loads}
 use Rattle.rec_trial.proofs.Holding.{inv_at}
 use Rattle.rec_trial.proofs.Rest.{Rest}
-use Rattle.rec_trial.proofs.Runs.{Told, seen_in, learnt_course, opened_course, told_run}
-use Rattle.rec_trial.proofs.Settling.{settled_at_once, settled_after}
+use Rattle.rec_trial.proofs.Runs.{Told, seen_in, opened_course, told_run}
+use Rattle.rec_trial.proofs.Moving.{settled_at_once, settled_after}
 use Rattle.rec_trial.proofs.Totals.{occurs}
 use Rattle.rec_trial.proofs.Views.{view}
 
@@ -47,29 +47,15 @@ going_midway (learns {m} {s} a busy word lead) = record { fields = m.fields; bef
 
 -- the released ones of some slots
 pub times_released : (x : ℕ) (s : State) (xs : List ℕ) → in_counts.times x (released_among s xs) ≡ cond (slot_at s x).released (in_counts.times x xs) 0
-times_released x s [] = go (slot_at s x).released
+times_released x s [] = grind (arith, times-nil x)
+times_released x s (y ∷ ys) = go (slot_at s y).released refl (times_released x s ys)
   where
-    go : (b : Bool) → in_counts.times x [] ≡ cond b (in_counts.times x []) 0
-    go true = refl
-    go false = times-nil x
-times_released x s (y ∷ ys) = go (slot_at s y).released (slot_at s x).released (eqb x y) refl refl refl (times_released x s ys)
-  where
-    same : (x y : ℕ) → eqb x y ≡ true → x ≡ y
-    same x y e = grind (arith, nat_tests)
+    fit : {a b : ℕ} (m : ℕ) (out : Bool) → a ≡ cond (slot_at s x).released m 0 → (x ≡ y → (slot_at s x).released ≡ out) → b ≡ one (eqb x y) + m → cond out (one (eqb x y) + a) a ≡ cond (slot_at s x).released b 0
+    fit m out r e b = grind (arith, nat_tests, e)
 
-    clash : (b : Bool) → b ≡ true → b ≡ false → ⊥
-    clash b p q = cc
-
-    go : (out here e : Bool) → (slot_at s y).released ≡ out → (slot_at s x).released ≡ here → eqb x y ≡ e → in_counts.times x (released_among s ys) ≡ cond (slot_at s x).released (in_counts.times x ys) 0 → in_counts.times x (released_among s (y ∷ ys)) ≡ cond here (in_counts.times x (y ∷ ys)) 0
-    go true true e o h q r = rw o (let k : in_counts.times x (released_among s ys) ≡ in_counts.times x ys = rw h at r in omega (arith, times-cons x y (released_among s ys), times-cons x y ys, k))
-    go true false true o h q r = absurd (clash (slot_at s y).released o (ap (λ z. (slot_at s z).released) (sym (same x y q)) ∙ h))
-    go true false false o h q r = rw o (let k : in_counts.times x (released_among s ys) ≡ 0 = rw h at r in let n : one (eqb x y) ≡ 0 = ap one q in omega (arith, times-cons x y (released_among s ys), k))
-    go false true true o h q r = absurd (clash (slot_at s x).released h (ap (λ z. (slot_at s z).released) (same x y q) ∙ o))
-    go false true false o h q r = rw o (let k : in_counts.times x (released_among s ys) ≡ in_counts.times x ys = rw h at r in let n : one (eqb x y) ≡ 0 = ap one q in omega (arith, times-cons x y ys, k))
-    go false false e o h q r = rw o at_false
-      where
-        at_false : in_counts.times x (released_among s ys) ≡ 0
-        at_false = let k : in_counts.times x (released_among s ys) ≡ 0 = rw h at r in k
+    go : (out : Bool) → (slot_at s y).released ≡ out → in_counts.times x (released_among s ys) ≡ cond (slot_at s x).released (in_counts.times x ys) 0 → in_counts.times x (released_among s (y ∷ ys)) ≡ cond (slot_at s x).released (in_counts.times x (y ∷ ys)) 0
+    go true o r = rw (o, times-cons x y (released_among s ys)) (fit (in_counts.times x ys) true r (λ q. ap (λ z. (slot_at s z).released) q ∙ o) (times-cons x y ys))
+    go false o r = rw o (fit (in_counts.times x ys) false r (λ q. ap (λ z. (slot_at s z).released) q ∙ o) (times-cons x y ys))
 
 -- a released root is not in the free list yet
 unlisted_now : (before s : State) → IsKept before → IsReady before → s.free ++ released_among before s.roots ≡ before.free ++ released_among before before.roots → ((x : ℕ) → 0 < in_counts.times x s.roots → 0 < in_counts.times x before.roots) →

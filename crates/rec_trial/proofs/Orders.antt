@@ -1,10 +1,13 @@
 -- Sets in order of finding.
-use Rattle.std.proofs.Common.{◌≡◌, ℕ, zero, suc, ◌+◌, ◌<◌, ◌≤◌, Bool, true, false, eqb, List, [], ◌∷◌, ◌++◌, length, get_or, refl, arith, ◌⊎◌, inl, inr, cond}
+use Rattle.std.proofs.Common.{◌≡◌, ℕ, suc, ◌+◌, ◌<◌, ◌≤◌, Bool, true, false, eqb, List, [], ◌∷◌, ◌++◌, length, length-append, get_or, refl, arith, ◌⊎◌, inl, inr, cond}
+use Rattle.std.proofs.Math.ListN.{get_or-append}
+use Rattle.std.proofs.Math.Seq.{get_or-append_seam}
+use Rattle.std.proofs.lemmas.Bool.{cases_lt}
 use Rattle.std.proofs.lemmas.Bool.Decides.{nat_tests}
 use Rattle.rec_trial.proofs.Deletion.{Seen, next_at}
 use Rattle.rec_trial.proofs.Holding.{OrderedOf, named, edges}
-use Rattle.rec_trial.proofs.Totals.{same, times, changed, get_grown, times_here}
-use Rattle.rec_trial.proofs.Marks.{times_push, push_kept}
+use Rattle.rec_trial.proofs.Totals.{same, times, changed, times_here}
+use Rattle.rec_trial.proofs.Marks.{times_push, push_kept, edge_split}
 
 pub ordered_none : (set_of : ℕ → ℕ) (sets : ℕ) → OrderedOf [] set_of sets 0 []
 ordered_none set_of sets = record {
@@ -25,10 +28,10 @@ edge_named n x (l ∷ ls) = omega (arith, edge_named n x ls, cut (eqb n l.node) 
 
 -- the last of a longer list
 get_push : (xs : List ℕ) (x k : ℕ) → k < length (xs ++ x ∷ []) → (k < length xs) ⊎ (get_or (xs ++ x ∷ []) k 0 ≡ x)
-get_push [] x zero h = inr refl
-get_push [] x (suc k) h = absurd (omega arith)
-get_push (y ∷ xs) x zero h = inl (omega arith)
-get_push (y ∷ xs) x (suc k) h = elim (get_push xs x k (omega arith)) [ inl a ↦ inl (omega arith) | inr e ↦ inr e ]
+get_push xs x k h = elim (cases_lt k (length xs)) [
+  | inl a ↦ inl a
+  | inr b ↦ let e : k ≡ length xs = omega (arith, h, length-append xs (x ∷ [])) in inr (rw e (get_or-append_seam xs x [] 0))
+]
 
 module _ (members : List ℕ) (set_of : ℕ → ℕ) (sets at : ℕ) (finds : List Seen) (d : OrderedOf members set_of sets at finds) where
   -- a word of the node at work, that names no other or one of a set found
@@ -37,16 +40,13 @@ module _ (members : List ℕ) (set_of : ℕ → ℕ) (sets at : ℕ) (finds : Li
     bounded = d.bounded;
     positive = d.positive;
     current = λ k a c. d.current k (before b k a) c;
-    sources = λ n y e. source n y (split n y (get_or members at 0) x (edges n y finds) e);
-    backward = λ n y e k. back n y k (split n y (get_or members at 0) x (edges n y finds) e);
+    sources = λ n y e. source n y (edge_split n y (record { node = get_or members at 0; field = g; word = x }) finds e);
+    backward = λ n y e k. back n y k (edge_split n y (record { node = get_or members at 0; field = g; word = x }) finds e);
   }
     where
       before : (b : Bool) (k : ℕ) → next_at b at ≤ k → at ≤ k
       before true k a = a
       before false k a = omega arith
-
-      split : (n y m x r : ℕ) → 0 < cond (eqb n m) (same (suc y) x) 0 + r → ((n ≡ m) × (suc y ≡ x)) ⊎ (0 < r)
-      split n y m x r e = grind (arith, nat_tests)
 
       source : (n y : ℕ) → ((n ≡ get_or members at 0) × (suc y ≡ x)) ⊎ (0 < edges n y finds) → 0 < times n members
       source n y (inl q) = rw q.0 (times_here members at h)
@@ -75,7 +75,7 @@ module _ (members : List ℕ) (set_of : ℕ → ℕ) (sets at : ℕ) (finds : Li
       put_other y h = grind (arith, nat_tests, new)
 
       current_at : (k : ℕ) → at ≤ k → (k < length members) ⊎ (get_or (members ++ x ∷ []) k 0 ≡ x) → changed set_of x sets (get_or (members ++ x ∷ []) k 0) ≡ sets
-      current_at k a (inl h) = rw (get_grown members (x ∷ []) k h) (omega (arith, put_other (get_or members k 0) (times_here members k h), d.current k a h))
+      current_at k a (inl h) = rw (get_or-append members (x ∷ []) 0 k h) (omega (arith, put_other (get_or members k 0) (times_here members k h), d.current k a h))
       current_at k a (inr e) = put_here (get_or (members ++ x ∷ []) k 0) e
 
   -- a set begins

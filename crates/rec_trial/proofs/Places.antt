@@ -1,10 +1,11 @@
 -- A list worked off place by place.
-use Rattle.std.proofs.Common.{◌≡◌, ℕ, suc, ◌+◌, ◌<◌, ◌≤◌, Bool, true, false, ltb, List, [], ◌∷◌, ◌++◌, length, get_or, refl, arith, length-append}
+use Rattle.std.proofs.Common.{◌≡◌, ℕ, suc, ◌+◌, ◌<◌, ◌≤◌, Bool, true, false, ltb, List, ◌∷◌, ◌++◌, length, get_or, refl, arith, length-append}
+use Rattle.std.proofs.Math.ListN.{get_or-append}
 use Rattle.std.proofs.lemmas.Bool.Decides.{nat_tests}
 use native.Mathlib.Decide.{dec_lt}
 use Rattle.rec_trial.proofs.Deletion.{Seen, next_at, next_field}
 use Rattle.rec_trial.proofs.Holding.{Placed, NotBegun}
-use Rattle.rec_trial.proofs.Totals.{total_below, first_grown, first_more, get_grown}
+use Rattle.rec_trial.proofs.Totals.{total_below, first_grown, first_more}
 
 pub ltb_yes : (a b : ℕ) → ltb a b ≡ true → a < b
 ltb_yes a b h = grind (arith, nat_tests)
@@ -38,7 +39,7 @@ placed_grow {fields} {xs} {at} {field} {ls} p ys = record {
 }
   where
     current : (φ : ℕ → ℕ → ℕ) → total_below (φ (get_or (xs ++ ys) at 0)) field ≡ total_below (φ (get_or xs at 0)) field
-    current φ = elim (dec_lt at (length xs)) [ yes h ↦ rw (get_grown xs ys at h) refl | no h ↦ let z : field ≡ 0 = p.rests (omega (arith, p.inside)) in rw z refl ]
+    current φ = elim (dec_lt at (length xs)) [ yes h ↦ rw (get_or-append xs ys 0 at h) refl | no h ↦ let z : field ≡ 0 = p.rests (omega (arith, p.inside)) in rw z refl ]
 
 -- worked off to its end
 pub placed_all : {fields : ℕ} {xs : List ℕ} {at field : ℕ} {ls : List Seen} → Placed fields xs at field ls → length xs ≤ at → Placed fields xs (length xs) 0 ls
@@ -48,8 +49,5 @@ placed_all {fields} {xs} {at} {field} p l =
     rw a at (rw f at p)
 
 -- not worked off yet
-pub placed_none : (fields : ℕ) (xs : List ℕ) → 0 < fields → Placed fields xs 0 0 []
-placed_none fields xs h = record { swept = λ φ. refl; inside = omega arith; below = h; rests = λ q. refl }
-
 pub placed_begin : {fields : ℕ} {xs : List ℕ} {ls : List Seen} → NotBegun xs ls → 0 < fields → Placed fields xs 0 0 ls
-placed_begin {fields} {xs} n h = rw n.loads (placed_none fields xs h)
+placed_begin n h = rw n.loads (record { swept = λ φ. refl; inside = omega arith; below = h; rests = λ q. refl })

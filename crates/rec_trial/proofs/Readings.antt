@@ -11,19 +11,13 @@ use Rattle.rec_trial.specs.Tried.{is_of}
 use Rattle.rec_trial.proofs.Deletion.{Seen}
 use Rattle.rec_trial.proofs.Holding.{named, loaded, edges}
 use Rattle.rec_trial.proofs.Runs.{seen_of}
-use Rattle.rec_trial.proofs.Steps.{bits_suc}
+use Rattle.rec_trial.proofs.Views.{bits_suc}
 use Rattle.rec_trial.proofs.Totals.{same, total, total_below}
 
 -- a word leads to a slot exactly where its code is the slot's
-null_leads : (x : ℕ) → one (is_slot x (predecessor 0)) ≡ same (suc x) 0
-null_leads x = grind (arith, nat_tests)
-
 leads_code : (x code : ℕ) → one (is_slot x (predecessor code)) ≡ same (suc x) code
-leads_code x zero = null_leads x
-leads_code x (suc y) = rw (bits_suc y) (next x y)
-  where
-    next : (x y : ℕ) → one (eqb x y) ≡ same (suc x) (suc y)
-    next x y = grind (arith, nat_tests)
+leads_code x zero = grind (arith, nat_tests)
+leads_code x (suc y) = rw (bits_suc y) (grind (arith, nat_tests))
 
 pub code_some : (code x : ℕ) → predecessor code ≡ Some x → code ≡ suc x
 code_some zero x h = cc
@@ -59,10 +53,6 @@ codes word n g = target_bits (word n g)
 pub below_front : (f : ℕ → ℕ) (n : ℕ) → total_below f (suc n) ≡ f 0 + total_below (λ g. f (suc g)) n
 below_front f zero = omega arith
 below_front f (suc n) = omega (arith, below_front f n)
-
-pub below_same : (f h : ℕ → ℕ) (n : ℕ) → ((g : ℕ) → f g ≡ h g) → total_below f n ≡ total_below h n
-below_same f h zero e = refl
-below_same f h (suc n) e = omega (arith, below_same f h n e, e n)
 
 range_read : (p : ℕ → Bool) (f : ℕ → ℕ) (a n : ℕ) → ((g : ℕ) → one (p (a + g)) ≡ f g) → count_by p (range_with_len a n) ≡ total_below f n
 range_read p f a zero h = refl

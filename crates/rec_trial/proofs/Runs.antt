@@ -1,103 +1,37 @@
 -- Whole trials, word by word.
-use Rattle.std.proofs.Common.{◌≡◌, ℕ, zero, suc, ◌+◌, ◌<◌, Bool, true, false, ltb, Option, None, Some, IfSome, IsSome, List, [], ◌∷◌, ◌++◌, length, map, fold, get_or, refl, sym, ap, subst, ◌∙◌, arith, zero-add, ◌⊎◌, inl, inr}
+use Rattle.std.proofs.Common.{◌≡◌, ℕ, ◌+◌, ◌<◌, true, false, Option, None, Some, IfSome, IsSome, List, [], ◌∷◌, map, fold, get_or, refl, sym, ap, subst, ◌∙◌, arith, ◌⊎◌, inl, inr}
 use Rattle.std.specs.List.{concat}
+use Rattle.std.proofs.lemmas.List.{get_or-append-add}
 use Rattle.std.proofs.lemmas.Bool.{false≢true}
-use Rattle.rec_word.specs.Word.{target_of, predecessor, target_bits}
+use Rattle.rec_word.specs.Word.{target_of, target_bits}
 use Rattle.rec_counts.specs.Counts.{State, slot_at}
 use Rattle.rec_counts.specs.Groups.{last_set, earlier_sets}
-use Rattle.rec_counts.proofs.Keeping.{unreleased_within}
 use Rattle.rec_trial.specs.declared.phase.Phase.{Phase}
-use Rattle.rec_trial.specs.declared.phase.Phase.TheVariants.{Idle, Marking, Scanning, Collecting}
+use Rattle.rec_trial.specs.declared.phase.Phase.TheVariants.{Idle, Collecting}
 use Rattle.rec_walk.specs.Load.{Load}
 use Rattle.rec_trial.specs.Loaded.{Run, load_of, noted_at, noted, begun, run_of}
 use Rattle.rec_trial.specs.Rules.{IsReady, LeadsToUnreleased, AllLeadToUnreleased}
-use Rattle.rec_trial.specs.Trial.{Machine, Work, next_of, list_of, is_due_at, is_due, settled, pointed, learnt_at, advanced, advanced_if, took_at, took_of, opened_of, started_of}
-use Rattle.rec_trial.proofs.Course.{Course, at_phase, course_of, first_view, due_seen, moved_course, released_same}
-use Rattle.rec_trial.proofs.Deletion.{Deletion, Seen, Loads, seen, queue_at, told_at, with_load}
+use Rattle.rec_trial.specs.Trial.{Machine, Work, next_of, list_of, is_due, settled, pointed, took_at, took_of, opened_of, started_of}
+use Rattle.rec_trial.proofs.Course.{Course, at_phase, course_of, learnt, learnt_course, first_view, moved_course, released_same}
+use Rattle.rec_trial.proofs.Deletion.{Seen, Loads, seen, queue_at, with_load}
 use Rattle.rec_trial.proofs.Deletion as plain
-use Rattle.rec_trial.proofs.Holding.{Inv, Alive}
-use Rattle.rec_trial.proofs.Places.{ltb_yes}
-use Rattle.rec_trial.proofs.Rest.{Rest, rest_same, same_marked, same_scanned, rest_collected}
-use Rattle.rec_trial.proofs.Settling.{settled_by, settled_is_due}
-use Rattle.rec_trial.proofs.Steps.{bits_suc, view_advanced, view_marked_by, view_scanned_by, view_collected_by}
-use Rattle.rec_trial.proofs.Turns.{told_kept, opening_kept}
-use Rattle.rec_trial.proofs.Views.{at_of, earlier, view, concat_last}
+use Rattle.rec_trial.proofs.Moving.{settled_by, settled_is_due}
+use Rattle.rec_trial.proofs.Turns.{opening_kept}
+use Rattle.rec_trial.proofs.Views.{earlier, view, concat_last}
 
 abbrev pub seen_of : Load → Seen
 seen_of l = record { node = l.slot; field = l.field; word = target_bits l.word }
 
--- a target that is not released is in range
-pub in_range_if : (s : State) (t : Option ℕ) → IfSome t (λ x. (slot_at s x).released ≡ false) → IfSome t (λ x. x < length s.slots)
-in_range_if s None h = tt
-in_range_if s (Some x) h = unreleased_within s x h
-
-alive_of : (s : State) (code : ℕ) → IfSome (predecessor code) (λ x. (slot_at s x).released ≡ false) → Alive (λ x. (slot_at s x).released) code
-alive_of s zero h = tt
-alive_of s (suc x) h = rw (bits_suc x) at h
-
-pub some_set : (sets : List (List ℕ)) → 0 < length (last_set sets) → 0 < length sets
-some_set [] h = absurd (omega arith)
-some_set (xs ∷ sets) h = omega arith
-
-get_behind : (xs ys : List ℕ) (k : ℕ) → get_or (xs ++ ys) (length xs + k) 0 ≡ get_or ys k 0
-get_behind [] ys k = ap (λ n. get_or ys n 0) (zero-add k)
-get_behind (x ∷ xs) ys k =
-    let e : length (x ∷ xs) + k ≡ suc (length xs + k) = omega arith in
-    rw e (get_behind xs ys k)
-
 -- the due slot is the one that is seen to be due
 pub node_seen : (w : Work) (p : Phase) → get_or (list_of p w.counts) w.machine.done 0 ≡ get_or (queue_at p (view (at_phase p w))) (view (at_phase p w)).at 0
 node_seen w Collecting =
-    sym (get_behind (concat (earlier_sets w.counts.sets)) (last_set w.counts.sets) w.machine.done)
+    sym (get_or-append-add (concat (earlier_sets w.counts.sets)) (last_set w.counts.sets) w.machine.done 0)
     ∙ ap (λ (xs : List ℕ). get_or xs (earlier w.counts + w.machine.done) 0) (sym (concat_last w.counts.sets))
 node_seen w _ = refl
 
 -- what a trial loaded so far
 abbrev pub seen_in : Run → Loads
 seen_in r = record { marks = map seen_of r.marking; blacks = map seen_of r.blackening; finds = map seen_of r.collecting }
-
--- the machine after it learnt a word, before the moves that follow
-abbrev learnt_in : Phase → Work → (word : ℕ) → Work
-learnt_in p w word = record { machine = advanced w.machine; counts = learnt_at p w.counts (target_of word) }
-
-abbrev pub learnt : Work → (word : ℕ) → Work
-learnt w word = learnt_in w.machine.phase w word
-
-view_learnt : (w : Work) (p : Phase) → is_due_at p w.machine.done w.counts ≡ true → (word : ℕ) → LeadsToUnreleased w.counts word → IsSome (next_of (at_phase p w).machine) → view (learnt_in p (at_phase p w) word) ≡ told_at p (view (at_phase p w)) (target_bits word)
-unfolding next_of
-view_learnt w Idle d word a b = absurd (false≢true b)
-view_learnt w Marking d word a b =
-    view_advanced (at_phase Marking w).machine (learnt_at Marking w.counts (target_of word)) Marking refl
-    ∙ ap (λ (v : Deletion). plain.advance Marking v) (view_marked_by (at_phase Marking w).machine w.counts (target_bits word) (in_range_if w.counts (target_of word) a))
-view_learnt w Scanning d word a b =
-    view_advanced (at_phase Scanning w).machine (learnt_at Scanning w.counts (target_of word)) Scanning refl
-    ∙ ap (λ (v : Deletion). plain.advance Scanning v) (view_scanned_by (at_phase Scanning w).machine w.counts (target_bits word) (in_range_if w.counts (target_of word) a))
-view_learnt w Collecting d word a b =
-    view_advanced (at_phase Collecting w).machine (learnt_at Collecting w.counts (target_of word)) Collecting refl
-    ∙ ap (λ (v : Deletion). plain.advance Collecting v) (view_collected_by (at_phase Collecting w).machine w.counts (target_bits word) (in_range_if w.counts (target_of word) a) (some_set w.counts.sets (omega (arith, ltb_yes w.machine.done (length (last_set w.counts.sets)) d))))
-
-advanced_phase : (m : Machine) → (advanced m).phase ≡ m.phase
-advanced_phase m = go (ltb (m.field + 1) m.fields)
-  where
-    go : (b : Bool) → (advanced_if b m).phase ≡ m.phase
-    go true = refl
-    go false = refl
-
-rest_learnt : {before : State} (w : Work) (p : Phase) → is_due_at p w.machine.done w.counts ≡ true → (word : ℕ) → Rest before p w.counts → Rest before p (learnt_in p w word).counts
-rest_learnt w Idle d word r = r
-rest_learnt w Marking d word r = rest_same r (same_marked w.counts (target_of word))
-rest_learnt w Scanning d word r = rest_same r (same_scanned w.counts (target_of word))
-rest_learnt w Collecting d word r = rest_collected (some_set w.counts.sets (omega (arith, ltb_yes w.machine.done (length (last_set w.counts.sets)) d))) r (target_of word)
-
--- a word is learnt
-pub learnt_course : {fields : ℕ} {before : State} (w : Work) {ls : Loads} → Course fields before w ls → is_due w ≡ true → IsSome (next_of w.machine) → (word : ℕ) → LeadsToUnreleased w.counts word →
-    Course fields before (learnt w word) (with_load w.machine.phase (seen w.machine.phase (view w) (target_bits word)) ls)
-learnt_course {fields} {before} w {ls} c d b word a =
-    let p : Phase = w.machine.phase in
-    let k = told_kept (first_view fields before) p (view w) ls c.inv refl (sym (due_seen w p) ∙ d) (target_bits word) (alive_of w.counts (target_bits word) a) in
-    course_of (learnt w word)
-    (subst (λ s. Inv (first_view fields before) s (with_load p (seen p (view w) (target_bits word)) ls)) (sym (view_learnt w p d word a b)) k)
-    (subst (λ k. Rest before k (learnt w word).counts) (sym (advanced_phase w.machine)) (rest_learnt w p d word c.rest))
 
 -- up to the next load
 went_course : {fields : ℕ} {before : State} (w : Work) {ls : Loads} → Course fields before w ls → Course fields before (pointed (settled w)) ls

@@ -1,5 +1,7 @@
 -- Sums of weights over lists and over numbers, and tests that guard a weight.
-use Rattle.std.proofs.Common.{◌≡◌, ℕ, zero, suc, ◌+◌, ◌<◌, ◌≤◌, cond, eqb, List, [], ◌∷◌, ◌++◌, length, get_or, refl, arith}
+use Rattle.std.proofs.Common.{◌≡◌, ℕ, zero, suc, ◌+◌, ◌<◌, ◌≤◌, cond, eqb, List, [], ◌∷◌, ◌++◌, length, take, drop, get_or, refl, ap, arith}
+use Rattle.std.proofs.Math.Seq.{take-suc, take-length}
+use Rattle.std.proofs.lemmas.List.{take-append-le, take-append-drop}
 use Rattle.rec_counts.specs.Lists.{one, times as count_times}
 use Rattle.rec_counts.proofs.Times.{times-nil, times-cons, times_at}
 
@@ -10,14 +12,17 @@ total f (x ∷ xs) = f x + total f xs
 
 -- the sum of a weight over so many of the first
 abbrev pub total_of_first : (ℕ → ℕ) → ℕ → List ℕ → ℕ
-total_of_first f zero xs = 0
-total_of_first f (suc k) [] = 0
-total_of_first f (suc k) (x ∷ xs) = f x + total_of_first f k xs
+total_of_first f k xs = total f (take k xs)
 
 -- the sum of a weight over the numbers below one
 abbrev pub total_below : (ℕ → ℕ) → ℕ → ℕ
 total_below f zero = 0
 total_below f (suc k) = total_below f k + f k
+
+-- what is not 0 is more
+pub nonzero : (n : ℕ) → (n ≡ 0 → ⊥) → 0 < n
+nonzero zero h = absurd (h refl)
+nonzero (suc n) h = omega arith
 
 -- one where the two are equal
 abbrev pub same : ℕ → ℕ → ℕ
@@ -36,29 +41,16 @@ total_append f [] ys = omega arith
 total_append f (x ∷ xs) ys = omega (arith, total_append f xs ys)
 
 pub first_grown : (f : ℕ → ℕ) (k : ℕ) (xs ys : List ℕ) → k ≤ length xs → total_of_first f k (xs ++ ys) ≡ total_of_first f k xs
-first_grown f zero xs ys h = refl
-first_grown f (suc k) [] ys h = absurd (omega arith)
-first_grown f (suc k) (x ∷ xs) ys h = omega (arith, first_grown f k xs ys (omega arith))
+first_grown f k xs ys h = ap (total f) (take-append-le k xs ys h)
 
 pub first_more : (f : ℕ → ℕ) (k : ℕ) (xs : List ℕ) → k < length xs → total_of_first f (suc k) xs ≡ total_of_first f k xs + f (get_or xs k 0)
-first_more f zero [] h = absurd (omega arith)
-first_more f zero (x ∷ xs) h = omega arith
-first_more f (suc k) [] h = absurd (omega arith)
-first_more f (suc k) (x ∷ xs) h = let r : total_of_first f (suc k) xs ≡ total_of_first f k xs + f (get_or xs k 0) = first_more f k xs (omega arith) in omega arith
+first_more f k xs h = omega (arith, ap (total f) (take-suc xs k 0 h), total_append f (take k xs) (get_or xs k 0 ∷ []))
 
 pub first_whole : (f : ℕ → ℕ) (xs : List ℕ) → total_of_first f (length xs) xs ≡ total f xs
-first_whole f [] = refl
-first_whole f (x ∷ xs) = omega (arith, first_whole f xs)
-
-pub get_grown : (xs ys : List ℕ) (k : ℕ) → k < length xs → get_or (xs ++ ys) k 0 ≡ get_or xs k 0
-get_grown [] ys k h = absurd (omega arith)
-get_grown (x ∷ xs) ys zero h = refl
-get_grown (x ∷ xs) ys (suc k) h = get_grown xs ys k (omega arith)
+first_whole f xs = ap (total f) (take-length xs)
 
 pub first_le : (f : ℕ → ℕ) (k : ℕ) (xs : List ℕ) → total_of_first f k xs ≤ total f xs
-first_le f zero xs = omega arith
-first_le f (suc k) [] = omega arith
-first_le f (suc k) (x ∷ xs) = omega (arith, first_le f k xs)
+first_le f k xs = omega (arith, total_append f (take k xs) (drop k xs), ap (total f) (take-append-drop k xs))
 
 -- it is what the counts say of how often a slot stands in a list
 pub occurs : (x : ℕ) (xs : List ℕ) → count_times x xs ≡ times x xs

@@ -1,32 +1,28 @@
 -- One word is learnt, or what a move between two loads does, as functions: what holds stays.
-use Rattle.std.proofs.Common.{◌≡◌, ℕ, zero, suc, ◌+◌, ◌-◌, ◌<◌, ◌≤◌, Bool, true, false, ltb, List, [], ◌∷◌, ◌++◌, length, get_or, refl, sym, subst, ◌∙◌, arith, length-append}
-use Rattle.std.proofs.lemmas.Bool.{false≢true}
+use Rattle.std.proofs.Common.{◌≡◌, ℕ, suc, ◌+◌, ◌-◌, ◌<◌, ◌≤◌, true, false, ltb, List, [], ◌∷◌, length, get_or, refl, sym, inl, inr, ◌∙◌, arith, length-append}
+use Rattle.std.proofs.Math.ListN.{get_or-append}
+use Rattle.std.proofs.lemmas.Bool.{false≢true, cases_lt}
 use Rattle.std.proofs.lemmas.Bool.Decides.{nat_tests}
 use Rattle.rec_counts.specs.Lists.{one}
 use Rattle.rec_counts.specs.declared.colour.Colour.{Colour}
 use Rattle.rec_counts.specs.declared.colour.Colour.TheVariants.{Purple}
 use Rattle.rec_counts.specs.Colour.{is_gray, is_white}
-use Rattle.rec_trial.specs.declared.phase.Phase.{Phase}
-use Rattle.rec_trial.specs.declared.phase.Phase.TheVariants.{Idle, Marking, Scanning, Collecting}
-use Rattle.rec_trial.proofs.Totals.{total_of_first, same, times, times_here, get_grown, first_more, first_whole}
-use Rattle.rec_trial.proofs.Deletion.{Seen, Deletion, Loads, with_load, blacken_if, join_if, touch_if, take_one, mark_word, scan_word, find_word, advance, seen, due_at, told_at, whiten}
-use Rattle.rec_trial.proofs.Holding.{WhileMarking, WhileScanning, WhileCollecting, CollectedOf, OrderedOf, Placed, NotBegun, Reached, Hot, Seed, named, inv_at, Inv, Alive}
+use Rattle.rec_trial.specs.declared.phase.Phase.TheVariants.{Marking, Scanning, Collecting}
+use Rattle.rec_trial.proofs.Totals.{total_of_first, same, times, times_here, first_more, first_whole}
+use Rattle.rec_trial.proofs.Deletion.{Seen, Deletion, Loads, with_load, touch, take_one, blacken, join, advance, seen, whiten}
+use Rattle.rec_trial.proofs.Holding.{WhileMarking, WhileScanning, WhileCollecting, OrderedOf, Reached, Hot, Seed, named}
 use Rattle.rec_trial.proofs.Holding as law
-use Rattle.rec_trial.proofs.Marks.{times_push, push_kept, reached_grow, edge_here, base_load, base_push, unmarked, grays_push, seeds_push, seeds_drop}
-use Rattle.rec_trial.proofs.Orders.{ordered_none, ordered_word, ordered_join, ordered_begin}
-use Rattle.rec_trial.proofs.Places.{placed_grow, placed_step, placed_all, placed_begin, ltb_no, ltb_yes}
-use Rattle.rec_trial.proofs.Scans.{hot_grow, scanned_push, collected_push}
+use Rattle.rec_trial.proofs.Marks.{hot_grow, scanned_push, collected_push, times_push, push_kept, reached_grow, edge_here, base_load, base_push, unmarked, grays_push, seeds_push, seeds_drop}
+use Rattle.rec_trial.proofs.Orders.{ordered_none, ordered_word, ordered_join}
+use Rattle.rec_trial.proofs.Places.{placed_grow, placed_step, placed_all, placed_begin}
 
 -- a Gray node is marked, so that no word names one that is not
 unnamed_word : (n w y : ℕ) (c : Colour) → n ≡ one (is_gray c) → (w ≡ suc y → is_gray c ≡ true) → n ≡ 0 → same (suc y) w ≡ 0
 unnamed_word n w y c e g z = grind (arith, nat_tests, g)
 
-not_purple : (c : Colour) → c ≡ Purple → is_gray c ≡ false
-not_purple c e = rw e refl
-
 module _ (o s : Deletion) (ls : Loads) where
   -- a word in marking that names nothing, or a Gray node
-  mark_loaded : WhileMarking o s ls → s.at < length s.marked → (w : ℕ) (less : ℕ → ℕ) → ((y : ℕ) → less y ≡ s.cyclic y - same (suc y) w) → ((y : ℕ) → w ≡ suc y → is_gray (s.colour y) ≡ true) → WhileMarking o (advance Marking (record s { cyclic = less })) (with_load Marking (seen Marking s w) ls)
+  mark_loaded : WhileMarking o s ls → s.at < length s.marked → (w : ℕ) (less : ℕ → ℕ) → ((y : ℕ) → less y ≡ s.cyclic y - same (suc y) w) → ((y : ℕ) → w ≡ suc y → is_gray (s.colour y) ≡ true) → WhileMarking o (advance (record s { cyclic = less })) (with_load Marking (seen Marking s w) ls)
   mark_loaded m d w less e g = record {
     base = base_load m.base (seen Marking s w) less e (λ y. unnamed_word (times y s.marked) w y (s.colour y) (m.grays y) (g y));
     look = m.look;
@@ -37,27 +33,29 @@ module _ (o s : Deletion) (ls : Loads) where
     uncollected = m.uncollected;
   }
 
-  mark_kept : WhileMarking o s ls → s.at < length s.marked → (w : ℕ) → Alive s.released w → WhileMarking o (advance Marking (mark_word s w)) (with_load Marking (seen Marking s w) ls)
-  mark_kept m d zero a = mark_loaded m d 0 s.cyclic (λ y. grind (arith, nat_tests)) (λ y q. absurd (omega arith))
-  mark_kept m d (suc x) a = go (is_gray (s.colour x)) refl
-    where
-      go : (b : Bool) → is_gray (s.colour x) ≡ b → WhileMarking o (advance Marking (take_one (touch_if b s x) x)) (with_load Marking (seen Marking s (suc x)) ls)
-      go true e = mark_loaded m d (suc x) (take_one s x).cyclic (λ y. grind (arith, nat_tests)) (λ y q. cc)
-      go false e =
-          let new : times x s.marked ≡ 0 = unmarked m.look x e in
-          let l : Seen = seen Marking s (suc x) in
-          record {
-            base = base_load (base_push m.base x new a) l (take_one (touch_if false s x) x).cyclic (λ y. grind (arith, nat_tests)) (λ y h. grind (arith, nat_tests, times_push y x s.marked));
-            look = grays_push m.look x new;
-            queue = seeds_push m.queue x;
-            reached = push_kept (Reached o (l ∷ ls.marks)) x s.marked (law.Reached.along (reached_grow l (m.reached l.node (times_here s.marked s.at d))) (edge_here l.node s.field x ls.marks)) (λ y h. reached_grow l (m.reached y h));
-            place = placed_grow (placed_step m.place d (suc x) (ltb (suc s.field) s.fields) refl) (x ∷ []);
-            unscanned = m.unscanned;
-            uncollected = m.uncollected;
-          }
+  pub mark_none : WhileMarking o s ls → s.at < length s.marked → WhileMarking o (advance s) (with_load Marking (seen Marking s 0) ls)
+  mark_none m d = mark_loaded m d 0 s.cyclic (λ y. grind (arith, nat_tests)) (λ y q. absurd (omega arith))
+
+  pub mark_old : WhileMarking o s ls → s.at < length s.marked → (x : ℕ) → is_gray (s.colour x) ≡ true → WhileMarking o (advance (take_one s x)) (with_load Marking (seen Marking s (suc x)) ls)
+  mark_old m d x e = mark_loaded m d (suc x) (take_one s x).cyclic (λ y. grind (arith, nat_tests)) (λ y q. cc)
+
+  -- a word that names a node which is not marked yet
+  pub mark_new : WhileMarking o s ls → s.at < length s.marked → (x : ℕ) → is_gray (s.colour x) ≡ false → s.released x ≡ false → WhileMarking o (advance (take_one (touch s x) x)) (with_load Marking (seen Marking s (suc x)) ls)
+  mark_new m d x e live =
+      let new : times x s.marked ≡ 0 = unmarked m.look x e in
+      let l : Seen = seen Marking s (suc x) in
+      record {
+        base = base_load (base_push m.base x new live) l (take_one (touch s x) x).cyclic (λ y. grind (arith, nat_tests)) (λ y h. grind (arith, nat_tests, times_push y x s.marked));
+        look = grays_push m.look x new;
+        queue = seeds_push m.queue x;
+        reached = push_kept (Reached o (l ∷ ls.marks)) x s.marked (law.Reached.along (reached_grow l (m.reached l.node (times_here s.marked s.at d))) (edge_here l.node s.field x ls.marks)) (λ y h. reached_grow l (m.reached y h));
+        place = placed_grow (placed_step m.place d (suc x) (ltb (suc s.field) s.fields) refl) (x ∷ []);
+        unscanned = m.unscanned;
+        uncollected = m.uncollected;
+      }
 
   -- a word in scanning that names nothing Gray
-  scan_loaded : WhileScanning o s ls → s.at < length s.work → (w : ℕ) → ((y : ℕ) → w ≡ suc y → is_gray (s.colour y) ≡ false) → WhileScanning o (advance Scanning s) (with_load Scanning (seen Scanning s w) ls)
+  pub scan_loaded : WhileScanning o s ls → s.at < length s.work → (w : ℕ) → ((y : ℕ) → w ≡ suc y → is_gray (s.colour y) ≡ false) → WhileScanning o (advance s) (with_load Scanning (seen Scanning s w) ls)
   scan_loaded m d w none = record {
     all = m.all;
     split = m.split;
@@ -69,25 +67,21 @@ module _ (o s : Deletion) (ls : Loads) where
     uncollected = m.uncollected;
   }
 
-  scan_kept : WhileScanning o s ls → s.at < length s.work → (w : ℕ) → WhileScanning o (advance Scanning (scan_word s w)) (with_load Scanning (seen Scanning s w) ls)
-  scan_kept m d zero = scan_loaded m d 0 (λ y q. absurd (omega arith))
-  scan_kept m d (suc x) = go (is_gray (s.colour x)) refl
-    where
-      go : (b : Bool) → is_gray (s.colour x) ≡ b → WhileScanning o (advance Scanning (blacken_if b s x)) (with_load Scanning (seen Scanning s (suc x)) ls)
-      go false e = scan_loaded m d (suc x) (λ y q. cc)
-      go true e = let l : Seen = seen Scanning s (suc x) in record {
-        all = m.all;
-        split = scanned_push m.split x e (m.once x);
-        hot = push_kept (Hot s.marked s.cyclic (l ∷ ls.blacks)) x s.work (law.Hot.along (hot_grow l (m.hot l.node (times_here s.work s.at d))) (edge_here l.node s.field x ls.blacks)) (λ y h. hot_grow l (m.hot y h));
-        unnamed = λ y a. grind (arith, nat_tests, m.unnamed y);
-        tested = λ y a b. grind (arith, nat_tests, m.tested y a);
-        tries = m.tries;
-        place = placed_grow (placed_step m.place d (suc x) (ltb (suc s.field) s.fields) refl) (x ∷ []);
-        uncollected = m.uncollected;
-      }
+  -- a word that names a Gray node
+  pub scan_named : WhileScanning o s ls → s.at < length s.work → (x : ℕ) → is_gray (s.colour x) ≡ true → WhileScanning o (advance (blacken s x)) (with_load Scanning (seen Scanning s (suc x)) ls)
+  scan_named m d x e = let l : Seen = seen Scanning s (suc x) in record {
+    all = m.all;
+    split = scanned_push m.split x e (m.once x);
+    hot = push_kept (Hot s.marked s.cyclic (l ∷ ls.blacks)) x s.work (law.Hot.along (hot_grow l (m.hot l.node (times_here s.work s.at d))) (edge_here l.node s.field x ls.blacks)) (λ y h. hot_grow l (m.hot y h));
+    unnamed = λ y a. grind (arith, nat_tests, m.unnamed y);
+    tested = λ y a b. grind (arith, nat_tests, m.tested y a);
+    tries = m.tries;
+    place = placed_grow (placed_step m.place d (suc x) (ltb (suc s.field) s.fields) refl) (x ∷ []);
+    uncollected = m.uncollected;
+  }
 
   -- a White node joins, which no loaded word names
-  pub joined : WhileCollecting o s ls → (x : ℕ) → is_white (s.colour x) ≡ true → (sets : ℕ) → 0 < sets → OrderedOf s.members s.set_of sets s.at ls.finds → WhileCollecting o (join_if true (record s { sets = sets }) x) ls
+  pub joined : WhileCollecting o s ls → (x : ℕ) → is_white (s.colour x) ≡ true → (sets : ℕ) → 0 < sets → OrderedOf s.members s.set_of sets s.at ls.finds → WhileCollecting o (join (record s { sets = sets }) x) ls
   joined m x e sets some order = record {
     scanned = m.scanned;
     split = collected_push m.split x e (m.once x);
@@ -95,18 +89,20 @@ module _ (o s : Deletion) (ls : Loads) where
     tries = m.tries;
     found = λ y a. grind (arith, nat_tests, m.found y a);
     place = placed_grow m.place (x ∷ []);
-    order = ordered_join s.members s.set_of sets s.at ls.finds order x some (unfound (named x ls.finds) (m.found x)) (unjoined (m.parts x) (m.once x));
+    order = ordered_join s.members s.set_of sets s.at ls.finds order x some unfound (unjoined (m.parts x) (m.once x));
   }
     where
-      unfound : (n : ℕ) → (0 < n → is_white (s.colour x) ≡ false) → n ≡ 0
-      unfound zero h = refl
-      unfound (suc n) h = absurd (false≢true (sym (h (omega arith)) ∙ e))
+      unfound : named x ls.finds ≡ 0
+      unfound = elim (cases_lt 0 (named x ls.finds)) [
+        | inl h ↦ absurd (false≢true (sym (m.found x h) ∙ e))
+        | inr z ↦ omega (arith, z)
+      ]
 
       unjoined : times x s.marked ≡ one (is_white (s.colour x)) + times x s.work + times x s.members → times x s.marked ≤ 1 → times x s.members ≡ 0
       unjoined a b = grind arith
 
   -- a word in collecting that names nothing White
-  find_loaded : WhileCollecting o s ls → s.at < length s.members → (w : ℕ) → ((y : ℕ) → w ≡ suc y → is_white (s.colour y) ≡ false) → WhileCollecting o (advance Collecting s) (with_load Collecting (seen Collecting s w) ls)
+  pub find_loaded : WhileCollecting o s ls → s.at < length s.members → (w : ℕ) → ((y : ℕ) → w ≡ suc y → is_white (s.colour y) ≡ false) → WhileCollecting o (advance s) (with_load Collecting (seen Collecting s w) ls)
   find_loaded m d w none = record {
     scanned = m.scanned;
     split = m.split;
@@ -130,9 +126,9 @@ module _ (o s : Deletion) (ls : Loads) where
   }
 
   -- a seed is marked
-  pub seeded : WhileMarking o s ls → (x : ℕ) → 0 < times x s.roots → s.colour x ≡ Purple → s.released x ≡ false → WhileMarking o (touch_if false s x) ls
+  pub seeded : WhileMarking o s ls → (x : ℕ) → 0 < times x s.roots → s.colour x ≡ Purple → s.released x ≡ false → WhileMarking o (touch s x) ls
   seeded m x here e live =
-      let new : times x s.marked ≡ 0 = unmarked m.look x (not_purple (s.colour x) e) in
+      let new : times x s.marked ≡ 0 = unmarked m.look x (rw e refl) in
       record {
         base = base_push m.base x new live;
         look = grays_push m.look x new;
@@ -164,7 +160,7 @@ module _ (o s : Deletion) (ls : Loads) where
       no_roots y = rw r refl
 
   -- a marked node is blackened that has a rest
-  pub blackened : WhileScanning o s ls → (x : ℕ) → is_gray (s.colour x) ≡ true → 0 < s.cyclic x → WhileScanning o (blacken_if true s x) ls
+  pub blackened : WhileScanning o s ls → (x : ℕ) → is_gray (s.colour x) ≡ true → 0 < s.cyclic x → WhileScanning o (blacken s x) ls
   blackened m x e warm = record {
     all = m.all;
     split = scanned_push m.split x e (m.once x);
@@ -227,23 +223,12 @@ module _ (o s : Deletion) (ls : Loads) where
           let was_tried : 0 < total_of_first (same y) s.tried s.marked = rw h (omega (arith, in_marked, first_whole (same y) s.marked)) in
           omega (arith, m.tested y was_tried g, m.rest y in_marked)
 
-find_kept : (o s : Deletion) (ls : Loads) → WhileCollecting o s ls → s.at < length s.members → (w : ℕ) → WhileCollecting o (advance Collecting (find_word s w)) (with_load Collecting (seen Collecting s w) ls)
-find_kept o s ls m d zero = find_loaded o s ls m d 0 (λ y q. absurd (omega arith))
-find_kept o s ls m d (suc x) = go (is_white (s.colour x)) refl
-  where
-    go : (b : Bool) → is_white (s.colour x) ≡ b → WhileCollecting o (advance Collecting (join_if b s x)) (with_load Collecting (seen Collecting s (suc x)) ls)
-    go false e = find_loaded o s ls m d (suc x) (λ y q. cc)
-    go true e =
-        let some : 0 < s.sets = omega (arith, m.order.current s.at (omega arith) d, m.order.positive (get_or s.members s.at 0) (times_here s.members s.at d)) in
-        let j : WhileCollecting o (join_if true s x) ls = joined o s ls m x e s.sets some m.order in
-        rw (get_grown s.members (x ∷ []) s.at d) at (find_loaded o (join_if true s x) ls j (omega (arith, length-append s.members (x ∷ []))) (suc x) (λ y q. grind (arith, nat_tests)))
-
--- a word keeps what holds
-pub told_kept : (o : Deletion) (p : Phase) (s : Deletion) (ls : Loads) → inv_at p o s ls → s.phase ≡ p → due_at p s ≡ true → (w : ℕ) → Alive s.released w → Inv o (told_at p s w) (with_load p (seen p s w) ls)
-told_kept o Idle s ls i e d w a = subst (λ p. inv_at p o s ls) (sym e) i
-told_kept o Marking s ls i e d w a = mark_kept o s ls i (ltb_yes s.at (length s.marked) d) w a
-told_kept o Scanning s ls i e d w a = scan_kept o s ls i (ltb_yes s.at (length s.work) d) w
-told_kept o Collecting s ls i e d w a = find_kept o s ls i (ltb_yes s.at (length s.members) d) w
+-- a word in collecting that names a White node
+pub find_named : (o s : Deletion) (ls : Loads) → WhileCollecting o s ls → s.at < length s.members → (x : ℕ) → is_white (s.colour x) ≡ true → WhileCollecting o (advance (join s x)) (with_load Collecting (seen Collecting s (suc x)) ls)
+find_named o s ls m d x e =
+    let some : 0 < s.sets = omega (arith, m.order.current s.at (omega arith) d, m.order.positive (get_or s.members s.at 0) (times_here s.members s.at d)) in
+    let j : WhileCollecting o (join s x) ls = joined o s ls m x e s.sets some m.order in
+    rw (get_or-append s.members (x ∷ []) 0 s.at d) at (find_loaded o (join s x) ls j (omega (arith, length-append s.members (x ∷ []))) (suc x) (λ y q. grind (arith, nat_tests)))
 
 -- a trial that is about to begin
 pub opening_kept : (s : Deletion) → 0 < s.fields → ((x : ℕ) → is_gray (s.colour x) ≡ false) → ((x : ℕ) → is_white (s.colour x) ≡ false) → s.marked ≡ [] → s.work ≡ [] → s.members ≡ [] → s.at ≡ 0 → s.field ≡ 0 → WhileMarking s s (record { marks = []; blacks = []; finds = [] })

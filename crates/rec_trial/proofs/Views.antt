@@ -1,9 +1,9 @@
 -- The machine and the counts, seen as a trial by functions: what is done to the counts is done to what is seen.
-use Rattle.std.proofs.Common.{◌≡◌, ℕ, zero, suc, ◌+◌, ◌-◌, ◌<◌, Bool, true, false, eqb, cond, Option, None, Some, List, [], ◌∷◌, ◌++◌, length, map, get_or, refl, sym, ap, ◌∙◌, arith, inl, inr, append_assoc}
-use Rattle.std.proofs.Math.ListN.{set}
+use Rattle.std.proofs.Common.{◌≡◌, ℕ, suc, ◌+◌, ◌-◌, ◌<◌, Bool, true, false, eqb, cond, Option, None, Some, List, [], ◌∷◌, ◌++◌, length, get_or, refl, sym, ap, ◌∙◌, arith, inl, inr, append_assoc, ltb, add-one}
+use Rattle.std.proofs.Math.ListN.{set, get_or-map}
 use Rattle.std.specs.List.{concat}
 use Rattle.std.proofs.lemmas.List.{append-nil, get_or-set_same, get_or-set_other, length-set, length-append}
-use Rattle.std.proofs.lemmas.Bool.Decides.{eqb_tells}
+use Rattle.std.proofs.lemmas.Bool.Decides.{eqb_tells, nat_tests}
 use Rattle.rec_counts.specs.declared.colour.Colour.{Colour}
 use Rattle.rec_counts.specs.declared.colour.Colour.TheVariants.{Black, Gray, White, Orange}
 use Rattle.rec_counts.specs.declared.slot.Slot.{Slot}
@@ -14,11 +14,12 @@ use Rattle.rec_counts.specs.Colour.{is_gray}
 use Rattle.rec_counts.proofs.Keeping.{field_kept}
 use Rattle.rec_trial.specs.declared.phase.Phase.{Phase}
 use Rattle.rec_trial.specs.declared.phase.Phase.TheVariants.{Idle, Marking, Scanning, Collecting}
-use Rattle.rec_trial.specs.Moves.{touched_if, one_off, blackened_if, whitened, all_whitened, joined_if}
-use Rattle.rec_trial.specs.Trial.{Machine, Work}
+use Rattle.rec_trial.specs.Moves.{touched_if, one_off, blackened_if, whitened, whitened_if, all_whitened, joined_if}
+use Rattle.rec_trial.specs.Trial.{Machine, Work, advanced_if, advanced}
 use Rattle.rec_trial.proofs.Totals.{changed}
-use Rattle.rec_trial.proofs.Deletion.{Deletion}
+use Rattle.rec_trial.proofs.Deletion.{Deletion, next_at, next_field}
 use Rattle.rec_trial.proofs.Deletion as plain
+use Rattle.rec_word.specs.Word.{predecessor}
 
 -- the number of a set, from 1; 0 for none
 abbrev pub set_code : Option ℕ → ℕ
@@ -64,49 +65,39 @@ same_functions h = λ i x. h x i
 -- what is seen of the slots after a write
 module _ {A : Type 0} (f : Slot → A) (s : State) (x : ℕ) (v : Slot) where
   part_changed : x < length s.slots → (λ y. f (slot_at (with_slot s x v) y)) ≡ changed (λ y. f (slot_at s y)) x (f v)
-  part_changed l = same_functions (λ y. go y)
-    where
-      go : (y : ℕ) → f (get_or (set s.slots x v) y absent) ≡ cond (eqb y x) (f v) (f (get_or s.slots y absent))
-      go y = elim (eqb_tells y x) [
-        | inl q ↦ rw (q.0, q.1) (ap f (get_or-set_same s.slots x v absent l))
-        | inr q ↦ rw q.0 (ap f (get_or-set_other s.slots x y v absent q.1))
-      ]
+  part_changed l = same_functions (λ y. elim (eqb_tells y x) [
+    | inl q ↦ rw (q.0, q.1) (ap f (get_or-set_same s.slots x v absent l))
+    | inr q ↦ rw q.0 (ap f (get_or-set_other s.slots x y v absent q.1))
+  ])
 
   part_kept : f v ≡ f (slot_at s x) → ◌≡◌ {A = ℕ → A} (λ y. f (slot_at (with_slot s x v) y)) (λ y. f (slot_at s y))
   part_kept e = same_functions (field_kept f s.slots x v e)
 
+-- a slot is written that keeps its true count, stays released or not, and stays in its set or in none
+view_set : (s : State) (x : ℕ) (v : Slot) (m : Machine) {cyclic : ℕ → ℕ} {colour : ℕ → Colour} → v.count ≡ (slot_at s x).count → v.released ≡ (slot_at s x).released → v.set ≡ (slot_at s x).set → ◌≡◌ {A = ℕ → ℕ} (λ y. (slot_at (with_slot s x v) y).cyclic) cyclic → ◌≡◌ {A = ℕ → Colour} (λ y. (slot_at (with_slot s x v) y).colour) colour → view_of m (with_slot s x v) ≡ record (view_of m s) { cyclic = cyclic; colour = colour }
+view_set s x v m a b e cyclic colour =
+    let count = part_kept (λ (u : Slot). u.count) s x v a in
+    let released = part_kept (λ (u : Slot). u.released) s x v b in
+    let in_set = part_kept (λ (u : Slot). set_code u.set) s x v (ap set_code e) in
+    λ i. record (view_of m s) { count = count i; cyclic = cyclic i; colour = colour i; released = released i; set_of = in_set i }
+
 module _ (m : Machine) (s : State) (x : ℕ) (l : x < length s.slots) where
-  pub view_touched : (b : Bool) → view_of m (touched_if b s x) ≡ plain.touch_if b (view_of m s) x
-  view_touched true = refl
-  view_touched false =
+  pub view_touched : view_of m (touched_if false s x) ≡ plain.touch (view_of m s) x
+  view_touched =
       let v : Slot = record (slot_at s x) { colour = Gray; cyclic = (slot_at s x).count } in
-      let count = part_kept (λ (u : Slot). u.count) s x v refl in
-      let cyclic = part_changed (λ (u : Slot). u.cyclic) s x v l in
-      let colour = part_changed (λ (u : Slot). u.colour) s x v l in
-      let released = part_kept (λ (u : Slot). u.released) s x v refl in
-      let in_set = part_kept (λ (u : Slot). set_code u.set) s x v refl in
-      λ i. record (plain.touch_if false (view_of m s) x) { count = count i; cyclic = cyclic i; colour = colour i; released = released i; set_of = in_set i }
+      let q = view_set s x v m refl refl refl (part_changed (λ (u : Slot). u.cyclic) s x v l) (part_changed (λ (u : Slot). u.colour) s x v l) in
+      λ i. record (q i) { marked = s.marked ++ x ∷ [] }
 
   pub view_one_off : view_of m (one_off s x) ≡ plain.take_one (view_of m s) x
   view_one_off =
       let v : Slot = record (slot_at s x) { cyclic = (slot_at s x).cyclic - 1 } in
-      let count = part_kept (λ (u : Slot). u.count) s x v refl in
-      let cyclic = part_changed (λ (u : Slot). u.cyclic) s x v l in
-      let colour = part_kept (λ (u : Slot). u.colour) s x v refl in
-      let released = part_kept (λ (u : Slot). u.released) s x v refl in
-      let in_set = part_kept (λ (u : Slot). set_code u.set) s x v refl in
-      λ i. record (plain.take_one (view_of m s) x) { count = count i; cyclic = cyclic i; colour = colour i; released = released i; set_of = in_set i }
+      view_set s x v m refl refl refl (part_changed (λ (u : Slot). u.cyclic) s x v l) (part_kept (λ (u : Slot). u.colour) s x v refl)
 
-  pub view_blackened : (b : Bool) → view_of m (blackened_if b s x) ≡ plain.blacken_if b (view_of m s) x
-  view_blackened false = refl
-  view_blackened true =
+  pub view_blackened : view_of m (blackened_if true s x) ≡ plain.blacken (view_of m s) x
+  view_blackened =
       let v : Slot = record (slot_at s x) { colour = Black } in
-      let count = part_kept (λ (u : Slot). u.count) s x v refl in
-      let cyclic = part_kept (λ (u : Slot). u.cyclic) s x v refl in
-      let colour = part_changed (λ (u : Slot). u.colour) s x v l in
-      let released = part_kept (λ (u : Slot). u.released) s x v refl in
-      let in_set = part_kept (λ (u : Slot). set_code u.set) s x v refl in
-      λ i. record (plain.blacken_if true (view_of m s) x) { count = count i; cyclic = cyclic i; colour = colour i; released = released i; set_of = in_set i }
+      let q = view_set s x v m refl refl refl (part_kept (λ (u : Slot). u.cyclic) s x v refl) (part_changed (λ (u : Slot). u.colour) s x v l) in
+      λ i. record (q i) { work = s.work ++ x ∷ [] }
 
 -- one member more at the end of the last set
 pub concat_member : (sets : List (List ℕ)) (x : ℕ) → 0 < length sets → concat (with_member sets x) ≡ concat sets ++ x ∷ []
@@ -146,9 +137,8 @@ concat_new [] = refl
 concat_new (ys ∷ sets) = ap (λ us. ys ++ us) (concat_new sets)
 
 -- a slot joins the last set
-pub view_joined : (m : Machine) (s : State) (x : ℕ) → x < length s.slots → 0 < length s.sets → (b : Bool) → view_of m (joined_if b s x) ≡ plain.join_if b (view_of m s) x
-view_joined m s x l some false = refl
-view_joined m s x l some true =
+pub view_joined : (m : Machine) (s : State) (x : ℕ) → x < length s.slots → 0 < length s.sets → view_of m (joined_if true s x) ≡ plain.join (view_of m s) x
+view_joined m s x l some =
     let v : Slot = record (slot_at s x) { colour = Orange } in
     let t : State = with_slot s x v in
     let u : Slot = record (slot_at t x) { buffered = true; set = Some (length s.sets - 1) } in
@@ -162,49 +152,55 @@ view_joined m s x l some true =
     let members = concat_member s.sets x some in
     let sets = length_member s.sets x in
     let at = ap (λ (ys : List (List ℕ)). at_of m.phase m.done (length (concat ys))) (earlier_member s.sets x some) in
-    λ i. record (plain.join_if true (view_of m s) x) { count = count i; cyclic = cyclic i; colour = colour i; released = released i; set_of = in_set i; members = members i; sets = sets i; at = at i }
+    λ i. record (plain.join (view_of m s) x) { count = count i; cyclic = cyclic i; colour = colour i; released = released i; set_of = in_set i; members = members i; sets = sets i; at = at i }
 
--- every Gray slot becomes White
-whitened_at : (slots : List Slot) (y : ℕ) → get_or (map whitened slots) y absent ≡ whitened (get_or slots y absent)
-whitened_at [] zero = refl
-whitened_at [] (suc y) = refl
-whitened_at (v ∷ slots) zero = refl
-whitened_at (v ∷ slots) (suc y) = whitened_at slots y
-
-whitened_colour : (v : Slot) → (whitened v).colour ≡ cond (is_gray v.colour) White v.colour
-whitened_colour v = go (is_gray v.colour) refl
+-- every Gray slot becomes White, and nothing else changes
+pub whitened_same : {A : Type 0} (f : Slot → A) → ((v : Slot) → f (record v { colour = White }) ≡ f v) → (s : State) (x : ℕ) → f (slot_at (all_whitened s) x) ≡ f (slot_at s x)
+whitened_same f h s x = ap f (get_or-map whitened s.slots x absent) ∙ go (is_gray (slot_at s x).colour)
   where
-    go : (b : Bool) → is_gray v.colour ≡ b → (whitened v).colour ≡ cond b White v.colour
-    go true e = rw e refl
-    go false e = rw e refl
+    go : (b : Bool) → f (whitened_if b (slot_at s x)) ≡ f (slot_at s x)
+    go true = h (slot_at s x)
+    go false = refl
 
-whitened_part : {A : Type 0} (f : Slot → A) → ((v : Slot) (c : Colour) → f (record v { colour = c }) ≡ f v) → (v : Slot) → f (whitened v) ≡ f v
-whitened_part f h v = go (is_gray v.colour) refl
+whitened_colour : (s : State) (x : ℕ) → (slot_at (all_whitened s) x).colour ≡ plain.whiten (λ y. (slot_at s y).colour) x
+whitened_colour s x = ap (λ (v : Slot). v.colour) (get_or-map whitened s.slots x absent) ∙ fit (slot_at s x)
   where
-    go : (b : Bool) → is_gray v.colour ≡ b → f (whitened v) ≡ f v
-    go true e = rw e (h v White)
-    go false e = rw e refl
+    fit : (v : Slot) → (whitened v).colour ≡ cond (is_gray v.colour) White v.colour
+    fit v = grind arith
 
-module _ (s : State) where
-  whitened_kept : {A : Type 0} (f : Slot → A) → ((v : Slot) (c : Colour) → f (record v { colour = c }) ≡ f v) → ◌≡◌ {A = ℕ → A} (λ y. f (slot_at (all_whitened s) y)) (λ y. f (slot_at s y))
-  whitened_kept f h = same_functions (λ y. ap f (whitened_at s.slots y) ∙ whitened_part f h (get_or s.slots y absent))
-
-  pub view_whitened : (m : Machine) → view_of m (all_whitened s) ≡ record (view_of m s) { colour = plain.whiten (λ y. (slot_at s y).colour) }
-  view_whitened m =
-      let count = whitened_kept (λ (w : Slot). w.count) (λ v c. refl) in
-      let cyclic = whitened_kept (λ (w : Slot). w.cyclic) (λ v c. refl) in
-      let released = whitened_kept (λ (w : Slot). w.released) (λ v c. refl) in
-      let in_set = whitened_kept (λ (w : Slot). set_code w.set) (λ v c. refl) in
-      let colour : (λ y. (slot_at (all_whitened s) y).colour) ≡ plain.whiten (λ y. (slot_at s y).colour) = same_functions (λ y. ap (λ (w : Slot). w.colour) (whitened_at s.slots y) ∙ whitened_colour (get_or s.slots y absent)) in
-      λ i. record (view_of m s) { count = count i; cyclic = cyclic i; colour = colour i; released = released i; set_of = in_set i }
+pub view_whitened : (m : Machine) (s : State) → view_of m (all_whitened s) ≡ record (view_of m s) { colour = plain.whiten (λ y. (slot_at s y).colour) }
+view_whitened m s =
+    let count = same_functions (whitened_same (λ (w : Slot). w.count) (λ v. refl) s) in
+    let cyclic = same_functions (whitened_same (λ (w : Slot). w.cyclic) (λ v. refl) s) in
+    let released = same_functions (whitened_same (λ (w : Slot). w.released) (λ v. refl) s) in
+    let in_set = same_functions (whitened_same (λ (w : Slot). set_code w.set) (λ v. refl) s) in
+    let colour = same_functions (whitened_colour s) in
+    λ i. record (view_of m s) { count = count i; cyclic = cyclic i; colour = colour i; released = released i; set_of = in_set i }
 
 -- a root leaves: nothing but a buffer flag changes in what is kept of it
 pub view_rootless : (m : Machine) (s : State) (x : ℕ) (xs : List ℕ) → view_of m (without_root (x ∷ xs) s) ≡ record (view_of m s) { roots = xs }
 view_rootless m s x xs =
     let v : Slot = record (slot_at s x) { buffered = false } in
-    let count = part_kept (λ (u : Slot). u.count) s x v refl in
-    let cyclic = part_kept (λ (u : Slot). u.cyclic) s x v refl in
-    let colour = part_kept (λ (u : Slot). u.colour) s x v refl in
-    let released = part_kept (λ (u : Slot). u.released) s x v refl in
-    let in_set = part_kept (λ (u : Slot). set_code u.set) s x v refl in
-    λ i. record (view_of m s) { count = count i; cyclic = cyclic i; colour = colour i; released = released i; set_of = in_set i; roots = xs }
+    let q = view_set s x v m refl refl refl (part_kept (λ (u : Slot). u.cyclic) s x v refl) (part_kept (λ (u : Slot). u.colour) s x v refl) in
+    λ i. record (q i) { roots = xs }
+
+pub bits_suc : (x : ℕ) → predecessor (suc x) ≡ Some x
+bits_suc x =
+    let some : eqb (suc x) 0 ≡ false = grind (arith, nat_tests) in
+    let less : suc x - 1 ≡ x = omega arith in
+    rw (some, less) refl
+
+-- the place moves on
+at_next : (p : Phase) (done before : ℕ) → at_of p (done + 1) before ≡ suc (at_of p done before)
+at_next Idle done before = omega arith
+at_next _ done before = omega arith
+
+pub view_advanced : (m : Machine) (s : State) → view_of (advanced m) s ≡ plain.advance (view_of m s)
+view_advanced m s = go (ltb (m.field + 1) m.fields) ∙ (λ i. record (view_of m s) { at = next_at (ltb (f i) m.fields) (view_of m s).at; field = next_field (ltb (f i) m.fields) m.field })
+  where
+    f : m.field + 1 ≡ suc m.field
+    f = add-one m.field
+
+    go : (b : Bool) → view_of (advanced_if b m) s ≡ record (view_of m s) { at = next_at b (view_of m s).at; field = next_field b m.field }
+    go true = λ i. record (view_of m s) { field = f i }
+    go false = let a : at_of m.phase (m.done + 1) (earlier s) ≡ suc (at_of m.phase m.done (earlier s)) = at_next m.phase m.done (earlier s) in λ i. record (view_of m s) { at = a i; field = 0 }

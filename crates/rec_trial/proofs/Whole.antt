@@ -1,7 +1,6 @@
 -- What a trial promises, from what holds of it.
-use Rattle.std.proofs.Common.{◌≡◌, ℕ, zero, suc, ◌+◌, ◌*◌, ◌<◌, ◌≤◌, Bool, true, false, Option, Some, IsNone, IsSome, List, [], ◌∷◌, length, map, fold, refl, sym, ap, subst, ◌∙◌, arith, inl, inr, ◌⊎◌}
-use Rattle.std.specs.List.{concat}
-use Rattle.std.proofs.lemmas.Bool.{false≢true}
+use Rattle.std.proofs.Common.{◌≡◌, ℕ, suc, ◌+◌, ◌*◌, ◌<◌, ◌≤◌, true, false, Option, Some, IsNone, IsSome, List, [], ◌∷◌, length, map, fold, refl, sym, ap, subst, ◌∙◌, arith, inl, inr, ◌⊎◌}
+use Rattle.std.proofs.lemmas.Bool.{false_from_ne_true, false≢true, cases_lt}
 use Rattle.std.proofs.lemmas.List.{get_or_past, length-map}
 use Rattle.rec_counts.specs.declared.colour.Colour.{Colour}
 use Rattle.rec_counts.specs.declared.slot.Slot.{Slot}
@@ -11,15 +10,16 @@ use Rattle.rec_counts.specs.Lists as in_counts
 use Rattle.rec_counts.specs.Slot.{absent}
 use Rattle.rec_counts.specs.Colour.{is_black, is_gray, is_white, is_orange}
 use Rattle.rec_trial.specs.declared.phase.Phase.{Phase}
-use Rattle.rec_trial.specs.declared.phase.Phase.TheVariants.{Idle, Marking, Scanning, Collecting}
+use Rattle.rec_trial.specs.declared.phase.Phase.TheVariants.{Idle}
 use Rattle.rec_trial.specs.Loaded.{Run, noted_at, noted, begun, run_of}
-use Rattle.rec_trial.specs.Rules.{IsReady, AllLeadToUnreleased}
+use Rattle.rec_trial.specs.Rules.{IsReady}
 use Rattle.rec_trial.specs.Tried.{IsCareful, IsOver, TrialIsCareful, TrialIsWhole, TrialEnds, members}
-use Rattle.rec_trial.specs.Trial.{Machine, Work, next_of}
+use Rattle.rec_trial.specs.Trial.{Machine, next_of}
 use Rattle.rec_trial.proofs.AtWork.{told_place}
 use Rattle.rec_trial.proofs.Course.{first_view, released_same}
 use Rattle.rec_trial.proofs.Done.{Walked, once_of, within_of, all_of, no_white_left, walked_at, few_loads}
 use Rattle.rec_trial.proofs.Holding.{Over, Placed, inv_at, named}
+use Rattle.rec_trial.proofs.Learning.{busy_phase}
 use Rattle.rec_trial.proofs.Readings.{loaded_read, naming_read, edges_read}
 use Rattle.rec_trial.proofs.Rest.{no_roots_at}
 use Rattle.rec_trial.proofs.Runs.{Told, idle_or_busy, noted_idle, told_run, seen_of, seen_in}
@@ -30,21 +30,15 @@ use Rattle.rec_trial.proofs.Views.{view, set_code}
 sum_of : Run → ℕ
 sum_of r = length r.marking + length r.blackening + length r.collecting
 
-busy_phase : (m : Machine) → m.phase ≡ Idle → IsSome (next_of m) → ⊥
-unfolding next_of
-busy_phase m e b = false≢true (rw e at b)
-
 idle_none : (m : Machine) → m.phase ≡ Idle → IsNone (next_of m)
 unfolding next_of
 idle_none m e = rw e refl
 
-pub none_idle : (m : Machine) → IsNone (next_of m) → m.phase ≡ Idle
-unfolding next_of
-none_idle m h = go m.phase refl
-  where
-    go : (p : Phase) → m.phase ≡ p → p ≡ Idle
-    go Idle e = refl
-    go _ e = absurd (false≢true (sym (rw e at h)))
+none_idle : (m : Machine) → IsNone (next_of m) → m.phase ≡ Idle
+none_idle m h = elim (idle_or_busy m) [
+  | inl e ↦ e
+  | inr b ↦ absurd (false≢true (sym h ∙ b))
+]
 
 stays_idle : (words : List ℕ) (r : Run) → r.work.machine.phase ≡ Idle → fold noted r words ≡ r
 stays_idle [] r e = refl
@@ -70,13 +64,6 @@ turns_run : (fields : ℕ) (before : State) (words : List ℕ) → IsSome (next_
 unfolding run_of sum_of
 turns_run fields before words b = omega (arith, turns_by words (begun fields before) b)
 
-not_released : (b : Bool) (m : ℕ) → (b ≡ true → m ≡ 0) → 0 < m → b ≡ false
-not_released true m h a = absurd (omega (arith, h refl))
-not_released false m h a = refl
-
-past_released : (s : State) (n : ℕ) → length s.slots ≡ n → (x : ℕ) → n ≤ x → (slot_at s x).released ≡ true
-past_released s n e x h = ap (λ (v : Slot). v.released) (get_or_past s.slots x absent (omega (arith, e, h)))
-
 -- at every moment
 pub whole_careful : (fields : ℕ) (before : State) (words : List ℕ) → TrialIsCareful fields before words
 whole_careful fields before words f k a =
@@ -86,7 +73,7 @@ whole_careful fields before words f k a =
     let many : length s.slots ≡ length before.slots = t.course.rest.slots in
     let most : length before.slots * (view r.work).fields ≡ length before.slots * fields = ap (λ n. length before.slots * n) t.course.same.fields in
     let w : Walked (first_view fields before) (view r.work).fields (view r.work).count (view r.work).released (members s) (seen_in r) = walked_at r.work.machine.phase (first_view fields before) (view r.work) (seen_in r) t.course.inv in
-    let out : (x : ℕ) → length before.slots ≤ x → times x w.marked ≡ 0 = λ x l. w.alive x (past_released s (length before.slots) many x l) in
+    let out : (x : ℕ) → length before.slots ≤ x → times x w.marked ≡ 0 = λ x l. w.alive x (ap (λ (v : Slot). v.released) (get_or_past s.slots x absent (omega (arith, many, l)))) in
     let worked : (x : ℕ) → times x w.work ≤ 1 = λ x. omega (arith, w.worked x, w.once x) in
     let joined : (x : ℕ) → times x (members s) ≤ 1 = λ x. omega (arith, w.joined x, w.once x) in
     record {
@@ -104,7 +91,7 @@ whole_careful fields before words f k a =
       turns = turns_run fields before words;
       place = λ p h. subst (λ m. p < m * r.work.machine.fields) many (told_place r t p h);
       sets_once = λ x. omega (arith, occurs x (members s), joined x);
-      sets_unreleased = λ x h. not_released (slot_at before x).released (times x w.marked) (λ q. w.alive x (released_same r.work t.course x ∙ q)) (omega (arith, occurs x (members s), h, w.joined x));
+      sets_unreleased = λ x h. false_from_ne_true (slot_at before x).released (λ q. omega (arith, occurs x (members s), h, w.joined x, w.alive x (released_same r.work t.course x ∙ q)));
     }
 
 -- after that many words it is over
@@ -141,16 +128,17 @@ module _ (fields : ℕ) (before : State) (r : Run) (t : Told fields before r) (r
   one_of : (x : ℕ) → 0 < times x o.marked → times x (members r.work.counts) + one (is_black (slot_at r.work.counts x).colour) ≡ 1
   one_of x h = member_or_black (slot_at r.work.counts x).colour (o.end.parts x) (o.end.worked x) (o.end.oranges x) (o.end.once x) h (no_white_left o.end x h)
 
-  white_at : (x m : ℕ) → times x o.marked ≡ m → is_white (slot_at r.work.counts x).colour ≡ false
-  white_at x zero q = ap is_white (o.end.colours_old x q) ∙ ready.no_white x
-  white_at x (suc m) q = no_white_left o.end x (omega (arith, q))
-
   white : (x : ℕ) → is_white (slot_at r.work.counts x).colour ≡ false
-  white x = white_at x (times x o.marked) refl
+  white x = elim (cases_lt 0 (times x o.marked)) [
+    | inl h ↦ no_white_left o.end x h
+    | inr z ↦ ap is_white (o.end.colours_old x (omega (arith, z))) ∙ ready.no_white x
+  ]
 
-  gray_at : (x m : ℕ) → times x o.marked ≡ m → is_gray (slot_at r.work.counts x).colour ≡ false
-  gray_at x zero q = ap is_gray (o.end.colours_old x q) ∙ ready.no_gray x
-  gray_at x (suc m) q = not_gray (slot_at r.work.counts x).colour (times x (members r.work.counts)) (one_of x (omega (arith, q))) (o.end.oranges x)
+  gray : (x : ℕ) → is_gray (slot_at r.work.counts x).colour ≡ false
+  gray x = elim (cases_lt 0 (times x o.marked)) [
+    | inl h ↦ not_gray (slot_at r.work.counts x).colour (times x (members r.work.counts)) (one_of x h) (o.end.oranges x)
+    | inr z ↦ ap is_gray (o.end.colours_old x (omega (arith, z))) ∙ ready.no_gray x
+  ]
 
   -- every field of a member was loaded
   members_all : Placed (view r.work).fields (members r.work.counts) (length (members r.work.counts)) 0 (map seen_of r.collecting)
@@ -162,7 +150,7 @@ module _ (fields : ℕ) (before : State) (r : Run) (t : Told fields before r) (r
       let n : (view r.work).fields ≡ fields = t.course.same.fields in
       record {
         marked_once = λ x. omega (arith, mark x, f.once x);
-        marked_unreleased = λ x h. not_released (slot_at before x).released (times x o.marked) (λ q. f.alive x (released_same r.work t.course x ∙ q)) (omega (arith, mark x, h));
+        marked_unreleased = λ x h. false_from_ne_true (slot_at before x).released (λ q. omega (arith, mark x, h, f.alive x (released_same r.work t.course x ∙ q)));
         marking = λ x g l. omega (arith, loaded_read x g r.marking, mark x, all_of f.marks_all x g (omega (arith, n, l)));
         marking_fields = λ x g h. omega (arith, n, within_of f.marks_all x g (omega (arith, loaded_read x g r.marking, h)));
         member_or_black = λ x h. omega (arith, mem x, one_of x (omega (arith, mark x, h)));
@@ -176,7 +164,7 @@ module _ (fields : ℕ) (before : State) (r : Run) (t : Told fields before r) (r
         collecting_fields = λ x g h. omega (arith, n, within_of members_all x g (omega (arith, loaded_read x g r.collecting, h)));
         none_later = λ y x i j h m p q. set_numbers (slot_at r.work.counts y).set (slot_at r.work.counts x).set i j p q (f.order.backward y x (omega (arith, edges_read y x r.collecting, h)) (omega (arith, mem x, m)));
         others = λ x h. f.colours_old x (omega (arith, mark x, h));
-        no_gray = λ x. gray_at x (times x o.marked) refl;
+        no_gray = gray;
         no_white = white;
         roots = subst (λ p. no_roots_at p r.work.counts.roots) (none_idle r.work.machine none) t.course.rest.no_roots;
         no_marked = o.no_marked;

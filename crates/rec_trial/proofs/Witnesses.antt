@@ -1,6 +1,7 @@
 -- Loads as words of fields.
-use Rattle.std.proofs.Common.{◌≡◌, ℕ, zero, suc, ◌+◌, ◌<◌, ◌≤◌, Bool, true, false, eqb, ltb, cond, Some, List, [], ◌∷◌, length, map, refl, sym, ap, ◌∙◌, arith, zero-add}
+use Rattle.std.proofs.Common.{◌≡◌, ℕ, zero, suc, ◌+◌, ◌<◌, ◌≤◌, Bool, true, false, eqb, ltb, cond, Some, List, [], ◌∷◌, length, map, refl, ap, ◌∙◌, arith, zero-add}
 use Rattle.std.specs.List.{range_with_len}
+use Rattle.std.proofs.lemmas.Bool.{eqb-true}
 use Rattle.std.proofs.lemmas.Bool.Decides.{nat_tests}
 use Rattle.rec_word.specs.Word.{target_of, target_bits}
 use Rattle.rec_counts.specs.Counts.{State}
@@ -14,7 +15,7 @@ use Rattle.rec_trial.specs.Tried.{IsCareful, IsOver}
 use Rattle.rec_trial.specs.Witnessed.{word_at, TrialIsWitnessed}
 use Rattle.rec_trial.proofs.Deletion.{Seen}
 use Rattle.rec_trial.proofs.Holding.{named, loaded}
-use Rattle.rec_trial.proofs.Readings.{code_some, codes, loaded_read, naming_read, references_read, below_same, below_front}
+use Rattle.rec_trial.proofs.Readings.{code_some, codes, loaded_read, naming_read, references_read, below_front}
 use Rattle.rec_trial.proofs.Runs.{seen_of}
 use Rattle.rec_trial.proofs.Totals.{total, total_below, same}
 use Rattle.rec_trial.proofs.Whole.{whole_careful, whole_over}
@@ -37,7 +38,7 @@ total_range f a zero = refl
 total_range f a (suc n) =
     let e : f (a + 0) ≡ f a = ap f (omega arith) in
     let next : (k : ℕ) → f (a + 1 + k) ≡ f (a + suc k) = λ k. ap f (omega arith) in
-    omega (arith, e, total_range f (a + 1) n, below_same (λ k. f (a + 1 + k)) (λ k. f (a + suc k)) n next, below_front (λ k. f (a + k)) n)
+    omega (arith, e, total_range f (a + 1) n, below_alike (λ k. f (a + 1 + k)) (λ k. f (a + suc k)) n (λ k l. next k), below_front (λ k. f (a + k)) n)
 
 -- a field that was not loaded has no word
 no_word : (loads : List Load) (n g : ℕ) → loaded n g (map seen_of loads) ≡ 0 → word_at loads n g ≡ 0
@@ -56,7 +57,7 @@ leading loads slots fields x = total_below (λ n. total_below (λ g. same (suc x
 leading_read : (loads : List Load) (slots fields x : ℕ) → references fields (word_at loads) (range_with_len 0 slots) x ≡ leading loads slots fields x
 leading_read loads slots fields x =
     let f : ℕ → ℕ = λ n. total_below (λ g. same (suc x) (codes (word_at loads) n g)) fields in
-    references_read fields (word_at loads) (range_with_len 0 slots) x ∙ total_range f 0 slots ∙ below_same (λ n. f (0 + n)) f slots (λ n. ap f (zero-add n))
+    references_read fields (word_at loads) (range_with_len 0 slots) x ∙ total_range f 0 slots ∙ below_alike (λ n. f (0 + n)) f slots (λ n l. ap f (zero-add n))
 
 -- each load is of a field that there is, and each field was loaded once
 record Spread (slots fields : ℕ) (ls : List Seen) : Type 0 where
@@ -76,14 +77,11 @@ leading_more slots fields x l loads a b none =
     there : (a b v m : ℕ) → a < b → m + cond (ltb a b) v 0 ≡ m + v
     there a b v m h = grind (arith, nat_tests)
 
-    is_same : (a b : ℕ) → eqb a b ≡ true → a ≡ b
-    is_same a b e = grind (arith, nat_tests)
-
     null : (m : ℕ) → m ≡ same (suc x) 0 + m
     null m = grind (arith, nat_tests)
 
     cell : (n g : ℕ) (a b : Bool) → eqb n l.slot ≡ a → eqb g l.field ≡ b → same (suc x) (target_bits (cond (cond a b false) l.word (word_at loads n g))) ≡ same (suc x) (codes (word_at loads) n g) + cond b (cond a more 0) 0
-    cell n g true true e f = let z : word_at loads n g ≡ 0 = no_word loads n g (rw (is_same n l.slot e, is_same g l.field f) none) in rw z (null (same (suc x) (target_bits l.word)))
+    cell n g true true e f = let z : word_at loads n g ≡ 0 = no_word loads n g (rw (eqb-true n l.slot e, eqb-true g l.field f) none) in rw z (null (same (suc x) (target_bits l.word)))
     cell n g true false e f = omega arith
     cell n g false true e f = omega arith
     cell n g false false e f = omega arith

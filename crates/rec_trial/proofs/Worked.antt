@@ -5,7 +5,7 @@ use Rattle.std.proofs.lemmas.Bool.{cases_lt}
 use Rattle.std.proofs.lemmas.Bool.Decides.{eqb_tells}
 use Rattle.rec_counts.specs.declared.slot.Slot.{Slot}
 use Rattle.rec_counts.specs.declared.slot.Due.{Due}
-use Rattle.rec_counts.specs.declared.slot.Due.TheVariants.{Nothing, Zero, Root}
+use Rattle.rec_counts.specs.declared.slot.Due.TheVariants.{Nothing}
 use Rattle.rec_counts.specs.Counts.{State, slot_at, with_slot, sent, decremented}
 use Rattle.rec_counts.specs.Lists.{times}
 use Rattle.rec_counts.specs.Slot.{absent, lessened, lessened_if, due_of}
@@ -48,8 +48,7 @@ lessened_colour v f h a b c d = go v.released (eqb v.count 1)
 
 sent_ready : (d : Due) (s : State) (x : ℕ) → s.free ≡ [] → IsReady s → IsReady (sent d s x)
 sent_ready Nothing s x e r = r
-sent_ready Zero s x e r = record { sets = r.sets; marked = r.marked; work = r.work; no_gray = r.no_gray; no_white = r.no_white; unlisted = λ y h o. none_listed s e y }
-sent_ready Root s x e r = record { sets = r.sets; marked = r.marked; work = r.work; no_gray = r.no_gray; no_white = r.no_white; unlisted = λ y h o. none_listed s e y }
+sent_ready _ s x e r = record { sets = r.sets; marked = r.marked; work = r.work; no_gray = r.no_gray; no_white = r.no_white; unlisted = λ y h o. none_listed s e y }
 
 pub down_ready : (s : State) (x : ℕ) → s.free ≡ [] → IsReady s → IsReady (decremented s x)
 down_ready s x e r =

@@ -24,7 +24,7 @@ loop-index-preserved c =
           rw (w.counts-is, w.set_colour.ensures, q) (whiten_gray c.loop-index.index c.loop-index.counts c.args.counts.now c.loop-index.invariant l r h)
       | in_default w ↦ let g : is_gray (slot_at c.loop-index.counts (get_or c.marked.result.now c.loop-index.index 0)).colour ≡ false = search rules in
           let h : is_gray (slot_at c.loop-index.counts (get_or c.args.counts.now.marked c.loop-index.index 0)).colour ≡ false = rw q at g in
-          rw w.counts-is (whiten_other c.loop-index.index c.loop-index.counts c.args.counts.now c.loop-index.invariant l r h)
+          rw w.counts-is (whiten_other c.loop-index.index c.loop-index.counts c.args.counts.now c.loop-index.invariant l h)
     ]
 
 pub returns : goal.returns

@@ -1,7 +1,7 @@
 use Rattle.std.proofs.Common.{◌≡◌, ◌<◌, true, false, refl, rules, sym, subst}
 use Rattle.rec_trial.specs.Trial.{Work, is_due, moves_left}
 use Rattle.rec_trial.proofs.Midway.{going_midway, rules_midway, moved_on, arrived}
-use Rattle.rec_trial.proofs.Settling.{moved_less}
+use Rattle.rec_trial.proofs.Moving.{moved_less}
 use Rattle.rec_trial.proofs.trial.Trial.settle.Goals as goal
 
 pub loop-self-init : goal.loop-self-init

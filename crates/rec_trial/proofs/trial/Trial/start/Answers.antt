@@ -6,7 +6,9 @@ use Rattle.rec_trial.proofs.AtWork.{at_work_place, started_at_work, started_slot
 use Rattle.rec_trial.proofs.trial.Trial.start.Goals as goal
 
 pub settle-requires : goal.settle-requires
-settle-requires c = let f : 0 < c.args.self.now.fields = rw c.begin_phase.ensures.begun at c.begin_phase.ensures.wide in rw c.begin_phase.ensures.begun (begins f c.rules.ensures c.requires.ready)
+settle-requires c =
+    let f : 0 < c.args.self.now.fields = rw c.begin_phase.ensures.begun at c.begin_phase.ensures.wide in
+    rw c.begin_phase.ensures.begun (begins f c.rules.ensures c.requires.ready)
 
 pub returns-clause-started : goal.returns-clause-started
 unfolding started_of

@@ -1,4 +1,4 @@
-use Rattle.std.proofs.Common.{◌≡◌, ap, ◌∙◌, refl, sym}
+use Rattle.std.proofs.Common.{◌≡◌, ap, ◌∙◌, sym}
 use Rattle.rec_word.specs.Word.{target_of}
 use Rattle.rec_trial.specs.Loaded.{learns}
 use Rattle.rec_trial.specs.Trial.{Work, advanced, learnt_at, pointed, settled}
