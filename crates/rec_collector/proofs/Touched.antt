@@ -33,7 +33,7 @@ use Rattle.rec_collector.specs.Touched.{decrements, IsOrangeIn, named_at, named_
 use Rattle.rec_collector.specs.declared.phase.Phase.{Phase}
 use Rattle.rec_collector.specs.declared.phase.Phase.TheVariants.{Returning, Releasing, Freeing, Trying, Preparing}
 use Rattle.rec_collector.specs.declared.turn.Turn.{Turn}
-use Rattle.rec_collector.proofs.Batched.{none_released}
+use Rattle.rec_collector.proofs.Following.{none_released}
 use Rattle.rec_collector.proofs.Goings.{freed_by, freed_off, none_some, relieved_by, released_by, released_off}
 use Rattle.rec_collector.proofs.Outside.{Lowers, first_lowers, given_lowers, off_lowers, refurbished_lowers, same_lowers, swept_lowers, batch_same, down_names}
 use Rattle.rec_collector.proofs.Steps.{prepared_on, step_made, tried_on}

@@ -37,7 +37,7 @@ use Rattle.rec_collector.specs.declared.phase.Phase.{Phase}
 use Rattle.rec_collector.specs.declared.phase.Phase.TheVariants.{Preparing, Opening, Closing, Trying}
 use Rattle.rec_collector.specs.Zeros.{AreCounted}
 use Rattle.rec_collector.proofs.Landing.{Fits, Lands, fits_all, fits_on, fits_self, landed, now_at, told_at}
-use Rattle.rec_collector.proofs.Limits.{loads_few}
+use Rattle.rec_collector.proofs.Always.{loads_few}
 use Rattle.rec_collector.proofs.Outside.{apart_on, untried_on, prepared_outside}
 
 -- What a trial has left holds still where no more than cyclic counts change.

@@ -4,7 +4,7 @@ use Rattle.rec_collector.specs.Inside.{private}
 use Rattle.rec_collector.specs.Private.{Private, parts_of}
 use Rattle.rec_collector.specs.Took.{took_at, turn_at}
 use Rattle.rec_collector.specs.declared.phase.Phase.TheVariants.{Returning}
-use Rattle.rec_collector.proofs.Batched.{resting_clear}
+use Rattle.rec_collector.proofs.Following.{resting_clear}
 use Rattle.rec_collector.proofs.Landing.{now_at}
 use Rattle.rec_collector.proofs.Keeping.{batch_follows, returned_answer, returned_last, returned_moved, returned_next, turned, turned_keeps}
 use Rattle.rec_collector.proofs.machine.Machine.took_return.Goals as goal

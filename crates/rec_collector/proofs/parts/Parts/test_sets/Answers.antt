@@ -2,7 +2,7 @@ use Rattle.std.proofs.Common.{◌<◌, length, ap, arith, refl, sym, subst, ◌�
 use Rattle.rec_counts.specs.Counts.{IsKept as IsKeptCounts}
 use Rattle.rec_collector.specs.Parts.{Parts}
 use Rattle.rec_collector.proofs.Goings.{last_sets}
-use Rattle.rec_collector.proofs.UnderTest.{last_under_test, tests_end, tests_stop}
+use Rattle.rec_collector.proofs.Answering.{last_under_test, tests_end, tests_stop}
 use Rattle.rec_collector.proofs.parts.Parts.test_sets.Goals as goal
 
 pub loop-self-init : goal.loop-self-init

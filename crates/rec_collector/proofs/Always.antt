@@ -1,33 +1,113 @@
--- What comes next names a word of the heap.
-use Rattle.std.proofs.Common.{◌≡◌, ℕ, ◌+◌, ◌*◌, ◌^◌, ◌<◌, Option, None, Some, IfSome, length, slice_get, arith, refl, sym, ap, subst, inl, inr}
+-- What holds in every phase: the zeros are exactly the slots without a count that are neither released nor Orange, no collection takes more
+-- turns than its limit, and what comes next names a word of the heap.
+use Rattle.std.proofs.Common.{◌≡◌, [], arith, ap, ℕ, ◌+◌, ◌*◌, ◌^◌, ◌<◌, ◌≤◌, Option, List, length, None, Some, IfSome, slice_get, refl, sym, subst, inl, inr}
+use Rattle.std.proofs.Math.Nat.{mul-le-mul}
 use Rattle.std.proofs.lemmas.Bool.{cases_eq, cond-true, cond-false, eq-eqb, ne_eqb}
 use Rattle.rec_word.specs.declared.op.Op.{Op}
 use Rattle.rec_word.specs.declared.op.Op.TheVariants.{StoreEpoch, LoadChild}
 use Rattle.rec_word.proofs.FieldPlaces.{place_within}
-use Rattle.rec_counts.specs.Counts.{State, IsKept}
-use Rattle.rec_counts.proofs.Times.{in_range_once, times_at}
-use Rattle.rec_release.specs.CycleFree as frees
-use Rattle.rec_release.specs.declared.at.At.{At}
+use Rattle.rec_counts.specs.Counts.{State, IsKept as IsKeptCounts, IsKept}
+use Rattle.rec_counts.specs.Lists.{times}
+use Rattle.rec_counts.proofs.Times.{times-nil, in_range_once, times_at}
+use Rattle.rec_walk.specs.Load.{Load}
 use Rattle.rec_walk.specs.declared.member.Member.{Member}
 use Rattle.rec_walk.specs.Walk.{IsOf}
+use Rattle.rec_release.specs.CycleFree as frees
+use Rattle.rec_release.specs.declared.at.At.{At}
 use Rattle.rec_release.specs.Release.{IsAtWork, IsHeld, Machine, next_of as release_next, op_at}
 use Rattle.rec_release.specs.Sweep.{next_of as sweep_next}
 use Rattle.rec_release.proofs.Sweeping.{first_in}
+use Rattle.rec_sigma.specs.declared.at.At as loads_at
+use Rattle.rec_sigma.specs.Prepared.{PreparedTo, LoadsWithin}
+use Rattle.rec_sigma.proofs.Bounds.{few_loads, names_place}
 use Rattle.rec_sigma.specs.Prepare as preps
-use Rattle.rec_sigma.specs.Prepared.{LoadsWithin}
-use Rattle.rec_sigma.proofs.Bounds.{names_place}
+use Rattle.rec_trial.proofs.Keeps.{at_work_few}
 use Rattle.rec_trial.specs.declared.phase.Phase as trial_phase
 use Rattle.rec_trial.specs.declared.phase.Phase.TheVariants as trial_at
 use Rattle.rec_trial.specs.Loaded as trials
 use Rattle.rec_trial.specs.Trial.{Machine as Trial, next_of as trial_next, op_at as trial_op_at}
 use Rattle.rec_trial.proofs.AtWork.{at_work_place}
-use Rattle.rec_collector.specs.Kept.{IsAt, IsMachine}
-use Rattle.rec_collector.specs.Next.{is_spent, next_at, next_of}
-use Rattle.rec_collector.specs.Private.{Private}
-use Rattle.rec_collector.specs.Step.{NamesWord}
+use Rattle.rec_collector.specs.Clearing.{IsClearing}
+use Rattle.rec_collector.specs.Kept.{IsAt, IsMachine, all_fields, limit_of, IsPreparing, IsTesting, IsTrying}
+use Rattle.rec_collector.specs.Parts.{Parts}
+use Rattle.rec_collector.specs.Private.{Private, parts_of}
+use Rattle.rec_collector.specs.Zeros.{AreCounted, AreTheZeros}
 use Rattle.rec_collector.specs.declared.phase.Phase.{Phase}
-use Rattle.rec_collector.specs.declared.phase.Phase.TheVariants.{Idle, Looking, Swapping, Returning, Releasing, Freeing, Trying, Preparing, Opening, Sweeping, Closing}
+use Rattle.rec_collector.specs.declared.phase.Phase.TheVariants.{Looking, Swapping, Returning, Releasing, Freeing, Trying, Preparing, Idle, Opening, Sweeping, Closing}
+use Rattle.rec_collector.specs.Next.{is_spent, next_at, next_of}
+use Rattle.rec_collector.specs.Step.{NamesWord}
+use Rattle.rec_collector.proofs.Exchanging.{exchanged_few}
 use Rattle.rec_collector.proofs.Landing.{now_at}
+
+-- where each slot has a count, there are none
+none_exact : (s : State) → s.zeros ≡ [] → AreCounted s → AreTheZeros s
+none_exact s z c x = (
+  λ h. absurd (omega (arith, h, ap (times x) z, times-nil x)),
+  λ q. absurd (omega (arith, q.1, c x q.0)),
+)
+
+-- while slots are released and sets tested
+clear_exact : (w : Parts) → IsClearing w → AreTheZeros w.counts
+clear_exact w c x = (
+  λ h. (c.release.ready.zeros.unreleased x h, c.release.ready.zeros.none x h, λ o. absurd (omega (arith, h, (c.apart x o).no_zero))),
+  λ q. c.all_zeros x q.0 q.1 q.2,
+)
+
+exact_at : (p : Private) (phase : Phase) → IsAt p phase → AreTheZeros p.counts
+exact_at p Releasing a = clear_exact (parts_of p) a.0.clearing
+exact_at p Freeing a = clear_exact (parts_of p) a.0.clearing
+exact_at p Trying a = none_exact p.counts a.zeros a.counted
+exact_at p Preparing a = none_exact p.counts a.tried.zeros a.tried.counted
+exact_at p (Looking t) a = none_exact p.counts a.rest.zeros a.rest.counted
+exact_at p (Swapping t) a = none_exact p.counts a.rest.zeros a.rest.counted
+exact_at p (Returning t) a = none_exact p.counts a.rest.zeros a.rest.counted
+exact_at p _ a = none_exact p.counts a.0.zeros a.0.counted
+
+pub machine_exact : (p : Private) → IsMachine p → AreTheZeros p.counts
+machine_exact p k = exact_at p p.phase k.now
+
+-- a release and the freeing of sets exchange each field of a slot at most once
+testing_few : (p : Private) → IsKeptCounts p.counts → IsTesting p → p.turns ≤ 1 + 2 * length p.newer + all_fields p
+testing_few p c k = omega (arith, k.turns, exchanged_few (parts_of p) k.exchanged c k.exchanges)
+
+-- a trial takes in three words for each field at most
+trying_few : (p : Private) → p.trial.fields ≡ p.release.fields → IsTrying p → p.turns ≤ 1 + 2 * length p.newer + 4 * all_fields p
+trying_few p e k =
+    let all : length p.counts.slots * p.trial.fields ≡ all_fields p = ap (λ n. length p.counts.slots * n) e in
+    omega (arith, k.turns, at_work_few p.trial p.counts k.kept k.busy, all)
+
+-- a preparation takes in a word for each field at most
+pub loads_few : (fields : ℕ) (before : State) (at : Option loads_at.At) (after : State) (loads : List Load) → IsKeptCounts before → PreparedTo fields before at after loads → length loads ≤ length after.slots * fields
+loads_few fields before at after loads k h =
+    let f = few_loads fields before at after loads k h in
+    let many : length after.slots * fields ≡ length before.slots * fields = ap (λ n. n * fields) h.others.many in
+    omega (arith, f.0, f.1, many)
+
+preparing_few : (p : Private) → p.prep.fields ≡ p.release.fields → IsPreparing p → p.turns ≤ 2 + 2 * length p.newer + 5 * all_fields p
+preparing_few p e k =
+    let all : length p.counts.slots * p.prep.fields ≡ all_fields p = ap (λ n. length p.counts.slots * n) e in
+    omega (arith, k.turns, loads_few p.prep.fields k.before p.prep.at p.counts k.loads k.before_kept k.prepares, all)
+
+within_at : (p : Private) (phase : Phase) → IsMachine p → IsAt p phase → p.turns ≤ limit_of p
+within_at p Idle m k = omega (arith, k.2)
+within_at p Releasing m k = omega (arith, testing_few p m.counts k.0)
+within_at p Freeing m k = omega (arith, testing_few p m.counts k.0)
+within_at p Trying m k = omega (arith, trying_few p m.trial_fields k)
+within_at p Preparing m k = omega (arith, preparing_few p m.prep_fields k)
+within_at p Opening m k = omega (arith, k.0.turns)
+within_at p (Sweeping n) m k = omega (arith, k.0.turns, k.0.left)
+within_at p (Closing n) m k = omega (arith, k.0.turns, k.0.left)
+within_at p _ m k = omega (arith, k.turns, k.there)
+
+-- in every state
+pub within_limit : (p : Private) → IsMachine p → p.turns ≤ limit_of p
+within_limit p k = within_at p p.phase k k.now
+
+-- so they can be counted
+pub turns_fit : (p : Private) → IsMachine p → p.turns + 1 < 2 ^ 64
+turns_fit p k =
+    let m : all_fields p ≤ 2 ^ 16 * 2 ^ 8 = mul-le-mul {n₁ = length p.counts.slots} {m₁ = p.release.fields} {n₂ = 2 ^ 16} {m₂ = 2 ^ 8} (omega (arith, k.counts.few_slots)) (omega (arith, k.few_fields)) in
+    omega (arith, m, within_limit p k, k.few, k.counts.few_slots)
 
 release_names : (m : Machine) (s : State) (mutators : ℕ) → IsAtWork m s → IfSome (release_next m) (NamesWord (length s.slots) m.fields mutators)
 unfolding release_next
