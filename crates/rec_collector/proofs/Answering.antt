@@ -98,27 +98,20 @@ stays_follow k few s = record { clearing = s.clearing; done = s.done; told = ome
 -- nothing comes next where nothing is due, and something where it is
 pub release_next : (m : releases.Machine) → is_some (releases.next_of m) ≡ is_some m.at
 unfolding releases.next_of
-release_next m = go m.at
-  where
-    go : (at : Option At) → is_some (releases.op_at m.fields at) ≡ is_some at
-    go None = refl
-    go (Some a) = refl
+release_next m = elim m.at as (λ o. is_some (releases.op_at m.fields o) ≡ is_some o) [ None ↦ refl | Some a ↦ refl ]
 
 pub freeing_next : (m : frees.Machine) → is_some (frees.next_of m) ≡ is_some m.at
 unfolding frees.next_of
-freeing_next m = go m.at
-  where
-    go : (at : Option Member) → is_some (frees.op_at m.fields at) ≡ is_some at
-    go None = refl
-    go (Some a) = refl
+freeing_next m = elim m.at as (λ o. is_some (frees.op_at m.fields o) ≡ is_some o) [ None ↦ refl | Some a ↦ refl ]
 
 pub prep_next : (m : preps.Machine) → is_some (preps.next_of m) ≡ is_some m.at
 unfolding preps.next_of
-prep_next m = go m.at
-  where
-    go : (at : Option loads.At) → is_some (preps.op_at m.fields at) ≡ is_some at
-    go None = refl
-    go (Some a) = refl
+prep_next m = elim m.at as (λ o. is_some (preps.op_at m.fields o) ≡ is_some o) [ None ↦ refl | Some a ↦ refl ]
+
+-- what holds of each thing that there may be, holds where there is one
+some_of : {A : Type 0} (P : Option A → Type 0) (o : Option A) → ((a : A) → P (Some a)) → is_some o ≡ true → P o
+some_of P None h e = absurd (false≢true e)
+some_of P (Some a) h e = h a
 
 pub none_of : {A : Type 0} (o : Option A) → is_some o ≡ false → o ≡ None
 none_of None e = refl
@@ -136,11 +129,7 @@ no_load m e = prep_next m ∙ ap (λ (o : Option loads.At). is_some o) e
 -- after a preparation
 pub prepares_on : (w : Parts) → is_some (preps.next_of w.prep) ≡ true → next_in Preparing w ≡ prepared w
 unfolding prepared
-prepares_on w e = go w.prep.at (sym (prep_next w.prep) ∙ e)
-  where
-    go : (at : Option loads.At) → is_some at ≡ true → next_in Preparing w ≡ prepared_at w at
-    go None e = absurd (false≢true e)
-    go (Some a) e = refl
+prepares_on w e = some_of (λ at. next_in Preparing w ≡ prepared_at w at) w.prep.at (λ a. refl) (sym (prep_next w.prep) ∙ e)
 
 prepares_no_more : (w : Parts) → is_some (preps.next_of w.prep) ≡ false → next_in (sweep_phase w.counts.free) w ≡ prepared w
 unfolding prepared
@@ -163,11 +152,7 @@ opens w e n = ap (λ phase. next_in phase w) (something_free w.counts.free n) �
 -- after a trial
 pub tries_on : (w : Parts) → is_some (trials.next_of w.trial) ≡ true → next_in Trying w ≡ tried w
 unfolding tried
-tries_on w e = go (trials.next_of w.trial) e
-  where
-    go : (op : Option Op) → is_some op ≡ true → next_in Trying w ≡ tried_at w op
-    go None e = absurd (false≢true e)
-    go (Some o) e = refl
+tries_on w e = some_of (λ op. next_in Trying w ≡ tried_at w op) (trials.next_of w.trial) (λ o. refl) e
 
 tries_no_more : (w : Parts) → is_some (trials.next_of w.trial) ≡ false → prepared (prep_started w) ≡ tried w
 unfolding tried
@@ -206,18 +191,10 @@ refused_ready s t r zeros free = record { zeros = zeros r.zeros; free = free r.f
 
 -- after the tests of sets
 pub tests_free : (w : Parts) → is_some (frees.next_of w.freeing) ≡ true → next_in Freeing w ≡ tested_next w
-tests_free w e = go w.freeing.at (sym (freeing_next w.freeing) ∙ e)
-  where
-    go : (member : Option Member) → is_some member ≡ true → next_in Freeing w ≡ tested_on w w.release.at member
-    go None e = absurd (false≢true e)
-    go (Some m) e = refl
+tests_free w e = some_of (λ member. next_in Freeing w ≡ tested_on w w.release.at member) w.freeing.at (λ m. refl) (sym (freeing_next w.freeing) ∙ e)
 
 pub tests_release : (w : Parts) → is_some (frees.next_of w.freeing) ≡ false → is_some (releases.next_of w.release) ≡ true → next_in Releasing w ≡ tested_next w
-tests_release w e b = go w.release.at (sym (release_next w.release) ∙ b) ∙ sym (ap (tested_on w w.release.at) (none_of w.freeing.at (sym (freeing_next w.freeing) ∙ e)))
-  where
-    go : (at : Option At) → is_some at ≡ true → next_in Releasing w ≡ tested_on w at None
-    go None e = absurd (false≢true e)
-    go (Some a) e = refl
+tests_release w e b = some_of (λ at. next_in Releasing w ≡ tested_on w at None) w.release.at (λ a. refl) (sym (release_next w.release) ∙ b) ∙ sym (ap (tested_on w w.release.at) (none_of w.freeing.at (sym (freeing_next w.freeing) ∙ e)))
 
 pub tests_try : (w v : Parts) (n : Next) → is_some (frees.next_of w.freeing) ≡ false → is_some (releases.next_of w.release) ≡ false → n ≡ tried v → v ≡ trial_started w → n ≡ tested_next w
 tests_try w v n e b is s =

@@ -115,11 +115,7 @@ freed_by P w word none more next last = go w.freeing.at refl
 
 -- once a set is freed the zeros are released; before, nothing is done
 pub relieved_by : (P : Parts → Type 0) (w : Parts) → (w.freeing.at ≡ None → P (zeros_released true w)) → ((m : Member) → w.freeing.at ≡ Some m → P w) → P (relieved w)
-relieved_by P w none some = go w.freeing.at refl
-  where
-    go : (at : Option Member) → w.freeing.at ≡ at → P (relieved_at w at)
-    go None e = none e
-    go (Some m) e = some m e
+relieved_by P w none some = (elim w.freeing.at as (λ at. w.freeing.at ≡ at → P (relieved_at w at)) [ None ↦ λ e. none e | Some m ↦ λ e. some m e ]) refl
 
 -- the last set passed its tests and is given up, or it was refused and is refurbished
 abbrev pub last_given : Parts → Parts
@@ -135,12 +131,8 @@ last_refused verdict w = record w { counts = refurbished_of w.counts; sets = cou
 
 pub last_by : (P : Parts → Type 0) (w : Parts) → (verdict_of w.counts (length w.counts.sets - 1) ≡ Passed → P (last_given w)) → ((verdict : Verdict) → P (zeros_released true (last_refused verdict w))) → P (last_tested w)
 unfolding last_tested freeing_started
-last_by P w passed refused = go (verdict_of w.counts (length w.counts.sets - 1)) refl
-  where
-    go : (v : Verdict) → verdict_of w.counts (length w.counts.sets - 1) ≡ v → P (tested_as v w)
-    go Passed e = passed e
-    go Touched e = refused Touched
-    go Held e = refused Held
+last_by P w passed refused =
+    (elim (verdict_of w.counts (length w.counts.sets - 1)) as (λ v. verdict_of w.counts (length w.counts.sets - 1) ≡ v → P (tested_as v w)) [ Passed ↦ λ e. passed e | Touched ↦ λ e. refused Touched | Held ↦ λ e. refused Held ]) refl
 
 -- the sets, and the number of slots, of a state in which all members of the last set got their places
 all_same : (first : Option ℕ) (xs : List ℕ) (s : State) → ((settled_all first xs s).sets ≡ s.sets) × (length (settled_all first xs s).slots ≡ length s.slots)
@@ -184,8 +176,6 @@ first_work (z ∷ zs) s = refl
 pub tested_all : (P : Parts → Type 0) → ((w : Parts) → 0 < length w.counts.sets → is_busy w ≡ false → P w → P (last_tested w)) → (n : ℕ) (w : Parts) → n ≤ length w.counts.sets → P w → P (tested n w)
 unfolding tested
 tested_all P step zero w l p = p
-tested_all P step (suc n) w l p = go (is_busy w) refl (λ e. tested_all P step n (last_tested w) (omega (arith, l, last_sets w (omega (arith, l)))) (step w (omega (arith, l)) e p))
-  where
-    go : (b : Bool) → is_busy w ≡ b → (is_busy w ≡ false → P (tested n (last_tested w))) → P (cond b w (tested n (last_tested w)))
-    go true e next = p
-    go false e next = next e
+tested_all P step (suc n) w l p =
+    let next : is_busy w ≡ false → P (tested n (last_tested w)) = λ e. tested_all P step n (last_tested w) (omega (arith, l, last_sets w (omega (arith, l)))) (step w (omega (arith, l)) e p) in
+    (elim (is_busy w) as (λ b. is_busy w ≡ b → P (cond b w (tested n (last_tested w)))) [ true ↦ λ e. p | false ↦ next ]) refl

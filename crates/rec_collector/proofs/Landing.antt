@@ -44,11 +44,7 @@ module _ (P : Phase → Type 0) (preparing : P Preparing) (opening : P Opening) 
   module _ (trying : P Trying) where
     pub tried_phase : (w : Parts) → P (tried w).phase
     unfolding tried
-    tried_phase w = go (trial_next w.trial)
-      where
-        go : (op : Option Op) → P (tried_at w op).phase
-        go None = prepared_phase (prep_started w)
-        go (Some o) = trying
+    tried_phase w = elim (trial_next w.trial) as (λ op. P (tried_at w op).phase) [ None ↦ prepared_phase (prep_started w) | Some o ↦ trying ]
 
     pub followed_phase : P Freeing → P Releasing → (w : Parts) → P (followed w).phase
     unfolding followed

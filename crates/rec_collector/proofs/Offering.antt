@@ -34,11 +34,7 @@ offered_false v r = ap (λ b. offered_if b v) r
 
 -- it has a new colour and a new place at most
 stays : {A : Type 0} (f : Slot → A) → ((v : Slot) → f (record v { colour = Purple; buffered = true }) ≡ f v) → (s : State) (x : ℕ) → f (slot_at (offered s) x) ≡ f (slot_at s x)
-stays f h s x = ap f (offered_at s x) ∙ go (slot_at s x).released
-  where
-    go : (b : Bool) → f (offered_if b (slot_at s x)) ≡ f (slot_at s x)
-    go true = refl
-    go false = h (slot_at s x)
+stays f h s x = ap f (offered_at s x) ∙ elim (slot_at s x).released as (λ b. f (offered_if b (slot_at s x)) ≡ f (slot_at s x)) [ true ↦ refl | false ↦ h (slot_at s x) ]
 
 offered_keeps : (s : State) → KeepsOffered s (offered s)
 unfolding offered
@@ -130,11 +126,7 @@ offered_kept s k =
 
 -- a colour that a slot that isn't offered lacks, and which isn't Purple
 no_colour : (f : Colour → Bool) → f Purple ≡ false → (s : State) → ((x : ℕ) → f (slot_at s x).colour ≡ false) → (x : ℕ) → f (slot_at (offered s) x).colour ≡ false
-no_colour f p s h x = ap (λ (v : Slot). f v.colour) (offered_at s x) ∙ go (slot_at s x).released
-  where
-    go : (b : Bool) → f (offered_if b (slot_at s x)).colour ≡ false
-    go true = h x
-    go false = p
+no_colour f p s h x = ap (λ (v : Slot). f v.colour) (offered_at s x) ∙ elim (slot_at s x).released as (λ b. f (offered_if b (slot_at s x)).colour ≡ false) [ true ↦ h x | false ↦ p ]
 
 -- a released slot is in the root buffer only where it was
 same_roots : (s : State) (x : ℕ) → (slot_at s x).released ≡ true → times x (offered s).roots ≡ times x s.roots
