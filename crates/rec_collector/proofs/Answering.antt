@@ -1,7 +1,6 @@
 -- What follows, as the tests of the code find it: each of them asks a machine for what comes next. The sets are tested one after another.
 use Rattle.std.proofs.Common.{◌≡◌, ℕ, zero, suc, ◌-◌, ◌<◌, true, false, cond, None, length, refl, arith, sym, ◌∙◌, ap, subst, ◌≢◌, Option, Some, IsNone, List, [], ◌∷◌, is_some}
 use Rattle.std.proofs.lemmas.Bool.{false≢true}
-use Rattle.rec_word.specs.declared.op.Op.{Op}
 use Rattle.rec_counts.specs.Counts.{State}
 use Rattle.rec_counts.specs.Rest.{AreZeros}
 use Rattle.rec_walk.specs.declared.member.Member.{Member}
@@ -177,13 +176,8 @@ pub refused_last : (w : Parts) (verdict : Verdict) (s : State) (v : releases.Wor
 unfolding last_tested
 refused_last w verdict s v sets is refused r e n =
     ap (λ (u : releases.Work). record w { counts = u.counts; release = u.machine; sets = sets }) (e ∙ ap (releases.started_of w.release true) r)
-    ∙ ap (λ (m : Sets). zeros_released true (record w { counts = refurbished_of w.counts; sets = m })) n ∙ go verdict refused
+    ∙ ap (λ (m : Sets). zeros_released true (record w { counts = refurbished_of w.counts; sets = m })) n ∙ (elim verdict as (λ b. b ≢ Passed → zeros_released true (record w { counts = refurbished_of w.counts; sets = counted_by b w.sets }) ≡ tested_as b w) [ Passed ↦ λ other. absurd (other refl) | Touched ↦ λ other. refl | Held ↦ λ other. refl ]) refused
     ∙ ap (λ (b : Verdict). tested_as b w) is
-  where
-    go : (b : Verdict) → b ≢ Passed → zeros_released true (record w { counts = refurbished_of w.counts; sets = counted_by b w.sets }) ≡ tested_as b w
-    go Passed other = absurd (other refl)
-    go Touched other = refl
-    go Held other = refl
 
 -- what a refused set leaves can be released
 pub refused_ready : (s t : State) → IsReady s → (AreZeros s → AreZeros t) → (AreReleased s → AreReleased t) → IsReady t

@@ -15,7 +15,6 @@ use Rattle.rec_counts.proofs.Front.{first_and_rest}
 use Rattle.rec_release.specs.CycleFree as frees
 use Rattle.rec_walk.specs.Walk.{first_member}
 use Rattle.rec_release.specs.CycleFree.{given_up}
-use Rattle.rec_release.specs.Release as releases
 use Rattle.rec_release.specs.Release.{started_of as zeros_started, emptied, first_of, with_next, without_first, IsReady}
 use Rattle.rec_release.specs.declared.at.At.{At}
 use Rattle.rec_walk.specs.declared.member.Member.{Member}
@@ -33,7 +32,7 @@ use Rattle.rec_collector.specs.Testing.{is_busy, last_tested, tested, with_relea
 use Rattle.rec_collector.specs.declared.verdict.Verdict.{Verdict}
 use Rattle.rec_collector.proofs.Clearing.{freed_clear, last_stays, refused_clear, StaysClear, release_alone, release_at_work, freeing_at_work}
 use Rattle.rec_collector.proofs.Counting.{Counted, last_told}
-use Rattle.rec_collector.proofs.Goings.{freed_by, freed_last, freed_more, freed_next, freed_off, last_by, last_given, last_refused, none_some, released_by, released_emptied, released_last, released_more, released_off, relieved_by, tested_all, released_most, freed_most}
+use Rattle.rec_collector.proofs.Goings.{emptied_same, freed_by, freed_last, freed_more, freed_next, freed_off, last_by, last_given, last_refused, none_some, released_by, released_emptied, released_last, released_more, released_off, relieved_by, tested_all, released_most, freed_most}
 use Rattle.rec_collector.proofs.Judging.{last_freeable, last_refusable, none_busy}
 
 -- no more fields were exchanged than there are
@@ -94,10 +93,6 @@ pub zeros_exchanged : (lowers : Bool) (w : Parts) (n : ℕ) → w.release.at ≡
 unfolding zeros_started
 zeros_exchanged lowers w n still c h = next_exchanged lowers w n still c.release.ready h
 
-listed_at : (b : Bool) (s : State) (x y : ℕ) → slot_at (releases.listed_if b s x) y ≡ slot_at s y
-listed_at true s x y = refl
-listed_at false s x y = refl
-
 -- a word came out of a field of a released slot
 module _ (w : Parts) (word n : ℕ) (c : IsClearing w) (h : HasExchanged w n) (a : At) (e : w.release.at ≡ Some a) where
   -- nothing is left to free
@@ -113,7 +108,7 @@ module _ (w : Parts) (word n : ℕ) (c : IsClearing w) (h : HasExchanged w n) (a
   emptied_exchanged : HasExchanged (released_emptied w word a) (n + 1)
   emptied_exchanged =
       let field : a.field < w.release.fields = (release_at_work w a c e).field in
-      exchanged_as w (released_emptied w word a) n (n + 1) (emptied_length (released_off w word) a.slot ∙ (released_most w word).slots) (λ x. ap (λ (v : Slot). v.released) (listed_at (slot_at (released_off w word) a.slot).buffered (released_off w word) a.slot x) ∙ (released_most w word).released x) refl
+      exchanged_as w (released_emptied w word a) n (n + 1) (emptied_length (released_off w word) a.slot ∙ (released_most w word).slots) (λ x. ap (λ (v : Slot). v.released) ((emptied_same (released_off w word) a.slot).0 x) ∙ (released_most w word).released x) refl
       (omega (arith, field, none_left (emptied (released_off w word) a.slot).work, none_left w.counts.work, left)) h
 
   last_exchanges : HasExchanged (released_last w word a) (n + 1)

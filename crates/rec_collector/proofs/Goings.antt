@@ -172,6 +172,10 @@ pub first_work : (zs : List ℕ) (s : State) → (without_first zs s).work ≡ s
 first_work [] s = refl
 first_work (z ∷ zs) s = refl
 
+-- a slot that is emptied stays, and so does the work list
+pub emptied_same : (s : State) (y : ℕ) → ((x : ℕ) → slot_at (emptied s y) x ≡ slot_at s x) × ((emptied s y).work ≡ s.work)
+emptied_same s y = elim (slot_at s y).buffered as (λ b. ((x : ℕ) → slot_at (releases.listed_if b s y) x ≡ slot_at s x) × ((releases.listed_if b s y).work ≡ s.work)) [ true ↦ (λ x. refl, refl) | false ↦ (λ x. refl, refl) ]
+
 -- what the test of a set keeps, the tests of sets keep
 pub tested_all : (P : Parts → Type 0) → ((w : Parts) → 0 < length w.counts.sets → is_busy w ≡ false → P w → P (last_tested w)) → (n : ℕ) (w : Parts) → n ≤ length w.counts.sets → P w → P (tested n w)
 unfolding tested

@@ -16,7 +16,7 @@ use Rattle.rec_collector.specs.Private.{Private, blank, buffer_at, parts_of}
 use Rattle.rec_collector.specs.Took.{moved, swapped_at, took_at, batched, came, came_turn, ended_if, took_of, turn_at, turn_of, step_of, swapped_of}
 use Rattle.rec_collector.specs.declared.phase.Phase.{Phase}
 use Rattle.rec_collector.specs.declared.phase.Phase.TheVariants.{Idle, Looking, Swapping, Returning, Releasing, Freeing, Trying, Preparing, Sweeping, Closing, Opening}
-use Rattle.rec_collector.specs.Followed.{Next, followed, prepared, relieved, tried, with_freed, with_loaded, with_released, with_tried}
+use Rattle.rec_collector.specs.Followed.{Next, followed}
 use Rattle.rec_collector.specs.Testing.{zeros_released}
 use Rattle.rec_collector.specs.declared.turn.Turn.{Turn}
 use Rattle.rec_collector.specs.declared.turn.Turn.TheVariants.{Moved}
@@ -24,6 +24,7 @@ use Rattle.rec_collector.specs.Step.{IsBetween}
 use Rattle.rec_collector.proofs.Landing.{freed_at, now_at, told_at, under_way_at, Lands, landed, landed_keeps, landed_sizes, sizes_on, work_of}
 use Rattle.rec_collector.proofs.Following.{begun_clears, followed_lands, freed_clears, released_clears}
 use Rattle.rec_collector.proofs.Trying.{prepared_lands, took_prepared, took_tried, tried_lands}
+use Rattle.rec_collector.proofs.Steps.{same_swapped, took_between}
 use Rattle.rec_collector.proofs.Sweeping.{ended_keeps, opening_keeps, sweeping_keeps}
 
 -- a turn that changes the epoch and the phase alone
@@ -232,52 +233,22 @@ took_keeps_at p word (Sweeping n) k e g = sweeping_keeps p n word k e (sweep_kep
 took_keeps_at p word (Closing n) k e g = ended_keeps p n k e
 took_keeps_at p word phase k e g = came_keeps p word phase k e g tt
 
-took_keeps : (p : Private) (word : ℕ) → IsMachine p → IsGiven p word → IsMachine (took_of p word)
-unfolding took_of IsGiven
-took_keeps p word k g = took_keeps_at p word p.phase k refl g
+-- a whole step: where a mailbox is held, its buffer is swapped
+kept_at : (p : Private) (word : ℕ) (box : Contents) (phase : Phase) → IsMachine p → p.phase ≡ phase → IsBetween phase → IsGivenAt p word phase → IsSized p.registers p.capacity box → IsMachine (swapped_of (took_at p word phase) box)
+unfolding took_at swapped_of
+kept_at p word box (Swapping t) k e b g z = absurd b
+kept_at p word box (Looking t) k e b g z =
+    (elim (word == crossing_word p.epoch Retired) as (λ c. IsMachine (cond c (moved p (Swapping t)) p) → IsMachine (swapped_of (cond c (moved p (Swapping t)) p) box)) [
+      | true ↦ λ m. swap_keeps (moved p (Swapping t)) t box z m refl
+      | false ↦ λ m. subst IsMachine (sym (same_swapped p box (Looking t) e tt)) m
+    ]) (look_keeps p word t k e)
+kept_at p word box phase k e b g z =
+    let q : Private = took_at p word phase in
+    subst IsMachine (sym (same_swapped q box q.phase refl (took_between p word phase e b (λ t. λ q. cc)))) (took_keeps_at p word phase k e g)
 
--- the registers and the room of the buffers stay
-came_sized : (p : Private) (n : Next) (box : Contents) → IsSized p.registers p.capacity box → IsSized (came p n).registers (came p n).capacity box
-came_sized p n box z = go n.phase
-  where
-    go : (phase : Phase) → IsSized (ended_if phase (landed p n)).registers (ended_if phase (landed p n)).capacity box
-    go Idle = z
-    go _ = z
-
-either_sized : (p q : Private) (box : Contents) (b : Bool) → IsSized p.registers p.capacity box → IsSized q.registers q.capacity box → IsSized (cond b p q).registers (cond b p q).capacity box
-either_sized p q box true y z = y
-either_sized p q box false y z = z
-
-took_sized_at : (p : Private) (word : ℕ) (box : Contents) (phase : Phase) → IsSized p.registers p.capacity box → IsSized (took_at p word phase).registers (took_at p word phase).capacity box
-unfolding took_at
-took_sized_at p word box Idle z = either_sized p (moved (record p { epoch = p.epoch + 1 }) (Looking 1)) box (is_spent p) z z
-took_sized_at p word box (Looking t) z = either_sized (moved p (Swapping t)) p box (word == crossing_word p.epoch Retired) z z
-took_sized_at p word box (Swapping t) z = z
-took_sized_at p word box (Returning t) z =
-    let n : Next = followed (zeros_released false (batched p)) in
-    either_sized (came p n) (moved p (Looking (t + 1))) box (t == length p.newer) (came_sized p n box z) z
-took_sized_at p word box Releasing z = came_sized p (followed (with_released (parts_of p) word)) box z
-took_sized_at p word box Freeing z = came_sized p (followed (relieved (with_freed (parts_of p) word))) box z
-took_sized_at p word box Trying z = came_sized p (tried (with_tried (parts_of p) word)) box z
-took_sized_at p word box Preparing z = came_sized p (prepared (with_loaded (parts_of p) word)) box z
-took_sized_at p word box _ z = z
-
-took_sized : (p : Private) (word : ℕ) (box : Contents) → IsSized p.registers p.capacity box → IsSized (took_of p word).registers (took_of p word).capacity box
-unfolding took_of
-took_sized p word box z = took_sized_at p word box p.phase z
-
--- the buffer of a mailbox that is held is swapped
-swapped_keeps : (p : Private) (box : Contents) (phase : Phase) → IsSized p.registers p.capacity box → IsMachine p → p.phase ≡ phase → IsMachine (swapped_at p box phase)
-unfolding swapped_at
-swapped_keeps p box (Swapping t) z k e = swap_keeps p t box z k e
-swapped_keeps p box _ z k e = k
-
--- a whole step
 pub machine_kept : (p : Private) (word : ℕ) (box : Contents) → IsMachine p → IsBetween p.phase → IsGiven p word → IsSized p.registers p.capacity box → IsMachine (step_of p word box)
-unfolding step_of swapped_of
-machine_kept p word box k between given sized =
-    let q : Private = took_of p word in
-    swapped_keeps q box q.phase (took_sized p word box sized) (took_keeps p word k given) refl
+unfolding step_of took_of IsGiven
+machine_kept p word box k between given sized = kept_at p word box p.phase k refl between given sized
 
 module _ (p : Private) (b : Bool) where
   gathering_on : (t given_back made : ℕ) → IsGathering p t given_back made → IsGathering (record p { offers = b }) t given_back made

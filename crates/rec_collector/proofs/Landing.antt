@@ -1,6 +1,5 @@
 -- Where a turn lands that works on the parts of the machine: the phase that it came to, and what holds there.
 use Rattle.std.proofs.Common.{◌≡◌, ℕ, ◌+◌, ◌*◌, ◌^◌, ◌≤◌, false, Option, None, Some, List, [], ◌∷◌, length, refl, arith, sym, ap, subst, ◌∙◌}
-use Rattle.rec_word.specs.declared.op.Op.{Op}
 use Rattle.rec_counts.specs.Counts.{IsKept as IsKeptCounts}
 use Rattle.rec_release.specs.declared.at.At.{At}
 use Rattle.rec_walk.specs.declared.member.Member.{Member}

@@ -178,11 +178,8 @@ pub where_uncoloured : (offers : Bool) (s : State) → ((x : ℕ) → (slot_at s
 where_uncoloured false s h = h
 where_uncoloured true s h = λ x e. elim (cases_Bool (slot_at s x).released) [
   | inl r ↦ h x (sym (ap (λ (v : Slot). v.colour) (offered_at s x ∙ offered_true (slot_at s x) r)) ∙ e)
-  | inr r ↦ other (sym (ap (λ (v : Slot). v.colour) (offered_at s x ∙ offered_false (slot_at s x) r)) ∙ e)
+  | inr r ↦ let q : Purple ≡ Orange = sym (ap (λ (v : Slot). v.colour) (offered_at s x ∙ offered_false (slot_at s x) r)) ∙ e in cc
 ]
-  where
-    other : Purple ≢ Orange
-    other e = cc
 
 -- where no set is left, each slot that isn't released is a candidate root
 all_offered : (s : State) → IsKept s → s.sets ≡ [] → AreOffered s (offered s)

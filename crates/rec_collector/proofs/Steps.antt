@@ -119,7 +119,7 @@ unfolding followed
 cleared_on p w box h = tested_on_from (length w.counts.sets) p w box refl h.stays
 
 -- the phase of a turn that changes nothing
-same_swapped : (p : Private) (box : Contents) (phase : Phase) → p.phase ≡ phase → IsBetween phase → swapped_of p box ≡ p
+pub same_swapped : (p : Private) (box : Contents) (phase : Phase) → p.phase ≡ phase → IsBetween phase → swapped_of p box ≡ p
 unfolding swapped_of swapped_at
 same_swapped p box phase e b = ap (swapped_at p box) e ∙ go phase b
   where
@@ -192,13 +192,33 @@ tried_between w = tried_phase IsBetween tt tt tt tt w
 pub followed_between : (w : Parts) → IsBetween (followed w).phase
 followed_between w = followed_phase IsBetween tt tt tt tt tt tt w
 
-came_leaves : (p : Private) (box : Contents) (n : Next) → IsBetween n.phase → left_of (came p n) box ≡ box
-unfolding left_of left_at
-came_leaves p box n between = at n.phase between
+-- nor does what a word leaves, where none was looked at
+came_between : (p : Private) (n : Next) → IsBetween n.phase → IsBetween (came p n).phase
+came_between p n b = go n.phase b
   where
-    at : (phase : Phase) → IsBetween phase → left_of (ended_if phase (moved (with_parts p n.parts) phase)) box ≡ box
-    at (Swapping t) between = absurd between
-    at _ between = refl
+    go : (phase : Phase) → IsBetween phase → IsBetween (ended_if phase (moved (with_parts p n.parts) phase)).phase
+    go (Closing m) b = tt
+    go _ b = b
+
+pub took_between : (p : Private) (word : ℕ) (phase : Phase) → p.phase ≡ phase → IsBetween phase → ((t : ℕ) → phase ≢ Looking t) → IsBetween (took_at p word phase).phase
+unfolding took_at
+took_between p word Idle is b other = elim (is_spent p) as (λ c. IsBetween (cond c p (moved (record p { epoch = p.epoch + 1 }) (Looking 1))).phase) [ true ↦ subst IsBetween (sym is) tt | false ↦ tt ]
+took_between p word (Looking t) is b other = absurd (other t refl)
+took_between p word (Swapping t) is b other = absurd b
+took_between p word (Returning t) is b other =
+    elim (t == length p.newer) as (λ c. IsBetween (cond c (came p (work_of p word (Returning t))) (moved p (Looking (t + 1)))).phase) [ true ↦ came_between p (work_of p word (Returning t)) (followed_between _) | false ↦ tt ]
+took_between p word Opening is b other = tt
+took_between p word (Sweeping n) is b other = elim (sweeps.took_of (record { due = p.due; counts = p.counts }) word).due as (λ d. IsBetween (swept_phase (n + 1) d)) [ None ↦ tt | Some x ↦ tt ]
+took_between p word (Closing n) is b other = tt
+took_between p word phase is b other = came_between p (work_of p word phase) (work_phase IsBetween tt tt tt tt tt tt p word phase)
+
+left_between : (q : Private) (box : Contents) → IsBetween q.phase → left_of q box ≡ box
+unfolding left_of left_at
+left_between q box b = go q.phase b
+  where
+    go : (phase : Phase) → IsBetween phase → left_at q box phase ≡ box
+    go (Swapping t) b = absurd b
+    go _ b = refl
 
 -- a phase in which no mailbox is looked at
 keeps_in : (p : Private) (word : ℕ) (box left : Contents) (phase : Phase) → p.phase ≡ phase → ((t : ℕ) → phase ≢ Looking t) → left ≡ box → LeavesBox p word box left
@@ -207,32 +227,12 @@ keeps_in p word box left phase is other e = LeavesBox.keeps (λ t looks. absurd 
 -- by phase
 leaves_at : (p : Private) (word : ℕ) (box : Contents) (phase : Phase) → p.phase ≡ phase → IsBetween phase → LeavesBox p word box (left_of (took_at p word phase) box)
 unfolding took_at left_of left_at
-leaves_at p word box Idle is between = keeps_in p word box _ Idle is (λ t. λ e. cc) (go (is_spent p))
-  where
-    go : (spent : Bool) → left_of (cond spent p (moved (record p { epoch = p.epoch + 1 }) (Looking 1))) box ≡ box
-    go true = ap (left_at p box) is
-    go false = refl
 leaves_at p word box (Looking t) is between = elim (cases_eq word (crossing_word p.epoch Retired)) [
   | inl e ↦ LeavesBox.empties t is e (ap (λ b. left_of (cond b (moved p (Swapping t)) p) box) (eq-eqb word (crossing_word p.epoch Retired) e))
   | inr e ↦ LeavesBox.keeps (λ u looks same. e same) (ap (λ b. left_of (cond b (moved p (Swapping t)) p) box) (ne_eqb word (crossing_word p.epoch Retired) e) ∙ ap (left_at p box) is)
 ]
 leaves_at p word box (Swapping t) is between = absurd between
-leaves_at p word box (Returning t) is between = keeps_in p word box _ (Returning t) is (λ t. λ e. cc) (go (t == length p.newer))
-  where
-    next : Next
-    next = work_of p word (Returning t)
-
-    go : (last : Bool) → left_of (cond last (came p next) (moved p (Looking (t + 1)))) box ≡ box
-    go true = came_leaves p box next (followed_between _)
-    go false = refl
-leaves_at p word box Opening is between = keeps_in p word box _ Opening is (λ t. λ e. cc) refl
-leaves_at p word box (Sweeping n) is between = keeps_in p word box _ (Sweeping n) is (λ t. λ e. cc) (go _)
-  where
-    go : (x : Option ℕ) → left_at p box (swept_phase (n + 1) x) ≡ box
-    go None = refl
-    go (Some x) = refl
-leaves_at p word box (Closing n) is between = keeps_in p word box _ (Closing n) is (λ t. λ e. cc) refl
-leaves_at p word box phase is between = keeps_in p word box _ phase is (λ t. λ e. cc) (came_leaves p box (work_of p word phase) (work_phase IsBetween tt tt tt tt tt tt p word phase))
+leaves_at p word box phase is between = keeps_in p word box _ phase is (λ t. λ e. cc) (left_between (took_at p word phase) box (took_between p word phase is between (λ t. λ e. cc)))
 
 leaves_box : (p : Private) (word : ℕ) (box : Contents) → IsBetween p.phase → LeavesBox p word box (left_of (took_of p word) box)
 unfolding took_of

@@ -43,11 +43,10 @@ times_last x (xs ∷ ys ∷ yss) =
 -- what passes a test stands there no more often
 pub times_filter : (p : ℕ → Bool) (x : ℕ) (xs : List ℕ) → times x (filter p xs) ≤ times x xs
 times_filter p x [] = omega arith
-times_filter p x (y ∷ ys) = go (p y) (times_filter p x ys)
-  where
-    go : (b : Bool) → times x (filter p ys) ≤ times x ys → times x (cond b (y ∷ filter p ys) (filter p ys)) ≤ times x (y ∷ ys)
-    go true i = omega (arith, i, times-cons x y (filter p ys), times-cons x y ys)
-    go false i = omega (arith, i, times-cons x y ys)
+times_filter p x (y ∷ ys) = elim (p y) as (λ b. times x (cond b (y ∷ filter p ys) (filter p ys)) ≤ times x (y ∷ ys)) [
+  | true ↦ omega (arith, times_filter p x ys, times-cons x y (filter p ys), times-cons x y ys)
+  | false ↦ omega (arith, times_filter p x ys, times-cons x y ys)
+]
 
 -- a refurbished member is Orange only where it was
 refurbished_orange : (f : Fate) (v : Slot) → (refurbished f v).colour ≡ Orange → v.colour ≡ Orange

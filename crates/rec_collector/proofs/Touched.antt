@@ -16,7 +16,7 @@ use Rattle.rec_counts.specs.Lists.{one}
 use Rattle.rec_counts.specs.Slot.{absent}
 use Rattle.rec_release.specs.CycleFree as frees
 use Rattle.rec_release.specs.Release as releases
-use Rattle.rec_release.specs.Release.{emptied, listed_if, without_first}
+use Rattle.rec_release.specs.Release.{emptied, without_first}
 use Rattle.rec_release.specs.Sweep as sweeps
 use Rattle.rec_release.specs.TakenOff.{down_if, IsApart, is_lowered, taken_off}
 use Rattle.rec_walk.specs.Load.{Load}
@@ -34,7 +34,7 @@ use Rattle.rec_collector.specs.declared.phase.Phase.{Phase}
 use Rattle.rec_collector.specs.declared.phase.Phase.TheVariants.{Returning, Releasing, Freeing, Trying, Preparing}
 use Rattle.rec_collector.specs.declared.turn.Turn.{Turn}
 use Rattle.rec_collector.proofs.Following.{none_released}
-use Rattle.rec_collector.proofs.Goings.{freed_by, freed_off, none_some, relieved_by, released_by, released_off}
+use Rattle.rec_collector.proofs.Goings.{emptied_same, freed_by, freed_off, none_some, relieved_by, released_by, released_off}
 use Rattle.rec_collector.proofs.Outside.{Lowers, first_lowers, given_lowers, off_lowers, refurbished_lowers, same_lowers, swept_lowers, batch_same, down_names}
 use Rattle.rec_collector.proofs.Steps.{prepared_on, step_made, tried_on}
 use Rattle.rec_collector.proofs.Landing.{now_at}
@@ -82,11 +82,6 @@ off_spares lowers s (Some y) x a h number o =
         let down : taken_off lowers s (Some y) ≡ down_if false s y = ap (λ b. down_if b s y) plain in
         absurd ((down_names s (Some y) x (a x c).unreleased).lost e (ap (λ t. (slot_at t x).colour) (sym down) ∙ o.1))
 
--- an emptied slot goes to the free list
-emptied_same : (b : Bool) (s : State) (y x : ℕ) → slot_at (listed_if b s y) x ≡ slot_at s x
-emptied_same true s y x = refl
-emptied_same false s y x = refl
-
 -- a word came out of a field of a released slot
 released_spares : (w : Parts) (word x : ℕ) → IsSome w.release.at → IsApart w.counts → IfSome (target_of word) (λ y. 0 < (slot_at w.counts y).count) → Spares w.counts (with_released w word).counts x (decrements w.release.lowers w.counts (target_of word) x)
 released_spares w word x busy a h = released_by (λ v. Spares w.counts v.counts x n) w word (λ e. none_some w.release.at e busy) (λ at e l. off)
@@ -94,7 +89,7 @@ released_spares w word x busy a h = released_by (λ v. Spares w.counts v.counts 
     let s : State = released_off w word in
     let t : State = emptied s at.slot in
     spares_on w.counts t (without_first t.zeros t) x n 0 n
-    (spares_on w.counts s t x n 0 n off (lowers_spares s t x (same_lowers s t (emptied_same (slot_at s at.slot).buffered s at.slot))) (omega arith))
+    (spares_on w.counts s t x n 0 n off (lowers_spares s t x (same_lowers s t (emptied_same s at.slot).0)) (omega arith))
     (lowers_spares t (without_first t.zeros t) x (first_lowers t.zeros t)) (omega arith))
   where
     n : ℕ

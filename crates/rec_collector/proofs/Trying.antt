@@ -85,11 +85,7 @@ started_prepared p w t k fits due turns told =
 -- it has gone on
 pub took_others : (w : preps.Work) (word : ℕ) → KeepsOthers w.counts (preps.took_of w word).counts
 unfolding preps.took_of
-took_others w word = go w.machine.at
-  where
-    go : (at : Option At) → KeepsOthers w.counts (preps.took_at w word at).counts
-    go None = others_same w.counts
-    go (Some a) = more_others w.machine.fields a w.counts word
+took_others w word = elim w.machine.at as (λ at. KeepsOthers w.counts (preps.took_at w word at).counts) [ None ↦ others_same w.counts | Some a ↦ more_others w.machine.fields a w.counts word ]
 
 loaded_one : (at : Option At) (word : ℕ) → IsSome at → length (loaded_at at word) ≡ 1
 loaded_one None word b = cc
