@@ -1,5 +1,5 @@
 -- Each word that comes out is a field of a released slot, and each is exchanged once: so there are no more of them than fields.
-use Rattle.std.proofs.Common.{◌≡◌, ℕ, ◌+◌, ◌-◌, ◌*◌, ◌<◌, ◌≤◌, Bool, true, false, eqb, leb, ltb, Option, None, Some, IsSome, List, [], ◌∷◌, ◌++◌, length, slice_get, refl, arith, sym, ◌∙◌, ap, subst, inl, inr}
+use Rattle.std.proofs.Common.{◌≡◌, ℕ, ◌+◌, ◌-◌, ◌*◌, ◌<◌, ◌≤◌, Bool, true, false, eqb, leb, ltb, get_or, Option, None, Some, IsSome, List, [], ◌∷◌, ◌++◌, length, slice_get, refl, arith, sym, ◌∙◌, ap, subst, inl, inr}
 use Rattle.std.proofs.Math.Nat.{mul-le-mul_left}
 use Rattle.std.proofs.lemmas.List.{get_or_past, length-append}
 use Rattle.std.proofs.lemmas.Bool.{cases_lt, le-leb, lt-leb, lt-ltb}
@@ -127,24 +127,18 @@ module _ (w : Parts) (word n : ℕ) (c : IsClearing w) (h : HasExchanged w n) (a
   same_work : length (freed_off w word).work ≡ length w.counts.work
   same_work = ap length (freed_most w word).work
 
-  freed_more_exchanged : a.field + 1 < w.freeing.fields → HasExchanged (freed_more w word a) (n + 1)
-  freed_more_exchanged l =
-      exchanged_as w (freed_more w word a) n (n + 1) (freed_most w word).slots (freed_most w word).released refl (omega (arith, l, many_left, ap (λ k. (k - (a.index + 1)) * w.freeing.fields) same_work)) h
-
-  freed_next_exchanged : a.index + 1 < length (freed_off w word).work → HasExchanged (freed_next w word a) (n + 1)
-  freed_next_exchanged l =
-      let field : a.field < w.freeing.fields = (freeing_at_work w a c e).field in
-      let step : length w.counts.work - (a.index + 1) ≡ length (freed_off w word).work - (a.index + 1 + 1) + 1 = omega (arith, l, same_work) in
-      exchanged_as w (freed_next w word a) n (n + 1) (freed_most w word).slots (freed_most w word).released refl (omega (arith, field, many_left, ap (λ k. k * w.freeing.fields) step)) h
-
-  freed_last_exchanged : HasExchanged (freed_last w word) (n + 1)
-  freed_last_exchanged =
-      let field : a.field < w.freeing.fields = (freeing_at_work w a c e).field in
-      exchanged_as w (freed_last w word) n (n + 1) (freed_most w word).slots (freed_most w word).released refl (omega (arith, field, many_left)) h
+  -- one field less is left of it
+  freed_on : (v : Parts) → v.counts.slots ≡ (freed_off w word).slots → v.release ≡ w.release → freeing_left v.freeing.fields v.counts.work v.freeing.at + 1 ≤ freeing_left w.freeing.fields w.counts.work w.freeing.at → HasExchanged v (n + 1)
+  freed_on v slots release left = exchanged_as w v n (n + 1) (ap length slots ∙ (freed_most w word).slots) (λ x. ap (λ s. (get_or s x absent).released) slots ∙ (freed_most w word).released x) (ap (λ m. m.fields) release) (omega (arith, left, ap (λ m. release_left m.fields m.at) release)) h
 
 freed_exchanged : (w : Parts) (word n : ℕ) → IsSome w.freeing.at → IsClearing w → HasExchanged w n → HasExchanged (with_freed w word) (n + 1)
 freed_exchanged w word n busy c h = freed_by (λ v. HasExchanged v (n + 1)) w word (λ e. none_some w.freeing.at e busy)
-    (λ a e l. freed_more_exchanged w word n c h a e l) (λ a e l m. freed_next_exchanged w word n c h a e m) (λ a e l m. freed_last_exchanged w word n c h a e)
+    (λ a e l. freed_on w word n c h a e (freed_more w word a) refl refl (omega (arith, l, many_left w word n c h a e, ap (λ k. (k - (a.index + 1)) * w.freeing.fields) (same_work w word n c h a e))))
+    (λ a e l m.
+    let field : a.field < w.freeing.fields = (freeing_at_work w a c e).field in
+    let step : length w.counts.work - (a.index + 1) ≡ length (freed_off w word).work - (a.index + 1 + 1) + 1 = omega (arith, m, same_work w word n c h a e) in
+    freed_on w word n c h a e (freed_next w word a) refl refl (omega (arith, field, many_left w word n c h a e, ap (λ k. k * w.freeing.fields) step)))
+    (λ a e l m. let field : a.field < w.freeing.fields = (freeing_at_work w a c e).field in freed_on w word n c h a e (freed_last w word) refl refl (omega (arith, field, many_left w word n c h a e)))
 
 -- once the set is freed the zeros are released
 pub relieved_exchanged : (w : Parts) (word n : ℕ) → IsSome w.freeing.at → Counted w.counts word → IsKept w.counts → IsClearing w → HasExchanged w n → HasExchanged (relieved (with_freed w word)) (n + 1)

@@ -65,16 +65,13 @@ pub released_by : (P : Parts → Type 0) (w : Parts) (word : ℕ) → (w.release
     ((a : At) → w.release.at ≡ Some a → a.field + 1 < w.release.fields → P (released_more w word a)) →
     ((a : At) → w.release.at ≡ Some a → w.release.fields ≤ a.field + 1 → P (released_last w word a)) → P (with_released w word)
 unfolding released_of
-released_by P w word none more last = go w.release.at refl
+released_by P w word none more last =
+    (elim w.release.at as (λ at. w.release.at ≡ at → P (with_release w (releases.took_at (record { machine = w.release; counts = w.counts }) word at))) [ None ↦ none | Some a ↦ λ e. gone a e (ltb (a.field + 1) w.release.fields) refl ]) refl
   where
     gone : (a : At) → w.release.at ≡ Some a → (b : Bool) → ltb (a.field + 1) w.release.fields ≡ b →
         P (with_release w (cond b (record { machine = (released_more w word a).release; counts = released_off w word }) (with_next w.release.fields w.release.lowers (emptied (released_off w word) a.slot))))
     gone a e true f = more a e (ltb-true (a.field + 1) w.release.fields f)
     gone a e false f = last a e (ltb-false (a.field + 1) w.release.fields f)
-
-    go : (at : Option At) → w.release.at ≡ at → P (with_release w (releases.took_at (record { machine = w.release; counts = w.counts }) word at))
-    go None e = none e
-    go (Some a) e = gone a e (ltb (a.field + 1) w.release.fields) refl
 
 -- the freeing goes on with the next field of its member, with the next member, or ends
 abbrev pub freed_more : Parts → (word : ℕ) → Member → Parts
@@ -96,7 +93,8 @@ pub freed_by : (P : Parts → Type 0) (w : Parts) (word : ℕ) → (w.freeing.at
     ((a : Member) → w.freeing.at ≡ Some a → w.freeing.fields ≤ a.field + 1 → a.index + 1 < length (freed_off w word).work → P (freed_next w word a)) →
     ((a : Member) → w.freeing.at ≡ Some a → w.freeing.fields ≤ a.field + 1 → length (freed_off w word).work ≤ a.index + 1 → P (freed_last w word)) → P (with_freed w word)
 unfolding freed_of
-freed_by P w word none more next last = go w.freeing.at refl
+freed_by P w word none more next last =
+    (elim w.freeing.at as (λ at. w.freeing.at ≡ at → P (with_freeing w (frees.took_at (record { machine = w.freeing; counts = w.counts }) word at))) [ None ↦ none | Some a ↦ λ e. gone a e (ltb (a.field + 1) w.freeing.fields) refl ]) refl
   where
     off : State
     off = freed_off w word
@@ -108,10 +106,6 @@ freed_by P w word none more next last = go w.freeing.at refl
     gone : (a : Member) → w.freeing.at ≡ Some a → (b : Bool) → ltb (a.field + 1) w.freeing.fields ≡ b → P (with_freeing w (frees.work_of w.freeing.fields (frees.listed_behind off (walks.else_member (walks.next_field_if b a) off.work a))))
     gone a e true f = more a e (ltb-true (a.field + 1) w.freeing.fields f)
     gone a e false f = member a e (ltb-false (a.field + 1) w.freeing.fields f) (ltb (a.index + 1) (length off.work)) refl
-
-    go : (at : Option Member) → w.freeing.at ≡ at → P (with_freeing w (frees.took_at (record { machine = w.freeing; counts = w.counts }) word at))
-    go None e = none e
-    go (Some a) e = gone a e (ltb (a.field + 1) w.freeing.fields) refl
 
 -- once a set is freed the zeros are released; before, nothing is done
 pub relieved_by : (P : Parts → Type 0) (w : Parts) → (w.freeing.at ≡ None → P (zeros_released true w)) → ((m : Member) → w.freeing.at ≡ Some m → P w) → P (relieved w)

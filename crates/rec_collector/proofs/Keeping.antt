@@ -2,7 +2,7 @@
 -- gathered, and on a turn that works on the parts.
 use Rattle.std.proofs.Common.{◌≡◌, ◌≢◌, ℕ, ◌+◌, ◌-◌, ◌*◌, ◌^◌, ◌<◌, ◌≤◌, ◌==◌, true, false, Bool, cond, inl, inr, length, set, refl, arith, sym, ◌∙◌, ap, subst, List}
 use Rattle.std.proofs.lemmas.List.{length-set, get_or-set_same, get_or-set_other}
-use Rattle.std.proofs.lemmas.Bool.{cases_eq, cases_lt, eq-eqb, false≢true, cond-true, cond-false, ne_eqb, eqb-true}
+use Rattle.std.proofs.lemmas.Bool.{cases_eq, cases_lt, eq-eqb, false≢true, eqb-true}
 use Rattle.rec_word.specs.Mailbox.{crossing_word}
 use Rattle.rec_word.specs.declared.mailbox.Mailbox.TheVariants.{Retired}
 use Rattle.rec_log.specs.declared.contents.Contents.{Contents}
@@ -149,28 +149,19 @@ work_keeps p word phase k e g at_work = landed_keeps p (work_of p word phase) ph
     none (Closing n) a = absurd a
     none _ a = refl
 
--- with the last mailbox given back the batch was applied
-pub returned_last : (p : Private) (t : ℕ) → t ≡ length p.newer → came p (followed (zeros_released false (batched p))) ≡ took_at p 0 (Returning t)
-unfolding took_at
-returned_last p t last = sym (cond-true (t == length p.newer) (came p (followed (zeros_released false (batched p)))) (moved p (Looking (t + 1))) (eq-eqb t (length p.newer) last))
-
-pub returned_answer : (p : Private) (t : ℕ) → t ≡ length p.newer → came_turn p.epoch (followed (zeros_released false (batched p))).phase ≡ turn_at p 0 (Returning t)
-unfolding turn_at
-returned_answer p t last = sym (cond-true (t == length p.newer) (came_turn p.epoch (followed (zeros_released false (batched p))).phase) Moved (eq-eqb t (length p.newer) last))
+-- a mailbox was given back: with the last one the batch was applied, and else another one follows
+pub returned_as : (p now : Private) (t : ℕ) (b : Bool) → p ≡ now → (t == length p.newer) ≡ b →
+    (cond b (came p (work_of p 0 (Returning t))) (moved p (Looking (t + 1))) ≡ took_at now 0 (Returning t)) × (cond b (came_turn p.epoch (work_of p 0 (Returning t)).phase) Moved ≡ turn_at now 0 (Returning t))
+unfolding took_at turn_at
+returned_as p now t b v e = (
+  ap (λ c. cond c (came p (work_of p 0 (Returning t))) (moved p (Looking (t + 1)))) (sym e) ∙ ap (λ (q : Private). took_at q 0 (Returning t)) v,
+  ap (λ c. cond c (came_turn p.epoch (work_of p 0 (Returning t)).phase) Moved) (sym e) ∙ ap (λ (q : Private). turn_at q 0 (Returning t)) v,
+)
 
 pub batch_follows : (p : Private) (n : Next) (newer older : List Contents) → n ≡ followed (zeros_released false (record (parts_of p) { counts = batch p.counts newer older })) → newer ≡ p.newer → older ≡ p.older → n ≡ followed (zeros_released false (batched p))
 batch_follows p n newer older e f g =
     e ∙ ap (λ (b : List Contents). followed (zeros_released false (record (parts_of p) { counts = batch p.counts b older }))) f
     ∙ ap (λ (b : List Contents). followed (zeros_released false (record (parts_of p) { counts = batch p.counts p.newer b }))) g
-
--- another one follows
-pub returned_next : (p : Private) (t : ℕ) → t ≢ length p.newer → moved p (Looking (t + 1)) ≡ took_at p 0 (Returning t)
-unfolding took_at
-returned_next p t other = sym (cond-false (t == length p.newer) (came p (followed (zeros_released false (batched p)))) (moved p (Looking (t + 1))) (ne_eqb t (length p.newer) other))
-
-pub returned_moved : (p : Private) (t : ℕ) → t ≢ length p.newer → Moved ≡ turn_at p 0 (Returning t)
-unfolding turn_at
-returned_moved p t other = sym (cond-false (t == length p.newer) (came_turn p.epoch (followed (zeros_released false (batched p))).phase) Moved (ne_eqb t (length p.newer) other))
 
 -- what a word may be, by the phase
 pub asked : (p now : Private) (word : ℕ) (phase : Phase) → p ≡ now → p.phase ≡ phase → IsGiven now word → IsGivenAt now word phase
