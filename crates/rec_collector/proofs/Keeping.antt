@@ -1,6 +1,6 @@
 -- What every machine keeps holds after every step, by the phase: while an epoch is requested and the buffers of the mutators are
 -- gathered, and on a turn that works on the parts.
-use Rattle.std.proofs.Common.{◌≡◌, ◌≢◌, ℕ, ◌+◌, ◌-◌, ◌*◌, ◌^◌, ◌<◌, ◌≤◌, ◌==◌, true, false, Bool, cond, inl, inr, length, set, refl, arith, sym, ◌∙◌, ap, subst, List}
+use Rattle.std.proofs.Common.{◌≡◌, ◌≢◌, ℕ, ◌+◌, ◌-◌, ◌^◌, ◌<◌, ◌==◌, true, false, Bool, cond, inl, inr, length, set, refl, arith, sym, ◌∙◌, ap, subst, List}
 use Rattle.std.proofs.lemmas.List.{length-set, get_or-set_same, get_or-set_other}
 use Rattle.std.proofs.lemmas.Bool.{cases_eq, cases_lt, eq-eqb, false≢true, eqb-true}
 use Rattle.rec_word.specs.Mailbox.{crossing_word}
@@ -21,25 +21,11 @@ use Rattle.rec_collector.specs.Testing.{zeros_released}
 use Rattle.rec_collector.specs.declared.turn.Turn.{Turn}
 use Rattle.rec_collector.specs.declared.turn.Turn.TheVariants.{Moved}
 use Rattle.rec_collector.specs.Step.{IsBetween}
-use Rattle.rec_collector.proofs.Landing.{freed_at, now_at, told_at, under_way_at, Lands, landed, landed_keeps, landed_sizes, sizes_on, work_of}
+use Rattle.rec_collector.proofs.Landing.{machine_on, freed_at, now_at, told_at, under_way_at, Lands, landed, landed_keeps, landed_sizes, work_of}
 use Rattle.rec_collector.proofs.Following.{begun_clears, followed_lands, freed_clears, released_clears}
 use Rattle.rec_collector.proofs.Trying.{prepared_lands, took_prepared, took_tried, tried_lands}
 use Rattle.rec_collector.proofs.Steps.{same_swapped, took_between}
 use Rattle.rec_collector.proofs.Sweeping.{ended_keeps, opening_keeps, sweeping_keeps}
-
--- a turn that changes the epoch and the phase alone
-moved_keeps : (p : Private) (epoch : ℕ) (phase : Phase) → IsMachine p → epoch < 2 ^ 24 → p.collections + under_way phase ≤ epoch → p.freed ≤ 2 ^ 16 * p.collections + swept_at phase
-    → IsTold p phase → IsAt (moved (record p { epoch = epoch }) phase) phase → IsMachine (moved (record p { epoch = epoch }) phase)
-moved_keeps p epoch phase k fits under freed told now = record {
-  epoch = fits;
-  collections = under;
-  freed = freed;
-  widths = k.widths;
-  rows = k.rows;
-  counts = k.counts;
-  told = told;
-  now = now;
-}
 
 -- the next epoch is requested, if there is one
 pub idle_keeps : (p : Private) (word : ℕ) → IsMachine p → p.phase ≡ Idle → IsMachine (took_at p word Idle)
@@ -55,7 +41,7 @@ idle_keeps p word k e = go (is_spent p) refl
         let a : IsAt p Idle = now_at p Idle k e in
         let next : p.epoch + 1 ≢ 2 ^ 24 = λ q. false≢true (sym s ∙ eq-eqb (p.epoch + 1) (2 ^ 24) q) in
         let fits : p.epoch + 1 < 2 ^ 24 = elim (cases_lt (p.epoch + 1) (2 ^ 24)) [ inl l ↦ l | inr l ↦ absurd (next (omega (arith, l, k.epoch))) ] in
-        moved_keeps p (p.epoch + 1) (Looking 1) k fits (omega (arith, under_way_at p Idle k e)) (freed_at p Idle k e) (told_at p Idle k e)
+        machine_on p (p.epoch + 1) p.counts p.due p.freed (Looking 1) k fits (omega (arith, under_way_at p Idle k e)) (freed_at p Idle k e) k.counts (told_at p Idle k e)
         (record { rest = a.0; first = omega arith; there = omega (arith, k.mutators); spares = a.1; turns = omega (arith, a.2); due = a.3 })
 
 -- the mailbox of a mutator is held where it has crossed
@@ -67,7 +53,7 @@ look_keeps p word t k e = go (word == crossing_word p.epoch Retired)
     go false = k
     go true =
         let a : IsAt p (Looking t) = now_at p (Looking t) k e in
-        moved_keeps p p.epoch (Swapping t) k k.epoch (under_way_at p (Looking t) k e) (freed_at p (Looking t) k e) (told_at p (Looking t) k e)
+        machine_on p p.epoch p.counts p.due p.freed (Swapping t) k k.epoch (under_way_at p (Looking t) k e) (freed_at p (Looking t) k e) k.counts (told_at p (Looking t) k e)
         (record { rest = a.rest; first = a.first; there = a.there; spares = a.spares; turns = omega (arith, a.turns, a.first); due = a.due })
 
 -- the next mutator's mailbox follows
@@ -76,7 +62,7 @@ next_keeps p t k e other =
     let a : IsAt p (Returning t) = now_at p (Returning t) k e in
     let more : t < length p.newer = elim (cases_lt t (length p.newer)) [ inl l ↦ l | inr l ↦ absurd (other (omega (arith, l, a.there))) ] in
     let same : t + 1 - 1 ≡ t = omega arith in
-    moved_keeps p p.epoch (Looking (t + 1)) k k.epoch (under_way_at p (Returning t) k e) (freed_at p (Returning t) k e) (told_at p (Returning t) k e)
+    machine_on p p.epoch p.counts p.due p.freed (Looking (t + 1)) k k.epoch (under_way_at p (Returning t) k e) (freed_at p (Returning t) k e) k.counts (told_at p (Returning t) k e)
     (record {
       rest = a.rest;
       first = omega arith;
@@ -191,7 +177,7 @@ module _ (p now : Private) (word : ℕ) (phase : Phase) (n : Next) (k : IsMachin
   turned q turn took told ends answers sizes = (
     ends ∙ ap (came p) is ∙ took ∙ ap (λ (r : Private). took_at r word phase) v,
     answers ∙ ap (λ (m : Next). came_turn p.epoch m.phase) is ∙ told ∙ ap (λ (r : Private). turn_at r word phase) v,
-    subst (λ (r : Private). KeepsSizes r q) v (sizes_on p (landed p n) q (landed_sizes p n (subst (Lands p) (sym is) (work_lands p word phase k at given at_work))) sizes),
+    subst (λ (r : Private). KeepsSizes r q) v (landed_sizes p q n (subst (Lands p) (sym is) (work_lands p word phase k at given at_work)) sizes),
   )
 
 -- where nothing is to be swept, the collection is complete

@@ -1,6 +1,6 @@
 -- Where a turn lands that works on the parts of the machine: the phase that it came to, and what holds there.
-use Rattle.std.proofs.Common.{◌≡◌, ℕ, ◌+◌, ◌*◌, ◌^◌, ◌≤◌, false, Option, None, Some, List, [], ◌∷◌, length, refl, arith, sym, ap, subst, ◌∙◌}
-use Rattle.rec_counts.specs.Counts.{IsKept as IsKeptCounts}
+use Rattle.std.proofs.Common.{◌≡◌, ℕ, ◌+◌, ◌*◌, ◌^◌, ◌<◌, ◌≤◌, false, Option, None, Some, List, [], ◌∷◌, length, refl, arith, sym, ap, subst, ◌∙◌}
+use Rattle.rec_counts.specs.Counts.{State, IsKept as IsKeptCounts}
 use Rattle.rec_release.specs.declared.at.At.{At}
 use Rattle.rec_walk.specs.declared.member.Member.{Member}
 use Rattle.rec_sigma.specs.declared.at.At as loads
@@ -124,17 +124,13 @@ landed_keeps p n phase k e under none l = record {
 }
 
 -- the numbers stay
-pub landed_sizes : (p : Private) (n : Next) → Lands p n → KeepsSizes p (landed p n)
-landed_sizes p n l = record { slots = l.fits.slots; fields = l.fits.release_fields; registers = refl; capacity = refl; mutators = refl }
+pub landed_sizes : (p q : Private) (n : Next) → Lands p n → KeepsSizes (landed p n) q → KeepsSizes p q
+landed_sizes p q n l s = record { slots = s.slots ∙ l.fits.slots; fields = s.fields ∙ l.fits.release_fields; registers = s.registers; capacity = s.capacity; mutators = s.mutators }
 
-pub sizes_on : (p q r : Private) → KeepsSizes p q → KeepsSizes q r → KeepsSizes p r
-sizes_on p q r a b = record {
-  slots = b.slots ∙ a.slots;
-  fields = b.fields ∙ a.fields;
-  registers = b.registers ∙ a.registers;
-  capacity = b.capacity ∙ a.capacity;
-  mutators = b.mutators ∙ a.mutators;
-}
+-- a turn that leaves the buffers, the machines and the sets that were tested
+pub machine_on : (p : Private) (epoch : ℕ) (s : State) (due : Option ℕ) (freed : ℕ) (next : Phase) → IsMachine p → epoch < 2 ^ 24 → p.collections + under_way next ≤ epoch → freed ≤ 2 ^ 16 * p.collections + swept_at next → IsKeptCounts s →
+    (let q : Private = moved (record p { epoch = epoch; counts = s; due = due; freed = freed }) next in IsTold q next → IsAt q next → IsMachine q)
+machine_on p epoch s due freed next k fits under swept counts told now = record { epoch = fits; collections = under; freed = swept; widths = k.widths; rows = k.rows; counts = counts; told = told; now = now }
 
 -- at most one collection is under way
 pub under_way_most : (phase : Phase) → under_way phase ≤ 1

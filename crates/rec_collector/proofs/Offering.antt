@@ -12,6 +12,7 @@ use Rattle.rec_counts.specs.Counts.{State, IsKept, slot_at, with_slot}
 use Rattle.rec_counts.specs.Lists.{one, times}
 use Rattle.rec_counts.specs.Slot.{absent, is_in}
 use Rattle.rec_counts.specs.Colour.{is_gray, is_white}
+use Rattle.rec_counts.proofs.Decrementing.{rest_same}
 use Rattle.rec_counts.proofs.Times.{times-append, times-cons, times-nil}
 use Rattle.rec_counts.proofs.Keeping.{map_at}
 use Rattle.rec_trial.specs.Rules.{IsReady}
@@ -55,11 +56,7 @@ offered_keeps s = record {
 
 pub where_keeps : (offers : Bool) (s : State) → KeepsOffered s (offered_where offers s)
 where_keeps true s = offered_keeps s
-where_keeps false s = record {
-  rest = record { slots = refl; sets = refl; marked = refl; work = refl; free = refl; released = λ x. refl; cyclic = λ x. refl; set = λ x. refl };
-  counts = λ x. refl;
-  zeros = refl;
-}
+where_keeps false s = record { rest = rest_same s; counts = λ x. refl; zeros = refl }
 
 -- the next number of a range, where it passes
 filter_more : (p : ℕ → Bool) (n : ℕ) → filter p (range_with_len 0 (n + 1)) ≡ filter p (range_with_len 0 n) ++ cond (p n) (n ∷ []) []

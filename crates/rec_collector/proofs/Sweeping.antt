@@ -22,7 +22,7 @@ use Rattle.rec_collector.specs.Parts.{Parts}
 use Rattle.rec_collector.specs.Zeros.{AreCounted}
 use Rattle.rec_collector.specs.Took.{cleared, ended, moved, swept_phase, swept_one, took_at, with_sweep}
 use Rattle.rec_collector.specs.declared.phase.Phase.TheVariants.{Opening, Sweeping, Closing}
-use Rattle.rec_collector.proofs.Landing.{freed_at, now_at, told_at, under_way_at}
+use Rattle.rec_collector.proofs.Landing.{machine_on, freed_at, now_at, told_at, under_way_at}
 use Rattle.rec_collector.proofs.Outside.{apart_on, black_was, untried_moved, outside_on, swept_lowers}
 use Rattle.rec_collector.proofs.Rows.{cleared_sized, cleared_spares}
 
@@ -38,16 +38,8 @@ pub opening_keeps : (p : Private) → IsMachine p → p.phase ≡ Opening → Is
 unfolding took_at started_of
 opening_keeps p k e =
     let a : IsAt p Opening = now_at p Opening k e in
-    record {
-      epoch = k.epoch;
-      collections = under_way_at p Opening k e;
-      freed = freed_at p Opening k e;
-      widths = k.widths;
-      rows = k.rows;
-      counts = k.counts;
-      told = told_at p Opening k e;
-      now = (record { before = a.0.before; left = a.0.left; turns = omega (arith, a.0.turns) }, a.1, refl);
-    }
+    machine_on p p.epoch p.counts _ p.freed (Sweeping 0) k k.epoch (under_way_at p Opening k e) (freed_at p Opening k e) k.counts (told_at p Opening k e)
+    (record { before = a.0.before; left = a.0.left; turns = omega (arith, a.0.turns) }, a.1, refl)
 
 first_gone : (free : List ℕ) (x y : ℕ) → slice_get free 0 ≡ Some x → times y free ≡ one (eqb y x) + times y (drop 1 free)
 first_gone [] x y e = cc
@@ -117,17 +109,10 @@ swept_keeps_on p n x r k e first left len s = go r left len
     }
 
     go : (ys : List ℕ) → drop 1 p.counts.free ≡ ys → length p.counts.free ≡ length ys + 1 → IsMachine (after ys)
-    go [] l m = record { epoch = k.epoch; collections = under_way_at p (Sweeping n) k e; freed = omega (arith, freed_at p (Sweeping n) k e); widths = k.widths; rows = k.rows; counts = s; told = told_at p (Sweeping n) k e; now = (on [] l m, l, refl) }
-    go (y ∷ ys) l m = record {
-      epoch = k.epoch;
-      collections = under_way_at p (Sweeping n) k e;
-      freed = omega (arith, freed_at p (Sweeping n) k e);
-      widths = k.widths;
-      rows = k.rows;
-      counts = s;
-      told = told_at p (Sweeping n) k e;
-      now = (on (y ∷ ys) l m, omega (arith, ap length l), sym (ap (λ zs. slice_get zs 0) l));
-    }
+    go [] l m = machine_on p p.epoch (swept p.counts x) None (p.freed + 1) (Closing (n + 1)) k k.epoch (under_way_at p (Sweeping n) k e) (omega (arith, freed_at p (Sweeping n) k e)) s (told_at p (Sweeping n) k e) (on [] l m, l, refl)
+    go (y ∷ ys) l m =
+        machine_on p p.epoch (swept p.counts x) (Some y) (p.freed + 1) (Sweeping (n + 1)) k k.epoch (under_way_at p (Sweeping n) k e) (omega (arith, freed_at p (Sweeping n) k e)) s (told_at p (Sweeping n) k e)
+        (on (y ∷ ys) l m, omega (arith, ap length l), sym (ap (λ zs. slice_get zs 0) l))
 
 -- a slot is due while any is left
 pub due_slot : (free : List ℕ) (due : Option ℕ) → 0 < length free → due ≡ slice_get free 0 → IsSome (next_of due)
