@@ -39,10 +39,8 @@ use Rattle.rec_collector.proofs.Judging.{last_freeable, last_refusable, none_bus
 pub exchanged_few : (w : Parts) (n : ℕ) → IsKept w.counts → HasExchanged w n → n ≤ length w.counts.slots * w.release.fields
 exchanged_few w n k h =
     let once : EachOnce (length w.counts.slots) h.gone = λ x. elim (cases_lt x (length w.counts.slots)) [
-      | inl l ↦ let t : one (ltb x (length w.counts.slots)) ≡ 1 = ap one (lt-ltb x (length w.counts.slots) l) in omega (arith, t, h.are x, one-le (slot_at w.counts x).released)
-      | inr l ↦
-          let past : one (leb (length w.counts.slots) x) ≡ 1 = ap one (le-leb (length w.counts.slots) x l) in
-          omega (arith, past, h.are x, one-le (slot_at w.counts x).released)
+      | inl l ↦ omega (arith, ap one (lt-ltb x (length w.counts.slots) l), h.are x, one-le (slot_at w.counts x).released)
+      | inr l ↦ omega (arith, ap one (le-leb (length w.counts.slots) x l), h.are x, one-le (slot_at w.counts x).released)
     ] in
     omega (arith, h.few, mul-le-mul_left w.release.fields (length-once (length w.counts.slots) h.gone once))
 
@@ -74,17 +72,13 @@ first_are z zs s gone e r are x =
           omega (arith, n, ap one (released_same s z x q.1), are x, many, times-cons x z gone)
     ]
 
+few_exchanged : (w : Parts) (n : ℕ) (h : HasExchanged w n) → w.release.at ≡ None → n + 0 + freeing_left w.freeing.fields w.counts.work w.freeing.at ≤ length h.gone * w.release.fields
+few_exchanged w n h still = subst (λ o. n + release_left w.release.fields o + freeing_left w.freeing.fields w.counts.work w.freeing.at ≤ length h.gone * w.release.fields) still h.few
+
 first_exchanged : (zs : List ℕ) (lowers : Bool) (w : Parts) (n : ℕ) → w.counts.zeros ≡ zs → w.release.at ≡ None → IsReady w.counts → HasExchanged w n →
     HasExchanged (record w { counts = without_first zs w.counts; release = record { fields = w.release.fields; at = first_of zs; lowers = lowers } }) n
-first_exchanged [] lowers w n e still r h = record {
-  gone = h.gone;
-  are = h.are;
-  few = subst (λ o. n + release_left w.release.fields o + freeing_left w.freeing.fields w.counts.work w.freeing.at ≤ length h.gone * w.release.fields) still h.few;
-}
-first_exchanged (z ∷ zs) lowers w n e still r h =
-    let few : n + 0 + freeing_left w.freeing.fields w.counts.work w.freeing.at ≤ length h.gone * w.release.fields =
-    subst (λ o. n + release_left w.release.fields o + freeing_left w.freeing.fields w.counts.work w.freeing.at ≤ length h.gone * w.release.fields) still h.few in
-    record { gone = z ∷ h.gone; are = first_are z zs w.counts h.gone e r h.are; few = omega (arith, few) }
+first_exchanged [] lowers w n e still r h = record { gone = h.gone; are = h.are; few = few_exchanged w n h still }
+first_exchanged (z ∷ zs) lowers w n e still r h = record { gone = z ∷ h.gone; are = first_are z zs w.counts h.gone e r h.are; few = omega (arith, few_exchanged w n h still) }
 
 next_exchanged : (lowers : Bool) (w : Parts) (n : ℕ) → w.release.at ≡ None → IsReady w.counts → HasExchanged w n → HasExchanged (with_release w (with_next w.release.fields lowers w.counts)) n
 next_exchanged lowers w n still r h = first_exchanged w.counts.zeros lowers w n refl still r h

@@ -10,15 +10,6 @@ loop-self-init c =
     let counts : IsKeptCounts c.args.self.now.counts = subst (λ (w : Parts). IsKeptCounts w.counts) c.self.view_is c.rules.ensures in
     record { stays = record { wide = c.requires.wide; counts = counts; clearing = c.requires.clearing; done = c.requires.done }; told = c.requires.told; same = refl }
 
-pub test_last-requires-clause-clearing : goal.test_last-requires-clause-clearing
-test_last-requires-clause-clearing c = c.loop-self.invariant.clearing
-
-pub test_last-requires-clause-done : goal.test_last-requires-clause-done
-test_last-requires-clause-done c = c.loop-self.invariant.done
-
-pub test_last-requires-clause-told : goal.test_last-requires-clause-told
-test_last-requires-clause-told c = c.loop-self.invariant.told
-
 pub loop-self-smaller : goal.loop-self-smaller
 loop-self-smaller c =
     let some : 0 < length c.loop-self.self.counts.sets = omega (arith, c.loop-self-test.true, c.sets.ensures, ap (λ (w : Parts). length w.counts.sets) c.self-in-loop-self.view_is) in
