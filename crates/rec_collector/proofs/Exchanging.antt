@@ -1,5 +1,5 @@
 -- Each word that comes out is a field of a released slot, and each is exchanged once: so there are no more of them than fields.
-use Rattle.std.proofs.Common.{◌≡◌, ℕ, ◌+◌, ◌-◌, ◌*◌, ◌<◌, ◌≤◌, Bool, true, false, eqb, leb, ltb, get_or, Option, None, Some, IsSome, List, [], ◌∷◌, ◌++◌, length, slice_get, refl, arith, sym, ◌∙◌, ap, subst, inl, inr}
+use Rattle.std.proofs.Common.{◌≡◌, ℕ, ◌+◌, ◌-◌, ◌*◌, ◌<◌, ◌≤◌, Bool, true, false, eqb, leb, get_or, Option, None, Some, IsSome, List, [], ◌∷◌, ◌++◌, length, slice_get, refl, arith, sym, ◌∙◌, ap, subst, inl, inr}
 use Rattle.std.proofs.Math.Nat.{mul-le-mul_left}
 use Rattle.std.proofs.lemmas.List.{get_or_past, length-append}
 use Rattle.std.proofs.lemmas.Bool.{cases_lt, le-leb, lt-leb, lt-ltb}

@@ -213,8 +213,8 @@ followed_lands p w h = go v.release.at v.freeing.at refl refl
     testing phase = record { clearing = t.clearing; exchanged = t.exchanged; exchanges = t.exchanges; turns = omega (arith, t.turns); due = t.due }
 
     go : (at : Option At) (member : Option Member) → v.release.at ≡ at → v.freeing.at ≡ member → Lands p (tested_on v at member)
-    go at (Some m) e g = record { counts = t.counts; fits = t.fits; under = refl; none = refl; told = t.told; now = (testing Freeing, subst (λ (o : Option Member). IsSome o) (sym g) refl) }
-    go (Some a) None e g = record { counts = t.counts; fits = t.fits; under = refl; none = refl; told = t.told; now = (testing Releasing, subst (λ (o : Option At). IsSome o) (sym e) refl) }
+    go at (Some m) e g = record { counts = t.counts; fits = t.fits; told = t.told; now = (testing Freeing, subst (λ (o : Option Member). IsSome o) (sym g) refl) }
+    go (Some a) None e g = record { counts = t.counts; fits = t.fits; told = t.told; now = (testing Releasing, subst (λ (o : Option At). IsSome o) (sym e) refl) }
     go None None e g = tries_next p v t e g (ends_after (length w.counts.sets) w refl (ap (λ at. is_busy_at at v.freeing.at) e ∙ ap (is_busy_at None) g))
 
 -- a word came out of a field of a released slot

@@ -21,7 +21,7 @@ use Rattle.rec_collector.specs.Testing.{zeros_released}
 use Rattle.rec_collector.specs.declared.turn.Turn.{Turn}
 use Rattle.rec_collector.specs.declared.turn.Turn.TheVariants.{Moved}
 use Rattle.rec_collector.specs.Step.{IsBetween}
-use Rattle.rec_collector.proofs.Landing.{machine_on, freed_at, now_at, told_at, under_way_at, Lands, landed, landed_keeps, landed_sizes, work_of}
+use Rattle.rec_collector.proofs.Landing.{work_none, work_phase, machine_on, freed_at, now_at, told_at, under_way_at, Lands, landed, landed_keeps, landed_sizes, work_of}
 use Rattle.rec_collector.proofs.Following.{begun_clears, followed_lands, freed_clears, released_clears}
 use Rattle.rec_collector.proofs.Trying.{prepared_lands, took_prepared, took_tried, tried_lands}
 use Rattle.rec_collector.proofs.Steps.{same_swapped, took_between}
@@ -124,7 +124,7 @@ work_lands p word Preparing k e g at_work = prepared_lands p _ (took_prepared p 
 work_lands p word _ k e g at_work = absurd at_work
 
 pub work_keeps : (p : Private) (word : ℕ) (phase : Phase) → IsMachine p → p.phase ≡ phase → IsGivenAt p word phase → IsWork p phase → IsMachine (landed p (work_of p word phase))
-work_keeps p word phase k e g at_work = landed_keeps p (work_of p word phase) phase k e (way phase at_work) (none phase at_work) (work_lands p word phase k e g at_work)
+work_keeps p word phase k e g at_work = landed_keeps p (work_of p word phase) phase k e (way phase at_work) (none phase at_work) (work_phase (λ f. under_way f ≡ 1) refl refl refl refl refl refl p word phase) (work_none p word phase) (work_lands p word phase k e g at_work)
   where
     way : (phase : Phase) → IsWork p phase → under_way phase ≡ 1
     way Idle a = absurd a

@@ -71,6 +71,10 @@ work_phase P r f t l o c p word Trying = tried_phase P l o c t (with_tried (part
 work_phase P r f t l o c p word Preparing = prepared_phase P l o c (with_loaded (parts_of p) word)
 work_phase P r f t l o c p word _ = followed_phase P l o c t f r _
 
+-- nothing is swept yet where the parts were at work
+pub work_none : (p : Private) (word : ℕ) (phase : Phase) → swept_at (work_of p word phase).phase ≡ 0
+work_none p word phase = work_phase (λ f. swept_at f ≡ 0) refl refl refl refl refl refl p word phase
+
 -- these parts have as many slots, and as many fields a slot, as the machine
 pub record Fits (p : Private) (w : Parts) : Type 0 where
   pub slots : length w.counts.slots ≡ length p.counts.slots
@@ -106,16 +110,14 @@ landed p n = moved (with_parts p n.parts) n.phase
 pub record Lands (p : Private) (n : Next) : Type 0 where
   pub counts : IsKeptCounts n.parts.counts
   pub fits : Fits p n.parts
-  pub under : under_way n.phase ≡ 1
-  pub none : swept_at n.phase ≡ 0
   pub told : IsTold (landed p n) n.phase
   pub now : IsAt (landed p n) n.phase
 
-pub landed_keeps : (p : Private) (n : Next) (phase : Phase) → IsMachine p → p.phase ≡ phase → under_way phase ≡ 1 → swept_at phase ≡ 0 → Lands p n → IsMachine (landed p n)
-landed_keeps p n phase k e under none l = record {
+pub landed_keeps : (p : Private) (n : Next) (phase : Phase) → IsMachine p → p.phase ≡ phase → under_way phase ≡ 1 → swept_at phase ≡ 0 → under_way n.phase ≡ 1 → swept_at n.phase ≡ 0 → Lands p n → IsMachine (landed p n)
+landed_keeps p n phase k e under none on still l = record {
   epoch = k.epoch;
-  collections = omega (arith, under_way_at p phase k e, under, l.under);
-  freed = omega (arith, freed_at p phase k e, none, l.none);
+  collections = omega (arith, under_way_at p phase k e, under, on);
+  freed = omega (arith, freed_at p phase k e, none, still);
   widths = l.fits.widths;
   rows = k.rows;
   counts = l.counts;

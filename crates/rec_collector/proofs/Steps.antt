@@ -39,7 +39,7 @@ use Rattle.rec_collector.proofs.Clearing.{last_stays, StaysClear}
 use Rattle.rec_collector.proofs.Following.{HasCleared, begun_clears, freed_clears, released_clears}
 use Rattle.rec_collector.proofs.Goings.{last_sets}
 use Rattle.rec_collector.proofs.Judging.{Says, verdict_says, last_refusable, none_busy, Says, verdict_says}
-use Rattle.rec_collector.proofs.Landing.{followed_phase, prepared_phase, tried_phase, work_of, work_phase, landed, now_at, under_way_at}
+use Rattle.rec_collector.proofs.Landing.{work_none, followed_phase, prepared_phase, tried_phase, work_of, work_phase, landed, now_at, under_way_at}
 use Rattle.rec_collector.proofs.Answering.{freeing_next, prep_next, release_next}
 use Rattle.rec_collector.proofs.Sweeping.{due_slot}
 
@@ -241,10 +241,6 @@ leaves_box p word box between = leaves_at p word box p.phase refl between
 -- a whole step
 pub whole_made : (p : Private) (word : ℕ) (box : Contents) → IsMachine p → IsBetween p.phase → IsGiven p word → WholeStep p word box (next_of p) (step_of p word box) (turn_of p word) (left_of (took_of p word) box)
 whole_made p word box k between given = record { own = step_made p word box k between given; mailbox = leaves_box p word box between }
-
--- nothing is swept yet where the parts were at work
-work_none : (p : Private) (word : ℕ) (phase : Phase) → swept_at (work_of p word phase).phase ≡ 0
-work_none p word phase = work_phase (λ f. swept_at f ≡ 0) refl refl refl refl refl refl p word phase
 
 -- a turn that came to these parts and this phase, from a phase that has swept nothing
 came_cause : (p : Private) (word : ℕ) (n : Next) → p.collections + 1 ≤ p.epoch → swept_at p.phase ≡ 0 → swept_at n.phase ≡ 0 → HasCause p word (came p n) (came_turn p.epoch n.phase)
