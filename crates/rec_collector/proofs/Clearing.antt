@@ -271,12 +271,8 @@ clear_counted w k c d still unfreed none x r = elim (cases_lt 0 (slot_at w.count
 pub clear_listed : (w : Parts) → IsKept w.counts → IsClearing w → IsDone w → w.release.at ≡ None → w.freeing.at ≡ None → w.counts.sets ≡ [] → IsListed w.counts
 clear_listed w k c d still unfreed none = record {
   listed = λ x l r. elim (cases_Bool (slot_at w.counts x).buffered) [
-    | inl b ↦
-        let in_sets : times x (concat w.counts.sets) ≡ 0 = ap (λ (sets : List (List ℕ)). times x (concat sets)) none ∙ times-nil x in
-        omega (arith, k.buffers x, in_sets, ap one b)
-    | inr b ↦
-        let in_work : times x w.counts.work ≡ 0 = ap (times x) (c.work unfreed) ∙ times-nil x in
-        omega (arith, c.listed x l r b, in_work, ap (λ (o : Option At). one (is_at x o)) still)
+    | inl b ↦ omega (arith, k.buffers x, ap (λ sets. times x (concat sets)) none, times-nil x, ap one b)
+    | inr b ↦ omega (arith, c.listed x l r b, ap (times x) (c.work unfreed), times-nil x, ap (λ (o : Option At). one (is_at x o)) still)
   ];
   only = c.release.ready.free;
   unbuffered = c.unbuffered;

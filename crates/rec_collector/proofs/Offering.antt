@@ -16,7 +16,6 @@ use Rattle.rec_counts.proofs.Decrementing.{rest_same}
 use Rattle.rec_counts.proofs.Times.{times-append, times-cons, times-nil}
 use Rattle.rec_counts.proofs.Keeping.{map_at}
 use Rattle.rec_trial.specs.Rules.{IsReady}
-use Rattle.rec_trial.specs.Still.{IsSeed}
 use Rattle.rec_collector.specs.Followed.{with_offers}
 use Rattle.rec_collector.specs.Kept.{IsListed}
 use Rattle.rec_collector.specs.Offered.{offered, offered_if, offered_slot, offered_where, is_missing, is_missing_if, missing, AreOffered, KeepsOffered, offered_one, rooted_if}
@@ -180,18 +179,17 @@ where_uncoloured true s h = λ x e. elim (cases_Bool (slot_at s x).released) [
 
 -- where no set is left, each slot that isn't released is a candidate root
 all_offered : (s : State) → IsKept s → s.sets ≡ [] → AreOffered s (offered s)
-all_offered s k none = record { seeds = seed; keeps = offered_keeps s }
-  where
-    seed : (x : ℕ) → (slot_at s x).released ≡ false → IsSeed (offered s) x
-    seed x r =
-        let whole : slot_at (offered s) x ≡ record (slot_at s x) { colour = Purple; buffered = true } = offered_at s x ∙ offered_false (slot_at s x) r in
-        let in_sets : times x (concat s.sets) ≡ 0 = ap (λ (sets : List (List ℕ)). times x (concat sets)) none ∙ times-nil x in
-        let now : one (offered_slot (slot_at s x)).buffered ≡ 1 = ap (λ (v : Slot). one v.buffered) (offered_false (slot_at s x) r) in
-        record {
-          root = omega (arith, offered_roots s x, k.buffers x, in_sets, buffered_now (slot_at s x), now);
-          purple = ap (λ (v : Slot). v.colour) whole;
-          unreleased = ap (λ (v : Slot). v.released) whole ∙ r;
-        }
+all_offered s k none = record {
+  seeds = λ x r.
+      let whole : slot_at (offered s) x ≡ record (slot_at s x) { colour = Purple; buffered = true } = offered_at s x ∙ offered_false (slot_at s x) r in
+      let now : one (offered_slot (slot_at s x)).buffered ≡ 1 = ap (λ (v : Slot). one v.buffered) (offered_false (slot_at s x) r) in
+      record {
+        root = omega (arith, offered_roots s x, k.buffers x, ap (λ sets. times x (concat sets)) none, times-nil x, buffered_now (slot_at s x), now);
+        purple = ap (λ (v : Slot). v.colour) whole;
+        unreleased = ap (λ (v : Slot). v.released) whole ∙ r;
+      };
+  keeps = offered_keeps s;
+}
 
 -- where that was asked for they are offered, and once
 pub offers_whole : (w : Parts) → w.offers ≡ true → IsKept w.counts → w.counts.sets ≡ [] → AreOffered w.counts (with_offers w).counts × ((with_offers w).offers ≡ false)
