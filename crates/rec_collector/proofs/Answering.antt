@@ -153,13 +153,10 @@ pub tries_on : (w : Parts) → is_some (trials.next_of w.trial) ≡ true → nex
 unfolding tried
 tries_on w e = some_of (λ op. next_in Trying w ≡ tried_at w op) (trials.next_of w.trial) (λ o. refl) e
 
-tries_no_more : (w : Parts) → is_some (trials.next_of w.trial) ≡ false → prepared (prep_started w) ≡ tried w
-unfolding tried
-tries_no_more w e = sym (ap (tried_at w) (none_of (trials.next_of w.trial) e))
-
 -- the sets of a trial are to be prepared
 pub tried_ends : (w : Parts) (u : preps.Work) (n : Next) → n ≡ prepared (with_prep w u) → u ≡ preps.started_of w.prep w.counts → is_some (trials.next_of w.trial) ≡ false → n ≡ tried w
-tried_ends w u n e s none = e ∙ ap (λ (v : preps.Work). prepared (with_prep w v)) s ∙ tries_no_more w none
+unfolding tried
+tried_ends w u n e s none = e ∙ ap (λ (v : preps.Work). prepared (with_prep w v)) s ∙ sym (ap (tried_at w) (none_of (trials.next_of w.trial) none))
 
 -- the last set passed both tests, and is to be freed
 pub passed_last : (w : Parts) (verdict : Verdict) (v : frees.Work) (sets : Sets) → verdict ≡ verdict_of w.counts (length w.counts.sets - 1) → verdict ≡ Passed → v ≡ frees.started_of w.freeing w.counts → sets ≡ counted_by verdict w.sets

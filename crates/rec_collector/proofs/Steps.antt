@@ -220,10 +220,6 @@ left_between q box b = go q.phase b
     go (Swapping t) b = absurd b
     go _ b = refl
 
--- a phase in which no mailbox is looked at
-keeps_in : (p : Private) (word : ℕ) (box left : Contents) (phase : Phase) → p.phase ≡ phase → ((t : ℕ) → phase ≢ Looking t) → left ≡ box → LeavesBox p word box left
-keeps_in p word box left phase is other e = LeavesBox.keeps (λ t looks. absurd (other t (sym is ∙ looks))) e
-
 -- by phase
 leaves_at : (p : Private) (word : ℕ) (box : Contents) (phase : Phase) → p.phase ≡ phase → IsBetween phase → LeavesBox p word box (left_of (took_at p word phase) box)
 unfolding took_at left_of left_at
@@ -232,15 +228,12 @@ leaves_at p word box (Looking t) is between = elim (cases_eq word (crossing_word
   | inr e ↦ LeavesBox.keeps (λ u looks same. e same) (ap (λ b. left_of (cond b (moved p (Swapping t)) p) box) (ne_eqb word (crossing_word p.epoch Retired) e) ∙ ap (left_at p box) is)
 ]
 leaves_at p word box (Swapping t) is between = absurd between
-leaves_at p word box phase is between = keeps_in p word box _ phase is (λ t. λ e. cc) (left_between (took_at p word phase) box (took_between p word phase is between (λ t. λ e. cc)))
-
-leaves_box : (p : Private) (word : ℕ) (box : Contents) → IsBetween p.phase → LeavesBox p word box (left_of (took_of p word) box)
-unfolding took_of
-leaves_box p word box between = leaves_at p word box p.phase refl between
+leaves_at p word box phase is between = LeavesBox.keeps (λ t looks. let q : phase ≡ Looking t = sym is ∙ looks in absurd (cc)) (left_between (took_at p word phase) box (took_between p word phase is between (λ t. λ e. cc)))
 
 -- a whole step
 pub whole_made : (p : Private) (word : ℕ) (box : Contents) → IsMachine p → IsBetween p.phase → IsGiven p word → WholeStep p word box (next_of p) (step_of p word box) (turn_of p word) (left_of (took_of p word) box)
-whole_made p word box k between given = record { own = step_made p word box k between given; mailbox = leaves_box p word box between }
+unfolding took_of
+whole_made p word box k between given = record { own = step_made p word box k between given; mailbox = leaves_at p word box p.phase refl between }
 
 -- a turn that came to these parts and this phase, from a phase that has swept nothing
 came_cause : (p : Private) (word : ℕ) (n : Next) → p.collections + 1 ≤ p.epoch → swept_at p.phase ≡ 0 → swept_at n.phase ≡ 0 → HasCause p word (came p n) (came_turn p.epoch n.phase)
