@@ -17,7 +17,7 @@ use Rattle.rec_trial.specs.Trial as trials
 use Rattle.rec_collector.specs.Clearing.{IsClearing, IsDone, IsFewTold, IsWide}
 use Rattle.rec_collector.specs.Parts.{Parts}
 use Rattle.rec_collector.specs.Testing.{is_busy, is_busy_at, last_tested, tested, zeros_released, counted_by, tested_as, verdict_of, with_freeing}
-use Rattle.rec_collector.specs.Followed.{Next, followed, next_in, prep_started, prepared, prepared_at, sweep_phase, tested_next, tested_on, trial_started, tried, tried_at, with_prep}
+use Rattle.rec_collector.specs.Followed.{Next, followed, next_in, prepared, prepared_at, sweep_phase, tested_next, tested_on, trial_started, tried, tried_at, with_prep}
 use Rattle.rec_collector.specs.declared.sets.Sets.{Sets}
 use Rattle.rec_collector.specs.declared.verdict.Verdict.{Verdict}
 use Rattle.rec_collector.specs.declared.verdict.Verdict.TheVariants.{Passed, Touched, Held}
