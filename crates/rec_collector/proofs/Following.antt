@@ -22,7 +22,7 @@ use Rattle.rec_apply.proofs.Kept.{batch_kept}
 use Rattle.rec_release.specs.CycleFree as frees
 use Rattle.rec_release.specs.Release as releases
 use Rattle.rec_release.specs.Release.{IsReady}
-use Rattle.rec_release.specs.TakenOff.{AllZerosButOrange, IsApart}
+use Rattle.rec_release.specs.TakenOff.{AllZerosButOrange}
 use Rattle.rec_release.specs.declared.at.At.{At}
 use Rattle.rec_release.proofs.TakenOff.{written}
 use Rattle.rec_sigma.specs.Prepare as preps
@@ -47,11 +47,7 @@ use Rattle.rec_collector.proofs.Landing.{Fits, Lands, fits_all, fits_on, fits_se
 use Rattle.rec_collector.proofs.Offering.{where_keeps, where_kept, where_listed, where_ready, where_uncoloured}
 use Rattle.rec_collector.proofs.Trying.{started_tried, tried_lands}
 
--- a slot that was incremented is Black
-raised_apart : (s : State) (x : ℕ) → IsApart s → IsApart (with_slot s x (raised (slot_at s x)))
-raised_apart s x a = apart_on s (with_slot s x (raised (slot_at s x))) refl refl (black_was s x (raised (slot_at s x)) refl) a
-
--- and has a count
+-- a slot that was incremented has a count
 raised_zeros : (s : State) (x : ℕ) → AllZerosButOrange s → AllZerosButOrange (with_slot s x (raised (slot_at s x)))
 raised_zeros s x a y u n o = elim (written s x (raised (slot_at s x)) y) [
   | inl q ↦ absurd (omega (arith, n, ap (λ (v : Slot). v.count) q.1))
@@ -66,7 +62,7 @@ tidy_up s (Some x) at i =
     let released : (y : ℕ) → (slot_at (with_slot s x v) y).released ≡ (slot_at s y).released = field_kept (λ (w : Slot). w.released) s.slots x v refl in
     record {
       untried = untried_moved s (with_slot s x v) refl (raised_lowers s x) i.untried;
-      apart = raised_apart s x i.apart;
+      apart = apart_on s (with_slot s x v) refl refl (black_was s x v refl) i.apart;
       all_zeros = raised_zeros s x i.all_zeros;
       outside = outside_on s (with_slot s x v) (raised_lowers s x) i.outside;
       listed = λ y l r b. i.listed y (omega (arith, l, length-set s.slots x v)) (sym (released y) ∙ r) (sym (buffered y) ∙ b);
@@ -103,26 +99,22 @@ unfolding all_counted
 tidy_all_down s [] at c r i = i
 tidy_all_down s (t ∷ ts) at c r i = tidy_all_down (counted_down s t) ts at (fall_right s (t ∷ []) ts c) (released_down s t r) (tidy_down s t ts at c r i)
 
-module _ (s : State) (newer older : List Contents) (c : CanFall (all_up s (flat_map up_targets newer)) (flat_map down_targets older)) where
-  abbrev up : State
-  up = all_up s (flat_map up_targets newer)
-
-  tidy_batch : {fields : ℕ} → (at : Option At) → AreReleased s → IsTidy fields s at → IsTidy fields (batch s newer older) at
-  tidy_batch at r i = tidy_all_down up (flat_map down_targets older) at c (released_rests s up (rest_all_up s (flat_map up_targets newer)) r) (tidy_all_up s (flat_map up_targets newer) at i)
-
 -- parts that are clear stay so, where nothing is at work
 pub batched_clear : (w : Parts) (newer older : List Contents) → CanFall (all_up w.counts (flat_map up_targets newer)) (flat_map down_targets older) → w.release.at ≡ None → w.freeing.at ≡ None → IsClearing w →
     IsClearing (record w { counts = batch w.counts newer older })
 batched_clear w newer older c still unfreed i =
     let s : State = w.counts in
     let t : State = batch s newer older in
+    let up : State = all_up s (flat_map up_targets newer) in
     let k : KeepsRest s t = batch_rests s newer older in
     let released : AreReleased s = record { free = i.release.ready.free; work = i.freeing.released } in
     let ready : IsReady t = record {
-      zeros = fall_zeros_all (all_up s (flat_map up_targets newer)) (flat_map down_targets older) c.zeros;
+      zeros = fall_zeros_all up (flat_map down_targets older) c.zeros;
       free = (released_rests s t k released).free;
     } in
-    unfreed_clear (record w { counts = t }) i.idle i.unprepared (tidy_batch s newer older c w.release.at released i.tidy) (release_idle w.release t still ready) unfreed (k.work ∙ i.work unfreed)
+    let tidy : IsTidy w.prep.fields t w.release.at =
+    tidy_all_down up (flat_map down_targets older) w.release.at c (released_rests s up (rest_all_up s (flat_map up_targets newer)) released) (tidy_all_up s (flat_map up_targets newer) w.release.at i.tidy) in
+    unfreed_clear (record w { counts = t }) i.idle i.unprepared tidy (release_idle w.release t still ready) unfreed (k.work ∙ i.work unfreed)
 
 -- nothing stands in an empty list
 nowhere : {P : Type 0} (xs : List ℕ) (x : ℕ) → xs ≡ [] → 0 < times x xs → P

@@ -46,9 +46,6 @@ use Rattle.rec_collector.proofs.Sweeping.{due_slot}
 none_some : {A : Type 0} (x : A) → Some x ≢ None
 none_some x e = cc
 
-cons_nil : (x : ℕ) (xs : List ℕ) → x ∷ xs ≢ []
-cons_nil x xs e = cc
-
 -- what a step makes of a machine that came to these parts and this phase, beside the buffer of a mailbox
 abbrev went : Private → Next → Contents → Private
 went p n box = swapped_of (came p n) box
@@ -60,7 +57,7 @@ prepared_on p w box = go w.prep.at refl
   where
     swept : (free : List ℕ) → w.counts.free ≡ free → w.prep.at ≡ None → PreparesOn p w (went p (next_in (sweep_phase free) w) box) (came_turn p.epoch (sweep_phase free))
     swept [] f e = PreparesOn.completes e f (record { after = refl; answer = refl })
-    swept (x ∷ xs) f e = PreparesOn.sweeps_next e (λ n. cons_nil x xs (sym f ∙ n)) (record { after = refl; answer = refl })
+    swept (x ∷ xs) f e = PreparesOn.sweeps_next e (λ n. let q : x ∷ xs ≡ [] = sym f ∙ n in cc) (record { after = refl; answer = refl })
 
     go : (at : Option loads.At) → w.prep.at ≡ at → PreparesOn p w (went p (prepared_at w at) box) (came_turn p.epoch (prepared_at w at).phase)
     go None e = swept w.counts.free refl e

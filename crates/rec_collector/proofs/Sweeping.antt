@@ -10,7 +10,6 @@ use Rattle.rec_counts.specs.Slot.{absent, swept_clean}
 use Rattle.rec_counts.proofs.Times.{times-cons}
 use Rattle.rec_release.specs.Sweep as sweeps
 use Rattle.rec_release.specs.Sweep.{swept, took_of, started_of, next_of}
-use Rattle.rec_release.specs.TakenOff.{IsApart}
 use Rattle.rec_release.proofs.Sweeping.{unbuffered_swept}
 use Rattle.rec_release.proofs.TakenOff.{written}
 use Rattle.rec_collector.specs.Inside.{private}
@@ -58,10 +57,6 @@ swept_listed s x first k y l t = elim (eqb_tells y x) [
       omega (arith, other, first_gone s.free x y first, k y (omega (arith, l, length-set s.slots x (swept_clean (slot_at s x)))) was)
 ]
 
--- a swept slot is Black
-swept_apart : (s : State) (x : ℕ) → IsApart s → IsApart (swept s x)
-swept_apart s x a = apart_on s (swept s x) refl refl (black_was s x (swept_clean (slot_at s x)) refl) a
-
 -- a swept slot has one count
 swept_counted : (s : State) (x : ℕ) → AreCounted s → AreCounted (swept s x)
 swept_counted s x c = λ y r. elim (written s x (swept_clean (slot_at s x)) y) [
@@ -73,7 +68,7 @@ swept_tried : (w : Parts) (x : ℕ) → slice_get w.counts.free 0 ≡ Some x →
 swept_tried w x first t = record {
   untried = untried_moved w.counts (swept w.counts x) refl (swept_lowers w.counts x) t.untried;
   idle = t.idle;
-  apart = swept_apart w.counts x t.apart;
+  apart = apart_on w.counts (swept w.counts x) refl refl (black_was w.counts x (swept_clean (slot_at w.counts x)) refl) t.apart;
   counted = swept_counted w.counts x t.counted;
   zeros = t.zeros;
   roots = t.roots;

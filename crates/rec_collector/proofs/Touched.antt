@@ -1,14 +1,14 @@
 -- A step leaves an orange member as it was, or lowers it, and names it nowhere.
-use Rattle.std.proofs.Common.{◌≡◌, ◌⊎◌, ℕ, ◌+◌, ◌-◌, ◌<◌, ◌==◌, ◌&&◌, not, Bool, true, false, Option, None, Some, IfSome, IsSome, List, length, flat_map, refl, sym, ap, subst, ◌∙◌, arith, inl, inr}
+use Rattle.std.proofs.Common.{◌≡◌, ◌⊎◌, ℕ, ◌+◌, ◌-◌, ◌<◌, ◌==◌, ◌&&◌, not, Bool, true, false, Option, None, Some, IfSome, IsSome, List, length, refl, sym, ap, subst, ◌∙◌, arith, inl, inr}
 use Rattle.std.proofs.lemmas.Bool.{cases_lt, cond-true, cond-false, eq-eqb, ne_eqb}
 use Rattle.std.proofs.lemmas.Bool.Decides.{eqb_tells}
 use Rattle.std.proofs.lemmas.List.{get_or_past}
 use Rattle.rec_word.specs.Word.{target_of}
 use Rattle.rec_word.specs.declared.op.Op.{Op}
 use Rattle.rec_log.specs.declared.contents.Contents.{Contents}
-use Rattle.rec_apply.specs.Batch.{all_up, batch, down_targets, up_targets}
+use Rattle.rec_apply.specs.Batch.{batch}
 use Rattle.rec_apply.specs.Targets.{added, taken}
-use Rattle.rec_apply.proofs.Resting.{rest_all_down, rest_all_up}
+use Rattle.rec_apply.proofs.Whole.{batch_rests}
 use Rattle.rec_counts.specs.declared.colour.Colour.TheVariants.{Orange}
 use Rattle.rec_counts.specs.declared.slot.Slot.{Slot}
 use Rattle.rec_counts.specs.Counts.{State, slot_at}
@@ -149,14 +149,10 @@ rest_unreleased p number x r is = elim (cases_lt x (length p.counts.slots)) [
   | inr past ↦ let none : None ≡ Some number = ap (λ (v : Slot). v.set) (sym (get_or_past p.counts.slots x absent past)) ∙ is in absurd (cc)
 ]
 
--- a batch changes no sets
-batch_sets : (s : State) (newer older : List Contents) (x : ℕ) → (slot_at (batch s newer older) x).set ≡ (slot_at s x).set
-batch_sets s newer older x = (rest_all_down (all_up s (flat_map up_targets newer)) (flat_map down_targets older)).set x ∙ (rest_all_up s (flat_map up_targets newer)).set x
-
 batched_spares : (p : Private) (x : ℕ) → IsAtRest (parts_of p) → Spares p.counts (batch p.counts p.newer p.older) x (added x p.newer + taken x p.older)
 batched_spares p x r = record {
   each = λ number o.
-      let was : (slot_at p.counts x).set ≡ Some number = sym (batch_sets p.counts p.newer p.older x) ∙ o.0 in
+      let was : (slot_at p.counts x).set ≡ Some number = sym ((batch_rests p.counts p.newer p.older).set x) ∙ o.0 in
       let b = batch_same p.counts p.newer p.older x (rest_unreleased p number x r was) o.1 in
       record {
         orange = (was, ap (λ (v : Slot). v.colour) (sym b.0) ∙ o.1);
