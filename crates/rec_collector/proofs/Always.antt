@@ -1,8 +1,8 @@
 -- What holds in every phase: the zeros are exactly the slots without a count that are neither released nor Orange, no collection takes more
 -- turns than its limit, and what comes next names a word of the heap.
-use Rattle.std.proofs.Common.{◌≡◌, [], arith, ap, ℕ, ◌+◌, ◌*◌, ◌^◌, ◌<◌, ◌≤◌, Option, List, length, None, Some, IfSome, slice_get, refl, sym, subst, inl, inr}
+use Rattle.std.proofs.Common.{true, false, cond, ◌≡◌, [], arith, ap, ℕ, ◌+◌, ◌*◌, ◌^◌, ◌<◌, ◌≤◌, Option, List, length, None, Some, IfSome, slice_get, refl, sym}
 use Rattle.std.proofs.Math.Nat.{mul-le-mul}
-use Rattle.std.proofs.lemmas.Bool.{cases_eq, cond-true, cond-false, eq-eqb, ne_eqb}
+use Rattle.std.proofs.lemmas.Bool.{eqb-false}
 use Rattle.rec_word.specs.declared.op.Op.{Op}
 use Rattle.rec_word.specs.declared.op.Op.TheVariants.{StoreEpoch, LoadChild}
 use Rattle.rec_word.proofs.FieldPlaces.{place_within}
@@ -156,12 +156,11 @@ sweep_names s (Some x) fields mutators k e = in_range_once (length s.slots) s.fr
 
 names_at : (p : Private) (phase : Phase) → IsMachine p → p.phase ≡ phase → IfSome (next_at p phase) (NamesWord (length p.counts.slots) p.release.fields (length p.newer))
 unfolding next_at
-names_at p Idle k e = elim (cases_eq (p.epoch + 1) (2 ^ 24)) [
-  | inl q ↦ subst (λ (o : Option Op). IfSome o (NamesWord (length p.counts.slots) p.release.fields (length p.newer))) (sym (cond-true (is_spent p) None (Some (StoreEpoch (p.epoch + 1))) (eq-eqb (p.epoch + 1) (2 ^ 24) q))) tt
-  | inr q ↦
-      subst (λ (o : Option Op). IfSome o (NamesWord (length p.counts.slots) p.release.fields (length p.newer))) (sym (cond-false (is_spent p) None (Some (StoreEpoch (p.epoch + 1))) (ne_eqb (p.epoch + 1) (2 ^ 24) q)))
-      (omega (arith, q, k.epoch))
-]
+names_at p Idle k e =
+    (elim (is_spent p) as (λ b. is_spent p ≡ b → IfSome (cond b None (Some (StoreEpoch (p.epoch + 1)))) (NamesWord (length p.counts.slots) p.release.fields (length p.newer))) [
+      | true ↦ λ q. tt
+      | false ↦ λ q. omega (arith, k.epoch, eqb-false (p.epoch + 1) (2 ^ 24) q)
+    ]) refl
 names_at p (Looking t) k e = let a : IsAt p (Looking t) = now_at p (Looking t) k e in (a.first, a.there, k.epoch)
 names_at p (Swapping t) k e = let a : IsAt p (Swapping t) = now_at p (Swapping t) k e in (a.first, a.there, k.epoch)
 names_at p (Returning t) k e = let a : IsAt p (Returning t) = now_at p (Returning t) k e in (a.first, a.there, k.epoch)

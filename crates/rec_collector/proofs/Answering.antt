@@ -34,12 +34,12 @@ pub record IsUnderTest (from w : Parts) : Type 0 where
   pub same : tested (length w.counts.sets) w ≡ tested (length from.counts.sets) from
 
 -- where a slot is released or a set freed, no set is tested, and else the last one is
-pub tested_busy : (n : ℕ) (w : Parts) → is_busy w ≡ true → tested n w ≡ w
+tested_busy : (n : ℕ) (w : Parts) → is_busy w ≡ true → tested n w ≡ w
 unfolding tested
 tested_busy zero w b = refl
 tested_busy (suc n) w b = ap (λ c. cond c w (tested n (last_tested w))) b
 
-pub tested_next_on : (n : ℕ) (w : Parts) → is_busy w ≡ false → tested (suc n) w ≡ tested n (last_tested w)
+tested_next_on : (n : ℕ) (w : Parts) → is_busy w ≡ false → tested (suc n) w ≡ tested n (last_tested w)
 unfolding tested
 tested_next_on n w b = ap (λ c. cond c w (tested n (last_tested w))) b
 
@@ -47,7 +47,7 @@ tested_more : (n : ℕ) (w : Parts) → is_busy w ≡ false → 0 < n → tested
 tested_more zero w b l = absurd (omega (arith, l))
 tested_more (suc n) w b l = let e : n ≡ suc n - 1 = omega arith in tested_next_on n w b ∙ ap (λ m. tested m (last_tested w)) e
 
-pub tested_none : (n : ℕ) (w : Parts) → n ≡ 0 → tested n w ≡ w
+tested_none : (n : ℕ) (w : Parts) → n ≡ 0 → tested n w ≡ w
 unfolding tested
 tested_none zero w e = refl
 tested_none (suc n) w e = absurd (omega (arith, e))

@@ -50,7 +50,7 @@ pub use Rattle.rec_collector.proofs.Judging.{last_freeable, last_refusable}
 pub release_idle : (m : releases.Machine) (s : State) → m.at ≡ None → IsReady s → releases.IsAtWork m s
 release_idle m s e r = record { field = subst (λ o. IfSome o (λ (a : At). a.field < m.fields)) (sym e) tt; held = subst (λ o. IfSome o (releases.IsHeld s)) (sym e) tt; ready = r }
 
-pub freeing_idle : (m : frees.Machine) (s : State) → m.at ≡ None → s.work ≡ [] → IsReady s → frees.IsAtWork m s
+freeing_idle : (m : frees.Machine) (s : State) → m.at ≡ None → s.work ≡ [] → IsReady s → frees.IsAtWork m s
 freeing_idle m s e n r = record {
   field = subst (λ o. IfSome o (λ (a : Member). a.field < m.fields)) (sym e) tt;
   held = subst (λ o. IfSome o (IsOf s.work)) (sym e) tt;

@@ -149,7 +149,7 @@ unfolding refurbished_of
 refurbished_many s = (all_same (slice_get (last_set s.sets) 0) (last_set s.sets) (dropped s)).1 ∙ length-map s.slots (out_of_set (length s.sets - 1))
 
 -- the release of the zeros leaves the sets and the number of slots
-pub zeros_sets : (lowers : Bool) (w : Parts) → (zeros_released lowers w).counts.sets ≡ w.counts.sets
+zeros_sets : (lowers : Bool) (w : Parts) → (zeros_released lowers w).counts.sets ≡ w.counts.sets
 unfolding zeros_started
 zeros_sets lowers w = next_sets w.counts.zeros w.counts
 

@@ -2,7 +2,7 @@
 -- gathered, and on a turn that works on the parts.
 use Rattle.std.proofs.Common.{◌≡◌, ◌≢◌, ℕ, ◌+◌, ◌-◌, ◌^◌, ◌<◌, ◌==◌, true, false, Bool, cond, inl, inr, length, set, refl, arith, sym, ◌∙◌, ap, subst, List}
 use Rattle.std.proofs.lemmas.List.{length-set, get_or-set_same, get_or-set_other}
-use Rattle.std.proofs.lemmas.Bool.{cases_eq, cases_lt, eq-eqb, false≢true, eqb-true}
+use Rattle.std.proofs.lemmas.Bool.{eqb-false, cases_eq, eqb-true}
 use Rattle.rec_word.specs.Mailbox.{crossing_word}
 use Rattle.rec_word.specs.declared.mailbox.Mailbox.TheVariants.{Retired}
 use Rattle.rec_log.specs.declared.contents.Contents.{Contents}
@@ -28,7 +28,7 @@ use Rattle.rec_collector.proofs.Steps.{same_swapped, took_between}
 use Rattle.rec_collector.proofs.Sweeping.{ended_keeps, opening_keeps, sweeping_keeps}
 
 -- the next epoch is requested, if there is one
-pub idle_keeps : (p : Private) (word : ℕ) → IsMachine p → p.phase ≡ Idle → IsMachine (took_at p word Idle)
+idle_keeps : (p : Private) (word : ℕ) → IsMachine p → p.phase ≡ Idle → IsMachine (took_at p word Idle)
 unfolding took_at
 idle_keeps p word k e = go (is_spent p) refl
   where
@@ -39,13 +39,11 @@ idle_keeps p word k e = go (is_spent p) refl
     go true s = k
     go false s =
         let a : IsAt p Idle = now_at p Idle k e in
-        let next : p.epoch + 1 ≢ 2 ^ 24 = λ q. false≢true (sym s ∙ eq-eqb (p.epoch + 1) (2 ^ 24) q) in
-        let fits : p.epoch + 1 < 2 ^ 24 = elim (cases_lt (p.epoch + 1) (2 ^ 24)) [ inl l ↦ l | inr l ↦ absurd (next (omega (arith, l, k.epoch))) ] in
-        machine_on p (p.epoch + 1) p.counts p.due p.freed (Looking 1) k fits (omega (arith, under_way_at p Idle k e)) (freed_at p Idle k e) k.counts (told_at p Idle k e)
+        machine_on p (p.epoch + 1) p.counts p.due p.freed (Looking 1) k (omega (arith, k.epoch, eqb-false (p.epoch + 1) (2 ^ 24) s)) (omega (arith, under_way_at p Idle k e)) (freed_at p Idle k e) k.counts (told_at p Idle k e)
         (record { rest = a.0; first = omega arith; there = omega (arith, k.mutators); spares = a.1; turns = omega (arith, a.2); due = a.3 })
 
 -- the mailbox of a mutator is held where it has crossed
-pub look_keeps : (p : Private) (word t : ℕ) → IsMachine p → p.phase ≡ Looking t → IsMachine (took_at p word (Looking t))
+look_keeps : (p : Private) (word t : ℕ) → IsMachine p → p.phase ≡ Looking t → IsMachine (took_at p word (Looking t))
 unfolding took_at
 look_keeps p word t k e = go (word == crossing_word p.epoch Retired)
   where
@@ -57,16 +55,15 @@ look_keeps p word t k e = go (word == crossing_word p.epoch Retired)
         (record { rest = a.rest; first = a.first; there = a.there; spares = a.spares; turns = omega (arith, a.turns, a.first); due = a.due })
 
 -- the next mutator's mailbox follows
-pub next_keeps : (p : Private) (t : ℕ) → IsMachine p → p.phase ≡ Returning t → t ≢ length p.newer → IsMachine (moved p (Looking (t + 1)))
+next_keeps : (p : Private) (t : ℕ) → IsMachine p → p.phase ≡ Returning t → t ≢ length p.newer → IsMachine (moved p (Looking (t + 1)))
 next_keeps p t k e other =
     let a : IsAt p (Returning t) = now_at p (Returning t) k e in
-    let more : t < length p.newer = elim (cases_lt t (length p.newer)) [ inl l ↦ l | inr l ↦ absurd (other (omega (arith, l, a.there))) ] in
     let same : t + 1 - 1 ≡ t = omega arith in
     machine_on p p.epoch p.counts p.due p.freed (Looking (t + 1)) k k.epoch (under_way_at p (Returning t) k e) (freed_at p (Returning t) k e) k.counts (told_at p (Returning t) k e)
     (record {
       rest = a.rest;
       first = omega arith;
-      there = omega (arith, more);
+      there = omega (arith, a.there, other);
       spares = subst (λ from. AreSpare p from) (sym same) a.spares;
       turns = omega (arith, a.turns);
       due = a.due;
@@ -81,7 +78,7 @@ swap_sized p i box z k = λ j l.
       | inr q ↦ subst (λ (b : Contents). IsSized p.registers p.capacity b) (sym (get_or-set_other p.newer i j box (blank 0 0) q)) (k j m)
     ]
 
-pub swap_keeps : (p : Private) (t : ℕ) (box : Contents) → IsSized p.registers p.capacity box → IsMachine p → p.phase ≡ Swapping t → IsMachine (swapped_at p box (Swapping t))
+swap_keeps : (p : Private) (t : ℕ) (box : Contents) → IsSized p.registers p.capacity box → IsMachine p → p.phase ≡ Swapping t → IsMachine (swapped_at p box (Swapping t))
 unfolding swapped_at
 swap_keeps p t box z k e =
     let a : IsAt p (Swapping t) = now_at p (Swapping t) k e in
@@ -114,7 +111,7 @@ IsWork p Preparing = Unit {0}
 IsWork p _ = ⊥
 
 -- what follows it lands
-pub work_lands : (p : Private) (word : ℕ) (phase : Phase) → IsMachine p → p.phase ≡ phase → IsGivenAt p word phase → IsWork p phase → Lands p (work_of p word phase)
+work_lands : (p : Private) (word : ℕ) (phase : Phase) → IsMachine p → p.phase ≡ phase → IsGivenAt p word phase → IsWork p phase → Lands p (work_of p word phase)
 unfolding IsGivenAt
 work_lands p word (Returning t) k e g last = followed_lands p _ (begun_clears p t k e last (g last))
 work_lands p word Releasing k e g at_work = followed_lands p _ (released_clears p word k e g)
@@ -123,7 +120,7 @@ work_lands p word Trying k e g at_work = tried_lands p _ (took_tried p word k e 
 work_lands p word Preparing k e g at_work = prepared_lands p _ (took_prepared p word k e)
 work_lands p word _ k e g at_work = absurd at_work
 
-pub work_keeps : (p : Private) (word : ℕ) (phase : Phase) → IsMachine p → p.phase ≡ phase → IsGivenAt p word phase → IsWork p phase → IsMachine (landed p (work_of p word phase))
+work_keeps : (p : Private) (word : ℕ) (phase : Phase) → IsMachine p → p.phase ≡ phase → IsGivenAt p word phase → IsWork p phase → IsMachine (landed p (work_of p word phase))
 work_keeps p word phase k e g at_work = landed_keeps p (work_of p word phase) phase k e (way phase at_work) (none phase at_work) (work_phase (λ f. under_way f ≡ 1) refl refl refl refl refl refl p word phase) (work_none p word phase) (work_lands p word phase k e g at_work)
   where
     way : (phase : Phase) → IsWork p phase → under_way phase ≡ 1
@@ -196,7 +193,7 @@ return_keeps p word t k e g = go (t == length p.newer) refl
   where
     go : (b : Bool) → (t == length p.newer) ≡ b → IsMachine (cond b (came p (work_of p word (Returning t))) (moved p (Looking (t + 1))))
     go true q = came_keeps p word (Returning t) k e g (eqb-true t (length p.newer) q)
-    go false q = next_keeps p t k e (λ last. false≢true (sym q ∙ eq-eqb t (length p.newer) last))
+    go false q = next_keeps p t k e (eqb-false t (length p.newer) q)
 
 -- what is learnt
 took_keeps_at : (p : Private) (word : ℕ) (phase : Phase) → IsMachine p → p.phase ≡ phase → IsGivenAt p word phase → IsMachine (took_at p word phase)

@@ -1,7 +1,7 @@
 -- What comes next and what is learnt are a step, by the phase; what a step leaves in the mailbox that it looks at, and why each answer of
 -- a turn comes.
 use Rattle.std.proofs.Common.{◌≡◌, ◌≢◌, ℕ, zero, suc, ◌+◌, ◌-◌, ◌^◌, ◌<◌, ◌==◌, true, false, Bool, cond, Option, None, Some, List, [], ◌∷◌, length, refl, arith, sym, ap, subst, ◌∙◌, inl, inr, ◌≤◌, IsSome, IsNone}
-use Rattle.std.proofs.lemmas.Bool.{eq-eqb, eqb-true, false≢true, cases_eq, ne_eqb, cond-true, cond-false}
+use Rattle.std.proofs.lemmas.Bool.{eqb-false, eq-eqb, eqb-true, false≢true, cases_eq, ne_eqb, cond-false}
 use Rattle.std.proofs.lemmas.List.{nil_from_length}
 use Rattle.rec_word.specs.Mailbox.{crossing_word}
 use Rattle.rec_word.specs.declared.mailbox.Mailbox.TheVariants.{Retired}
@@ -130,7 +130,7 @@ idle_step p word box is = go (is_spent p) refl
   where
     go : (b : Bool) → is_spent p ≡ b → Step p word box (cond b None (Some (StoreEpoch (p.epoch + 1)))) (swapped_of (cond b p (moved (record p { epoch = p.epoch + 1 }) (Looking 1))) box) (cond b EpochsSpent Moved)
     go true e = Step.spent is (eqb-true (p.epoch + 1) (2 ^ 24) e) refl (same_swapped p box Idle is tt) refl
-    go false e = Step.request is (λ q. false≢true (sym e ∙ eq-eqb (p.epoch + 1) (2 ^ 24) q)) refl (record { after = refl; answer = refl })
+    go false e = Step.request is (eqb-false (p.epoch + 1) (2 ^ 24) e) refl (record { after = refl; answer = refl })
 
 look_step : (p : Private) (word : ℕ) (box : Contents) (t : ℕ) → p.phase ≡ Looking t → Step p word box (next_at p (Looking t)) (swapped_of (took_at p word (Looking t)) box) (turn_at p word (Looking t))
 unfolding next_at took_at turn_at swapped_of swapped_at
@@ -138,7 +138,7 @@ look_step p word box t is = go (word == crossing_word p.epoch Retired) refl
   where
     go : (b : Bool) → (word == crossing_word p.epoch Retired) ≡ b → Step p word box (Some (LookBox t p.epoch)) (swapped_of (cond b (moved p (Swapping t)) p) box) (cond b Moved (Waiting t))
     go true e = Step.gather t is (eqb-true word (crossing_word p.epoch Retired) e) refl (record { after = refl; answer = refl })
-    go false e = Step.wait t is (λ q. false≢true (sym e ∙ eq-eqb word (crossing_word p.epoch Retired) q)) refl (same_swapped p box (Looking t) is tt) refl
+    go false e = Step.wait t is (eqb-false word (crossing_word p.epoch Retired) e) refl (same_swapped p box (Looking t) is tt) refl
 
 -- with the last mailbox the batch is applied
 return_step : (p : Private) (word : ℕ) (box : Contents) (t : ℕ) → IsMachine p → p.phase ≡ Returning t → (t ≡ length p.newer → IsCovered p.counts p.newer p.older) → Step p word box (next_at p (Returning t)) (swapped_of (took_at p word (Returning t)) box) (turn_at p word (Returning t))
@@ -151,7 +151,7 @@ return_step p word box t k is c = go (t == length p.newer) refl
     go : (b : Bool) → (t == length p.newer) ≡ b
         → Step p word box (Some (ReturnBox t p.epoch)) (swapped_of (cond b (came p (followed w)) (moved p (Looking (t + 1)))) box) (cond b (came_turn p.epoch (followed w).phase) Moved)
     go true e = let last : t ≡ length p.newer = eqb-true t (length p.newer) e in Step.apply t is last refl (cleared_on p w box (begun_clears p t k is last (c last)))
-    go false e = Step.give_back t is (λ q. false≢true (sym e ∙ eq-eqb t (length p.newer) q)) refl (record { after = refl; answer = refl })
+    go false e = Step.give_back t is (eqb-false t (length p.newer) e) refl (record { after = refl; answer = refl })
 
 swept_step : (p : Private) (word : ℕ) (box : Contents) (n : ℕ) (w : sweeps.Work) → p.phase ≡ Sweeping n → w ≡ sweeps.took_of (record { due = p.due; counts = p.counts }) word → (due : Option ℕ) → w.due ≡ due
     → Step p word box (sweeps.next_of p.due) (swapped_of (moved (record p { counts = w.counts; due = w.due; freed = p.freed + 1 }) (swept_phase (n + 1) due)) box) Moved
@@ -247,7 +247,7 @@ idle_cause p word false e is = (refl, refl, ap (λ f. p.freed + swept_at f) is)
 
 look_cause : (p : Private) (word t : ℕ) (b : Bool) → (word == crossing_word p.epoch Retired) ≡ b → p.phase ≡ Looking t → HasCause p word (cond b (moved p (Swapping t)) p) (cond b Moved (Waiting t))
 look_cause p word t true e is = (refl, refl, ap (λ f. p.freed + swept_at f) is)
-look_cause p word t false e is = (is, (λ q. false≢true (sym e ∙ eq-eqb word (crossing_word p.epoch Retired) q)), refl)
+look_cause p word t false e is = (is, (eqb-false word (crossing_word p.epoch Retired) e), refl)
 
 return_cause : (p : Private) (word t : ℕ) (n : Next) (b : Bool) → p.collections + 1 ≤ p.epoch → p.phase ≡ Returning t → swept_at n.phase ≡ 0 → HasCause p word (cond b (came p n) (moved p (Looking (t + 1)))) (cond b (came_turn p.epoch n.phase) Moved)
 return_cause p word t n true u is none = came_cause p word n u (ap swept_at is) none
@@ -284,10 +284,7 @@ is_none (Some x) s n = false≢true (sym n)
 
 spent_at : (p : Private) (word : ℕ) (phase : Phase) → p.phase ≡ phase → IsMachine p → IsNone (next_at p phase) → turn_at p word phase ≡ EpochsSpent
 unfolding next_at turn_at
-spent_at p word Idle is k n = elim (cases_eq (p.epoch + 1) (2 ^ 24)) [
-  | inl e ↦ cond-true (is_spent p) _ _ (eq-eqb (p.epoch + 1) (2 ^ 24) e)
-  | inr e ↦ absurd (false≢true (sym (subst (λ (o : Option Op). IsNone o) (cond-false (is_spent p) None (Some (StoreEpoch (p.epoch + 1))) (ne_eqb (p.epoch + 1) (2 ^ 24) e)) n)))
-]
+spent_at p word Idle is k n = (elim (is_spent p) as (λ b. IsNone (cond b None (Some (StoreEpoch (p.epoch + 1)))) → cond b EpochsSpent Moved ≡ EpochsSpent) [ true ↦ λ n. refl | false ↦ λ n. absurd (false≢true (sym n)) ]) n
 spent_at p word Releasing is k n = absurd (is_none (releases.next_of p.release) (release_next p.release ∙ (now_at p Releasing k is).1) n)
 spent_at p word Freeing is k n = absurd (is_none (frees.next_of p.freeing) (freeing_next p.freeing ∙ (now_at p Freeing k is).1) n)
 spent_at p word Trying is k n = absurd (is_none (trial_next p.trial) (now_at p Trying k is).busy n)

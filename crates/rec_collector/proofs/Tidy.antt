@@ -41,7 +41,7 @@ times_last x (xs ∷ ys ∷ yss) =
     rw k (omega (arith, times-append x xs (concat (ys ∷ yss)), times-append x xs (concat (earlier_sets (ys ∷ yss))), times_last x (ys ∷ yss)))
 
 -- what passes a test stands there no more often
-pub times_filter : (p : ℕ → Bool) (x : ℕ) (xs : List ℕ) → times x (filter p xs) ≤ times x xs
+times_filter : (p : ℕ → Bool) (x : ℕ) (xs : List ℕ) → times x (filter p xs) ≤ times x xs
 times_filter p x [] = omega arith
 times_filter p x (y ∷ ys) = elim (p y) as (λ b. times x (cond b (y ∷ filter p ys) (filter p ys)) ≤ times x (y ∷ ys)) [
   | true ↦ omega (arith, times_filter p x ys, times-cons x y (filter p ys), times-cons x y ys)
@@ -60,7 +60,7 @@ fate_uncolours false true root v e o = cc
 fate_uncolours false false true v e o = cc
 fate_uncolours false false false v e o = cc
 
-pub apart_refurbished : (s t : State) → IsKept s → LastRefurbished s t → IsApart s → IsApart t
+apart_refurbished : (s t : State) → IsKept s → LastRefurbished s t → IsApart s → IsApart t
 apart_refurbished s t k r a = λ x o.
     let n : ℕ = length s.sets - 1 in
     let first : Option ℕ = slice_get (last_set s.sets) 0 in

@@ -67,7 +67,7 @@ pub record HasPrepared (p : Private) (w : Parts) : Type 0 where
   pub told : told w.sets + length w.counts.sets ≤ 2 ^ 16 * (p.collections + 1)
 
 -- it has begun
-pub started_prepared : (p : Private) (w : Parts) → IsTried w → IsKeptCounts w.counts → Fits p w → p.due ≡ None → p.turns ≤ 1 + 2 * length p.newer + 4 * all_fields p
+started_prepared : (p : Private) (w : Parts) → IsTried w → IsKeptCounts w.counts → Fits p w → p.due ≡ None → p.turns ≤ 1 + 2 * length p.newer + 4 * all_fields p
     → told w.sets + length w.counts.sets ≤ 2 ^ 16 * (p.collections + 1) → HasPrepared p (prep_started w)
 unfolding preps.started_of
 started_prepared p w t k fits due turns told =
