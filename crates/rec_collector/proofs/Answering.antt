@@ -39,18 +39,10 @@ unfolding tested
 tested_busy zero w b = refl
 tested_busy (suc n) w b = ap (λ c. cond c w (tested n (last_tested w))) b
 
-tested_next_on : (n : ℕ) (w : Parts) → is_busy w ≡ false → tested (suc n) w ≡ tested n (last_tested w)
-unfolding tested
-tested_next_on n w b = ap (λ c. cond c w (tested n (last_tested w))) b
-
 tested_more : (n : ℕ) (w : Parts) → is_busy w ≡ false → 0 < n → tested n w ≡ tested (n - 1) (last_tested w)
-tested_more zero w b l = absurd (omega (arith, l))
-tested_more (suc n) w b l = let e : n ≡ suc n - 1 = omega arith in tested_next_on n w b ∙ ap (λ m. tested m (last_tested w)) e
-
-tested_none : (n : ℕ) (w : Parts) → n ≡ 0 → tested n w ≡ w
 unfolding tested
-tested_none zero w e = refl
-tested_none (suc n) w e = absurd (omega (arith, e))
+tested_more zero w b l = absurd (omega (arith, l))
+tested_more (suc n) w b l = let e : n ≡ suc n - 1 = omega arith in ap (λ c. cond c w (tested n (last_tested w))) b ∙ ap (λ m. tested m (last_tested w)) e
 
 -- the last set was tested
 pub last_under_test : (from w v : Parts) → IsUnderTest from w → 0 < length w.counts.sets → is_busy w ≡ false → v ≡ last_tested w → IsUnderTest from v
@@ -64,7 +56,8 @@ last_under_test from w v i some idle e =
 
 -- no set is left, or something is at work
 pub tests_end : (from w : Parts) → IsUnderTest from w → length w.counts.sets ≡ 0 → w ≡ tested (length from.counts.sets) from
-tests_end from w i none = sym (tested_none (length w.counts.sets) w none) ∙ i.same
+unfolding tested
+tests_end from w i none = sym (ap (λ n. tested n w) none) ∙ i.same
 
 pub tests_stop : (from w : Parts) → IsUnderTest from w → is_busy w ≡ true → w ≡ tested (length from.counts.sets) from
 tests_stop from w i busy = sym (tested_busy (length w.counts.sets) w busy) ∙ i.same
