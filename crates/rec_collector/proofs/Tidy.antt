@@ -13,7 +13,6 @@ use Rattle.rec_counts.specs.Groups.{last_set, earlier_sets}
 use Rattle.rec_counts.specs.Lists.{one, times}
 use Rattle.rec_counts.specs.Slot.{is_in, unbuffered_if}
 use Rattle.rec_counts.proofs.Times.{times-nil, times-cons, times-append, times_push}
-use Rattle.rec_counts.specs.declared.slot.Due.TheVariants.{Zero}
 use Rattle.rec_counts.specs.Rest.{AreZeros}
 use Rattle.rec_counts.proofs.Keeping.{field_kept}
 use Rattle.rec_release.specs.TakenOff.{IsMember, IsApart, taken_off, AllZerosButOrange}
