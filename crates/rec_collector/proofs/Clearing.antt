@@ -40,7 +40,7 @@ use Rattle.rec_collector.specs.Testing.{is_busy, last_tested, tested, verdict_of
 use Rattle.rec_collector.specs.declared.verdict.Verdict.{Verdict}
 use Rattle.rec_collector.specs.declared.verdict.Verdict.TheVariants.{Passed}
 use Rattle.rec_collector.proofs.Counting.{Counted, freed_kept, last_kept, last_told, released_kept, released_told, relieved_kept, relieved_told, wide_on, zeros_kept, zeros_told}
-use Rattle.rec_collector.proofs.Goings.{freed_by, freed_last, freed_off, first_work, last_by, last_given, last_refused, none_some, released_by, released_emptied, released_last, released_more, released_off, relieved_by, some_none, tested_all, released_most}
+use Rattle.rec_collector.proofs.Goings.{emptied_same, freed_by, freed_last, freed_off, first_work, last_by, last_given, last_refused, none_some, released_by, released_emptied, released_last, released_more, released_off, relieved_by, some_none, tested_all, released_most}
 use Rattle.rec_collector.proofs.Judging.{none_busy}
 use Rattle.rec_collector.proofs.Tidy.{tidy_emptied, tidy_given, tidy_listed, tidy_next, tidy_off, tidy_refurbished}
 pub use Rattle.rec_collector.proofs.Goings.{last_sets}
@@ -50,7 +50,7 @@ pub use Rattle.rec_collector.proofs.Judging.{last_freeable, last_refusable}
 pub release_idle : (m : releases.Machine) (s : State) → m.at ≡ None → IsReady s → releases.IsAtWork m s
 release_idle m s e r = record { field = subst (λ o. IfSome o (λ (a : At). a.field < m.fields)) (sym e) tt; held = subst (λ o. IfSome o (releases.IsHeld s)) (sym e) tt; ready = r }
 
-pub freeing_idle : (m : frees.Machine) (s : State) → m.at ≡ None → s.work ≡ [] → IsReady s → frees.IsAtWork m s
+freeing_idle : (m : frees.Machine) (s : State) → m.at ≡ None → s.work ≡ [] → IsReady s → frees.IsAtWork m s
 freeing_idle m s e n r = record {
   field = subst (λ o. IfSome o (λ (a : Member). a.field < m.fields)) (sym e) tt;
   held = subst (λ o. IfSome o (IsOf s.work)) (sym e) tt;
@@ -66,13 +66,6 @@ unfreed_clear w i p t r u k = record { tidy = t; idle = i; unprepared = p; relea
 -- and where no slot is released
 unreleased_clear : (w : Parts) → IsNone (trial_next w.trial) → w.prep.at ≡ None → w.release.at ≡ None → IsTidy w.prep.fields w.counts None → frees.IsAtWork w.freeing w.counts → (w.freeing.at ≡ None → w.counts.work ≡ []) → IsClearing w
 unreleased_clear w i p e t f k = record { tidy = subst (IsTidy w.prep.fields w.counts) (sym e) t; idle = i; unprepared = p; release = release_idle w.release w.counts e f.ready; freeing = f; one = inl e; work = k }
-
-listed_work : (b : Bool) (s : State) (x : ℕ) → (releases.listed_if b s x).work ≡ s.work
-listed_work true s x = refl
-listed_work false s x = refl
-
-emptied_work : (s : State) (x : ℕ) → (emptied s x).work ≡ s.work
-emptied_work s x = listed_work (slot_at s x).buffered s x
 
 first_done : (zs : List ℕ) (s : State) → s.zeros ≡ zs → first_of zs ≡ None → (without_first zs s).zeros ≡ []
 first_done [] s e f = e
@@ -131,7 +124,7 @@ module _ (w : Parts) (word : ℕ) (counted : Counted w.counts word) (c : IsClear
     emptied_clear =
         let held : releases.IsHeld (released_off w word) a = held_off w.release.lowers w.counts (target_of word) a (release_at_work w a c e).held in
         let ready' : IsReady (emptied (released_off w word) a.slot) = ready_emptied (released_off w word) a.slot held.released ready in
-        unfreed_clear (released_emptied w word a) c.idle c.unprepared (tidy_emptied (released_off w word) a tidy) (release_idle (released_emptied w word a).release (emptied (released_off w word) a.slot) refl ready') (release_alone w a c e) (emptied_work (released_off w word) a.slot ∙ work)
+        unfreed_clear (released_emptied w word a) c.idle c.unprepared (tidy_emptied (released_off w word) a tidy) (release_idle (released_emptied w word a).release (emptied (released_off w word) a.slot) refl ready') (release_alone w a c e) ((emptied_same (released_off w word) a.slot).1 ∙ work)
 
     last_clears : IsClearing (released_last w word a) × IsDone (released_last w word a)
     last_clears = let field : a.field < w.release.fields = (release_at_work w a c e).field in next_clear w.release.lowers (released_emptied w word a) (omega (arith, field)) refl (release_alone w a c e) emptied_clear
@@ -278,12 +271,8 @@ clear_counted w k c d still unfreed none x r = elim (cases_lt 0 (slot_at w.count
 pub clear_listed : (w : Parts) → IsKept w.counts → IsClearing w → IsDone w → w.release.at ≡ None → w.freeing.at ≡ None → w.counts.sets ≡ [] → IsListed w.counts
 clear_listed w k c d still unfreed none = record {
   listed = λ x l r. elim (cases_Bool (slot_at w.counts x).buffered) [
-    | inl b ↦
-        let in_sets : times x (concat w.counts.sets) ≡ 0 = ap (λ (sets : List (List ℕ)). times x (concat sets)) none ∙ times-nil x in
-        omega (arith, k.buffers x, in_sets, ap one b)
-    | inr b ↦
-        let in_work : times x w.counts.work ≡ 0 = ap (times x) (c.work unfreed) ∙ times-nil x in
-        omega (arith, c.listed x l r b, in_work, ap (λ (o : Option At). one (is_at x o)) still)
+    | inl b ↦ omega (arith, k.buffers x, ap (λ sets. times x (concat sets)) none, times-nil x, ap one b)
+    | inr b ↦ omega (arith, c.listed x l r b, ap (times x) (c.work unfreed), times-nil x, ap (λ (o : Option At). one (is_at x o)) still)
   ];
   only = c.release.ready.free;
   unbuffered = c.unbuffered;

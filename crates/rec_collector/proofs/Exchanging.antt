@@ -1,5 +1,5 @@
 -- Each word that comes out is a field of a released slot, and each is exchanged once: so there are no more of them than fields.
-use Rattle.std.proofs.Common.{◌≡◌, ℕ, ◌+◌, ◌-◌, ◌*◌, ◌<◌, ◌≤◌, Bool, true, false, eqb, leb, ltb, Option, None, Some, IsSome, List, [], ◌∷◌, ◌++◌, length, slice_get, refl, arith, sym, ◌∙◌, ap, subst, inl, inr}
+use Rattle.std.proofs.Common.{◌≡◌, ℕ, ◌+◌, ◌-◌, ◌*◌, ◌<◌, ◌≤◌, Bool, true, false, eqb, leb, get_or, Option, None, Some, IsSome, List, [], ◌∷◌, ◌++◌, length, slice_get, refl, arith, sym, ◌∙◌, ap, subst, inl, inr}
 use Rattle.std.proofs.Math.Nat.{mul-le-mul_left}
 use Rattle.std.proofs.lemmas.List.{get_or_past, length-append}
 use Rattle.std.proofs.lemmas.Bool.{cases_lt, le-leb, lt-leb, lt-ltb}
@@ -15,7 +15,6 @@ use Rattle.rec_counts.proofs.Front.{first_and_rest}
 use Rattle.rec_release.specs.CycleFree as frees
 use Rattle.rec_walk.specs.Walk.{first_member}
 use Rattle.rec_release.specs.CycleFree.{given_up}
-use Rattle.rec_release.specs.Release as releases
 use Rattle.rec_release.specs.Release.{started_of as zeros_started, emptied, first_of, with_next, without_first, IsReady}
 use Rattle.rec_release.specs.declared.at.At.{At}
 use Rattle.rec_walk.specs.declared.member.Member.{Member}
@@ -33,17 +32,15 @@ use Rattle.rec_collector.specs.Testing.{is_busy, last_tested, tested, with_relea
 use Rattle.rec_collector.specs.declared.verdict.Verdict.{Verdict}
 use Rattle.rec_collector.proofs.Clearing.{freed_clear, last_stays, refused_clear, StaysClear, release_alone, release_at_work, freeing_at_work}
 use Rattle.rec_collector.proofs.Counting.{Counted, last_told}
-use Rattle.rec_collector.proofs.Goings.{freed_by, freed_last, freed_more, freed_next, freed_off, last_by, last_given, last_refused, none_some, released_by, released_emptied, released_last, released_more, released_off, relieved_by, tested_all, released_most, freed_most}
+use Rattle.rec_collector.proofs.Goings.{emptied_same, freed_by, freed_last, freed_more, freed_next, freed_off, last_by, last_given, last_refused, none_some, released_by, released_emptied, released_last, released_more, released_off, relieved_by, tested_all, released_most, freed_most}
 use Rattle.rec_collector.proofs.Judging.{last_freeable, last_refusable, none_busy}
 
 -- no more fields were exchanged than there are
 pub exchanged_few : (w : Parts) (n : ℕ) → IsKept w.counts → HasExchanged w n → n ≤ length w.counts.slots * w.release.fields
 exchanged_few w n k h =
     let once : EachOnce (length w.counts.slots) h.gone = λ x. elim (cases_lt x (length w.counts.slots)) [
-      | inl l ↦ let t : one (ltb x (length w.counts.slots)) ≡ 1 = ap one (lt-ltb x (length w.counts.slots) l) in omega (arith, t, h.are x, one-le (slot_at w.counts x).released)
-      | inr l ↦
-          let past : one (leb (length w.counts.slots) x) ≡ 1 = ap one (le-leb (length w.counts.slots) x l) in
-          omega (arith, past, h.are x, one-le (slot_at w.counts x).released)
+      | inl l ↦ omega (arith, ap one (lt-ltb x (length w.counts.slots) l), h.are x, one-le (slot_at w.counts x).released)
+      | inr l ↦ omega (arith, ap one (le-leb (length w.counts.slots) x l), h.are x, one-le (slot_at w.counts x).released)
     ] in
     omega (arith, h.few, mul-le-mul_left w.release.fields (length-once (length w.counts.slots) h.gone once))
 
@@ -75,17 +72,13 @@ first_are z zs s gone e r are x =
           omega (arith, n, ap one (released_same s z x q.1), are x, many, times-cons x z gone)
     ]
 
+few_exchanged : (w : Parts) (n : ℕ) (h : HasExchanged w n) → w.release.at ≡ None → n + 0 + freeing_left w.freeing.fields w.counts.work w.freeing.at ≤ length h.gone * w.release.fields
+few_exchanged w n h still = subst (λ o. n + release_left w.release.fields o + freeing_left w.freeing.fields w.counts.work w.freeing.at ≤ length h.gone * w.release.fields) still h.few
+
 first_exchanged : (zs : List ℕ) (lowers : Bool) (w : Parts) (n : ℕ) → w.counts.zeros ≡ zs → w.release.at ≡ None → IsReady w.counts → HasExchanged w n →
     HasExchanged (record w { counts = without_first zs w.counts; release = record { fields = w.release.fields; at = first_of zs; lowers = lowers } }) n
-first_exchanged [] lowers w n e still r h = record {
-  gone = h.gone;
-  are = h.are;
-  few = subst (λ o. n + release_left w.release.fields o + freeing_left w.freeing.fields w.counts.work w.freeing.at ≤ length h.gone * w.release.fields) still h.few;
-}
-first_exchanged (z ∷ zs) lowers w n e still r h =
-    let few : n + 0 + freeing_left w.freeing.fields w.counts.work w.freeing.at ≤ length h.gone * w.release.fields =
-    subst (λ o. n + release_left w.release.fields o + freeing_left w.freeing.fields w.counts.work w.freeing.at ≤ length h.gone * w.release.fields) still h.few in
-    record { gone = z ∷ h.gone; are = first_are z zs w.counts h.gone e r h.are; few = omega (arith, few) }
+first_exchanged [] lowers w n e still r h = record { gone = h.gone; are = h.are; few = few_exchanged w n h still }
+first_exchanged (z ∷ zs) lowers w n e still r h = record { gone = z ∷ h.gone; are = first_are z zs w.counts h.gone e r h.are; few = omega (arith, few_exchanged w n h still) }
 
 next_exchanged : (lowers : Bool) (w : Parts) (n : ℕ) → w.release.at ≡ None → IsReady w.counts → HasExchanged w n → HasExchanged (with_release w (with_next w.release.fields lowers w.counts)) n
 next_exchanged lowers w n still r h = first_exchanged w.counts.zeros lowers w n refl still r h
@@ -93,10 +86,6 @@ next_exchanged lowers w n still r h = first_exchanged w.counts.zeros lowers w n 
 pub zeros_exchanged : (lowers : Bool) (w : Parts) (n : ℕ) → w.release.at ≡ None → IsClearing w → HasExchanged w n → HasExchanged (zeros_released lowers w) n
 unfolding zeros_started
 zeros_exchanged lowers w n still c h = next_exchanged lowers w n still c.release.ready h
-
-listed_at : (b : Bool) (s : State) (x y : ℕ) → slot_at (releases.listed_if b s x) y ≡ slot_at s y
-listed_at true s x y = refl
-listed_at false s x y = refl
 
 -- a word came out of a field of a released slot
 module _ (w : Parts) (word n : ℕ) (c : IsClearing w) (h : HasExchanged w n) (a : At) (e : w.release.at ≡ Some a) where
@@ -113,7 +102,7 @@ module _ (w : Parts) (word n : ℕ) (c : IsClearing w) (h : HasExchanged w n) (a
   emptied_exchanged : HasExchanged (released_emptied w word a) (n + 1)
   emptied_exchanged =
       let field : a.field < w.release.fields = (release_at_work w a c e).field in
-      exchanged_as w (released_emptied w word a) n (n + 1) (emptied_length (released_off w word) a.slot ∙ (released_most w word).slots) (λ x. ap (λ (v : Slot). v.released) (listed_at (slot_at (released_off w word) a.slot).buffered (released_off w word) a.slot x) ∙ (released_most w word).released x) refl
+      exchanged_as w (released_emptied w word a) n (n + 1) (emptied_length (released_off w word) a.slot ∙ (released_most w word).slots) (λ x. ap (λ (v : Slot). v.released) ((emptied_same (released_off w word) a.slot).0 x) ∙ (released_most w word).released x) refl
       (omega (arith, field, none_left (emptied (released_off w word) a.slot).work, none_left w.counts.work, left)) h
 
   last_exchanges : HasExchanged (released_last w word a) (n + 1)
@@ -132,24 +121,18 @@ module _ (w : Parts) (word n : ℕ) (c : IsClearing w) (h : HasExchanged w n) (a
   same_work : length (freed_off w word).work ≡ length w.counts.work
   same_work = ap length (freed_most w word).work
 
-  freed_more_exchanged : a.field + 1 < w.freeing.fields → HasExchanged (freed_more w word a) (n + 1)
-  freed_more_exchanged l =
-      exchanged_as w (freed_more w word a) n (n + 1) (freed_most w word).slots (freed_most w word).released refl (omega (arith, l, many_left, ap (λ k. (k - (a.index + 1)) * w.freeing.fields) same_work)) h
-
-  freed_next_exchanged : a.index + 1 < length (freed_off w word).work → HasExchanged (freed_next w word a) (n + 1)
-  freed_next_exchanged l =
-      let field : a.field < w.freeing.fields = (freeing_at_work w a c e).field in
-      let step : length w.counts.work - (a.index + 1) ≡ length (freed_off w word).work - (a.index + 1 + 1) + 1 = omega (arith, l, same_work) in
-      exchanged_as w (freed_next w word a) n (n + 1) (freed_most w word).slots (freed_most w word).released refl (omega (arith, field, many_left, ap (λ k. k * w.freeing.fields) step)) h
-
-  freed_last_exchanged : HasExchanged (freed_last w word) (n + 1)
-  freed_last_exchanged =
-      let field : a.field < w.freeing.fields = (freeing_at_work w a c e).field in
-      exchanged_as w (freed_last w word) n (n + 1) (freed_most w word).slots (freed_most w word).released refl (omega (arith, field, many_left)) h
+  -- one field less is left of it
+  freed_on : (v : Parts) → v.counts.slots ≡ (freed_off w word).slots → v.release ≡ w.release → freeing_left v.freeing.fields v.counts.work v.freeing.at + 1 ≤ freeing_left w.freeing.fields w.counts.work w.freeing.at → HasExchanged v (n + 1)
+  freed_on v slots release left = exchanged_as w v n (n + 1) (ap length slots ∙ (freed_most w word).slots) (λ x. ap (λ s. (get_or s x absent).released) slots ∙ (freed_most w word).released x) (ap (λ m. m.fields) release) (omega (arith, left, ap (λ m. release_left m.fields m.at) release)) h
 
 freed_exchanged : (w : Parts) (word n : ℕ) → IsSome w.freeing.at → IsClearing w → HasExchanged w n → HasExchanged (with_freed w word) (n + 1)
 freed_exchanged w word n busy c h = freed_by (λ v. HasExchanged v (n + 1)) w word (λ e. none_some w.freeing.at e busy)
-    (λ a e l. freed_more_exchanged w word n c h a e l) (λ a e l m. freed_next_exchanged w word n c h a e m) (λ a e l m. freed_last_exchanged w word n c h a e)
+    (λ a e l. freed_on w word n c h a e (freed_more w word a) refl refl (omega (arith, l, many_left w word n c h a e, ap (λ k. (k - (a.index + 1)) * w.freeing.fields) (same_work w word n c h a e))))
+    (λ a e l m.
+    let field : a.field < w.freeing.fields = (freeing_at_work w a c e).field in
+    let step : length w.counts.work - (a.index + 1) ≡ length (freed_off w word).work - (a.index + 1 + 1) + 1 = omega (arith, m, same_work w word n c h a e) in
+    freed_on w word n c h a e (freed_next w word a) refl refl (omega (arith, field, many_left w word n c h a e, ap (λ k. k * w.freeing.fields) step)))
+    (λ a e l m. let field : a.field < w.freeing.fields = (freeing_at_work w a c e).field in freed_on w word n c h a e (freed_last w word) refl refl (omega (arith, field, many_left w word n c h a e)))
 
 -- once the set is freed the zeros are released
 pub relieved_exchanged : (w : Parts) (word n : ℕ) → IsSome w.freeing.at → Counted w.counts word → IsKept w.counts → IsClearing w → HasExchanged w n → HasExchanged (relieved (with_freed w word)) (n + 1)

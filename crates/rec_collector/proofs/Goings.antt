@@ -65,16 +65,13 @@ pub released_by : (P : Parts → Type 0) (w : Parts) (word : ℕ) → (w.release
     ((a : At) → w.release.at ≡ Some a → a.field + 1 < w.release.fields → P (released_more w word a)) →
     ((a : At) → w.release.at ≡ Some a → w.release.fields ≤ a.field + 1 → P (released_last w word a)) → P (with_released w word)
 unfolding released_of
-released_by P w word none more last = go w.release.at refl
+released_by P w word none more last =
+    (elim w.release.at as (λ at. w.release.at ≡ at → P (with_release w (releases.took_at (record { machine = w.release; counts = w.counts }) word at))) [ None ↦ none | Some a ↦ λ e. gone a e (ltb (a.field + 1) w.release.fields) refl ]) refl
   where
     gone : (a : At) → w.release.at ≡ Some a → (b : Bool) → ltb (a.field + 1) w.release.fields ≡ b →
         P (with_release w (cond b (record { machine = (released_more w word a).release; counts = released_off w word }) (with_next w.release.fields w.release.lowers (emptied (released_off w word) a.slot))))
     gone a e true f = more a e (ltb-true (a.field + 1) w.release.fields f)
     gone a e false f = last a e (ltb-false (a.field + 1) w.release.fields f)
-
-    go : (at : Option At) → w.release.at ≡ at → P (with_release w (releases.took_at (record { machine = w.release; counts = w.counts }) word at))
-    go None e = none e
-    go (Some a) e = gone a e (ltb (a.field + 1) w.release.fields) refl
 
 -- the freeing goes on with the next field of its member, with the next member, or ends
 abbrev pub freed_more : Parts → (word : ℕ) → Member → Parts
@@ -96,7 +93,8 @@ pub freed_by : (P : Parts → Type 0) (w : Parts) (word : ℕ) → (w.freeing.at
     ((a : Member) → w.freeing.at ≡ Some a → w.freeing.fields ≤ a.field + 1 → a.index + 1 < length (freed_off w word).work → P (freed_next w word a)) →
     ((a : Member) → w.freeing.at ≡ Some a → w.freeing.fields ≤ a.field + 1 → length (freed_off w word).work ≤ a.index + 1 → P (freed_last w word)) → P (with_freed w word)
 unfolding freed_of
-freed_by P w word none more next last = go w.freeing.at refl
+freed_by P w word none more next last =
+    (elim w.freeing.at as (λ at. w.freeing.at ≡ at → P (with_freeing w (frees.took_at (record { machine = w.freeing; counts = w.counts }) word at))) [ None ↦ none | Some a ↦ λ e. gone a e (ltb (a.field + 1) w.freeing.fields) refl ]) refl
   where
     off : State
     off = freed_off w word
@@ -109,17 +107,9 @@ freed_by P w word none more next last = go w.freeing.at refl
     gone a e true f = more a e (ltb-true (a.field + 1) w.freeing.fields f)
     gone a e false f = member a e (ltb-false (a.field + 1) w.freeing.fields f) (ltb (a.index + 1) (length off.work)) refl
 
-    go : (at : Option Member) → w.freeing.at ≡ at → P (with_freeing w (frees.took_at (record { machine = w.freeing; counts = w.counts }) word at))
-    go None e = none e
-    go (Some a) e = gone a e (ltb (a.field + 1) w.freeing.fields) refl
-
 -- once a set is freed the zeros are released; before, nothing is done
 pub relieved_by : (P : Parts → Type 0) (w : Parts) → (w.freeing.at ≡ None → P (zeros_released true w)) → ((m : Member) → w.freeing.at ≡ Some m → P w) → P (relieved w)
-relieved_by P w none some = go w.freeing.at refl
-  where
-    go : (at : Option Member) → w.freeing.at ≡ at → P (relieved_at w at)
-    go None e = none e
-    go (Some m) e = some m e
+relieved_by P w none some = (elim w.freeing.at as (λ at. w.freeing.at ≡ at → P (relieved_at w at)) [ None ↦ λ e. none e | Some m ↦ λ e. some m e ]) refl
 
 -- the last set passed its tests and is given up, or it was refused and is refurbished
 abbrev pub last_given : Parts → Parts
@@ -135,12 +125,8 @@ last_refused verdict w = record w { counts = refurbished_of w.counts; sets = cou
 
 pub last_by : (P : Parts → Type 0) (w : Parts) → (verdict_of w.counts (length w.counts.sets - 1) ≡ Passed → P (last_given w)) → ((verdict : Verdict) → P (zeros_released true (last_refused verdict w))) → P (last_tested w)
 unfolding last_tested freeing_started
-last_by P w passed refused = go (verdict_of w.counts (length w.counts.sets - 1)) refl
-  where
-    go : (v : Verdict) → verdict_of w.counts (length w.counts.sets - 1) ≡ v → P (tested_as v w)
-    go Passed e = passed e
-    go Touched e = refused Touched
-    go Held e = refused Held
+last_by P w passed refused =
+    (elim (verdict_of w.counts (length w.counts.sets - 1)) as (λ v. verdict_of w.counts (length w.counts.sets - 1) ≡ v → P (tested_as v w)) [ Passed ↦ λ e. passed e | Touched ↦ λ e. refused Touched | Held ↦ λ e. refused Held ]) refl
 
 -- the sets, and the number of slots, of a state in which all members of the last set got their places
 all_same : (first : Option ℕ) (xs : List ℕ) (s : State) → ((settled_all first xs s).sets ≡ s.sets) × (length (settled_all first xs s).slots ≡ length s.slots)
@@ -163,7 +149,7 @@ unfolding refurbished_of
 refurbished_many s = (all_same (slice_get (last_set s.sets) 0) (last_set s.sets) (dropped s)).1 ∙ length-map s.slots (out_of_set (length s.sets - 1))
 
 -- the release of the zeros leaves the sets and the number of slots
-pub zeros_sets : (lowers : Bool) (w : Parts) → (zeros_released lowers w).counts.sets ≡ w.counts.sets
+zeros_sets : (lowers : Bool) (w : Parts) → (zeros_released lowers w).counts.sets ≡ w.counts.sets
 unfolding zeros_started
 zeros_sets lowers w = next_sets w.counts.zeros w.counts
 
@@ -180,12 +166,14 @@ pub first_work : (zs : List ℕ) (s : State) → (without_first zs s).work ≡ s
 first_work [] s = refl
 first_work (z ∷ zs) s = refl
 
+-- a slot that is emptied stays, and so does the work list
+pub emptied_same : (s : State) (y : ℕ) → ((x : ℕ) → slot_at (emptied s y) x ≡ slot_at s x) × ((emptied s y).work ≡ s.work)
+emptied_same s y = elim (slot_at s y).buffered as (λ b. ((x : ℕ) → slot_at (releases.listed_if b s y) x ≡ slot_at s x) × ((releases.listed_if b s y).work ≡ s.work)) [ true ↦ (λ x. refl, refl) | false ↦ (λ x. refl, refl) ]
+
 -- what the test of a set keeps, the tests of sets keep
 pub tested_all : (P : Parts → Type 0) → ((w : Parts) → 0 < length w.counts.sets → is_busy w ≡ false → P w → P (last_tested w)) → (n : ℕ) (w : Parts) → n ≤ length w.counts.sets → P w → P (tested n w)
 unfolding tested
 tested_all P step zero w l p = p
-tested_all P step (suc n) w l p = go (is_busy w) refl (λ e. tested_all P step n (last_tested w) (omega (arith, l, last_sets w (omega (arith, l)))) (step w (omega (arith, l)) e p))
-  where
-    go : (b : Bool) → is_busy w ≡ b → (is_busy w ≡ false → P (tested n (last_tested w))) → P (cond b w (tested n (last_tested w)))
-    go true e next = p
-    go false e next = next e
+tested_all P step (suc n) w l p =
+    let next : is_busy w ≡ false → P (tested n (last_tested w)) = λ e. tested_all P step n (last_tested w) (omega (arith, l, last_sets w (omega (arith, l)))) (step w (omega (arith, l)) e p) in
+    (elim (is_busy w) as (λ b. is_busy w ≡ b → P (cond b w (tested n (last_tested w)))) [ true ↦ λ e. p | false ↦ next ]) refl

@@ -10,7 +10,7 @@ use Rattle.rec_counts.specs.declared.colour.Colour.TheVariants.{Orange}
 use Rattle.rec_counts.specs.Counts.{State, slot_at, IsKept}
 use Rattle.rec_counts.specs.Lists.{one, times}
 use Rattle.rec_counts.specs.Colour.{is_orange}
-use Rattle.rec_counts.proofs.Times.{one-same, times-cons, times-nil, times_part}
+use Rattle.rec_counts.proofs.Times.{one-none, one-same, times-cons, times-nil, times_part}
 use Rattle.rec_counts.specs.Groups.{last_set}
 use Rattle.rec_counts.specs.Slot.{absent}
 use Rattle.rec_counts.specs.declared.slot.Slot.{Slot}
@@ -32,13 +32,11 @@ use Rattle.rec_collector.specs.Step.{IsTested}
 -- where none of a list passes, it has none that does, and the other way round
 none_passes : (p : ℕ → Bool) (xs : List ℕ) → count_by p xs ≡ 0 → (x : ℕ) → 0 < times x xs → p x ≡ false
 none_passes p [] e x h = absurd (omega (arith, h, times-nil x))
-none_passes p (y ∷ ys) e x h = go (p y) refl (sym (sum_by-cons (λ z. cond (p z) 1 0) y ys) ∙ e) (none_passes p ys)
-  where
-    go : (b : Bool) → p y ≡ b → one b + count_by p ys ≡ 0 → (count_by p ys ≡ 0 → (x : ℕ) → 0 < times x ys → p x ≡ false) → p x ≡ false
-    go true f n i = absurd (omega (arith, n))
-    go false f n i = elim (eqb_tells x y) [
-      | inl q ↦ ap p q.1 ∙ f
-      | inr q ↦ let o : one (eqb x y) ≡ 0 = ap one q.0 in i (omega (arith, n)) x (omega (arith, h, o, times-cons x y ys))
+none_passes p (y ∷ ys) e x h =
+    let sum : one (p y) + count_by p ys ≡ 0 = sym (sum_by-cons (λ z. cond (p z) 1 0) y ys) ∙ e in
+    elim (eqb_tells x y) [
+      | inl q ↦ ap p q.1 ∙ one-none (p y) (omega (arith, sum))
+      | inr q ↦ let o : one (eqb x y) ≡ 0 = ap one q.0 in none_passes p ys (omega (arith, sum)) x (omega (arith, h, o, times-cons x y ys))
     ]
 
 all_fail : (p : ℕ → Bool) (xs : List ℕ) → ((x : ℕ) → 0 < times x xs → p x ≡ false) → count_by p xs ≡ 0

@@ -1,8 +1,8 @@
 -- What every machine keeps holds after every step, by the phase: while an epoch is requested and the buffers of the mutators are
 -- gathered, and on a turn that works on the parts.
-use Rattle.std.proofs.Common.{◌≡◌, ◌≢◌, ℕ, ◌+◌, ◌-◌, ◌*◌, ◌^◌, ◌<◌, ◌≤◌, ◌==◌, true, false, Bool, cond, inl, inr, length, set, refl, arith, sym, ◌∙◌, ap, subst, List}
+use Rattle.std.proofs.Common.{◌≡◌, ◌≢◌, ℕ, ◌+◌, ◌-◌, ◌^◌, ◌<◌, ◌==◌, true, false, Bool, cond, inl, inr, length, set, refl, arith, sym, ◌∙◌, ap, subst, List}
 use Rattle.std.proofs.lemmas.List.{length-set, get_or-set_same, get_or-set_other}
-use Rattle.std.proofs.lemmas.Bool.{cases_eq, cases_lt, eq-eqb, false≢true, cond-true, cond-false, ne_eqb, eqb-true}
+use Rattle.std.proofs.lemmas.Bool.{eqb-false, cases_eq, eqb-true}
 use Rattle.rec_word.specs.Mailbox.{crossing_word}
 use Rattle.rec_word.specs.declared.mailbox.Mailbox.TheVariants.{Retired}
 use Rattle.rec_log.specs.declared.contents.Contents.{Contents}
@@ -16,32 +16,19 @@ use Rattle.rec_collector.specs.Private.{Private, blank, buffer_at, parts_of}
 use Rattle.rec_collector.specs.Took.{moved, swapped_at, took_at, batched, came, came_turn, ended_if, took_of, turn_at, turn_of, step_of, swapped_of}
 use Rattle.rec_collector.specs.declared.phase.Phase.{Phase}
 use Rattle.rec_collector.specs.declared.phase.Phase.TheVariants.{Idle, Looking, Swapping, Returning, Releasing, Freeing, Trying, Preparing, Sweeping, Closing, Opening}
-use Rattle.rec_collector.specs.Followed.{Next, followed, prepared, relieved, tried, with_freed, with_loaded, with_released, with_tried}
+use Rattle.rec_collector.specs.Followed.{Next, followed}
 use Rattle.rec_collector.specs.Testing.{zeros_released}
 use Rattle.rec_collector.specs.declared.turn.Turn.{Turn}
 use Rattle.rec_collector.specs.declared.turn.Turn.TheVariants.{Moved}
 use Rattle.rec_collector.specs.Step.{IsBetween}
-use Rattle.rec_collector.proofs.Landing.{freed_at, now_at, told_at, under_way_at, Lands, landed, landed_keeps, landed_sizes, sizes_on, work_of}
+use Rattle.rec_collector.proofs.Landing.{work_none, work_phase, machine_on, freed_at, now_at, told_at, under_way_at, Lands, landed, landed_keeps, landed_sizes, work_of}
 use Rattle.rec_collector.proofs.Following.{begun_clears, followed_lands, freed_clears, released_clears}
 use Rattle.rec_collector.proofs.Trying.{prepared_lands, took_prepared, took_tried, tried_lands}
+use Rattle.rec_collector.proofs.Steps.{same_swapped, took_between}
 use Rattle.rec_collector.proofs.Sweeping.{ended_keeps, opening_keeps, sweeping_keeps}
 
--- a turn that changes the epoch and the phase alone
-moved_keeps : (p : Private) (epoch : ℕ) (phase : Phase) → IsMachine p → epoch < 2 ^ 24 → p.collections + under_way phase ≤ epoch → p.freed ≤ 2 ^ 16 * p.collections + swept_at phase
-    → IsTold p phase → IsAt (moved (record p { epoch = epoch }) phase) phase → IsMachine (moved (record p { epoch = epoch }) phase)
-moved_keeps p epoch phase k fits under freed told now = record {
-  epoch = fits;
-  collections = under;
-  freed = freed;
-  widths = k.widths;
-  rows = k.rows;
-  counts = k.counts;
-  told = told;
-  now = now;
-}
-
 -- the next epoch is requested, if there is one
-pub idle_keeps : (p : Private) (word : ℕ) → IsMachine p → p.phase ≡ Idle → IsMachine (took_at p word Idle)
+idle_keeps : (p : Private) (word : ℕ) → IsMachine p → p.phase ≡ Idle → IsMachine (took_at p word Idle)
 unfolding took_at
 idle_keeps p word k e = go (is_spent p) refl
   where
@@ -52,13 +39,11 @@ idle_keeps p word k e = go (is_spent p) refl
     go true s = k
     go false s =
         let a : IsAt p Idle = now_at p Idle k e in
-        let next : p.epoch + 1 ≢ 2 ^ 24 = λ q. false≢true (sym s ∙ eq-eqb (p.epoch + 1) (2 ^ 24) q) in
-        let fits : p.epoch + 1 < 2 ^ 24 = elim (cases_lt (p.epoch + 1) (2 ^ 24)) [ inl l ↦ l | inr l ↦ absurd (next (omega (arith, l, k.epoch))) ] in
-        moved_keeps p (p.epoch + 1) (Looking 1) k fits (omega (arith, under_way_at p Idle k e)) (freed_at p Idle k e) (told_at p Idle k e)
+        machine_on p (p.epoch + 1) p.counts p.due p.freed (Looking 1) k (omega (arith, k.epoch, eqb-false (p.epoch + 1) (2 ^ 24) s)) (omega (arith, under_way_at p Idle k e)) (freed_at p Idle k e) k.counts (told_at p Idle k e)
         (record { rest = a.0; first = omega arith; there = omega (arith, k.mutators); spares = a.1; turns = omega (arith, a.2); due = a.3 })
 
 -- the mailbox of a mutator is held where it has crossed
-pub look_keeps : (p : Private) (word t : ℕ) → IsMachine p → p.phase ≡ Looking t → IsMachine (took_at p word (Looking t))
+look_keeps : (p : Private) (word t : ℕ) → IsMachine p → p.phase ≡ Looking t → IsMachine (took_at p word (Looking t))
 unfolding took_at
 look_keeps p word t k e = go (word == crossing_word p.epoch Retired)
   where
@@ -66,20 +51,19 @@ look_keeps p word t k e = go (word == crossing_word p.epoch Retired)
     go false = k
     go true =
         let a : IsAt p (Looking t) = now_at p (Looking t) k e in
-        moved_keeps p p.epoch (Swapping t) k k.epoch (under_way_at p (Looking t) k e) (freed_at p (Looking t) k e) (told_at p (Looking t) k e)
+        machine_on p p.epoch p.counts p.due p.freed (Swapping t) k k.epoch (under_way_at p (Looking t) k e) (freed_at p (Looking t) k e) k.counts (told_at p (Looking t) k e)
         (record { rest = a.rest; first = a.first; there = a.there; spares = a.spares; turns = omega (arith, a.turns, a.first); due = a.due })
 
 -- the next mutator's mailbox follows
-pub next_keeps : (p : Private) (t : ℕ) → IsMachine p → p.phase ≡ Returning t → t ≢ length p.newer → IsMachine (moved p (Looking (t + 1)))
+next_keeps : (p : Private) (t : ℕ) → IsMachine p → p.phase ≡ Returning t → t ≢ length p.newer → IsMachine (moved p (Looking (t + 1)))
 next_keeps p t k e other =
     let a : IsAt p (Returning t) = now_at p (Returning t) k e in
-    let more : t < length p.newer = elim (cases_lt t (length p.newer)) [ inl l ↦ l | inr l ↦ absurd (other (omega (arith, l, a.there))) ] in
     let same : t + 1 - 1 ≡ t = omega arith in
-    moved_keeps p p.epoch (Looking (t + 1)) k k.epoch (under_way_at p (Returning t) k e) (freed_at p (Returning t) k e) (told_at p (Returning t) k e)
+    machine_on p p.epoch p.counts p.due p.freed (Looking (t + 1)) k k.epoch (under_way_at p (Returning t) k e) (freed_at p (Returning t) k e) k.counts (told_at p (Returning t) k e)
     (record {
       rest = a.rest;
       first = omega arith;
-      there = omega (arith, more);
+      there = omega (arith, a.there, other);
       spares = subst (λ from. AreSpare p from) (sym same) a.spares;
       turns = omega (arith, a.turns);
       due = a.due;
@@ -94,7 +78,7 @@ swap_sized p i box z k = λ j l.
       | inr q ↦ subst (λ (b : Contents). IsSized p.registers p.capacity b) (sym (get_or-set_other p.newer i j box (blank 0 0) q)) (k j m)
     ]
 
-pub swap_keeps : (p : Private) (t : ℕ) (box : Contents) → IsSized p.registers p.capacity box → IsMachine p → p.phase ≡ Swapping t → IsMachine (swapped_at p box (Swapping t))
+swap_keeps : (p : Private) (t : ℕ) (box : Contents) → IsSized p.registers p.capacity box → IsMachine p → p.phase ≡ Swapping t → IsMachine (swapped_at p box (Swapping t))
 unfolding swapped_at
 swap_keeps p t box z k e =
     let a : IsAt p (Swapping t) = now_at p (Swapping t) k e in
@@ -127,7 +111,7 @@ IsWork p Preparing = Unit {0}
 IsWork p _ = ⊥
 
 -- what follows it lands
-pub work_lands : (p : Private) (word : ℕ) (phase : Phase) → IsMachine p → p.phase ≡ phase → IsGivenAt p word phase → IsWork p phase → Lands p (work_of p word phase)
+work_lands : (p : Private) (word : ℕ) (phase : Phase) → IsMachine p → p.phase ≡ phase → IsGivenAt p word phase → IsWork p phase → Lands p (work_of p word phase)
 unfolding IsGivenAt
 work_lands p word (Returning t) k e g last = followed_lands p _ (begun_clears p t k e last (g last))
 work_lands p word Releasing k e g at_work = followed_lands p _ (released_clears p word k e g)
@@ -136,8 +120,8 @@ work_lands p word Trying k e g at_work = tried_lands p _ (took_tried p word k e 
 work_lands p word Preparing k e g at_work = prepared_lands p _ (took_prepared p word k e)
 work_lands p word _ k e g at_work = absurd at_work
 
-pub work_keeps : (p : Private) (word : ℕ) (phase : Phase) → IsMachine p → p.phase ≡ phase → IsGivenAt p word phase → IsWork p phase → IsMachine (landed p (work_of p word phase))
-work_keeps p word phase k e g at_work = landed_keeps p (work_of p word phase) phase k e (way phase at_work) (none phase at_work) (work_lands p word phase k e g at_work)
+work_keeps : (p : Private) (word : ℕ) (phase : Phase) → IsMachine p → p.phase ≡ phase → IsGivenAt p word phase → IsWork p phase → IsMachine (landed p (work_of p word phase))
+work_keeps p word phase k e g at_work = landed_keeps p (work_of p word phase) phase k e (way phase at_work) (none phase at_work) (work_phase (λ f. under_way f ≡ 1) refl refl refl refl refl refl p word phase) (work_none p word phase) (work_lands p word phase k e g at_work)
   where
     way : (phase : Phase) → IsWork p phase → under_way phase ≡ 1
     way Idle a = absurd a
@@ -148,28 +132,19 @@ work_keeps p word phase k e g at_work = landed_keeps p (work_of p word phase) ph
     none (Closing n) a = absurd a
     none _ a = refl
 
--- with the last mailbox given back the batch was applied
-pub returned_last : (p : Private) (t : ℕ) → t ≡ length p.newer → came p (followed (zeros_released false (batched p))) ≡ took_at p 0 (Returning t)
-unfolding took_at
-returned_last p t last = sym (cond-true (t == length p.newer) (came p (followed (zeros_released false (batched p)))) (moved p (Looking (t + 1))) (eq-eqb t (length p.newer) last))
-
-pub returned_answer : (p : Private) (t : ℕ) → t ≡ length p.newer → came_turn p.epoch (followed (zeros_released false (batched p))).phase ≡ turn_at p 0 (Returning t)
-unfolding turn_at
-returned_answer p t last = sym (cond-true (t == length p.newer) (came_turn p.epoch (followed (zeros_released false (batched p))).phase) Moved (eq-eqb t (length p.newer) last))
+-- a mailbox was given back: with the last one the batch was applied, and else another one follows
+pub returned_as : (p now : Private) (t : ℕ) (b : Bool) → p ≡ now → (t == length p.newer) ≡ b →
+    (cond b (came p (work_of p 0 (Returning t))) (moved p (Looking (t + 1))) ≡ took_at now 0 (Returning t)) × (cond b (came_turn p.epoch (work_of p 0 (Returning t)).phase) Moved ≡ turn_at now 0 (Returning t))
+unfolding took_at turn_at
+returned_as p now t b v e = (
+  ap (λ c. cond c (came p (work_of p 0 (Returning t))) (moved p (Looking (t + 1)))) (sym e) ∙ ap (λ (q : Private). took_at q 0 (Returning t)) v,
+  ap (λ c. cond c (came_turn p.epoch (work_of p 0 (Returning t)).phase) Moved) (sym e) ∙ ap (λ (q : Private). turn_at q 0 (Returning t)) v,
+)
 
 pub batch_follows : (p : Private) (n : Next) (newer older : List Contents) → n ≡ followed (zeros_released false (record (parts_of p) { counts = batch p.counts newer older })) → newer ≡ p.newer → older ≡ p.older → n ≡ followed (zeros_released false (batched p))
 batch_follows p n newer older e f g =
     e ∙ ap (λ (b : List Contents). followed (zeros_released false (record (parts_of p) { counts = batch p.counts b older }))) f
     ∙ ap (λ (b : List Contents). followed (zeros_released false (record (parts_of p) { counts = batch p.counts p.newer b }))) g
-
--- another one follows
-pub returned_next : (p : Private) (t : ℕ) → t ≢ length p.newer → moved p (Looking (t + 1)) ≡ took_at p 0 (Returning t)
-unfolding took_at
-returned_next p t other = sym (cond-false (t == length p.newer) (came p (followed (zeros_released false (batched p)))) (moved p (Looking (t + 1))) (ne_eqb t (length p.newer) other))
-
-pub returned_moved : (p : Private) (t : ℕ) → t ≢ length p.newer → Moved ≡ turn_at p 0 (Returning t)
-unfolding turn_at
-returned_moved p t other = sym (cond-false (t == length p.newer) (came_turn p.epoch (followed (zeros_released false (batched p))).phase) Moved (ne_eqb t (length p.newer) other))
 
 -- what a word may be, by the phase
 pub asked : (p now : Private) (word : ℕ) (phase : Phase) → p ≡ now → p.phase ≡ phase → IsGiven now word → IsGivenAt now word phase
@@ -199,7 +174,7 @@ module _ (p now : Private) (word : ℕ) (phase : Phase) (n : Next) (k : IsMachin
   turned q turn took told ends answers sizes = (
     ends ∙ ap (came p) is ∙ took ∙ ap (λ (r : Private). took_at r word phase) v,
     answers ∙ ap (λ (m : Next). came_turn p.epoch m.phase) is ∙ told ∙ ap (λ (r : Private). turn_at r word phase) v,
-    subst (λ (r : Private). KeepsSizes r q) v (sizes_on p (landed p n) q (landed_sizes p n (subst (Lands p) (sym is) (work_lands p word phase k at given at_work))) sizes),
+    subst (λ (r : Private). KeepsSizes r q) v (landed_sizes p q n (subst (Lands p) (sym is) (work_lands p word phase k at given at_work)) sizes),
   )
 
 -- where nothing is to be swept, the collection is complete
@@ -218,7 +193,7 @@ return_keeps p word t k e g = go (t == length p.newer) refl
   where
     go : (b : Bool) → (t == length p.newer) ≡ b → IsMachine (cond b (came p (work_of p word (Returning t))) (moved p (Looking (t + 1))))
     go true q = came_keeps p word (Returning t) k e g (eqb-true t (length p.newer) q)
-    go false q = next_keeps p t k e (λ last. false≢true (sym q ∙ eq-eqb t (length p.newer) last))
+    go false q = next_keeps p t k e (eqb-false t (length p.newer) q)
 
 -- what is learnt
 took_keeps_at : (p : Private) (word : ℕ) (phase : Phase) → IsMachine p → p.phase ≡ phase → IsGivenAt p word phase → IsMachine (took_at p word phase)
@@ -232,52 +207,22 @@ took_keeps_at p word (Sweeping n) k e g = sweeping_keeps p n word k e (sweep_kep
 took_keeps_at p word (Closing n) k e g = ended_keeps p n k e
 took_keeps_at p word phase k e g = came_keeps p word phase k e g tt
 
-took_keeps : (p : Private) (word : ℕ) → IsMachine p → IsGiven p word → IsMachine (took_of p word)
-unfolding took_of IsGiven
-took_keeps p word k g = took_keeps_at p word p.phase k refl g
+-- a whole step: where a mailbox is held, its buffer is swapped
+kept_at : (p : Private) (word : ℕ) (box : Contents) (phase : Phase) → IsMachine p → p.phase ≡ phase → IsBetween phase → IsGivenAt p word phase → IsSized p.registers p.capacity box → IsMachine (swapped_of (took_at p word phase) box)
+unfolding took_at swapped_of
+kept_at p word box (Swapping t) k e b g z = absurd b
+kept_at p word box (Looking t) k e b g z =
+    (elim (word == crossing_word p.epoch Retired) as (λ c. IsMachine (cond c (moved p (Swapping t)) p) → IsMachine (swapped_of (cond c (moved p (Swapping t)) p) box)) [
+      | true ↦ λ m. swap_keeps (moved p (Swapping t)) t box z m refl
+      | false ↦ λ m. subst IsMachine (sym (same_swapped p box (Looking t) e tt)) m
+    ]) (look_keeps p word t k e)
+kept_at p word box phase k e b g z =
+    let q : Private = took_at p word phase in
+    subst IsMachine (sym (same_swapped q box q.phase refl (took_between p word phase e b (λ t. λ q. cc)))) (took_keeps_at p word phase k e g)
 
--- the registers and the room of the buffers stay
-came_sized : (p : Private) (n : Next) (box : Contents) → IsSized p.registers p.capacity box → IsSized (came p n).registers (came p n).capacity box
-came_sized p n box z = go n.phase
-  where
-    go : (phase : Phase) → IsSized (ended_if phase (landed p n)).registers (ended_if phase (landed p n)).capacity box
-    go Idle = z
-    go _ = z
-
-either_sized : (p q : Private) (box : Contents) (b : Bool) → IsSized p.registers p.capacity box → IsSized q.registers q.capacity box → IsSized (cond b p q).registers (cond b p q).capacity box
-either_sized p q box true y z = y
-either_sized p q box false y z = z
-
-took_sized_at : (p : Private) (word : ℕ) (box : Contents) (phase : Phase) → IsSized p.registers p.capacity box → IsSized (took_at p word phase).registers (took_at p word phase).capacity box
-unfolding took_at
-took_sized_at p word box Idle z = either_sized p (moved (record p { epoch = p.epoch + 1 }) (Looking 1)) box (is_spent p) z z
-took_sized_at p word box (Looking t) z = either_sized (moved p (Swapping t)) p box (word == crossing_word p.epoch Retired) z z
-took_sized_at p word box (Swapping t) z = z
-took_sized_at p word box (Returning t) z =
-    let n : Next = followed (zeros_released false (batched p)) in
-    either_sized (came p n) (moved p (Looking (t + 1))) box (t == length p.newer) (came_sized p n box z) z
-took_sized_at p word box Releasing z = came_sized p (followed (with_released (parts_of p) word)) box z
-took_sized_at p word box Freeing z = came_sized p (followed (relieved (with_freed (parts_of p) word))) box z
-took_sized_at p word box Trying z = came_sized p (tried (with_tried (parts_of p) word)) box z
-took_sized_at p word box Preparing z = came_sized p (prepared (with_loaded (parts_of p) word)) box z
-took_sized_at p word box _ z = z
-
-took_sized : (p : Private) (word : ℕ) (box : Contents) → IsSized p.registers p.capacity box → IsSized (took_of p word).registers (took_of p word).capacity box
-unfolding took_of
-took_sized p word box z = took_sized_at p word box p.phase z
-
--- the buffer of a mailbox that is held is swapped
-swapped_keeps : (p : Private) (box : Contents) (phase : Phase) → IsSized p.registers p.capacity box → IsMachine p → p.phase ≡ phase → IsMachine (swapped_at p box phase)
-unfolding swapped_at
-swapped_keeps p box (Swapping t) z k e = swap_keeps p t box z k e
-swapped_keeps p box _ z k e = k
-
--- a whole step
 pub machine_kept : (p : Private) (word : ℕ) (box : Contents) → IsMachine p → IsBetween p.phase → IsGiven p word → IsSized p.registers p.capacity box → IsMachine (step_of p word box)
-unfolding step_of swapped_of
-machine_kept p word box k between given sized =
-    let q : Private = took_of p word in
-    swapped_keeps q box q.phase (took_sized p word box sized) (took_keeps p word k given) refl
+unfolding step_of took_of IsGiven
+machine_kept p word box k between given sized = kept_at p word box p.phase k refl between given sized
 
 module _ (p : Private) (b : Bool) where
   gathering_on : (t given_back made : ℕ) → IsGathering p t given_back made → IsGathering (record p { offers = b }) t given_back made

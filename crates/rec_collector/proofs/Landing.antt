@@ -1,7 +1,6 @@
 -- Where a turn lands that works on the parts of the machine: the phase that it came to, and what holds there.
-use Rattle.std.proofs.Common.{◌≡◌, ℕ, ◌+◌, ◌*◌, ◌^◌, ◌≤◌, false, Option, None, Some, List, [], ◌∷◌, length, refl, arith, sym, ap, subst, ◌∙◌}
-use Rattle.rec_word.specs.declared.op.Op.{Op}
-use Rattle.rec_counts.specs.Counts.{IsKept as IsKeptCounts}
+use Rattle.std.proofs.Common.{◌≡◌, ℕ, ◌+◌, ◌*◌, ◌^◌, ◌<◌, ◌≤◌, false, Option, None, Some, List, [], ◌∷◌, length, refl, arith, sym, ap, subst, ◌∙◌}
+use Rattle.rec_counts.specs.Counts.{State, IsKept as IsKeptCounts}
 use Rattle.rec_release.specs.declared.at.At.{At}
 use Rattle.rec_walk.specs.declared.member.Member.{Member}
 use Rattle.rec_sigma.specs.declared.at.At as loads
@@ -44,11 +43,7 @@ module _ (P : Phase → Type 0) (preparing : P Preparing) (opening : P Opening) 
   module _ (trying : P Trying) where
     pub tried_phase : (w : Parts) → P (tried w).phase
     unfolding tried
-    tried_phase w = go (trial_next w.trial)
-      where
-        go : (op : Option Op) → P (tried_at w op).phase
-        go None = prepared_phase (prep_started w)
-        go (Some o) = trying
+    tried_phase w = elim (trial_next w.trial) as (λ op. P (tried_at w op).phase) [ None ↦ prepared_phase (prep_started w) | Some o ↦ trying ]
 
     pub followed_phase : P Freeing → P Releasing → (w : Parts) → P (followed w).phase
     unfolding followed
@@ -75,6 +70,10 @@ pub work_phase : (P : Phase → Type 0) → P Releasing → P Freeing → P Tryi
 work_phase P r f t l o c p word Trying = tried_phase P l o c t (with_tried (parts_of p) word)
 work_phase P r f t l o c p word Preparing = prepared_phase P l o c (with_loaded (parts_of p) word)
 work_phase P r f t l o c p word _ = followed_phase P l o c t f r _
+
+-- nothing is swept yet where the parts were at work
+pub work_none : (p : Private) (word : ℕ) (phase : Phase) → swept_at (work_of p word phase).phase ≡ 0
+work_none p word phase = work_phase (λ f. swept_at f ≡ 0) refl refl refl refl refl refl p word phase
 
 -- these parts have as many slots, and as many fields a slot, as the machine
 pub record Fits (p : Private) (w : Parts) : Type 0 where
@@ -111,16 +110,14 @@ landed p n = moved (with_parts p n.parts) n.phase
 pub record Lands (p : Private) (n : Next) : Type 0 where
   pub counts : IsKeptCounts n.parts.counts
   pub fits : Fits p n.parts
-  pub under : under_way n.phase ≡ 1
-  pub none : swept_at n.phase ≡ 0
   pub told : IsTold (landed p n) n.phase
   pub now : IsAt (landed p n) n.phase
 
-pub landed_keeps : (p : Private) (n : Next) (phase : Phase) → IsMachine p → p.phase ≡ phase → under_way phase ≡ 1 → swept_at phase ≡ 0 → Lands p n → IsMachine (landed p n)
-landed_keeps p n phase k e under none l = record {
+pub landed_keeps : (p : Private) (n : Next) (phase : Phase) → IsMachine p → p.phase ≡ phase → under_way phase ≡ 1 → swept_at phase ≡ 0 → under_way n.phase ≡ 1 → swept_at n.phase ≡ 0 → Lands p n → IsMachine (landed p n)
+landed_keeps p n phase k e under none on still l = record {
   epoch = k.epoch;
-  collections = omega (arith, under_way_at p phase k e, under, l.under);
-  freed = omega (arith, freed_at p phase k e, none, l.none);
+  collections = omega (arith, under_way_at p phase k e, under, on);
+  freed = omega (arith, freed_at p phase k e, none, still);
   widths = l.fits.widths;
   rows = k.rows;
   counts = l.counts;
@@ -129,17 +126,13 @@ landed_keeps p n phase k e under none l = record {
 }
 
 -- the numbers stay
-pub landed_sizes : (p : Private) (n : Next) → Lands p n → KeepsSizes p (landed p n)
-landed_sizes p n l = record { slots = l.fits.slots; fields = l.fits.release_fields; registers = refl; capacity = refl; mutators = refl }
+pub landed_sizes : (p q : Private) (n : Next) → Lands p n → KeepsSizes (landed p n) q → KeepsSizes p q
+landed_sizes p q n l s = record { slots = s.slots ∙ l.fits.slots; fields = s.fields ∙ l.fits.release_fields; registers = s.registers; capacity = s.capacity; mutators = s.mutators }
 
-pub sizes_on : (p q r : Private) → KeepsSizes p q → KeepsSizes q r → KeepsSizes p r
-sizes_on p q r a b = record {
-  slots = b.slots ∙ a.slots;
-  fields = b.fields ∙ a.fields;
-  registers = b.registers ∙ a.registers;
-  capacity = b.capacity ∙ a.capacity;
-  mutators = b.mutators ∙ a.mutators;
-}
+-- a turn that leaves the buffers, the machines and the sets that were tested
+pub machine_on : (p : Private) (epoch : ℕ) (s : State) (due : Option ℕ) (freed : ℕ) (next : Phase) → IsMachine p → epoch < 2 ^ 24 → p.collections + under_way next ≤ epoch → freed ≤ 2 ^ 16 * p.collections + swept_at next → IsKeptCounts s →
+    (let q : Private = moved (record p { epoch = epoch; counts = s; due = due; freed = freed }) next in IsTold q next → IsAt q next → IsMachine q)
+machine_on p epoch s due freed next k fits under swept counts told now = record { epoch = fits; collections = under; freed = swept; widths = k.widths; rows = k.rows; counts = counts; told = told; now = now }
 
 -- at most one collection is under way
 pub under_way_most : (phase : Phase) → under_way phase ≤ 1

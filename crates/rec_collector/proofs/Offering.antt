@@ -12,10 +12,10 @@ use Rattle.rec_counts.specs.Counts.{State, IsKept, slot_at, with_slot}
 use Rattle.rec_counts.specs.Lists.{one, times}
 use Rattle.rec_counts.specs.Slot.{absent, is_in}
 use Rattle.rec_counts.specs.Colour.{is_gray, is_white}
+use Rattle.rec_counts.proofs.Decrementing.{rest_same}
 use Rattle.rec_counts.proofs.Times.{times-append, times-cons, times-nil}
 use Rattle.rec_counts.proofs.Keeping.{map_at}
 use Rattle.rec_trial.specs.Rules.{IsReady}
-use Rattle.rec_trial.specs.Still.{IsSeed}
 use Rattle.rec_collector.specs.Followed.{with_offers}
 use Rattle.rec_collector.specs.Kept.{IsListed}
 use Rattle.rec_collector.specs.Offered.{offered, offered_if, offered_slot, offered_where, is_missing, is_missing_if, missing, AreOffered, KeepsOffered, offered_one, rooted_if}
@@ -34,11 +34,7 @@ offered_false v r = ap (λ b. offered_if b v) r
 
 -- it has a new colour and a new place at most
 stays : {A : Type 0} (f : Slot → A) → ((v : Slot) → f (record v { colour = Purple; buffered = true }) ≡ f v) → (s : State) (x : ℕ) → f (slot_at (offered s) x) ≡ f (slot_at s x)
-stays f h s x = ap f (offered_at s x) ∙ go (slot_at s x).released
-  where
-    go : (b : Bool) → f (offered_if b (slot_at s x)) ≡ f (slot_at s x)
-    go true = refl
-    go false = h (slot_at s x)
+stays f h s x = ap f (offered_at s x) ∙ elim (slot_at s x).released as (λ b. f (offered_if b (slot_at s x)) ≡ f (slot_at s x)) [ true ↦ refl | false ↦ h (slot_at s x) ]
 
 offered_keeps : (s : State) → KeepsOffered s (offered s)
 unfolding offered
@@ -59,11 +55,7 @@ offered_keeps s = record {
 
 pub where_keeps : (offers : Bool) (s : State) → KeepsOffered s (offered_where offers s)
 where_keeps true s = offered_keeps s
-where_keeps false s = record {
-  rest = record { slots = refl; sets = refl; marked = refl; work = refl; free = refl; released = λ x. refl; cyclic = λ x. refl; set = λ x. refl };
-  counts = λ x. refl;
-  zeros = refl;
-}
+where_keeps false s = record { rest = rest_same s; counts = λ x. refl; zeros = refl }
 
 -- the next number of a range, where it passes
 filter_more : (p : ℕ → Bool) (n : ℕ) → filter p (range_with_len 0 (n + 1)) ≡ filter p (range_with_len 0 n) ++ cond (p n) (n ∷ []) []
@@ -130,11 +122,7 @@ offered_kept s k =
 
 -- a colour that a slot that isn't offered lacks, and which isn't Purple
 no_colour : (f : Colour → Bool) → f Purple ≡ false → (s : State) → ((x : ℕ) → f (slot_at s x).colour ≡ false) → (x : ℕ) → f (slot_at (offered s) x).colour ≡ false
-no_colour f p s h x = ap (λ (v : Slot). f v.colour) (offered_at s x) ∙ go (slot_at s x).released
-  where
-    go : (b : Bool) → f (offered_if b (slot_at s x)).colour ≡ false
-    go true = h x
-    go false = p
+no_colour f p s h x = ap (λ (v : Slot). f v.colour) (offered_at s x) ∙ elim (slot_at s x).released as (λ b. f (offered_if b (slot_at s x)).colour ≡ false) [ true ↦ h x | false ↦ p ]
 
 -- a released slot is in the root buffer only where it was
 same_roots : (s : State) (x : ℕ) → (slot_at s x).released ≡ true → times x (offered s).roots ≡ times x s.roots
@@ -186,26 +174,22 @@ pub where_uncoloured : (offers : Bool) (s : State) → ((x : ℕ) → (slot_at s
 where_uncoloured false s h = h
 where_uncoloured true s h = λ x e. elim (cases_Bool (slot_at s x).released) [
   | inl r ↦ h x (sym (ap (λ (v : Slot). v.colour) (offered_at s x ∙ offered_true (slot_at s x) r)) ∙ e)
-  | inr r ↦ other (sym (ap (λ (v : Slot). v.colour) (offered_at s x ∙ offered_false (slot_at s x) r)) ∙ e)
+  | inr r ↦ let q : Purple ≡ Orange = sym (ap (λ (v : Slot). v.colour) (offered_at s x ∙ offered_false (slot_at s x) r)) ∙ e in cc
 ]
-  where
-    other : Purple ≢ Orange
-    other e = cc
 
 -- where no set is left, each slot that isn't released is a candidate root
 all_offered : (s : State) → IsKept s → s.sets ≡ [] → AreOffered s (offered s)
-all_offered s k none = record { seeds = seed; keeps = offered_keeps s }
-  where
-    seed : (x : ℕ) → (slot_at s x).released ≡ false → IsSeed (offered s) x
-    seed x r =
-        let whole : slot_at (offered s) x ≡ record (slot_at s x) { colour = Purple; buffered = true } = offered_at s x ∙ offered_false (slot_at s x) r in
-        let in_sets : times x (concat s.sets) ≡ 0 = ap (λ (sets : List (List ℕ)). times x (concat sets)) none ∙ times-nil x in
-        let now : one (offered_slot (slot_at s x)).buffered ≡ 1 = ap (λ (v : Slot). one v.buffered) (offered_false (slot_at s x) r) in
-        record {
-          root = omega (arith, offered_roots s x, k.buffers x, in_sets, buffered_now (slot_at s x), now);
-          purple = ap (λ (v : Slot). v.colour) whole;
-          unreleased = ap (λ (v : Slot). v.released) whole ∙ r;
-        }
+all_offered s k none = record {
+  seeds = λ x r.
+      let whole : slot_at (offered s) x ≡ record (slot_at s x) { colour = Purple; buffered = true } = offered_at s x ∙ offered_false (slot_at s x) r in
+      let now : one (offered_slot (slot_at s x)).buffered ≡ 1 = ap (λ (v : Slot). one v.buffered) (offered_false (slot_at s x) r) in
+      record {
+        root = omega (arith, offered_roots s x, k.buffers x, ap (λ sets. times x (concat sets)) none, times-nil x, buffered_now (slot_at s x), now);
+        purple = ap (λ (v : Slot). v.colour) whole;
+        unreleased = ap (λ (v : Slot). v.released) whole ∙ r;
+      };
+  keeps = offered_keeps s;
+}
 
 -- where that was asked for they are offered, and once
 pub offers_whole : (w : Parts) → w.offers ≡ true → IsKept w.counts → w.counts.sets ≡ [] → AreOffered w.counts (with_offers w).counts × ((with_offers w).offers ≡ false)

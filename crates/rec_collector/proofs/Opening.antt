@@ -1,5 +1,5 @@
 -- A machine as it is opened.
-use Rattle.std.proofs.Common.{◌≡◌, ◌⊎◌, ℕ, ◌≤◌, ◌-◌, ◌^◌, ◌<◌, false, Option, None, IsNone, length, replicate, refl, arith, sym, subst, ap, ◌∙◌, inl, inr}
+use Rattle.std.proofs.Common.{◌≡◌, ◌⊎◌, ℕ, ◌≤◌, ◌-◌, ◌^◌, ◌<◌, false, Option, None, length, replicate, refl, arith, sym, subst, ap, ◌∙◌, inl, inr}
 use Rattle.std.proofs.lemmas.Bool.{cases_lt, false≢true}
 use Rattle.std.proofs.lemmas.List.{get_or-replicate, get_or_past, length-replicate, length-set}
 use Rattle.rec_counts.specs.declared.slot.Slot.{Slot}
@@ -7,13 +7,10 @@ use Rattle.rec_counts.specs.Counts.{opened as opened_counts, slot_at, IsKept as 
 use Rattle.rec_counts.specs.Slot.{absent, fresh}
 use Rattle.rec_counts.specs.Colour.{is_gray, is_white, is_orange}
 use Rattle.rec_counts.proofs.Times.{times-nil}
-use Rattle.rec_release.specs.TakenOff.{IsApart}
 use Rattle.rec_release.proofs.TakenOff.{written}
-use Rattle.rec_trial.specs.Trial.{idle_of, next_of}
-use Rattle.rec_collector.specs.Clearing.{IsUntried}
-use Rattle.rec_collector.specs.Kept.{AreSpare, AreTried, IsMachine}
+use Rattle.rec_trial.specs.Trial.{next_of}
+use Rattle.rec_collector.specs.Kept.{AreTried, IsMachine}
 use Rattle.rec_collector.specs.Private.{Private, blank, first_registers, opened, retired}
-use Rattle.rec_collector.specs.Zeros.{AreCounted}
 use Rattle.rec_collector.proofs.Outside.{none_outside}
 use Rattle.rec_collector.proofs.Rows.{row_sized}
 
@@ -43,40 +40,19 @@ opened_none slots first x l = elim (opened_at slots first x) [
   | inr (inr e) ↦ absurd (omega (arith, e.1, l, length-replicate slots fresh, length-set (replicate slots fresh) 0 (record fresh { count = first })))
 ]
 
--- each has a count
-opened_counted : (slots first : ℕ) → 0 < first → AreCounted (opened_counts slots first)
-opened_counted slots first h = opened_each slots first (λ (v : Slot). v.released ≡ false → 0 < v.count) (λ r. h) (λ r. omega arith) (λ r. absurd (false≢true (sym r)))
-
-opened_untried : (slots first : ℕ) → IsUntried (opened_counts slots first)
-opened_untried slots first = record {
-  marked = refl;
-  no_gray = opened_each slots first (λ (v : Slot). is_gray v.colour ≡ false) refl refl refl;
-  no_white = opened_each slots first (λ (v : Slot). is_white v.colour ≡ false) refl refl refl;
-}
-
-opened_apart : (slots first : ℕ) → IsApart (opened_counts slots first)
-opened_apart slots first x e = absurd (false≢true (sym (opened_each slots first (λ (v : Slot). is_orange v.colour ≡ false) refl refl refl x) ∙ ap is_orange e))
-
-opened_idle : (fields : ℕ) → IsNone (next_of (idle_of fields))
-unfolding next_of
-opened_idle fields = refl
-
--- the newer buffers are spares
-opened_spares : (slots fields registers mutators capacity epoch : ℕ) → AreSpare (opened slots fields registers mutators capacity epoch) 0
-opened_spares slots fields registers mutators capacity epoch = λ i f l.
-    get_or-replicate mutators i (blank registers capacity) (blank 0 0) (omega (arith, l, length-replicate mutators (blank registers capacity)))
-
+-- a machine as it is opened is one
 pub opened_keeps : (slots fields registers mutators capacity epoch : ℕ) → 0 < fields → fields < 2 ^ 8 → 0 < registers → 0 < mutators → mutators < 2 ^ 8 → epoch < 2 ^ 24
     → IsKeptCounts (opened_counts slots mutators) → IsMachine (opened slots fields registers mutators capacity epoch)
+unfolding next_of
 opened_keeps slots fields registers mutators capacity epoch f few r m small e k =
     let p : Private = opened slots fields registers mutators capacity epoch in
     let newer : length (replicate mutators (blank registers capacity)) ≡ mutators = length-replicate mutators (blank registers capacity) in
     let older : length (replicate mutators (retired (first_registers registers) capacity)) ≡ mutators = length-replicate mutators (retired (first_registers registers) capacity) in
     let tried : AreTried p.counts p.release p.freeing p.trial = record {
-      untried = opened_untried slots mutators;
-      idle = opened_idle fields;
-      apart = opened_apart slots mutators;
-      counted = opened_counted slots mutators m;
+      untried = record { marked = refl; no_gray = opened_each slots mutators (λ (v : Slot). is_gray v.colour ≡ false) refl refl refl; no_white = opened_each slots mutators (λ (v : Slot). is_white v.colour ≡ false) refl refl refl };
+      idle = refl;
+      apart = λ x o. absurd (false≢true (sym (opened_each slots mutators (λ (v : Slot). is_orange v.colour ≡ false) refl refl refl x) ∙ ap is_orange o));
+      counted = opened_each slots mutators (λ (v : Slot). v.released ≡ false → 0 < v.count) (λ r. m) (λ r. omega arith) (λ r. absurd (false≢true (sym r)));
       zeros = refl;
       roots = refl;
       work = refl;
@@ -104,7 +80,7 @@ opened_keeps slots fields registers mutators capacity epoch f few r m small e k 
           prepared = record { tried = tried; unprepared = refl; outside = none_outside fields (opened_counts slots mutators) refl (opened_each slots mutators (λ (v : Slot). v.set ≡ None) refl refl refl) };
           free = refl;
         },
-        opened_spares slots fields registers mutators capacity epoch,
+        λ i from l. get_or-replicate mutators i (blank registers capacity) (blank 0 0) (omega (arith, l, newer)),
         refl,
         refl,
       );

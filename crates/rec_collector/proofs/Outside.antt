@@ -268,34 +268,28 @@ downs_spare s (t ∷ ts) y r =
     first_spares s (counted_down s t) (all_down (counted_down s t) ts) t (named y ts) (named y (t ∷ ts)) y (down_names s t y r) (downs_spare (counted_down s t) ts y (down_released s t y ∙ r)) (named-cons y t ts)
 
 -- a whole batch
-pub batch_touches : (s : State) (newer older : List Contents) (y : ℕ) → (slot_at s y).released ≡ false → ((slot_at (batch s newer older) y).colour ≡ Orange) ↔ (((slot_at s y).colour ≡ Orange) × (added y newer + taken y older ≡ 0))
-batch_touches s newer older y r =
-    let ups : List (Option ℕ) = flat_map up_targets newer in
-    let downs : List (Option ℕ) = flat_map down_targets older in
-    let u = ups_spare s ups y in
-    let d = downs_spare (all_up s ups) downs y ((rest_all_up s ups).released y ∙ r) in (
-      λ o.
-          let none_down : named y downs ≡ 0 = d.before o in
-          let up_orange : (slot_at (all_up s ups) y).colour ≡ Orange = ap (λ (w : Slot). w.colour) (sym (d.same none_down)) ∙ o in
-          let none_up : named y ups ≡ 0 = u.before up_orange in
-          (ap (λ (w : Slot). w.colour) (sym (u.same none_up)) ∙ up_orange, omega (arith, none_up, none_down, added_is y newer, taken_is y older)),
-      λ q.
-          let none_up : named y ups ≡ 0 = omega (arith, q.1, added_is y newer) in
-          let none_down : named y downs ≡ 0 = omega (arith, q.1, taken_is y older) in
-          ap (λ (w : Slot). w.colour) (d.same none_down ∙ u.same none_up) ∙ q.0,
-    )
+module _ (s : State) (newer older : List Contents) (y : ℕ) (r : (slot_at s y).released ≡ false) where
+  abbrev up : State
+  up = all_up s (flat_map up_targets newer)
 
--- a slot that is Orange after a batch is as it was, and nothing of the batch names it
-pub batch_same : (s : State) (newer older : List Contents) (y : ℕ) → (slot_at s y).released ≡ false → (slot_at (batch s newer older) y).colour ≡ Orange → (slot_at (batch s newer older) y ≡ slot_at s y) × (added y newer + taken y older ≡ 0)
-batch_same s newer older y r o =
-    let ups : List (Option ℕ) = flat_map up_targets newer in
-    let downs : List (Option ℕ) = flat_map down_targets older in
-    let u = ups_spare s ups y in
-    let d = downs_spare (all_up s ups) downs y ((rest_all_up s ups).released y ∙ r) in
-    let unnamed : added y newer + taken y older ≡ 0 = ((batch_touches s newer older y r).0 o).1 in
-    let none_up : named y ups ≡ 0 = omega (arith, unnamed, added_is y newer) in
-    let none_down : named y downs ≡ 0 = omega (arith, unnamed, taken_is y older) in
-    (d.same none_down ∙ u.same none_up, unnamed)
+  ups : Spares s up (named y (flat_map up_targets newer)) y
+  ups = ups_spare s (flat_map up_targets newer) y
+
+  downs : Spares up (batch s newer older) (named y (flat_map down_targets older)) y
+  downs = downs_spare up (flat_map down_targets older) y ((rest_all_up s (flat_map up_targets newer)).released y ∙ r)
+
+  -- a slot that is Orange after a batch is as it was, and nothing of the batch names it
+  pub batch_same : (slot_at (batch s newer older) y).colour ≡ Orange → (slot_at (batch s newer older) y ≡ slot_at s y) × (added y newer + taken y older ≡ 0)
+  batch_same o =
+      let none_down : named y (flat_map down_targets older) ≡ 0 = downs.before o in
+      let none_up : named y (flat_map up_targets newer) ≡ 0 = ups.before (ap (λ (w : Slot). w.colour) (sym (downs.same none_down)) ∙ o) in
+      (downs.same none_down ∙ ups.same none_up, omega (arith, none_up, none_down, added_is y newer, taken_is y older))
+
+  pub batch_touches : ((slot_at (batch s newer older) y).colour ≡ Orange) ↔ (((slot_at s y).colour ≡ Orange) × (added y newer + taken y older ≡ 0))
+  batch_touches = (
+    λ o. (ap (λ (w : Slot). w.colour) (sym (batch_same o).0) ∙ o, (batch_same o).1),
+    λ q. ap (λ (w : Slot). w.colour) (downs.same (omega (arith, q.1, taken_is y older)) ∙ ups.same (omega (arith, q.1, added_is y newer))) ∙ q.0,
+  )
 
 -- the members of the sets of a machine
 outside_at : (p : Private) (phase : Phase) → IsAt p phase → HasSets phase → AreOutside p.prep.fields p.counts

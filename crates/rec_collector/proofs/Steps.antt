@@ -1,7 +1,7 @@
 -- What comes next and what is learnt are a step, by the phase; what a step leaves in the mailbox that it looks at, and why each answer of
 -- a turn comes.
 use Rattle.std.proofs.Common.{◌≡◌, ◌≢◌, ℕ, zero, suc, ◌+◌, ◌-◌, ◌^◌, ◌<◌, ◌==◌, true, false, Bool, cond, Option, None, Some, List, [], ◌∷◌, length, refl, arith, sym, ap, subst, ◌∙◌, inl, inr, ◌≤◌, IsSome, IsNone}
-use Rattle.std.proofs.lemmas.Bool.{eq-eqb, eqb-true, false≢true, cases_eq, ne_eqb, cond-true, cond-false}
+use Rattle.std.proofs.lemmas.Bool.{eqb-false, eq-eqb, eqb-true, false≢true, cases_eq, ne_eqb, cond-false}
 use Rattle.std.proofs.lemmas.List.{nil_from_length}
 use Rattle.rec_word.specs.Mailbox.{crossing_word}
 use Rattle.rec_word.specs.declared.mailbox.Mailbox.TheVariants.{Retired}
@@ -39,15 +39,12 @@ use Rattle.rec_collector.proofs.Clearing.{last_stays, StaysClear}
 use Rattle.rec_collector.proofs.Following.{HasCleared, begun_clears, freed_clears, released_clears}
 use Rattle.rec_collector.proofs.Goings.{last_sets}
 use Rattle.rec_collector.proofs.Judging.{Says, verdict_says, last_refusable, none_busy, Says, verdict_says}
-use Rattle.rec_collector.proofs.Landing.{followed_phase, prepared_phase, tried_phase, work_of, work_phase, landed, now_at, under_way_at}
+use Rattle.rec_collector.proofs.Landing.{work_none, followed_phase, prepared_phase, tried_phase, work_of, work_phase, landed, now_at, under_way_at}
 use Rattle.rec_collector.proofs.Answering.{freeing_next, prep_next, release_next}
 use Rattle.rec_collector.proofs.Sweeping.{due_slot}
 
 none_some : {A : Type 0} (x : A) → Some x ≢ None
 none_some x e = cc
-
-cons_nil : (x : ℕ) (xs : List ℕ) → x ∷ xs ≢ []
-cons_nil x xs e = cc
 
 -- what a step makes of a machine that came to these parts and this phase, beside the buffer of a mailbox
 abbrev went : Private → Next → Contents → Private
@@ -60,7 +57,7 @@ prepared_on p w box = go w.prep.at refl
   where
     swept : (free : List ℕ) → w.counts.free ≡ free → w.prep.at ≡ None → PreparesOn p w (went p (next_in (sweep_phase free) w) box) (came_turn p.epoch (sweep_phase free))
     swept [] f e = PreparesOn.completes e f (record { after = refl; answer = refl })
-    swept (x ∷ xs) f e = PreparesOn.sweeps_next e (λ n. cons_nil x xs (sym f ∙ n)) (record { after = refl; answer = refl })
+    swept (x ∷ xs) f e = PreparesOn.sweeps_next e (λ n. let q : x ∷ xs ≡ [] = sym f ∙ n in cc) (record { after = refl; answer = refl })
 
     go : (at : Option loads.At) → w.prep.at ≡ at → PreparesOn p w (went p (prepared_at w at) box) (came_turn p.epoch (prepared_at w at).phase)
     go None e = swept w.counts.free refl e
@@ -119,7 +116,7 @@ unfolding followed
 cleared_on p w box h = tested_on_from (length w.counts.sets) p w box refl h.stays
 
 -- the phase of a turn that changes nothing
-same_swapped : (p : Private) (box : Contents) (phase : Phase) → p.phase ≡ phase → IsBetween phase → swapped_of p box ≡ p
+pub same_swapped : (p : Private) (box : Contents) (phase : Phase) → p.phase ≡ phase → IsBetween phase → swapped_of p box ≡ p
 unfolding swapped_of swapped_at
 same_swapped p box phase e b = ap (swapped_at p box) e ∙ go phase b
   where
@@ -133,7 +130,7 @@ idle_step p word box is = go (is_spent p) refl
   where
     go : (b : Bool) → is_spent p ≡ b → Step p word box (cond b None (Some (StoreEpoch (p.epoch + 1)))) (swapped_of (cond b p (moved (record p { epoch = p.epoch + 1 }) (Looking 1))) box) (cond b EpochsSpent Moved)
     go true e = Step.spent is (eqb-true (p.epoch + 1) (2 ^ 24) e) refl (same_swapped p box Idle is tt) refl
-    go false e = Step.request is (λ q. false≢true (sym e ∙ eq-eqb (p.epoch + 1) (2 ^ 24) q)) refl (record { after = refl; answer = refl })
+    go false e = Step.request is (eqb-false (p.epoch + 1) (2 ^ 24) e) refl (record { after = refl; answer = refl })
 
 look_step : (p : Private) (word : ℕ) (box : Contents) (t : ℕ) → p.phase ≡ Looking t → Step p word box (next_at p (Looking t)) (swapped_of (took_at p word (Looking t)) box) (turn_at p word (Looking t))
 unfolding next_at took_at turn_at swapped_of swapped_at
@@ -141,7 +138,7 @@ look_step p word box t is = go (word == crossing_word p.epoch Retired) refl
   where
     go : (b : Bool) → (word == crossing_word p.epoch Retired) ≡ b → Step p word box (Some (LookBox t p.epoch)) (swapped_of (cond b (moved p (Swapping t)) p) box) (cond b Moved (Waiting t))
     go true e = Step.gather t is (eqb-true word (crossing_word p.epoch Retired) e) refl (record { after = refl; answer = refl })
-    go false e = Step.wait t is (λ q. false≢true (sym e ∙ eq-eqb word (crossing_word p.epoch Retired) q)) refl (same_swapped p box (Looking t) is tt) refl
+    go false e = Step.wait t is (eqb-false word (crossing_word p.epoch Retired) e) refl (same_swapped p box (Looking t) is tt) refl
 
 -- with the last mailbox the batch is applied
 return_step : (p : Private) (word : ℕ) (box : Contents) (t : ℕ) → IsMachine p → p.phase ≡ Returning t → (t ≡ length p.newer → IsCovered p.counts p.newer p.older) → Step p word box (next_at p (Returning t)) (swapped_of (took_at p word (Returning t)) box) (turn_at p word (Returning t))
@@ -154,7 +151,7 @@ return_step p word box t k is c = go (t == length p.newer) refl
     go : (b : Bool) → (t == length p.newer) ≡ b
         → Step p word box (Some (ReturnBox t p.epoch)) (swapped_of (cond b (came p (followed w)) (moved p (Looking (t + 1)))) box) (cond b (came_turn p.epoch (followed w).phase) Moved)
     go true e = let last : t ≡ length p.newer = eqb-true t (length p.newer) e in Step.apply t is last refl (cleared_on p w box (begun_clears p t k is last (c last)))
-    go false e = Step.give_back t is (λ q. false≢true (sym e ∙ eq-eqb t (length p.newer) q)) refl (record { after = refl; answer = refl })
+    go false e = Step.give_back t is (eqb-false t (length p.newer) e) refl (record { after = refl; answer = refl })
 
 swept_step : (p : Private) (word : ℕ) (box : Contents) (n : ℕ) (w : sweeps.Work) → p.phase ≡ Sweeping n → w ≡ sweeps.took_of (record { due = p.due; counts = p.counts }) word → (due : Option ℕ) → w.due ≡ due
     → Step p word box (sweeps.next_of p.due) (swapped_of (moved (record p { counts = w.counts; due = w.due; freed = p.freed + 1 }) (swept_phase (n + 1) due)) box) Moved
@@ -192,59 +189,48 @@ tried_between w = tried_phase IsBetween tt tt tt tt w
 pub followed_between : (w : Parts) → IsBetween (followed w).phase
 followed_between w = followed_phase IsBetween tt tt tt tt tt tt w
 
-came_leaves : (p : Private) (box : Contents) (n : Next) → IsBetween n.phase → left_of (came p n) box ≡ box
-unfolding left_of left_at
-came_leaves p box n between = at n.phase between
+-- nor does what a word leaves, where none was looked at
+came_between : (p : Private) (n : Next) → IsBetween n.phase → IsBetween (came p n).phase
+came_between p n b = go n.phase b
   where
-    at : (phase : Phase) → IsBetween phase → left_of (ended_if phase (moved (with_parts p n.parts) phase)) box ≡ box
-    at (Swapping t) between = absurd between
-    at _ between = refl
+    go : (phase : Phase) → IsBetween phase → IsBetween (ended_if phase (moved (with_parts p n.parts) phase)).phase
+    go (Closing m) b = tt
+    go _ b = b
 
--- a phase in which no mailbox is looked at
-keeps_in : (p : Private) (word : ℕ) (box left : Contents) (phase : Phase) → p.phase ≡ phase → ((t : ℕ) → phase ≢ Looking t) → left ≡ box → LeavesBox p word box left
-keeps_in p word box left phase is other e = LeavesBox.keeps (λ t looks. absurd (other t (sym is ∙ looks))) e
+pub took_between : (p : Private) (word : ℕ) (phase : Phase) → p.phase ≡ phase → IsBetween phase → ((t : ℕ) → phase ≢ Looking t) → IsBetween (took_at p word phase).phase
+unfolding took_at
+took_between p word Idle is b other = elim (is_spent p) as (λ c. IsBetween (cond c p (moved (record p { epoch = p.epoch + 1 }) (Looking 1))).phase) [ true ↦ subst IsBetween (sym is) tt | false ↦ tt ]
+took_between p word (Looking t) is b other = absurd (other t refl)
+took_between p word (Swapping t) is b other = absurd b
+took_between p word (Returning t) is b other =
+    elim (t == length p.newer) as (λ c. IsBetween (cond c (came p (work_of p word (Returning t))) (moved p (Looking (t + 1)))).phase) [ true ↦ came_between p (work_of p word (Returning t)) (followed_between _) | false ↦ tt ]
+took_between p word Opening is b other = tt
+took_between p word (Sweeping n) is b other = elim (sweeps.took_of (record { due = p.due; counts = p.counts }) word).due as (λ d. IsBetween (swept_phase (n + 1) d)) [ None ↦ tt | Some x ↦ tt ]
+took_between p word (Closing n) is b other = tt
+took_between p word phase is b other = came_between p (work_of p word phase) (work_phase IsBetween tt tt tt tt tt tt p word phase)
+
+left_between : (q : Private) (box : Contents) → IsBetween q.phase → left_of q box ≡ box
+unfolding left_of left_at
+left_between q box b = go q.phase b
+  where
+    go : (phase : Phase) → IsBetween phase → left_at q box phase ≡ box
+    go (Swapping t) b = absurd b
+    go _ b = refl
 
 -- by phase
 leaves_at : (p : Private) (word : ℕ) (box : Contents) (phase : Phase) → p.phase ≡ phase → IsBetween phase → LeavesBox p word box (left_of (took_at p word phase) box)
 unfolding took_at left_of left_at
-leaves_at p word box Idle is between = keeps_in p word box _ Idle is (λ t. λ e. cc) (go (is_spent p))
-  where
-    go : (spent : Bool) → left_of (cond spent p (moved (record p { epoch = p.epoch + 1 }) (Looking 1))) box ≡ box
-    go true = ap (left_at p box) is
-    go false = refl
 leaves_at p word box (Looking t) is between = elim (cases_eq word (crossing_word p.epoch Retired)) [
   | inl e ↦ LeavesBox.empties t is e (ap (λ b. left_of (cond b (moved p (Swapping t)) p) box) (eq-eqb word (crossing_word p.epoch Retired) e))
   | inr e ↦ LeavesBox.keeps (λ u looks same. e same) (ap (λ b. left_of (cond b (moved p (Swapping t)) p) box) (ne_eqb word (crossing_word p.epoch Retired) e) ∙ ap (left_at p box) is)
 ]
 leaves_at p word box (Swapping t) is between = absurd between
-leaves_at p word box (Returning t) is between = keeps_in p word box _ (Returning t) is (λ t. λ e. cc) (go (t == length p.newer))
-  where
-    next : Next
-    next = work_of p word (Returning t)
-
-    go : (last : Bool) → left_of (cond last (came p next) (moved p (Looking (t + 1)))) box ≡ box
-    go true = came_leaves p box next (followed_between _)
-    go false = refl
-leaves_at p word box Opening is between = keeps_in p word box _ Opening is (λ t. λ e. cc) refl
-leaves_at p word box (Sweeping n) is between = keeps_in p word box _ (Sweeping n) is (λ t. λ e. cc) (go _)
-  where
-    go : (x : Option ℕ) → left_at p box (swept_phase (n + 1) x) ≡ box
-    go None = refl
-    go (Some x) = refl
-leaves_at p word box (Closing n) is between = keeps_in p word box _ (Closing n) is (λ t. λ e. cc) refl
-leaves_at p word box phase is between = keeps_in p word box _ phase is (λ t. λ e. cc) (came_leaves p box (work_of p word phase) (work_phase IsBetween tt tt tt tt tt tt p word phase))
-
-leaves_box : (p : Private) (word : ℕ) (box : Contents) → IsBetween p.phase → LeavesBox p word box (left_of (took_of p word) box)
-unfolding took_of
-leaves_box p word box between = leaves_at p word box p.phase refl between
+leaves_at p word box phase is between = LeavesBox.keeps (λ t looks. let q : phase ≡ Looking t = sym is ∙ looks in absurd (cc)) (left_between (took_at p word phase) box (took_between p word phase is between (λ t. λ e. cc)))
 
 -- a whole step
 pub whole_made : (p : Private) (word : ℕ) (box : Contents) → IsMachine p → IsBetween p.phase → IsGiven p word → WholeStep p word box (next_of p) (step_of p word box) (turn_of p word) (left_of (took_of p word) box)
-whole_made p word box k between given = record { own = step_made p word box k between given; mailbox = leaves_box p word box between }
-
--- nothing is swept yet where the parts were at work
-work_none : (p : Private) (word : ℕ) (phase : Phase) → swept_at (work_of p word phase).phase ≡ 0
-work_none p word phase = work_phase (λ f. swept_at f ≡ 0) refl refl refl refl refl refl p word phase
+unfolding took_of
+whole_made p word box k between given = record { own = step_made p word box k between given; mailbox = leaves_at p word box p.phase refl between }
 
 -- a turn that came to these parts and this phase, from a phase that has swept nothing
 came_cause : (p : Private) (word : ℕ) (n : Next) → p.collections + 1 ≤ p.epoch → swept_at p.phase ≡ 0 → swept_at n.phase ≡ 0 → HasCause p word (came p n) (came_turn p.epoch n.phase)
@@ -261,7 +247,7 @@ idle_cause p word false e is = (refl, refl, ap (λ f. p.freed + swept_at f) is)
 
 look_cause : (p : Private) (word t : ℕ) (b : Bool) → (word == crossing_word p.epoch Retired) ≡ b → p.phase ≡ Looking t → HasCause p word (cond b (moved p (Swapping t)) p) (cond b Moved (Waiting t))
 look_cause p word t true e is = (refl, refl, ap (λ f. p.freed + swept_at f) is)
-look_cause p word t false e is = (is, (λ q. false≢true (sym e ∙ eq-eqb word (crossing_word p.epoch Retired) q)), refl)
+look_cause p word t false e is = (is, (eqb-false word (crossing_word p.epoch Retired) e), refl)
 
 return_cause : (p : Private) (word t : ℕ) (n : Next) (b : Bool) → p.collections + 1 ≤ p.epoch → p.phase ≡ Returning t → swept_at n.phase ≡ 0 → HasCause p word (cond b (came p n) (moved p (Looking (t + 1)))) (cond b (came_turn p.epoch n.phase) Moved)
 return_cause p word t n true u is none = came_cause p word n u (ap swept_at is) none
@@ -298,10 +284,7 @@ is_none (Some x) s n = false≢true (sym n)
 
 spent_at : (p : Private) (word : ℕ) (phase : Phase) → p.phase ≡ phase → IsMachine p → IsNone (next_at p phase) → turn_at p word phase ≡ EpochsSpent
 unfolding next_at turn_at
-spent_at p word Idle is k n = elim (cases_eq (p.epoch + 1) (2 ^ 24)) [
-  | inl e ↦ cond-true (is_spent p) _ _ (eq-eqb (p.epoch + 1) (2 ^ 24) e)
-  | inr e ↦ absurd (false≢true (sym (subst (λ (o : Option Op). IsNone o) (cond-false (is_spent p) None (Some (StoreEpoch (p.epoch + 1))) (ne_eqb (p.epoch + 1) (2 ^ 24) e)) n)))
-]
+spent_at p word Idle is k n = (elim (is_spent p) as (λ b. IsNone (cond b None (Some (StoreEpoch (p.epoch + 1)))) → cond b EpochsSpent Moved ≡ EpochsSpent) [ true ↦ λ n. refl | false ↦ λ n. absurd (false≢true (sym n)) ]) n
 spent_at p word Releasing is k n = absurd (is_none (releases.next_of p.release) (release_next p.release ∙ (now_at p Releasing k is).1) n)
 spent_at p word Freeing is k n = absurd (is_none (frees.next_of p.freeing) (freeing_next p.freeing ∙ (now_at p Freeing k is).1) n)
 spent_at p word Trying is k n = absurd (is_none (trial_next p.trial) (now_at p Trying k is).busy n)

@@ -1,5 +1,5 @@
 -- A sweep goes on, and a collection ends.
-use Rattle.std.proofs.Common.{◌≡◌, ap, sym, subst, ◌∙◌, ◌≢◌, ℕ, ◌+◌, ◌*◌, ◌^◌, ◌<◌, ◌≤◌, true, eqb, inl, inr, Option, None, Some, IsNone, IsSome, List, [], ◌∷◌, length, map, drop, slice_get, refl, arith}
+use Rattle.std.proofs.Common.{◌≡◌, ap, sym, subst, ◌∙◌, ℕ, ◌+◌, ◌*◌, ◌^◌, ◌<◌, ◌≤◌, true, eqb, inl, inr, Option, None, Some, IsNone, IsSome, List, [], ◌∷◌, length, map, drop, slice_get, refl, arith}
 use Rattle.std.proofs.lemmas.List.{length-set, length-map, get_or-set_same, get_or-set_other}
 use Rattle.std.proofs.lemmas.Bool.{false≢true}
 use Rattle.std.proofs.lemmas.Bool.Decides.{eqb_tells}
@@ -10,7 +10,6 @@ use Rattle.rec_counts.specs.Slot.{absent, swept_clean}
 use Rattle.rec_counts.proofs.Times.{times-cons}
 use Rattle.rec_release.specs.Sweep as sweeps
 use Rattle.rec_release.specs.Sweep.{swept, took_of, started_of, next_of}
-use Rattle.rec_release.specs.TakenOff.{IsApart}
 use Rattle.rec_release.proofs.Sweeping.{unbuffered_swept}
 use Rattle.rec_release.proofs.TakenOff.{written}
 use Rattle.rec_collector.specs.Inside.{private}
@@ -22,7 +21,7 @@ use Rattle.rec_collector.specs.Parts.{Parts}
 use Rattle.rec_collector.specs.Zeros.{AreCounted}
 use Rattle.rec_collector.specs.Took.{cleared, ended, moved, swept_phase, swept_one, took_at, with_sweep}
 use Rattle.rec_collector.specs.declared.phase.Phase.TheVariants.{Opening, Sweeping, Closing}
-use Rattle.rec_collector.proofs.Landing.{freed_at, now_at, told_at, under_way_at}
+use Rattle.rec_collector.proofs.Landing.{machine_on, freed_at, now_at, told_at, under_way_at}
 use Rattle.rec_collector.proofs.Outside.{apart_on, black_was, untried_moved, outside_on, swept_lowers}
 use Rattle.rec_collector.proofs.Rows.{cleared_sized, cleared_spares}
 
@@ -38,16 +37,8 @@ pub opening_keeps : (p : Private) → IsMachine p → p.phase ≡ Opening → Is
 unfolding took_at started_of
 opening_keeps p k e =
     let a : IsAt p Opening = now_at p Opening k e in
-    record {
-      epoch = k.epoch;
-      collections = under_way_at p Opening k e;
-      freed = freed_at p Opening k e;
-      widths = k.widths;
-      rows = k.rows;
-      counts = k.counts;
-      told = told_at p Opening k e;
-      now = (record { before = a.0.before; left = a.0.left; turns = omega (arith, a.0.turns) }, a.1, refl);
-    }
+    machine_on p p.epoch p.counts _ p.freed (Sweeping 0) k k.epoch (under_way_at p Opening k e) (freed_at p Opening k e) k.counts (told_at p Opening k e)
+    (record { before = a.0.before; left = a.0.left; turns = omega (arith, a.0.turns) }, a.1, refl)
 
 first_gone : (free : List ℕ) (x y : ℕ) → slice_get free 0 ≡ Some x → times y free ≡ one (eqb y x) + times y (drop 1 free)
 first_gone [] x y e = cc
@@ -66,10 +57,6 @@ swept_listed s x first k y l t = elim (eqb_tells y x) [
       omega (arith, other, first_gone s.free x y first, k y (omega (arith, l, length-set s.slots x (swept_clean (slot_at s x)))) was)
 ]
 
--- a swept slot is Black
-swept_apart : (s : State) (x : ℕ) → IsApart s → IsApart (swept s x)
-swept_apart s x a = apart_on s (swept s x) refl refl (black_was s x (swept_clean (slot_at s x)) refl) a
-
 -- a swept slot has one count
 swept_counted : (s : State) (x : ℕ) → AreCounted s → AreCounted (swept s x)
 swept_counted s x c = λ y r. elim (written s x (swept_clean (slot_at s x)) y) [
@@ -81,7 +68,7 @@ swept_tried : (w : Parts) (x : ℕ) → slice_get w.counts.free 0 ≡ Some x →
 swept_tried w x first t = record {
   untried = untried_moved w.counts (swept w.counts x) refl (swept_lowers w.counts x) t.untried;
   idle = t.idle;
-  apart = swept_apart w.counts x t.apart;
+  apart = apart_on w.counts (swept w.counts x) refl refl (black_was w.counts x (swept_clean (slot_at w.counts x)) refl) t.apart;
   counted = swept_counted w.counts x t.counted;
   zeros = t.zeros;
   roots = t.roots;
@@ -117,17 +104,10 @@ swept_keeps_on p n x r k e first left len s = go r left len
     }
 
     go : (ys : List ℕ) → drop 1 p.counts.free ≡ ys → length p.counts.free ≡ length ys + 1 → IsMachine (after ys)
-    go [] l m = record { epoch = k.epoch; collections = under_way_at p (Sweeping n) k e; freed = omega (arith, freed_at p (Sweeping n) k e); widths = k.widths; rows = k.rows; counts = s; told = told_at p (Sweeping n) k e; now = (on [] l m, l, refl) }
-    go (y ∷ ys) l m = record {
-      epoch = k.epoch;
-      collections = under_way_at p (Sweeping n) k e;
-      freed = omega (arith, freed_at p (Sweeping n) k e);
-      widths = k.widths;
-      rows = k.rows;
-      counts = s;
-      told = told_at p (Sweeping n) k e;
-      now = (on (y ∷ ys) l m, omega (arith, ap length l), sym (ap (λ zs. slice_get zs 0) l));
-    }
+    go [] l m = machine_on p p.epoch (swept p.counts x) None (p.freed + 1) (Closing (n + 1)) k k.epoch (under_way_at p (Sweeping n) k e) (omega (arith, freed_at p (Sweeping n) k e)) s (told_at p (Sweeping n) k e) (on [] l m, l, refl)
+    go (y ∷ ys) l m =
+        machine_on p p.epoch (swept p.counts x) (Some y) (p.freed + 1) (Sweeping (n + 1)) k k.epoch (under_way_at p (Sweeping n) k e) (omega (arith, freed_at p (Sweeping n) k e)) s (told_at p (Sweeping n) k e)
+        (on (y ∷ ys) l m, omega (arith, ap length l), sym (ap (λ zs. slice_get zs 0) l))
 
 -- a slot is due while any is left
 pub due_slot : (free : List ℕ) (due : Option ℕ) → 0 < length free → due ≡ slice_get free 0 → IsSome (next_of due)

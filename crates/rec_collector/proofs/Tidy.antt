@@ -13,7 +13,6 @@ use Rattle.rec_counts.specs.Groups.{last_set, earlier_sets}
 use Rattle.rec_counts.specs.Lists.{one, times}
 use Rattle.rec_counts.specs.Slot.{is_in, unbuffered_if}
 use Rattle.rec_counts.proofs.Times.{times-nil, times-cons, times-append, times_push}
-use Rattle.rec_counts.specs.declared.slot.Due.TheVariants.{Zero}
 use Rattle.rec_counts.specs.Rest.{AreZeros}
 use Rattle.rec_counts.proofs.Keeping.{field_kept}
 use Rattle.rec_release.specs.TakenOff.{IsMember, IsApart, taken_off, AllZerosButOrange}
@@ -41,13 +40,12 @@ times_last x (xs ∷ ys ∷ yss) =
     rw k (omega (arith, times-append x xs (concat (ys ∷ yss)), times-append x xs (concat (earlier_sets (ys ∷ yss))), times_last x (ys ∷ yss)))
 
 -- what passes a test stands there no more often
-pub times_filter : (p : ℕ → Bool) (x : ℕ) (xs : List ℕ) → times x (filter p xs) ≤ times x xs
+times_filter : (p : ℕ → Bool) (x : ℕ) (xs : List ℕ) → times x (filter p xs) ≤ times x xs
 times_filter p x [] = omega arith
-times_filter p x (y ∷ ys) = go (p y) (times_filter p x ys)
-  where
-    go : (b : Bool) → times x (filter p ys) ≤ times x ys → times x (cond b (y ∷ filter p ys) (filter p ys)) ≤ times x (y ∷ ys)
-    go true i = omega (arith, i, times-cons x y (filter p ys), times-cons x y ys)
-    go false i = omega (arith, i, times-cons x y ys)
+times_filter p x (y ∷ ys) = elim (p y) as (λ b. times x (cond b (y ∷ filter p ys) (filter p ys)) ≤ times x (y ∷ ys)) [
+  | true ↦ omega (arith, times_filter p x ys, times-cons x y (filter p ys), times-cons x y ys)
+  | false ↦ omega (arith, times_filter p x ys, times-cons x y ys)
+]
 
 -- a refurbished member is Orange only where it was
 refurbished_orange : (f : Fate) (v : Slot) → (refurbished f v).colour ≡ Orange → v.colour ≡ Orange
@@ -61,7 +59,7 @@ fate_uncolours false true root v e o = cc
 fate_uncolours false false true v e o = cc
 fate_uncolours false false false v e o = cc
 
-pub apart_refurbished : (s t : State) → IsKept s → LastRefurbished s t → IsApart s → IsApart t
+apart_refurbished : (s t : State) → IsKept s → LastRefurbished s t → IsApart s → IsApart t
 apart_refurbished s t k r a = λ x o.
     let n : ℕ = length s.sets - 1 in
     let first : Option ℕ = slice_get (last_set s.sets) 0 in

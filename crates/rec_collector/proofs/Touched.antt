@@ -1,14 +1,14 @@
 -- A step leaves an orange member as it was, or lowers it, and names it nowhere.
-use Rattle.std.proofs.Common.{◌≡◌, ◌⊎◌, ℕ, ◌+◌, ◌-◌, ◌<◌, ◌==◌, ◌&&◌, not, Bool, true, false, Option, None, Some, IfSome, IsSome, List, length, flat_map, refl, sym, ap, subst, ◌∙◌, arith, inl, inr}
+use Rattle.std.proofs.Common.{◌≡◌, ◌⊎◌, ℕ, ◌+◌, ◌-◌, ◌<◌, ◌==◌, ◌&&◌, not, Bool, true, false, Option, None, Some, IfSome, IsSome, List, length, refl, sym, ap, subst, ◌∙◌, arith, inl, inr}
 use Rattle.std.proofs.lemmas.Bool.{cases_lt, cond-true, cond-false, eq-eqb, ne_eqb}
 use Rattle.std.proofs.lemmas.Bool.Decides.{eqb_tells}
 use Rattle.std.proofs.lemmas.List.{get_or_past}
 use Rattle.rec_word.specs.Word.{target_of}
 use Rattle.rec_word.specs.declared.op.Op.{Op}
 use Rattle.rec_log.specs.declared.contents.Contents.{Contents}
-use Rattle.rec_apply.specs.Batch.{all_up, batch, down_targets, up_targets}
+use Rattle.rec_apply.specs.Batch.{batch}
 use Rattle.rec_apply.specs.Targets.{added, taken}
-use Rattle.rec_apply.proofs.Resting.{rest_all_down, rest_all_up}
+use Rattle.rec_apply.proofs.Whole.{batch_rests}
 use Rattle.rec_counts.specs.declared.colour.Colour.TheVariants.{Orange}
 use Rattle.rec_counts.specs.declared.slot.Slot.{Slot}
 use Rattle.rec_counts.specs.Counts.{State, slot_at}
@@ -16,7 +16,7 @@ use Rattle.rec_counts.specs.Lists.{one}
 use Rattle.rec_counts.specs.Slot.{absent}
 use Rattle.rec_release.specs.CycleFree as frees
 use Rattle.rec_release.specs.Release as releases
-use Rattle.rec_release.specs.Release.{emptied, listed_if, without_first}
+use Rattle.rec_release.specs.Release.{emptied, without_first}
 use Rattle.rec_release.specs.Sweep as sweeps
 use Rattle.rec_release.specs.TakenOff.{down_if, IsApart, is_lowered, taken_off}
 use Rattle.rec_walk.specs.Load.{Load}
@@ -33,18 +33,18 @@ use Rattle.rec_collector.specs.Touched.{decrements, IsOrangeIn, named_at, named_
 use Rattle.rec_collector.specs.declared.phase.Phase.{Phase}
 use Rattle.rec_collector.specs.declared.phase.Phase.TheVariants.{Returning, Releasing, Freeing, Trying, Preparing}
 use Rattle.rec_collector.specs.declared.turn.Turn.{Turn}
-use Rattle.rec_collector.proofs.Batched.{none_released}
-use Rattle.rec_collector.proofs.Goings.{freed_by, freed_off, none_some, relieved_by, released_by, released_off}
+use Rattle.rec_collector.proofs.Following.{none_released}
+use Rattle.rec_collector.proofs.Goings.{emptied_same, freed_by, freed_off, none_some, relieved_by, released_by, released_off}
 use Rattle.rec_collector.proofs.Outside.{Lowers, first_lowers, given_lowers, off_lowers, refurbished_lowers, same_lowers, swept_lowers, batch_same, down_names}
 use Rattle.rec_collector.proofs.Steps.{prepared_on, step_made, tried_on}
 use Rattle.rec_collector.proofs.Landing.{now_at}
 
 -- each orange member was one before, and was named so often, which is nowhere
-abbrev Spares : State → State → (x named : ℕ) → Type 0
-Spares s t x named = (number : ℕ) → IsOrangeIn t number x → WasUntouched s t number x named
+record Spares (s t : State) (x named : ℕ) : Type 0 where
+  pub each : (number : ℕ) → IsOrangeIn t number x → WasUntouched s t number x named
 
 lowers_spares : (s t : State) (x : ℕ) → Lowers s t → Spares s t x 0
-lowers_spares s t x l number o = let m = (l x).member number o.0 o.1 in record { orange = (m.set, m.colour); lowered = m.by; count = m.count; cyclic = m.cyclic; unnamed = refl }
+lowers_spares s t x l = record { each = λ number o. let m = (l x).member number o.0 o.1 in record { orange = (m.set, m.colour); lowered = m.by; count = m.count; cyclic = m.cyclic; unnamed = refl } }
 
 -- one after the other
 pub untouched_on : {s t u : State} {number x m n : ℕ} (k : ℕ) → WasUntouched s t number x m → WasUntouched t u number x n → k ≡ m + n → WasUntouched s u number x k
@@ -60,42 +60,34 @@ untouched_on k first second e = record {
 pub untouched_same : {s : State} {number x : ℕ} → IsOrangeIn s number x → WasUntouched s s number x 0
 untouched_same o = record { orange = o; lowered = 0; count = omega arith; cyclic = omega arith; unnamed = refl }
 
-spares_on : (s t u : State) (x m n k : ℕ) → Spares s t x m → Spares t u x n → k ≡ m + n → Spares s u x k
-spares_on s t u x m n k a b e number o = let second = b number o in untouched_on k (a number second.orange) second e
+spares_then : {s t u : State} {x n : ℕ} → Spares s t x n → Spares t u x 0 → Spares s u x n
+spares_then {n = n} a b = record { each = λ number o. let second = b.each number o in untouched_on n (a.each number second.orange) second (omega arith) }
 
 same_spares : (s t : State) (x : ℕ) → t ≡ s → Spares s t x 0
-same_spares s t x e number o = subst (λ u. WasUntouched s u number x 0) (sym e) (untouched_same (subst (λ u. IsOrangeIn u number x) e o))
+same_spares s t x e = record { each = λ number o. subst (λ u. WasUntouched s u number x 0) (sym e) (untouched_same (subst (λ u. IsOrangeIn u number x) e o)) }
 
 -- a decrement takes the colour from its target
 off_spares : (lowers : Bool) (s : State) (target : Option ℕ) (x : ℕ) → IsApart s → IfSome target (λ y. 0 < (slot_at s y).count) → Spares s (taken_off lowers s target) x (decrements lowers s target x)
-off_spares lowers s None x a h number o = lowers_spares s s x (same_lowers s s (λ y. refl)) number o
-off_spares lowers s (Some y) x a h number o =
-    let m = (off_lowers lowers s (Some y) a h x).member number o.0 o.1 in
-    record { orange = (m.set, m.colour); lowered = m.by; count = m.count; cyclic = m.cyclic; unnamed = go (x == y) (is_lowered lowers (slot_at s x).colour) refl refl m.colour }
+off_spares lowers s None x a h = lowers_spares s s x (same_lowers s s (λ y. refl))
+off_spares lowers s (Some y) x a h = record {
+  each = λ number o.
+      let m = (off_lowers lowers s (Some y) a h x).member number o.0 o.1 in
+      record { orange = (m.set, m.colour); lowered = m.by; count = m.count; cyclic = m.cyclic; unnamed = go (x == y) (is_lowered lowers (slot_at s x).colour) refl refl m.colour o.1 };
+}
   where
-    go : (b l : Bool) → (x == y) ≡ b → is_lowered lowers (slot_at s x).colour ≡ l → (slot_at s x).colour ≡ Orange → one (b && not l) ≡ 0
-    go false l e f c = refl
-    go true true e f c = refl
-    go true false e f c =
+    go : (b l : Bool) → (x == y) ≡ b → is_lowered lowers (slot_at s x).colour ≡ l → (slot_at s x).colour ≡ Orange → (slot_at (taken_off lowers s (Some y)) x).colour ≡ Orange → one (b && not l) ≡ 0
+    go false l e f c o = refl
+    go true true e f c o = refl
+    go true false e f c o =
         let here : y ≡ x = elim (eqb_tells x y) [ inl q ↦ sym q.1 | inr q ↦ let n : true ≡ false = sym e ∙ q.0 in absurd (cc) ] in
         let plain : is_lowered lowers (slot_at s y).colour ≡ false = ap (λ z. is_lowered lowers (slot_at s z).colour) here ∙ f in
         let down : taken_off lowers s (Some y) ≡ down_if false s y = ap (λ b. down_if b s y) plain in
-        absurd ((down_names s (Some y) x (a x c).unreleased).lost e (ap (λ t. (slot_at t x).colour) (sym down) ∙ o.1))
-
--- an emptied slot goes to the free list
-emptied_same : (b : Bool) (s : State) (y x : ℕ) → slot_at (listed_if b s y) x ≡ slot_at s x
-emptied_same true s y x = refl
-emptied_same false s y x = refl
+        absurd ((down_names s (Some y) x (a x c).unreleased).lost e (ap (λ t. (slot_at t x).colour) (sym down) ∙ o))
 
 -- a word came out of a field of a released slot
 released_spares : (w : Parts) (word x : ℕ) → IsSome w.release.at → IsApart w.counts → IfSome (target_of word) (λ y. 0 < (slot_at w.counts y).count) → Spares w.counts (with_released w word).counts x (decrements w.release.lowers w.counts (target_of word) x)
 released_spares w word x busy a h = released_by (λ v. Spares w.counts v.counts x n) w word (λ e. none_some w.release.at e busy) (λ at e l. off)
-    (λ at e l.
-    let s : State = released_off w word in
-    let t : State = emptied s at.slot in
-    spares_on w.counts t (without_first t.zeros t) x n 0 n
-    (spares_on w.counts s t x n 0 n off (lowers_spares s t x (same_lowers s t (emptied_same (slot_at s at.slot).buffered s at.slot))) (omega arith))
-    (lowers_spares t (without_first t.zeros t) x (first_lowers t.zeros t)) (omega arith))
+    (λ at e l. let t : State = emptied (released_off w word) at.slot in spares_then (spares_then off (lowers_spares (released_off w word) t x (same_lowers (released_off w word) t (emptied_same (released_off w word) at.slot).0))) (lowers_spares t (without_first t.zeros t) x (first_lowers t.zeros t)))
   where
     n : ℕ
     n = decrements w.release.lowers w.counts (target_of word) x
@@ -111,15 +103,12 @@ zeros_spares lowers w x = lowers_spares w.counts (without_first w.counts.zeros w
 -- a word came out of a field of a member of the set that is freed
 freed_spares : (w : Parts) (word x : ℕ) → IsSome w.freeing.at → IsApart w.counts → IfSome (target_of word) (λ y. 0 < (slot_at w.counts y).count) → Spares w.counts (with_freed w word).counts x (decrements true w.counts (target_of word) x)
 freed_spares w word x busy a h = freed_by (λ v. Spares w.counts v.counts x n) w word (λ e. none_some w.freeing.at e busy) (λ at e l. off) (λ at e l m. off)
-    (λ at e l m. spares_on w.counts s (frees.listed s) x n 0 n off (lowers_spares s (frees.listed s) x (same_lowers s (frees.listed s) (λ y. refl))) (omega arith))
+    (λ at e l m. spares_then off (lowers_spares _ _ x (same_lowers (freed_off w word) (frees.listed (freed_off w word)) (λ y. refl))))
   where
-    s : State
-    s = freed_off w word
-
     n : ℕ
     n = decrements true w.counts (target_of word) x
 
-    off : Spares w.counts s x n
+    off : Spares w.counts (freed_off w word) x n
     off = off_spares true w.counts (target_of word) x a h
 
 relieved_spares : (w : Parts) (x : ℕ) → Spares w.counts (relieved w).counts x 0
@@ -129,8 +118,8 @@ relieved_spares w x = relieved_by (λ v. Spares w.counts v.counts x 0) w (λ e. 
 tested_spares : (w v : Parts) (x : ℕ) → IsTested w v → Spares w.counts v.counts x 0
 unfolding frees.started_of
 tested_spares w v x (IsTested.passes orange none is) = subst (λ (u : Parts). Spares w.counts u.counts x 0) (sym is) (lowers_spares w.counts (frees.given_up w.counts) x (given_lowers w.counts))
-tested_spares w v x (IsTested.fails_delta s not last is) = subst (λ (u : Parts). Spares w.counts u.counts x 0) (sym is) (spares_on w.counts s (zeros_released true (record w { counts = s })).counts x 0 0 0 (lowers_spares w.counts s x (refurbished_lowers w.counts s last)) (zeros_spares true (record w { counts = s }) x) (omega arith))
-tested_spares w v x (IsTested.fails_sigma s orange some last is) = subst (λ (u : Parts). Spares w.counts u.counts x 0) (sym is) (spares_on w.counts s (zeros_released true (record w { counts = s })).counts x 0 0 0 (lowers_spares w.counts s x (refurbished_lowers w.counts s last)) (zeros_spares true (record w { counts = s }) x) (omega arith))
+tested_spares w v x (IsTested.fails_delta s not last is) = subst (λ (u : Parts). Spares w.counts u.counts x 0) (sym is) (spares_then (lowers_spares w.counts s x (refurbished_lowers w.counts s last)) (zeros_spares true (record w { counts = s }) x))
+tested_spares w v x (IsTested.fails_sigma s orange some last is) = subst (λ (u : Parts). Spares w.counts u.counts x 0) (sym is) (spares_then (lowers_spares w.counts s x (refurbished_lowers w.counts s last)) (zeros_spares true (record w { counts = s }) x))
 
 -- where a trial begins, its sets are of the requested epoch
 pub prepares_late : (p q : Private) (w : Parts) (turn : Turn) → PreparesOn p w q turn → tried_at q.epoch q.phase ≡ p.epoch
@@ -150,7 +139,7 @@ Leaves s q x named = Spares s q.counts x named × HasSets q.phase
 clears_leave : (p q : Private) (turn : Turn) (x : ℕ) {w : Parts} → ClearsOn p q turn w → (tried_at q.epoch q.phase ≡ p.epoch → ⊥) → Leaves w.counts q x 0
 clears_leave p q turn x {w} (ClearsOn.frees_on busy g) early = (same_spares w.counts q.counts x (ap (λ (r : Private). r.counts) g.after), subst HasSets (sym (ap (λ (r : Private). r.phase) g.after)) tt)
 clears_leave p q turn x {w} (ClearsOn.releases_on unfreed busy g) early = (same_spares w.counts q.counts x (ap (λ (r : Private). r.counts) g.after), subst HasSets (sym (ap (λ (r : Private). r.phase) g.after)) tt)
-clears_leave p q turn x {w} (ClearsOn.tests v unfreed still some tested on) early = let more = clears_leave p q turn x on early in (spares_on w.counts v.counts q.counts x 0 0 0 (tested_spares w v x tested) more.0 (omega arith), more.1)
+clears_leave p q turn x {w} (ClearsOn.tests v unfreed still some tested on) early = let more = clears_leave p q turn x on early in (spares_then (tested_spares w v x tested) more.0, more.1)
 clears_leave p q turn x (ClearsOn.tries unfreed still none on) early = absurd (early (tries_late p q _ turn on))
 
 -- at rest no member is released
@@ -160,21 +149,19 @@ rest_unreleased p number x r is = elim (cases_lt x (length p.counts.slots)) [
   | inr past ↦ let none : None ≡ Some number = ap (λ (v : Slot). v.set) (sym (get_or_past p.counts.slots x absent past)) ∙ is in absurd (cc)
 ]
 
--- a batch changes no sets
-batch_sets : (s : State) (newer older : List Contents) (x : ℕ) → (slot_at (batch s newer older) x).set ≡ (slot_at s x).set
-batch_sets s newer older x = (rest_all_down (all_up s (flat_map up_targets newer)) (flat_map down_targets older)).set x ∙ (rest_all_up s (flat_map up_targets newer)).set x
-
 batched_spares : (p : Private) (x : ℕ) → IsAtRest (parts_of p) → Spares p.counts (batch p.counts p.newer p.older) x (added x p.newer + taken x p.older)
-batched_spares p x r number o =
-    let was : (slot_at p.counts x).set ≡ Some number = sym (batch_sets p.counts p.newer p.older x) ∙ o.0 in
-    let b = batch_same p.counts p.newer p.older x (rest_unreleased p number x r was) o.1 in
-    record {
-      orange = (was, ap (λ (v : Slot). v.colour) (sym b.0) ∙ o.1);
-      lowered = 0;
-      count = omega (arith, ap (λ (v : Slot). v.count) b.0);
-      cyclic = omega (arith, ap (λ (v : Slot). v.cyclic) b.0);
-      unnamed = b.1;
-    }
+batched_spares p x r = record {
+  each = λ number o.
+      let was : (slot_at p.counts x).set ≡ Some number = sym ((batch_rests p.counts p.newer p.older).set x) ∙ o.0 in
+      let b = batch_same p.counts p.newer p.older x (rest_unreleased p number x r was) o.1 in
+      record {
+        orange = (was, ap (λ (v : Slot). v.colour) (sym b.0) ∙ o.1);
+        lowered = 0;
+        count = omega (arith, ap (λ (v : Slot). v.count) b.0);
+        cyclic = omega (arith, ap (λ (v : Slot). v.cyclic) b.0);
+        unnamed = b.1;
+      };
+}
 
 counts_started : (p : Private) → (sweeps.started_of p.counts).counts ≡ p.counts
 unfolding sweeps.started_of
@@ -199,7 +186,7 @@ module _ (p q : Private) (word x : ℕ) (turn : Turn) (k : IsMachine p) (same : 
   clears : {w : Parts} {n : ℕ} → ClearsOn p q turn w → under_way p.phase ≡ 1 → tried_at p.epoch p.phase ≡ p.epoch - 1 → Spares p.counts w.counts x n → named_by p word x ≡ n → Leaves p.counts q x (named_by p word x)
   clears {w} {n} on way was s e =
       let c = clears_leave p q turn x on (early way was) in
-      (spares_on p.counts w.counts q.counts x n 0 (named_by p word x) s c.0 (omega (arith, e)), c.1)
+      (subst (Spares p.counts q.counts x) (sym e) (spares_then s c.0), c.1)
 
   step_leaves : {box : Contents} {op : Option Op} → IsGiven p word → HasSets p.phase → Step p word box op q turn → Leaves p.counts q x (named_by p word x)
   unfolding IsGiven IsGivenAt sweeps.took_of
@@ -212,17 +199,16 @@ module _ (p q : Private) (word x : ℕ) (turn : Turn) (k : IsMachine p) (same : 
       let w : Parts = record (parts_of p) { counts = batch p.counts p.newer p.older } in
       let n : ℕ = added x p.newer + taken x p.older in
       clears on (ap under_way at) (ap (tried_at p.epoch) at)
-      (spares_on p.counts w.counts (zeros_released false w).counts x n 0 n (batched_spares p x (now_at p (Returning t) k at).rest) (zeros_spares false w x) (omega arith))
+      (spares_then (batched_spares p x (now_at p (Returning t) k at).rest) (zeros_spares false w x))
       (named_as at ∙ cond-true (t == length p.newer) n 0 (eq-eqb t (length p.newer) last))
   step_leaves given has (Step.release at is on) =
       let now = now_at p Releasing k at in
       clears on (ap under_way at) (ap (tried_at p.epoch) at) (released_spares (parts_of p) word x now.1 now.0.clearing.apart (subst (IsGivenAt p word) at given)) (named_as at)
   step_leaves given has (Step.freeing at is on) =
       let v : Parts = with_freed (parts_of p) word in
-      let n : ℕ = decrements true p.counts (target_of word) x in
       let now = now_at p Freeing k at in
       clears on (ap under_way at) (ap (tried_at p.epoch) at)
-      (spares_on p.counts v.counts (relieved v).counts x n 0 n (freed_spares (parts_of p) word x now.1 now.0.clearing.apart (subst (IsGivenAt p word) at given)) (relieved_spares v x) (omega arith)) (named_as at)
+      (spares_then (freed_spares (parts_of p) word x now.1 now.0.clearing.apart (subst (IsGivenAt p word) at given)) (relieved_spares v x)) (named_as at)
   step_leaves given has (Step.trial at is on) = absurd (subst HasSets at has)
   step_leaves given has (Step.preparation at is on) = absurd (subst HasSets at has)
   step_leaves given has (Step.begin_sweep at is g) = goes g (counts_started p) tt (named_as at)
@@ -244,7 +230,7 @@ module _ (p q : Private) (word x : ℕ) (turn : Turn) (k : IsMachine p) (same : 
 -- what a step leaves of an orange member, up to the next trial
 pub untouched : (p : Private) (word : ℕ) (box : Contents) (number x : ℕ) → IsMachine p → IsBetween p.phase → IsGiven p word → HasSets p.phase → tried_at (step_of p word box).epoch (step_of p word box).phase ≡ tried_at p.epoch p.phase
     → IsOrangeIn (step_of p word box).counts number x → WasUntouched p.counts (step_of p word box).counts number x (named_by p word x)
-untouched p word box number x k between given has same o = (step_leaves p (step_of p word box) word x (turn_of p word) k same given has (step_made p word box k between given)).0 number o
+untouched p word box number x k between given has same o = (step_leaves p (step_of p word box) word x (turn_of p word) k same given has (step_made p word box k between given)).0.each number o
 
 -- and sets
 pub has_on : (p : Private) (word : ℕ) (box : Contents) → IsMachine p → IsBetween p.phase → IsGiven p word → HasSets p.phase → tried_at (step_of p word box).epoch (step_of p word box).phase ≡ tried_at p.epoch p.phase → HasSets (step_of p word box).phase

@@ -1,6 +1,6 @@
 -- A trial begins, takes in words and is over; then the sets that it found are prepared, and a sweep follows: what that leaves of the
 -- counts.
-use Rattle.std.proofs.Common.{◌≡◌, ℕ, ◌+◌, ◌*◌, ◌^◌, ◌<◌, ◌≤◌, Option, None, Some, IsSome, List, [], ◌∷◌, ◌++◌, length, refl, arith, sym, ◌∙◌, ap, subst, ◌≢◌, true, cond, ltb, IsNone, inl, inr}
+use Rattle.std.proofs.Common.{Bool, ◌≡◌, ℕ, ◌+◌, ◌*◌, ◌^◌, ◌<◌, ◌≤◌, Option, None, Some, IsSome, List, [], ◌∷◌, ◌++◌, length, refl, arith, sym, ◌∙◌, ap, subst, ◌≢◌, true, cond, ltb, IsNone, inl, inr}
 use Rattle.std.proofs.lemmas.List.{length-append, length_push}
 use Rattle.std.specs.List.{concat}
 use Rattle.std.proofs.lemmas.Bool.{cases_Bool, cases_lt, false≢true}
@@ -37,7 +37,7 @@ use Rattle.rec_collector.specs.declared.phase.Phase.{Phase}
 use Rattle.rec_collector.specs.declared.phase.Phase.TheVariants.{Preparing, Opening, Closing, Trying}
 use Rattle.rec_collector.specs.Zeros.{AreCounted}
 use Rattle.rec_collector.proofs.Landing.{Fits, Lands, fits_all, fits_on, fits_self, landed, now_at, told_at}
-use Rattle.rec_collector.proofs.Limits.{loads_few}
+use Rattle.rec_collector.proofs.Always.{loads_few}
 use Rattle.rec_collector.proofs.Outside.{apart_on, untried_on, prepared_outside}
 
 -- What a trial has left holds still where no more than cyclic counts change.
@@ -67,7 +67,7 @@ pub record HasPrepared (p : Private) (w : Parts) : Type 0 where
   pub told : told w.sets + length w.counts.sets ≤ 2 ^ 16 * (p.collections + 1)
 
 -- it has begun
-pub started_prepared : (p : Private) (w : Parts) → IsTried w → IsKeptCounts w.counts → Fits p w → p.due ≡ None → p.turns ≤ 1 + 2 * length p.newer + 4 * all_fields p
+started_prepared : (p : Private) (w : Parts) → IsTried w → IsKeptCounts w.counts → Fits p w → p.due ≡ None → p.turns ≤ 1 + 2 * length p.newer + 4 * all_fields p
     → told w.sets + length w.counts.sets ≤ 2 ^ 16 * (p.collections + 1) → HasPrepared p (prep_started w)
 unfolding preps.started_of
 started_prepared p w t k fits due turns told =
@@ -85,11 +85,7 @@ started_prepared p w t k fits due turns told =
 -- it has gone on
 pub took_others : (w : preps.Work) (word : ℕ) → KeepsOthers w.counts (preps.took_of w word).counts
 unfolding preps.took_of
-took_others w word = go w.machine.at
-  where
-    go : (at : Option At) → KeepsOthers w.counts (preps.took_at w word at).counts
-    go None = others_same w.counts
-    go (Some a) = more_others w.machine.fields a w.counts word
+took_others w word = elim w.machine.at as (λ at. KeepsOthers w.counts (preps.took_at w word at).counts) [ None ↦ others_same w.counts | Some a ↦ more_others w.machine.fields a w.counts word ]
 
 loaded_one : (at : Option At) (word : ℕ) → IsSome at → length (loaded_at at word) ≡ 1
 loaded_one None word b = cc
@@ -123,11 +119,7 @@ sweep_follows : (p : Private) (w : Parts) (phase : Phase) (made : ℕ) → HasPr
 sweep_follows p w phase made h e = record {
   before = record { tried = h.tried; unprepared = e; outside = prepared_outside w.prep.fields h.before w.counts h.loads h.before_kept (subst (λ (at : Option At). PreparedTo w.prep.fields h.before at w.counts h.loads) e h.prepares) };
   left = omega (arith, length-once (length w.counts.slots) w.counts.free h.counts.free_once);
-  turns =
-      let all : length w.counts.slots * w.release.fields ≡ all_fields p = fits_all p w h.fits in
-      let few : length h.loads ≤ length w.counts.slots * w.prep.fields = loads_few w.prep.fields h.before w.prep.at w.counts h.loads h.before_kept h.prepares in
-      let same : length w.counts.slots * w.prep.fields ≡ length w.counts.slots * w.release.fields = ap (λ n. length w.counts.slots * n) h.fits.prep_fields in
-      omega (arith, h.turns, few, all, same);
+  turns = omega (arith, h.turns, fits_all p w h.fits, loads_few w.prep.fields h.before w.prep.at w.counts h.loads h.before_kept h.prepares, ap (λ n. length w.counts.slots * n) h.fits.prep_fields);
 }
 
 -- what follows
@@ -135,40 +127,34 @@ pub prepared_lands : (p : Private) (w : Parts) → HasPrepared p w → Lands p (
 unfolding prepared
 prepared_lands p w h = go w.prep.at refl
   where
-    all : length w.counts.slots * w.release.fields ≡ all_fields p
-    all = fits_all p w h.fits
-
     swept : (free : List ℕ) → w.counts.free ≡ free → w.prep.at ≡ None → Lands p (next_in (sweep_phase free) w)
-    swept [] f e = record { counts = h.counts; fits = h.fits; under = refl; none = refl; told = h.told; now = (sweep_follows p w (Closing 0) 1 h e, f, h.due) }
-    swept (x ∷ xs) f e = record { counts = h.counts; fits = h.fits; under = refl; none = refl; told = h.told; now = (sweep_follows p w Opening 0 h e, omega (arith, ap length f), h.due) }
+    swept [] f e = record { counts = h.counts; fits = h.fits; told = h.told; now = (sweep_follows p w (Closing 0) 1 h e, f, h.due) }
+    swept (x ∷ xs) f e = record { counts = h.counts; fits = h.fits; told = h.told; now = (sweep_follows p w Opening 0 h e, omega (arith, ap length f), h.due) }
 
     go : (at : Option At) → w.prep.at ≡ at → Lands p (prepared_at w at)
     go None e = swept w.counts.free refl e
     go (Some a) e = record {
       counts = h.counts;
       fits = h.fits;
-      under = refl;
-      none = refl;
       told = h.told;
-      now = record { preparation = h.preparation; busy = subst (λ (o : Option At). IsSome o) (sym e) refl; due = h.due; turns = omega (arith, h.turns, all) };
+      now = record { preparation = h.preparation; busy = subst (λ (o : Option At). IsSome o) (sym e) refl; due = h.due; turns = omega (arith, h.turns, fits_all p w h.fits) };
     }
 
 module _ (s t : State) (k : KeepsCounts s t) (old : IsKeptCounts s) (new : IsKeptCounts t) (l : IsListed s) where
+  -- the released ones among the roots
+  among : (x : ℕ) (xs : List ℕ) {b : Bool} → (slot_at s x).released ≡ b → times x (released_among s xs) ≡ cond b (times x xs) 0
+  among x xs r = times_released x s xs ∙ ap (λ b. cond b (times x xs) 0) r
+
+  moves : (x : ℕ) → times x t.free + times x (released_among s t.roots) ≡ times x s.free + times x (released_among s s.roots)
+  moves x = omega (arith, ap (times x) k.free, times-append x t.free (released_among s t.roots), times-append x s.free (released_among s s.roots))
+
   -- a released slot goes from the root buffer to the free list
   released_stays : (x : ℕ) → (slot_at s x).released ≡ true → times x t.free + times x t.roots ≡ times x s.free + times x s.roots
-  released_stays x r =
-      let a : times x (released_among s t.roots) ≡ times x t.roots = times_released x s t.roots ∙ ap (λ b. cond b (times x t.roots) 0) r in
-      let b : times x (released_among s s.roots) ≡ times x s.roots = times_released x s s.roots ∙ ap (λ b. cond b (times x s.roots) 0) r in
-      omega (arith, a, b, ap (times x) k.free, times-append x t.free (released_among s t.roots), times-append x s.free (released_among s s.roots))
+  released_stays x r = omega (arith, moves x, among x t.roots r, among x s.roots r)
 
   -- and no other one does
   released_alone : (x : ℕ) → 0 < times x t.free → (slot_at s x).released ≡ true
-  released_alone x h = elim (cases_Bool (slot_at s x).released) [
-    | inl r ↦ r
-    | inr r ↦
-        let b : times x (released_among s s.roots) ≡ 0 = times_released x s s.roots ∙ ap (λ b. cond b (times x s.roots) 0) r in
-        l.only x (omega (arith, h, b, ap (times x) k.free, times-append x t.free (released_among s t.roots), times-append x s.free (released_among s s.roots)))
-  ]
+  released_alone x h = elim (cases_Bool (slot_at s x).released) [ inl r ↦ r | inr r ↦ l.only x (omega (arith, h, moves x, among x s.roots r)) ]
 
   -- it was in one of them, and once
   listed_once : (x : ℕ) → times x s.free + times x s.roots ≤ 1
@@ -261,7 +247,6 @@ took_tried p word k e l =
     let keeps : KeepsCounts p.counts v.counts = took_keeps p.trial p.counts a.kept word l in
     let counts : IsKeptCounts v.counts = took_counted p.trial p.counts a.kept a.busy word l k.counts in
     let more : length (took_at_work p.trial p.counts a.kept word l v.machine v.counts refl).words ≡ length a.kept.words + 1 = ap length (took_words p.trial p.counts a.kept word l v.machine v.counts refl) ∙ length_push a.kept.words word in
-    let all : length p.counts.slots * p.trial.fields ≡ all_fields p = ap (λ n. length p.counts.slots * n) k.trial_fields in
     record {
       on_trial = record {
         kept = took_at_work p.trial p.counts a.kept word l v.machine v.counts refl;
@@ -277,7 +262,7 @@ took_tried p word k e l =
       fits = fits_on (fits_self p k) (record { slots = keeps.slots; release_fields = refl; freeing_fields = refl; trial_fields = took_fields p.trial p.counts a.kept word l; prep_fields = refl });
       due = a.due;
       turns = omega (arith, a.turns, more);
-      few = omega (arith, more, at_work_few p.trial p.counts a.kept a.busy, all);
+      few = omega (arith, more, at_work_few p.trial p.counts a.kept a.busy, ap (λ n. length p.counts.slots * n) k.trial_fields);
       told = told_at p Trying k e;
     }
 
@@ -304,17 +289,12 @@ pub tried_lands : (p : Private) (w : Parts) → HasTried p w → Lands p (tried 
 unfolding tried
 tried_lands p w h = go (next_of w.trial) refl
   where
-    all : length w.counts.slots * w.release.fields ≡ all_fields p
-    all = fits_all p w h.fits
-
     go : (op : Option Op) → next_of w.trial ≡ op → Lands p (tried_at w op)
     go (Some o) e = record {
       counts = h.counts;
       fits = h.fits;
-      under = refl;
-      none = refl;
       told = h.told;
-      now = record { on_trial = h.on_trial; busy = subst (λ (op : Option Op). IsSome op) (sym e) refl; due = h.due; turns = omega (arith, h.turns, all) };
+      now = record { on_trial = h.on_trial; busy = subst (λ (op : Option Op). IsSome op) (sym e) refl; due = h.due; turns = omega (arith, h.turns, fits_all p w h.fits) };
     }
     go None e = prepared_lands p (prep_started w) (
         started_prepared p w (over_tried p w h (subst (λ (op : Option Op). IsNone op) (sym e) refl)) h.counts h.fits h.due (omega (arith, h.turns, h.few)) (omega (arith, h.told, h.counts.few_sets, h.counts.few_slots))

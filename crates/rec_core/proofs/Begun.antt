@@ -21,7 +21,7 @@ use Rattle.rec_collector.specs.Parts.{Parts}
 use Rattle.rec_collector.specs.Private.{parts_of}
 use Rattle.rec_collector.specs.Testing.{zeros_released}
 use Rattle.rec_collector.specs.declared.phase.Phase.TheVariants.{Returning, Releasing}
-use Rattle.rec_collector.proofs.Batched.{batched_clear, none_released, resting_clear}
+use Rattle.rec_collector.proofs.Following.{batched_clear, none_released, resting_clear}
 use Rattle.rec_collector.proofs.Clearing.{zeros_clear}
 use Rattle.rec_core.specs.Config.{IsMutator}
 use Rattle.rec_core.specs.Core.{Core}

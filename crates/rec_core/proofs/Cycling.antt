@@ -19,7 +19,7 @@ use Rattle.rec_sigma.specs.Prepared as prepared
 use Rattle.rec_collector.specs.Private.{Private}
 use Rattle.rec_collector.specs.Kept.{IsMachine, IsAt, NoneReleased}
 use Rattle.rec_collector.specs.declared.phase.Phase.{Phase}
-use Rattle.rec_collector.proofs.Batched.{none_released}
+use Rattle.rec_collector.proofs.Following.{none_released}
 use Rattle.rec_collector.specs.declared.phase.Phase.TheVariants.{Idle, Looking, Swapping, Returning, Releasing, Freeing, Trying, Preparing, Opening, Sweeping, Closing}
 use Rattle.rec_core.specs.Cycles.{is_member, AreFields}
 use Rattle.rec_core.specs.CyclesAt.{IsLoading, AreSeen, HasCyclesAt}

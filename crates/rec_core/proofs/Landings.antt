@@ -47,7 +47,7 @@ use Rattle.rec_collector.specs.Took.{cleared, ended, moved}
 use Rattle.rec_collector.specs.declared.phase.Phase.{Phase}
 use Rattle.rec_collector.specs.declared.phase.Phase.TheVariants.{Idle, Looking, Swapping, Returning, Releasing, Freeing, Trying, Preparing, Opening, Sweeping, Closing}
 use Rattle.rec_collector.specs.declared.turn.Turn.{Turn}
-use Rattle.rec_collector.proofs.Batched.{none_released}
+use Rattle.rec_collector.proofs.Following.{none_released}
 use Rattle.rec_collector.proofs.Offering.{where_keeps, where_kept, where_ready}
 use Rattle.rec_core.specs.Config.{IsMutator}
 use Rattle.rec_core.specs.Core.{Core}

@@ -51,7 +51,7 @@ use Rattle.rec_collector.specs.declared.phase.Phase.TheVariants.{Idle, Looking, 
 use Rattle.rec_collector.specs.declared.turn.Turn.{Turn}
 use Rattle.rec_collector.proofs.Steps as collectors_made
 use Rattle.rec_collector.proofs.Touched.{prepares_late, tries_late}
-use Rattle.rec_collector.proofs.Words.{names_word}
+use Rattle.rec_collector.proofs.Always.{names_word}
 use Rattle.rec_core.specs.Cells.{Cells, cell, with_cell}
 use Rattle.rec_core.specs.Config.{IsMutator}
 use Rattle.rec_core.specs.Core.{Core, cells_of, mutator, box, nobody, crossing_of}

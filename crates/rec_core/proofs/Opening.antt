@@ -28,7 +28,7 @@ use Rattle.rec_collector.specs.Kept as collector_kept
 use Rattle.rec_collector.specs.Private as collectors
 use Rattle.rec_collector.specs.declared.phase.Phase.TheVariants.{Idle}
 use Rattle.rec_collector.proofs.Opening.{opened_keeps}
-use Rattle.rec_collector.proofs.Batched.{none_released}
+use Rattle.rec_collector.proofs.Following.{none_released}
 use Rattle.rec_core.specs.Config.{IsConfig, IsMutator}
 use Rattle.rec_core.specs.Core.{Core, spare_of, opened, nobody, opened_mutator, opened_mutators}
 use Rattle.rec_core.specs.Kept.{IsOwn, IsBufferOf, IsMadeIn, IsActor, HasCollector, IsScanning, IsKept}

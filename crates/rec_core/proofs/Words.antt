@@ -17,7 +17,7 @@ use Rattle.rec_mutator.proofs.Steps.{TakesNone, learnt_made, step_between}
 use Rattle.rec_mutator.proofs.Words.{names_word}
 use Rattle.rec_collector.specs.Next as collector_next
 use Rattle.rec_collector.specs.Step as collector_step
-use Rattle.rec_collector.proofs.Words as collector_words
+use Rattle.rec_collector.proofs.Always as collector_words
 use Rattle.rec_core.specs.Cells.{IsWithin}
 use Rattle.rec_core.specs.Config.{IsMutator}
 use Rattle.rec_core.specs.Core.{Core, cells_of, mutator, box, spare_of}

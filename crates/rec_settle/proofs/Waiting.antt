@@ -14,7 +14,7 @@ use Rattle.rec_collector.specs.Private.{Private}
 use Rattle.rec_collector.specs.declared.phase.Phase.{Phase}
 use Rattle.rec_collector.specs.declared.phase.Phase.TheVariants.{Idle, Looking, Swapping, Returning, Releasing, Freeing, Trying, Preparing, Opening, Sweeping, Closing}
 use Rattle.rec_collector.specs.declared.turn.Turn.TheVariants as answers
-use Rattle.rec_collector.proofs.Limits.{within_limit}
+use Rattle.rec_collector.proofs.Always.{within_limit}
 use Rattle.rec_core.specs.Config.{IsMutator}
 use Rattle.rec_core.specs.Core.{Core, mutator, box, crossing_of}
 use Rattle.rec_core.specs.Kept.{Stand, stand_at, IsHandshake, IsKept}

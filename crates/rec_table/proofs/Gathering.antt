@@ -28,7 +28,7 @@ use Rattle.rec_collector.specs.Testing.{tested, zeros_released}
 use Rattle.rec_collector.specs.Took.{batched, came, ended_if, left_of, moved, took_of, took_at, step_of, swapped_of, swapped_at, swept_phase}
 use Rattle.rec_collector.specs.declared.phase.Phase.{Phase}
 use Rattle.rec_collector.specs.declared.phase.Phase.TheVariants.{Idle, Looking, Swapping, Returning, Releasing, Freeing, Trying, Preparing, Opening, Sweeping, Closing}
-use Rattle.rec_collector.proofs.Words.{names_word}
+use Rattle.rec_collector.proofs.Always.{names_word}
 use Rattle.atomic_table.specs.Seated.{TableId}
 use Rattle.rec_core.specs.Core.{Core, cells_of, box}
 use Rattle.rec_world.specs.World.{IsWorld}

@@ -1,5 +1,5 @@
 -- Every world is safe, by the laws of the core.
-use Rattle.rec_collector.proofs.Limits.{within_limit}
+use Rattle.rec_collector.proofs.Always.{within_limit}
 use Rattle.rec_core.specs.Core.{Core}
 use Rattle.rec_core.specs.Kept.{IsKept}
 use Rattle.rec_core.proofs.Freed.{freed_is_forgotten, given_up_are_gone, passed_are_garbage}

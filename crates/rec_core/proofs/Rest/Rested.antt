@@ -19,7 +19,7 @@ use Rattle.rec_model.proofs.Members.{is_in-left, is_in-right, is_in-head, is_in-
 use Rattle.rec_apply.specs.Targets.{named}
 use Rattle.rec_apply.proofs.Naming.{named-nil, named-cons}
 use Rattle.rec_collector.specs.declared.phase.Phase.TheVariants.{Idle}
-use Rattle.rec_collector.proofs.Batched.{none_released}
+use Rattle.rec_collector.proofs.Following.{none_released}
 use Rattle.rec_core.specs.Core.{Core, sight}
 use Rattle.rec_core.specs.Kept.{IsKept}
 use Rattle.rec_core.specs.Resting.{IsHeldIn, AreCounted, AreWithinReach}

@@ -20,7 +20,7 @@ use Rattle.rec_collector.specs.Private.{buffer_at, parts_of}
 use Rattle.rec_collector.specs.Testing.{zeros_released}
 use Rattle.rec_collector.specs.Took.{batched}
 use Rattle.rec_collector.specs.declared.phase.Phase.TheVariants.{Returning}
-use Rattle.rec_collector.proofs.Batched.{batched_clear, resting_clear}
+use Rattle.rec_collector.proofs.Following.{batched_clear, resting_clear}
 use Rattle.rec_core.specs.Config.{IsMutator}
 use Rattle.rec_core.specs.Core.{Core, mutator, nobody, sight}
 use Rattle.rec_core.specs.Kept.{IsKept}

@@ -1,4 +1,4 @@
-use Rattle.rec_collector.proofs.Words.{names_word}
+use Rattle.rec_collector.proofs.Always.{names_word}
 use Rattle.rec_collector.proofs.laws.machine_names_words.Goals as goal
 
 pub returns : goal.returns

@@ -1,4 +1,4 @@
-use Rattle.rec_collector.proofs.Exact.{machine_exact}
+use Rattle.rec_collector.proofs.Always.{machine_exact}
 use Rattle.rec_collector.proofs.laws.zeros_are_exact.Goals as goal
 
 pub returns : goal.returns

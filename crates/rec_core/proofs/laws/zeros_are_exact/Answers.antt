@@ -1,5 +1,5 @@
 -- What a run keeps tells the zeros.
-use Rattle.rec_collector.proofs.Exact.{machine_exact}
+use Rattle.rec_collector.proofs.Always.{machine_exact}
 use Rattle.rec_core.proofs.Runs.{end_kept}
 use Rattle.rec_core.proofs.laws.zeros_are_exact.Goals as goal
 

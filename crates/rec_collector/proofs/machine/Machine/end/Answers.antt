@@ -3,19 +3,16 @@ use Rattle.std.specs.Vec.{with_items}
 use Rattle.std.proofs.lemmas.List.{length-map, with_items_is}
 use Rattle.rec_collector.specs.Inside.{private}
 use Rattle.rec_collector.specs.Private.{Private}
-use Rattle.rec_collector.specs.Kept.{IsMachine}
-use Rattle.rec_collector.specs.Took.{cleared, ended}
+use Rattle.rec_collector.specs.Took.{cleared}
 use Rattle.rec_collector.proofs.Sweeping.{ended_keeps}
 use Rattle.rec_collector.proofs.machine.Machine.end.Goals as goal
 
 pub invariant_of-self : goal.invariant_of-self
 invariant_of-self c =
-    let l : IsMachine (ended (private c.self.inside)) = ended_keeps (private c.self.inside) c.args.swept c.self.invariant (ap (λ (p : Private). p.phase) c.self.view_is ∙ c.requires.phase) in
     let items : (with_items c.self.inside.older (map cleared c.self.inside.older.items)).items ≡ map cleared c.self.inside.older.items = with_items_is c.self.inside.older (map cleared c.self.inside.older.items) (length-map c.self.inside.older.items cleared ∙ sym c.self.inside.older.ok.0) in
-    rw (c.swap.ensures.x_after, c.swap.ensures.y_after, c.clear_all.ensures, c.deref_mut.ensures.value, items) l
+    rw (c.swap.ensures.x_after, c.swap.ensures.y_after, c.clear_all.ensures, c.deref_mut.ensures.value, items) (ended_keeps (private c.self.inside) c.args.swept c.self.invariant (ap (λ (p : Private). p.phase) c.self.view_is ∙ c.requires.phase))
 
 pub returns-clause-kept : goal.returns-clause-kept
 returns-clause-kept c =
-    let l : IsMachine (ended (private c.self.inside)) = ended_keeps (private c.self.inside) c.args.swept c.self.invariant (ap (λ (p : Private). p.phase) c.self.view_is ∙ c.requires.phase) in
     let items : (with_items c.self.inside.older (map cleared c.self.inside.older.items)).items ≡ map cleared c.self.inside.older.items = with_items_is c.self.inside.older (map cleared c.self.inside.older.items) (length-map c.self.inside.older.items cleared ∙ sym c.self.inside.older.ok.0) in
-    rw (c.swap.ensures.x_after, c.swap.ensures.y_after, c.clear_all.ensures, c.deref_mut.ensures.value, items) l
+    rw (c.swap.ensures.x_after, c.swap.ensures.y_after, c.clear_all.ensures, c.deref_mut.ensures.value, items) (ended_keeps (private c.self.inside) c.args.swept c.self.invariant (ap (λ (p : Private). p.phase) c.self.view_is ∙ c.requires.phase))

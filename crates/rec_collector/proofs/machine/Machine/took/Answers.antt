@@ -1,7 +1,7 @@
 use Rattle.std.proofs.Common.{◌∙◌}
 use Rattle.rec_collector.specs.Kept.{IsMachine}
 use Rattle.rec_collector.proofs.Steps.{has_cause, waits, spends}
-use Rattle.rec_collector.proofs.Limits.{within_limit}
+use Rattle.rec_collector.proofs.Always.{within_limit}
 use Rattle.rec_collector.proofs.machine.Machine.took.Goals as goal
 
 pub returns-clause-cause : goal.returns-clause-cause

@@ -2,7 +2,7 @@ use Rattle.std.proofs.Common.{arith, refl}
 use Rattle.rec_collector.specs.Given.{IsGivenAt}
 use Rattle.rec_collector.specs.Took.{took_at, turn_at}
 use Rattle.rec_collector.specs.declared.phase.Phase.TheVariants.{Freeing}
-use Rattle.rec_collector.proofs.Limits.{turns_fit}
+use Rattle.rec_collector.proofs.Always.{turns_fit}
 use Rattle.rec_collector.proofs.Keeping.{turned, turned_keeps}
 use Rattle.rec_collector.proofs.machine.Machine.took_freeing.Goals as goal
 

@@ -1,25 +1,19 @@
-use Rattle.std.proofs.Common.{◌≡◌, ◌≢◌, length, ap, sym, ◌∙◌}
+use Rattle.std.proofs.Common.{true, false, refl, ◌≡◌, length, ap, sym, ◌∙◌}
+use Rattle.std.proofs.lemmas.Bool.{eq-eqb, ne_eqb}
 use Rattle.rec_collector.specs.Given.{IsGivenAt}
 use Rattle.rec_collector.specs.Inside.{private}
 use Rattle.rec_collector.specs.Private.{Private, parts_of}
-use Rattle.rec_collector.specs.Took.{took_at, turn_at}
 use Rattle.rec_collector.specs.declared.phase.Phase.TheVariants.{Returning}
-use Rattle.rec_collector.proofs.Batched.{resting_clear}
+use Rattle.rec_collector.proofs.Following.{resting_clear}
 use Rattle.rec_collector.proofs.Landing.{now_at}
-use Rattle.rec_collector.proofs.Keeping.{batch_follows, returned_answer, returned_last, returned_moved, returned_next, turned, turned_keeps}
+use Rattle.rec_collector.proofs.Keeping.{batch_follows, returned_as, turned, turned_keeps}
 use Rattle.rec_collector.proofs.machine.Machine.took_return.Goals as goal
 
 pub returns-then-from-len-clause-took : goal.returns-then-from-len-clause-took
-returns-then-from-len-clause-took c =
-    let p : Private = private c.self.inside in
-    let other : c.args.mutator ≢ length c.self.inside.newer.items = λ q. c.if-from-len.true (c.from.ensures ∙ q ∙ sym c.self.inside.newer.ok.0 ∙ sym c.len.ensures) in
-    returned_next p c.args.mutator other ∙ ap (λ (q : Private). took_at q 0 (Returning c.args.mutator)) c.self.view_is
+returns-then-from-len-clause-took c = (returned_as _ _ c.args.mutator false c.self.view_is (ne_eqb _ _ (λ q. c.if-from-len.true (c.from.ensures ∙ q ∙ sym c.self.inside.newer.ok.0 ∙ sym c.len.ensures)))).0
 
 pub returns-then-from-len-clause-turn : goal.returns-then-from-len-clause-turn
-returns-then-from-len-clause-turn c =
-    let p : Private = private c.self.inside in
-    let other : c.args.mutator ≢ length c.self.inside.newer.items = λ q. c.if-from-len.true (c.from.ensures ∙ q ∙ sym c.self.inside.newer.ok.0 ∙ sym c.len.ensures) in
-    returned_moved p c.args.mutator other ∙ ap (λ (q : Private). turn_at q 0 (Returning c.args.mutator)) c.self.view_is
+returns-then-from-len-clause-turn c = (returned_as _ _ c.args.mutator false c.self.view_is (ne_eqb _ _ (λ q. c.if-from-len.true (c.from.ensures ∙ q ∙ sym c.self.inside.newer.ok.0 ∙ sym c.len.ensures)))).1
 
 pub apply_batch-self-inside-requires-clause-clearing : goal.apply_batch-self-inside-requires-clause-clearing
 apply_batch-self-inside-requires-clause-clearing c =
@@ -38,6 +32,6 @@ returns c =
     let p : Private = private c.self.inside in
     let last : c.args.mutator ≡ length c.self.inside.newer.items = sym c.from.ensures ∙ c.if-from-len.false ∙ c.len.ensures ∙ c.self.inside.newer.ok.0 in
     let ends = c.end_if_nothing_is_free.ensures in
-    let t = turned p _ 0 (Returning c.args.mutator) _ c.self.invariant c.self.view_is c.requires.phase c.requires.covered last (batch_follows p _ _ _ c.apply_batch-self-inside.ensures c.deref.ensures.value c.deref-2.ensures.value) _ _
-    (returned_last p c.args.mutator last) (returned_answer p c.args.mutator last) ends.took ends.turn ends.same in
+    let r = returned_as p p c.args.mutator true refl (eq-eqb _ _ last) in
+    let t = turned p _ 0 (Returning c.args.mutator) _ c.self.invariant c.self.view_is c.requires.phase c.requires.covered last (batch_follows p _ _ _ c.apply_batch-self-inside.ensures c.deref.ensures.value c.deref-2.ensures.value) _ _ r.0 r.1 ends.took ends.turn ends.same in
     record { took = t.0; turn = t.1; same = t.2; kept = ends.kept }

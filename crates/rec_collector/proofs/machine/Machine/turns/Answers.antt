@@ -1,7 +1,7 @@
 use Rattle.std.proofs.Common.{◌≤◌, subst}
 use Rattle.rec_collector.specs.Kept.{limit_of}
 use Rattle.rec_collector.specs.Private.{Private}
-use Rattle.rec_collector.proofs.Limits.{within_limit}
+use Rattle.rec_collector.proofs.Always.{within_limit}
 use Rattle.rec_collector.proofs.machine.Machine.turns.Goals as goal
 
 pub returns-clause-limit : goal.returns-clause-limit

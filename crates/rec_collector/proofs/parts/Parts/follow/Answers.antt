@@ -6,8 +6,7 @@ use Rattle.rec_release.specs.Release as releases
 use Rattle.rec_collector.specs.Followed.{next_in, tested_next}
 use Rattle.rec_collector.specs.Parts.{Parts}
 use Rattle.rec_collector.specs.declared.phase.Phase.TheVariants.{Freeing, Releasing}
-use Rattle.rec_collector.proofs.Answering.{follows, freeing_next, none_of, release_next, tests_free, tests_release, tests_try}
-use Rattle.rec_collector.proofs.UnderTest.{tested_ready, tested_still}
+use Rattle.rec_collector.proofs.Answering.{follows, freeing_next, none_of, release_next, tests_free, tests_release, tests_try, tested_ready, tested_still}
 use Rattle.rec_collector.proofs.parts.Parts.follow.Goals as goal
 
 pub returns-then-is_some : goal.returns-then-is_some

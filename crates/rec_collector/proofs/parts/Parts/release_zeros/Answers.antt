@@ -2,8 +2,7 @@ use Rattle.std.proofs.Common.{◌≡◌, false, ap, sym, subst, ◌∙◌}
 use Rattle.rec_release.specs.Release as releases
 use Rattle.rec_collector.specs.Parts.{Parts}
 use Rattle.rec_collector.specs.Testing.{with_release, zeros_released}
-use Rattle.rec_collector.proofs.Answering.{no_release}
-use Rattle.rec_collector.proofs.UnderTest.{MayFollow, zeros_follow}
+use Rattle.rec_collector.proofs.Answering.{no_release, MayFollow, zeros_follow}
 use Rattle.rec_collector.proofs.parts.Parts.release_zeros.Goals as goal
 
 pub start-requires-clause-idle : goal.start-requires-clause-idle

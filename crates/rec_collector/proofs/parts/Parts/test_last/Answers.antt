@@ -1,7 +1,10 @@
-use Rattle.std.proofs.Common.{◌≡◌, ◌-◌, ◌<◌, false, length, ap, arith, sym, subst, ◌∙◌}
-use Rattle.rec_collector.specs.Clearing.{IsClearing, IsDone}
+use Rattle.std.proofs.Common.{◌≡◌, ◌-◌, length, ap, arith, sym, subst, ◌∙◌}
+use Rattle.rec_counts.specs.Counts.{IsKept}
+use Rattle.rec_release.specs.CycleFree.{IsFreeable}
+use Rattle.rec_sigma.specs.Refurbish.{IsRefusable}
+use Rattle.rec_collector.specs.Clearing.{IsClearing}
 use Rattle.rec_collector.specs.Parts.{Parts}
-use Rattle.rec_collector.specs.Testing.{is_busy, last_tested, verdict_of}
+use Rattle.rec_collector.specs.Testing.{last_tested, verdict_of}
 use Rattle.rec_collector.specs.declared.verdict.Verdict.TheVariants.{Passed}
 use Rattle.rec_collector.proofs.Answering.{no_freeing, no_release, passed_last, refused_last, refused_ready}
 use Rattle.rec_collector.proofs.Judging.{last_freeable, last_refusable, none_busy}
@@ -12,22 +15,16 @@ start-requires-clause-idle c = no_freeing c.self.inside.freeing (ap (λ (w : Par
 
 pub start-requires-clause-freeable : goal.start-requires-clause-freeable
 start-requires-clause-freeable c =
-    let w : Parts = record { counts = c.self.inside.counts; release = c.self.inside.release; freeing = c.self.inside.freeing; trial = c.self.inside.trial; prep = c.self.inside.prep; sets = c.self.inside.sets; offers = c.self.inside.offers } in
-    let some : 0 < length w.counts.sets = subst (λ (v : Parts). 0 < length v.counts.sets) (sym c.self.view_is) c.requires.some in
-    let idle : is_busy w ≡ false = ap (λ (v : Parts). is_busy v) c.self.view_is ∙ c.requires.idle in
-    let clearing : IsClearing w = subst IsClearing (sym c.self.view_is) c.requires.clearing in
-    let done : IsDone w = subst IsDone (sym c.self.view_is) c.requires.done in
-    let passed : verdict_of w.counts (length w.counts.sets - 1) ≡ Passed = ap (λ n. verdict_of w.counts (n - 1)) (sym c.sets-set.ensures) ∙ sym c.judge-verdict.ensures ∙ c.in-Passed.is in
-    last_freeable w some idle passed c.rules.ensures clearing done
+    let kept : IsKept c.args.self.now.counts = subst (λ (v : Parts). IsKept v.counts) c.self.view_is c.rules.ensures in
+    let passed : verdict_of c.self.inside.counts (length c.self.inside.counts.sets - 1) ≡ Passed = ap (λ n. verdict_of c.self.inside.counts (n - 1)) (sym c.sets-set.ensures) ∙ sym c.judge-verdict.ensures ∙ c.in-Passed.is in
+    let now_passed : verdict_of c.args.self.now.counts (length c.args.self.now.counts.sets - 1) ≡ Passed = subst (λ (v : Parts). verdict_of v.counts (length v.counts.sets - 1) ≡ Passed) c.self.view_is passed in
+    subst (λ (v : Parts). IsFreeable v.counts) (sym c.self.view_is) (last_freeable c.args.self.now c.requires.some c.requires.idle now_passed kept c.requires.clearing c.requires.done)
 
 pub refurbish-requires : goal.refurbish-requires
 refurbish-requires c =
-    let w : Parts = record { counts = c.self.inside.counts; release = c.self.inside.release; freeing = c.self.inside.freeing; trial = c.self.inside.trial; prep = c.self.inside.prep; sets = c.self.inside.sets; offers = c.self.inside.offers } in
-    let some : 0 < length w.counts.sets = subst (λ (v : Parts). 0 < length v.counts.sets) (sym c.self.view_is) c.requires.some in
-    let idle : is_busy w ≡ false = ap (λ (v : Parts). is_busy v) c.self.view_is ∙ c.requires.idle in
-    let clearing : IsClearing w = subst IsClearing (sym c.self.view_is) c.requires.clearing in
-    let done : IsDone w = subst IsDone (sym c.self.view_is) c.requires.done in
-    record { last = omega (arith, c.sets-set.ensures, some); refusable = last_refusable w some idle c.rules.ensures clearing done }
+    let kept : IsKept c.args.self.now.counts = subst (λ (v : Parts). IsKept v.counts) c.self.view_is c.rules.ensures in
+    let refusable : IsRefusable c.self.inside.counts = subst (λ (v : Parts). IsRefusable v.counts) (sym c.self.view_is) (last_refusable c.args.self.now c.requires.some c.requires.idle kept c.requires.clearing c.requires.done) in
+    record { last = omega (arith, c.sets-set.ensures, refusable.some); refusable = refusable }
 
 pub start-requires-in_default : goal.start-requires-in_default
 start-requires-in_default c =

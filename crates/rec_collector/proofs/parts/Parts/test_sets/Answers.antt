@@ -2,22 +2,13 @@ use Rattle.std.proofs.Common.{◌<◌, length, ap, arith, refl, sym, subst, ◌�
 use Rattle.rec_counts.specs.Counts.{IsKept as IsKeptCounts}
 use Rattle.rec_collector.specs.Parts.{Parts}
 use Rattle.rec_collector.proofs.Goings.{last_sets}
-use Rattle.rec_collector.proofs.UnderTest.{last_under_test, tests_end, tests_stop}
+use Rattle.rec_collector.proofs.Answering.{last_under_test, tests_end, tests_stop}
 use Rattle.rec_collector.proofs.parts.Parts.test_sets.Goals as goal
 
 pub loop-self-init : goal.loop-self-init
 loop-self-init c =
     let counts : IsKeptCounts c.args.self.now.counts = subst (λ (w : Parts). IsKeptCounts w.counts) c.self.view_is c.rules.ensures in
     record { stays = record { wide = c.requires.wide; counts = counts; clearing = c.requires.clearing; done = c.requires.done }; told = c.requires.told; same = refl }
-
-pub test_last-requires-clause-clearing : goal.test_last-requires-clause-clearing
-test_last-requires-clause-clearing c = c.loop-self.invariant.clearing
-
-pub test_last-requires-clause-done : goal.test_last-requires-clause-done
-test_last-requires-clause-done c = c.loop-self.invariant.done
-
-pub test_last-requires-clause-told : goal.test_last-requires-clause-told
-test_last-requires-clause-told c = c.loop-self.invariant.told
 
 pub loop-self-smaller : goal.loop-self-smaller
 loop-self-smaller c =

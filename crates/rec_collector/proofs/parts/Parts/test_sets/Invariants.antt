@@ -1,5 +1,5 @@
 use Rattle.std.proofs.Common.{length}
-use Rattle.rec_collector.proofs.UnderTest.{IsUnderTest}
+use Rattle.rec_collector.proofs.Answering.{IsUnderTest}
 use Rattle.rec_collector.proofs.parts.Parts.test_sets.Given as goal
 
 abbrev pub invariant-loop-self : goal.invariant-loop-self

@@ -4,10 +4,9 @@ use Rattle.rec_release.specs.CycleFree as frees
 use Rattle.rec_collector.specs.Followed.{relieved, with_freed}
 use Rattle.rec_collector.specs.Parts.{Parts}
 use Rattle.rec_collector.specs.Testing.{with_freeing}
-use Rattle.rec_collector.proofs.Answering.{freeing_next}
+use Rattle.rec_collector.proofs.Answering.{freeing_next, MayFollow, stays_follow}
 use Rattle.rec_collector.proofs.Clearing.{relieved_stays}
 use Rattle.rec_collector.proofs.Counting.{relieved_told}
-use Rattle.rec_collector.proofs.UnderTest.{MayFollow, stays_follow}
 use Rattle.rec_collector.proofs.parts.Parts.took_freeing.Goals as goal
 
 pub took-requires-clause-busy : goal.took-requires-clause-busy

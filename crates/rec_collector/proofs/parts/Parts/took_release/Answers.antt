@@ -4,10 +4,9 @@ use Rattle.rec_release.specs.Release as releases
 use Rattle.rec_collector.specs.Followed.{with_released}
 use Rattle.rec_collector.specs.Parts.{Parts}
 use Rattle.rec_collector.specs.Testing.{with_release}
-use Rattle.rec_collector.proofs.Answering.{release_next}
+use Rattle.rec_collector.proofs.Answering.{release_next, MayFollow, stays_follow}
 use Rattle.rec_collector.proofs.Clearing.{released_stays}
 use Rattle.rec_collector.proofs.Counting.{released_told}
-use Rattle.rec_collector.proofs.UnderTest.{MayFollow, stays_follow}
 use Rattle.rec_collector.proofs.parts.Parts.took_release.Goals as goal
 
 pub took-requires-clause-busy : goal.took-requires-clause-busy
