@@ -19,7 +19,7 @@ use Rattle.rec_sigma.specs.declared.fate.Fate.{Fate}
 use Rattle.rec_sigma.specs.declared.fate.Fate.TheVariants.{Free, Zero, Root, Plain}
 use Rattle.rec_sigma.specs.Refurbish.{coloured, fate_at, fate_of, fate_if, is_root, is_free, is_zero, is_rooted, IsRefusable, LastRefurbished, Refurbished}
 use Rattle.rec_sigma.specs.Settling.{refurbished_of, settled, settled_all}
-use Rattle.rec_sigma.proofs.Members.{each_once}
+use Rattle.rec_counts.proofs.Keeping.{each_once}
 
 -- what one place more does
 settled_other : (f : Fate) (s : State) (x y : ℕ) → y ≢ x → slot_at (settled f s x) y ≡ slot_at s y

@@ -5,7 +5,7 @@ use Rattle.rec_counts.specs.Lists.{times}
 use Rattle.rec_counts.proofs.Times.{one-le, times-nil}
 use Rattle.rec_sigma.specs.Refurbish.{fate_at, fate_of, LastRefurbished, Refurbished}
 use Rattle.rec_sigma.specs.Settling.{settled}
-use Rattle.rec_sigma.proofs.Members.{each_once}
+use Rattle.rec_counts.proofs.Keeping.{each_once}
 use Rattle.rec_sigma.proofs.Refused.{released_after, zeros_after}
 use Rattle.rec_sigma.proofs.Renewals.{due, ends, ends_settled, free_unlisted, goes_on, zero_unlisted, Goes, IsDue}
 use Rattle.rec_sigma.proofs.renewal.refurbish.Goals as goal
