@@ -6,7 +6,7 @@ use Rattle.rec_sigma.proofs.renewal.refurbish.Given as goal
 
 abbrev pub invariant-loop-slot : goal.invariant-loop-slot
 invariant-loop-slot l = record {
-  waiting : IsWaiting l.counts l.counts.work;
+  waiting : IsWaiting (record l.counts { work = [] }) l.counts.work;
   going : settled_all l.first l.counts.work (record l.counts { work = [] }) ≡ settled_all l.first (last_set l.fn.counts.sets) (dropped l.fn.counts);
 }
 
