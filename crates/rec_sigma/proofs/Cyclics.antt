@@ -1,5 +1,6 @@
 -- What a begun set and a loaded word do to the cyclic counts.
 use Rattle.std.proofs.Common.{◌≡◌, ◌≢◌, ℕ, ◌+◌, ◌-◌, ◌<◌, Bool, true, false, eqb, cond, ◌&&◌, Option, Some, None, List, [], ◌∷◌, ◌++◌, length, get_or, refl, arith, sym, ◌∙◌, ap, inl, inr}
+use Rattle.std.proofs.Math.ListN.{set}
 use Rattle.std.proofs.lemmas.List.{length-set, length-map, get_or_past}
 use Rattle.std.proofs.lemmas.List.Sums.{sum_by_push}
 use Rattle.std.proofs.lemmas.Bool.{cases_lt, false≢true, eqb-true, ne_eqb, eq-eqb}
@@ -60,8 +61,12 @@ pub renewed_twice : (b : Bool) (v : Slot) → renewed_if true (renewed_if b v) �
 renewed_twice true v = refl
 renewed_twice false v = refl
 
+-- of each slot no more than its cyclic count changes
+slots_others : (s : State) (slots : List Slot) → ((x : ℕ) → get_or slots x absent ≡ record (slot_at s x) { cyclic = (get_or slots x absent).cyclic }) → length slots ≡ length s.slots → KeepsOthers s (record s { slots = slots })
+slots_others s slots e l = record { slots = e; many = l; roots = refl; sets = refl; marked = refl; work = refl; zeros = refl; free = refl }
+
 pub others_same : (s : State) → KeepsOthers s s
-others_same s = record { slots = λ x. refl; many = refl; roots = refl; sets = refl; marked = refl; work = refl; zeros = refl; free = refl }
+others_same s = slots_others s s.slots (λ x. refl) refl
 
 pub others_on : {s t u : State} → KeepsOthers s t → KeepsOthers t u → KeepsOthers s u
 others_on {s = s} {t = t} {u = u} k l = record {
@@ -84,16 +89,7 @@ off_others number s (Some y) = go (is_in number (slot_at s y).set)
     go false = others_same s
     go true =
         let v : Slot = record (slot_at s y) { cyclic = (slot_at s y).cyclic - 1 } in
-        record {
-          slots = λ x. ap (λ (w : Slot). record w { cyclic = (slot_at (with_slot s y v) x).cyclic }) (field_kept (λ (w : Slot). record w { cyclic = 0 }) s.slots y v refl x);
-          many = length-set s.slots y v;
-          roots = refl;
-          sets = refl;
-          marked = refl;
-          work = refl;
-          zeros = refl;
-          free = refl;
-        }
+        slots_others s (set s.slots y v) (λ x. ap (λ (w : Slot). record w { cyclic = (slot_at (with_slot s y v) x).cyclic }) (field_kept (λ (w : Slot). record w { cyclic = 0 }) s.slots y v refl x)) (length-set s.slots y v)
 
 -- it takes one off the slot that it leads to, where that is in the set
 pub off_cyclic : (number : ℕ) (s : State) (t : Option ℕ) (x : ℕ) → (slot_at (taken_off number s t) x).cyclic ≡ (slot_at s x).cyclic - one (is_slot x t && is_in number (slot_at s x).set)
@@ -112,19 +108,13 @@ off_cyclic number s (Some y) x = go (is_in number (slot_at s y).set) refl
 
 -- a set that was begun
 pub renewed_others : (s : State) (number : ℕ) → KeepsOthers s (renewed s number)
-renewed_others s number = record {
-  slots = λ x.
-      let b : Bool = is_in number (slot_at s x).set in
-      let e : slot_at (renewed s number) x ≡ renewed_if b (slot_at s x) = renewed_slot s number x in
-      e ∙ renewed_rest b (slot_at s x) ∙ ap (λ c. record (slot_at s x) { cyclic = c }) (ap (λ (v : Slot). v.cyclic) (sym e));
-  many = length-map s.slots (λ (v : Slot). renewed_if (is_in number v.set) v);
-  roots = refl;
-  sets = refl;
-  marked = refl;
-  work = refl;
-  zeros = refl;
-  free = refl;
-}
+renewed_others s number =
+    slots_others s (renewed s number).slots
+    (λ x.
+    let b : Bool = is_in number (slot_at s x).set in
+    let e : slot_at (renewed s number) x ≡ renewed_if b (slot_at s x) = renewed_slot s number x in
+    e ∙ renewed_rest b (slot_at s x) ∙ ap (λ c. record (slot_at s x) { cyclic = c }) (ap (λ (v : Slot). v.cyclic) (sym e)))
+    (length-map s.slots (λ (v : Slot). renewed_if (is_in number v.set) v))
 
 pub seen-nil : (s : State) (number x : ℕ) → seen s number [] x ≡ 0
 unfolding seen

@@ -34,19 +34,19 @@ released_kept : (f : Fate) (v : Slot) → (refurbished f v).released ≡ v.relea
 released_kept Free v = refl
 released_kept _ v = refl
 
--- no true count changes
-pub same_count : {s : State} {ms : List ℕ} {first : Option ℕ} {t : State} → Refurbished s ms first t → (x : ℕ) → (slot_at t x).count ≡ (slot_at s x).count
-same_count {s = s} {ms = ms} {first = first} r x = elim (cases_lt 0 (times x ms)) [
-  | inl l ↦ ap (λ (v : Slot). v.count) (r.inside x l) ∙ count_kept (fate_at s first x) (slot_at s x)
-  | inr l ↦ ap (λ (v : Slot). v.count) (r.others x (omega (arith, l)))
+-- what no fate changes stays
+same_field : {A : Type 0} (f : Slot → A) → ((g : Fate) (v : Slot) → f (refurbished g v) ≡ f v) → {s : State} {ms : List ℕ} {first : Option ℕ} {t : State} → Refurbished s ms first t → (x : ℕ) → f (slot_at t x) ≡ f (slot_at s x)
+same_field f h {s = s} {ms = ms} {first = first} r x = elim (cases_lt 0 (times x ms)) [
+  | inl l ↦ ap f (r.inside x l) ∙ h (fate_at s first x) (slot_at s x)
+  | inr l ↦ ap f (r.others x (omega (arith, l)))
 ]
 
--- no slot is released, or stops being so
+-- no true count changes, and no slot is released, or stops being so
+pub same_count : {s : State} {ms : List ℕ} {first : Option ℕ} {t : State} → Refurbished s ms first t → (x : ℕ) → (slot_at t x).count ≡ (slot_at s x).count
+same_count r x = same_field (λ (v : Slot). v.count) count_kept r x
+
 pub same_released : {s : State} {ms : List ℕ} {first : Option ℕ} {t : State} → Refurbished s ms first t → (x : ℕ) → (slot_at t x).released ≡ (slot_at s x).released
-same_released {s = s} {ms = ms} {first = first} r x = elim (cases_lt 0 (times x ms)) [
-  | inl l ↦ ap (λ (v : Slot). v.released) (r.inside x l) ∙ released_kept (fate_at s first x) (slot_at s x)
-  | inr l ↦ ap (λ (v : Slot). v.released) (r.others x (omega (arith, l)))
-]
+same_released r x = same_field (λ (v : Slot). v.released) released_kept r x
 
 -- the free list has released slots alone
 pub released_after : (s : State) (ms : List ℕ) (first : Option ℕ) (t : State) → Refurbished s ms first t → AreReleased s → AreReleased t

@@ -52,10 +52,6 @@ next_set_is s number fields f = go (first_of number (drop number s.sets)) (first
     go None h = h
     go (Some a) h = record { field = h.field; held = held_still s (begun_at s (Some a)) a refl h.held }
 
--- the same preparation, with its parts told otherwise
-retold : {fields : ℕ} {before : State} {begun begun' : ℕ} {left left' : List ℕ} {after : State} {loads : List Load} → begun' ≡ begun → left' ≡ left → Prepared fields before begun left after loads → Prepared fields before begun' left' after loads
-retold {fields = fields} {before = before} {begun = begun} {left' = left'} {after = after} {loads = loads} e f p = subst (λ n. Prepared fields before n left' after loads) (sym e) (subst (λ xs. Prepared fields before begun xs after loads) (sym f) p)
-
 -- the set of a slot stays
 set_kept : {fields : ℕ} {before : State} {begun : ℕ} {left : List ℕ} {after : State} {loads : List Load} → Prepared fields before begun left after loads → (x : ℕ) → (slot_at after x).set ≡ (slot_at before x).set
 set_kept p x = ap (λ (v : Slot). v.set) (p.others.slots x)
@@ -136,13 +132,13 @@ first_on : (rest : List (List ℕ)) (fields : ℕ) (before : State) (n : ℕ) (a
     PreparedTo fields before (first_of n rest) (begun_at after (first_of n rest)) loads
 first_on [] fields before n after loads k e l p =
     let q : length before.sets ≡ n = omega (arith, l, ap length e, length-drop n before.sets) in
-    retold q refl p
+    rw q p
 first_on ([] ∷ rest) fields before n after loads k e l p =
     let b : Behind before.sets n [] [] rest = item_behind before.sets n [] [] rest e in
     first_on rest fields before (n + 1) after loads k b.rest (omega (arith, b.in_range)) (skipped_on fields before n (places_of fields (concat rest)) after loads k b.item p)
 first_on ((x ∷ xs) ∷ rest) fields before n after loads k e l p =
     let b : Behind before.sets n [] (x ∷ xs) rest = item_behind before.sets n [] (x ∷ xs) rest e in
-    retold refl (ap (λ ys. (places_from fields x 0 ++ places_of fields (drop 1 ys)) ++ places_of fields (concat (drop (n + 1) before.sets))) b.item ∙ ap (λ yss. places_of fields (x ∷ xs) ++ places_of fields (concat yss)) b.rest ∙ sym (flat_map-append (λ slot. places_from fields slot 0) (x ∷ xs) (concat rest))) (begun_on fields before n (places_of fields (concat ((x ∷ xs) ∷ rest))) after loads p)
+    rw (ap (λ ys. (places_from fields x 0 ++ places_of fields (drop 1 ys)) ++ places_of fields (concat (drop (n + 1) before.sets))) b.item ∙ ap (λ yss. places_of fields (x ∷ xs) ++ places_of fields (concat yss)) b.rest ∙ sym (flat_map-append (λ slot. places_from fields slot 0) (x ∷ xs) (concat rest))) (begun_on fields before n (places_of fields (concat ((x ∷ xs) ∷ rest))) after loads p)
 
 -- the next set that has a member is begun
 next_set_on : (fields : ℕ) (before : State) (n : ℕ) (after : State) (loads : List Load) → Tells before → n ≤ length before.sets → Prepared fields before n (places_of fields (concat (drop n before.sets))) after loads →
@@ -210,7 +206,7 @@ came_more fields before a after loads word k f h p =
     let b : IsHeld before a = held_still after before a (sym p.others.sets) h in
     let now : State = taken_off a.set after (target_of word) in
     let q : Prepared fields before (a.set + 1) (places_left fields ms (behind fields ms a.member) ++ rest) now (loads ++ loaded_at (Some a) word) =
-    loaded_on fields before a.set a.member.slot a.member.field (places_left fields ms (behind fields ms a.member) ++ rest) after loads word (held_set before a k b) (retold refl (ap (λ ps. ps ++ rest) (sym (behind_left fields ms a.member f))) p) in
+    loaded_on fields before a.set a.member.slot a.member.field (places_left fields ms (behind fields ms a.member) ++ rest) after loads word (held_set before a k b) (subst (λ ps. Prepared fields before (a.set + 1) (ps ++ rest) after loads) (behind_left fields ms a.member f) p) in
     record {
       fields_kept = refl;
       work = gone_is fields now a f (held_off after a (target_of word) h);
