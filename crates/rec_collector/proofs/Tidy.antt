@@ -30,7 +30,7 @@ use Rattle.rec_release.proofs.TakenOff.{off_most, KeepsMost}
 use Rattle.rec_sigma.specs.declared.fate.Fate.{Fate}
 use Rattle.rec_sigma.specs.declared.fate.Fate.TheVariants as fates
 use Rattle.rec_sigma.specs.Refurbish.{fate_at, fate_if, is_free, is_root, is_zero, refurbished, IsRefusable, LastRefurbished}
-use Rattle.rec_sigma.proofs.Refused.{released_after, same_count, same_released}
+use Rattle.rec_sigma.proofs.Renewals.{released_after, same_count, same_released}
 use Rattle.rec_trial.proofs.Worked.{kept_by_all, lessened_colour}
 use Rattle.rec_collector.specs.Clearing.{AreHeld, AreListed, IsUntried}
 use Rattle.rec_collector.specs.Outside.{AreOutside}

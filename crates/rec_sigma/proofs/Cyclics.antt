@@ -53,7 +53,7 @@ pub renewed_slot : (s : State) (number x : ℕ) → slot_at (renewed s number) x
 renewed_slot s number x = map_at (λ (v : Slot). renewed_if (is_in number v.set) v) refl s.slots x
 
 -- nothing but the cyclic count changes there
-renewed_rest : (b : Bool) (v : Slot) → renewed_if b v ≡ record v { cyclic = (renewed_if b v).cyclic }
+renewed_rest : (b : Bool) (v : Slot) → record (renewed_if b v) { cyclic = 0 } ≡ record v { cyclic = 0 }
 renewed_rest true v = refl
 renewed_rest false v = refl
 
@@ -110,10 +110,7 @@ off_cyclic number s (Some y) x = go (is_in number (slot_at s y).set) refl
 pub renewed_others : (s : State) (number : ℕ) → KeepsOthers s (renewed s number)
 renewed_others s number =
     slots_others s (renewed s number).slots
-    (λ x.
-    let b : Bool = is_in number (slot_at s x).set in
-    let e : slot_at (renewed s number) x ≡ renewed_if b (slot_at s x) = renewed_slot s number x in
-    e ∙ renewed_rest b (slot_at s x) ∙ ap (λ c. record (slot_at s x) { cyclic = c }) (ap (λ (v : Slot). v.cyclic) (sym e)))
+    (λ x. ap (λ (w : Slot). record w { cyclic = (slot_at (renewed s number) x).cyclic }) (ap (λ (w : Slot). record w { cyclic = 0 }) (renewed_slot s number x) ∙ renewed_rest (is_in number (slot_at s x).set) (slot_at s x)))
     (length-map s.slots (λ (v : Slot). renewed_if (is_in number v.set) v))
 
 pub seen-nil : (s : State) (number x : ℕ) → seen s number [] x ≡ 0

@@ -1,7 +1,6 @@
 pub mod Bounds
 pub mod Cyclics
 pub mod Kept
-pub mod Refused
 pub mod Renewals
 pub mod Runs
 pub mod Sends

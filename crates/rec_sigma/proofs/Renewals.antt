@@ -1,22 +1,23 @@
--- The members of a refused set get their places.
+-- The members of a refused set get their places, and leave the lists ready for the next release.
 use Rattle.std.proofs.Common.{◌≡◌, ◌≢◌, ℕ, ◌-◌, ◌<◌, ◌≤◌, Bool, true, false, eqb, ltb, cond, Option, Some, None, List, [], ◌∷◌, ◌++◌, length, drop, slice_get, refl, arith, sym, ◌∙◌, ap, subst, inl, inr, append_assoc}
 use Rattle.std.specs.List.{filter}
 use Rattle.std.proofs.Math.ListN.{set}
 use Rattle.std.proofs.lemmas.List.{append-nil, length-set, length-map, set-get_or, get_or-set_same, get_or-set_other}
-use Rattle.std.proofs.lemmas.Bool.{eqb-true, ne_eqb}
+use Rattle.std.proofs.lemmas.Bool.{cases_lt, eqb-true, ne_eqb}
 use Rattle.std.proofs.lemmas.Bool.Decides.{eqb_tells}
 use Rattle.rec_word.specs.Word.{is_slot}
 use Rattle.rec_counts.specs.declared.slot.Slot.{Slot}
 use Rattle.rec_counts.specs.Counts.{State, IsKept, slot_at, without_last_set}
 use Rattle.rec_counts.specs.Groups.{last_set}
-use Rattle.rec_counts.specs.Lists.{one, times}
+use Rattle.rec_counts.specs.Lists.{one, times, EachOnce}
+use Rattle.rec_counts.specs.Rest.{AreZeros}
 use Rattle.rec_counts.specs.Slot.{absent, is_in, unbuffered, unbuffered_if, out_of_set}
 use Rattle.rec_counts.proofs.Times.{times-nil, times-cons, times-append, one-same, one-le, in_range_once, one-some, one-none}
 use Rattle.rec_counts.proofs.Front.{first_and_rest, first_in, nothing_first}
 use Rattle.rec_counts.proofs.Keeping.{last_once, map_at}
 use Rattle.rec_sigma.specs.declared.fate.Fate.{Fate}
 use Rattle.rec_sigma.specs.declared.fate.Fate.TheVariants.{Free, Zero, Root, Plain}
-use Rattle.rec_sigma.specs.Refurbish.{coloured, fate_at, fate_of, fate_if, is_root, is_free, is_zero, is_rooted, IsRefusable, LastRefurbished}
+use Rattle.rec_sigma.specs.Refurbish.{coloured, fate_at, fate_of, fate_if, is_root, is_free, is_zero, is_rooted, refurbished, AreReleased, IsRefusable, LastRefurbished, Refurbished}
 use Rattle.rec_sigma.specs.Settling.{refurbished_of, settled, settled_all}
 
 -- what one place more does
@@ -203,25 +204,29 @@ goes_on first s x f t e g h w =
     }
 
 -- what a fate says of the slot
-pub free_if : (released none root : Bool) → is_free (fate_if released none root) ≡ true → released ≡ true
+free_if : (released none root : Bool) → is_free (fate_if released none root) ≡ true → released ≡ true
 free_if true none root e = refl
 free_if false true root e = cc
 free_if false false true e = cc
 free_if false false false e = cc
 
-pub zero_if : (released none root : Bool) → is_zero (fate_if released none root) ≡ true → (released ≡ false) × (none ≡ true)
+zero_if : (released none root : Bool) → is_zero (fate_if released none root) ≡ true → (released ≡ false) × (none ≡ true)
 zero_if true none root e = cc
 zero_if false true root e = (refl, refl)
 zero_if false false true e = cc
 zero_if false false false e = cc
 
+free_says : (first : Bool) (v : Slot) → is_free (fate_of first v) ≡ true → v.released ≡ true
+free_says first v h = free_if v.released (eqb v.count 0) (is_root first v.colour) h
+
+zero_says : (first : Bool) (v : Slot) → is_zero (fate_of first v) ≡ true → (v.released ≡ false) × (v.count ≡ 0)
+zero_says first v h = let z = zero_if v.released (eqb v.count 0) (is_root first v.colour) h in (z.0, eqb-true v.count 0 z.1)
+
 pub free_unlisted : (s : State) (x : ℕ) (first : Bool) (f : Fate) → IsDue s x → f ≡ fate_of first (slot_at s x) → is_free f ≡ true → times x s.free ≡ 0
-free_unlisted s x first f d e h = d.free (free_if (slot_at s x).released (eqb (slot_at s x).count 0) (is_root first (slot_at s x).colour) (ap is_free (sym e) ∙ h))
+free_unlisted s x first f d e h = d.free (free_says first (slot_at s x) (ap is_free (sym e) ∙ h))
 
 pub zero_unlisted : (s : State) (x : ℕ) (first : Bool) (f : Fate) → IsDue s x → f ≡ fate_of first (slot_at s x) → is_zero f ≡ true → times x s.zeros ≡ 0
-zero_unlisted s x first f d e h =
-    let z = zero_if (slot_at s x).released (eqb (slot_at s x).count 0) (is_root first (slot_at s x).colour) (ap is_zero (sym e) ∙ h) in
-    d.zeros z.0 (eqb-true (slot_at s x).count 0 z.1)
+zero_unlisted s x first f d e h = let z = zero_says first (slot_at s x) (ap is_zero (sym e) ∙ h) in d.zeros z.0 z.1
 
 -- at the end nobody waits
 pub ends_settled : (first : Option ℕ) (s t : State) → slice_get (last_set s.sets) 0 ≡ first → slice_get t.work 0 ≡ None → settled_all first t.work (record t { work = [] }) ≡ settled_all first (last_set s.sets) (dropped s) → record t { work = drop 1 t.work } ≡ refurbished_of s
@@ -229,3 +234,58 @@ unfolding refurbished_of
 ends_settled first s t f e g =
     let n : t.work ≡ [] = nothing_first t.work e in
     ap {A = List ℕ} {B = State} (λ ws. record t { work = drop 1 ws }) n ∙ ap (λ ws. settled_all first ws (record t { work = [] })) (sym n) ∙ g ∙ ap (λ o. settled_all o (last_set s.sets) (dropped s)) (sym f)
+
+-- what a filter has passes the test
+kept_passes : (p : ℕ → Bool) (x : ℕ) (xs : List ℕ) → 0 < times x (filter p xs) → p x ≡ true
+kept_passes p x [] h = absurd (omega (arith, h, times-nil x))
+kept_passes p x (y ∷ ys) h = go (p y) refl h (kept_passes p x ys)
+  where
+    go : (b : Bool) → p y ≡ b → 0 < times x (cond b (y ∷ filter p ys) (filter p ys)) → (0 < times x (filter p ys) → p x ≡ true) → p x ≡ true
+    go false e t i = i t
+    go true e t i = elim (eqb_tells x y) [
+      | inl q ↦ ap p q.1 ∙ e
+      | inr q ↦ let n : one (eqb x y) ≡ 0 = ap one q.0 in i (omega (arith, t, n, times-cons x y (filter p ys)))
+    ]
+
+count_kept : (f : Fate) (v : Slot) → (refurbished f v).count ≡ v.count
+count_kept Free v = refl
+count_kept _ v = refl
+
+released_kept : (f : Fate) (v : Slot) → (refurbished f v).released ≡ v.released
+released_kept Free v = refl
+released_kept _ v = refl
+
+-- what no fate changes stays
+same_field : {A : Type 0} (f : Slot → A) → ((g : Fate) (v : Slot) → f (refurbished g v) ≡ f v) → {s : State} {ms : List ℕ} {first : Option ℕ} {t : State} → Refurbished s ms first t → (x : ℕ) → f (slot_at t x) ≡ f (slot_at s x)
+same_field f h {s = s} {ms = ms} {first = first} r x = elim (cases_lt 0 (times x ms)) [
+  | inl l ↦ ap f (r.inside x l) ∙ h (fate_at s first x) (slot_at s x)
+  | inr l ↦ ap f (r.others x (omega (arith, l)))
+]
+
+-- no true count changes, and no slot is released, or stops being so
+pub same_count : {s : State} {ms : List ℕ} {first : Option ℕ} {t : State} → Refurbished s ms first t → (x : ℕ) → (slot_at t x).count ≡ (slot_at s x).count
+same_count r x = same_field (λ (v : Slot). v.count) count_kept r x
+
+pub same_released : {s : State} {ms : List ℕ} {first : Option ℕ} {t : State} → Refurbished s ms first t → (x : ℕ) → (slot_at t x).released ≡ (slot_at s x).released
+same_released r x = same_field (λ (v : Slot). v.released) released_kept r x
+
+-- the free list has released slots alone
+pub released_after : (s : State) (ms : List ℕ) (first : Option ℕ) (t : State) → Refurbished s ms first t → AreReleased s → AreReleased t
+released_after s ms first t r a x h = same_released r x ∙ elim (cases_lt 0 (times x s.free)) [
+  | inl l ↦ a x l
+  | inr l ↦ free_says (is_slot x first) (slot_at s x) (kept_passes (λ y. is_free (fate_at s first y)) x ms (omega (arith, h, l, ap (times x) r.free, times-append x s.free (filter (λ y. is_free (fate_at s first y)) ms))))
+]
+
+-- the zeros are zeros
+pub zeros_after : (s : State) (ms : List ℕ) (first : Option ℕ) (t : State) → Refurbished s ms first t → EachOnce (length t.slots) t.zeros → AreZeros s → AreZeros t
+zeros_after s ms first t r o a =
+    let p : ℕ → Bool = λ y. is_zero (fate_at s first y) in
+    let was : (x : ℕ) → 0 < times x t.zeros → ((slot_at s x).released ≡ false) × ((slot_at s x).count ≡ 0) = λ x h. elim (cases_lt 0 (times x s.zeros)) [
+      | inl l ↦ (a.unreleased x l, a.none x l)
+      | inr l ↦ zero_says (is_slot x first) (slot_at s x) (kept_passes p x ms (omega (arith, h, l, ap (times x) r.zeros, times-append x s.zeros (filter p ms))))
+    ] in
+    record {
+      once = λ x. omega (arith, o x, one-le (ltb x (length t.slots)));
+      none = λ x h. same_count r x ∙ (was x h).1;
+      unreleased = λ x h. same_released r x ∙ (was x h).0;
+    }

@@ -4,8 +4,7 @@ use Rattle.rec_counts.specs.Groups.{last_set}
 use Rattle.rec_counts.proofs.Keeping.{last_new}
 use Rattle.rec_sigma.specs.Refurbish.{fate_at, fate_of, LastRefurbished}
 use Rattle.rec_sigma.specs.Settling.{refurbished_of, settled}
-use Rattle.rec_sigma.proofs.Refused.{released_after, zeros_after}
-use Rattle.rec_sigma.proofs.Renewals.{ends_settled, first_due, free_unlisted, goes_on, refurbished_last, zero_unlisted, Goes}
+use Rattle.rec_sigma.proofs.Renewals.{ends_settled, first_due, free_unlisted, goes_on, refurbished_last, released_after, zero_unlisted, zeros_after, Goes}
 use Rattle.rec_sigma.proofs.renewal.refurbish.Goals as goal
 
 pub drop_set-requires-clause-new : goal.drop_set-requires-clause-new
