@@ -1,5 +1,5 @@
 -- The freeing of a set goes on move by move: a reference is taken off, the next member is at work, all are listed.
-use Rattle.std.proofs.Common.{◌≡◌, ℕ, ◌+◌, ◌<◌, true, Option, Some, None, IfSome, List, [], ◌∷◌, ◌++◌, map, refl, arith, sym, ◌∙◌, ap, subst, inl, inr, append_assoc}
+use Rattle.std.proofs.Common.{◌≡◌, ℕ, ◌+◌, ◌<◌, true, Option, Some, None, List, [], ◌∷◌, ◌++◌, map, refl, arith, sym, ◌∙◌, ap, subst, inl, inr, append_assoc}
 use Rattle.std.proofs.lemmas.List.{append-nil, map-append}
 use Rattle.std.proofs.lemmas.Bool.{cases_lt}
 use Rattle.rec_word.specs.Place.{place_of}
@@ -9,16 +9,15 @@ use Rattle.rec_walk.specs.Load.{Load, loaded_at, place_loaded}
 use Rattle.rec_walk.specs.Walk.{behind, first_in, places_left, IsOf}
 use Rattle.rec_walk.proofs.Given.{given_by}
 use Rattle.rec_walk.proofs.Walks.{behind_left, behind_stands, first_left, Stands}
-use Rattle.rec_counts.specs.Counts.{State, slot_at, IsKept}
+use Rattle.rec_counts.specs.Counts.{State, IsKept}
 use Rattle.rec_counts.specs.Groups.{last_set}
 use Rattle.rec_counts.specs.Lists.{one, times}
 use Rattle.rec_counts.proofs.Times.{times-append, times-nil}
-use Rattle.rec_release.specs.CycleFree.{given_up, gone_on, listed, listed_behind, work_of, started_of, took_of, Next, Work, IsAtWork, IsFreeable}
+use Rattle.rec_release.specs.CycleFree.{given_up, gone_on, listed, listed_behind, work_of, started_of, took_of, Work, IsAtWork, IsFreeable}
 use Rattle.rec_release.specs.Freed.{held_of, listed_of, Freed, FreedTo, HasFreed}
 use Rattle.rec_release.specs.Released.{leading}
 use Rattle.rec_release.proofs.Giving.{given_count, given_is_work, given_many, given_released, given_work}
 use Rattle.rec_release.specs.TakenOff.{taken_off}
-use Rattle.rec_release.proofs.Orange.{gone_keeps, Keeps}
 use Rattle.rec_release.proofs.TakenOff.{leading-nil, leading_push, off_count, off_most, ready_off, KeepsMost}
 
 -- a reference that came out of this field is taken off
@@ -106,7 +105,7 @@ off_work fields s t a w =
       ready = ready_off true s t w.ready;
     }
 
-gone_work : (fields : ℕ) (s : State) (a : Member) → IsAtWork (record { fields = fields; at = Some a }) s → IsAtWork (work_of fields (gone_on fields s a)).machine (gone_on fields s a).counts
+pub gone_work : (fields : ℕ) (s : State) (a : Member) → IsAtWork (record { fields = fields; at = Some a }) s → IsAtWork (work_of fields (gone_on fields s a)).machine (gone_on fields s a).counts
 gone_work fields s a w = go (behind fields s.work a) (behind_stands fields s.work a w.field w.held)
   where
     go : (at : Option Member) → Stands fields s.work at → IsAtWork (work_of fields (listed_behind s at)).machine (listed_behind s at).counts
@@ -126,7 +125,7 @@ gone_work fields s a w = go (behind fields s.work a) (behind_stands fields s.wor
     }
 
 -- one word more
-came_more : (fields : ℕ) (before : State) (a : Member) (after : State) (loads : List Load) (word : ℕ) → IsAtWork (record { fields = fields; at = Some a }) after → FreedTo fields before (Some a) after loads →
+pub came_more : (fields : ℕ) (before : State) (a : Member) (after : State) (loads : List Load) (word : ℕ) → IsAtWork (record { fields = fields; at = Some a }) after → FreedTo fields before (Some a) after loads →
     Came fields before (work_of fields (gone_on fields (taken_off true after (target_of word)) a)) (loads ++ loaded_at (Some a) word)
 came_more fields before a after loads word w r =
     let ms : List ℕ = last_set before.sets in
@@ -154,19 +153,6 @@ pub whole_freeing : (fields : ℕ) (before : State) (words : List ℕ) → 0 < f
 unfolding started_of
 whole_freeing fields before words l k f =
     (given_by took_of (λ (w : Work) word. loaded_at w.machine.at word) (Came fields before) (came_on fields before) words _ [] (came_first fields before l k f)).law
-
--- what a word leaves, as its call tells, with the field that comes next
-pub record Goes (fields : ℕ) (a : Member) (s : State) (word : ℕ) (n : Next) : Type 0 where
-  pub kept : IsAtWork (work_of fields n).machine n.counts
-  pub keeps : Keeps true s n.counts
-  pub whole : (before : State) (loads : List Load) → FreedTo fields before (Some a) s loads → FreedTo fields before n.at n.counts (loads ++ loaded_at (Some a) word)
-
-pub goes_on : (fields : ℕ) (a : Member) (s : State) (word : ℕ) → IsAtWork (record { fields = fields; at = Some a }) s → IfSome (target_of word) (λ x. 0 < (slot_at s x).count) → Goes fields a s word (gone_on fields (taken_off true s (target_of word)) a)
-goes_on fields a s word w h = record {
-  kept = gone_work fields (taken_off true s (target_of word)) a (off_work fields s (target_of word) a w);
-  keeps = gone_keeps fields s (target_of word) a h;
-  whole = λ before loads r. (came_more fields before a s loads word w r).law;
-}
 
 -- what is learnt, where a field is due
 pub took_some : (fields : ℕ) (a : Member) (s : State) (word : ℕ) → took_of (record { machine = record { fields = fields; at = Some a }; counts = s }) word ≡ work_of fields (gone_on fields (taken_off true s (target_of word)) a)

@@ -57,7 +57,7 @@ set_kept : {fields : ℕ} {before : State} {begun : ℕ} {left : List ℕ} {afte
 set_kept p x = ap (λ (v : Slot). v.set) (p.others.slots x)
 
 -- what tells afterwards told before
-told_before : {fields : ℕ} {before : State} {begun : ℕ} {left : List ℕ} {after : State} {loads : List Load} → Prepared fields before begun left after loads → Tells after → Tells before
+pub told_before : {fields : ℕ} {before : State} {begun : ℕ} {left : List ℕ} {after : State} {loads : List Load} → Prepared fields before begun left after loads → Tells after → Tells before
 told_before p k = λ number x. ap (λ sets. times x (get_or sets number [])) (sym p.others.sets) ∙ k number x ∙ ap (λ o. one (is_in number o)) (set_kept p x)
 
 none_taken : (b : Bool) → one (b && false) ≡ 0
@@ -163,11 +163,11 @@ prepared_none fields s = record {
 }
 
 -- a word that was loaded leaves the member at work where it stands
-held_off : (s : State) (a : At) (t : Option ℕ) → IsHeld s a → IsHeld (taken_off a.set s t) a
+pub held_off : (s : State) (a : At) (t : Option ℕ) → IsHeld s a → IsHeld (taken_off a.set s t) a
 held_off s a t h = held_still s (taken_off a.set s t) a (off_others a.set s t).sets h
 
 -- what comes behind it
-gone_is : (fields : ℕ) (s : State) (a : At) → a.member.field < fields → IsHeld s a → IsAtWork (work_of fields (gone_on fields s a)).machine (gone_on fields s a).counts
+pub gone_is : (fields : ℕ) (s : State) (a : At) → a.member.field < fields → IsHeld s a → IsAtWork (work_of fields (gone_on fields s a)).machine (gone_on fields s a).counts
 gone_is fields s a f h = go (behind fields (members_of s a.set) a.member) (behind_stands fields (members_of s a.set) a.member f h.member)
   where
     go : (at : Option Member) → Stands fields (members_of s a.set) at → IsAtWork (work_of fields (begun_behind s a.set at)).machine (begun_behind s a.set at).counts
@@ -198,7 +198,7 @@ came_first fields before f k = record {
 }
 
 -- one word more, with this field due
-came_more : (fields : ℕ) (before : State) (a : At) (after : State) (loads : List Load) (word : ℕ) → Tells before → a.member.field < fields → IsHeld after a → PreparedTo fields before (Some a) after loads →
+pub came_more : (fields : ℕ) (before : State) (a : At) (after : State) (loads : List Load) (word : ℕ) → Tells before → a.member.field < fields → IsHeld after a → PreparedTo fields before (Some a) after loads →
     Came fields before (work_of fields (gone_on fields (taken_off a.set after (target_of word)) a)) (loads ++ loaded_at (Some a) word)
 came_more fields before a after loads word k f h p =
     let ms : List ℕ = members_of before a.set in
@@ -252,16 +252,3 @@ pub more_others : (fields : ℕ) (a : At) (s : State) (word : ℕ) → KeepsOthe
 more_others fields a s word =
     let off : State = taken_off a.set s (target_of word) in
     others_on (off_others a.set s (target_of word)) (behind_others (behind fields (members_of off a.set) a.member) off a.set)
-
--- what a word leaves, as its call tells
-pub record Goes (fields : ℕ) (a : At) (s : State) (word : ℕ) (n : Next) : Type 0 where
-  pub kept : IsAtWork (work_of fields n).machine n.counts
-  pub others : KeepsOthers s n.counts
-  pub whole : (before : State) (loads : List Load) → PreparedTo fields before (Some a) s loads → PreparedTo fields before n.at n.counts (loads ++ loaded_at (Some a) word)
-
-pub goes_on : (fields : ℕ) (a : At) (s : State) (word : ℕ) → Tells s → IsAtWork (record { fields = fields; at = Some a }) s → Goes fields a s word (gone_on fields (taken_off a.set s (target_of word)) a)
-goes_on fields a s word k w = record {
-  kept = gone_is fields (taken_off a.set s (target_of word)) a w.field (held_off s a (target_of word) w.held);
-  others = more_others fields a s word;
-  whole = λ before loads p. (came_more fields before a s loads word (told_before p k) w.field w.held p).law;
-}
