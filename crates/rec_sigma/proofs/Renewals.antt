@@ -185,13 +185,13 @@ refurbished_last s k r =
 pub first_due : (s t : State) (x : ℕ) → t ≡ record s { work = drop 1 s.work } → slice_get s.work 0 ≡ Some x → IsWaiting (record s { work = [] }) s.work → IsDue t x
 first_due s t x e f w = let d : IsDue (record s { work = [] }) x = w.due x (first_in s.work x f) in rw e (record { in_range = d.in_range; unbuffered = d.unbuffered; free = d.free; zeros = d.zeros })
 
--- once the first of the work list got its place, the others wait, and come to the same
-pub record Goes (first : Option ℕ) (s t : State) : Type 0 where
-  pub going : settled_all first t.work (record t { work = [] }) ≡ settled_all first s.work (record s { work = [] })
-  pub waiting : IsWaiting (record t { work = [] }) t.work
+-- once the first of the work list got its place, the others wait, and come to what all members of the last set come to
+pub record Waits (first : Option ℕ) (before s : State) : Type 0 where
+  pub waiting : IsWaiting (record s { work = [] }) s.work
+  pub going : settled_all first s.work (record s { work = [] }) ≡ settled_all first (last_set before.sets) (dropped before)
 
-pub goes_on : (first : Option ℕ) (s : State) (x : ℕ) (f : Fate) (t : State) → slice_get s.work 0 ≡ Some x → f ≡ fate_at s first x → t ≡ settled f (record s { work = drop 1 s.work }) x → IsWaiting (record s { work = [] }) s.work → Goes first s t
-goes_on first s x f t e g h w =
+pub goes_on : (first : Option ℕ) (before s : State) (x : ℕ) (f : Fate) (t : State) → slice_get s.work 0 ≡ Some x → f ≡ fate_at s first x → t ≡ settled f (record s { work = drop 1 s.work }) x → Waits first before s → Waits first before t
+goes_on first before s x f t e g h w =
     let xs : List ℕ = drop 1 s.work in
     let p : State = record s { work = xs } in
     let q : s.work ≡ x ∷ xs = first_and_rest s.work x e in
@@ -199,8 +199,8 @@ goes_on first s x f t e g h w =
     let is : record t { work = [] } ≡ settled (fate_at s first x) (record s { work = [] }) x =
     ap (λ (u : State). record u { work = [] }) h ∙ sym (settled_idle f p x) ∙ ap (λ (k : Fate). settled k (record s { work = [] }) x) g in
     record {
-      going = ap (λ ys. settled_all first ys (record t { work = [] })) ws ∙ ap (settled_all first xs) is ∙ ap (λ ys. settled_all first ys (record s { work = [] })) (sym q);
-      waiting = subst (IsWaiting (record t { work = [] })) (sym ws) (subst (λ u. IsWaiting u xs) (sym is) (waiting_rest (fate_at s first x) (record s { work = [] }) x xs (subst (IsWaiting (record s { work = [] })) q w)));
+      going = ap (λ ys. settled_all first ys (record t { work = [] })) ws ∙ ap (settled_all first xs) is ∙ ap (λ ys. settled_all first ys (record s { work = [] })) (sym q) ∙ w.going;
+      waiting = subst (IsWaiting (record t { work = [] })) (sym ws) (subst (λ u. IsWaiting u xs) (sym is) (waiting_rest (fate_at s first x) (record s { work = [] }) x xs (subst (IsWaiting (record s { work = [] })) q w.waiting)));
     }
 
 -- what a fate says of the slot

@@ -4,7 +4,7 @@ use Rattle.rec_counts.specs.Groups.{last_set}
 use Rattle.rec_counts.proofs.Keeping.{last_new}
 use Rattle.rec_sigma.specs.Refurbish.{fate_at, fate_of, LastRefurbished}
 use Rattle.rec_sigma.specs.Settling.{refurbished_of, settled}
-use Rattle.rec_sigma.proofs.Renewals.{ends_settled, first_due, free_unlisted, goes_on, refurbished_last, released_after, zero_unlisted, zeros_after, Goes}
+use Rattle.rec_sigma.proofs.Renewals.{ends_settled, first_due, free_unlisted, goes_on, refurbished_last, released_after, zero_unlisted, zeros_after}
 use Rattle.rec_sigma.proofs.renewal.refurbish.Goals as goal
 
 pub drop_set-requires-clause-new : goal.drop_set-requires-clause-new
@@ -31,8 +31,7 @@ loop-slot-preserved c =
     let e : c.fate_of_member-fate.result ≡ fate_at s first x =
     c.fate_of_member-fate.ensures ∙ ap (λ (u : State). fate_of c.is_the.result (slot_at u x)) c.pop_work.ensures.rest ∙ ap (λ b. fate_of b (slot_at s x)) c.is_the.ensures in
     let h : c.settle.new.counts ≡ settled c.fate_of_member-fate.result (record s { work = drop 1 s.work }) x = c.settle.ensures ∙ ap (λ (u : State). settled c.fate_of_member-fate.result u x) c.pop_work.ensures.rest in
-    let g : Goes first s c.settle.new.counts = goes_on first s x c.fate_of_member-fate.result c.settle.new.counts (sym c.pop_work.ensures.first ∙ c.in-Some.is) e h c.loop-slot.invariant.waiting in
-    record { waiting = g.waiting; going = g.going ∙ c.loop-slot.invariant.going }
+    goes_on first c.args.counts.now s x c.fate_of_member-fate.result c.settle.new.counts (sym c.pop_work.ensures.first ∙ c.in-Some.is) e h c.loop-slot.invariant
 
 pub returns : goal.returns
 returns c =
