@@ -11,6 +11,7 @@ use Rattle.rec_apply.specs.Targets.{named}
 use Rattle.rec_apply.specs.Batch.{CanChange, CanFall, counted_down, all_counted, all_down}
 use Rattle.rec_apply.specs.declared.way.Way.TheVariants.{Down}
 use Rattle.rec_apply.proofs.Naming.{named-nil, named-cons, named-append}
+use Rattle.rec_apply.proofs.Resting.{all_keep}
 
 -- the first of them names a slot that is counted, and not in the zeros
 pub fall_first : (s : State) (t : Option ℕ) (ts : List (Option ℕ)) → CanFall s (t ∷ ts) → IfSome t (λ x. 0 < (slot_at s x).count) × IfSome t (λ x. times x s.zeros ≡ 0)
@@ -47,9 +48,7 @@ fall_all s (t ∷ ts) k y =
     omega (arith, fall_all (counted_down s t) ts (fall_rest s t ts k) y, fall_count s t y (fall_first s t ts k).0, named-cons y t ts)
 
 pub fall_zeros_all : (s : State) (ts : List (Option ℕ)) → AreZeros s → AreZeros (all_down s ts)
-unfolding all_counted
-fall_zeros_all s [] k = k
-fall_zeros_all s (t ∷ ts) k = fall_zeros_all (counted_down s t) ts (fall_zeros s t k)
+fall_zeros_all s ts k = all_keep Down AreZeros fall_zeros s ts k
 
 pub fall_left : (s : State) (ts us : List (Option ℕ)) → CanFall s (ts ++ us) → CanFall s ts
 fall_left s ts us k = record {

@@ -8,17 +8,14 @@ use Rattle.rec_counts.specs.Slot.{raised}
 use Rattle.rec_counts.proofs.Decrementing.{decremented_kept}
 use Rattle.rec_counts.proofs.Keeping.{keep_slot}
 use Rattle.rec_apply.specs.Batch.{CanFall, all_counted, all_down, all_up, batch, counted_down, counted_up, down_targets, up_targets}
+use Rattle.rec_apply.specs.declared.way.Way.TheVariants.{Up}
 use Rattle.rec_apply.proofs.Falling.{fall_first, fall_right}
+use Rattle.rec_apply.proofs.Resting.{all_keep}
 
 -- increments and decrements one after another
 up_kept : (s : State) (t : Option ℕ) → IsKept s → IsKept (counted_up s t)
 up_kept s None k = k
 up_kept s (Some x) k = keep_slot k x (raised (slot_at s x)) refl refl
-
-all_up_kept : (s : State) (ts : List (Option ℕ)) → IsKept s → IsKept (all_up s ts)
-unfolding all_counted
-all_up_kept s [] k = k
-all_up_kept s (t ∷ ts) k = all_up_kept (counted_up s t) ts (up_kept s t k)
 
 down_kept : (s : State) (t : Option ℕ) → IfSome t (λ x. 0 < (slot_at s x).count) → AreZeros s → IsKept s → IsKept (counted_down s t)
 down_kept s None h z k = k
@@ -31,4 +28,4 @@ all_down_kept s (t ∷ ts) c k = all_down_kept (counted_down s t) ts (fall_right
 
 -- a batch
 pub batch_kept : (s : State) (newer older : List Contents) → CanFall (all_up s (flat_map up_targets newer)) (flat_map down_targets older) → IsKept s → IsKept (batch s newer older)
-batch_kept s newer older c k = all_down_kept (all_up s (flat_map up_targets newer)) (flat_map down_targets older) c (all_up_kept s (flat_map up_targets newer) k)
+batch_kept s newer older c k = all_down_kept (all_up s (flat_map up_targets newer)) (flat_map down_targets older) c (all_keep Up IsKept up_kept s (flat_map up_targets newer) k)

@@ -1,6 +1,6 @@
 -- Increments one after another: the count of each slot rises by as often as they name it.
 use Rattle.std.proofs.Common.{◌≡◌, ℕ, ◌+◌, eqb, Option, None, Some, IfSome, List, [], ◌∷◌, ◌++◌, length, refl, arith, ◌∙◌, ap, inl, inr}
-use Rattle.std.proofs.lemmas.List.{length-set, get_or-set_same, get_or-set_other}
+use Rattle.std.proofs.lemmas.List.{get_or-set_same, get_or-set_other}
 use Rattle.std.proofs.lemmas.Bool.{cases_lt}
 use Rattle.std.proofs.lemmas.Bool.Decides.{eqb_tells}
 use Rattle.rec_word.specs.Word.{is_slot}
@@ -13,6 +13,7 @@ use Rattle.rec_apply.specs.Targets.{named}
 use Rattle.rec_apply.specs.Batch.{CanChange, CanRise, counted_up, all_counted, all_up}
 use Rattle.rec_apply.specs.declared.way.Way.TheVariants.{Up}
 use Rattle.rec_apply.proofs.Naming.{named-nil, named-cons, named-append}
+use Rattle.rec_apply.proofs.Resting.{all_keep, rest_all_up, rest_up}
 
 -- the first of them names a slot that is there, and its count fits
 pub rise_first : (s : State) (t : Option ℕ) (ts : List (Option ℕ)) → CanRise s (t ∷ ts) → IfSome t (λ x. CanChange Up s x)
@@ -34,14 +35,10 @@ rise_count s (Some x) y l =
           omega (arith, e, n)
     ]
 
-up_length : (s : State) (t : Option ℕ) → length (counted_up s t).slots ≡ length s.slots
-up_length s None = refl
-up_length s (Some x) = length-set s.slots x (raised (slot_at s x))
-
 -- after the first, the others still can
 rise_rest : (s : State) (t : Option ℕ) (ts : List (Option ℕ)) → CanRise s (t ∷ ts) → CanRise (counted_up s t) ts
 rise_rest s t ts k = record {
-  in_range = λ x l. omega (arith, k.in_range x (omega (arith, up_length s t, l)), named-cons x t ts);
+  in_range = λ x l. omega (arith, k.in_range x (omega (arith, (rest_up s t).slots, l)), named-cons x t ts);
   fits = λ x. omega (arith, k.fits x, named-cons x t ts, rise_count s t x (rise_first s t ts k));
 }
 
@@ -52,20 +49,13 @@ rise_all s [] k y = omega (arith, named-nil y)
 rise_all s (t ∷ ts) k y =
     omega (arith, rise_all (counted_up s t) ts (rise_rest s t ts k) y, rise_count s t y (rise_first s t ts k), named-cons y t ts)
 
-up_length_all : (s : State) (ts : List (Option ℕ)) → length (all_up s ts).slots ≡ length s.slots
-unfolding all_counted
-up_length_all s [] = refl
-up_length_all s (t ∷ ts) = up_length_all (counted_up s t) ts ∙ up_length s t
-
 up_zeros : (s : State) (t : Option ℕ) → (counted_up s t).zeros ≡ s.zeros
 up_zeros s None = refl
 up_zeros s (Some x) = refl
 
 -- increments leave the zeros
 pub up_zeros_all : (s : State) (ts : List (Option ℕ)) → (all_up s ts).zeros ≡ s.zeros
-unfolding all_counted
-up_zeros_all s [] = refl
-up_zeros_all s (t ∷ ts) = up_zeros_all (counted_up s t) ts ∙ up_zeros s t
+up_zeros_all s ts = all_keep Up (λ u. u.zeros ≡ s.zeros) (λ u t e. up_zeros u t ∙ e) s ts refl
 
 pub rise_left : (s : State) (ts us : List (Option ℕ)) → CanRise s (ts ++ us) → CanRise s ts
 rise_left s ts us k = record {
@@ -75,6 +65,6 @@ rise_left s ts us k = record {
 
 pub rise_right : (s : State) (ts us : List (Option ℕ)) → CanRise s (ts ++ us) → CanRise (all_up s ts) us
 rise_right s ts us k = record {
-  in_range = λ x l. omega (arith, k.in_range x (omega (arith, up_length_all s ts, l)), named-append x ts us);
+  in_range = λ x l. omega (arith, k.in_range x (omega (arith, (rest_all_up s ts).slots, l)), named-append x ts us);
   fits = λ x. omega (arith, k.fits x, named-append x ts us, rise_all s ts (rise_left s ts us k) x);
 }

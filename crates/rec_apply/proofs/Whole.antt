@@ -1,10 +1,9 @@
 -- A whole batch: what it asks for is what its increments and its decrements ask for, and its formula is theirs together.
-use Rattle.std.proofs.Common.{◌≡◌, ℕ, ◌+◌, ◌<◌, ◌≤◌, ◌^◌, List, [], length, sym, ap, subst, arith, ◌∙◌}
+use Rattle.std.proofs.Common.{◌≡◌, ℕ, ◌+◌, ◌<◌, ◌≤◌, ◌^◌, List, [], length, sym, subst, arith, ◌∙◌}
 use Rattle.std.specs.List.{flat_map}
 use Rattle.rec_counts.specs.Counts.{State, slot_at}
 use Rattle.rec_counts.specs.Lists.{times}
-use Rattle.rec_counts.specs.Rest.{KeepsRest, AreZeros, AllZeros}
-use Rattle.rec_counts.proofs.Times.{times-nil}
+use Rattle.rec_counts.specs.Rest.{KeepsRest, AllZeros}
 use Rattle.rec_log.specs.declared.contents.Contents.{Contents}
 use Rattle.rec_apply.specs.Targets.{added, taken}
 use Rattle.rec_apply.specs.Batch.{CanRise, CanFall, all_up, batch, up_targets, down_targets}
@@ -12,7 +11,7 @@ use Rattle.rec_apply.proofs.Naming.{added_is, taken_is}
 use Rattle.rec_apply.proofs.Rising.{rise_all, up_zeros_all}
 use Rattle.rec_apply.proofs.Falling.{fall_all}
 use Rattle.rec_apply.proofs.Resting.{rest_all_up, rest_all_down, all_zeros_down}
-use Rattle.rec_counts.proofs.Decrementing.{rest_on}
+use Rattle.rec_counts.proofs.Decrementing.{no_zeros, rest_on}
 
 -- the increments can be made
 pub batch_rises : (s : State) (newer older : List Contents) → ((x : ℕ) → length s.slots ≤ x → added x newer + taken x older ≡ 0) → ((x : ℕ) → (slot_at s x).count + added x newer < 2 ^ 64) → CanRise s (flat_map up_targets newer)
@@ -20,12 +19,6 @@ batch_rises s newer older r f = record {
   in_range = λ x l. omega (arith, r x l, added_is x newer);
   fits = λ x. omega (arith, f x, added_is x newer);
 }
-
--- where there are no zeros, all of them are zeros
-no_zeros : (s : State) → s.zeros ≡ [] → AreZeros s
-no_zeros s z =
-    let n : (x : ℕ) → times x s.zeros ≡ 0 = λ x. ap (times x) z ∙ times-nil x in
-    record { once = λ x. omega (arith, n x); none = λ x h. absurd (omega (arith, h, n x)); unreleased = λ x h. absurd (omega (arith, h, n x)) }
 
 -- and then the decrements
 pub batch_falls : (s : State) (newer older : List Contents) → s.zeros ≡ [] → CanRise s (flat_map up_targets newer) → ((x : ℕ) → taken x older ≤ (slot_at s x).count + added x newer) → CanFall (all_up s (flat_map up_targets newer)) (flat_map down_targets older)

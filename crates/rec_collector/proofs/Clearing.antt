@@ -26,8 +26,7 @@ use Rattle.rec_release.proofs.Keeping.{held_off, ready_emptied, work_next, work_
 use Rattle.rec_release.proofs.TakenOff.{ready_off}
 use Rattle.rec_sigma.specs.Refurbish.{IsRefusable, LastRefurbished}
 use Rattle.rec_sigma.specs.Settling.{refurbished_of}
-use Rattle.rec_sigma.proofs.Refused.{released_after, zeros_after}
-use Rattle.rec_sigma.proofs.Renewals.{refurbished_last}
+use Rattle.rec_sigma.proofs.Renewals.{refurbished_last, released_after, zeros_after}
 use Rattle.rec_trial.specs.Rules as trials
 use Rattle.rec_trial.specs.Trial.{next_of as trial_next}
 use Rattle.rec_sigma.proofs.Kept.{refurbished_kept}

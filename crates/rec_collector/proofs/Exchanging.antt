@@ -23,8 +23,7 @@ use Rattle.rec_release.proofs.Keeping.{emptied_length, first_zero, next_length, 
 use Rattle.rec_release.proofs.TakenOff.{ready_off}
 use Rattle.rec_sigma.specs.Refurbish.{LastRefurbished}
 use Rattle.rec_sigma.specs.Settling.{refurbished_of}
-use Rattle.rec_sigma.proofs.Refused.{same_released}
-use Rattle.rec_sigma.proofs.Renewals.{refurbished_last}
+use Rattle.rec_sigma.proofs.Renewals.{refurbished_last, same_released}
 use Rattle.rec_collector.specs.Clearing.{freeing_left, release_left, HasExchanged, IsClearing, IsDone}
 use Rattle.rec_collector.specs.Followed.{relieved, with_freed, with_released}
 use Rattle.rec_collector.specs.Parts.{Parts}

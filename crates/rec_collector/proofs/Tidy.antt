@@ -27,7 +27,7 @@ use Rattle.rec_sigma.specs.declared.fate.Fate.{Fate}
 use Rattle.rec_sigma.specs.declared.fate.Fate.TheVariants.{Free}
 use Rattle.rec_sigma.specs.Refurbish.{fate_at, fate_if, is_root, is_zero, refurbished, LastRefurbished, is_free, IsRefusable}
 use Rattle.rec_sigma.specs.declared.fate.Fate.TheVariants as fates
-use Rattle.rec_sigma.proofs.Refused.{released_after, same_count, same_released}
+use Rattle.rec_sigma.proofs.Renewals.{released_after, same_count, same_released}
 use Rattle.rec_collector.specs.Clearing.{IsTidy}
 use Rattle.rec_collector.proofs.Outside.{untried_moved, first_lowers, given_lowers, off_lowers, outside_on, refurbished_lowers, same_lowers}
 

@@ -18,8 +18,7 @@ use Rattle.rec_release.proofs.Kept.{given_kept}
 use Rattle.rec_sigma.specs.Refurbish.{IsRefusable, LastRefurbished}
 use Rattle.rec_sigma.specs.Settling.{refurbished_of}
 use Rattle.rec_sigma.specs.Judged.{AreOrange, cyclic_sum}
-use Rattle.rec_sigma.proofs.Refused.{same_count, same_released}
-use Rattle.rec_sigma.proofs.Renewals.{refurbished_last}
+use Rattle.rec_sigma.proofs.Renewals.{refurbished_last, same_count, same_released}
 use Rattle.rec_sigma.proofs.Kept.{refurbished_kept}
 use Rattle.rec_collector.specs.Parts.{Parts}
 use Rattle.rec_collector.specs.Private as collectors

@@ -123,6 +123,12 @@ zeros_from s x = go (due_of (slot_at s x)) refl
         it : (y : ℕ) → 0 < times y (x ∷ []) → (eqb y x ≡ true) × (y ≡ x)
         it y h = elim (eqb_tells y x) [ inl q ↦ (q.0, q.1) | inr q ↦ let n : one (eqb y x) ≡ 0 = ap one q.0 in absurd (omega (arith, h, n, times-cons y x [], times-nil y)) ]
 
+-- where there are no zeros, all of them are zeros
+pub no_zeros : (s : State) → s.zeros ≡ [] → AreZeros s
+no_zeros s z =
+    let n : (x : ℕ) → times x s.zeros ≡ 0 = λ x. ap (times x) z ∙ times-nil x in
+    record { once = λ x. omega (arith, n x); none = λ x h. absurd (omega (arith, h, n x)); unreleased = λ x h. absurd (omega (arith, h, n x)) }
+
 -- the zeros stay zeros
 pub zeros_kept : (s : State) (x : ℕ) → AreZeros s → AreZeros (decremented s x)
 zeros_kept s x k =

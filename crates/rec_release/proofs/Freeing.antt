@@ -1,6 +1,6 @@
 -- The freeing of a set goes on move by move: a reference is taken off, the next member is at work, all are listed.
-use Rattle.std.proofs.Common.{◌≡◌, ℕ, ◌+◌, ◌-◌, ◌<◌, true, Option, Some, None, IfSome, List, [], ◌∷◌, ◌++◌, length, map, refl, arith, sym, ◌∙◌, ap, subst, inl, inr, append_assoc}
-use Rattle.std.proofs.lemmas.List.{append-nil, length-map, map-append}
+use Rattle.std.proofs.Common.{◌≡◌, ℕ, ◌+◌, ◌<◌, true, Option, Some, None, List, [], ◌∷◌, ◌++◌, map, refl, arith, sym, ◌∙◌, ap, subst, inl, inr, append_assoc}
+use Rattle.std.proofs.lemmas.List.{append-nil, map-append}
 use Rattle.std.proofs.lemmas.Bool.{cases_lt}
 use Rattle.rec_word.specs.Place.{place_of}
 use Rattle.rec_word.specs.Word.{target_of, is_slot}
@@ -9,22 +9,16 @@ use Rattle.rec_walk.specs.Load.{Load, loaded_at, place_loaded}
 use Rattle.rec_walk.specs.Walk.{behind, first_in, places_left, IsOf}
 use Rattle.rec_walk.proofs.Given.{given_by}
 use Rattle.rec_walk.proofs.Walks.{behind_left, behind_stands, first_left, Stands}
-use Rattle.rec_counts.specs.Counts.{State, slot_at, IsKept}
+use Rattle.rec_counts.specs.Counts.{State, IsKept}
 use Rattle.rec_counts.specs.Groups.{last_set}
 use Rattle.rec_counts.specs.Lists.{one, times}
 use Rattle.rec_counts.proofs.Times.{times-append, times-nil}
-use Rattle.rec_release.specs.CycleFree.{given_up, given_up_slot, gone_on, listed, listed_behind, work_of, started_of, took_of, Next, Work, IsAtWork, IsFreeable}
+use Rattle.rec_release.specs.CycleFree.{given_up, gone_on, listed, listed_behind, work_of, started_of, took_of, Work, IsAtWork, IsFreeable}
 use Rattle.rec_release.specs.Freed.{held_of, listed_of, Freed, FreedTo, HasFreed}
 use Rattle.rec_release.specs.Released.{leading}
-use Rattle.rec_release.proofs.Giving.{given_count, given_is_work, given_released, given_work}
+use Rattle.rec_release.proofs.Giving.{given_count, given_is_work, given_many, given_released, given_work}
 use Rattle.rec_release.specs.TakenOff.{taken_off}
-use Rattle.rec_release.proofs.Orange.{gone_keeps, Keeps}
 use Rattle.rec_release.proofs.TakenOff.{leading-nil, leading_push, off_count, off_most, ready_off, KeepsMost}
-
--- the same freeing, with its parts told otherwise
-retold : {fields : ℕ} {before : State} {members left left' listed listed' held held' : List ℕ} {after : State} {loads : List Load} → left' ≡ left → listed' ≡ listed → held' ≡ held → Freed fields before members left listed held after loads → Freed fields before members left' listed' held' after loads
-retold {fields = fields} {before = before} {members = members} {left = left} {left' = left'} {listed = listed} {listed' = listed'} {held = held} {held' = held'} {after = after} {loads = loads} e f g r =
-    subst (λ xs. Freed fields before members left' listed' xs after loads) (sym g) (subst (λ xs. Freed fields before members left' xs held after loads) (sym f) (subst (λ xs. Freed fields before members xs listed held after loads) (sym e) r))
 
 -- a reference that came out of this field is taken off
 taken_on : (fields : ℕ) (before : State) (members : List ℕ) (a : Member) (left listed held : List ℕ) (after : State) (loads : List Load) (word : ℕ) → Freed fields before members (place_of a.slot a.field fields ∷ left) listed held after loads →
@@ -67,23 +61,30 @@ behind_on : (at : Option Member) (fields : ℕ) (before : State) (after : State)
 behind_on None fields before after loads r = listed_on fields before (last_set before.sets) after loads r
 behind_on (Some a) fields before after loads r = r
 
--- the set is given up, and nothing is exchanged yet
-begun : (fields : ℕ) (s : State) → IsKept s → IsFreeable s → FreedTo fields s (first_in (last_set s.sets)) (given_up s) []
-begun fields s k f = retold (first_left fields ms) (none_listed ms) (all_held ms) (record {
-  places = refl;
-  counts = λ x. omega (arith, given_count s x, leading-nil x);
-  released = λ x. given_released s x k f;
-  free = sym (append-nil s.free);
-  work = given_work s f;
-  zeros = ([], sym (append-nil s.zeros));
-  sets = refl;
-  marked = refl;
-  many = length-map s.slots (given_up_slot (length s.sets - 1));
-})
-  where
-    ms : List ℕ
-    ms = last_set s.sets
+-- what the freeing came to
+pub record Came (fields : ℕ) (before : State) (w : Work) (loads : List Load) : Type 0 where
+  pub fields_kept : w.machine.fields ≡ fields
+  pub work : IsAtWork w.machine w.counts
+  pub law : FreedTo fields before w.machine.at w.counts loads
 
+-- the set is given up, and nothing is exchanged yet
+pub came_first : (fields : ℕ) (before : State) → 0 < fields → IsKept before → IsFreeable before → Came fields before (work_of fields (record { at = first_in (last_set before.sets); counts = given_up before })) []
+came_first fields before l k f = record {
+  fields_kept = refl;
+  work = given_is_work before fields l k f;
+  law = record {
+    places = first_left fields (last_set before.sets);
+    counts = λ x. omega (arith, given_count before x, leading-nil x);
+    released = λ x. given_released before x k f;
+    free = rw (none_listed (last_set before.sets)) (sym (append-nil before.free));
+    work = rw (all_held (last_set before.sets)) (given_work before f);
+    zeros = ([], sym (append-nil before.zeros));
+    sets = refl;
+    marked = refl;
+    many = given_many before;
+  };
+}
+  where
     none_listed : (xs : List ℕ) → listed_of xs (first_in xs) ≡ []
     none_listed [] = refl
     none_listed (x ∷ xs) = refl
@@ -91,15 +92,6 @@ begun fields s k f = retold (first_left fields ms) (none_listed ms) (all_held ms
     all_held : (xs : List ℕ) → held_of xs (first_in xs) ≡ xs
     all_held [] = refl
     all_held (x ∷ xs) = refl
-
--- what the freeing came to
-pub record Came (fields : ℕ) (before : State) (w : Work) (loads : List Load) : Type 0 where
-  pub fields_kept : w.machine.fields ≡ fields
-  pub work : IsAtWork w.machine w.counts
-  pub law : FreedTo fields before w.machine.at w.counts loads
-
-pub came_first : (fields : ℕ) (before : State) → 0 < fields → IsKept before → IsFreeable before → Came fields before (work_of fields (record { at = first_in (last_set before.sets); counts = given_up before })) []
-came_first fields before l k f = record { fields_kept = refl; work = given_is_work before fields l k f; law = begun fields before k f }
 
 -- the counts are as the freeing left them, after each move
 pub off_work : (fields : ℕ) (s : State) (t : Option ℕ) (a : Member) → IsAtWork (record { fields = fields; at = Some a }) s → IsAtWork (record { fields = fields; at = Some a }) (taken_off true s t)
@@ -113,7 +105,7 @@ off_work fields s t a w =
       ready = ready_off true s t w.ready;
     }
 
-gone_work : (fields : ℕ) (s : State) (a : Member) → IsAtWork (record { fields = fields; at = Some a }) s → IsAtWork (work_of fields (gone_on fields s a)).machine (gone_on fields s a).counts
+pub gone_work : (fields : ℕ) (s : State) (a : Member) → IsAtWork (record { fields = fields; at = Some a }) s → IsAtWork (work_of fields (gone_on fields s a)).machine (gone_on fields s a).counts
 gone_work fields s a w = go (behind fields s.work a) (behind_stands fields s.work a w.field w.held)
   where
     go : (at : Option Member) → Stands fields s.work at → IsAtWork (work_of fields (listed_behind s at)).machine (listed_behind s at).counts
@@ -133,13 +125,13 @@ gone_work fields s a w = go (behind fields s.work a) (behind_stands fields s.wor
     }
 
 -- one word more
-came_more : (fields : ℕ) (before : State) (a : Member) (after : State) (loads : List Load) (word : ℕ) → IsAtWork (record { fields = fields; at = Some a }) after → FreedTo fields before (Some a) after loads →
+pub came_more : (fields : ℕ) (before : State) (a : Member) (after : State) (loads : List Load) (word : ℕ) → IsAtWork (record { fields = fields; at = Some a }) after → FreedTo fields before (Some a) after loads →
     Came fields before (work_of fields (gone_on fields (taken_off true after (target_of word)) a)) (loads ++ loaded_at (Some a) word)
 came_more fields before a after loads word w r =
     let ms : List ℕ = last_set before.sets in
     let now : State = taken_off true after (target_of word) in
     let q : Freed fields before ms (places_left fields ms (behind fields ms a)) [] ms now (loads ++ loaded_at (Some a) word) =
-    taken_on fields before ms a (places_left fields ms (behind fields ms a)) [] ms after loads word (retold (sym (behind_left fields ms a w.field)) refl refl r) in
+    taken_on fields before ms a (places_left fields ms (behind fields ms a)) [] ms after loads word (subst (λ ps. Freed fields before ms ps [] ms after loads) (behind_left fields ms a w.field) r) in
     record {
       fields_kept = refl;
       work = gone_work fields now a (off_work fields after (target_of word) a w);
@@ -161,19 +153,6 @@ pub whole_freeing : (fields : ℕ) (before : State) (words : List ℕ) → 0 < f
 unfolding started_of
 whole_freeing fields before words l k f =
     (given_by took_of (λ (w : Work) word. loaded_at w.machine.at word) (Came fields before) (came_on fields before) words _ [] (came_first fields before l k f)).law
-
--- what a word leaves, as its call tells, with the field that comes next
-pub record Goes (fields : ℕ) (a : Member) (s : State) (word : ℕ) (n : Next) : Type 0 where
-  pub kept : IsAtWork (work_of fields n).machine n.counts
-  pub keeps : Keeps true s n.counts
-  pub whole : (before : State) (loads : List Load) → FreedTo fields before (Some a) s loads → FreedTo fields before n.at n.counts (loads ++ loaded_at (Some a) word)
-
-pub goes_on : (fields : ℕ) (a : Member) (s : State) (word : ℕ) → IsAtWork (record { fields = fields; at = Some a }) s → IfSome (target_of word) (λ x. 0 < (slot_at s x).count) → Goes fields a s word (gone_on fields (taken_off true s (target_of word)) a)
-goes_on fields a s word w h = record {
-  kept = gone_work fields (taken_off true s (target_of word)) a (off_work fields s (target_of word) a w);
-  keeps = gone_keeps fields s (target_of word) a h;
-  whole = λ before loads r. (came_more fields before a s loads word w r).law;
-}
 
 -- what is learnt, where a field is due
 pub took_some : (fields : ℕ) (a : Member) (s : State) (word : ℕ) → took_of (record { machine = record { fields = fields; at = Some a }; counts = s }) word ≡ work_of fields (gone_on fields (taken_off true s (target_of word)) a)

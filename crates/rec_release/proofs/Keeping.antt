@@ -122,12 +122,16 @@ work_last fields lowers a s t k =
     let l : 0 < fields = omega (arith, k.field) in
     work_next fields lowers (emptied off a.slot) l (ready_emptied off a.slot h.released (ready_off lowers s t k.ready))
 
-listed_length : (b : Bool) (s : State) (x : ℕ) → length (listed_if b s x).slots ≡ length s.slots
-listed_length true s x = refl
-listed_length false s x = refl
+-- nothing but the free list changes where a slot is emptied
+listed_is : (b : Bool) (s : State) (x : ℕ) → listed_if b s x ≡ record s { free = (listed_if b s x).free }
+listed_is true s x = refl
+listed_is false s x = refl
 
 pub emptied_length : (s : State) (x : ℕ) → length (emptied s x).slots ≡ length s.slots
-emptied_length s x = listed_length (slot_at s x).buffered s x
+emptied_length s x = ap (λ (u : State). length u.slots) (listed_is (slot_at s x).buffered s x)
+
+pub emptied_sets : (s : State) (x : ℕ) → (emptied s x).sets ≡ s.sets
+emptied_sets s x = ap (λ (u : State). u.sets) (listed_is (slot_at s x).buffered s x)
 
 -- the number of slots stays
 pub next_length : (zs : List ℕ) (s : State) → length (without_first zs s).slots ≡ length s.slots
@@ -135,13 +139,6 @@ next_length [] s = refl
 next_length (z ∷ zs) s = length-set s.slots z (record (slot_at s z) { released = true })
 
 -- and so do the sets
-listed_sets : (b : Bool) (s : State) (x : ℕ) → (listed_if b s x).sets ≡ s.sets
-listed_sets true s x = refl
-listed_sets false s x = refl
-
-pub emptied_sets : (s : State) (x : ℕ) → (emptied s x).sets ≡ s.sets
-emptied_sets s x = listed_sets (slot_at s x).buffered s x
-
 pub next_sets : (zs : List ℕ) (s : State) → (without_first zs s).sets ≡ s.sets
 next_sets [] s = refl
 next_sets (z ∷ zs) s = refl

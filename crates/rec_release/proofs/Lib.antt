@@ -5,6 +5,5 @@ pub mod Kept
 pub mod Orange
 pub mod Runs
 pub mod Sweeping
-pub mod Sweeps
 pub mod TakenOff
 pub mod Sends

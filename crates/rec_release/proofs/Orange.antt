@@ -1,7 +1,7 @@
 -- What the moves of a release and of a freeing keep of the orange slots, and of the zeros that are not orange.
 use Rattle.std.proofs.Common.{◌≡◌, ℕ, ◌+◌, ◌-◌, ◌<◌, ◌⊎◌, Bool, true, false, eqb, ltb, Option, Some, None, IfSome, List, [], ◌∷◌, ◌++◌, length, map, get_or, refl, arith, sym, ◌∙◌, ap, subst, inl, inr}
 use Rattle.std.specs.List.{concat}
-use Rattle.std.proofs.lemmas.Bool.{cases_lt, eq-eqb, false≢true}
+use Rattle.std.proofs.lemmas.Bool.{cases_lt, false≢true}
 use Rattle.std.proofs.lemmas.List.{get_or-set_same, length-set, set_past, get_or_past}
 use Rattle.rec_counts.specs.declared.colour.Colour.{Colour}
 use Rattle.rec_counts.specs.declared.colour.Colour.TheVariants.{Black, Orange}
@@ -112,9 +112,9 @@ lowered_orange : (lowers : Bool) (c : Colour) → is_lowered lowers c ≡ true �
 lowered_orange true c e = orange_from c e
 lowered_orange false c e = absurd (false≢true e)
 
--- no decrement makes a slot orange
-lessened_orange : (r l : Bool) (v : Slot) → (lessened_if r l v).colour ≡ Orange → v.colour ≡ Orange
-lessened_orange true l v e = e
+-- no decrement makes a slot orange, or leaves it so unless it is released
+lessened_orange : (r l : Bool) (v : Slot) → (lessened_if r l v).colour ≡ Orange → (r ≡ true) × (v.colour ≡ Orange)
+lessened_orange true l v e = (refl, e)
 lessened_orange false true v e = cc
 lessened_orange false false v e = cc
 
@@ -125,18 +125,13 @@ decremented_at s y x =
     let e : slot_at (decremented s y) x ≡ slot_at (with_slot s y v) x = same_slot s y x in
     elim (written s y v x) [ inl q ↦ inl (q.0, e ∙ q.1) | inr q ↦ inr (e ∙ q) ]
 
--- a slot whose last reference goes is Black, and stands in the zeros
-last_black : (v : Slot) → v.released ≡ false → v.count ≡ 1 → (lessened v).colour ≡ Black
-last_black v r n = ap (λ b. (lessened_if b (eqb v.count 1) v).colour) r ∙ ap (λ b. (lessened_if false b v).colour) (eq-eqb v.count 1 n)
-
 -- where it is orange, it does not join the zeros
 unjoined : (s : State) (y x : ℕ) → (slot_at s x).released ≡ false → (slot_at (decremented s y) x).colour ≡ Orange → times x (zeros_from s y).more ≡ 0
 unjoined s y x r o =
     let f : ZerosFrom s y = zeros_from s y in
     elim (cases_lt 0 (times x f.more)) [
       | inl l ↦ elim (decremented_at s y x) [
-        | inl q ↦ let b : (lessened (slot_at s y)).colour ≡ Black = last_black (slot_at s y) (ap (λ z. (slot_at s z).released) (sym q.0) ∙ r) (ap (λ z. (slot_at s z).count) (sym q.0) ∙ f.last x l) in
-            let c : Black ≡ Orange = sym b ∙ ap (λ (w : Slot). w.colour) (sym q.1) ∙ o in cc
+        | inl q ↦ absurd (false≢true (sym r ∙ ap (λ z. (slot_at s z).released) q.0 ∙ (lessened_orange (slot_at s y).released (eqb (slot_at s y).count 1) (slot_at s y) (ap (λ (w : Slot). w.colour) (sym q.1) ∙ o)).0))
         | inr q ↦ absurd (omega (arith, ap (λ (w : Slot). w.count) q, f.last x l, f.count x l))
       ]
       | inr l ↦ omega (arith, l)
@@ -144,7 +139,7 @@ unjoined s y x r o =
 
 orange_before : (s : State) (y x : ℕ) → (slot_at (decremented s y) x).colour ≡ Orange → (slot_at s x).colour ≡ Orange
 orange_before s y x o = elim (decremented_at s y x) [
-  | inl q ↦ ap (λ z. (slot_at s z).colour) q.0 ∙ lessened_orange (slot_at s y).released (eqb (slot_at s y).count 1) (slot_at s y) (ap (λ (w : Slot). w.colour) (sym q.1) ∙ o)
+  | inl q ↦ ap (λ z. (slot_at s z).colour) q.0 ∙ (lessened_orange (slot_at s y).released (eqb (slot_at s y).count 1) (slot_at s y) (ap (λ (w : Slot). w.colour) (sym q.1) ∙ o)).1
   | inr q ↦ ap (λ (w : Slot). w.colour) (sym q) ∙ o
 ]
 

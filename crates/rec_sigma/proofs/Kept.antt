@@ -1,12 +1,11 @@
 -- What always holds of the counts still does once a set is refurbished, and as a preparation goes on.
-use Rattle.std.proofs.Common.{◌≡◌, ℕ, Option, List, [], slice_get, refl, arith, ap, ◌<◌, ◌∷◌}
+use Rattle.std.proofs.Common.{◌≡◌, ℕ, Option, List, [], slice_get, refl, arith, ap, ◌∷◌}
 use Rattle.std.proofs.lemmas.List.{length-set}
 use Rattle.rec_word.specs.Word.{is_slot}
 use Rattle.rec_counts.specs.declared.slot.Slot.{Slot}
 use Rattle.rec_counts.specs.Counts.{State, IsKept, slot_at, without_last_set}
 use Rattle.rec_counts.specs.Groups.{last_set}
 use Rattle.rec_counts.specs.Kept.{Kept}
-use Rattle.rec_counts.specs.Lists.{times}
 use Rattle.rec_counts.proofs.Keeping.{keep_push_root, keep_slot, relisted, slots_kept, dropped_kept}
 use Rattle.rec_counts.proofs.Times.{once_none, once_push, one-same, times-cons}
 use Rattle.rec_sigma.specs.declared.fate.Fate.{Fate}
@@ -26,16 +25,11 @@ settled_kept Zero s first x e d k =
 settled_kept Root s first x e d k = keep_push_root k x (coloured Root (slot_at s x)) d.in_range d.unbuffered refl refl
 settled_kept Plain s first x e d k = keep_slot k x (coloured Plain (slot_at s x)) refl refl
 
-first_due : (s : State) (x : ℕ) (xs : List ℕ) → IsWaiting s (x ∷ xs) → IsDue s x
-first_due s x xs w =
-    let h : 0 < times x (x ∷ xs) = omega (arith, times-cons x x xs, one-same x) in
-    record { in_range = w.in_range x h; unbuffered = w.unbuffered x h; free = w.free x h; zeros = w.zeros x h }
-
 all_kept : (first : Option ℕ) (xs : List ℕ) (s : State) → IsWaiting s xs → IsKept s → IsKept (settled_all first xs s)
 all_kept first [] s w k = k
 all_kept first (x ∷ xs) s w k =
     let f : Fate = fate_at s first x in
-    all_kept first xs (settled f s x) (waiting_rest f s x xs w) (settled_kept f s first x refl (first_due s x xs w) k)
+    all_kept first xs (settled f s x) (waiting_rest f s x xs w) (settled_kept f s first x refl (w.due x (omega (arith, times-cons x x xs, one-same x))) k)
 
 -- the last set is refurbished
 pub refurbished_kept : (s : State) → IsRefusable s → IsKept s → IsKept (refurbished_of s)

@@ -1,10 +1,6 @@
 pub mod Bounds
 pub mod Cyclics
-pub mod Firsts
 pub mod Kept
-pub mod Members
-pub mod Moves
-pub mod Refused
 pub mod Renewals
 pub mod Runs
 pub mod Sends

@@ -1,4 +1,4 @@
-use Rattle.rec_release.proofs.Sweeps.{whole_sweep}
+use Rattle.rec_release.proofs.Sweeping.{whole_sweep}
 use Rattle.rec_release.proofs.laws.sweep_is_whole.Goals as goal
 
 pub returns : goal.returns

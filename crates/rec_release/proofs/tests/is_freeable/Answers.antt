@@ -2,6 +2,7 @@ use Rattle.std.proofs.Common.{◌≡◌, ℕ, [], length, arith, ap, ◌∙◌}
 use Rattle.std.proofs.lemmas.List.{nil_from_length}
 use Rattle.rec_counts.specs.Counts.{State}
 use Rattle.rec_counts.specs.Lists.{times}
+use Rattle.rec_counts.proofs.Decrementing.{no_zeros}
 use Rattle.rec_counts.proofs.Times.{times-nil}
 use Rattle.rec_release.proofs.tests.is_freeable.Goals as goal
 
@@ -11,7 +12,6 @@ returns c = λ o.
     let work : s.work ≡ [] = nil_from_length s.work (omega (arith, c.if-work-gt0.false, ap length c.work-work.ensures)) in
     let zeros : s.zeros ≡ [] = nil_from_length s.zeros (omega (arith, c.if-zeros-gt0.false, ap length c.zeros-zeros.ensures)) in
     let free : s.free ≡ [] = nil_from_length s.free (omega (arith, c.if-free-gt0.false, ap length c.free_list-free.ensures)) in
-    let no_zero : (x : ℕ) → times x s.zeros ≡ 0 = λ x. ap (times x) zeros ∙ times-nil x in
     let no_free : (x : ℕ) → times x s.free ≡ 0 = λ x. ap (times x) free ∙ times-nil x in
     record {
       some = c.requires;
@@ -19,13 +19,9 @@ returns c = λ o.
       orange = λ x h. (c.are_orange.ensures o x h).0;
       unreleased = λ x h. (c.are_orange.ensures o x h).1;
       unlisted = λ x h. no_free x;
-      counted = λ x h. no_zero x;
+      counted = λ x h. ap (times x) zeros ∙ times-nil x;
       ready = record {
-        zeros = record {
-          once = λ x. omega (arith, no_zero x);
-          none = λ x h. absurd (omega (arith, h, no_zero x));
-          unreleased = λ x h. absurd (omega (arith, h, no_zero x));
-        };
+        zeros = no_zeros s zeros;
         free = λ x h. absurd (omega (arith, h, no_free x));
       };
     }

@@ -3,9 +3,9 @@ use Rattle.std.proofs.lemmas.Bool.{false≢true}
 use Rattle.rec_counts.specs.declared.colour.Colour.TheVariants.{Orange}
 use Rattle.rec_counts.specs.Counts.{slot_at}
 use Rattle.rec_counts.specs.Lists.{times}
-use Rattle.rec_counts.proofs.Times.{times-nil, times_at}
+use Rattle.rec_counts.proofs.Keeping.{member_in_range}
+use Rattle.rec_counts.proofs.Times.{inside_more, times-nil, times_at}
 use Rattle.rec_sigma.specs.Prepare.{members_of}
-use Rattle.rec_sigma.proofs.Members.{member_in_range, orange_more}
 use Rattle.rec_sigma.proofs.judge.delta.Goals as goal
 
 pub loop-slot-init : goal.loop-slot-init
@@ -22,4 +22,4 @@ returns-then-not-is_orange c =
     (λ n. absurd (false≢true n), λ o. let q : c.colour.result ≡ Orange = c.colour.ensures ∙ ap (λ x. (slot_at c.args.counts.now x).colour) e ∙ o _ t in subst IsTrue c.if-not-is_orange.true (c.is_orange.ensures.1 q))
 
 pub loop-slot-preserved : goal.loop-slot-preserved
-loop-slot-preserved c = orange_more c.args.counts.now c.set-slot-items.result.now c.loop-slot.slot-index c.loop-slot-test.true (sym c.colour.ensures ∙ c.is_orange.ensures.0 c.if-not-is_orange.false) c.loop-slot.invariant
+loop-slot-preserved c = inside_more (λ x. (slot_at c.args.counts.now x).colour ≡ Orange) c.set-slot-items.result.now c.loop-slot.slot-index c.loop-slot-test.true (sym c.colour.ensures ∙ c.is_orange.ensures.0 c.if-not-is_orange.false) c.loop-slot.invariant

@@ -1,10 +1,17 @@
-use Rattle.std.proofs.Common.{◌≡◌, ℕ, ◌<◌, length, get_or, arith, sym, ap, ◌∙◌, inl, inr}
-use Rattle.std.proofs.lemmas.List.Sums.{sum_by_more}
+use Rattle.std.proofs.Common.{◌≡◌, ℕ, zero, suc, ◌<◌, List, [], ◌∷◌, length, get_or, arith, sym, ap, ◌∙◌, inl, inr}
+use Rattle.std.specs.List.{sum_by}
+use Rattle.std.proofs.lemmas.List.Sums.{sum_by-cons, sum_by_more}
 use Rattle.std.proofs.lemmas.Bool.{cases_lt, false≢true}
 use Rattle.rec_counts.specs.Counts.{State, slot_at}
+use Rattle.rec_counts.proofs.Keeping.{member_in_range}
 use Rattle.rec_sigma.specs.Prepare.{members_of}
-use Rattle.rec_sigma.proofs.Members.{member_in_range, part_of_none}
 use Rattle.rec_sigma.proofs.judge.sigma.Goals as goal
+
+-- where the sum is zero, each part is
+part_of_none : (f : ℕ → ℕ) (xs : List ℕ) (i : ℕ) → i < length xs → sum_by f xs ≡ 0 → f (get_or xs i 0) ≡ 0
+part_of_none f [] i l e = absurd (omega arith)
+part_of_none f (x ∷ xs) zero l e = omega (arith, e, sum_by-cons f x xs)
+part_of_none f (x ∷ xs) (suc i) l e = part_of_none f xs i (omega arith) (omega (arith, e, sum_by-cons f x xs))
 
 pub is_counted-requires : goal.is_counted-requires
 is_counted-requires c = rw c.set-slot-items.ensures (member_in_range c.args.counts.now c.args.set c.loop-slot.slot-index c.rules.ensures (omega (arith, ap length c.set-slot-items.ensures)))

@@ -1,6 +1,7 @@
 use Rattle.std.proofs.Common.{length, arith, ap}
-use Rattle.rec_sigma.proofs.Members.{few_members}
+use Rattle.rec_counts.proofs.Keeping.{each_once}
+use Rattle.rec_counts.proofs.Times.{length-once}
 use Rattle.rec_sigma.proofs.prepare.go_on.Goals as goal
 
 pub next_member-requires : goal.next_member-requires
-next_member-requires c = record { few = omega (arith, few_members c.args.counts.now c.args.at.set c.rules.ensures, c.rules.ensures.few_slots, ap length c.set.ensures) }
+next_member-requires c = record { few = omega (arith, length-once _ _ (each_once c.args.counts.now c.args.at.set c.rules.ensures), c.rules.ensures.few_slots, ap length c.set.ensures) }

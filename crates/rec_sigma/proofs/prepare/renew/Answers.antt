@@ -1,48 +1,40 @@
-use Rattle.std.proofs.Common.{◌≡◌, ℕ, ◌<◌, ◌≤◌, ltb, true, List, length, get_or, refl, arith, sym, ap, ◌∙◌}
-use Rattle.std.proofs.Math.ListN.{set}
-use Rattle.std.proofs.lemmas.List.{length-set, take_all}
+use Rattle.std.proofs.Common.{◌≡◌, ℕ, ◌<◌, true, List, length, get_or, refl, arith, sym, ap, ◌∙◌}
+use Rattle.std.proofs.lemmas.List.{length-map}
 use Rattle.rec_counts.specs.declared.slot.Slot.{Slot}
 use Rattle.rec_counts.specs.Counts.{State, slot_at, with_slot}
 use Rattle.rec_counts.specs.Lists.{times}
-use Rattle.rec_counts.proofs.Times.{times-nil}
-use Rattle.rec_counts.proofs.Changing.{changed_more}
-use Rattle.rec_sigma.specs.Prepare.{members_of, renewed_if}
-use Rattle.rec_sigma.proofs.Members.{member_in_range}
-use Rattle.rec_sigma.proofs.Cyclics.{renewed_all, renewed_twice}
+use Rattle.rec_counts.specs.Slot.{is_in}
+use Rattle.rec_counts.proofs.Changing.{changed_none, changed_on, changed_all}
+use Rattle.rec_counts.proofs.Keeping.{member_in_range}
+use Rattle.rec_counts.proofs.Times.{test_of}
+use Rattle.rec_sigma.specs.Prepare.{members_of, renewed, renewed_if}
+use Rattle.rec_sigma.proofs.Cyclics.{renewed_slot, renewed_twice}
 use Rattle.rec_sigma.proofs.prepare.renew.Goals as goal
 
 pub loop-index-init : goal.loop-index-init
-loop-index-init c = record { rest = refl; many = refl; slots = λ x. rw (times-nil x) refl }
+loop-index-init c = changed_none renewed_if (λ v. refl) (members_of c.args.counts.now c.args.set) c.args.counts.now c.args.counts.now refl
 
 pub renew_slot-requires : goal.renew_slot-requires
 renew_slot-requires c =
+    let s : State = c.args.counts.now in
     let i : ℕ = c.loop-index.index in
-    let ms : List ℕ = members_of c.args.counts.now c.args.set in
-    let e : c.set.result.now ≡ ms = c.set.ensures ∙ ap (λ st. members_of st c.args.set) c.loop-index.invariant.rest in
-    let l : i < length ms = omega (arith, ap length c.set-index-end.ensures) in
-    omega (arith, member_in_range c.args.counts.now c.args.set i c.rules.ensures l, c.loop-index.invariant.many, ap (λ xs. get_or xs i 0) e)
+    let e : c.set.result.now ≡ members_of s c.args.set = c.set.ensures ∙ ap (λ st. members_of st c.args.set) c.loop-index.invariant.rest in
+    omega (arith, member_in_range s c.args.set i c.rules.ensures (omega (arith, ap length c.set-index-end.ensures)), c.loop-index.invariant.many, ap (λ xs. get_or xs i 0) e)
 
 pub loop-index-preserved : goal.loop-index-preserved
 loop-index-preserved c =
     let i : ℕ = c.loop-index.index in
-    let s : State = c.loop-index.counts in
-    let old : State = c.args.counts.now in
-    let ms : List ℕ = members_of old c.args.set in
-    let m : ℕ = get_or ms i 0 in
+    let s : State = c.args.counts.now in
+    let t : State = c.loop-index.counts in
+    let ms : List ℕ = members_of s c.args.set in
     let e : c.set.result.now ≡ ms = c.set.ensures ∙ ap (λ st. members_of st c.args.set) c.loop-index.invariant.rest in
     let l : i < length ms = omega (arith, ap length c.set-index-end.ensures) in
-    let r : m < length s.slots = omega (arith, member_in_range old c.args.set i c.rules.ensures l, c.loop-index.invariant.many) in
-    let w : c.renew_slot.new.counts ≡ with_slot s m (renewed_if true (slot_at s m)) = c.renew_slot.ensures ∙ ap (λ xs. with_slot s (get_or xs i 0) (renewed_if true (slot_at s (get_or xs i 0)))) e in
-    record {
-      rest = w ∙ ap (λ (st : State). record st { slots = set s.slots m (renewed_if true (slot_at s m)) }) c.loop-index.invariant.rest ∙ ap {A = State} {B = State} (λ st. record old { slots = st.slots }) (sym w);
-      many = ap (λ st. length st.slots) w ∙ length-set s.slots m (renewed_if true (slot_at s m)) ∙ c.loop-index.invariant.many;
-      slots = λ x. ap (λ st. slot_at st x) w ∙ changed_more renewed_if renewed_twice s.slots old.slots ms i l r c.loop-index.invariant.slots x;
-    }
+    changed_on renewed_if renewed_twice ms s t i l (member_in_range s c.args.set i c.rules.ensures l) c.loop-index.invariant c.renew_slot.new.counts
+    (c.renew_slot.ensures ∙ ap (λ xs. with_slot t (get_or xs i 0) (renewed_if true (slot_at t (get_or xs i 0)))) e)
 
 pub returns : goal.returns
 returns c =
-    let old : State = c.args.counts.now in
-    let ms : List ℕ = members_of old c.args.set in
-    let l : length ms ≤ c.loop-index.index = omega (arith, ap length c.set-index-end.ensures) in
-    c.loop-index.invariant.rest ∙ ap {A = List Slot} {B = State} (λ slots. record old { slots = slots }) (renewed_all old c.args.set c.loop-index.counts.slots c.rules.ensures c.loop-index.invariant.many
-    (λ x. c.loop-index.invariant.slots x ∙ ap (λ xs. renewed_if (ltb 0 (times x xs)) (slot_at old x)) (take_all c.loop-index.index ms l)))
+    let s : State = c.args.counts.now in
+    let n : ℕ = c.args.set in
+    changed_all renewed_if (members_of s n) s c.loop-index.counts c.loop-index.index (renewed s n).slots (omega (arith, ap length c.set-index-end.ensures)) (length-map s.slots (λ (v : Slot). renewed_if (is_in n v.set) v))
+    (λ x. renewed_slot s n x ∙ ap (λ b. renewed_if b (slot_at s x)) (sym (test_of (times x (members_of s n)) (is_in n (slot_at s x).set) (c.rules.ensures.numbers n x)))) c.loop-index.invariant

@@ -1,9 +1,7 @@
-use Rattle.std.proofs.Common.{◌∙◌, ap, sym}
-use Rattle.rec_sigma.specs.declared.fate.Fate.{Fate}
-use Rattle.rec_sigma.specs.Settling.{settled}
-use Rattle.rec_sigma.proofs.Renewals.{rooted}
+use Rattle.std.proofs.Common.{refl}
+use Rattle.std.proofs.lemmas.List.{get_or-set_same, set-set}
+use Rattle.rec_counts.specs.Slot.{absent}
 use Rattle.rec_sigma.proofs.renewal.settle.Goals as goal
 
 pub returns-in-Root : goal.returns-in-Root
-returns-in-Root c =
-    c.push_root.ensures ∙ rooted c.args.counts.now c.args.slot c.requires.in_range c.set_colour-in-Root.new.self c.set_colour-in-Root.ensures ∙ ap (λ (f : Fate). settled f c.args.counts.now c.args.slot) (sym c.in-Root.is)
+returns-in-Root c = rw (c.in-Root.is, c.push_root.ensures, c.set_colour-in-Root.ensures, get_or-set_same c.args.counts.now.slots c.args.slot _ absent c.requires.in_range, set-set) refl

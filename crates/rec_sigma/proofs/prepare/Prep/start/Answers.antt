@@ -2,8 +2,7 @@ use Rattle.std.proofs.Common.{◌<◌, IfSome, [], sym, subst, ap}
 use Rattle.rec_sigma.specs.declared.at.At.{At}
 use Rattle.rec_sigma.specs.Prepare.{Next, work_of, started_of}
 use Rattle.rec_sigma.specs.Prepared.{KeepsOthers}
-use Rattle.rec_sigma.proofs.Firsts.{next_set_is}
-use Rattle.rec_sigma.proofs.Runs.{came_first, next_set_others, Came}
+use Rattle.rec_sigma.proofs.Runs.{came_first, next_set_is, next_set_others, Came}
 use Rattle.rec_sigma.proofs.prepare.Prep.start.Goals as goal
 
 pub invariant_of-self : goal.invariant_of-self
