@@ -12,6 +12,6 @@ use Rattle.rec_script.specs.Script.{Contents}
 pub record IsSetRunning (script : Contents) (heap : Started) (crew : Crew) : Type 0 where
   pub config : IsConfig (config_of script)
   pub opens : heap.world ≡ opened (config_of script)
-  pub crew : IsCrewFor heap script crew
+  pub whole : IsCrewFor heap script crew
   pub fresh_mutators : (k : ℕ) (d : Held) → k < length crew.mutators.items → slice_index_or crew.mutators.items k d ≡ fresh heap (k + 1)
   pub fresh_collector : crew.collector ≡ fresh_collector heap

@@ -42,7 +42,7 @@ pub fn drive_script<R: Threads + Wait + Sync, G: Gate>(
 
 // A script's heap, set running, and those who carry it on.
 fn set_running(alloc: Global, script: &Script) -> Result<(Heap, Crew), NoMemory>
-    ensures { IfOk result (λ running. IsSetRunning script.now running.0 running.1) }
+    ensures running { IfOk result (λ r. IsSetRunning script.now r.0 r.1) }
 {
     let world = open_world(alloc, script)?;
     let journals = journals_for(alloc, script)?;

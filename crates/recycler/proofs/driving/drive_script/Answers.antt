@@ -12,21 +12,21 @@ use Rattle.recycler.specs.Running.{IsSetRunning}
 use Rattle.recycler.proofs.driving.drive_script.Goals as goal
 
 pub returns-clause-outcome : goal.returns-clause-outcome
-returns-clause-outcome c =
-    let so : IsSetRunning c.args.script.now c.in_ok-heap.heap c.in_ok-heap.crew = c.in_ok-heap.ensures in
+returns-clause-outcome g c =
+    let so : IsSetRunning c.args.script.now c.in_ok-heap.heap c.in_ok-heap.crew = c.in_ok-heap.ensures.running in
     let script : Contents = c.args.script.now in
     let ms : List Held = c.in_ok-heap.crew.mutators.items in
     let js : List Notes = c.in_ok-heap.crew.journals.items in
-    let one_each = so.crew.ready.one_each in
-    let (events, driven, made) = was_driven script c.in_ok-heap.heap ms c.in-Ok-drive.crew.mutators.items js c.in-Ok-drive.crew.journals.items c.in-Ok-drive.crew.collector.crew.log c.in-Ok-stop.world
+    let one_each = so.whole.ready.one_each in
+    let (events, driven, made) = was_driven script c.in_ok-heap.heap ms c.in-Ok.crew.mutators.items js c.in-Ok.crew.journals.items c.in-Ok.crew.collector.crew.log c.in-Ok-stop.world
     (record {
       opens = so.opens;
       some_slots = so.config.some_slots;
-      all = so.crew.all ∙ sym so.crew.script_all;
+      all = so.whole.all ∙ sym so.whole.script_all;
       one_each = one_each;
       fresh_all = so.fresh_mutators;
-      empty = λ k lt. (so.crew.ready.each k (fresh c.in_ok-heap.heap 1) (omega (arith, lt, one_each))).empty;
-      done = c.in-Ok-drive.ensures.done;
+      empty = λ k lt. (so.whole.ready.each k (fresh c.in_ok-heap.heap 1) (omega (arith, lt, one_each))).empty;
+      done = c.in-Ok.ensures.done;
       stopped = c.in-Ok-stop.ensures.stopped;
     }) in
     let run = c.in-Ok-stop.ensures.stopped.run in

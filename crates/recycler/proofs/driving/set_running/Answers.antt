@@ -47,8 +47,8 @@ module _ (script : Contents) (heap : Started) (ms : List Held) (js : List Notes)
         room = journals.room k;
       }
 
-pub returns-clause : goal.returns-clause
-returns-clause c =
+pub returns : goal.returns
+returns c =
     let script : Contents = c.args.script.now in
     let opens : c.in-Ok.heap.world ≡ opened (config_of script) = c.in-Ok.ensures.started ∙ c.in_ok-world.ensures in
     let config : IsConfig (config_of script) = subst (λ (w : Core). IsConfig w.config) (c.world.view_is ∙ c.in_ok-world.ensures) c.world.invariant.world.shaped.config in
@@ -58,18 +58,20 @@ returns-clause c =
     = many script c.in-Ok.heap c.in-Ok.mutators.items js config opens c.in-Ok.ensures.mutators c.in-Ok.ensures.fresh journals in
     let one_each = journals.one_each in
     record {
-      config = config;
-      opens = opens;
-      crew = record {
-        all = c.in-Ok.ensures.mutators.all;
-        script_all = sym (ap (λ (w : Core). w.config.mutators) opens);
-        ready = record {
-          few = omega (arith, as_many);
-          one_each = omega (arith, as_many, one_each);
-          each = ready_at script c.in-Ok.heap c.in-Ok.mutators.items js config opens c.in-Ok.ensures.mutators c.in-Ok.ensures.fresh journals;
+      running = record {
+        config = config;
+        opens = opens;
+        whole = record {
+          all = c.in-Ok.ensures.mutators.all;
+          script_all = sym (ap (λ (w : Core). w.config.mutators) opens);
+          ready = record {
+            few = omega (arith, as_many);
+            one_each = omega (arith, as_many, one_each);
+            each = ready_at script c.in-Ok.heap c.in-Ok.mutators.items js config opens c.in-Ok.ensures.mutators c.in-Ok.ensures.fresh journals;
+          };
+          collector = c.in-Ok.ensures.collector.0;
         };
-        collector = c.in-Ok.ensures.collector.0;
+        fresh_mutators = c.in-Ok.ensures.fresh;
+        fresh_collector = c.in-Ok.ensures.collector.1;
       };
-      fresh_mutators = c.in-Ok.ensures.fresh;
-      fresh_collector = c.in-Ok.ensures.collector.1;
     }
