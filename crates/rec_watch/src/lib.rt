@@ -1,7 +1,5 @@
 //! A script's run, move by move: the run that `recycler play` makes, and its settling.
-//!
-//! That it is that run no contract says: a test compares the last worlds of fifty runs with those of `play` and `settle`.
-//! Proved is that each call is safe and returns.
+//! Each call is proved to be safe and to return. That it is that run a test shows, by the last worlds of fifty runs.
 #![tactic(auto)]
 
 #[cfg(test)]

@@ -58,8 +58,7 @@ fn write_arrows<W: Write>(
 
 // A cluster for a set that waits for its tests.
 fn write_set<W: Write>(out: &mut W, number: usize, members: &[u16]) -> io::Result<()> {
-    write!(out, "  subgraph cluster_{number} {{")?;
-    write!(out, " label=\"set {number}\";")?;
+    write!(out, " subgraph cluster_{number} {{ label=\"set {number}\";")?;
     for member in members {
         write!(out, " s{member};")?;
     }

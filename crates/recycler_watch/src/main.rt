@@ -1,5 +1,4 @@
 //! See the collector work: a script is played as `recycler play` does, and what happens is shown, move by move.
-//!
 //! It promises no more than to be safe and to end; what the collector promises is said by the crates below.
 #![tactic(auto)]
 

@@ -102,7 +102,7 @@ impl Teller<'_> {
         }
     }
 
-    // A move in a line, between headings for an epoch that begins with it and for a phase that begins behind it.
+    // A move in a line, between headings for what begins with it.
     fn write_text<W: Write>(
         &self,
         out: &mut W,
@@ -123,11 +123,7 @@ impl Teller<'_> {
             Move::Step { .. } => write!(out, "{number:>5} collector")?,
         }
         writeln!(out, "  {text}")?;
-        let (before, phase) = (was.collector.phase, is.collector.phase);
-        if phase != before && phase != "rest" {
-            writeln!(out, "-- {phase}")?;
-        }
-        Ok(())
+        write_phase(out, was.collector.phase, is.collector.phase)
     }
 
     fn write_head<W: Write>(&self, out: &mut W) -> io::Result<()> {
@@ -184,6 +180,14 @@ impl Teller<'_> {
         let text = serde_json::to_string(self.alloc, &line).map_err(|_| NoMemory)?;
         writeln!(out, "{text}")
     }
+}
+
+// A heading behind the move that led to another phase.
+fn write_phase<W: Write>(out: &mut W, was: &str, is: &str) -> io::Result<()> {
+    if was != is && is != "rest" {
+        writeln!(out, "-- {is}")?;
+    }
+    Ok(())
 }
 
 // What isn't as it was; all, where nothing was.
