@@ -17,6 +17,7 @@ pub mod Freed
 pub mod Freeing
 pub mod Landed
 pub mod Landings
+pub mod Lasting
 pub mod Loads
 pub mod Moves
 pub mod Offering
@@ -40,6 +41,7 @@ pub mod Sums
 pub mod Sweeping
 pub mod Swept
 pub mod Taken
+pub mod Trials
 pub mod Trying
 pub mod TurnCases
 pub mod Turning

@@ -47,7 +47,7 @@ use Rattle.rec_core.specs.Moves.{AllFit, Fits, Move, after_move, after_moves, lo
 use Rattle.rec_core.specs.declared.config.Config.{Config}
 use Rattle.rec_core.proofs.CyclesTest.{none_of}
 use Rattle.rec_core.proofs.Landed.{HasLanded}
-use Rattle.rec_core.proofs.Loads.{BeginsNoTrial, tried_of}
+use Rattle.rec_core.proofs.Trials.{BeginsNoTrial, tried_of}
 use Rattle.rec_core.proofs.Preparing.{loads_due}
 use Rattle.rec_core.proofs.Runs.{given_is, move_kept, move_stays, moves_kept}
 use Rattle.rec_core.proofs.Trying.{loads_child, trying_lands}

@@ -14,7 +14,6 @@ use Rattle.rec_walk.specs.Load.{Load, place_loaded}
 use Rattle.rec_trial.specs.Loaded.{Run}
 use Rattle.rec_trial.specs.Tried.{loaded}
 use Rattle.rec_trial.specs.Witnessed.{word_at}
-use Rattle.rec_sigma.specs.Prepared as prepared
 
 -- the node is a member of a set
 abbrev pub is_member : State → (node : ℕ) → Bool

@@ -14,7 +14,6 @@ use Rattle.rec_trial.specs.Rules.{IsReady, LeadsToUnreleased, AllLeadToUnrelease
 use Rattle.rec_trial.specs.Trial.{Machine, Work, next_of, list_of, is_due, settled, pointed, took_at, took_of, opened_of, started_of}
 use Rattle.rec_trial.proofs.Course.{Course, at_phase, course_of, learnt, learnt_course, first_view, moved_course, released_same}
 use Rattle.rec_trial.proofs.Deletion.{Seen, Loads, seen, queue_at, with_load}
-use Rattle.rec_trial.proofs.Deletion as plain
 use Rattle.rec_trial.proofs.Moving.{settled_by, settled_is_due}
 use Rattle.rec_trial.proofs.Turns.{opening_kept}
 use Rattle.rec_trial.proofs.Views.{earlier, view, concat_last}

@@ -1,6 +1,6 @@
 -- The machine and the counts, seen as a trial by functions: what is done to the counts is done to what is seen.
-use Rattle.std.proofs.Common.{◌≡◌, ℕ, suc, ◌+◌, ◌-◌, ◌<◌, Bool, true, false, eqb, cond, Option, None, Some, List, [], ◌∷◌, ◌++◌, length, get_or, refl, sym, ap, ◌∙◌, arith, inl, inr, append_assoc, ltb, add-one}
-use Rattle.std.proofs.Math.ListN.{set, get_or-map}
+use Rattle.std.proofs.Common.{◌≡◌, ℕ, suc, ◌+◌, ◌-◌, ◌<◌, Bool, true, false, eqb, cond, Option, None, Some, List, [], ◌∷◌, ◌++◌, length, refl, sym, ap, ◌∙◌, arith, inl, inr, append_assoc, ltb, add-one}
+use Rattle.std.proofs.Math.ListN.{get_or-map}
 use Rattle.std.specs.List.{concat}
 use Rattle.std.proofs.lemmas.List.{append-nil, get_or-set_same, get_or-set_other, length-set, length-append}
 use Rattle.std.proofs.lemmas.Bool.Decides.{eqb_tells, nat_tests}

@@ -1,4 +1,5 @@
-use Rattle.rec_core.proofs.Loads.{all_known, no_trial}
+use Rattle.rec_core.proofs.Loads.{all_known}
+use Rattle.rec_core.proofs.Trials.{no_trial}
 use Rattle.rec_core.proofs.Runs.{end_kept}
 use Rattle.rec_core.proofs.laws.loaded_words_stay_references.Goals as goal
 

@@ -1,4 +1,4 @@
-use Rattle.rec_core.proofs.Loads.{no_trial}
+use Rattle.rec_core.proofs.Trials.{no_trial}
 use Rattle.rec_core.proofs.Outside.{all_untouched}
 use Rattle.rec_core.proofs.Runs.{end_kept}
 use Rattle.rec_core.proofs.laws.orange_members_stay_untouched.Goals as goal

@@ -1,0 +1,450 @@
+-- What the collector loaded lasts over a move: it stands in its field, was replaced, or was taken out.
+use Rattle.std.proofs.Common.{◌≡◌, ◌≢◌, ◌⊎◌, inl, inr, ℕ, ◌+◌, ◌-◌, ◌<◌, ◌≤◌, ◌==◌, true, leb, Option, None, Some, IfSome, List, [], ◌∷◌, map, length, slice_index_or, slice_set, refl, sym, ap, subst, ◌∙◌, arith}
+use Rattle.std.specs.List.{sum_by, Contains}
+use Rattle.std.proofs.lemmas.Bool.{cases_eq, cases_lt, cond-true, cond-false, eq-eqb, ne_eqb}
+use Rattle.std.proofs.lemmas.Bool.Decides.{nat_tests}
+use Rattle.std.proofs.lemmas.List.{set-get_or, get_or-set_other}
+use Rattle.std.proofs.lemmas.List.Elements.{Contains-append_left, Contains-append_right, Contains-get_or}
+use Rattle.std.proofs.lemmas.List.Sums.{sum_by-cons, sum_by-set}
+use Rattle.rec_word.specs.Mailbox.{crossing_word}
+use Rattle.rec_word.specs.declared.mailbox.Mailbox.TheVariants.{Retired}
+use Rattle.rec_word.specs.Op.{written}
+use Rattle.rec_word.specs.Place.{place_of}
+use Rattle.rec_word.specs.declared.op.Op.{Op}
+use Rattle.rec_word.specs.declared.op.Op.TheVariants as ops
+use Rattle.rec_model.specs.Sums.{only_if}
+use Rattle.rec_model.specs.Pending.{epoch_of, Write}
+use Rattle.rec_model.specs.Sets.{Cleared}
+use Rattle.rec_model.specs.declared.command.Cmd.{Cmd}
+use Rattle.rec_model.specs.declared.command.Cmd.TheVariants as commands
+use Rattle.rec_model.specs.declared.told.Told.{Told}
+use Rattle.rec_log.specs.declared.contents.Contents.{Contents}
+use Rattle.rec_mutator.specs.Private.{Private, is_busy, IsMachine, next_stamp, word_for}
+use Rattle.rec_mutator.specs.Next.{next_of}
+use Rattle.rec_mutator.specs.Step.{Step, Decides, GoesOn, LeavesBox}
+use Rattle.rec_mutator.specs.Took.{begun_of, left_of, step_of, took_of}
+use Rattle.rec_mutator.specs.declared.phase.Phase as phases
+use Rattle.rec_mutator.specs.declared.phase.Phase.TheVariants as at
+use Rattle.rec_mutator.specs.declared.work.Work.{Work}
+use Rattle.rec_mutator.specs.declared.work.Work.TheVariants as works
+use Rattle.rec_mutator.proofs.Steps.{whole_made}
+use Rattle.rec_collector.specs.Kept as collector_kept
+use Rattle.rec_collector.specs.Next as collectors_next
+use Rattle.rec_collector.specs.Parts.{Parts}
+use Rattle.rec_collector.specs.Private as collectors
+use Rattle.rec_collector.specs.Private.{with_parts}
+use Rattle.rec_collector.specs.Step as collectors_step
+use Rattle.rec_collector.specs.Took as collectors_took
+use Rattle.rec_collector.specs.Took.{cleared}
+use Rattle.rec_collector.specs.Touched.{tried_at}
+use Rattle.rec_collector.specs.declared.phase.Phase.{Phase}
+use Rattle.rec_collector.specs.declared.phase.Phase.TheVariants.{Idle, Looking, Swapping, Returning, Releasing, Freeing, Trying, Preparing, Opening, Sweeping, Closing}
+use Rattle.rec_collector.specs.declared.turn.Turn.{Turn}
+use Rattle.rec_collector.proofs.Steps as collectors_made
+use Rattle.rec_collector.proofs.Always.{names_word}
+use Rattle.rec_core.specs.Cells.{Cells, cell, with_cell}
+use Rattle.rec_core.specs.Config.{IsMutator}
+use Rattle.rec_core.specs.Core.{Core, cells_of, mutator, box, nobody, crossing_of}
+use Rattle.rec_core.specs.Kept.{IsBufferOf, IsHandshake, IsKept, Stand, stand_at}
+use Rattle.rec_core.specs.Loads.{cleared_by, cleared_in, IsKnown, Loaded, tried_in}
+use Rattle.rec_core.specs.Moves.{Fits, Move, after_move, begun, found_by, left_by, looked_at, offering, stepped, turned, turned_at, turned_by}
+use Rattle.rec_core.specs.Pending.{older_at, writes_in, writes_of}
+use Rattle.rec_core.specs.declared.config.Config.{Config}
+use Rattle.rec_core.proofs.Batches.{none_of}
+use Rattle.rec_core.proofs.Landings.{early_writes}
+use Rattle.rec_mutator.proofs.LogStamps.{word_stamp}
+use Rattle.rec_core.proofs.Rules.{epoch_of_stamp}
+use Rattle.rec_core.proofs.Runs.{given_is}
+use Rattle.rec_core.proofs.Steps.{actor_of, in_list}
+use Rattle.rec_core.proofs.Sums.{buffers_sum, writes_more, writes_same}
+use Rattle.rec_core.proofs.Turns.{now_at}
+use Rattle.rec_core.proofs.Shapes.{same_boxes}
+
+-- what the writes in a buffer weigh
+abbrev wrote : (Write → ℕ) → Contents → ℕ
+wrote g b = sum_by g (writes_in b.entries)
+
+-- what all writes weigh, row by row
+writes_sum : (g : Write → ℕ) (w : Core) → sum_by g (writes_of w) ≡ sum_by (λ (p : Private). wrote g p.log) w.mutators + (sum_by (wrote g) w.boxes + (sum_by (wrote g) w.collector.newer + sum_by (wrote g) w.collector.older))
+writes_sum g w = buffers_sum g (λ b. writes_in b.buffer.entries) w
+
+-- what becomes of the word in a field
+pub data Goes (w v : Core) (gone : List Cleared) (epoch place : ℕ) : Type 0 where
+  stays : slice_index_or v.words place 0 ≡ slice_index_or w.words place 0 → Goes w v gone epoch place
+  written_over : (new : ℕ) → epoch ≤ epoch_of new → ((g : Write → ℕ) → g (record { place = place; new = new; old = slice_index_or w.words place 0 }) ≤ sum_by g (writes_of v)) → Goes w v gone epoch place
+  goes_out : Contains gone (record { place = place; word = slice_index_or w.words place 0 }) → Goes w v gone epoch place
+
+-- what a move does to words and writes: no write of this epoch or a later one is lost
+pub record Keeps (w v : Core) (gone : List Cleared) (epoch : ℕ) : Type 0 where
+  pub words : (place : ℕ) → Goes w v gone epoch place
+  pub writes : (g : Write → ℕ) → ((x : Write) → epoch_of x.new < epoch → g x ≡ 0) → sum_by g (writes_of w) ≤ sum_by g (writes_of v)
+
+-- a write that replaced a word that was loaded
+abbrev pub closes : Loaded → Write → ℕ
+closes l x = only_if (l.place == x.place) (only_if (l.word == x.old) (only_if (leb l.epoch (epoch_of x.new)) 1))
+
+-- the same as `IsKnown`, by sums
+abbrev pub Lasts : Core → List Cleared → Loaded → Type 0
+Lasts v gone l = (slice_index_or v.words l.place 0 ≡ l.word) ⊎ ((0 < sum_by (closes l) (writes_of v)) ⊎ Contains gone (record { place = l.place; word = l.word }))
+
+closes_late : (l : Loaded) (x : Write) → epoch_of x.new < l.epoch → closes l x ≡ 0
+closes_late l x h = grind (arith, nat_tests)
+
+closes_here : (l : Loaded) (new : ℕ) → l.epoch ≤ epoch_of new → closes l (record { place = l.place; new = new; old = l.word }) ≡ 1
+closes_here l new h = grind (arith, nat_tests)
+
+none_gone : (x : Cleared) → Contains [] x → ⊥
+none_gone x c = let below = c.1 in omega arith
+
+-- what was loaded lasts over a move
+pub lasts_on : (w v : Core) (gone : List Cleared) (l : Loaded) → Keeps w v gone l.epoch → Lasts w [] l → Lasts v gone l
+lasts_on w v gone l k (inl here) = go (k.words l.place)
+  where
+    go : Goes w v gone l.epoch l.place → Lasts v gone l
+    go (Goes.stays e) = inl (e ∙ here)
+    go (Goes.written_over new late more) =
+        let one : closes l (record { place = l.place; new = new; old = slice_index_or w.words l.place 0 }) ≡ 1 = ap (λ o. closes l (record { place = l.place; new = new; old = o })) here ∙ closes_here l new late in
+        inr (inl (omega (arith, more (closes l), one)))
+    go (Goes.goes_out c) = inr (inr (subst (λ o. Contains gone (record { place = l.place; word = o })) here c))
+lasts_on w v gone l k (inr (inl some)) = inr (inl (omega (arith, some, k.writes (closes l) (closes_late l))))
+lasts_on w v gone l k (inr (inr c)) = absurd (none_gone _ c)
+
+-- what weighs something has an element that does
+some_weighs : {X : Type 0} (g : X → ℕ) (xs : List X) → 0 < sum_by g xs → (x : X) × Contains xs x × (0 < g x)
+some_weighs g [] h = absurd (omega (arith, h))
+some_weighs g (x ∷ xs) h = elim (cases_lt 0 (g x)) [
+  | inl some ↦ (x, Contains-append_left (x ∷ []) xs x (Contains-get_or (x ∷ []) 0 x (omega arith)), some)
+  | inr none ↦
+      let (y, c, some) = some_weighs g xs (omega (arith, h, none, sum_by-cons g x xs)) in
+      (y, Contains-append_right (x ∷ []) xs y c, some)
+]
+
+closes_parts : (l : Loaded) (x : Write) → 0 < closes l x → (x.place ≡ l.place) × (x.old ≡ l.word) × (l.epoch ≤ epoch_of x.new)
+closes_parts l x h = (grind (arith, nat_tests), grind (arith, nat_tests), grind (arith, nat_tests))
+
+pub known_lasts : (v : Core) (gone : List Cleared) (l : Loaded) → Lasts v gone l → IsKnown v gone l
+known_lasts v gone l (inl e) = IsKnown.stands e
+known_lasts v gone l (inr (inl some)) =
+    let (x, c, weighs) = some_weighs (closes l) (writes_of v) some in
+    let parts = closes_parts l x weighs in
+    IsKnown.replaced x c parts.0 parts.1 parts.2
+known_lasts v gone l (inr (inr c)) = IsKnown.taken_out c
+
+-- A step of a mutator, told by what it does to words and logs: it leaves the words, and log and mailbox hold the same writes,
+record IsPlain (op : Op) (word : ℕ) (p q : Private) (box left : Contents) : Type 0 where
+  pub words : (cells : Cells) → cell cells op ≡ word → (with_cell cells op (written op word)).words ≡ cells.words
+  pub same : (g : Write → ℕ) → wrote g q.log + wrote g left ≡ wrote g p.log + wrote g box
+
+-- or it exchanges a word and logs it.
+record IsPut (op : Op) (word : ℕ) (p q : Private) (box left : Contents) : Type 0 where
+  pub place : ℕ
+  pub new : ℕ
+  pub operation : op ≡ ops.SwapField place new
+  pub stamp : epoch_of new ≡ p.epoch
+  pub here : p.phase ≢ at.Crossing
+  pub settled : p.phase ≢ at.Giving
+  pub more : (g : Write → ℕ) → wrote g q.log + wrote g left ≡ wrote g p.log + wrote g box + g (record { place = place; new = new; old = word })
+
+box_stays : {p : Private} {box left : Contents} → LeavesBox p box left → p.phase ≢ at.Crossing → left ≡ box
+box_stays (LeavesBox.retires phase is) other = absurd (other phase)
+box_stays (LeavesBox.keeps phase is) other = is
+
+-- an operation that leaves the words
+abbrev LeavesWords : (word : ℕ) → Op → Type 0
+LeavesWords word op = (cells : Cells) → cell cells op ≡ word → (with_cell cells op (written op word)).words ≡ cells.words
+
+module _ {p q : Private} {word : ℕ} {box left : Contents} {op : Op} (leaves : LeavesBox p box left) where
+  plain_as : (its_op : Op) → op ≡ its_op → LeavesWords word its_op → p.phase ≢ at.Crossing → ((g : Write → ℕ) → wrote g q.log ≡ wrote g p.log) → IsPlain op word p q box left
+  plain_as its_op is words other same = record {
+    words = subst (LeavesWords word) (sym is) words;
+    same = λ g. omega (arith, same g, ap (wrote g) (box_stays leaves other));
+  }
+
+  plain_decides : {cmd : Cmd} {phase : phases.Phase} {its_op : Op} {registers : List (Option ℕ)} {told : Told} → Decides p op q cmd phase its_op registers p.log.entries told → LeavesWords word its_op → phase ≢ at.Crossing → IsPlain op word p q box left
+  plain_decides {its_op = its_op} d words other = plain_as its_op d.operation words (λ e. other (sym d.phase ∙ e)) (λ g. ap (λ (x : Private). wrote g x.log) d.after)
+
+  plain_goes : {phase next : phases.Phase} {its_op : Op} → GoesOn p op q phase its_op next → LeavesWords word its_op → phase ≢ at.Crossing → IsPlain op word p q box left
+  plain_goes {its_op = its_op} d words other = plain_as its_op d.operation words (λ e. other (sym d.phase ∙ e)) (λ g. ap (λ (x : Private). wrote g x.log) d.after)
+
+-- a load leaves the words
+load_leaves : (place word : ℕ) → LeavesWords word (ops.LoadField place)
+load_leaves place word cells e = ap (slice_set cells.words place) (sym e) ∙ set-get_or cells.words place 0
+
+step_logs : {p q : Private} {word : ℕ} {box left : Contents} {op : Op} → IsMachine p → Step p word box op q → LeavesBox p box left → IsPlain op word p q box left ⊎ IsPut op word p q box left
+step_logs m (Step.null reg d) b = inl (plain_decides b d (λ cells e. refl) (λ e. cc))
+step_logs m (Step.copy dst src d) b = inl (plain_decides b d (λ cells e. refl) (λ e. cc))
+step_logs m (Step.compare x y d) b = inl (plain_decides b d (λ cells e. refl) (λ e. cc))
+step_logs m (Step.get_of_null dst src f none d) b = inl (plain_decides b d (λ cells e. refl) (λ e. cc))
+step_logs {word = word} m (Step.get dst src f slot is d) b = inl (plain_decides b d (load_leaves _ word) (λ e. cc))
+step_logs m (Step.put_of_null src f val none d) b = inl (plain_decides b d (λ cells e. refl) (λ e. cc))
+step_logs m (Step.put_refused src f val slot is full d) b = inl (plain_decides b d (λ cells e. refl) (λ e. cc))
+step_logs {p} {q} {word} {box} {left} m (Step.put src f val slot is room d) b =
+    let other : p.phase ≢ at.Crossing = λ e. let x : at.Begun (works.Command (commands.Put src f val)) ≡ at.Crossing = sym d.phase ∙ e in cc in
+    let settled : p.phase ≢ at.Giving = λ e. let x : at.Begun (works.Command (commands.Put src f val)) ≡ at.Giving = sym d.phase ∙ e in cc in
+    inr (record {
+      place = place_of slot f p.fields;
+      new = word_for p val;
+      operation = d.operation;
+      stamp = epoch_of_stamp (word_for p val) (next_stamp p) (word_stamp p val m room);
+      here = other;
+      settled = settled;
+      more = λ g. omega (arith, ap (λ (x : Private). wrote g x.log) d.after, writes_more g p.log.entries (place_of slot f p.fields) (word_for p val) word, ap (wrote g) (box_stays b other));
+    })
+step_logs m (Step.value_of_null reg none d) b = inl (plain_decides b d (λ cells e. refl) (λ e. cc))
+step_logs m (Step.value reg slot is d) b = inl (plain_decides b d (λ cells e. refl) (λ e. cc))
+step_logs m (Step.new_refused reg label full d) b = inl (plain_decides b d (λ cells e. refl) (λ e. cc))
+step_logs m (Step.new_begins reg label room d) b = inl (plain_goes b d (λ cells e. refl) (λ e. cc))
+step_logs {p} {q} m (Step.new_wins reg label before slot free d) b =
+    let other : p.phase ≢ at.Crossing = λ e. let x : at.Scanning reg label before slot ≡ at.Crossing = sym d.phase ∙ e in cc in
+    inl (plain_as b (ops.ClaimHeader slot label) d.operation (λ cells e. refl) other (λ g. ap (λ (x : Private). wrote g x.log) d.after ∙ writes_same g p.log.entries slot))
+step_logs m (Step.new_goes_on reg label before slot taken next d) b = inl (plain_goes b d (λ cells e. refl) (λ e. cc))
+step_logs m (Step.new_finds_none reg label before slot taken last d) b = inl (plain_goes b d (λ cells e. refl) (λ e. cc))
+step_logs m (Step.new_is_full reg label before still d) b = inl (plain_decides b d (λ cells e. refl) (λ e. cc))
+step_logs m (Step.new_is_busy reg label before swept d) b = inl (plain_decides b d (λ cells e. refl) (λ e. cc))
+step_logs m (Step.poll_stays own d) b = inl (plain_goes b d (λ cells e. refl) (λ e. cc))
+step_logs m (Step.poll_crosses other d) b = inl (plain_goes b d (λ cells e. refl) (λ e. cc))
+step_logs {p} {q} {word} {box} {left} m (Step.take_box d) b = inl (record {
+  words = subst (LeavesWords word) (sym d.operation) (λ cells e. refl);
+  same = λ g. omega (arith, ap (λ (x : Private). wrote g x.log) d.after, gives g b);
+})
+  where
+    gives : (g : Write → ℕ) → LeavesBox p box left → wrote g left ≡ wrote g p.log
+    gives g (LeavesBox.retires phase is) = ap (wrote g) is
+    gives g (LeavesBox.keeps phase is) = absurd (phase d.phase)
+step_logs {p} {q} m (Step.give_box d) b =
+    let other : p.phase ≢ at.Crossing = λ e. let x : at.Giving ≡ at.Crossing = sym d.phase ∙ e in cc in
+    inl (plain_as b _ d.operation (λ cells e. refl) other (λ g. ap (λ (x : Private). wrote g x.log) d.after))
+
+-- a mutator is behind the requested epoch by one at most, and not at all unless its turn in a gathering is still to come
+own_late : (config : Config) (requested : ℕ) (p : Private) (crossing : ℕ) (b : Contents) (stand : Stand) → IsHandshake config requested p crossing b stand → requested - 1 ≤ p.epoch
+own_late config requested p crossing b Stand.Done h = omega (arith, h.0.epoch)
+own_late config requested p crossing b Stand.Held h = omega (arith, h.0.epoch)
+own_late config requested p crossing b Stand.Due (inl behind) = omega (arith, behind.epoch)
+own_late config requested p crossing b Stand.Due (inr (inl crosses)) = omega (arith, crosses.epoch)
+own_late config requested p crossing b Stand.Due (inr (inr crossed)) = omega (arith, crossed.epoch)
+
+late_at : (config : Config) (requested t : ℕ) (p : Private) (crossing : ℕ) (b : Contents) (phase : Phase) → IsHandshake config requested p crossing b (stand_at phase t) → tried_at requested phase ≤ p.epoch
+late_at config requested t p crossing b Idle h = omega (arith, h.0.epoch)
+late_at config requested t p crossing b (Looking u) h = own_late config requested p crossing b (stand_at (Looking u) t) h
+late_at config requested t p crossing b (Swapping u) h = own_late config requested p crossing b (stand_at (Swapping u) t) h
+late_at config requested t p crossing b (Returning u) h = own_late config requested p crossing b (stand_at (Returning u) t) h
+late_at config requested t p crossing b Releasing h = omega (arith, h.0.epoch)
+late_at config requested t p crossing b Freeing h = omega (arith, h.0.epoch)
+late_at config requested t p crossing b Trying h = omega (arith, h.0.epoch)
+late_at config requested t p crossing b Preparing h = omega (arith, h.0.epoch)
+late_at config requested t p crossing b Opening h = omega (arith, h.0.epoch)
+late_at config requested t p crossing b (Sweeping n) h = omega (arith, h.0.epoch)
+late_at config requested t p crossing b (Closing n) h = omega (arith, h.0.epoch)
+
+-- a step of a mutator
+module _ (w : Core) (t : ℕ) (kept : IsKept w) (is : IsMutator w.config t) (busy : is_busy (mutator w t) ≡ true) where
+  abbrev p : Private
+  p = mutator w t
+
+  abbrev word : ℕ
+  word = found_by w t
+
+  abbrev own_box : Contents
+  own_box = box w t
+
+  abbrev own : Private
+  own = step_of p word own_box
+
+  abbrev left : Contents
+  left = left_of (took_of p word) own_box
+
+  step_sums : (g : Write → ℕ) → sum_by g (writes_of (stepped w t)) + (wrote g p.log + wrote g own_box) ≡ sum_by g (writes_of w) + (wrote g own.log + wrote g left)
+  step_sums g =
+      let boxes : length w.boxes ≡ w.config.mutators = kept.mutators.mailboxes in
+      omega (
+        arith,
+        writes_sum g (stepped w t),
+        writes_sum g w,
+        sum_by-set (λ (x : Private). wrote g x.log) w.mutators (t - 1) own nobody (in_list w t kept is),
+        sum_by-set (wrote g) w.boxes (t - 1) left (collectors.blank 0 0) (omega (arith, boxes, is.0, is.1)),
+      )
+
+  logged_keeps : IsPlain (next_of p) word p own own_box left ⊎ IsPut (next_of p) word p own own_box left → Keeps w (stepped w t) [] (tried_in w)
+  logged_keeps (inl plain) = record {
+    words = λ place. Goes.stays (ap (λ ws. slice_index_or ws place 0) (plain.words (cells_of w) refl));
+    writes = λ g early. omega (arith, step_sums g, plain.same g);
+  }
+  logged_keeps (inr put) = record {
+    words = λ place. elim (cases_eq place put.place) [
+      | inl same ↦
+          let found : word ≡ slice_index_or w.words put.place 0 = ap (cell (cells_of w)) put.operation in
+          let late : tried_in w ≤ p.epoch = late_at w.config w.epoch t p (crossing_of w t) own_box w.collector.phase (actor_of w t kept is).handshake in
+          subst (Goes w (stepped w t) [] (tried_in w)) (sym same) (Goes.written_over put.new (omega (arith, late, put.stamp)) (λ g. omega (arith, step_sums g, put.more g, ap (λ o. g (record { place = put.place; new = put.new; old = o })) found)))
+      | inr other ↦ Goes.stays (ap (λ (o : Op). slice_index_or (with_cell (cells_of w) o (written o word)).words place 0) put.operation ∙ get_or-set_other w.words put.place place put.new 0 other)
+    ];
+    writes = λ g early. omega (arith, step_sums g, put.more g);
+  }
+
+  step_keeps : Keeps w (stepped w t) [] (tried_in w)
+  step_keeps =
+      let actor = actor_of w t kept is in
+      let whole = whole_made p word own_box busy actor.own.between in
+      logged_keeps (step_logs actor.own.machine whole.own whole.mailbox)
+
+-- what a turn of the collector does to its buffers: nothing, or the older ones are cleared and become the newer ones
+data Rows (p q : collectors.Private) : Type 0 where
+  kept_rows : q.newer ≡ p.newer → q.older ≡ p.older → Rows p q
+  turned_rows : q.newer ≡ map cleared p.older → q.older ≡ p.newer → Rows p q
+
+goes_rows : (p q : collectors.Private) (w : Parts) (turn : Turn) (next : Phase) → collectors_step.GoesOn (with_parts p w) q turn next → Rows p q
+goes_rows p q w turn next g = Rows.kept_rows (ap (λ (x : collectors.Private). x.newer) g.after) (ap (λ (x : collectors.Private). x.older) g.after)
+
+ends_rows : (p q : collectors.Private) (w : Parts) (turn : Turn) (swept : ℕ) → collectors_step.Ends (with_parts p w) q turn swept → Rows p q
+ends_rows p q w turn swept e = Rows.turned_rows (ap (λ (x : collectors.Private). x.newer) e.after) (ap (λ (x : collectors.Private). x.older) e.after)
+
+prepares_rows : (p q : collectors.Private) (w : Parts) (turn : Turn) → collectors_step.PreparesOn p w q turn → Rows p q
+prepares_rows p q w turn (collectors_step.PreparesOn.more busy g) = goes_rows p q w turn _ g
+prepares_rows p q w turn (collectors_step.PreparesOn.sweeps_next done some g) = goes_rows p q w turn _ g
+prepares_rows p q w turn (collectors_step.PreparesOn.completes done none e) = ends_rows p q w turn _ e
+
+tries_rows : (p q : collectors.Private) (w : Parts) (turn : Turn) → collectors_step.TriesOn p w q turn → Rows p q
+tries_rows p q w turn (collectors_step.TriesOn.more busy g) = goes_rows p q w turn _ g
+tries_rows p q w turn (collectors_step.TriesOn.prepares done on) = prepares_rows p q _ turn on
+
+clears_rows : (p q : collectors.Private) (turn : Turn) {w : Parts} → collectors_step.ClearsOn p q turn w → Rows p q
+clears_rows p q turn (collectors_step.ClearsOn.frees_on busy g) = goes_rows p q _ turn _ g
+clears_rows p q turn (collectors_step.ClearsOn.releases_on unfreed busy g) = goes_rows p q _ turn _ g
+clears_rows p q turn (collectors_step.ClearsOn.tests v unfreed still some tested on) = clears_rows p q turn on
+clears_rows p q turn (collectors_step.ClearsOn.tries unfreed still none on) = tries_rows p q _ turn on
+
+-- cleared buffers have no writes
+cleared_none : (g : Write → ℕ) (row : List Contents) → sum_by (wrote g) (map cleared row) ≡ 0
+cleared_none g [] = refl
+cleared_none g (b ∷ row) = omega (arith, sum_by-cons (wrote g) (cleared b) (map cleared row), cleared_none g row)
+
+-- the older buffers are of an epoch before the one that was requested for the last trial
+older_early : (first collections requested : ℕ) (phase : Phase) → 1 ≤ first → first + collections + collector_kept.under_way phase ≡ requested → older_at requested phase < tried_at requested phase
+older_early first collections requested Idle some e = omega (arith, e)
+older_early first collections requested (Looking t) some e = omega (arith, e)
+older_early first collections requested (Swapping t) some e = omega (arith, e)
+older_early first collections requested (Returning t) some e = omega (arith, e)
+older_early first collections requested Releasing some e = omega (arith, e)
+older_early first collections requested Freeing some e = omega (arith, e)
+older_early first collections requested Trying some e = omega (arith, e)
+older_early first collections requested Preparing some e = omega (arith, e)
+older_early first collections requested Opening some e = omega (arith, e)
+older_early first collections requested (Sweeping n) some e = omega (arith, e)
+older_early first collections requested (Closing n) some e = omega (arith, e)
+
+-- what one operation of the collector does to a word
+op_goes : (w v : Core) (op : Op) (epoch place slots fields mutators : ℕ) → v.words ≡ (with_cell (cells_of w) op (written op (cell (cells_of w) op))).words → collectors_step.NamesWord slots fields mutators op → Goes w v (cleared_by w (Some op)) epoch place
+op_goes w v (ops.StoreEpoch e) epoch place slots fields mutators is names = Goes.stays (ap (λ ws. slice_index_or ws place 0) is)
+op_goes w v (ops.LookBox t e) epoch place slots fields mutators is names = Goes.stays (ap (λ ws. slice_index_or ws place 0) is)
+op_goes w v (ops.ReturnBox t e) epoch place slots fields mutators is names = Goes.stays (ap (λ ws. slice_index_or ws place 0) is)
+op_goes w v (ops.LoadChild x) epoch place slots fields mutators is names = Goes.stays (ap (λ ws. slice_index_or ws place 0) (is ∙ set-get_or w.words x 0))
+op_goes w v (ops.ClearField x) epoch place slots fields mutators is names = elim (cases_eq place x) [
+  | inl same ↦ subst (Goes w v (cleared_by w (Some (ops.ClearField x))) epoch) (sym same) (Goes.goes_out (Contains-get_or (cleared_by w (Some (ops.ClearField x))) 0 (record { place = x; word = slice_index_or w.words x 0 }) (omega arith)))
+  | inr other ↦ Goes.stays (ap (λ ws. slice_index_or ws place 0) is ∙ get_or-set_other w.words x place 0 0 other)
+]
+op_goes w v (ops.FreeHeader x) epoch place slots fields mutators is names = Goes.stays (ap (λ ws. slice_index_or ws place 0) is)
+op_goes w v ops.AddFreed epoch place slots fields mutators is names = Goes.stays (ap (λ ws. slice_index_or ws place 0) is)
+op_goes w v _ epoch place slots fields mutators is names = absurd names
+
+-- a turn of the collector
+module _ (w : Core) (op : Op) (kept : IsKept w) (named : ◌≡◌ {A = Option Op} (collectors_next.next_of w.collector) (Some op)) where
+  open w use {collector as c}
+
+  abbrev found : ℕ
+  found = cell (cells_of w) op
+
+  abbrev its_box : Contents
+  its_box = box w (looked_at c.phase)
+
+  abbrev q : collectors.Private
+  q = collectors_took.step_of c found its_box
+
+  abbrev v : Core
+  v = turned_by w op found
+
+  -- where nothing is gathered the mailboxes stay
+  boxes_stay : {phase : Phase} → c.phase ≡ phase → left_by c found its_box phase ≡ its_box → v.boxes ≡ w.boxes
+  boxes_stay {phase} at same = ap (slice_set w.boxes (looked_at c.phase - 1)) (ap (left_by c found its_box) at ∙ same) ∙ same_boxes w (looked_at c.phase)
+
+  older_none : (g : Write → ℕ) → ((x : Write) → epoch_of x.new < tried_in w → g x ≡ 0) → sum_by (wrote g) c.older ≡ 0
+  older_none g early =
+      let both : length c.older ≡ length c.newer = kept.collector.machine.both in
+      let many : length c.newer ≡ w.config.mutators = kept.collector.mutators in
+      none_of (wrote g) c.older (collectors.blank 0 0) (λ i below.
+      let at : i + 1 - 1 ≡ i = omega arith in
+      let one : IsBufferOf w.config (older_at w.epoch c.phase) (slice_index_or c.older i (collectors.blank 0 0)) = subst (λ n. IsBufferOf w.config (older_at w.epoch c.phase) (slice_index_or c.older n (collectors.blank 0 0))) at (kept.collector.older (i + 1) (omega arith, omega (arith, below, both, many))) in
+      early_writes g (older_at w.epoch c.phase) (tried_in w) (slice_index_or c.older i (collectors.blank 0 0)).entries (older_early w.config.first_epoch c.collections w.epoch c.phase kept.config.some_epoch kept.collector.begun) early one.made)
+
+  rows_keep : v.boxes ≡ w.boxes → Rows c q → (g : Write → ℕ) → ((x : Write) → epoch_of x.new < tried_in w → g x ≡ 0) → sum_by g (writes_of w) ≤ sum_by g (writes_of v)
+  rows_keep boxes (Rows.kept_rows newer older) g early = omega (arith, writes_sum g v, writes_sum g w, ap (sum_by (wrote g)) boxes, ap (sum_by (wrote g)) newer, ap (sum_by (wrote g)) older)
+  rows_keep boxes (Rows.turned_rows newer older) g early = omega (arith, writes_sum g v, writes_sum g w, ap (sum_by (wrote g)) boxes, ap (sum_by (wrote g)) newer, ap (sum_by (wrote g)) older, cleared_none g c.older, older_none g early)
+
+  -- a mailbox is gathered: its buffer is one of the newer ones, in the place of a spare
+  gathered_keep : (t : ℕ) → c.phase ≡ Looking t → found ≡ crossing_word c.epoch Retired → q.newer ≡ slice_set c.newer (t - 1) its_box → q.older ≡ c.older → (g : Write → ℕ) → sum_by g (writes_of w) ≤ sum_by g (writes_of v)
+  gathered_keep t at crossed newer older g =
+      let now = now_at w (Looking t) kept at in
+      let many : length c.newer ≡ w.config.mutators = kept.collector.mutators in
+      let boxes : length w.boxes ≡ w.config.mutators = kept.mutators.mailboxes in
+      let first : 0 < t = now.first in
+      let there : t ≤ length c.newer = now.there in
+      let looked : looked_at c.phase ≡ t = ap looked_at at in
+      let b : its_box ≡ box w t = ap (box w) looked in
+      let left : left_by c found its_box c.phase ≡ collectors.spare c = ap (left_by c found its_box) at ∙ cond-true (found == crossing_word c.epoch Retired) _ _ (eq-eqb found (crossing_word c.epoch Retired) crossed) in
+      let filled : v.boxes ≡ slice_set w.boxes (t - 1) (collectors.spare c) = ap (λ n. slice_set w.boxes (n - 1) (left_by c found its_box c.phase)) looked ∙ ap (slice_set w.boxes (t - 1)) left in
+      let was : slice_index_or c.newer (t - 1) (collectors.blank 0 0) ≡ collectors.spare c = now.spares (t - 1) (omega arith) (omega (arith, first, there)) in
+      omega (
+        arith,
+        writes_sum g v,
+        writes_sum g w,
+        ap (sum_by (wrote g)) filled,
+        ap (sum_by (wrote g)) (newer ∙ ap (slice_set c.newer (t - 1)) b),
+        ap (sum_by (wrote g)) older,
+        sum_by-set (wrote g) w.boxes (t - 1) (collectors.spare c) (collectors.blank 0 0) (omega (arith, first, there, many, boxes)),
+        sum_by-set (wrote g) c.newer (t - 1) (box w t) (collectors.blank 0 0) (omega (arith, first, there)),
+        ap (wrote g) was,
+      )
+
+  writes_keep : {turn : Turn} → collectors_step.Step c found its_box (Some op) q turn → (g : Write → ℕ) → ((x : Write) → epoch_of x.new < tried_in w → g x ≡ 0) → sum_by g (writes_of w) ≤ sum_by g (writes_of v)
+  writes_keep (collectors_step.Step.spent at last none is turn) = let n : ◌≡◌ {A = Option Op} (Some op) None = none in absurd (cc)
+  writes_keep (collectors_step.Step.request at more is g) = rows_keep (boxes_stay at refl) (Rows.kept_rows (ap (λ (x : collectors.Private). x.newer) g.after) (ap (λ (x : collectors.Private). x.older) g.after))
+  writes_keep (collectors_step.Step.wait t at other is same turn) = rows_keep (boxes_stay at (cond-false (found == crossing_word c.epoch Retired) _ _ (ne_eqb found (crossing_word c.epoch Retired) other))) (Rows.kept_rows (ap (λ (x : collectors.Private). x.newer) same) (ap (λ (x : collectors.Private). x.older) same))
+  writes_keep (collectors_step.Step.gather t at crossed is g) = λ weight early. gathered_keep t at crossed (ap (λ (x : collectors.Private). x.newer) g.after) (ap (λ (x : collectors.Private). x.older) g.after) weight
+  writes_keep (collectors_step.Step.give_back t at other is g) = rows_keep (boxes_stay at refl) (Rows.kept_rows (ap (λ (x : collectors.Private). x.newer) g.after) (ap (λ (x : collectors.Private). x.older) g.after))
+  writes_keep (collectors_step.Step.apply t at last is on) = rows_keep (boxes_stay at refl) (clears_rows c q _ on)
+  writes_keep (collectors_step.Step.release at is on) = rows_keep (boxes_stay at refl) (clears_rows c q _ on)
+  writes_keep (collectors_step.Step.freeing at is on) = rows_keep (boxes_stay at refl) (clears_rows c q _ on)
+  writes_keep (collectors_step.Step.trial at is on) = rows_keep (boxes_stay at refl) (tries_rows c q _ _ on)
+  writes_keep (collectors_step.Step.preparation at is on) = rows_keep (boxes_stay at refl) (prepares_rows c q _ _ on)
+  writes_keep (collectors_step.Step.begin_sweep at is g) = rows_keep (boxes_stay at refl) (Rows.kept_rows (ap (λ (x : collectors.Private). x.newer) g.after) (ap (λ (x : collectors.Private). x.older) g.after))
+  writes_keep (collectors_step.Step.sweep swept u next at is took follows g) = rows_keep (boxes_stay at refl) (Rows.kept_rows (ap (λ (x : collectors.Private). x.newer) g.after) (ap (λ (x : collectors.Private). x.older) g.after))
+  writes_keep (collectors_step.Step.end_sweep swept at is e) = rows_keep (boxes_stay at refl) (Rows.turned_rows (ap (λ (x : collectors.Private). x.newer) e.after) (ap (λ (x : collectors.Private). x.older) e.after))
+
+  op_keeps : Keeps w v (cleared_by w (Some op)) (tried_in w)
+  op_keeps =
+      let made = collectors_made.step_made c found its_box kept.collector.machine kept.collector.between (given_is w op kept named) in
+      let names : collectors_step.NamesWord (length c.counts.slots) c.release.fields (length c.newer) op = subst (λ (o : Option Op). IfSome o (collectors_step.NamesWord (length c.counts.slots) c.release.fields (length c.newer))) named (names_word c kept.collector.machine) in
+      record {
+        words = λ place. op_goes w v op (tried_in w) place (length c.counts.slots) c.release.fields (length c.newer) refl names;
+        writes = writes_keep (subst (λ (o : Option Op). collectors_step.Step c found its_box o q (collectors_took.turn_of c found)) named made);
+      }
+
+-- what changes nothing that is loaded
+same_keeps : (w v : Core) (epoch : ℕ) → v.words ≡ w.words → ((g : Write → ℕ) → sum_by g (writes_of w) ≤ sum_by g (writes_of v)) → Keeps w v [] epoch
+same_keeps w v epoch words writes = record { words = λ place. Goes.stays (ap (λ ws. slice_index_or ws place 0) words); writes = λ g _. writes g }
+
+turn_keeps : (w : Core) → IsKept w → Keeps w (turned w) (cleared_in w Move.Turns) (tried_in w)
+turn_keeps w kept = go (collectors_next.next_of w.collector) refl
+  where
+    go : (x : Option Op) → collectors_next.next_of w.collector ≡ x → Keeps w (turned_at w x) (cleared_by w x) (tried_in w)
+    go None none = same_keeps w w (tried_in w) refl (λ g. omega arith)
+    go (Some op) named = op_keeps w op kept named
+
+begun_keeps : (w : Core) (t : ℕ) (work : Work) → IsKept w → IsMutator w.config t → Keeps w (begun w t work) [] (tried_in w)
+unfolding begun_of
+begun_keeps w t work kept is = same_keeps w (begun w t work) (tried_in w) refl (λ g. omega (arith, writes_sum g (begun w t work), writes_sum g w, sum_by-set (λ (x : Private). wrote g x.log) w.mutators (t - 1) (begun_of (mutator w t) work) nobody (in_list w t kept is)))
+
+-- each move keeps what was loaded
+pub move_keeps : (w : Core) (m : Move) → IsKept w → Fits w m → Keeps w (after_move w m) (cleared_in w m) (tried_in w)
+move_keeps w (Move.Begins t work) kept fits = begun_keeps w t work kept fits.0
+move_keeps w (Move.Steps t) kept fits = step_keeps w t kept fits.0 fits.1
+move_keeps w Move.Turns kept fits = turn_keeps w kept
+move_keeps w Move.Offers kept fits = same_keeps w (offering w) (tried_in w) refl (λ g. omega arith)
