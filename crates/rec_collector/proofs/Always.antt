@@ -145,9 +145,7 @@ trial_names m s fields mutators e k = go m.phase refl
 
     go : (p : trial_phase.Phase) → m.phase ≡ p → IfSome (trial_op_at p m) (NamesWord (length s.slots) fields mutators)
     go trial_at.Idle q = tt
-    go trial_at.Marking q = named _ (ap (λ p. trial_op_at p m) q)
-    go trial_at.Scanning q = named _ (ap (λ p. trial_op_at p m) q)
-    go trial_at.Collecting q = named _ (ap (λ p. trial_op_at p m) q)
+    go _ q = named _ (ap (λ p. trial_op_at p m) q)
 
 sweep_names : (s : State) (due : Option ℕ) (fields mutators : ℕ) → IsKept s → due ≡ slice_get s.free 0 → IfSome (sweep_next due) (NamesWord (length s.slots) fields mutators)
 unfolding sweep_next

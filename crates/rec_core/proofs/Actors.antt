@@ -43,14 +43,10 @@ own_stepped own sized found step label =
 
 -- a settled mutator gives no mailbox back
 pub settled_here : (phase : phases.Phase) → IsSettledIn phase → is_giving phase ≡ false
-settled_here at.Idle is = refl
-settled_here (at.Begun work) is = refl
-settled_here (at.Scanning reg label before slot) is = refl
-settled_here (at.Scanned reg label before) is = refl
 settled_here at.Crossing is = absurd is
 settled_here at.Swapping is = absurd is
 settled_here at.Giving is = absurd is
-settled_here (at.Finished work made) is = refl
+settled_here _ is = refl
 
 -- one that gives none back is in its own epoch
 pub epoch_here : (p : Private) → is_giving p.phase ≡ false → epoch_at p ≡ p.epoch

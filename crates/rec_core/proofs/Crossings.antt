@@ -32,7 +32,7 @@ use Rattle.rec_mutator.proofs.Found.{finds_fitting}
 use Rattle.rec_collector.specs.Kept.{under_way}
 use Rattle.rec_collector.specs.Private.{blank}
 use Rattle.rec_collector.specs.declared.phase.Phase.{Phase}
-use Rattle.rec_collector.specs.declared.phase.Phase.TheVariants.{Idle, Looking, Swapping, Returning, Releasing, Freeing, Trying, Preparing, Opening, Sweeping, Closing}
+use Rattle.rec_collector.specs.declared.phase.Phase.TheVariants.{Looking, Swapping, Returning}
 use Rattle.rec_core.specs.Cells.{cell}
 use Rattle.rec_core.specs.Config.{IsMutator, HasLabel}
 use Rattle.rec_core.specs.Core.{Core, cells_of, sight, mutator, box, crossing_of, spare_of, with_mutator}
@@ -80,17 +80,10 @@ left_same q b is = same_at q b q.phase is
 
 -- a mutator whose turn in a gathering is to come: the batch of the epoch before the last is the last one
 due_gathers : (requested t : ℕ) (phase : Phase) → stand_at phase t ≡ Stand.Due → (applied_at requested phase ≡ requested - 2) × (under_way phase ≡ 1)
-due_gathers requested t Idle is = cc
 due_gathers requested t (Looking u) is = (refl, refl)
 due_gathers requested t (Swapping u) is = (refl, refl)
 due_gathers requested t (Returning u) is = (refl, refl)
-due_gathers requested t Releasing is = cc
-due_gathers requested t Freeing is = cc
-due_gathers requested t Trying is = cc
-due_gathers requested t Preparing is = cc
-due_gathers requested t Opening is = cc
-due_gathers requested t (Sweeping n) is = cc
-due_gathers requested t (Closing n) is = cc
+due_gathers requested t _ is = cc
 
 -- one mailbox of a heap
 boxed : (w : Core) (t : ℕ) → IsKept w → IsMutator w.config t → t - 1 < length w.boxes

@@ -152,9 +152,7 @@ less_given_up s =
 -- a member that is refurbished is in no set, and Orange only where it was
 refurbished_eases : (f : Fate) (v : Slot) → ((refurbished f v).set ≡ None) × ((refurbished f v).colour ≡ Orange → v.colour ≡ Orange) × ((refurbished f v).colour ≡ Orange → (refurbished f v).released ≡ false → StaysExact v (refurbished f v))
 refurbished_eases fates.Free v = (refl, (λ o. o), (λ o r. (r, λ k q. q)))
-refurbished_eases fates.Zero v = (refl, (λ o. cc), (λ o r. cc))
-refurbished_eases fates.Root v = (refl, (λ o. cc), (λ o r. cc))
-refurbished_eases fates.Plain v = (refl, (λ o. cc), (λ o r. cc))
+refurbished_eases _ v = (refl, (λ o. cc), (λ o r. cc))
 
 -- the members of the last set are refurbished
 pub less_refurbished : (s t : State) → IsKept s → LastRefurbished s t → TestsLess s t

@@ -20,7 +20,7 @@ use Rattle.rec_collector.specs.Private.{Private}
 use Rattle.rec_collector.specs.Kept.{IsMachine, IsAt, NoneReleased}
 use Rattle.rec_collector.specs.declared.phase.Phase.{Phase}
 use Rattle.rec_collector.proofs.Following.{none_released}
-use Rattle.rec_collector.specs.declared.phase.Phase.TheVariants.{Idle, Looking, Swapping, Returning, Releasing, Freeing, Trying, Preparing, Opening, Sweeping, Closing}
+use Rattle.rec_collector.specs.declared.phase.Phase.TheVariants.{Idle, Releasing, Freeing, Trying, Preparing, Opening, Sweeping, Closing}
 use Rattle.rec_core.specs.Cycles.{is_member, AreFields}
 use Rattle.rec_core.specs.CyclesAt.{IsLoading, AreSeen, HasCyclesAt}
 use Rattle.rec_core.proofs.Counts.{slot_in}
@@ -66,9 +66,6 @@ listed_alive s k listed unbuffered node pos member = unreleased_in s node (λ be
 -- no machine releases a member before the next batch
 pub machine_alive : (c : Private) (phase : Phase) → IsMachine c → IsAt c phase → AreAliveAt (λ node. (slot_in c.counts node).released) c.counts phase
 machine_alive c Idle m now = none_alive c.counts (none_released now.0)
-machine_alive c (Looking t) m now = none_alive c.counts (none_released now.rest)
-machine_alive c (Swapping t) m now = none_alive c.counts (none_released now.rest)
-machine_alive c (Returning t) m now = none_alive c.counts (none_released now.rest)
 machine_alive c Releasing m now = tt
 machine_alive c Freeing m now = tt
 machine_alive c Trying m now = tt
@@ -76,6 +73,7 @@ machine_alive c Preparing m now = listed_alive c.counts m.counts now.tried.liste
 machine_alive c Opening m now = listed_alive c.counts m.counts now.0.tried.listed now.0.tried.unbuffered
 machine_alive c (Sweeping n) m now = listed_alive c.counts m.counts now.0.tried.listed now.0.tried.unbuffered
 machine_alive c (Closing n) m now = listed_alive c.counts m.counts now.0.tried.listed now.0.tried.unbuffered
+machine_alive c _ m now = none_alive c.counts (none_released now.rest)
 
 -- a trial at work
 loading_moved : {w v : Pending} (c : Private) (m : Move w v) → IsAfterLoads m → IsAccounted w → IsLoading w c → IsLoading v c
@@ -102,14 +100,8 @@ seen_moved {w} {v} c m after i alive l = record {
 -- What is known of the sets is kept by the moves that mutators make. A move that may not be made while sets are tested is one that is
 -- made before the batch.
 pub cycles_moved : {w v : Pending} (c : Private) (phase : Phase) (m : Move w v) → IsAfterLoads m → (w.applied + 1 ≡ w.requested → IsAmongTests m) → IsAccounted w → AreAliveAt w.released c.counts phase → HasCyclesAt w c phase → HasCyclesAt v c phase
-cycles_moved c Idle m after among i alive h = sets_wait_moved c.counts m after i alive h
-cycles_moved c (Looking t) m after among i alive h = sets_wait_moved c.counts m after i alive h
-cycles_moved c (Swapping t) m after among i alive h = sets_wait_moved c.counts m after i alive h
-cycles_moved c (Returning t) m after among i alive h = sets_wait_moved c.counts m after i alive h
 cycles_moved c Releasing m after among i alive h = sets_test_moved c.counts m (among h.testing.done) i h
 cycles_moved c Freeing m after among i alive h = sets_test_moved c.counts m (among h.testing.done) i h
 cycles_moved c Trying m after among i alive h = loading_moved c m after i h
 cycles_moved c Preparing m after among i alive h = seen_moved c m after i alive h
-cycles_moved c Opening m after among i alive h = sets_wait_moved c.counts m after i alive h
-cycles_moved c (Sweeping n) m after among i alive h = sets_wait_moved c.counts m after i alive h
-cycles_moved c (Closing n) m after among i alive h = sets_wait_moved c.counts m after i alive h
+cycles_moved c _ m after among i alive h = sets_wait_moved c.counts m after i alive h

@@ -45,7 +45,7 @@ use Rattle.rec_collector.specs.Kept as collector_kept
 use Rattle.rec_collector.specs.Step.{PreparesOn, TriesOn, IsBetween}
 use Rattle.rec_collector.specs.Took.{cleared, ended, moved}
 use Rattle.rec_collector.specs.declared.phase.Phase.{Phase}
-use Rattle.rec_collector.specs.declared.phase.Phase.TheVariants.{Idle, Looking, Swapping, Returning, Releasing, Freeing, Trying, Preparing, Opening, Sweeping, Closing}
+use Rattle.rec_collector.specs.declared.phase.Phase.TheVariants.{Idle, Trying, Preparing, Opening}
 use Rattle.rec_collector.specs.declared.turn.Turn.{Turn}
 use Rattle.rec_collector.proofs.Following.{none_released}
 use Rattle.rec_collector.proofs.Offering.{where_keeps, where_kept, where_ready}
@@ -275,17 +275,9 @@ landed_offered {w} {crossing} {words} {v} l unfreed =
 
 -- one turn more, and another phase, change nothing of what is known of the sets in that phase
 came_cycles : (p : Pending) (c : collectors.Private) (phase : Phase) → HasCyclesAt p c phase → HasCyclesAt p (moved c phase) phase
-came_cycles p c Idle h = h
-came_cycles p c (Looking t) h = h
-came_cycles p c (Swapping t) h = h
-came_cycles p c (Returning t) h = h
-came_cycles p c Releasing h = h
-came_cycles p c Freeing h = h
 came_cycles p c Trying h = record { before = h.before; words = h.words; run = h.run; trial = h.trial; at = h.at; stands = h.stands }
 came_cycles p c Preparing h = record { before = h.before; before_kept = h.before_kept; loads = h.loads; prepares = h.prepares; fields = h.fields; stands = h.stands }
-came_cycles p c Opening h = h
-came_cycles p c (Sweeping n) h = h
-came_cycles p c (Closing n) h = h
+came_cycles p c _ h = h
 
 -- a phase of a collection that has applied its batch: every mailbox is home, and nothing is swept yet
 pub record IsUnswept (requested : ℕ) (phase : Phase) : Type 0 where

@@ -224,17 +224,10 @@ own_late config requested p crossing b Stand.Due (inr (inl crosses)) = omega (ar
 own_late config requested p crossing b Stand.Due (inr (inr crossed)) = omega (arith, crossed.epoch)
 
 late_at : (config : Config) (requested t : ℕ) (p : Private) (crossing : ℕ) (b : Contents) (phase : Phase) → IsHandshake config requested p crossing b (stand_at phase t) → tried_at requested phase ≤ p.epoch
-late_at config requested t p crossing b Idle h = omega (arith, h.0.epoch)
 late_at config requested t p crossing b (Looking u) h = own_late config requested p crossing b (stand_at (Looking u) t) h
 late_at config requested t p crossing b (Swapping u) h = own_late config requested p crossing b (stand_at (Swapping u) t) h
 late_at config requested t p crossing b (Returning u) h = own_late config requested p crossing b (stand_at (Returning u) t) h
-late_at config requested t p crossing b Releasing h = omega (arith, h.0.epoch)
-late_at config requested t p crossing b Freeing h = omega (arith, h.0.epoch)
-late_at config requested t p crossing b Trying h = omega (arith, h.0.epoch)
-late_at config requested t p crossing b Preparing h = omega (arith, h.0.epoch)
-late_at config requested t p crossing b Opening h = omega (arith, h.0.epoch)
-late_at config requested t p crossing b (Sweeping n) h = omega (arith, h.0.epoch)
-late_at config requested t p crossing b (Closing n) h = omega (arith, h.0.epoch)
+late_at config requested t p crossing b _ h = omega (arith, h.0.epoch)
 
 -- a step of a mutator
 module _ (w : Core) (t : ℕ) (kept : IsKept w) (is : IsMutator w.config t) (busy : is_busy (mutator w t) ≡ true) where

@@ -19,7 +19,7 @@ use Rattle.rec_walk.specs.declared.member.Member.{Member}
 use Rattle.rec_collector.specs.Next as collectors_next
 use Rattle.rec_collector.specs.Touched.{tried_at}
 use Rattle.rec_collector.specs.declared.phase.Phase.{Phase}
-use Rattle.rec_collector.specs.declared.phase.Phase.TheVariants.{Idle, Looking, Swapping, Returning, Releasing, Freeing, Trying, Preparing, Opening, Sweeping, Closing}
+use Rattle.rec_collector.specs.declared.phase.Phase.TheVariants.{Looking, Swapping, Returning, Releasing, Freeing}
 use Rattle.rec_core.specs.Core.{Core}
 use Rattle.rec_core.specs.Kept.{IsKept}
 use Rattle.rec_core.specs.Loads.{cleared_in, cleared_over, IsKnown, IsReferenceStill, Loaded, loaded_by, loaded_in, loaded_over, tried_in}
@@ -49,7 +49,6 @@ lasts_over w (m ∷ ms) l kept fit within epoch h =
 -- fields are loaded by trials and preparations alone, in the epoch that is requested then
 loads_tried : (w : Core) (place : ℕ) (phase : Phase) → w.collector.phase ≡ phase → ◌≡◌ {A = Option Op} (collectors_next.next_at w.collector phase) (Some (ops.LoadChild place)) → tried_at w.epoch phase ≡ w.epoch
 unfolding collectors_next.next_at release_next freeing_next
-loads_tried w place Idle at named = refl
 loads_tried w place (Looking t) at named = absurd (cc)
 loads_tried w place (Swapping t) at named = absurd (cc)
 loads_tried w place (Returning t) at named = absurd (cc)
@@ -63,11 +62,7 @@ loads_tried w place Freeing at named = go w.collector.freeing.at named
     go : (x : Option Member) → ◌≡◌ {A = Option Op} (freeing_op_at w.collector.freeing.fields x) (Some (ops.LoadChild place)) → w.epoch - 1 ≡ w.epoch
     go None named = absurd (cc)
     go (Some a) named = absurd (cc)
-loads_tried w place Trying at named = refl
-loads_tried w place Preparing at named = refl
-loads_tried w place Opening at named = refl
-loads_tried w place (Sweeping n) at named = refl
-loads_tried w place (Closing n) at named = refl
+loads_tried w place _ at named = refl
 
 -- a word that is found in a field was put in the requested epoch or before
 put_early : (w : Core) (place : ℕ) → IsKept w → epoch_of (slice_index_or w.words place 0) ≤ w.epoch

@@ -36,7 +36,7 @@ use Rattle.rec_collector.specs.Private.{parts_of}
 use Rattle.rec_collector.specs.Took.{step_of}
 use Rattle.rec_collector.specs.Touched.{IsOrangeIn, named_by, tried_at, WasUntouched}
 use Rattle.rec_collector.specs.declared.phase.Phase.{Phase}
-use Rattle.rec_collector.specs.declared.phase.Phase.TheVariants.{Idle, Looking, Swapping, Returning, Releasing, Freeing, Trying, Preparing, Opening, Sweeping, Closing}
+use Rattle.rec_collector.specs.declared.phase.Phase.TheVariants.{Idle, Releasing, Freeing, Trying, Preparing, Sweeping}
 use Rattle.rec_collector.proofs.Touched.{begins_on, has_on, loads_on, LoadsOn, outside_later, untouched, untouched_on, untouched_same}
 use Rattle.rec_core.specs.Cells.{cell}
 use Rattle.rec_core.specs.Core.{Core, cells_of, box}
@@ -127,9 +127,6 @@ loads_none c place Idle has named = go (is_spent c) named
     go : (b : Bool) → ◌≡◌ {A = Option Op} (cond b None (Some (ops.StoreEpoch (c.epoch + 1)))) (Some (ops.LoadChild place)) → ⊥
     go true named = cc
     go false named = cc
-loads_none c place (Looking t) has named = cc
-loads_none c place (Swapping t) has named = cc
-loads_none c place (Returning t) has named = cc
 loads_none c place Releasing has named = go c.release.at named
   where
     go : (x : Option releases.At) → ◌≡◌ {A = Option Op} (release_op_at c.release.fields x) (Some (ops.LoadChild place)) → ⊥
@@ -142,13 +139,12 @@ loads_none c place Freeing has named = go c.freeing.at named
     go (Some a) named = cc
 loads_none c place Trying has named = has
 loads_none c place Preparing has named = has
-loads_none c place Opening has named = cc
 loads_none c place (Sweeping n) has named = go c.due named
   where
     go : (x : Option ℕ) → ◌≡◌ {A = Option Op} (sweep_op_at x) (Some (ops.LoadChild place)) → ⊥
     go None named = cc
     go (Some a) named = cc
-loads_none c place (Closing n) has named = cc
+loads_none c place _ has named = cc
 
 loaded_none : (w : Core) (x : Option Op) → ((place : ℕ) → ◌≡◌ {A = Option Op} x (Some (ops.LoadChild place)) → ⊥) → loaded_by w x ≡ []
 loaded_none w None n = refl

@@ -99,13 +99,6 @@ module _ (cells : Cells) where
 
   -- and it is there
   pub row_within : (op : Op) → IsWithin cells op → index_of (length cells.words) (length cells.headers) op < length cells.words + length cells.headers + 2 + length cells.crossing
-  row_within (ops.LoadField place) is = omega (arith, is)
-  row_within (ops.SwapField place word) is = omega (arith, is)
-  row_within (ops.LoadChild place) is = omega (arith, is)
-  row_within (ops.ClearField place) is = omega (arith, is)
-  row_within (ops.LoadHeader slot) is = omega (arith, is)
-  row_within (ops.ClaimHeader slot label) is = omega (arith, is)
-  row_within (ops.FreeHeader slot) is = omega (arith, is)
   row_within ops.LoadEpoch is = omega arith
   row_within (ops.StoreEpoch e) is = omega arith
   row_within ops.LoadFreed is = omega arith
@@ -115,6 +108,7 @@ module _ (cells : Cells) where
   row_within (ops.GiveBox t e) is = omega (arith, is.0, is.1)
   row_within (ops.LookBox t e) is = omega (arith, is.0, is.1)
   row_within (ops.ReturnBox t e) is = omega (arith, is.0, is.1)
+  row_within _ is = omega (arith, is)
 
 -- what a row holds that was laid out
 pub cells_row : (c : Cells) → cells_of_row (length c.words) (length c.headers) (row c) ≡ c
@@ -152,38 +146,15 @@ row_cells f s r le =
 words_long : (c : Cells) (op : Op) (x : ℕ) → length (with_cell c op x).words ≡ length c.words
 words_long c (ops.LoadField place) x = length-set c.words place x
 words_long c (ops.SwapField place word) x = length-set c.words place x
-words_long c (ops.LoadHeader slot) x = refl
-words_long c ops.LoadEpoch x = refl
-words_long c (ops.LoadCross t) x = refl
-words_long c (ops.ClaimHeader slot label) x = refl
-words_long c ops.LoadFreed x = refl
 words_long c (ops.LoadChild place) x = length-set c.words place x
 words_long c (ops.ClearField place) x = length-set c.words place x
-words_long c (ops.FreeHeader slot) x = refl
-words_long c (ops.TakeBox t e) x = refl
-words_long c (ops.GiveBox t e) x = refl
-words_long c (ops.StoreEpoch e) x = refl
-words_long c (ops.LookBox t e) x = refl
-words_long c (ops.ReturnBox t e) x = refl
-words_long c ops.AddFreed x = refl
+words_long c _ x = refl
 
 headers_long : (c : Cells) (op : Op) (x : ℕ) → length (with_cell c op x).headers ≡ length c.headers
-headers_long c (ops.LoadField place) x = refl
-headers_long c (ops.SwapField place word) x = refl
 headers_long c (ops.LoadHeader slot) x = length-set c.headers slot x
-headers_long c ops.LoadEpoch x = refl
-headers_long c (ops.LoadCross t) x = refl
 headers_long c (ops.ClaimHeader slot label) x = length-set c.headers slot x
-headers_long c ops.LoadFreed x = refl
-headers_long c (ops.LoadChild place) x = refl
-headers_long c (ops.ClearField place) x = refl
 headers_long c (ops.FreeHeader slot) x = length-set c.headers slot x
-headers_long c (ops.TakeBox t e) x = refl
-headers_long c (ops.GiveBox t e) x = refl
-headers_long c (ops.StoreEpoch e) x = refl
-headers_long c (ops.LookBox t e) x = refl
-headers_long c (ops.ReturnBox t e) x = refl
-headers_long c ops.AddFreed x = refl
+headers_long c _ x = refl
 
 module _ (f s : ℕ) (r : List ℕ) (long : f + s + 2 ≤ length r) where
   pub places_are : length (cells_of_row f s r).words ≡ f

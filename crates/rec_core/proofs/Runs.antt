@@ -17,7 +17,7 @@ use Rattle.rec_collector.specs.Next.{next_of, next_at}
 use Rattle.rec_collector.specs.Step.{Step, IsBetween}
 use Rattle.rec_collector.specs.Took.{step_of, turn_of}
 use Rattle.rec_collector.specs.declared.phase.Phase.{Phase}
-use Rattle.rec_collector.specs.declared.phase.Phase.TheVariants.{Idle, Looking, Swapping, Returning, Releasing, Freeing, Trying, Preparing, Opening, Sweeping, Closing}
+use Rattle.rec_collector.specs.declared.phase.Phase.TheVariants.{Looking, Swapping, Returning, Releasing, Freeing, Trying, Preparing}
 use Rattle.rec_collector.proofs.Keeping.{machine_kept}
 use Rattle.rec_collector.proofs.Steps.{step_made}
 use Rattle.rec_core.specs.Cells.{cell}
@@ -41,16 +41,7 @@ use Rattle.rec_core.proofs.Turns.{now_at}
 -- the mailbox that the collector looks at next is that of a mutator
 pub looked_is : (w : Core) (phase : Phase) → IsKept w → w.collector.phase ≡ phase → IsMutator w.config (looked_at phase)
 looked_is w (Looking t) kept is = let now = now_at w (Looking t) kept is in mutator_at w t (Looking t) kept is (now.first, now.there)
-looked_is w Idle kept is = (omega arith, kept.config.some_mutators)
-looked_is w (Swapping t) kept is = (omega arith, kept.config.some_mutators)
-looked_is w (Returning t) kept is = (omega arith, kept.config.some_mutators)
-looked_is w Releasing kept is = (omega arith, kept.config.some_mutators)
-looked_is w Freeing kept is = (omega arith, kept.config.some_mutators)
-looked_is w Trying kept is = (omega arith, kept.config.some_mutators)
-looked_is w Preparing kept is = (omega arith, kept.config.some_mutators)
-looked_is w Opening kept is = (omega arith, kept.config.some_mutators)
-looked_is w (Sweeping n) kept is = (omega arith, kept.config.some_mutators)
-looked_is w (Closing n) kept is = (omega arith, kept.config.some_mutators)
+looked_is w _ kept is = (omega arith, kept.config.some_mutators)
 
 -- and it is of this heap's size
 pub sized_is : (w : Core) → IsKept w → IsSized w.collector.registers w.collector.capacity (box w (looked_at w.collector.phase))
@@ -61,8 +52,6 @@ sized_is w kept =
 -- the word that the collector finds is one that it may be given, by phase
 given_at : (w : Core) (op : Op) (phase : Phase) → IsKept w → w.collector.phase ≡ phase → ◌≡◌ {A = Option Op} (next_at w.collector phase) (Some op) → IsGivenAt w.collector (cell (cells_of w) op) phase
 unfolding IsGivenAt next_at release_next freeing_next
-given_at w op Idle kept is named = tt
-given_at w op (Looking t) kept is named = tt
 given_at w op (Swapping t) kept is named = subst IsBetween is kept.collector.between
 given_at w op (Returning t) kept is named = λ last. covered w t kept is last
 given_at w op Releasing kept is named = go w.collector.release.at refl
@@ -94,9 +83,7 @@ given_at w op Preparing kept is named =
     let its : op ≡ ops.LoadChild place = due ∙ ap (λ n. ops.LoadChild (place_of a.member.slot a.member.field n)) fields in
     let found : cell (cells_of w) op ≡ slice_index_or w.words place 0 = ap (cell (cells_of w)) its in
     subst (λ n. IfSome (target_of n) (λ slot. slot < length w.collector.counts.slots)) (sym found) (seen_there w kept is a at)
-given_at w op Opening kept is named = tt
-given_at w op (Sweeping n) kept is named = tt
-given_at w op (Closing n) kept is named = tt
+given_at w op _ kept is named = tt
 
 pub given_is : (w : Core) (op : Op) → IsKept w → ◌≡◌ {A = Option Op} (next_of w.collector) (Some op) → IsGiven w.collector (cell (cells_of w) op)
 unfolding IsGiven next_of

@@ -13,7 +13,7 @@ use Rattle.rec_mutator.specs.Step.{IsStill}
 use Rattle.rec_mutator.specs.Took.{begun_of, step_of, took_of}
 use Rattle.rec_mutator.specs.declared.made.Made.TheVariants as makes
 use Rattle.rec_mutator.specs.declared.phase.Phase.{Phase}
-use Rattle.rec_mutator.specs.declared.phase.Phase.TheVariants.{Idle, Begun, Scanning, Scanned, Crossing, Swapping, Giving, Finished}
+use Rattle.rec_mutator.specs.declared.phase.Phase.TheVariants.{Begun, Crossing, Swapping}
 use Rattle.rec_mutator.specs.declared.work.Work.TheVariants as works
 use Rattle.rec_mutator.proofs.Steps.{here_same, TakesNone}
 use Rattle.rec_collector.specs.Next.{next_of as collector_next}
@@ -29,14 +29,9 @@ use Rattle.rec_core.proofs.Unfinished.{work_stays}
 
 -- a command in work takes no mailbox
 command_none : (reg label : ℕ) (phase : Phase) → work_at phase ≡ Some (works.Command (commands.New reg label)) → TakesNone phase
-command_none reg label Idle e = tt
-command_none reg label (Begun work) e = tt
-command_none reg label (Scanning r l before slot) e = tt
-command_none reg label (Scanned r l before) e = tt
 command_none reg label Crossing e = cc
 command_none reg label Swapping e = cc
-command_none reg label Giving e = tt
-command_none reg label (Finished work made) e = tt
+command_none reg label _ e = tt
 
 -- another mutator stays
 other_stays : (w : Core) (s t : ℕ) (p : Private) → IsMutator w.config s → IsMutator w.config t → s ≢ t → mutator (record w { mutators = slice_set w.mutators (s - 1) p }) t ≡ mutator w t

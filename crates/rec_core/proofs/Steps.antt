@@ -253,14 +253,8 @@ IsAnswered (at.Finished work made) = Unit {0}
 IsAnswered _ = ⊥
 
 answered_parts : (slots freed : ℕ) (headers : List ℕ) (phase : phases.Phase) → IsAnswered phase → IsSettledIn phase × (HasLabelAt phase × IsScanning slots headers freed phase)
-answered_parts slots freed headers at.Idle is = absurd is
-answered_parts slots freed headers (at.Begun work) is = absurd is
-answered_parts slots freed headers (at.Scanning reg label before slot) is = absurd is
-answered_parts slots freed headers (at.Scanned reg label before) is = absurd is
-answered_parts slots freed headers at.Crossing is = absurd is
-answered_parts slots freed headers at.Swapping is = absurd is
-answered_parts slots freed headers at.Giving is = absurd is
 answered_parts slots freed headers (at.Finished work made) is = (tt, (tt, tt))
+answered_parts slots freed headers _ is = absurd is
 
 -- what is known after an answer
 pub record Answers {w : Core} {t word : ℕ} {op : Op} {q : Private} (m : Makes w t word op q) (registers : List (Option ℕ)) (entries : List Entry) : Type 0 where

@@ -67,14 +67,9 @@ quiet_both w v u t first second =
 
 -- what a scan has found is said of headers and the freed word alone
 found_same : (w : Core) (t : ℕ) (q : Private) (phase : Phase) → HasFound w phase → HasFound (with_mutator w t q) phase
-found_same w t q Idle is = tt
-found_same w t q (Begun work) is = tt
 found_same w t q (Scanning reg label before slot) is = is
 found_same w t q (Scanned reg label before) is = is
-found_same w t q Crossing is = tt
-found_same w t q Swapping is = tt
-found_same w t q Giving is = tt
-found_same w t q (Finished work made) is = tt
+found_same w t q _ is = tt
 
 works_found : (w v : Core) (t : ℕ) (phase : Phase) → OnlyWorks w v t → HasFound w phase → HasFound v phase
 works_found w v t phase only is = subst (λ (x : Core). HasFound x phase) (sym only.others) (found_same w t (mutator v t) phase is)
@@ -113,13 +108,7 @@ waits_epoch before w t (Waits.holds phase still epoch) = epoch
 -- a machine whose work isn't finished is busy
 busy_told : (at : Phase) (work : Work) → work_at at ≡ Some work → is_busy_at at ≡ is_none (answer_at at)
 busy_told Idle work is = let not_so : ◌≡◌ {A = Option Work} None (Some work) = is in (cc)
-busy_told (Begun its) work is = refl
-busy_told (Scanning reg label before slot) work is = refl
-busy_told (Scanned reg label before) work is = refl
-busy_told Crossing work is = refl
-busy_told Swapping work is = refl
-busy_told Giving work is = refl
-busy_told (Finished its made) work is = refl
+busy_told _ work is = refl
 
 -- a machine that is busy has a work
 busy_work : (at : Phase) → is_busy_at at ≡ true → (work : Work) × (work_at at ≡ Some work)
@@ -127,21 +116,14 @@ busy_work Idle busy = absurd (false≢true busy)
 busy_work (Begun work) busy = (work, refl)
 busy_work (Scanning reg label before slot) busy = (works.Command (commands.New reg label), refl)
 busy_work (Scanned reg label before) busy = (works.Command (commands.New reg label), refl)
-busy_work Crossing busy = (works.Poll, refl)
-busy_work Swapping busy = (works.Poll, refl)
-busy_work Giving busy = (works.Poll, refl)
 busy_work (Finished work made) busy = absurd (false≢true busy)
+busy_work _ busy = (works.Poll, refl)
 
 -- a finished work is no longer busy
 pub answered_idle : (at : Phase) (made : Made) → answer_at at ≡ Some made → is_busy_at at ≡ false
 answered_idle Idle made is = refl
-answered_idle (Begun its) made is = let not_so : ◌≡◌ {A = Option Made} None (Some made) = is in (cc)
-answered_idle (Scanning reg label before slot) made is = let not_so : ◌≡◌ {A = Option Made} None (Some made) = is in (cc)
-answered_idle (Scanned reg label before) made is = let not_so : ◌≡◌ {A = Option Made} None (Some made) = is in (cc)
-answered_idle Crossing made is = let not_so : ◌≡◌ {A = Option Made} None (Some made) = is in (cc)
-answered_idle Swapping made is = let not_so : ◌≡◌ {A = Option Made} None (Some made) = is in (cc)
-answered_idle Giving made is = let not_so : ◌≡◌ {A = Option Made} None (Some made) = is in (cc)
 answered_idle (Finished its other) made is = refl
+answered_idle _ made is = let not_so : ◌≡◌ {A = Option Made} None (Some made) = is in (cc)
 
 -- the step that a mutator makes
 its_step : (w : Core) (t : ℕ) → IsKept w → IsMutator w.config t → is_busy (mutator w t) ≡ true → Step (mutator w t) (found_by w t) (box w t) (next_of (mutator w t)) (step_of (mutator w t) (found_by w t) (box w t))
@@ -182,13 +164,8 @@ steps_limited w t kept is =
 most_at : (slots steps : ℕ) (x : Option Work) (work : Work) → 0 < slots → x ≡ Some work → IfSome x (λ one. steps ≤ limit_of slots one) → steps ≤ slots + 2
 most_at slots steps None work some is few = let not_so : ◌≡◌ {A = Option Work} None (Some work) = is in (cc)
 most_at slots steps (Some (works.Command (commands.New reg label))) work some is few = few
-most_at slots steps (Some (works.Command (commands.Null reg))) work some is few = let one : steps ≤ 1 = few in omega arith
-most_at slots steps (Some (works.Command (commands.Copy dst src))) work some is few = let one : steps ≤ 1 = few in omega arith
-most_at slots steps (Some (works.Command (commands.Get dst src f))) work some is few = let one : steps ≤ 1 = few in omega arith
-most_at slots steps (Some (works.Command (commands.Put src f val))) work some is few = let one : steps ≤ 1 = few in omega arith
-most_at slots steps (Some (works.Command (commands.Value reg))) work some is few = let one : steps ≤ 1 = few in omega arith
-most_at slots steps (Some (works.Command (commands.Same a b))) work some is few = let one : steps ≤ 1 = few in omega arith
 most_at slots steps (Some works.Poll) work some is few = let three : steps ≤ 3 = few in omega arith
+most_at slots steps _ work some is few = let one : steps ≤ 1 = few in omega arith
 
 most_steps : (w : Core) (t : ℕ) → IsKept w → IsMutator w.config t → is_busy (mutator w t) ≡ true → (mutator w t).steps ≤ w.config.slots + 2
 most_steps w t kept is busy =

@@ -66,26 +66,20 @@ own_next p = by p.phase
 
     first : (cmd : Cmd) → IsOwnOp p (first_op p cmd)
     first (commands.New reg label) = born (is_full p)
-    first (commands.Null reg) = refl
-    first (commands.Copy dst src) = refl
     first (commands.Get dst src f) = read f (register p src)
     first (commands.Put src f val) = wrote f val (register p src) (is_full p)
     first (commands.Value reg) = labelled (register p reg)
-    first (commands.Same a b) = refl
+    first _ = refl
 
     worked : (work : Work) → IsOwnOp p (begun_op p work)
     worked (works.Command cmd) = first cmd
     worked works.Poll = tt
 
     by : (phase : phases.Phase) → IsOwnOp p (next_at p phase)
-    by at.Idle = refl
     by (at.Begun work) = worked work
     by (at.Scanning reg label before slot) = tt
     by (at.Scanned reg label before) = tt
-    by at.Crossing = refl
-    by at.Swapping = refl
-    by at.Giving = refl
-    by (at.Finished work made) = refl
+    by _ = refl
 
 -- the own crossing word
 crossing_within : (w : Core) (t n : ℕ) → IsKept w → IsMutator w.config t → n ≡ t → (1 ≤ n) × (n ≤ length w.crossing)
@@ -110,14 +104,8 @@ names_slots w t kept is = λ r slot names. subst (λ n. slot < n) (sym (actor_of
 
 -- a mailbox that waits to be swapped isn't one that doesn't
 not_both : (phase : phases.Phase) → IsBetween phase → IsSwapping phase → ⊥
-not_both at.Idle between swaps = swaps
-not_both (at.Begun work) between swaps = swaps
-not_both (at.Scanning reg label before slot) between swaps = swaps
-not_both (at.Scanned reg label before) between swaps = swaps
-not_both at.Crossing between swaps = swaps
 not_both at.Swapping between swaps = between
-not_both at.Giving between swaps = swaps
-not_both (at.Finished work made) between swaps = swaps
+not_both _ between swaps = swaps
 
 -- a spare of this heap is one of each of its mutators
 spare_own : (w : Core) (t : ℕ) → IsKept w → IsMutator w.config t → spare_of w.config ≡ spare (retiring (mutator w t))
@@ -147,14 +135,9 @@ may_step w t kept is busy =
     none takes swaps = absurd (not_both (took_of (mutator w t) (found_by w t)).phase (step_between (learnt_made (mutator w t) (found_by w t) (box w t) busy takes)) swaps)
 
     spared : (phase : phases.Phase) → (mutator w t).phase ≡ phase → IsBetween phase → IsSwapping (took_of (mutator w t) (found_by w t)).phase → box w t ≡ spare (took_of (mutator w t) (found_by w t))
-    spared at.Idle here between = none (subst TakesNone (sym here) tt)
-    spared (at.Begun work) here between = none (subst TakesNone (sym here) tt)
-    spared (at.Scanning reg label before slot) here between = none (subst TakesNone (sym here) tt)
-    spared (at.Scanned reg label before) here between = none (subst TakesNone (sym here) tt)
     spared at.Crossing here between = λ swaps. (behind_of w t kept is here).1.spare ∙ spare_own w t kept is ∙ ap spare (sym (learns_taken (mutator w t) (found_by w t) here))
     spared at.Swapping here between = absurd between
-    spared at.Giving here between = none (subst TakesNone (sym here) tt)
-    spared (at.Finished work made) here between = none (subst TakesNone (sym here) tt)
+    spared _ here between = none (subst TakesNone (sym here) tt)
 
 -- what the collector names is there
 pub collector_within : (w : Core) (op : Op) → IsKept w → collector_step.NamesWord (length w.collector.counts.slots) w.collector.release.fields (length w.collector.newer) op → IsWithin (cells_of w) op

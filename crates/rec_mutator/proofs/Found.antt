@@ -9,7 +9,7 @@ use Rattle.rec_mutator.specs.Next.{next_of, next_at, begun_op, first_op, own_wor
 use Rattle.rec_mutator.specs.Step.{IsFitting}
 use Rattle.rec_mutator.specs.Took.{IsFound}
 use Rattle.rec_mutator.specs.declared.phase.Phase.{Phase}
-use Rattle.rec_mutator.specs.declared.phase.Phase.TheVariants.{Idle, Begun, Scanning, Scanned, Crossing, Swapping, Giving, Finished}
+use Rattle.rec_mutator.specs.declared.phase.Phase.TheVariants.{Begun, Crossing}
 use Rattle.rec_mutator.specs.declared.work.Work.{Work}
 use Rattle.rec_mutator.specs.declared.work.Work.TheVariants as works
 
@@ -33,12 +33,10 @@ new_finds p cell false = tt
 -- the first step of a command
 first_finds : (p : Private) (cell : Op → ℕ) (cmd : Cmd) → IsFitting p cell → IsFound p (first_op p cmd) (cell (first_op p cmd))
 first_finds p cell (commands.New reg label) fits = new_finds p cell (is_full p)
-first_finds p cell (commands.Null reg) fits = tt
-first_finds p cell (commands.Copy dst src) fits = tt
 first_finds p cell (commands.Get dst src f) fits = read_finds p cell f (register p src)
 first_finds p cell (commands.Put src f val) fits = write_finds p cell f val (register p src) (is_full p)
 first_finds p cell (commands.Value reg) fits = label_finds p cell reg (register p reg) refl fits
-first_finds p cell (commands.Same a b) fits = tt
+first_finds p cell _ fits = tt
 
 -- the first step of a work
 begun_finds : (p : Private) (cell : Op → ℕ) (work : Work) → IsFitting p cell → IsFound p (begun_op p work) (cell (begun_op p work))
@@ -48,14 +46,9 @@ begun_finds p cell works.Poll fits = fits.epoch
 -- a step, by phase
 finds_at : (p : Private) (cell : Op → ℕ) (phase : Phase) → p.phase ≡ phase → IsFitting p cell → IsFound p (next_at p phase) (cell (next_at p phase))
 unfolding next_at
-finds_at p cell Idle is fits = tt
 finds_at p cell (Begun work) is fits = begun_finds p cell work fits
-finds_at p cell (Scanning reg label before slot) is fits = tt
-finds_at p cell (Scanned reg label before) is fits = tt
 finds_at p cell Crossing is fits = fits.home is
-finds_at p cell Swapping is fits = tt
-finds_at p cell Giving is fits = tt
-finds_at p cell (Finished work made) is fits = tt
+finds_at p cell _ is fits = tt
 
 -- what a step finds is what it may find
 pub finds_fitting : (p : Private) (cell : Op → ℕ) → IsFitting p cell → IsFound p (next_of p) (cell (next_of p))

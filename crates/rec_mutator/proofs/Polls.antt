@@ -13,7 +13,7 @@ use Rattle.rec_mutator.specs.Took.{took_of, swapped_at, swapped_of, step_of, IsB
 use Rattle.rec_mutator.specs.declared.made.Made.{Made}
 use Rattle.rec_mutator.specs.declared.made.Made.TheVariants as makes
 use Rattle.rec_mutator.specs.declared.phase.Phase.{Phase}
-use Rattle.rec_mutator.specs.declared.phase.Phase.TheVariants.{Idle, Begun, Scanning, Scanned, Crossing, Swapping, Giving, Finished}
+use Rattle.rec_mutator.specs.declared.phase.Phase.TheVariants.{Begun, Crossing, Swapping, Giving, Finished}
 use Rattle.rec_mutator.specs.declared.work.Work.TheVariants as works
 use Rattle.rec_mutator.proofs.Steps.{step_made}
 
@@ -113,11 +113,6 @@ poll_has_cause p word box busy whole = poll_cause (step_made p word box busy who
 -- what holds of the whole step holds of what is learnt of the word: a mailbox that waits to be swapped is no poll's end
 before_swap : (p q : Private) (word : ℕ) (box : Contents) (at : Phase) → q.phase ≡ at → PollHasCause p (swapped_at q box at) word → PollHasCause p q word
 unfolding swapped_at
-before_swap p q word box Idle is cause = cause
-before_swap p q word box (Begun work) is cause = cause
-before_swap p q word box (Scanning reg label before slot) is cause = cause
-before_swap p q word box (Scanned reg label before) is cause = cause
-before_swap p q word box Crossing is cause = cause
 before_swap p q word box Swapping is cause =
     let none : answer_of q ≡ None = ap answer_at is in
     record {
@@ -125,8 +120,7 @@ before_swap p q word box Swapping is cause =
       some = λ e. ((λ told. (cause.some e).0 (sym none ∙ told)), λ because. none ∙ (cause.some e).1 because);
       epoch = cause.epoch;
     }
-before_swap p q word box Giving is cause = cause
-before_swap p q word box (Finished work made) is cause = cause
+before_swap p q word box _ is cause = cause
 
 -- every word that is learnt ends a poll where it has to
 pub took_polled : (p : Private) (word : ℕ) → is_busy p ≡ true → IsBetween p.phase → PollHasCause p (took_of p word) word

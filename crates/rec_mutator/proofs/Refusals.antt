@@ -19,7 +19,7 @@ use Rattle.rec_mutator.proofs.Scans.{scanned_none}
 use Rattle.rec_mutator.specs.declared.made.Made.{Made}
 use Rattle.rec_mutator.specs.declared.made.Made.TheVariants as makes
 use Rattle.rec_mutator.specs.declared.phase.Phase.{Phase}
-use Rattle.rec_mutator.specs.declared.phase.Phase.TheVariants.{Idle, Begun, Scanning, Scanned, Crossing, Swapping, Giving, Finished}
+use Rattle.rec_mutator.specs.declared.phase.Phase.TheVariants.{Scanned, Swapping}
 use Rattle.rec_mutator.specs.declared.work.Work.{Work}
 use Rattle.rec_mutator.specs.declared.work.Work.TheVariants as works
 use Rattle.rec_mutator.proofs.Steps.{step_made}
@@ -217,14 +217,8 @@ answer_cause p word box cmd told kept by = step_cause cmd told kept by.work by.a
 -- where a command is answered no mailbox waits to be swapped: the whole step is what is learnt of the word
 unswapped : (q : Private) (box : Contents) (told : Told) (at : Phase) → answer_at at ≡ Some (makes.Answered told) → swapped_at q box at ≡ q
 unfolding swapped_at
-unswapped q box told Idle answer = refl
-unswapped q box told (Begun work) answer = refl
-unswapped q box told (Scanning reg label before slot) answer = refl
-unswapped q box told (Scanned reg label before) answer = refl
-unswapped q box told Crossing answer = refl
 unswapped q box told Swapping answer = let not_so : ◌≡◌ {A = Option Made} None (Some (makes.Answered told)) = answer in absurd (cc)
-unswapped q box told Giving answer = refl
-unswapped q box told (Finished work made) answer = refl
+unswapped q box told _ answer = refl
 
 -- so what is learnt has the cause of its answer
 pub took_cause : (p : Private) (word : ℕ) (cmd : Cmd) (told : Told) → IsMachine p → is_busy p ≡ true → IsBetween p.phase → work_of p ≡ Some (works.Command cmd) → answer_of (took_of p word) ≡ Some (makes.Answered told)

@@ -187,14 +187,8 @@ step_between (Step.give_box c) = crossing_between tt c
 -- where no mailbox waits to be swapped, none is
 unswapped_at : (q : Private) (box : Contents) (phase : Phase) → IsBetween phase → swapped_at q box phase ≡ q
 unfolding swapped_at
-unswapped_at q box Idle is = refl
-unswapped_at q box (Begun work) is = refl
-unswapped_at q box (Scanning reg label before slot) is = refl
-unswapped_at q box (Scanned reg label before) is = refl
-unswapped_at q box Crossing is = refl
 unswapped_at q box Swapping is = absurd is
-unswapped_at q box Giving is = refl
-unswapped_at q box (Finished work made) is = refl
+unswapped_at q box _ is = refl
 
 pub unswapped : (q : Private) (box : Contents) → IsBetween q.phase → swapped_of q box ≡ q
 unfolding swapped_of
@@ -211,14 +205,8 @@ here_made p word box busy none = subst (Step p word box (next_of p)) (sym (here_
 
 -- no mailbox waits to be swapped where none is taken
 pub none_between : (phase : Phase) → TakesNone phase → IsBetween phase
-none_between Idle none = tt
-none_between (Begun work) none = tt
-none_between (Scanning reg label before slot) none = tt
-none_between (Scanned reg label before) none = tt
-none_between Crossing none = tt
 none_between Swapping none = none
-none_between Giving none = tt
-none_between (Finished work made) none = tt
+none_between _ none = tt
 
 -- a step that takes the own mailbox
 crossing_made : (p : Private) (word : ℕ) (box : Contents) → p.phase ≡ Crossing → Step p word box (next_of p) (step_of p word box)
@@ -228,14 +216,9 @@ crossing_made p word box is =
 
 -- a step, by phase
 step_at : (p : Private) (word : ℕ) (box : Contents) (phase : Phase) → p.phase ≡ phase → is_busy p ≡ true → IsBetween phase → Step p word box (next_of p) (step_of p word box)
-step_at p word box Idle is busy whole = here_made p word box busy (subst TakesNone (sym is) tt)
-step_at p word box (Begun work) is busy whole = here_made p word box busy (subst TakesNone (sym is) tt)
-step_at p word box (Scanning reg label before slot) is busy whole = here_made p word box busy (subst TakesNone (sym is) tt)
-step_at p word box (Scanned reg label before) is busy whole = here_made p word box busy (subst TakesNone (sym is) tt)
 step_at p word box Crossing is busy whole = crossing_made p word box is
 step_at p word box Swapping is busy whole = absurd whole
-step_at p word box Giving is busy whole = here_made p word box busy (subst TakesNone (sym is) tt)
-step_at p word box (Finished work made) is busy whole = here_made p word box busy (subst TakesNone (sym is) tt)
+step_at p word box _ is busy whole = here_made p word box busy (subst TakesNone (sym is) tt)
 
 -- what comes next, and what is learnt of the word found and of the mailbox that is taken, is a step
 pub step_made : (p : Private) (word : ℕ) (box : Contents) → is_busy p ≡ true → IsBetween p.phase → Step p word box (next_of p) (step_of p word box)

@@ -8,7 +8,7 @@ use Rattle.rec_mutator.specs.Private.{Private, register, is_full, HasOperands, I
 use Rattle.rec_mutator.specs.Next.{next_of, next_at, begun_op, first_op, own_word, read_op, write_op, label_op}
 use Rattle.rec_mutator.specs.Step.{NamesWord, NamesSlots}
 use Rattle.rec_mutator.specs.declared.phase.Phase.{Phase}
-use Rattle.rec_mutator.specs.declared.phase.Phase.TheVariants.{Idle, Begun, Scanning, Scanned, Crossing, Swapping, Giving, Finished}
+use Rattle.rec_mutator.specs.declared.phase.Phase.TheVariants.{Idle, Begun, Scanned, Finished}
 use Rattle.rec_mutator.specs.declared.work.Work.{Work}
 use Rattle.rec_mutator.specs.declared.work.Work.TheVariants as works
 
@@ -36,12 +36,10 @@ new_names p false = tt
 -- the first step of a command
 first_names : (p : Private) (cmd : Cmd) → HasOperands p cmd → NamesSlots p → NamesWord p.slots p.fields (first_op p cmd)
 first_names p (commands.New reg label) operands there = new_names p (is_full p)
-first_names p (commands.Null reg) operands there = tt
-first_names p (commands.Copy dst src) operands there = tt
 first_names p (commands.Get dst src f) operands there = read_names p f (register p src) (there src) operands.2
 first_names p (commands.Put src f val) operands there = write_names p f val (register p src) (is_full p) (there src) operands.1
 first_names p (commands.Value reg) operands there = label_names p (register p reg) (there reg)
-first_names p (commands.Same a b) operands there = tt
+first_names p _ operands there = tt
 
 -- the first step of a work
 begun_names : (p : Private) (work : Work) → IsValid p work → NamesSlots p → NamesWord p.slots p.fields (begun_op p work)
@@ -53,12 +51,9 @@ names_at : (p : Private) (phase : Phase) → IsAt p phase → NamesSlots p → N
 unfolding next_at
 names_at p Idle at there = tt
 names_at p (Begun work) at there = begun_names p work at.0 there
-names_at p (Scanning reg label before slot) at there = at.1
 names_at p (Scanned reg label before) at there = tt
-names_at p Crossing at there = at.1
-names_at p Swapping at there = at.1
-names_at p Giving at there = at.1
 names_at p (Finished work made) at there = tt
+names_at p _ at there = at.1
 
 -- what comes next names a word of the heap
 pub names_word : (p : Private) → IsMachine p → NamesSlots p → NamesWord p.slots p.fields (next_of p)

@@ -103,12 +103,7 @@ birth_headers w slot t (commands.New reg label) told birth = (label, ap (λ (b :
   where
     sight_new : Bool → Sight
     sight_new b = if b then sight_with_birth w t reg slot label else w
-birth_headers w slot t (commands.Null reg) told birth = cc
-birth_headers w slot t (commands.Copy dst src) told birth = cc
-birth_headers w slot t (commands.Get dst src f) told birth = cc
-birth_headers w slot t (commands.Put src f val) told birth = cc
-birth_headers w slot t (commands.Value reg) told birth = cc
-birth_headers w slot t (commands.Same a b) told birth = cc
+birth_headers w slot t _ told birth = cc
 
 -- the slot of a birth is taken then
 pub born_taken : (w v : Core) (slot t : ℕ) (cmd : Cmd) (told : Told) → length w.headers ≡ w.config.slots → is_birth (cmd, told) ≡ true → IsBirthplace w t slot → sight v ≡ sight_told (sight w) slot t cmd told → IsTaken (sight v) slot

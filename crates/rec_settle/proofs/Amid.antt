@@ -4,7 +4,7 @@ use Rattle.rec_model.specs.Sight.{Sight}
 use Rattle.rec_collector.specs.Kept.{under_way}
 use Rattle.rec_collector.specs.Private.{Private}
 use Rattle.rec_collector.specs.declared.phase.Phase.{Phase}
-use Rattle.rec_collector.specs.declared.phase.Phase.TheVariants.{Idle, Looking, Swapping, Returning, Releasing, Freeing, Trying, Preparing, Opening, Sweeping, Closing}
+use Rattle.rec_collector.specs.declared.phase.Phase.TheVariants.{Idle}
 use Rattle.rec_core.specs.Core.{Core, sight}
 use Rattle.rec_core.specs.Kept.{IsKept}
 use Rattle.rec_core.specs.Moves.{turned, Move}
@@ -15,7 +15,7 @@ use Rattle.rec_core.proofs.Rest.QuietTurns.{quiet_turned}
 use Rattle.rec_core.proofs.Rest.RestingSeen.{rests_seen}
 use Rattle.rec_core.proofs.Rest.Rounds.{rests_turned}
 use Rattle.rec_core.proofs.Rest.TurnRules.{turn_is}
-use Rattle.rec_core.proofs.Runs.{move_kept, move_stays, turned_kept}
+use Rattle.rec_core.proofs.Runs.{move_stays, turned_kept}
 use Rattle.rec_settle.specs.Collecting.{HasPolled, IsAmid, IsCollection}
 
 -- In the midst of a collection mutators are at rest, and no collection more is complete.
@@ -66,16 +66,7 @@ quiet_after first before after kept quiet c =
 -- a collection that isn't complete is under way
 pub busy_way : (phase : Phase) → (phase ≡ Idle → ⊥) → under_way phase ≡ 1
 busy_way Idle busy = absurd (busy refl)
-busy_way (Looking t) busy = refl
-busy_way (Swapping t) busy = refl
-busy_way (Returning t) busy = refl
-busy_way Releasing busy = refl
-busy_way Freeing busy = refl
-busy_way Trying busy = refl
-busy_way Preparing busy = refl
-busy_way Opening busy = refl
-busy_way (Sweeping n) busy = refl
-busy_way (Closing n) busy = refl
+busy_way _ busy = refl
 
 -- A collection of a round, which began at rest, when nothing had been written or born for so many epochs.
 module _ (first : ℕ) (r : Round) (before : Core) (kept : IsKept before) (quiet : AreQuiet first before) (idle : before.collector.phase ≡ Idle) (late : first + epochs_before r ≤ before.epoch + 1) (some : r ≡ Round.Over → ⊥)

@@ -7,7 +7,7 @@ use Rattle.rec_collector.specs.Parts.{Parts}
 use Rattle.rec_collector.specs.Private.{Private}
 use Rattle.rec_collector.specs.Step.{ClearsOn, PreparesOn, TriesOn}
 use Rattle.rec_collector.specs.declared.phase.Phase.{Phase}
-use Rattle.rec_collector.specs.declared.phase.Phase.TheVariants.{Idle, Looking, Swapping, Returning, Releasing, Freeing, Trying, Preparing, Opening, Sweeping, Closing}
+use Rattle.rec_collector.specs.declared.phase.Phase.TheVariants.{Sweeping, Closing}
 use Rattle.rec_collector.specs.declared.turn.Turn.{Turn}
 use Rattle.rec_core.specs.Core.{Core, sight}
 use Rattle.rec_core.specs.Kept.{IsKept}
@@ -124,15 +124,7 @@ few_swept w kept = go w.collector.phase refl
     go : (phase : Phase) → w.collector.phase ≡ phase → swept w ≤ w.config.slots
     go (Sweeping n) is = omega (arith, ap swept_at is, (now_at w (Sweeping n) kept is).0.left, slots)
     go (Closing n) is = omega (arith, ap swept_at is, (now_at w (Closing n) kept is).0.left, slots)
-    go Idle is = omega (arith, ap swept_at is)
-    go (Looking t) is = omega (arith, ap swept_at is)
-    go (Swapping t) is = omega (arith, ap swept_at is)
-    go (Returning t) is = omega (arith, ap swept_at is)
-    go Releasing is = omega (arith, ap swept_at is)
-    go Freeing is = omega (arith, ap swept_at is)
-    go Trying is = omega (arith, ap swept_at is)
-    go Preparing is = omega (arith, ap swept_at is)
-    go Opening is = omega (arith, ap swept_at is)
+    go _ is = omega (arith, ap swept_at is)
 
 -- Once it is complete: a collection sweeps as many slots as there are, at most.
 pub record StaysAfter (before after : Core) : Type 0 where

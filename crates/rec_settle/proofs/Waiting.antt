@@ -12,7 +12,7 @@ use Rattle.rec_mutator.specs.declared.work.Work.TheVariants as works
 use Rattle.rec_collector.specs.Kept.{limit_of}
 use Rattle.rec_collector.specs.Private.{Private}
 use Rattle.rec_collector.specs.declared.phase.Phase.{Phase}
-use Rattle.rec_collector.specs.declared.phase.Phase.TheVariants.{Idle, Looking, Swapping, Returning, Releasing, Freeing, Trying, Preparing, Opening, Sweeping, Closing}
+use Rattle.rec_collector.specs.declared.phase.Phase.TheVariants.{Idle, Looking}
 use Rattle.rec_collector.specs.declared.turn.Turn.TheVariants as answers
 use Rattle.rec_collector.proofs.Always.{within_limit}
 use Rattle.rec_core.specs.Config.{IsMutator}
@@ -45,16 +45,7 @@ few_waits w (Looking t) = go (crossing_of w t == crossing_word w.epoch Retired)
     go : (b : Bool) → (if b then 0 else 1) ≤ 1
     go true = omega arith
     go false = omega arith
-few_waits w Idle = omega arith
-few_waits w (Swapping t) = omega arith
-few_waits w (Returning t) = omega arith
-few_waits w Releasing = omega arith
-few_waits w Freeing = omega arith
-few_waits w Trying = omega arith
-few_waits w Preparing = omega arith
-few_waits w Opening = omega arith
-few_waits w (Sweeping n) = omega arith
-few_waits w (Closing n) = omega arith
+few_waits w _ = omega arith
 
 -- what is left of a collection
 abbrev pub left_of : Core → ℕ

@@ -52,14 +52,9 @@ command_takes_none p cmd work = by p.phase refl
     no phase is poll = true≢false (sym (ap is_poll (sym work ∙ ap work_at is ∙ poll)))
 
     by : (phase : phases.Phase) → p.phase ≡ phase → TakesNone p.phase
-    by at.Idle is = subst TakesNone (sym is) tt
-    by (at.Begun w) is = subst TakesNone (sym is) tt
-    by (at.Scanning reg label b slot) is = subst TakesNone (sym is) tt
-    by (at.Scanned reg label b) is = subst TakesNone (sym is) tt
     by at.Crossing is = absurd (no at.Crossing is refl)
     by at.Swapping is = absurd (no at.Swapping is refl)
-    by at.Giving is = subst TakesNone (sym is) tt
-    by (at.Finished w made) is = subst TakesNone (sym is) tt
+    by _ is = subst TakesNone (sym is) tt
 
 -- a work without an answer isn't finished
 pub busy_still : (p : Private) (work : Work) → work_of p ≡ Some work → ((made : Made) → answer_of p ≡ Some made → ⊥) → is_busy p ≡ true

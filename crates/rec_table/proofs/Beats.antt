@@ -40,14 +40,8 @@ config_after w [] = refl
 config_after w (m ∷ ms) = config_after (after_move w m) ms ∙ move_stays w m
 
 swaps_or_not : (phase : phases.Phase) → IsSwapping phase ⊎ (IsSwapping phase → ⊥)
-swaps_or_not at.Idle = inr (λ x. x)
-swaps_or_not (at.Begun work) = inr (λ x. x)
-swaps_or_not (at.Scanning reg label before slot) = inr (λ x. x)
-swaps_or_not (at.Scanned reg label before) = inr (λ x. x)
-swaps_or_not at.Crossing = inr (λ x. x)
 swaps_or_not at.Swapping = inl tt
-swaps_or_not at.Giving = inr (λ x. x)
-swaps_or_not (at.Finished work made) = inr (λ x. x)
+swaps_or_not _ = inr (λ x. x)
 
 -- a step learns of its mailbox only what is known before: it holds a spare
 pub step_same : (w : Core) (t : ℕ) → IsKept w → IsMutator w.config t → is_busy (mutator w t) ≡ true

@@ -41,7 +41,6 @@ nothing_out x l e = let bad : suc (length l) ≡ 0 = ap length e in absurd (omeg
 
 not_held : (c : collectors.Private) (t : ℕ) (phase : Phase) → IsBetween phase → boxes_at c phase ≡ [] → is_held (stand_at phase t) ≡ false
 unfolding is_held
-not_held c t Idle between none = refl
 not_held c t (Looking u) between none = go (nat_lt t u)
   where
     go : (b : Bool) → is_held (cond b Stand.Done Stand.Due) ≡ false
@@ -49,13 +48,7 @@ not_held c t (Looking u) between none = go (nat_lt t u)
     go false = refl
 not_held c t (Swapping u) between none = absurd between
 not_held c t (Returning u) between none = absurd (nothing_out (u - 1, Some (collectors.spare c)) [] none)
-not_held c t Releasing between none = refl
-not_held c t Freeing between none = refl
-not_held c t Trying between none = refl
-not_held c t Preparing between none = refl
-not_held c t Opening between none = refl
-not_held c t (Sweeping n) between none = refl
-not_held c t (Closing n) between none = refl
+not_held c t _ between none = refl
 
 even_at : (config : Config) (requested : ℕ) (p : Private) (x : ℕ) (b : Contents) (st : Stand) → is_held st ≡ false → is_busy p ≡ false → IsHandshake config requested p x b st → x % 2 ≡ 0
 unfolding is_held

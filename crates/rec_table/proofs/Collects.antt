@@ -69,16 +69,8 @@ looked_makes w word (Looking t) kept is = dite (ℕ_discrete word (crossing_word
     let miss : eqb word (crossing_word w.collector.epoch Retired) ≡ false = ne_eqb word (crossing_word w.collector.epoch Retired) ne in
     learns_alone w.collector word (box w t) kept.collector.between (λ d. ap (left_by w.collector word d) is ∙ ap (λ b. cond b (spare w.collector) d) miss)
     ∙ sym (ap (λ b. gathered w.collector (cond b (Took word (box w t)) (Saw word))) miss))
-looked_makes w word Idle kept is = learns_alone w.collector word (box w 1) kept.collector.between (λ d. ap (left_by w.collector word d) is)
 looked_makes w word (Swapping t) kept is = absurd (subst IsBetween is kept.collector.between)
-looked_makes w word (Returning t) kept is = learns_alone w.collector word (box w 1) kept.collector.between (λ d. ap (left_by w.collector word d) is)
-looked_makes w word Releasing kept is = learns_alone w.collector word (box w 1) kept.collector.between (λ d. ap (left_by w.collector word d) is)
-looked_makes w word Freeing kept is = learns_alone w.collector word (box w 1) kept.collector.between (λ d. ap (left_by w.collector word d) is)
-looked_makes w word Trying kept is = learns_alone w.collector word (box w 1) kept.collector.between (λ d. ap (left_by w.collector word d) is)
-looked_makes w word Preparing kept is = learns_alone w.collector word (box w 1) kept.collector.between (λ d. ap (left_by w.collector word d) is)
-looked_makes w word Opening kept is = learns_alone w.collector word (box w 1) kept.collector.between (λ d. ap (left_by w.collector word d) is)
-looked_makes w word (Sweeping n) kept is = learns_alone w.collector word (box w 1) kept.collector.between (λ d. ap (left_by w.collector word d) is)
-looked_makes w word (Closing n) kept is = learns_alone w.collector word (box w 1) kept.collector.between (λ d. ap (left_by w.collector word d) is)
+looked_makes w word _ kept is = learns_alone w.collector word (box w 1) kept.collector.between (λ d. ap (left_by w.collector word d) is)
 
 turn_makes : (w : Core) (x : Option Op) → IsKept w → (turned_at w x).collector ≡ gathered_all w.collector (turn_at w x)
 turn_makes w None kept = refl

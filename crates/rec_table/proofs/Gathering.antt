@@ -66,17 +66,7 @@ lone_plain (ops.ClearField place) is = tt
 lone_plain (ops.FreeHeader slot) is = tt
 lone_plain (ops.StoreEpoch epoch) is = tt
 lone_plain ops.AddFreed is = tt
-lone_plain (ops.LoadField x) is = absurd is
-lone_plain (ops.SwapField x y) is = absurd is
-lone_plain (ops.LoadHeader x) is = absurd is
-lone_plain ops.LoadEpoch is = absurd is
-lone_plain (ops.LoadCross x) is = absurd is
-lone_plain (ops.ClaimHeader x y) is = absurd is
-lone_plain ops.LoadFreed is = absurd is
-lone_plain (ops.TakeBox x y) is = absurd is
-lone_plain (ops.GiveBox x y) is = absurd is
-lone_plain (ops.LookBox x y) is = absurd is
-lone_plain (ops.ReturnBox x y) is = absurd is
+lone_plain _ is = absurd is
 
 abbrev IsLone : Phase → Type 0
 IsLone (Looking t) = ⊥
@@ -223,30 +213,12 @@ unfolding took_of
 holds_none p word between looks_none = took_none p word p.phase refl between looks_none
 
 none_out : (p : Private) (phase : Phase) → HoldsNone phase → boxes_at p phase ≡ []
-none_out p Idle is = refl
-none_out p (Looking t) is = refl
-none_out p (Swapping t) is = refl
 none_out p (Returning t) is = absurd is
-none_out p Releasing is = refl
-none_out p Freeing is = refl
-none_out p Trying is = refl
-none_out p Preparing is = refl
-none_out p Opening is = refl
-none_out p (Sweeping n) is = refl
-none_out p (Closing n) is = refl
+none_out p _ is = refl
 
 none_between : (phase : Phase) → HoldsNone phase → IsBetween phase
-none_between Idle is = tt
-none_between (Looking t) is = tt
 none_between (Swapping t) is = is
-none_between (Returning t) is = tt
-none_between Releasing is = tt
-none_between Freeing is = tt
-none_between Trying is = tt
-none_between Preparing is = tt
-none_between Opening is = tt
-none_between (Sweeping n) is = tt
-none_between (Closing n) is = tt
+none_between _ is = tt
 
 -- what the collector is after a turn that looked at no mailbox
 pub lone_out : (p q : Private) (word : ℕ) → IsBetween p.phase → NotLooking p.phase → q ≡ took_of p word → (boxes_out q ≡ []) × IsBetween q.phase
@@ -255,43 +227,16 @@ lone_out p q word between looks_none took =
     (none_out q q.phase none, none_between q.phase none)
 
 pub lone_boxes : (p : Private) (phase : Phase) → IsLone phase → boxes_at p phase ≡ []
-lone_boxes p Idle is = refl
-lone_boxes p (Looking t) is = refl
-lone_boxes p (Swapping t) is = refl
 lone_boxes p (Returning t) is = absurd is
-lone_boxes p Releasing is = refl
-lone_boxes p Freeing is = refl
-lone_boxes p Trying is = refl
-lone_boxes p Preparing is = refl
-lone_boxes p Opening is = refl
-lone_boxes p (Sweeping n) is = refl
-lone_boxes p (Closing n) is = refl
+lone_boxes p _ is = refl
 
 sees : (w : Core) (n : ℕ) (phase : Phase) → IsLone phase → looked w n phase ≡ Saw n
-sees w n Idle is = refl
 sees w n (Looking t) is = absurd is
-sees w n (Swapping t) is = refl
-sees w n (Returning t) is = refl
-sees w n Releasing is = refl
-sees w n Freeing is = refl
-sees w n Trying is = refl
-sees w n Preparing is = refl
-sees w n Opening is = refl
-sees w n (Sweeping k) is = refl
-sees w n (Closing k) is = refl
+sees w n _ is = refl
 
 stays : (c : Private) (n : ℕ) (b : Contents) (phase : Phase) → IsLone phase → left_by c n b phase ≡ b
-stays c n b Idle is = refl
 stays c n b (Looking t) is = absurd is
-stays c n b (Swapping t) is = refl
-stays c n b (Returning t) is = refl
-stays c n b Releasing is = refl
-stays c n b Freeing is = refl
-stays c n b Trying is = refl
-stays c n b Preparing is = refl
-stays c n b Opening is = refl
-stays c n b (Sweeping k) is = refl
-stays c n b (Closing k) is = refl
+stays c n b _ is = refl
 
 -- a lone operation comes in a lone phase
 lone_phase : (p : Private) (op : Op) → IsBetween p.phase → ◌≡◌ {A = Option Op} (next_of p) (Some op) → IsLoneOp op → IsLone p.phase
@@ -326,17 +271,7 @@ not_return (ops.ClearField place) a b = b
 not_return (ops.FreeHeader slot) a b = b
 not_return (ops.StoreEpoch epoch) a b = b
 not_return ops.AddFreed a b = b
-not_return (ops.LoadField x) a b = a
-not_return (ops.SwapField x y) a b = a
-not_return (ops.LoadHeader x) a b = a
-not_return ops.LoadEpoch a b = a
-not_return (ops.LoadCross x) a b = a
-not_return (ops.ClaimHeader x y) a b = a
-not_return ops.LoadFreed a b = a
-not_return (ops.TakeBox x y) a b = a
-not_return (ops.GiveBox x y) a b = a
-not_return (ops.LookBox x y) a b = a
-not_return (ops.ReturnBox x y) a b = a
+not_return _ a b = a
 
 pub returns_at : (p : Private) (op : Op) → IsBetween p.phase → ◌≡◌ {A = Option Op} (next_of p) (Some op) → IsReturnOp op → (t : ℕ) × (p.phase ≡ Returning t) × (op ≡ ops.ReturnBox t p.epoch)
 returns_at p op between named is = by (kind p op between named)
@@ -500,17 +435,7 @@ not_look (ops.ClearField place) a b = b
 not_look (ops.FreeHeader slot) a b = b
 not_look (ops.StoreEpoch epoch) a b = b
 not_look ops.AddFreed a b = b
-not_look (ops.LoadField x) a b = a
-not_look (ops.SwapField x y) a b = a
-not_look (ops.LoadHeader x) a b = a
-not_look ops.LoadEpoch a b = a
-not_look (ops.LoadCross x) a b = a
-not_look (ops.ClaimHeader x y) a b = a
-not_look ops.LoadFreed a b = a
-not_look (ops.TakeBox x y) a b = a
-not_look (ops.GiveBox x y) a b = a
-not_look (ops.LookBox x y) a b = a
-not_look (ops.ReturnBox x y) a b = a
+not_look _ a b = a
 
 pub looking_of : (p : Private) (op : Op) (t e : ℕ) → IsBetween p.phase → ◌≡◌ {A = Option Op} (next_of p) (Some op) → op ≡ ops.LookBox t e → (p.phase ≡ Looking t) × (p.epoch ≡ e)
 unfolding look_number look_epoch

@@ -23,12 +23,7 @@ step_stays : (p : Private) (word : ℕ) (box : Contents) (phase : Phase) → p.p
 unfolding took_of took_at swapped_of swapped_at step_of
 step_stays p word box at.Idle e idle = ap (λ (phase : Phase). is_busy (swapped_of (took_at p word phase) box)) e
 step_stays p word box (at.Finished work made) e idle = ap (λ (phase : Phase). is_busy (swapped_of (took_at p word phase) box)) e
-step_stays p word box (at.Begun work) e idle = absurd (true≢false idle)
-step_stays p word box (at.Scanning reg label b slot) e idle = absurd (true≢false idle)
-step_stays p word box (at.Scanned reg label b) e idle = absurd (true≢false idle)
-step_stays p word box at.Crossing e idle = absurd (true≢false idle)
-step_stays p word box at.Swapping e idle = absurd (true≢false idle)
-step_stays p word box at.Giving e idle = absurd (true≢false idle)
+step_stays p word box _ e idle = absurd (true≢false idle)
 
 -- so one that works after a step worked before it
 still_busy : (p : Private) (word : ℕ) → is_busy (learnt p (Saw word)) ≡ true → is_busy p ≡ true
@@ -53,14 +48,8 @@ none_told p work busy = by p.phase refl
     no_answer (Some works.Poll) = refl
 
     by : (phase : Phase) → p.phase ≡ phase → line_of work (answer_of p) ≡ []
-    by at.Idle e = ap (λ (x : Phase). line_of work (answer_at x)) e ∙ no_answer work
-    by (at.Begun w) e = ap (λ (x : Phase). line_of work (answer_at x)) e ∙ no_answer work
-    by (at.Scanning reg label b slot) e = ap (λ (x : Phase). line_of work (answer_at x)) e ∙ no_answer work
-    by (at.Scanned reg label b) e = ap (λ (x : Phase). line_of work (answer_at x)) e ∙ no_answer work
-    by at.Crossing e = ap (λ (x : Phase). line_of work (answer_at x)) e ∙ no_answer work
-    by at.Swapping e = ap (λ (x : Phase). line_of work (answer_at x)) e ∙ no_answer work
-    by at.Giving e = ap (λ (x : Phase). line_of work (answer_at x)) e ∙ no_answer work
     by (at.Finished w made) e = absurd (true≢false (sym busy ∙ ap is_busy_at e))
+    by _ e = ap (λ (x : Phase). line_of work (answer_at x)) e ∙ no_answer work
 
 -- steps after which the work goes on tell nothing
 quiet : (p : Private) (words : List ℕ) → is_busy (told p (saw_all words)) ≡ true → journal p (saw_all words) ≡ []

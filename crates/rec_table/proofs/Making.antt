@@ -47,39 +47,11 @@ IsGiveOp _ = ⊥
 
 not_take : (o : Op) → IsPlainOp o → IsTakeOp o → ⊥
 not_take (ops.TakeBox t e) is take = is
-not_take (ops.LoadField x) is take = take
-not_take (ops.SwapField x y) is take = take
-not_take (ops.LoadHeader x) is take = take
-not_take ops.LoadEpoch is take = take
-not_take (ops.LoadCross x) is take = take
-not_take (ops.ClaimHeader x y) is take = take
-not_take ops.LoadFreed is take = take
-not_take (ops.LoadChild x) is take = take
-not_take (ops.ClearField x) is take = take
-not_take (ops.FreeHeader x) is take = take
-not_take (ops.GiveBox t e) is take = take
-not_take (ops.StoreEpoch e) is take = take
-not_take (ops.LookBox t e) is take = take
-not_take (ops.ReturnBox t e) is take = take
-not_take ops.AddFreed is take = take
+not_take _ is take = take
 
 not_give : (o : Op) → IsPlainOp o → IsGiveOp o → ⊥
-not_give (ops.TakeBox t e) is give = give
-not_give (ops.LoadField x) is give = give
-not_give (ops.SwapField x y) is give = give
-not_give (ops.LoadHeader x) is give = give
-not_give ops.LoadEpoch is give = give
-not_give (ops.LoadCross x) is give = give
-not_give (ops.ClaimHeader x y) is give = give
-not_give ops.LoadFreed is give = give
-not_give (ops.LoadChild x) is give = give
-not_give (ops.ClearField x) is give = give
-not_give (ops.FreeHeader x) is give = give
 not_give (ops.GiveBox t e) is give = is
-not_give (ops.StoreEpoch e) is give = give
-not_give (ops.LookBox t e) is give = give
-not_give (ops.ReturnBox t e) is give = give
-not_give ops.AddFreed is give = give
+not_give _ is give = give
 
 -- the phase is told by the operation
 pub plain_phase : (p : Private) (op : Op) → op ≡ next_of p → IsBetween p.phase → IsPlainOp op → IsPlain p.phase
@@ -104,14 +76,10 @@ crossing_phase p op is between take = by p.phase refl between
     no calm = not_take (next_of p) (plain_next p calm) (subst IsTakeOp is take)
 
     by : (phase : phases.Phase) → p.phase ≡ phase → IsBetween phase → p.phase ≡ at.Crossing
-    by at.Idle e b = absurd (no (subst IsPlain (sym e) tt))
-    by (at.Begun work) e b = absurd (no (subst IsPlain (sym e) tt))
-    by (at.Scanning reg label before slot) e b = absurd (no (subst IsPlain (sym e) tt))
-    by (at.Scanned reg label before) e b = absurd (no (subst IsPlain (sym e) tt))
     by at.Crossing e b = e
     by at.Swapping e b = absurd b
     by at.Giving e b = absurd (subst IsTakeOp (is ∙ ap (next_at p) e) take)
-    by (at.Finished work made) e b = absurd (no (subst IsPlain (sym e) tt))
+    by _ e b = absurd (no (subst IsPlain (sym e) tt))
 
 pub giving_phase : (p : Private) (op : Op) → op ≡ next_of p → IsBetween p.phase → IsGiveOp op → p.phase ≡ at.Giving
 unfolding next_of next_at
@@ -121,44 +89,22 @@ giving_phase p op is between give = by p.phase refl between
     no calm = not_give (next_of p) (plain_next p calm) (subst IsGiveOp is give)
 
     by : (phase : phases.Phase) → p.phase ≡ phase → IsBetween phase → p.phase ≡ at.Giving
-    by at.Idle e b = absurd (no (subst IsPlain (sym e) tt))
-    by (at.Begun work) e b = absurd (no (subst IsPlain (sym e) tt))
-    by (at.Scanning reg label before slot) e b = absurd (no (subst IsPlain (sym e) tt))
-    by (at.Scanned reg label before) e b = absurd (no (subst IsPlain (sym e) tt))
     by at.Crossing e b = absurd (subst IsGiveOp (is ∙ ap (next_at p) e) give)
     by at.Swapping e b = absurd b
     by at.Giving e b = e
-    by (at.Finished work made) e b = absurd (no (subst IsPlain (sym e) tt))
+    by _ e b = absurd (no (subst IsPlain (sym e) tt))
 
 plain_hands : (hand : Contents) (number : ℕ) (phase : phases.Phase) → IsPlain phase → hands_at hand number phase ≡ []
-plain_hands hand number at.Idle is = refl
-plain_hands hand number (at.Begun work) is = refl
-plain_hands hand number (at.Scanning reg label before slot) is = refl
-plain_hands hand number (at.Scanned reg label before) is = refl
-plain_hands hand number at.Crossing is = refl
-plain_hands hand number at.Swapping is = refl
 plain_hands hand number at.Giving is = absurd is
-plain_hands hand number (at.Finished work made) is = refl
+plain_hands hand number _ is = refl
 
 plain_taken : (p : Private) (word : ℕ) (phase : phases.Phase) → IsPlain phase → taken_by p word phase ≡ []
-plain_taken p word at.Idle is = refl
-plain_taken p word (at.Begun work) is = refl
-plain_taken p word (at.Scanning reg label before slot) is = refl
-plain_taken p word (at.Scanned reg label before) is = refl
 plain_taken p word at.Crossing is = absurd is
-plain_taken p word at.Swapping is = refl
-plain_taken p word at.Giving is = refl
-plain_taken p word (at.Finished work made) is = refl
+plain_taken p word _ is = refl
 
 plain_hand : (hand x : Contents) (phase : phases.Phase) → IsPlain phase → hand_after hand x phase ≡ hand
-plain_hand hand x at.Idle is = refl
-plain_hand hand x (at.Begun work) is = refl
-plain_hand hand x (at.Scanning reg label before slot) is = refl
-plain_hand hand x (at.Scanned reg label before) is = refl
 plain_hand hand x at.Crossing is = absurd is
-plain_hand hand x at.Swapping is = refl
-plain_hand hand x at.Giving is = refl
-plain_hand hand x (at.Finished work made) is = refl
+plain_hand hand x _ is = refl
 
 -- a plain step
 pub allows_plain : (key : Core) (slots id i : ℕ) (me : Me (Option Contents) View) (op : Op) (wk picked : Option Work) (p : Private) (f : ℕ → ℕ) (st : Step (Option Contents))
@@ -251,34 +197,17 @@ is_plain_load op (inr (inr (inr (inr e)))) = subst IsPlainOp (sym e) tt
 
 -- What is learnt by a step that takes no mailbox.
 pub takes_none : (phase : phases.Phase) → IsBetween phase → (phase ≡ at.Crossing → ⊥) → TakesNone phase
-takes_none at.Idle b ne = tt
-takes_none (at.Begun work) b ne = tt
-takes_none (at.Scanning reg label before slot) b ne = tt
-takes_none (at.Scanned reg label before) b ne = tt
 takes_none at.Crossing b ne = absurd (ne refl)
 takes_none at.Swapping b ne = b
-takes_none at.Giving b ne = tt
-takes_none (at.Finished work made) b ne = tt
+takes_none _ b ne = tt
 
 none_taken : (p : Private) (word : ℕ) (phase : phases.Phase) → TakesNone phase → taken_by p word phase ≡ []
-none_taken p word at.Idle is = refl
-none_taken p word (at.Begun work) is = refl
-none_taken p word (at.Scanning reg label before slot) is = refl
-none_taken p word (at.Scanned reg label before) is = refl
 none_taken p word at.Crossing is = absurd is
-none_taken p word at.Swapping is = refl
-none_taken p word at.Giving is = refl
-none_taken p word (at.Finished work made) is = refl
+none_taken p word _ is = refl
 
 no_hands : (hand : Contents) (number : ℕ) (phase : phases.Phase) → (phase ≡ at.Giving → ⊥) → hands_at hand number phase ≡ []
-no_hands hand number at.Idle ne = refl
-no_hands hand number (at.Begun work) ne = refl
-no_hands hand number (at.Scanning reg label before slot) ne = refl
-no_hands hand number (at.Scanned reg label before) ne = refl
-no_hands hand number at.Crossing ne = refl
-no_hands hand number at.Swapping ne = refl
 no_hands hand number at.Giving ne = absurd (ne refl)
-no_hands hand number (at.Finished work made) ne = refl
+no_hands hand number _ ne = refl
 
 never_gives : (p : Private) (word : ℕ) → is_busy p ≡ true → TakesNone p.phase → (took_of p word).phase ≡ at.Giving → ⊥
 never_gives p word busy none = by p.phase refl none
@@ -287,14 +216,10 @@ never_gives p word busy none = by p.phase refl none
     plain_case calm giving = left_plain p word calm busy (ap (λ (q : Private). q.phase) (here_same p word (spare (took_of p word)) busy none) ∙ giving)
 
     by : (phase : phases.Phase) → p.phase ≡ phase → TakesNone phase → (took_of p word).phase ≡ at.Giving → ⊥
-    by at.Idle e n = plain_case (subst IsPlain (sym e) tt)
-    by (at.Begun work) e n = plain_case (subst IsPlain (sym e) tt)
-    by (at.Scanning reg label before slot) e n = plain_case (subst IsPlain (sym e) tt)
-    by (at.Scanned reg label before) e n = plain_case (subst IsPlain (sym e) tt)
     by at.Crossing e n = absurd n
     by at.Swapping e n = absurd n
     by at.Giving e n = λ giving. true≢false (ap is_giving (sym giving) ∙ ap (λ (q : Private). is_giving q.phase) (crosses p word e))
-    by (at.Finished work made) e n = plain_case (subst IsPlain (sym e) tt)
+    by _ e n = plain_case (subst IsPlain (sym e) tt)
 
 -- what the machine and the seat are then
 pub learns_word : (p q : Private) (t : Seated) (word : ℕ) (me : Me (Option Contents) View) → is_busy p ≡ true → TakesNone p.phase → q ≡ took_of p word → me.1 ≡ taken_by p word p.phase
@@ -451,14 +376,9 @@ same_capacity p word busy between = by p.phase refl between
     none n = (took_keeps p word busy n).0.capacity
 
     by : (phase : phases.Phase) → p.phase ≡ phase → IsBetween phase → (took_of p word).log.capacity ≡ p.log.capacity
-    by at.Idle e b = none (subst TakesNone (sym e) tt)
-    by (at.Begun work) e b = none (subst TakesNone (sym e) tt)
-    by (at.Scanning reg label before slot) e b = none (subst TakesNone (sym e) tt)
-    by (at.Scanned reg label before) e b = none (subst TakesNone (sym e) tt)
     by at.Crossing e b = ap (λ (q : Private). q.log.capacity) (learns_taken p word e)
     by at.Swapping e b = absurd b
-    by at.Giving e b = none (subst TakesNone (sym e) tt)
-    by (at.Finished work made) e b = none (subst TakesNone (sym e) tt)
+    by _ e b = none (subst TakesNone (sym e) tt)
 
 pub learnt_keeps : (p : Private) (word : ℕ) → is_busy p ≡ true → IsBetween p.phase → KeepsSizes p (learnt p (Saw word)) × (work_of (learnt p (Saw word)) ≡ work_of p)
 learnt_keeps p word busy between = step_keeps (same_capacity p word busy between) (learnt_step p word busy between)

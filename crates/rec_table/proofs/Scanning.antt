@@ -41,14 +41,11 @@ slot_of (ops.ClaimHeader slot label) = slot
 slot_of _ = 0
 
 begun_claims : (p : Private) (work : Work) → IsClaimOp (begun_op p work) → ⊥
-begun_claims p works.Poll is = is
 begun_claims p (works.Command (commands.New reg label)) is = go (is_full p) is
   where
     go : (b : Bool) → IsClaimOp (cond b (own_word p) ops.LoadFreed) → ⊥
     go true x = x
     go false x = x
-begun_claims p (works.Command (commands.Null reg)) is = is
-begun_claims p (works.Command (commands.Copy dst src)) is = is
 begun_claims p (works.Command (commands.Get dst src f)) is = go (register p src) is
   where
     go : (x : Option ℕ) → IsClaimOp (read_op p f x) → ⊥
@@ -65,7 +62,7 @@ begun_claims p (works.Command (commands.Value reg)) is = go (register p reg) is
     go : (x : Option ℕ) → IsClaimOp (label_op p x) → ⊥
     go None x = x
     go (Some slot) x = x
-begun_claims p (works.Command (commands.Same a b)) is = is
+begun_claims p _ is = is
 
 pub record Claims (p : Private) (slot : ℕ) : Type 0 where
   pub reg : ℕ

@@ -160,49 +160,28 @@ plain_next p plain = by p.phase plain
     new false = tt
 
     by : (phase : phases.Phase) → IsPlain phase → IsPlainOp (next_at p phase)
-    by at.Idle is = tt
     by (at.Begun (works.Command (commands.New reg label))) is = new (is_full p)
-    by (at.Begun (works.Command (commands.Null reg))) is = tt
-    by (at.Begun (works.Command (commands.Copy dst src))) is = tt
     by (at.Begun (works.Command (commands.Get dst src f))) is = read f (register p src)
     by (at.Begun (works.Command (commands.Put src f val))) is = wrote f val (register p src) (is_full p)
     by (at.Begun (works.Command (commands.Value reg))) is = labelled (register p reg)
-    by (at.Begun (works.Command (commands.Same a b))) is = tt
-    by (at.Begun works.Poll) is = tt
-    by (at.Scanning reg label before slot) is = tt
-    by (at.Scanned reg label before) is = tt
     by at.Crossing is = absurd is
     by at.Swapping is = absurd is
     by at.Giving is = absurd is
-    by (at.Finished work made) is = tt
+    by _ is = tt
 
 pub plain_crossing : (cells : Cells) (op : Op) → IsPlainOp op → (with_cell cells op (written op (cell cells op))).crossing ≡ cells.crossing
-plain_crossing cells (ops.LoadField place) is = refl
-plain_crossing cells (ops.SwapField place word) is = refl
-plain_crossing cells (ops.LoadHeader slot) is = refl
-plain_crossing cells ops.LoadEpoch is = refl
 plain_crossing cells (ops.LoadCross t) is = set-get_or cells.crossing (t - 1) 0
-plain_crossing cells (ops.ClaimHeader slot label) is = refl
-plain_crossing cells ops.LoadFreed is = refl
-plain_crossing cells (ops.LoadChild place) is = refl
-plain_crossing cells (ops.ClearField place) is = refl
-plain_crossing cells (ops.FreeHeader slot) is = refl
 plain_crossing cells (ops.TakeBox t e) is = absurd is
 plain_crossing cells (ops.GiveBox t e) is = absurd is
-plain_crossing cells (ops.StoreEpoch e) is = refl
 plain_crossing cells (ops.LookBox t e) is = absurd is
 plain_crossing cells (ops.ReturnBox t e) is = absurd is
-plain_crossing cells ops.AddFreed is = refl
+plain_crossing cells _ is = refl
 
 pub plain_takes_none : (phase : phases.Phase) → IsPlain phase → TakesNone phase
-plain_takes_none at.Idle is = tt
-plain_takes_none (at.Begun work) is = tt
-plain_takes_none (at.Scanning reg label before slot) is = tt
-plain_takes_none (at.Scanned reg label before) is = tt
 plain_takes_none at.Crossing is = absurd is
 plain_takes_none at.Swapping is = absurd is
 plain_takes_none at.Giving is = absurd is
-plain_takes_none (at.Finished work made) is = tt
+plain_takes_none _ is = tt
 
 -- such a step leaves every mailbox where it is
 plain_homes : (w : Core) (t : ℕ) → is_busy (mutator w t) ≡ true → IsPlain (mutator w t).phase → homes_of (stepped w t).crossing (stepped w t).boxes ≡ homes_of w.crossing w.boxes
@@ -418,23 +397,17 @@ not_giving p word phase plain = by phase plain
     goes false x y a c = c
 
     by : (at_phase : phases.Phase) → IsPlain at_phase → is_giving (took_at p word at_phase).phase ≡ false
-    by at.Idle is = refl
     by (at.Begun (works.Command (commands.New reg label))) is = new (answered p (commands.New reg label) (plain_told answers.LogFull)) (moved p (at.Scanning reg label word 0)) (is_full p) refl refl
-    by (at.Begun (works.Command (commands.Null reg))) is = refl
-    by (at.Begun (works.Command (commands.Copy dst src))) is = refl
     by (at.Begun (works.Command (commands.Get dst src f))) is = read (commands.Get dst src f) dst (register p src)
     by (at.Begun (works.Command (commands.Put src f val))) is = wrote (commands.Put src f val) f val (register p src) (is_full p)
-    by (at.Begun (works.Command (commands.Value reg))) is = refl
-    by (at.Begun (works.Command (commands.Same a b))) is = refl
     by (at.Begun works.Poll) is = goes (eqb word p.epoch) (at.Finished works.Poll (makes.Crossed None)) at.Crossing refl refl
     by (at.Scanning reg label before_ slot) is =
         new (born_in p reg label slot) (moved p (cond (eqb (slot + 1) p.slots) (at.Scanned reg label before_) (at.Scanning reg label before_ (slot + 1)))) (eqb word 0) refl
         (goes (eqb (slot + 1) p.slots) (at.Scanned reg label before_) (at.Scanning reg label before_ (slot + 1)) refl refl)
-    by (at.Scanned reg label before_) is = refl
     by at.Crossing is = absurd is
     by at.Swapping is = absurd is
     by at.Giving is = absurd is
-    by (at.Finished work made) is = refl
+    by _ is = refl
 
 pub left_plain : (p : Private) (word : ℕ) → IsPlain p.phase → is_busy p ≡ true → (learnt p (Saw word)).phase ≡ at.Giving → ⊥
 unfolding took_of

@@ -33,13 +33,7 @@ within key t p (ops.TakeBox n e) is z own names = (omega (arith, own, z.number, 
 within key t p (ops.GiveBox n e) is z own names = (omega (arith, own, z.number, is.0), omega (arith, own, z.number, z.crossing))
 within key t p ops.LoadEpoch is z own names = tt
 within key t p ops.LoadFreed is z own names = tt
-within key t p (ops.LoadChild place) is z own names = absurd own
-within key t p (ops.ClearField place) is z own names = absurd own
-within key t p (ops.FreeHeader slot) is z own names = absurd own
-within key t p (ops.StoreEpoch e) is z own names = absurd own
-within key t p (ops.LookBox n e) is z own names = absurd own
-within key t p (ops.ReturnBox n e) is z own names = absurd own
-within key t p ops.AddFreed is z own names = absurd own
+within key t p _ is z own names = absurd own
 
 pub there : (key : Core) (t : ℕ) (opened p : Private) (words : ℕ) → IsWorld key → IsMutator key.config t → opened ≡ mutator key t → KeepsSizes opened p → IsMachine p → NamesSlots p
     → words ≡ length key.words + length key.headers + 2 + length key.crossing → index_of (length key.words) (length key.headers) (next_of p) < words

@@ -75,13 +75,11 @@ mutator_read w t i p shaped is at read =
 
 -- the operands of a command that fits these numbers
 operands_fit : (p : Private) (config : Config) (cmd : Cmd) → length p.registers ≡ config.registers → p.fields ≡ config.fields → HasOperands config cmd → HasOwnOperands p cmd
-operands_fit p config (commands.New reg label) registers fields is = omega (arith, is)
-operands_fit p config (commands.Null reg) registers fields is = omega (arith, is)
 operands_fit p config (commands.Copy dst src) registers fields is = (omega (arith, is.0), omega (arith, is.1))
 operands_fit p config (commands.Get dst src f) registers fields is = (omega (arith, is.0), omega (arith, is.1), omega (arith, is.2))
 operands_fit p config (commands.Put src f val) registers fields is = (omega (arith, is.0), omega (arith, is.1), omega (arith, is.2))
-operands_fit p config (commands.Value reg) registers fields is = omega (arith, is)
 operands_fit p config (commands.Same a b) registers fields is = (omega (arith, is.0), omega (arith, is.1))
+operands_fit p config _ registers fields is = omega (arith, is)
 
 -- a work that fits the heap fits the mutator
 pub own_work : (w : Core) (t : ℕ) (work : Work) → IsKept w → IsMutator w.config t → IsWork w.config work → IsValid (mutator w t) work

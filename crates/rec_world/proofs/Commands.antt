@@ -90,24 +90,14 @@ data IsOfNew (answer : Answer) : Type 0 where
 
 answer_of_new : (answer : Answer) → (if is_done answer then true else refuses_new answer) ≡ true → IsOfNew answer
 answer_of_new answers.Done may = IsOfNew.new_done refl
-answer_of_new answers.Null may = absurd (false≢true may)
-answer_of_new answers.Object may = absurd (false≢true may)
-answer_of_new (answers.Value label) may = absurd (false≢true may)
-answer_of_new answers.Yes may = absurd (false≢true may)
-answer_of_new answers.No may = absurd (false≢true may)
-answer_of_new answers.NoObject may = absurd (false≢true may)
 answer_of_new answers.Full may = IsOfNew.new_full refl
 answer_of_new (answers.Busy before after) may = IsOfNew.new_busy before after refl
 answer_of_new answers.LogFull may = IsOfNew.new_log_full refl
+answer_of_new _ may = absurd (false≢true may)
 
 new_answered : (cmd : Cmd) (answer : Answer) → is_new cmd ≡ true → may_answer cmd answer ≡ true → IsOfNew answer
 new_answered (commands.New reg label) answer new may = answer_of_new answer may
-new_answered (commands.Null reg) answer new may = absurd (false≢true new)
-new_answered (commands.Copy dst src) answer new may = absurd (false≢true new)
-new_answered (commands.Get dst src f) answer new may = absurd (false≢true new)
-new_answered (commands.Put src f val) answer new may = absurd (false≢true new)
-new_answered (commands.Value reg) answer new may = absurd (false≢true new)
-new_answered (commands.Same a b) answer new may = absurd (false≢true new)
+new_answered _ answer new may = absurd (false≢true new)
 
 -- where every slot is taken, no object is born
 not_done : {w : Core} {t : ℕ} {cmd : Cmd} {told : Told} {v : Core} → Answering w t cmd told v → FindsNone w t cmd → told.answer ≡ answers.Done → ⊥
@@ -226,17 +216,11 @@ busy_along w v t cmd entries config headers freed is = record { none = finds_alo
 
 -- each slot below the one that a scan has come to is taken
 probed_lower : (w : Core) (phase : Phase) (slot : ℕ) → HasFound w phase → probed_at phase ≡ Some slot → (s : ℕ) → s < slot → IsTaken (sight w) s
-probed_lower w Idle slot found is s below = let not_so : ◌≡◌ {A = Option ℕ} None (Some slot) = is in (cc)
-probed_lower w (Begun work) slot found is s below = let not_so : ◌≡◌ {A = Option ℕ} None (Some slot) = is in (cc)
 probed_lower w (Scanning reg label before at) slot found is s below =
     let same : ◌≡◌ {A = Option ℕ} (Some at) (Some slot) = is in
     let here : at ≡ slot = cc in
     found.1 s (omega arith)
-probed_lower w (Scanned reg label before) slot found is s below = let not_so : ◌≡◌ {A = Option ℕ} None (Some slot) = is in (cc)
-probed_lower w Crossing slot found is s below = let not_so : ◌≡◌ {A = Option ℕ} None (Some slot) = is in (cc)
-probed_lower w Swapping slot found is s below = let not_so : ◌≡◌ {A = Option ℕ} None (Some slot) = is in (cc)
-probed_lower w Giving slot found is s below = let not_so : ◌≡◌ {A = Option ℕ} None (Some slot) = is in (cc)
-probed_lower w (Finished work made) slot found is s below = let not_so : ◌≡◌ {A = Option ℕ} None (Some slot) = is in (cc)
+probed_lower w _ slot found is s below = let not_so : ◌≡◌ {A = Option ℕ} None (Some slot) = is in (cc)
 
 -- the free slot that a scan has come to is the lowest one
 lowest : {w : Core} {t : ℕ} {cmd : Cmd} {told : Told} {v : Core} (slot : ℕ) → Answering w t cmd told v → IsBirthplace w t slot → IsLowestFree (sight w) slot

@@ -23,14 +23,8 @@ held_some None is = absurd (false≢true is)
 
 -- a phase in which no mailbox waits
 between_if : (phase : phases.Phase) → (IsSwapping phase → ⊥) → IsBetween phase
-between_if at.Idle not = tt
-between_if (at.Begun work) not = tt
-between_if (at.Scanning reg label before slot) not = tt
-between_if (at.Scanned reg label before) not = tt
-between_if at.Crossing not = tt
 between_if at.Swapping not = not tt
-between_if at.Giving not = tt
-between_if (at.Finished work made) not = tt
+between_if _ not = tt
 
 -- where the mutator holds its mailbox, its log is left there
 pub left_log : (p : Private) (b : Contents) → IsSwapping p.phase → left_of p b ≡ p.log

@@ -205,17 +205,8 @@ swapped_keeps p b = go p.phase refl
     same = record { turns = refl; collections = refl; freed = refl; swept = refl }
 
     go : (phase : Phase) → p.phase ≡ phase → KeepsNumbers p (swapped_at p b phase)
-    go Idle is = same
-    go (Looking t) is = same
     go (Swapping t) is = record { turns = refl; collections = refl; freed = refl; swept = sym (ap swept_at is) }
-    go (Returning t) is = same
-    go Releasing is = same
-    go Freeing is = same
-    go Trying is = same
-    go Preparing is = same
-    go Opening is = same
-    go (Sweeping n) is = same
-    go (Closing n) is = same
+    go _ is = same
 
 -- nor does it happen at rest
 swapped_idle : (p : collectors.Private) (b : Contents) → p.phase ≡ Idle → swapped_of p b ≡ p

@@ -167,22 +167,16 @@ due_place m place named = go m.phase named
 -- one load more, of the word that its field has
 module _ (word : ℕ → ℕ → ℕ) (r : Run) (found : ℕ) (is : found ≡ word r.work.machine.slot r.work.machine.field) where
   still_marks : (phase : trial_phases.Phase) → AreStill word r.marking → AreStill word (noted_at phase r found).marking
-  still_marks trial_at.Idle h = h
   still_marks trial_at.Marking h = (is, h)
-  still_marks trial_at.Scanning h = h
-  still_marks trial_at.Collecting h = h
+  still_marks _ h = h
 
   still_blacks : (phase : trial_phases.Phase) → AreStill word r.blackening → AreStill word (noted_at phase r found).blackening
-  still_blacks trial_at.Idle h = h
-  still_blacks trial_at.Marking h = h
   still_blacks trial_at.Scanning h = (is, h)
-  still_blacks trial_at.Collecting h = h
+  still_blacks _ h = h
 
   still_finds : (phase : trial_phases.Phase) → AreStill word r.collecting → AreStill word (noted_at phase r found).collecting
-  still_finds trial_at.Idle h = h
-  still_finds trial_at.Marking h = h
-  still_finds trial_at.Scanning h = h
   still_finds trial_at.Collecting h = (is, h)
+  still_finds _ h = h
 
 -- A field was loaded: each word that was loaded stands still.
 pub trial_rests_more : (w : Core) (place : ℕ) → IsKept w → w.collector.phase ≡ Trying → ◌≡◌ {A = Option Op} (trial_next w.collector.trial) (Some (LoadChild place))

@@ -71,13 +71,7 @@ past_gathered Idle past = absurd past
 past_gathered (Looking t) past = absurd past
 past_gathered (Swapping t) past = absurd past
 past_gathered (Returning t) past = absurd past
-past_gathered Releasing past = (λ t. refl, λ requested. refl)
-past_gathered Freeing past = (λ t. refl, λ requested. refl)
-past_gathered Trying past = (λ t. refl, λ requested. refl)
-past_gathered Preparing past = (λ t. refl, λ requested. refl)
-past_gathered Opening past = (λ t. refl, λ requested. refl)
-past_gathered (Sweeping n) past = (λ t. refl, λ requested. refl)
-past_gathered (Closing n) past = (λ t. refl, λ requested. refl)
+past_gathered _ past = (λ t. refl, λ requested. refl)
 
 -- The collection goes on with the buffers that it has, or it is complete.
 data GoesOrEnds (c q : Private) : Type 0 where

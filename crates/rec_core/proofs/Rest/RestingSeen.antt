@@ -57,17 +57,12 @@ module _ (w v : Core) (same : holds (sight v) ≡ holds (sight w)) (words : List
   sets_seen left s h = record { unheld = h.unheld; found = found_seen s h.found; unnamed = unnamed_seen s h.unnamed }
 
   first_seen : (c : Private) (phase : Phase) → RestsIn Round.First w words c phase → RestsIn Round.First (seen_as w v) words c phase
-  first_seen c Idle h = h
-  first_seen c (Looking t) h = h
-  first_seen c (Swapping t) h = h
-  first_seen c (Returning t) h = h
-  first_seen c Releasing h = h
-  first_seen c Freeing h = h
   first_seen c Trying h = trial_seen _ h
   first_seen c Preparing h = prep_seen _ h
   first_seen c Opening h = sets_seen _ _ h
   first_seen c (Sweeping n) h = sets_seen _ _ h
   first_seen c (Closing n) h = sets_seen _ _ h
+  first_seen c _ h = h
 
   second_seen : (c : Private) (phase : Phase) → RestsIn Round.Second w words c phase → RestsIn Round.Second (seen_as w v) words c phase
   second_seen c Idle h = sets_seen _ _ h
@@ -76,11 +71,7 @@ module _ (w v : Core) (same : holds (sight v) ≡ holds (sight w)) (words : List
   second_seen c (Returning t) h = sets_seen _ _ h
   second_seen c Releasing h = absurd h
   second_seen c Freeing h = record { sets = sets_seen _ _ h.sets; zeros = h.zeros; still = h.still }
-  second_seen c Trying h = within_seen c.counts h
-  second_seen c Preparing h = within_seen c.counts h
-  second_seen c Opening h = within_seen c.counts h
-  second_seen c (Sweeping n) h = within_seen c.counts h
-  second_seen c (Closing n) h = within_seen c.counts h
+  second_seen c _ h = within_seen c.counts h
 
   round_seen : (r : Round) (c : Private) (phase : Phase) → RestsIn r w words c phase → RestsIn r (seen_as w v) words c phase
   round_seen Round.First c phase h = first_seen c phase h

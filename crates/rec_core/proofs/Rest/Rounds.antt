@@ -2,7 +2,7 @@
 use Rattle.std.proofs.Common.{◌≡◌, ◌⊎◌, inl, inr, ℕ, ◌+◌, ◌≤◌, Some, slice_set, refl, sym, ap, subst, ◌∙◌, arith}
 use Rattle.std.proofs.lemmas.Bool.{false≢true}
 use Rattle.rec_collector.specs.declared.phase.Phase.{Phase}
-use Rattle.rec_collector.specs.declared.phase.Phase.TheVariants.{Idle, Looking, Swapping, Returning, Releasing, Freeing, Trying, Preparing, Opening, Sweeping, Closing}
+use Rattle.rec_collector.specs.declared.phase.Phase.TheVariants.{Idle, Looking, Returning, Releasing, Freeing, Trying, Preparing, Opening, Sweeping, Closing}
 use Rattle.rec_core.specs.Core.{Core, sight}
 use Rattle.rec_core.specs.Kept.{IsKept}
 use Rattle.rec_core.specs.Moves.{turned}
@@ -67,16 +67,7 @@ alike w v turn unswept = go turn
 -- whether a slot is swept
 sweeping_or_not : (phase : Phase) → ((n : ℕ) × (phase ≡ Sweeping n)) ⊎ ((n : ℕ) → phase ≡ Sweeping n → ⊥)
 sweeping_or_not (Sweeping n) = inl (n, refl)
-sweeping_or_not Idle = inr (λ n is. cc)
-sweeping_or_not (Looking t) = inr (λ n is. cc)
-sweeping_or_not (Swapping t) = inr (λ n is. cc)
-sweeping_or_not (Returning t) = inr (λ n is. cc)
-sweeping_or_not Releasing = inr (λ n is. cc)
-sweeping_or_not Freeing = inr (λ n is. cc)
-sweeping_or_not Trying = inr (λ n is. cc)
-sweeping_or_not Preparing = inr (λ n is. cc)
-sweeping_or_not Opening = inr (λ n is. cc)
-sweeping_or_not (Closing m) = inr (λ n is. cc)
+sweeping_or_not _ = inr (λ n is. cc)
 
 -- one phase isn't another
 other : {n : ℕ} {at : Phase} (phase : Phase) → (phase ≡ Sweeping n → ⊥) → at ≡ phase → at ≡ Sweeping n → ⊥

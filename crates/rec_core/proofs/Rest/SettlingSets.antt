@@ -10,7 +10,7 @@ use Rattle.rec_word.specs.Place.{place_of, places_from}
 use Rattle.rec_word.specs.Word.{target_of, is_slot}
 use Rattle.rec_model.proofs.Sums.{sum_by_same, sum_by-map, sum_by-flat_map}
 use Rattle.rec_counts.specs.declared.colour.Colour.{Colour}
-use Rattle.rec_counts.specs.declared.colour.Colour.TheVariants.{Black, Purple, Gray, White, Orange}
+use Rattle.rec_counts.specs.declared.colour.Colour.TheVariants.{Orange}
 use Rattle.rec_counts.specs.Counts.{State, IsKept, slot_at}
 use Rattle.rec_counts.specs.Lists.{one, times}
 use Rattle.rec_counts.specs.Colour.{is_orange}
@@ -96,11 +96,8 @@ references_in_words fields words s x some long empty =
 
 -- what is Orange
 orange_of : (c : Colour) → 0 < one (is_orange c) → c ≡ Orange
-orange_of Black h = absurd (omega arith)
-orange_of Purple h = absurd (omega arith)
-orange_of Gray h = absurd (omega arith)
-orange_of White h = absurd (omega arith)
 orange_of Orange h = refl
+orange_of _ h = absurd (omega arith)
 
 -- a member is in a set
 member_some : (s : State) (x : ℕ) → IsKept s → 0 < times x (members s) → (slot_at s x).set ≡ None → ⊥
