@@ -98,11 +98,8 @@ impl CycleFree {
         // One word more came out of one place more, whatever this freeing took in before.
         ensures whole { (before : State) (loads : List Load) → FreedTo self.old.fields before self.old.at counts.old loads → FreedTo self.new.fields before self.new.at counts.new (loads ++ loaded_at self.old.at word) }
     {
-        let Some(at) = self.at else {
-            return;
-        };
         take_off(counts, target(word), true);
-        self.at = go_on(counts, at, self.fields);
+        go_on(counts, &mut self.at, self.fields);
     }
 }
 
@@ -130,22 +127,24 @@ fn give_up_slot(counts: &mut Counts, slot: u16)
 
 // The field behind this one comes next; behind the last one all members go to the free list.
 #[inline(always)]
-fn go_on(counts: &mut Counts, at: Member, fields: u8) -> Option<Member>
-    requires field { at.field < fields }
-    requires member { IsOf counts.old.work at }
+fn go_on(counts: &mut Counts, next: &mut Option<Member>, fields: u8)
+    requires busy { IsSome next.old }
+    requires field { IfSome next.old (λ at. at.field < fields) }
+    requires member { IfSome next.old (IsOf counts.old.work) }
     requires unlisted { (x : ℕ) → 0 < times x counts.old.work → times x counts.old.free ≡ 0 }
-    ensures { record { at = result; counts = counts.new } ≡ gone_on fields counts.old at }
+    ensures { IfSome next.old (λ at. record { at = next.new; counts = counts.new } ≡ gone_on fields counts.old at) }
 {
-    if let Some(next) = at.next_field(fields) {
-        return Some(next);
+    let Some(at) = next else {
+        return;
+    };
+    if at.next_field(fields) {
+        return;
     }
     counts.rules();
-    let next = at.next_member(counts.work());
-    match next {
-        Some(_) => {}
-        None => list_members(counts),
+    *next = at.next_member(counts.work());
+    if next.is_none() {
+        list_members(counts);
     }
-    next
 }
 
 // The members go to the free list.

@@ -86,7 +86,7 @@ impl Prep {
             return;
         };
         take_off(counts, at.set, target(word));
-        self.at = go_on(counts, at, self.fields);
+        go_on(counts, &mut self.at, self.fields);
     }
 }
 
@@ -106,25 +106,24 @@ fn take_off(counts: &mut Counts, set: u16, target: Option<u16>)
 
 // The field behind this one comes next; behind the last one of its set, the first of the next set.
 #[inline(always)]
-fn go_on(counts: &mut Counts, at: At, fields: u8) -> Option<At>
-    requires field { at.member.field < fields }
-    requires held { IsHeld counts.old at }
-    ensures { record { at = result; counts = counts.new } ≡ gone_on fields counts.old at }
+fn go_on(counts: &mut Counts, next: &mut Option<At>, fields: u8)
+    requires busy { IsSome next.old }
+    requires field { IfSome next.old (λ at. at.member.field < fields) }
+    requires held { IfSome next.old (IsHeld counts.old) }
+    ensures { IfSome next.old (λ at. record { at = next.new; counts = counts.new } ≡ gone_on fields counts.old at) }
 {
-    if let Some(member) = at.member.next_field(fields) {
-        return Some(At {
-            set: at.set,
-            member,
-        });
+    let Some(at) = next else {
+        return;
+    };
+    if at.member.next_field(fields) {
+        return;
     }
     counts.rules();
-    match at.member.next_member(counts.set(at.set)) {
-        Some(member) => Some(At {
-            set: at.set,
-            member,
-        }),
-        None => begin_next(counts, at.set + 1),
-    }
+    let set = at.set;
+    *next = match at.member.next_member(counts.set(set)) {
+        Some(member) => Some(At { set, member }),
+        None => begin_next(counts, set + 1),
+    };
 }
 
 // Begins the next set that has a member, from this number on; None where there is none.

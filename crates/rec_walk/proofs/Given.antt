@@ -1,7 +1,18 @@
 -- What holds of a machine and of what it gave goes on to hold, where each word keeps it.
-use Rattle.std.proofs.Common.{◌≡◌, ℕ, List, [], ◌∷◌, ◌++◌, refl, sym, ◌∙◌, ap, subst, append_assoc, fold}
+use Rattle.std.proofs.Common.{◌≡◌, ℕ, Option, None, Some, IsSome, is_some, List, [], ◌∷◌, ◌++◌, refl, sym, ◌∙◌, ap, subst, append_assoc, fold}
+use Rattle.std.proofs.lemmas.Bool.{false≢true}
 use Rattle.std.proofs.lemmas.List.{append-nil}
 use Rattle.rec_walk.specs.Load.{given}
+
+-- what a machine is at, where it is at work
+pub record WorksAt {A : Type 0} (at : Option A) : Type 0 where
+  pub place : A
+  pub is : at ≡ Some place
+
+-- where something comes next, it is at work, as nothing comes next where it isn't
+pub works_at : {A B : Type 0} (next : Option A → Option B) → next None ≡ None → (at : Option A) → IsSome (next at) → WorksAt at
+works_at next idle None busy = absurd (false≢true (sym (ap is_some idle) ∙ busy))
+works_at next idle (Some a) busy = record { place = a; is = refl }
 
 pub given-nil : {M O : Type 0} (took : M → ℕ → M) (out : M → ℕ → List O) (m : M) → given took out m [] ≡ []
 unfolding given

@@ -1,4 +1,4 @@
-ghost use Rattle.std.specs.Prelude.{◌≡◌, ◌<◌, ◌≤◌, ◌^◌, length};
+ghost use Rattle.std.specs.Prelude.{◌≡◌, ◌<◌, ◌≤◌, ◌^◌, None, Some, false, length, true};
 ghost use Rattle.rec_walk.specs.Walk.{first_in, next_field, next_member};
 
 /// Where a walk stands: a field of a member of its list.
@@ -26,19 +26,20 @@ impl Member {
         })
     }
 
-    /// The next field of the same member; None behind its last one.
+    /// Moves on to the next field of the same member, if there is one, and says whether there is. Behind the last one nothing
+    /// moves.
     #[inline(always)]
-    pub fn next_field(self, fields: u8) -> Option<Member>
-        requires field { self.field < fields }
-        ensures next { result ≡ next_field fields self }
+    pub fn next_field(&mut self, fields: u8) -> bool
+        requires field { self.old.field < fields }
+        ensures next { result ≡ true → next_field fields self.old ≡ Some self.new }
+        ensures none { result ≡ false → next_field fields self.old ≡ None }
+        ensures same { result ≡ false → self.new ≡ self.old }
     {
         if self.field + 1 < fields {
-            return Some(Member {
-                field: self.field + 1,
-                ..self
-            });
+            self.field += 1;
+            return true;
         }
-        None
+        false
     }
 
     /// The first field of the next member of a list; None behind the last one. With `next_field` before it this is the field
@@ -67,17 +68,17 @@ mod tests {
     #[test]
     fn each_field_of_each_slot_once_and_in_order(rt: HostRuntime) {
         let slots: [u16; 2] = [7, 3];
-        let first = Member::first(&slots).expect(&rt, "a first member");
-        assert!(rt; first.index == 0 && first.slot == 7 && first.field == 0);
-        let second = first.next_field(2).expect(&rt, "its second field");
-        assert!(rt; second.index == 0 && second.slot == 7 && second.field == 1);
-        assert_eq!(rt; second.next_field(2), None);
-        let third = second.next_member(&slots).expect(&rt, "the next member");
-        assert!(rt; third.index == 1 && third.slot == 3 && third.field == 0);
-        let last = third.next_field(2).expect(&rt, "its second field");
-        assert!(rt; last.index == 1 && last.slot == 3 && last.field == 1);
-        assert_eq!(rt; last.next_field(2), None);
-        assert_eq!(rt; last.next_member(&slots), None);
+        let mut at = Member::first(&slots).expect(&rt, "a first member");
+        assert!(rt; at.index == 0 && at.slot == 7 && at.field == 0);
+        assert!(rt; at.next_field(2));
+        assert!(rt; at.index == 0 && at.slot == 7 && at.field == 1);
+        assert!(rt; !at.next_field(2) && at.field == 1);
+        let mut at = at.next_member(&slots).expect(&rt, "the next member");
+        assert!(rt; at.index == 1 && at.slot == 3 && at.field == 0);
+        assert!(rt; at.next_field(2));
+        assert!(rt; at.index == 1 && at.slot == 3 && at.field == 1);
+        assert!(rt; !at.next_field(2));
+        assert_eq!(rt; at.next_member(&slots), None);
     }
 
     #[test]

@@ -4,4 +4,4 @@ use Rattle.rec_counts.proofs.Times.{length-once}
 use Rattle.rec_sigma.proofs.prepare.go_on.Goals as goal
 
 pub next_member-requires : goal.next_member-requires
-next_member-requires c = record { few = omega (arith, length-once _ _ (each_once c.args.counts.now c.args.at.set c.rules.ensures), c.rules.ensures.few_slots, ap length c.set.ensures) }
+next_member-requires c = record { few = omega (arith, length-once _ _ (each_once c.args.counts.now c.in-Some.at.set c.rules.ensures), c.rules.ensures.few_slots, ap length c.set.ensures) }
