@@ -3,8 +3,8 @@
 //!
 //! The rule that this crate keeps: a walk that begins at the first member passes exactly the places of all fields of all
 //! slots of its list, in order, and then ends.
-//! The layer above may use that `first`, `next_field` and `next_member` are exactly those of `specs/`, whose `behind` is the
-//! two in turn, and the law, which is the contract of the function in `laws`. What a machine learns on a walk is a `Load` of
+//! The layer above may use that `first`, `next_field` and `next_member` lead where those of `specs/` do, whose `behind` is the
+//! last two in turn, and the law, which is the contract of the function in `laws`. What a machine learns on a walk is a `Load` of
 //! `specs/`.
 //! A step of a walk for each operation on a shared word is this project's profile (`docs/PROFILE.md`).
 #![tactic(auto)]
