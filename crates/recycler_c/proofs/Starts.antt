@@ -25,55 +25,16 @@ home_ties w hs end c tied e f =
     (λ k d lt over. rests_high (Some (ends.Resting w)) w hs tied refl k d lt (omega (arith, over, many)))
 
 pub refused_starts : (w : Core) (hs : List Handle) (code : Code) (end : End) → NotRun w code end → Starts (Some (ends.Resting w)) hs code (Some end) hs
-refused_starts w hs codes.Ok end n = absurd n
 refused_starts w hs codes.NoMemory end n = (refl, record { collector = ap Some n; mutators = refl })
-refused_starts w hs codes.Slots end n = absurd n
-refused_starts w hs codes.Fields end n = absurd n
-refused_starts w hs codes.Registers end n = absurd n
-refused_starts w hs codes.Mutators end n = absurd n
-refused_starts w hs codes.LogEntries end n = absurd n
-refused_starts w hs codes.FirstEpoch end n = absurd n
-refused_starts w hs codes.Closed end n = absurd n
-refused_starts w hs codes.Open end n = absurd n
-refused_starts w hs codes.Runs end n = absurd n
-refused_starts w hs codes.Rests end n = absurd n
-refused_starts w hs codes.Other end n = absurd n
-refused_starts w hs codes.Range end n = absurd n
-refused_starts w hs codes.EpochsSpent end n = absurd n
 refused_starts w hs codes.Shared end n = record { world = w; was = refl; collecting = n.0; is = ap (λ (x : End). collects_in (Some x)) n.1; fresh = n.2; mutators = refl }
+refused_starts w hs _ end n = absurd n
 
 pub refused_collects : (w : Core) (code : Code) (end : End) → NotRun w code end → can_collect (Some end) ≡ true
-refused_collects w codes.Ok end n = absurd n
 refused_collects w codes.NoMemory end n = ap (λ (x : End). can_collect (Some x)) n
-refused_collects w codes.Slots end n = absurd n
-refused_collects w codes.Fields end n = absurd n
-refused_collects w codes.Registers end n = absurd n
-refused_collects w codes.Mutators end n = absurd n
-refused_collects w codes.LogEntries end n = absurd n
-refused_collects w codes.FirstEpoch end n = absurd n
-refused_collects w codes.Closed end n = absurd n
-refused_collects w codes.Open end n = absurd n
-refused_collects w codes.Runs end n = absurd n
-refused_collects w codes.Rests end n = absurd n
-refused_collects w codes.Other end n = absurd n
-refused_collects w codes.Range end n = absurd n
-refused_collects w codes.EpochsSpent end n = absurd n
 refused_collects w codes.Shared end n = ap (λ (x : End). can_collect (Some x)) n.1
+refused_collects w _ end n = absurd n
 
 pub refused_ties : (w : Core) (hs : List Handle) (code : Code) (end : End) → AreTied (Some (ends.Resting w)) hs → NotRun w code end → AreTied (Some end) hs
-refused_ties w hs codes.Ok end tied n = absurd n
 refused_ties w hs codes.NoMemory end tied n = subst (λ (x : End). AreTied (Some x) hs) (sym n) tied
-refused_ties w hs codes.Slots end tied n = absurd n
-refused_ties w hs codes.Fields end tied n = absurd n
-refused_ties w hs codes.Registers end tied n = absurd n
-refused_ties w hs codes.Mutators end tied n = absurd n
-refused_ties w hs codes.LogEntries end tied n = absurd n
-refused_ties w hs codes.FirstEpoch end tied n = absurd n
-refused_ties w hs codes.Closed end tied n = absurd n
-refused_ties w hs codes.Open end tied n = absurd n
-refused_ties w hs codes.Runs end tied n = absurd n
-refused_ties w hs codes.Rests end tied n = absurd n
-refused_ties w hs codes.Other end tied n = absurd n
-refused_ties w hs codes.Range end tied n = absurd n
-refused_ties w hs codes.EpochsSpent end tied n = absurd n
 refused_ties w hs codes.Shared end tied n = home_ties w hs end n.0 tied n.1 n.2
+refused_ties w hs _ end tied n = absurd n
