@@ -198,8 +198,8 @@ impl World {
         machine.answer()
     }
 
-    /// Makes one turn of the collector: one step of its collection, on the word that this names. It waits for a mutator that
-    /// hasn't crossed into the requested epoch, and stops for good where the next request would be epoch 16,777,216.
+    /// Makes one turn of the collector: one step of its collection, on the word that this names. It answers `Waiting` for a mutator
+    /// that hasn't crossed into the requested epoch, and `EpochsSpent` for good where the next request would be epoch 16,777,216.
     pub fn turn(&mut self) -> Turn
         ensures turned { self.new ≡ turned self.old }
 

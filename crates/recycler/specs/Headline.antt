@@ -1,4 +1,7 @@
 -- What the program's answer to a request is.
+-- Three definitions stand behind those that are cited here: `asks` of `rec_model/specs/Asking`, by which a heap that never frees gives
+-- an answer; `IsReached` of `rec_model/specs/Reach`, by which registers reach an object; and `IsPlayedRun` of `rec_play/specs/Run`, the
+-- steps of a played run.
 use Rattle.std.specs.Prelude.{◌≡◌, ◌⊎◌, ℕ, ◌<◌, ◌≤◌, Bool, true, false, Option, None, Some, List, [], ◌++◌, length, map}
 use Rattle.std.specs.Option.{ForSome}
 use Rattle.rec_model.specs.Heap.{Heap}

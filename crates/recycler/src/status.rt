@@ -4,7 +4,7 @@ use std::fmt;
 /// How a run of the program ended.
 #[derive(Clone, Copy, Debug, PartialEq, Eq)]
 pub enum Status {
-    /// The script was read to its end, and the whole text was written.
+    /// The script was read to its end, where there is one, and the whole text was written and passed on.
     Done,
     /// The words are no command line.
     Usage,
