@@ -234,11 +234,33 @@ static uint32_t spend(recycler *r) {
     return collections;
 }
 
-/* A heap with two epochs left: settling wants four left. When they are spent no turn frees anything, and its mutators go on. */
-static void without_epochs(recycler *r) {
+/* With no epoch left the mutator goes on until each slot is taken, and then until its log is full. No turn and no poll changes anything. */
+static void use_up(recycler *r) {
+    recycler_handle *m = &r->mutators[0];
     recycler_turned turned;
     recycler_asked asked;
     uint32_t crossed;
+    for (uint32_t made = 1; made <= LOG + 1; made++) {
+        uint32_t answer = made <= LOG ? RECYCLER_DONE : RECYCLER_LOG_FULL;
+        if (made < SLOTS) {
+            WANT(recycler_new(m, 1, made, &asked), RECYCLER_OK);
+        } else {
+            WANT(recycler_put(m, 1, 0, made % REGISTERS, &asked), RECYCLER_OK);
+        }
+        WANT_TRUE(asked.answer == answer);
+        WANT(recycler_turn(&r->collector, &turned), RECYCLER_OK);
+        WANT_TRUE(turned.what == RECYCLER_NO_EPOCH);
+        WANT(recycler_poll(m, &crossed), RECYCLER_OK);
+        WANT_TRUE(crossed == 0);
+        if (made == SLOTS) {
+            WANT(recycler_new(m, 1, made, &asked), RECYCLER_OK);
+            WANT_TRUE(asked.answer == RECYCLER_FULL);
+        }
+    }
+}
+
+/* A heap with two epochs left: settling wants four left. */
+static void without_epochs(recycler *r) {
     view before, after;
     WANT(open_small(r, LAST_EPOCH - 2), RECYCLER_OK);
     before = look(r);
@@ -247,16 +269,7 @@ static void without_epochs(recycler *r) {
     want_same(&before, &after);
     WANT(recycler_start(r), RECYCLER_OK);
     WANT_TRUE(spend(r) == 2);
-    WANT(recycler_poll(&r->mutators[0], &crossed), RECYCLER_OK);
-    WANT_TRUE(crossed == 0);
-    for (uint32_t made = 1; made < SLOTS; made++) {
-        WANT(recycler_new(&r->mutators[0], 1, made, &asked), RECYCLER_OK);
-        WANT_TRUE(asked.answer == RECYCLER_DONE);
-        WANT(recycler_turn(&r->collector, &turned), RECYCLER_OK);
-        WANT_TRUE(turned.what == RECYCLER_NO_EPOCH);
-    }
-    WANT(recycler_new(&r->mutators[0], 1, SLOTS, &asked), RECYCLER_OK);
-    WANT_TRUE(asked.answer == RECYCLER_FULL);
+    use_up(r);
     WANT(recycler_stop(r), RECYCLER_OK);
     before = look(r);
     WANT_TRUE(before.taken == SLOTS && before.totals.freed == 0 && before.totals.epoch == LAST_EPOCH);
