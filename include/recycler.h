@@ -4,7 +4,7 @@
  * RECYCLER_CLOSED; bytes that are all zero are closed too. Its bytes are the library's: a caller passes addresses of it and of its
  * handles, and copies or writes nothing. Two heaps have nothing in common: calls on one may run beside calls on the other.
  *
- * Linking. The library calls malloc, realloc and free through an archive of the kit, which lies beside the page that `rt doc` names:
+ * Linking. The library calls malloc, realloc and free through an archive of the kit, in the folder c beside the page that `rt doc` names:
  *     cc -Iinclude program.c crates/recycler_c/out/librecycler_c.a "$(dirname "$(rt doc)")/c/liblibc_c.a" -lpthread
  *
  * Pointers. None is null. What an out-parameter points to lies outside every `recycler`, belongs to one call at a time, and needs no
