@@ -1,11 +1,18 @@
 /* librecycler_c: a proved concurrent reference-counting collector.
  *
  * A `recycler` lies in memory of the caller's, and holds a handle for the collector and one for each mutator. Begin it with
- * RECYCLER_CLOSED. Its bytes are the library's: a caller passes addresses of it and of its handles, and copies or writes nothing.
+ * RECYCLER_CLOSED; bytes that are all zero are closed too. Its bytes are the library's: a caller passes addresses of it and of its
+ * handles, and copies or writes nothing. Two heaps have nothing in common: calls on one may run beside calls on the other.
+ *
+ * Linking. The library calls malloc, realloc and free through an archive of the kit, in the folder c beside the page that `rt doc` names:
+ *     cc -Iinclude program.c crates/recycler_c/out/librecycler_c.a "$(dirname "$(rt doc)")/c/liblibc_c.a" -lpthread
+ *
+ * Pointers. None is null. What an out-parameter points to lies outside every `recycler`, belongs to one call at a time, and needs no
+ * value before.
  *
  * Codes. Every call answers a recycler_code. Each function below names the codes that it can answer; a code means the same everywhere.
  * A code other than RECYCLER_OK says that the call did nothing: handles and out-parameters are as before. The one exception is
- * RECYCLER_SHARED. No call aborts, prints, waits or takes a lock.
+ * RECYCLER_SHARED. No call aborts, prints or waits, and none takes a lock beside those of malloc and free.
  *
  * Threads. A call that takes a whole `recycler` wants it to itself, with all its handles. While the heap runs, each handle is given to
  * one call at a time, and calls on different handles may run beside each other: one thread turns &r.collector, and one thread each
@@ -15,7 +22,14 @@
  * with threads.
  *
  * Memory. recycler_open and recycler_start take memory, by malloc; recycler_close, recycler_stop and a refused call give it back. No
- * other call takes any. malloc aligns as C says, and malloc, realloc and free are of one allocator.
+ * other call answers RECYCLER_NO_MEMORY. malloc aligns as C says, and malloc, realloc and free are of one allocator.
+ *
+ * Epochs. Each collection spends an epoch, recycler_settle spends three, and 16,777,215 is the last. A small collection takes some 8
+ * microseconds (bench/README.md, the table of bench/pauses). So a collector that is turned without pause may spend all epochs within
+ * minutes. Let its thread rest after RECYCLER_COLLECTED while slots are free: at one collection a millisecond the epochs last 4.6
+ * hours, at one a second 194 days. Each log has to hold what its mutator makes and puts in such a rest. From RECYCLER_NO_EPOCH on
+ * nothing is freed, and a heap with fewer than four epochs left isn't settled. Its mutators may go on until slots or logs are full, and
+ * it may be stopped and closed.
  *
  * A mutator has registers, numbered from 0, and reaches objects by them alone. An object has a label, which the caller chooses as it
  * makes it, and fields, numbered from 0. A register or a field is null or leads to one object.
@@ -50,7 +64,7 @@ typedef enum recycler_code {
     RECYCLER_OTHER_HANDLE = 12,
     /* a register, a field or a slot is not there */
     RECYCLER_RANGE = 13,
-    /* fewer than four epochs are left, of 16,777,215 */
+    /* fewer than four epochs are left to request; 16,777,215 is the last */
     RECYCLER_EPOCHS_SPENT = 14,
     /* something else than its handles holds the running heap: no call of this library was seen to make it so */
     RECYCLER_SHARED = 15
@@ -82,7 +96,7 @@ typedef enum recycler_answer {
     RECYCLER_NO_OBJECT = 6, /* the register that should name an object is null */
     RECYCLER_FULL = 7,      /* recycler_new: every slot was taken */
     RECYCLER_BUSY = 8,      /* recycler_new: no free slot was found, but a sweep ran: the freed word in `before` and `after` */
-    RECYCLER_LOG_FULL = 9   /* the mutator's log has no room: poll, and ask again once the collector has turned */
+    RECYCLER_LOG_FULL = 9   /* the mutator's log has no room: let the collector turn, poll until the poll crosses, and ask again */
 } recycler_answer;
 
 /* `label`, `before` and `after` are 0 where the answer says nothing of them. */
@@ -94,9 +108,11 @@ typedef struct recycler_asked {
 /* What a turn of the collector came to. */
 typedef enum recycler_what {
     RECYCLER_MOVED = 0,
-    RECYCLER_WAITING = 1,   /* the mutator with the number `mutator` has not polled since the epoch was requested; nothing changed */
+    /* the mutator with the number `mutator` has not crossed into the requested epoch: it has still to poll, or is in the middle of its
+     * poll; nothing changed */
+    RECYCLER_WAITING = 1,
     RECYCLER_COLLECTED = 2, /* the collection of `epoch` is complete, with so many slots `freed` */
-    RECYCLER_NO_EPOCH = 3   /* the last epoch is over; nothing changed */
+    RECYCLER_NO_EPOCH = 3   /* no epoch is left to request, so no collection begins any more; nothing changed */
 } recycler_what;
 
 typedef struct recycler_turned {
@@ -123,28 +139,30 @@ typedef struct recycler_totals_told {
     uint64_t cycles_freed, cycles_refused_delta, cycles_refused_sigma;
 } recycler_totals_told;
 
-/* Opens a heap at rest. One object with label 0 stands in slot 0 and in register 0 of each mutator. All memory of the heap and of its
- * handles is taken here.
+/* Opens a heap at rest, in a closed `recycler`. One object with label 0 stands in slot 0 and in register 0 of each mutator. The memory of
+ * the heap at rest and of its handles is taken here.
  * slots: objects that fit, 1 to 65,535. fields: of each object, 1 to 16. registers: of each mutator, 1 to 64. mutators: 1 to 8.
- * log_entries: that a mutator may make in an epoch, 1 to 262,143. first_epoch: 1 to 16,777,215.
+ * log_entries: that the log of each mutator holds, 1 to 262,143. An object that the mutator makes takes one, and so does a field that it
+ * puts, a null one too; a refused command takes none. A poll that crosses empties the log, and there is an epoch to cross into once the
+ * collector's turns have begun a collection. first_epoch: 1 to 16,777,215.
  * Codes: OPEN_ALREADY, the six of the numbers, NO_MEMORY. */
 uint32_t recycler_open(recycler *r, uint32_t slots, uint32_t fields, uint32_t registers, uint32_t mutators, uint32_t log_entries,
                        uint32_t first_epoch);
 
-/* Closes a heap at rest, and gives back its memory. Codes: CLOSED_HANDLE, RUNS. */
+/* Closes a heap at rest, and gives back its memory. Another heap may be opened there. Codes: CLOSED_HANDLE, RUNS. */
 uint32_t recycler_close(recycler *r);
 
 /* Sets a heap at rest running: &r->collector is its collector's handle then, and &r->mutators[k] the handle of mutator k + 1.
  * Codes: CLOSED_HANDLE, RUNS, NO_MEMORY, SHARED. After SHARED it runs with all mutators at home: stop it. */
 uint32_t recycler_start(recycler *r);
 
-/* Stops a running heap: it rests, as its threads left it. No memory is taken, and no mutator has to be called first.
+/* Stops a running heap: it rests, as its threads left it. No mutator has to be called first. It may be started again, settled or not.
  * Codes: CLOSED_HANDLE, RESTS, SHARED. After SHARED it still runs, but all its mutators are at home: they can be asked nothing
  * (RESTS), and recycler_stop may be called again. */
 uint32_t recycler_stop(recycler *r);
 
-/* Settles a heap at rest: afterwards just the slots that registers reach hold objects, with true counts. Codes: CLOSED_HANDLE, RUNS,
- * EPOCHS_SPENT. */
+/* Settles a heap at rest: afterwards just the slots that registers reach hold objects, with true counts. It completes three collections,
+ * or four where one was under way. Codes: CLOSED_HANDLE, RUNS, EPOCHS_SPENT. */
 uint32_t recycler_settle(recycler *r, recycler_settled *told);
 
 /* Looks at a slot of a heap at rest: slot, from 0. Codes: CLOSED_HANDLE, RUNS, RANGE. */

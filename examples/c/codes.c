@@ -1,101 +1,305 @@
-/* Each code that a wrong number or a wrong order of calls is answered. It prints a line where a code is another one, and ends with 1. */
+/* Each code that a wrong number or a wrong order of calls is answered, and what such calls leave. It prints a line where a code or what is
+ * left is another one, and ends with 1. */
 #include <stdio.h>
+#include <string.h>
 
 #include "recycler.h"
 
+enum { SLOTS = 8, REGISTERS = 4, MUTATORS = 2, LOG = 64, LAST_EPOCH = 16777215, MARK = 0xA5 };
+
 static int wrong = 0;
 
-static void want(uint32_t code, uint32_t wanted, const char *call) {
-    if (code != wanted) {
-        printf("%s: code %u, wanted %u\n", call, (unsigned)code, (unsigned)wanted);
-        wrong = 1;
-    }
-}
-
-#define WANT(call, code) want((call), (code), #call)
-
-static void while_closed(recycler *r) {
-    recycler_turned turned;
-    uint32_t number;
-    WANT(recycler_close(r), RECYCLER_CLOSED_HANDLE);
-    WANT(recycler_start(r), RECYCLER_CLOSED_HANDLE);
-    WANT(recycler_stop(r), RECYCLER_CLOSED_HANDLE);
-    WANT(recycler_taken(r, &number), RECYCLER_CLOSED_HANDLE);
-    WANT(recycler_turn(&r->collector, &turned), RECYCLER_CLOSED_HANDLE);
-    WANT(recycler_poll(&r->mutators[0], &number), RECYCLER_CLOSED_HANDLE);
-    WANT(recycler_open(r, 65536, 1, 4, 2, 64, 1), RECYCLER_SLOTS);
-    WANT(recycler_open(r, 8, 17, 4, 2, 64, 1), RECYCLER_FIELDS);
-    WANT(recycler_open(r, 8, 1, 65, 2, 64, 1), RECYCLER_REGISTERS);
-    WANT(recycler_open(r, 8, 1, 4, 9, 64, 1), RECYCLER_MUTATORS);
-    WANT(recycler_open(r, 8, 1, 4, 2, 262144, 1), RECYCLER_LOG_ENTRIES);
-    WANT(recycler_open(r, 8, 1, 4, 2, 64, 16777216), RECYCLER_FIRST_EPOCH);
-    WANT(recycler_open(r, 0, 0, 0, 0, 0, 0), RECYCLER_SLOTS);
-}
-
-static void while_at_rest(recycler *r) {
-    recycler_turned turned;
-    recycler_asked asked;
-    recycler_slot_told slot;
-    uint32_t number;
-    WANT(recycler_open(r, 8, 1, 4, 2, 64, 1), RECYCLER_OPEN_ALREADY);
-    WANT(recycler_stop(r), RECYCLER_RESTS);
-    WANT(recycler_turn(&r->collector, &turned), RECYCLER_RESTS);
-    WANT(recycler_poll(&r->mutators[0], &number), RECYCLER_RESTS);
-    WANT(recycler_null(&r->mutators[1], 0, &asked), RECYCLER_RESTS);
-    WANT(recycler_null(&r->mutators[2], 0, &asked), RECYCLER_CLOSED_HANDLE);
-    WANT(recycler_slot(r, 8, &slot), RECYCLER_RANGE);
-    WANT(recycler_slot(r, 0, &slot), RECYCLER_OK);
-}
-
-static void while_it_runs(recycler *r) {
+/* What refused calls are given to tell into. It is marked before each call. */
+static union {
     recycler_turned turned;
     recycler_asked asked;
     recycler_settled settled;
     recycler_slot_told slot;
     recycler_totals_told totals;
     uint32_t number;
+} told;
+
+static void complain(const char *call, const char *of) {
+    printf("%s: %s\n", call, of);
+    wrong = 1;
+}
+
+static int is_marked(void) {
+    unsigned char marks[sizeof told];
+    memset(marks, MARK, sizeof marks);
+    return memcmp(&told, marks, sizeof told) == 0;
+}
+
+static void want(uint32_t code, uint32_t wanted, const char *call) {
+    if (code != wanted) {
+        printf("%s: code %u, wanted %u\n", call, (unsigned)code, (unsigned)wanted);
+        wrong = 1;
+    }
+    if (code != RECYCLER_OK && !is_marked()) {
+        complain(call, "refused, and it told something");
+    }
+    memset(&told, MARK, sizeof told);
+}
+
+#define WANT(call, code) want((call), (code), #call)
+
+static void want_true(int is_so, const char *what) {
+    if (!is_so) {
+        complain(what, "not so");
+    }
+}
+
+#define WANT_TRUE(what) want_true((what), #what)
+
+static uint32_t open_small(recycler *r, uint32_t first_epoch) {
+    return recycler_open(r, SLOTS, 1, REGISTERS, MUTATORS, LOG, first_epoch);
+}
+
+/* What is seen of a heap at rest. */
+typedef struct view {
+    recycler_totals_told totals;
+    recycler_slot_told slots[SLOTS];
+    uint32_t taken;
+} view;
+
+static view look(recycler *r) {
+    view seen;
+    memset(&seen, 0, sizeof seen);
+    WANT(recycler_totals(r, &seen.totals), RECYCLER_OK);
+    WANT(recycler_taken(r, &seen.taken), RECYCLER_OK);
+    for (uint32_t slot = 0; slot < SLOTS; slot++) {
+        WANT(recycler_slot(r, slot, &seen.slots[slot]), RECYCLER_OK);
+    }
+    return seen;
+}
+
+static void want_same(const view *before, const view *after) {
+    WANT_TRUE(memcmp(before, after, sizeof *before) == 0);
+}
+
+/* A poll and each command, with numbers that are in range, on a handle that they aren't for. */
+static void want_commands(recycler_handle *handle, uint32_t code) {
+    WANT(recycler_poll(handle, &told.number), code);
+    WANT(recycler_new(handle, 1, 7, &told.asked), code);
+    WANT(recycler_null(handle, 0, &told.asked), code);
+    WANT(recycler_copy(handle, 1, 0, &told.asked), code);
+    WANT(recycler_get(handle, 1, 0, 0, &told.asked), code);
+    WANT(recycler_put(handle, 0, 0, 0, &told.asked), code);
+    WANT(recycler_value(handle, 0, &told.asked), code);
+    WANT(recycler_same(handle, 0, 1, &told.asked), code);
+}
+
+/* Each number just out of its range: below, above, and two at once, of which the first is named. */
+static void want_numbers(recycler *r) {
+    WANT(recycler_open(r, 0, 1, 4, 2, 64, 1), RECYCLER_SLOTS);
+    WANT(recycler_open(r, 8, 0, 4, 2, 64, 1), RECYCLER_FIELDS);
+    WANT(recycler_open(r, 8, 1, 0, 2, 64, 1), RECYCLER_REGISTERS);
+    WANT(recycler_open(r, 8, 1, 4, 0, 64, 1), RECYCLER_MUTATORS);
+    WANT(recycler_open(r, 8, 1, 4, 2, 0, 1), RECYCLER_LOG_ENTRIES);
+    WANT(recycler_open(r, 8, 1, 4, 2, 64, 0), RECYCLER_FIRST_EPOCH);
+    WANT(recycler_open(r, 65536, 1, 4, 2, 64, 1), RECYCLER_SLOTS);
+    WANT(recycler_open(r, 8, 17, 4, 2, 64, 1), RECYCLER_FIELDS);
+    WANT(recycler_open(r, 8, 1, 65, 2, 64, 1), RECYCLER_REGISTERS);
+    WANT(recycler_open(r, 8, 1, 4, 9, 64, 1), RECYCLER_MUTATORS);
+    WANT(recycler_open(r, 8, 1, 4, 2, 262144, 1), RECYCLER_LOG_ENTRIES);
+    WANT(recycler_open(r, 8, 1, 4, 2, 64, LAST_EPOCH + 1), RECYCLER_FIRST_EPOCH);
+    WANT(recycler_open(r, 0, 0, 0, 0, 0, 0), RECYCLER_SLOTS);
+    WANT(recycler_open(r, 8, 1, 4, UINT32_MAX, UINT32_MAX, 0), RECYCLER_MUTATORS);
+}
+
+/* Heaps with the least and the greatest numbers. */
+static void open_bounds(recycler *r) {
+    static const uint32_t most[6] = { 65535, 16, 64, 8, 262143, LAST_EPOCH };
+    for (int part = -1; part < 6; part++) {
+        uint32_t n[6] = { 1, 1, 1, 1, 1, 1 };
+        if (part >= 0) {
+            n[part] = most[part];
+        }
+        WANT(recycler_open(r, n[0], n[1], n[2], n[3], n[4], n[5]), RECYCLER_OK);
+        WANT(recycler_close(r), RECYCLER_OK);
+    }
+}
+
+static void while_closed(recycler *r) {
+    WANT(recycler_close(r), RECYCLER_CLOSED_HANDLE);
+    WANT(recycler_start(r), RECYCLER_CLOSED_HANDLE);
+    WANT(recycler_stop(r), RECYCLER_CLOSED_HANDLE);
+    WANT(recycler_settle(r, &told.settled), RECYCLER_CLOSED_HANDLE);
+    WANT(recycler_slot(r, 0, &told.slot), RECYCLER_CLOSED_HANDLE);
+    WANT(recycler_taken(r, &told.number), RECYCLER_CLOSED_HANDLE);
+    WANT(recycler_totals(r, &told.totals), RECYCLER_CLOSED_HANDLE);
+    WANT(recycler_turn(&r->collector, &told.turned), RECYCLER_CLOSED_HANDLE);
+    WANT(recycler_turn(&r->mutators[0], &told.turned), RECYCLER_CLOSED_HANDLE);
+    want_commands(&r->collector, RECYCLER_CLOSED_HANDLE);
+    want_commands(&r->mutators[0], RECYCLER_CLOSED_HANDLE);
+    want_numbers(r);
+    WANT(recycler_close(r), RECYCLER_CLOSED_HANDLE);
+}
+
+static void while_at_rest(recycler *r) {
+    view before = look(r), after;
+    WANT(open_small(r, 1), RECYCLER_OPEN_ALREADY);
+    WANT(recycler_open(r, 0, 1, 4, 2, 64, 1), RECYCLER_OPEN_ALREADY);
+    WANT(recycler_stop(r), RECYCLER_RESTS);
+    WANT(recycler_turn(&r->collector, &told.turned), RECYCLER_RESTS);
+    WANT(recycler_turn(&r->mutators[0], &told.turned), RECYCLER_RESTS);
+    want_commands(&r->collector, RECYCLER_RESTS);
+    want_commands(&r->mutators[0], RECYCLER_RESTS);
+    want_commands(&r->mutators[MUTATORS - 1], RECYCLER_RESTS);
+    want_commands(&r->mutators[MUTATORS], RECYCLER_CLOSED_HANDLE);
+    WANT(recycler_slot(r, SLOTS, &told.slot), RECYCLER_RANGE);
+    WANT(recycler_slot(r, UINT32_MAX, &told.slot), RECYCLER_RANGE);
+    after = look(r);
+    want_same(&before, &after);
+}
+
+/* Nothing here changes the heap: what it was at rest it has to be at rest again. */
+static void while_it_runs(recycler *r) {
+    recycler_asked asked;
     recycler_handle *m = &r->mutators[0];
-    WANT(recycler_open(r, 8, 1, 4, 2, 64, 1), RECYCLER_OPEN_ALREADY);
+    WANT(open_small(r, 1), RECYCLER_OPEN_ALREADY);
     WANT(recycler_start(r), RECYCLER_RUNS);
     WANT(recycler_close(r), RECYCLER_RUNS);
-    WANT(recycler_settle(r, &settled), RECYCLER_RUNS);
-    WANT(recycler_slot(r, 0, &slot), RECYCLER_RUNS);
-    WANT(recycler_taken(r, &number), RECYCLER_RUNS);
-    WANT(recycler_totals(r, &totals), RECYCLER_RUNS);
-    WANT(recycler_turn(m, &turned), RECYCLER_OTHER_HANDLE);
-    WANT(recycler_poll(&r->collector, &number), RECYCLER_OTHER_HANDLE);
-    WANT(recycler_null(&r->collector, 0, &asked), RECYCLER_OTHER_HANDLE);
-    WANT(recycler_new(m, 4, 1, &asked), RECYCLER_RANGE);
-    WANT(recycler_null(m, 256, &asked), RECYCLER_RANGE);
-    WANT(recycler_copy(m, 0, 4, &asked), RECYCLER_RANGE);
-    WANT(recycler_get(m, 1, 0, 1, &asked), RECYCLER_RANGE);
-    WANT(recycler_put(m, 0, 1, 0, &asked), RECYCLER_RANGE);
-    WANT(recycler_value(m, UINT32_MAX, &asked), RECYCLER_RANGE);
-    WANT(recycler_same(m, 0, 4, &asked), RECYCLER_RANGE);
+    WANT(recycler_settle(r, &told.settled), RECYCLER_RUNS);
+    WANT(recycler_slot(r, 0, &told.slot), RECYCLER_RUNS);
+    WANT(recycler_taken(r, &told.number), RECYCLER_RUNS);
+    WANT(recycler_totals(r, &told.totals), RECYCLER_RUNS);
+    WANT(recycler_turn(m, &told.turned), RECYCLER_OTHER_HANDLE);
+    WANT(recycler_turn(&r->mutators[MUTATORS], &told.turned), RECYCLER_CLOSED_HANDLE);
+    want_commands(&r->collector, RECYCLER_OTHER_HANDLE);
+    want_commands(&r->mutators[MUTATORS], RECYCLER_CLOSED_HANDLE);
+    WANT(recycler_new(m, REGISTERS, 1, &told.asked), RECYCLER_RANGE);
+    WANT(recycler_null(m, REGISTERS, &told.asked), RECYCLER_RANGE);
+    WANT(recycler_null(m, 256, &told.asked), RECYCLER_RANGE);
+    WANT(recycler_copy(m, 0, REGISTERS, &told.asked), RECYCLER_RANGE);
+    WANT(recycler_copy(m, REGISTERS, 0, &told.asked), RECYCLER_RANGE);
+    WANT(recycler_get(m, 1, 0, 1, &told.asked), RECYCLER_RANGE);
+    WANT(recycler_get(m, 1, 0, 256, &told.asked), RECYCLER_RANGE);
+    WANT(recycler_get(m, REGISTERS, 0, 0, &told.asked), RECYCLER_RANGE);
+    WANT(recycler_get(m, 1, REGISTERS, 0, &told.asked), RECYCLER_RANGE);
+    WANT(recycler_put(m, 0, 1, 0, &told.asked), RECYCLER_RANGE);
+    WANT(recycler_put(m, REGISTERS, 0, 0, &told.asked), RECYCLER_RANGE);
+    WANT(recycler_put(m, 0, 0, REGISTERS, &told.asked), RECYCLER_RANGE);
+    WANT(recycler_value(m, REGISTERS, &told.asked), RECYCLER_RANGE);
+    WANT(recycler_value(m, UINT32_MAX, &told.asked), RECYCLER_RANGE);
+    WANT(recycler_same(m, 0, REGISTERS, &told.asked), RECYCLER_RANGE);
+    WANT(recycler_same(m, REGISTERS, 0, &told.asked), RECYCLER_RANGE);
     WANT(recycler_value(m, 0, &asked), RECYCLER_OK);
-    WANT(asked.answer, RECYCLER_VALUE);
+    WANT_TRUE(asked.answer == RECYCLER_VALUE && asked.label == 0);
+    WANT(recycler_value(m, 1, &asked), RECYCLER_OK);
+    WANT_TRUE(asked.answer == RECYCLER_NO_OBJECT);
+}
+
+/* A heap goes round: refused calls leave it as it was, running or not. */
+static void go_round(recycler *r) {
+    recycler_settled settled;
+    recycler_turned turned;
+    view before, after;
+    WANT(open_small(r, 1), RECYCLER_OK);
+    while_at_rest(r);
+    before = look(r);
+    WANT(recycler_start(r), RECYCLER_OK);
+    while_it_runs(r);
+    WANT(recycler_stop(r), RECYCLER_OK);
+    after = look(r);
+    want_same(&before, &after);
+    WANT(recycler_start(r), RECYCLER_OK);
+    WANT(recycler_turn(&r->collector, &turned), RECYCLER_OK);
+    WANT(recycler_stop(r), RECYCLER_OK);
+    /* with the collection that this turn began, settling completes four, and it requests three epochs */
+    before = look(r);
+    WANT(recycler_settle(r, &settled), RECYCLER_OK);
+    after = look(r);
+    WANT_TRUE(settled.epochs == 4 && after.totals.epoch == before.totals.epoch + 3);
+    WANT(recycler_settle(r, &settled), RECYCLER_OK);
+    WANT_TRUE(settled.epochs == 3 && settled.freed == 0 && settled.live == 1);
+    WANT(recycler_start(r), RECYCLER_OK);
+    WANT(recycler_stop(r), RECYCLER_OK);
+    while_at_rest(r);
+    WANT(recycler_close(r), RECYCLER_OK);
+}
+
+/* Turns until no epoch is left, and answers how many collections were completed. Each mutator polls where it is waited for. */
+static uint32_t spend(recycler *r) {
+    recycler_turned turned;
+    uint32_t crossed, collections = 0;
+    turned.what = RECYCLER_MOVED;
+    for (int turn = 0; turn < 1000 && turned.what != RECYCLER_NO_EPOCH; turn++) {
+        WANT(recycler_turn(&r->collector, &turned), RECYCLER_OK);
+        if (turned.what == RECYCLER_WAITING) {
+            WANT(recycler_poll(&r->mutators[turned.mutator - 1], &crossed), RECYCLER_OK);
+        }
+        collections += turned.what == RECYCLER_COLLECTED;
+    }
+    return collections;
+}
+
+/* With no epoch left the mutator goes on until each slot is taken, and then until its log is full. No turn and no poll changes anything. */
+static void use_up(recycler *r) {
+    recycler_handle *m = &r->mutators[0];
+    recycler_turned turned;
+    recycler_asked asked;
+    uint32_t crossed;
+    for (uint32_t made = 1; made <= LOG + 1; made++) {
+        uint32_t answer = made <= LOG ? RECYCLER_DONE : RECYCLER_LOG_FULL;
+        if (made < SLOTS) {
+            WANT(recycler_new(m, 1, made, &asked), RECYCLER_OK);
+        } else {
+            WANT(recycler_put(m, 1, 0, made % REGISTERS, &asked), RECYCLER_OK);
+        }
+        WANT_TRUE(asked.answer == answer);
+        WANT(recycler_turn(&r->collector, &turned), RECYCLER_OK);
+        WANT_TRUE(turned.what == RECYCLER_NO_EPOCH);
+        WANT(recycler_poll(m, &crossed), RECYCLER_OK);
+        WANT_TRUE(crossed == 0);
+        if (made == SLOTS) {
+            WANT(recycler_new(m, 1, made, &asked), RECYCLER_OK);
+            WANT_TRUE(asked.answer == RECYCLER_FULL);
+        }
+    }
+}
+
+/* A heap with two epochs left: settling wants four left. */
+static void without_epochs(recycler *r) {
+    view before, after;
+    WANT(open_small(r, LAST_EPOCH - 2), RECYCLER_OK);
+    before = look(r);
+    WANT(recycler_settle(r, &told.settled), RECYCLER_EPOCHS_SPENT);
+    after = look(r);
+    want_same(&before, &after);
+    WANT(recycler_start(r), RECYCLER_OK);
+    WANT_TRUE(spend(r) == 2);
+    use_up(r);
+    WANT(recycler_stop(r), RECYCLER_OK);
+    before = look(r);
+    WANT_TRUE(before.taken == SLOTS && before.totals.freed == 0 && before.totals.epoch == LAST_EPOCH);
+    WANT(recycler_settle(r, &told.settled), RECYCLER_EPOCHS_SPENT);
+    WANT(recycler_start(r), RECYCLER_OK);
+    WANT(recycler_stop(r), RECYCLER_OK);
+    after = look(r);
+    want_same(&before, &after);
+    WANT(recycler_close(r), RECYCLER_OK);
+    /* with four epochs left a heap is settled once */
+    WANT(open_small(r, LAST_EPOCH - 4), RECYCLER_OK);
+    WANT(recycler_settle(r, &told.settled), RECYCLER_OK);
+    WANT(recycler_settle(r, &told.settled), RECYCLER_EPOCHS_SPENT);
+    WANT(recycler_close(r), RECYCLER_OK);
+    WANT(open_small(r, LAST_EPOCH - 3), RECYCLER_OK);
+    WANT(recycler_settle(r, &told.settled), RECYCLER_EPOCHS_SPENT);
+    WANT(recycler_close(r), RECYCLER_OK);
 }
 
 int main(void) {
     recycler r = RECYCLER_CLOSED;
-    recycler_settled settled;
+    memset(&told, MARK, sizeof told);
     while_closed(&r);
-    /* two epochs before the last: settling asks for four */
-    WANT(recycler_open(&r, 8, 1, 4, 2, 64, 16777213), RECYCLER_OK);
-    WANT(recycler_settle(&r, &settled), RECYCLER_EPOCHS_SPENT);
-    WANT(recycler_close(&r), RECYCLER_OK);
-    WANT(recycler_open(&r, 8, 1, 4, 2, 64, 1), RECYCLER_OK);
-    while_at_rest(&r);
-    WANT(recycler_start(&r), RECYCLER_OK);
-    while_it_runs(&r);
-    WANT(recycler_stop(&r), RECYCLER_OK);
-    WANT(recycler_start(&r), RECYCLER_OK);
-    WANT(recycler_stop(&r), RECYCLER_OK);
-    WANT(recycler_settle(&r, &settled), RECYCLER_OK);
-    WANT(recycler_start(&r), RECYCLER_OK);
-    WANT(recycler_stop(&r), RECYCLER_OK);
-    while_at_rest(&r);
-    WANT(recycler_close(&r), RECYCLER_OK);
+    open_bounds(&r);
+    go_round(&r);
+    while_closed(&r);
+    /* bytes that are all zero are closed too */
+    memset(&r, 0, sizeof r);
+    while_closed(&r);
+    without_epochs(&r);
     while_closed(&r);
     return wrong;
 }

@@ -6,6 +6,7 @@
 #include <sched.h>
 #include <stdio.h>
 #include <stdlib.h>
+#include <time.h>
 
 #include "recycler.h"
 
@@ -89,13 +90,17 @@ static void *mutate(void *handle) {
     return NULL;
 }
 
+/* Where a collection freed nothing there was little to do, so the thread rests shortly: each collection spends an epoch. */
 static void *collect(void *handle) {
+    const struct timespec shortly = { 0, 100000 };
     recycler_turned told;
     while (!all_done(0)) {
         for (int turn = 0; turn < 100; turn++) {
             must(recycler_turn(handle, &told), "turn");
             if (told.what == RECYCLER_WAITING) {
                 sched_yield();
+            } else if (told.what == RECYCLER_COLLECTED && told.freed == 0) {
+                nanosleep(&shortly, NULL);
             }
         }
     }

@@ -1,48 +1,70 @@
 #!/usr/bin/env python3
-"""One mutator makes a ring of two objects and drops it, and the collector turns until it is freed. It wants librecycler.so, which
-`make` makes of the archive."""
-import ctypes
+"""Four mutators on a thread each build and drop rings of three objects; a fifth thread turns the collector. Then the heap is stopped and
+settles. It wants librecycler.so, which `make` makes of the archive. Other threads run while one is in a call."""
+import os
 import sys
+import threading
+import time
+from ctypes import CDLL, Structure, byref, c_uint32 as u32, c_uint64 as u64
 
-LIBRARY = ctypes.CDLL(sys.argv[1] if len(sys.argv) > 1 else "out/librecycler.so")
-
-
-class Handle(ctypes.Structure):
-    _fields_ = [("full", ctypes.c_bool), ("at", ctypes.c_void_p)]
-
-
-class Recycler(ctypes.Structure):
-    _fields_ = [("collector", Handle), ("mutators", Handle * 8)]
+LIBRARY = CDLL(sys.argv[1] if len(sys.argv) > 1 else "out/librecycler.so")
+HEAP = (u64 * 18)()  # a `recycler`: nine handles of 16 bytes, the collector's first; bytes that are all zero are closed
+WORKING = {1, 2, 3, 4}  # the mutators that still build
 
 
-class Asked(ctypes.Structure):
-    _fields_ = [("answer", ctypes.c_uint32), ("label", ctypes.c_uint32), ("before", ctypes.c_uint64), ("after", ctypes.c_uint64)]
+def struct(**fields):
+    return type("Told", (Structure,), {"_fields_": list(fields.items())})
 
 
-class Turned(ctypes.Structure):
-    _fields_ = [(name, ctypes.c_uint32) for name in ("what", "mutator", "epoch", "freed")]
+Asked = struct(answer=u32, label=u32, before=u64, after=u64)
+Turned = struct(what=u32, mutator=u32, epoch=u32, freed=u32)
+Settled = struct(epochs=u32, freed=u32, live=u32)
+Totals = struct(born=u64, freed=u64, epoch=u32, collections=u32, cycles_freed=u64, refused_delta=u64, refused_sigma=u64)
 
 
-def must(name, *given):
-    code = getattr(LIBRARY, "recycler_" + name)(*given)
-    assert code == 0, f"recycler_{name}: code {code}"
+def call(name, handle, *numbers, told=None):
+    """Calls with the handle of the mutator with this number; 0 is the collector's, and the whole heap."""
+    code = getattr(LIBRARY, "recycler_" + name)(byref(HEAP, 16 * handle), *numbers, *(() if told is None else (byref(told),)))
+    if code != 0:
+        raise RuntimeError(f"recycler_{name}: code {code}")
+    return told
 
 
-heap, asked, turned, crossed = Recycler(), Asked(), Turned(), ctypes.c_uint32()
-whole, told, mutator = ctypes.byref(heap), ctypes.byref(asked), ctypes.byref(heap.mutators[0])
-must("open", whole, 8, 1, 3, 1, 16, 1)
-must("start", whole)
-must("new", mutator, 1, 10, told)
-must("new", mutator, 2, 20, told)
-must("put", mutator, 1, 0, 2, told)
-must("put", mutator, 2, 0, 1, told)
-must("null", mutator, 1, told)
-must("null", mutator, 2, told)
-turns = 0
-while turned.freed == 0:
-    must("turn", ctypes.byref(heap.collector), ctypes.byref(turned))
-    must("poll", mutator, ctypes.byref(crossed))
-    turns += 1
-must("stop", whole)
-must("close", whole)
-print(f"{turned.freed} slots freed in turn {turns}")
+def ask(mutator, name, *numbers):
+    """Asks until it is done. Where no slot is free or the log is full (FULL, BUSY, LOG_FULL) the mutator polls, and the collector turns."""
+    while (answer := call(name, mutator, *numbers, told=Asked()).answer) in (7, 8, 9):
+        call("poll", mutator, told=u32())
+    assert answer == 0, f"recycler_{name}: answer {answer}"
+
+
+def mutate(mutator):
+    link = ("new", 3, 0), ("put", 2, 0, 3), ("copy", 2, 3)
+    for label in range(200):
+        for command in ("new", 1, label), ("copy", 2, 1), *link, *link, ("put", 2, 0, 1), ("null", 1), ("null", 2), ("null", 3):
+            ask(mutator, *command)
+        call("poll", mutator, told=u32())
+    WORKING.discard(mutator)
+    while WORKING:
+        call("poll", mutator, told=u32())
+
+
+def collect():
+    while WORKING:
+        turned = call("turn", 0, told=Turned())
+        if turned.what == 2 and turned.freed == 0:  # RECYCLER_COLLECTED
+            time.sleep(0.0001)
+
+
+# A thread that fails ends the program, since the others would wait for it.
+threading.excepthook = lambda failed: (print(failed.exc_value, file=sys.stderr, flush=True), os._exit(1))
+threads = [threading.Thread(target=mutate, args=(mutator,)) for mutator in WORKING] + [threading.Thread(target=collect)]
+call("open", 0, 64, 1, 4, len(WORKING), 64, 1)
+call("start", 0)
+for thread in threads:
+    thread.start()
+for thread in threads:
+    thread.join()
+call("stop", 0)
+settled, totals = call("settle", 0, told=Settled()), call("totals", 0, told=Totals())
+call("close", 0)
+print(f"made {totals.born}, freed {totals.freed}, live {settled.live}")

@@ -4,7 +4,7 @@ ghost use Rattle.recycler_c.specs.Codes.{code_of, number_of};
 
 use rec_world::{OpenError, Part};
 
-/// Why a call did nothing; `Ok` where it did what it is for.
+/// Why a call did nothing, or, with `Shared`, not the whole; `Ok` where it did what it is for.
 #[derive(Clone, Copy)]
 pub enum Code {
     Ok = 0,

@@ -82,6 +82,7 @@ fn byte(number: u32) -> Option<u8>
     }
 }
 
+/// The command that makes an object, or `None` where a number of it fits no byte.
 pub fn new(reg: u32, label: u32) -> Option<Cmd>
     ensures { result ≡ narrow (commands.New reg label) }
 {
@@ -91,12 +92,14 @@ pub fn new(reg: u32, label: u32) -> Option<Cmd>
     })
 }
 
+/// The command that lets a register be null, likewise.
 pub fn null(reg: u32) -> Option<Cmd>
     ensures { result ≡ narrow (commands.Null reg) }
 {
     Some(Cmd::Null { reg: byte(reg)? })
 }
 
+/// The command that copies a register, likewise.
 pub fn copy(dst: u32, src: u32) -> Option<Cmd>
     ensures { result ≡ narrow (commands.Copy dst src) }
 {
@@ -106,6 +109,7 @@ pub fn copy(dst: u32, src: u32) -> Option<Cmd>
     })
 }
 
+/// The command that reads a field, likewise.
 pub fn get(dst: u32, src: u32, field: u32) -> Option<Cmd>
     ensures { result ≡ narrow (commands.Get dst src field) }
 {
@@ -116,6 +120,7 @@ pub fn get(dst: u32, src: u32, field: u32) -> Option<Cmd>
     })
 }
 
+/// The command that writes a field, likewise.
 pub fn put(src: u32, field: u32, val: u32) -> Option<Cmd>
     ensures { result ≡ narrow (commands.Put src field val) }
 {
@@ -126,12 +131,14 @@ pub fn put(src: u32, field: u32, val: u32) -> Option<Cmd>
     })
 }
 
+/// The command that asks for a label, likewise.
 pub fn value(reg: u32) -> Option<Cmd>
     ensures { result ≡ narrow (commands.Value reg) }
 {
     Some(Cmd::Value { reg: byte(reg)? })
 }
 
+/// The command that compares two registers, likewise.
 pub fn same(a: u32, b: u32) -> Option<Cmd>
     ensures { result ≡ narrow (commands.Same a b) }
 {

@@ -32,6 +32,7 @@ impl Model for Resting {
 }
 
 impl Resting {
+    /// A world as a heap at rest.
     pub fn of(world: World) -> Resting
         requires idle { AreIdle world }
         requires home { All (λ word. word % 2 ≡ 0) world.crossing }
@@ -41,6 +42,7 @@ impl Resting {
         Resting { world }
     }
 
+    /// The world of a heap that rests no more.
     pub fn into_world(self) -> World
         ensures world { result ≡ self }
         ensures idle { AreIdle result }
@@ -50,6 +52,7 @@ impl Resting {
         self.world
     }
 
+    /// Its world.
     pub fn world(&self) -> &World
         ensures { result.now ≡ self.now }
     {
@@ -57,8 +60,8 @@ impl Resting {
     }
 }
 
-/// The collector of a running heap. Its mutators are out, in handles of their own; or all are home, where the heap could not be
-/// stopped.
+/// The collector of a running heap. Its mutators are out, in handles of their own; or all are home, after a start or a stop that
+/// answered `Shared`.
 #[derive(Drop)]
 pub struct Collecting {
     pub heap: Arc<Heap>,

@@ -12,6 +12,7 @@ use crate::{collecting, command, looking, opening, running};
 use rec_world::Config;
 use std::alloc::Global;
 
+/// Opens a heap at rest, in closed handles.
 #[unsafe(no_mangle)]
 pub extern "C" fn recycler_open(
     alloc: Global,
@@ -36,6 +37,7 @@ pub extern "C" fn recycler_open(
     opening::open(alloc, &mut r.collector, &mut r.mutators, config).number()
 }
 
+/// Closes a heap at rest.
 #[unsafe(no_mangle)]
 pub extern "C" fn recycler_close(alloc: Global, r: &mut Recycler) -> u32
     ensures { Answers result (λ code. Closes (held r.old) r.old.mutators code (held r.new) r.new.mutators) }
@@ -43,6 +45,7 @@ pub extern "C" fn recycler_close(alloc: Global, r: &mut Recycler) -> u32
     opening::close(alloc, &mut r.collector, &mut r.mutators).number()
 }
 
+/// Sets a heap at rest running: its mutators go out into their handles.
 #[unsafe(no_mangle)]
 pub extern "C" fn recycler_start(alloc: Global, r: &mut Recycler) -> u32
     ensures { Answers result (λ code. Starts (held r.old) r.old.mutators code (held r.new) r.new.mutators) }
@@ -50,6 +53,7 @@ pub extern "C" fn recycler_start(alloc: Global, r: &mut Recycler) -> u32
     running::start(alloc, &mut r.collector, &mut r.mutators).number()
 }
 
+/// Stops a running heap: it rests, as its actors left it.
 #[unsafe(no_mangle)]
 pub extern "C" fn recycler_stop(alloc: Global, r: &mut Recycler) -> u32
     ensures { Answers result (λ code. Stops (held r.old) r.old.mutators code (held r.new) r.new.mutators) }
@@ -57,6 +61,7 @@ pub extern "C" fn recycler_stop(alloc: Global, r: &mut Recycler) -> u32
     running::stop(alloc, &mut r.collector, &mut r.mutators).number()
 }
 
+/// Settles a heap at rest: afterwards just the slots that registers reach hold objects, with true counts.
 #[unsafe(no_mangle)]
 pub extern "C" fn recycler_settle(alloc: Global, r: &mut Recycler, told: &mut Settled) -> u32
     ensures settles { Answers result (λ code. Settles (held r.old) told.old code (held r.new) told.new) }
@@ -65,6 +70,7 @@ pub extern "C" fn recycler_settle(alloc: Global, r: &mut Recycler, told: &mut Se
     looking::settle_in(alloc, &mut r.collector, told).number()
 }
 
+/// Looks at a slot of a heap at rest.
 #[unsafe(no_mangle)]
 pub extern "C" fn recycler_slot(alloc: Global, r: &mut Recycler, slot: u32, told: &mut Slot) -> u32
     ensures looks { Answers result (λ code. Looks (held r.old) slot told.old code told.new) }
@@ -74,6 +80,7 @@ pub extern "C" fn recycler_slot(alloc: Global, r: &mut Recycler, slot: u32, told
     looking::look(alloc, &mut r.collector, slot, told).number()
 }
 
+/// Counts the slots of a heap at rest that hold objects.
 #[unsafe(no_mangle)]
 pub extern "C" fn recycler_taken(alloc: Global, r: &mut Recycler, taken: &mut u32) -> u32
     ensures counts { Answers result (λ code. Counts (held r.old) taken.old code taken.new) }
@@ -83,6 +90,7 @@ pub extern "C" fn recycler_taken(alloc: Global, r: &mut Recycler, taken: &mut u3
     looking::count(alloc, &mut r.collector, taken).number()
 }
 
+/// Tells the totals of a heap at rest.
 #[unsafe(no_mangle)]
 pub extern "C" fn recycler_totals(alloc: Global, r: &mut Recycler, told: &mut Totals) -> u32
     ensures tallies { Answers result (λ code. Tallies (held r.old) told.old code told.new) }
@@ -92,6 +100,7 @@ pub extern "C" fn recycler_totals(alloc: Global, r: &mut Recycler, told: &mut To
     looking::total(alloc, &mut r.collector, told).number()
 }
 
+/// One turn of the collector of a running heap.
 #[unsafe(no_mangle)]
 pub extern "C" fn recycler_turn(alloc: Global, collector: &mut Handle, told: &mut Turned) -> u32
     ensures { Answers result (λ code. TurnsIn collector.old.owned.held told.old code collector.new.owned.held told.new) }
@@ -99,6 +108,7 @@ pub extern "C" fn recycler_turn(alloc: Global, collector: &mut Handle, told: &mu
     collecting::turn(alloc, collector, told).number()
 }
 
+/// A mutator crosses into the requested epoch, if it isn't in it.
 #[unsafe(no_mangle)]
 pub extern "C" fn recycler_poll(alloc: Global, mutator: &mut Handle, crossed: &mut u32) -> u32
     ensures { Answers result (λ code. Polls mutator.old.owned.held crossed.old code mutator.new.owned.held crossed.new) }
@@ -106,6 +116,7 @@ pub extern "C" fn recycler_poll(alloc: Global, mutator: &mut Handle, crossed: &m
     command::poll(alloc, mutator, crossed).number()
 }
 
+/// Makes an object with this label and null fields, and lets a register name it.
 #[unsafe(no_mangle)]
 pub extern "C" fn recycler_new(
     alloc: Global,
@@ -119,6 +130,7 @@ pub extern "C" fn recycler_new(
     command::ask(alloc, mutator, command::new(reg, label), told).number()
 }
 
+/// Lets a register be null.
 #[unsafe(no_mangle)]
 pub extern "C" fn recycler_null(
     alloc: Global,
@@ -131,6 +143,7 @@ pub extern "C" fn recycler_null(
     command::ask(alloc, mutator, command::null(reg), told).number()
 }
 
+/// Lets `dst` name what `src` names.
 #[unsafe(no_mangle)]
 pub extern "C" fn recycler_copy(
     alloc: Global,
@@ -144,6 +157,7 @@ pub extern "C" fn recycler_copy(
     command::ask(alloc, mutator, command::copy(dst, src), told).number()
 }
 
+/// Lets `dst` name what a field of the object in `src` leads to.
 #[unsafe(no_mangle)]
 pub extern "C" fn recycler_get(
     alloc: Global,
@@ -158,6 +172,7 @@ pub extern "C" fn recycler_get(
     command::ask(alloc, mutator, command::get(dst, src, field), told).number()
 }
 
+/// Lets a field of the object in `src` lead to what `val` names.
 #[unsafe(no_mangle)]
 pub extern "C" fn recycler_put(
     alloc: Global,
@@ -172,6 +187,7 @@ pub extern "C" fn recycler_put(
     command::ask(alloc, mutator, command::put(src, field, val), told).number()
 }
 
+/// Tells the label of the object in a register.
 #[unsafe(no_mangle)]
 pub extern "C" fn recycler_value(
     alloc: Global,
@@ -184,6 +200,7 @@ pub extern "C" fn recycler_value(
     command::ask(alloc, mutator, command::value(reg), told).number()
 }
 
+/// Tells whether two registers name one object, or both none.
 #[unsafe(no_mangle)]
 pub extern "C" fn recycler_same(
     alloc: Global,

@@ -22,12 +22,14 @@ impl Model for Owned {
 }
 
 impl Owned {
+    /// Null.
     pub fn empty() -> Owned
         ensures { result.held ≡ None }
     {
         Owned { at: null_mut() }
     }
 
+    /// The pointer to a box, which it owns from now on.
     pub fn of(whole: Box<End>) -> Owned
         ensures { result.held ≡ Some whole.value }
     {
@@ -36,6 +38,7 @@ impl Owned {
         }
     }
 
+    /// The box that it owns.
     pub fn into_box(self, alloc: Global) -> Box<End>
         requires { IsSome self.held }
         ensures { self.held ≡ Some result.value }
