@@ -53,9 +53,8 @@ fn run<R: Files + AllocGlobal + Input + Print + Eprint>(
         }
     };
     let asked = what_is_asked(&matches).context("no such word")?;
-    let (from, to) = (asked.from, asked.to);
-    if from > to {
-        eprintln!(rt; "recycler_watch: --from {from} is past --to {to}, so no move is told")?;
+    if asked.from > asked.to {
+        eprintln!(rt; "recycler_watch: --from is past --to, so there is no move to tell")?;
         return Ok(2); // as for other words that ask for nothing
     }
     let bytes = read_bytes(rt, alloc, asked.script).context(asked.script)?;
@@ -75,13 +74,18 @@ fn run<R: Files + AllocGlobal + Input + Print + Eprint>(
         moves: 0,
         terminal,
     };
-    let told = write_out(rt, &mut teller);
-    if let Some(mut terminal) = terminal {
-        let _ = terminal.write_all(b"\r\x1b[K"); // the note is gone before anything else is said
+    watch(rt, &mut teller)
+}
+
+// Tells a run, and says how many moves it has where it ends before the window.
+fn watch<R: Files + Print + Eprint>(rt: &R, teller: &mut Teller<'_>) -> anyhow::Result<u8> {
+    let told = write_out(rt, teller);
+    if let Some(mut terminal) = teller.terminal {
+        let _ = terminal.write_all(b"\r\x1b[K"); // the note goes before anything else is said
     }
     if !told? {
         let moves = teller.moves;
-        eprintln!(rt; "recycler_watch: the run has {moves} moves, and --from {from} is past them")?;
+        eprintln!(rt; "recycler_watch: the run has {moves} moves, and --from is past them")?;
     }
     Ok(0)
 }

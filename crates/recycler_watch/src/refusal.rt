@@ -3,9 +3,6 @@
 use rec_script::Kind;
 use std::alloc::{AllocError as NoMemory, Global};
 
-// How many letters of a line are shown at most.
-const MOST_SHOWN: usize = 100;
-
 /// A refusal of the text in a file, at this line; line 0 is the text as a whole.
 pub fn refusal(
     alloc: Global,
@@ -18,25 +15,25 @@ pub fn refusal(
     let Some(number) = line.checked_sub(1) else {
         return format!(in alloc; "{file}: {kind}: {sentence}");
     };
-    let spelled = bytes.split(|byte| *byte == b'\n').nth(number as usize);
-    let spelled = String::from_utf8_lossy(alloc, spelled.unwrap_or(&[]))?;
-    let spelled = spelled.strip_suffix('\r').unwrap_or(spelled.as_str());
+    let mut lines = bytes.split(|byte| *byte == b'\n');
+    let spelled = lines.nth(number as usize).unwrap_or(&[]);
+    let spelled = spelled.strip_suffix(b"\r").unwrap_or(spelled);
     let word = wrong_word(spelled, registers_of(bytes), kind);
     let (place, shown) = (word.0.saturating_add(1), marked(alloc, spelled, word)?);
     format!(in alloc; "{file}:{line}:{place}: {kind}: {sentence}\n{line:>5} | {shown}")
 }
 
-// The letters around a word, and a line with a mark under the word. Tabs are in both lines, so that the mark stands there
-// wherever a terminal has its stops. Other letters than ASCII's may be wider than one, so each is a `?`.
-fn marked(alloc: Global, line: &str, word: (usize, &str)) -> Result<String, NoMemory> {
-    let (column, letters) = (word.0, word.1.chars().count());
-    let before = column.saturating_sub(MOST_SHOWN / 2);
+// A hundred bytes around a word, and a line with a mark under the word. Tabs are in both lines, so that the mark stands there
+// wherever a terminal has its stops. What isn't printable ASCII could be wider than a byte, or do anything, and is a `?`.
+fn marked(alloc: Global, line: &[u8], word: (usize, &str)) -> Result<String, NoMemory> {
+    let (column, end) = (word.0, word.0.saturating_add(word.1.len()));
+    let before = column.saturating_sub(50);
     let (mut shown, mut mark) = (String::new(alloc), String::new(alloc));
-    for (at, letter) in line.chars().enumerate().skip(before).take(MOST_SHOWN) {
-        let blank = if letter == '\t' { '\t' } else { ' ' };
-        let is_shown = letter == blank || letter.is_ascii_graphic();
-        shown.push(if is_shown { letter } else { '?' })?;
-        if at < column.saturating_add(letters) {
+    for (at, byte) in line.iter().enumerate().skip(before).take(100) {
+        let blank = if *byte == b'\t' { '\t' } else { ' ' };
+        let is_shown = byte.is_ascii_graphic() || *byte == b' ' || *byte == b'\t';
+        shown.push(if is_shown { char::from(*byte) } else { '?' })?;
+        if at < end {
             mark.push(if at < column { blank } else { '^' })?;
         }
     }
@@ -65,30 +62,27 @@ fn sentence_on(kind: Kind) -> &'static str {
     }
 }
 
-// A word of a line, by how many words stand before it, behind how many letters do.
-fn nth_word(line: &str, index: usize) -> (usize, &str) {
+// How many bytes stand before a word of a line, and the word. The index is how many words do.
+fn nth_word(line: &[u8], index: usize) -> (usize, &str) {
     let (mut column, mut before) = (0usize, 0usize);
-    for text in line.split([' ', '\t']) {
-        if !text.is_empty() && before == index {
-            return (column, text);
+    for word in line.split(|byte| *byte == b' ' || *byte == b'\t') {
+        if !word.is_empty() && before == index {
+            return (column, str::from_utf8(word).unwrap_or("?"));
         }
-        before = before.saturating_add(usize::from(!text.is_empty()));
-        column = column
-            .saturating_add(text.chars().count())
-            .saturating_add(1);
+        before = before.saturating_add(usize::from(!word.is_empty()));
+        column = column.saturating_add(word.len()).saturating_add(1);
     }
     (0, "")
 }
 
-// The word that a kind speaks of: the first operand that it fits, or else the first word. Of bytes that are no UTF-8 it is
-// the first letter that stands in their place.
-fn wrong_word(line: &str, registers: u32, kind: Kind) -> (usize, &str) {
+// The word that a kind speaks of: the first operand that it fits, the first byte that isn't UTF-8, or else the first word.
+fn wrong_word(line: &[u8], registers: u32, kind: Kind) -> (usize, &str) {
     let word = |index: usize| nth_word(line, index);
     let is_register = |index: usize| word(index).1.parse::<u32>().is_ok_and(|n| n < registers);
     let is_put = word(0).1 == "put";
-    let replaced = line.chars().position(|letter| letter == '\u{FFFD}');
+    let error = str::from_utf8(line).err();
     match kind {
-        Kind::NotUtf8 => (replaced.unwrap_or(0), "?"),
+        Kind::NotUtf8 => (error.map_or(0, |error| error.valid_up_to()), "?"),
         Kind::BadNumber if !is_numeral(word(1).1) => word(1),
         Kind::BadNumber if !is_numeral(word(2).1) => word(2),
         Kind::BadNumber => word(3),
