@@ -22,7 +22,7 @@ pub record IsQuiet (before after : Core) (t : ℕ) : Type 0 where
   pub made : after.made ≡ before.made
   pub config : after.config ≡ before.config
 
--- what a scan has found since its begin, where nothing else moved: each slot that it has passed holds an object
+-- what a scan has found since it began, where nothing else moved: each slot that it has passed holds an object
 abbrev pub HasFound : Core → Phase → Type 0
 HasFound w (Scanning reg label before slot) = (before ≡ w.freed) × ((s : ℕ) → s < slot → IsTaken (sight w) s)
 HasFound w (Scanned reg label before) = (before ≡ w.freed) × IsFilled w

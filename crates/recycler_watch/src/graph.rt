@@ -8,8 +8,8 @@ pub fn write_graph<W: Write>(out: &mut W, state: &State) -> io::Result<()> {
     writeln!(out, "digraph heap {{\n  rankdir=LR;")?;
     writeln!(out, "  node [shape=box, style=filled, fontname=monospace];")?;
     for seen in &state.slots {
-        write_slot(out, seen)?;
-        write_arrows(out, 's', u32::from(seen.slot), &seen.fields)?;
+        draw_slot(out, seen)?;
+        draw_arrows(out, 's', u32::from(seen.slot), &seen.fields)?;
     }
     for seen in &state.mutators {
         let (t, epoch, mailbox) = (seen.mutator, seen.epoch, seen.mailbox);
@@ -17,16 +17,16 @@ pub fn write_graph<W: Write>(out: &mut W, state: &State) -> io::Result<()> {
             out,
             "  m{t} [label=\"mutator {t}\\nepoch {epoch}\\nmailbox {mailbox}\", shape=ellipse, fillcolor=white];"
         )?;
-        write_arrows(out, 'm', u32::from(t), &seen.registers)?;
+        draw_arrows(out, 'm', u32::from(t), &seen.registers)?;
     }
     for (number, members) in state.lists.sets.iter().enumerate() {
-        write_set(out, number, members)?;
+        draw_set(out, number, members)?;
     }
     writeln!(out, "}}")
 }
 
 // A box with label, counts and colour, or a dotted one where the slot is free.
-fn write_slot<W: Write>(out: &mut W, seen: &Slot) -> io::Result<()> {
+fn draw_slot<W: Write>(out: &mut W, seen: &Slot) -> io::Result<()> {
     let (slot, count, cyclic, colour) = (seen.slot, seen.count, seen.cyclic, seen.colour);
     let Some(label) = seen.label else {
         return writeln!(out, "  s{slot} [label=\"#{slot}\\nfree\", style=dotted];");
@@ -41,23 +41,18 @@ fn write_slot<W: Write>(out: &mut W, seen: &Slot) -> io::Result<()> {
 }
 
 // An arrow for each field of a slot, or each register of a mutator, that names an object. Those of registers are dashed.
-fn write_arrows<W: Write>(
-    out: &mut W,
-    kind: char,
-    from: u32,
-    targets: &[Option<u16>],
-) -> io::Result<()> {
+fn draw_arrows<W: Write>(out: &mut W, kind: char, from: u32, to: &[Option<u16>]) -> io::Result<()> {
     let style = if kind == 'm' { ", style=dashed" } else { "" };
-    for (index, target) in targets.iter().enumerate() {
-        if let Some(to) = target {
-            writeln!(out, "  {kind}{from} -> s{to} [label={index}{style}];")?;
+    for (index, target) in to.iter().enumerate() {
+        if let Some(slot) = target {
+            writeln!(out, "  {kind}{from} -> s{slot} [label={index}{style}];")?;
         }
     }
     Ok(())
 }
 
 // A cluster for a set that waits for its tests.
-fn write_set<W: Write>(out: &mut W, number: usize, members: &[u16]) -> io::Result<()> {
+fn draw_set<W: Write>(out: &mut W, number: usize, members: &[u16]) -> io::Result<()> {
     write!(out, " subgraph cluster_{number} {{ label=\"set {number}\";")?;
     for member in members {
         write!(out, " s{member};")?;

@@ -16,7 +16,7 @@ use rec_watch::Walk;
 use refusal::refusal;
 use request::{Request, command, what_is_asked};
 use std::alloc::Global;
-use std::io::{self, BufWriter, ErrorKind, Input, IsTerminal, Read};
+use std::io::{self, BufWriter, ErrorKind, Input, IsTerminal, Read, Write};
 use std::process::ExitCode;
 use std::rt::{Env, Files, Stderr};
 use std::{env, fs};
@@ -53,6 +53,10 @@ fn run<R: Files + AllocGlobal + Input + Print + Eprint>(
         }
     };
     let asked = what_is_asked(&matches).context("no such word")?;
+    if asked.from > asked.to {
+        eprintln!(rt; "recycler_watch: --from is past --to, so there is no move to tell")?;
+        return Ok(2); // as for other words that ask for nothing
+    }
     let bytes = read_bytes(rt, alloc, asked.script).context(asked.script)?;
     let script = match read(alloc, &bytes) {
         Ok(script) => script,
@@ -67,15 +71,28 @@ fn run<R: Files + AllocGlobal + Input + Print + Eprint>(
         alloc,
         asked,
         walk,
+        moves: 0,
         terminal,
     };
-    write_out(rt, &mut teller)?;
+    watch(rt, &mut teller)
+}
+
+// Tells a run, and says how many moves it has where it ends before the window.
+fn watch<R: Files + Print + Eprint>(rt: &R, teller: &mut Teller<'_>) -> anyhow::Result<u8> {
+    let told = write_out(rt, teller);
+    if let Some(mut terminal) = teller.terminal {
+        let _ = terminal.write_all(b"\r\x1b[K"); // the note goes before anything else is said
+    }
+    if !told? {
+        let moves = teller.moves;
+        eprintln!(rt; "recycler_watch: the run has {moves} moves, and --from is past them")?;
+    }
     Ok(0)
 }
 
-// Tells a run: a page to its file, everything else to standard output.
-fn write_out<R: Files + Print>(rt: &R, teller: &mut Teller<'_>) -> anyhow::Result<()> {
-    if let Request::Page { output } = teller.asked.request {
+// Tells a run: a page to its file, everything else to standard output. The answer is whether the run came to the window.
+fn write_out<R: Files + Print>(rt: &R, teller: &mut Teller<'_>) -> anyhow::Result<bool> {
+    if let Request::Page(output) = teller.asked.request {
         let file = fs::create(rt, output).context(output)?;
         let mut out = BufWriter::new(teller.alloc, file)?;
         return teller.tell(&mut out).context(output);
@@ -83,7 +100,7 @@ fn write_out<R: Files + Print>(rt: &R, teller: &mut Teller<'_>) -> anyhow::Resul
     let mut out = BufWriter::new(teller.alloc, io::writer(rt))?;
     match teller.tell(&mut out) {
         // Whoever stops to read has seen enough.
-        Err(error) if error.kind() == ErrorKind::BrokenPipe => Ok(()),
+        Err(error) if error.kind() == ErrorKind::BrokenPipe => Ok(true),
         done => done.context("standard output"),
     }
 }

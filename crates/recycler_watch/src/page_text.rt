@@ -81,7 +81,7 @@ summary { cursor: pointer; } :focus-visible { outline: 2px solid var(--mark); ou
 <dt><i class="swatch" style="background:#f0e442"></i>trial</dt><dd>trial deletion: mark, scan and collect from the roots</dd>
 <dt><i class="swatch" style="background:#cc79a7"></i>prepare</dt><dd>outside counts of the sets are made for the Sigma test (SigmaPreparation)</dd>
 <dt><i class="swatch" style="background:#009e73"></i>sweep</dt><dd>slots of the free list become free</dd>
-<dt><kbd>&larr;</kbd> <kbd>&rarr;</kbd></dt><dd>a move back or on</dd>
+<dt><kbd>&larr;</kbd> <kbd>&rarr;</kbd></dt><dd>a move back or on, as <kbd>&darr;</kbd> and <kbd>&uarr;</kbd> do on the slider</dd>
 <dt><kbd>p</kbd> <kbd>n</kbd></dt><dd>to the previous or next phase of the collector</dd>
 <dt><kbd>Page&nbsp;&uarr;&darr;</kbd></dt><dd>a hundred moves; <kbd>Home</kbd> and <kbd>End</kbd>: the first and the last; the timeline can be clicked</dd>
 </dl>
@@ -348,7 +348,7 @@ function phaseFrom(step) {
   while (at > 0 && at < total && lines[at].collector.phase === lines[at - 1].collector.phase) at += step;
   return at;
 }
-const STEPS = { ArrowLeft: () => current - 1, ArrowRight: () => current + 1, ArrowUp: () => current - 1, ArrowDown: () => current + 1, PageUp: () => current - 100, PageDown: () => current + 100, Home: () => 0, End: () => total, n: () => phaseFrom(1), p: () => phaseFrom(-1) };
+const STEPS = { ArrowLeft: () => current - 1, ArrowRight: () => current + 1, PageUp: () => current - 100, PageDown: () => current + 100, Home: () => 0, End: () => total, n: () => phaseFrom(1), p: () => phaseFrom(-1) };
 document.addEventListener("keydown", event => {
   if (event.target === by("at") || event.ctrlKey || event.altKey || event.metaKey || !Object.hasOwn(STEPS, event.key)) return;
   event.preventDefault();

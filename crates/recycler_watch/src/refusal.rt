@@ -2,14 +2,6 @@
 
 use rec_script::Kind;
 use std::alloc::{AllocError as NoMemory, Global};
-use std::fmt::Write;
-
-// A word of a line, with the column before it.
-#[derive(Clone, Copy, Default)]
-struct Word<'a> {
-    column: usize,
-    text: &'a str,
-}
 
 /// A refusal of the text in a file, at this line; line 0 is the text as a whole.
 pub fn refusal(
@@ -20,25 +12,35 @@ pub fn refusal(
     kind: Kind,
 ) -> Result<String, NoMemory> {
     let sentence = sentence_on(kind);
-    let mut text = String::new(alloc);
     let Some(number) = line.checked_sub(1) else {
-        write!(text, "{file}: {kind}: {sentence}")?;
-        return Ok(text);
+        return format!(in alloc; "{file}: {kind}: {sentence}");
     };
-    let spelled = bytes.split(|byte| *byte == b'\n').nth(number as usize);
-    let shown = str::from_utf8(spelled.unwrap_or(&[])).unwrap_or("");
-    let shown = shown.trim_end();
-    let words = words_of(alloc, shown)?;
-    let Word { column, text: word } = wrong_word(&words, registers_of(bytes), kind);
-    write!(text, "{file}:{line}:{}: ", column.saturating_add(1))?;
-    write!(text, "{kind}: {sentence}\n{line:>5} | {shown}\n      | ")?;
-    for _ in 0..column {
-        text.push(' ')?;
+    let mut lines = bytes.split(|byte| *byte == b'\n');
+    let spelled = lines.nth(number as usize).unwrap_or(&[]);
+    let spelled = spelled.strip_suffix(b"\r").unwrap_or(spelled);
+    let word = wrong_word(spelled, registers_of(bytes), kind);
+    let (place, shown) = (word.0.saturating_add(1), marked(alloc, spelled, word)?);
+    format!(in alloc; "{file}:{line}:{place}: {kind}: {sentence}\n{line:>5} | {shown}")
+}
+
+// A hundred bytes around a word, and a line with a mark under the word. Tabs are in both lines, so that the mark stands there
+// wherever a terminal has its stops. What isn't printable ASCII could be wider than a byte, or do anything, and is a `?`.
+fn marked(alloc: Global, line: &[u8], word: (usize, &str)) -> Result<String, NoMemory> {
+    let (column, end) = (word.0, word.0.saturating_add(word.1.len()));
+    let before = column.saturating_sub(50);
+    let (mut shown, mut mark) = (String::new(alloc), String::new(alloc));
+    for (at, byte) in line.iter().enumerate().skip(before).take(100) {
+        let blank = if *byte == b'\t' { '\t' } else { ' ' };
+        let is_shown = byte.is_ascii_graphic() || *byte == b' ' || *byte == b'\t';
+        shown.push(if is_shown { char::from(*byte) } else { '?' })?;
+        if at < end {
+            mark.push(if at < column { blank } else { '^' })?;
+        }
     }
-    for _ in 0..word.chars().count().max(1) {
-        text.push('^')?;
+    if mark.is_empty() {
+        mark.push('^')?;
     }
-    Ok(text)
+    format!(in alloc; "{shown}\n      | {mark}")
 }
 
 fn sentence_on(kind: Kind) -> &'static str {
@@ -60,27 +62,29 @@ fn sentence_on(kind: Kind) -> &'static str {
     }
 }
 
-fn words_of<'a>(alloc: Global, line: &'a str) -> Result<Vec<Word<'a>>, NoMemory> {
-    let mut words = Vec::new(alloc);
-    let mut column = 0usize;
-    for text in line.split([' ', '\t']) {
-        if !text.is_empty() {
-            words.push(Word { column, text })?;
+// How many bytes stand before a word of a line, and the word. The index is how many words do.
+fn nth_word(line: &[u8], index: usize) -> (usize, &str) {
+    let (mut column, mut before) = (0usize, 0usize);
+    for word in line.split(|byte| *byte == b' ' || *byte == b'\t') {
+        if !word.is_empty() && before == index {
+            return (column, str::from_utf8(word).unwrap_or("?"));
         }
-        let letters = text.chars().count();
-        column = column.saturating_add(letters).saturating_add(1);
+        before = before.saturating_add(usize::from(!word.is_empty()));
+        column = column.saturating_add(word.len()).saturating_add(1);
     }
-    Ok(words)
+    (0, "")
 }
 
-// The word that a kind speaks of: the first operand that it fits, or else the first word.
-fn wrong_word<'a>(words: &[Word<'a>], registers: u32, kind: Kind) -> Word<'a> {
-    let word = |index: usize| words.get(index).copied().unwrap_or_default();
-    let is_register = |index: usize| word(index).text.parse::<u32>().is_ok_and(|n| n < registers);
-    let is_put = word(0).text == "put";
+// The word that a kind speaks of: the first operand that it fits, the first byte that isn't UTF-8, or else the first word.
+fn wrong_word(line: &[u8], registers: u32, kind: Kind) -> (usize, &str) {
+    let word = |index: usize| nth_word(line, index);
+    let is_register = |index: usize| word(index).1.parse::<u32>().is_ok_and(|n| n < registers);
+    let is_put = word(0).1 == "put";
+    let error = str::from_utf8(line).err();
     match kind {
-        Kind::BadNumber if !is_number(word(1).text) => word(1),
-        Kind::BadNumber if !is_number(word(2).text) => word(2),
+        Kind::NotUtf8 => (error.map_or(0, |error| error.valid_up_to()), "?"),
+        Kind::BadNumber if !is_numeral(word(1).1) => word(1),
+        Kind::BadNumber if !is_numeral(word(2).1) => word(2),
         Kind::BadNumber => word(3),
         Kind::Register if !is_register(1) => word(1),
         Kind::Register if is_put => word(3),
@@ -90,14 +94,18 @@ fn wrong_word<'a>(words: &[Word<'a>], registers: u32, kind: Kind) -> Word<'a> {
     }
 }
 
-fn is_number(text: &str) -> bool {
-    text.parse::<u32>().is_ok() && (text.len() == 1 || !text.starts_with('0'))
+// A numeral is spelled by digits alone, without leading zeros. `parse` takes such zeros, and a sign.
+fn is_numeral(word: &str) -> bool {
+    word == "0" || (!word.starts_with(['0', '+']) && word.parse::<u32>().is_ok())
 }
 
 // How many registers the heap's line says.
 fn registers_of(bytes: &[u8]) -> u32 {
-    let mut lines = str::from_utf8(bytes).unwrap_or("").lines();
-    let sizes = lines.find_map(|line| line.trim().strip_prefix("heap "));
+    let mut lines = bytes.split(|byte| *byte == b'\n');
+    let sizes = lines.find_map(|line| {
+        let line = str::from_utf8(line).unwrap_or("");
+        line.trim_start().strip_prefix("heap")
+    });
     let word = sizes.and_then(|sizes| sizes.split_whitespace().nth(2));
     word.and_then(|word| word.parse().ok()).unwrap_or(0)
 }

@@ -9,7 +9,7 @@ pub enum Request<'a> {
     Text,
     Data,
     Graph,
-    Page { output: &'a str },
+    Page(&'a str),
 }
 
 /// A request on a script: its file, or `-` for standard input, what its order is drawn from, and which moves are told.
@@ -35,6 +35,8 @@ pub fn command<'a>(alloc: Global) -> Result<Command<'a>, NoMemory> {
         .value_name("FILE")
         .help("Write the page into this file")
         .required(true);
+    let from = || number(alloc, "from", "Begin with this move").default_value("1");
+    let to = || number(alloc, "to", "End with this move");
     let trace = word(alloc, "trace", "Tells each move in a line")?.after_help(
         "Example: recycler_watch trace --to 20 examples/cycle.script",
     );
@@ -49,9 +51,9 @@ pub fn command<'a>(alloc: Global) -> Result<Command<'a>, NoMemory> {
         .about("Plays a script as `recycler play` does, and shows what happens, move by move.")
         .subcommand_required(true)
         .arg_required_else_help(true)
-        .subcommand(trace.arg(json)?)?
-        .subcommand(graph)?
-        .subcommand(page.arg(output)?)
+        .subcommand(trace.arg(from())?.arg(to())?.arg(json)?)?
+        .subcommand(graph.arg(to())?)?
+        .subcommand(page.arg(from())?.arg(to())?.arg(output)?)
 }
 
 /// What the matches ask for.
@@ -61,41 +63,33 @@ pub fn what_is_asked<'a>(matches: &ArgMatches<'a>) -> Option<Asked<'a>> {
         "trace" if options.get_flag("json") => Request::Data,
         "trace" => Request::Text,
         "graph" => Request::Graph,
-        _ => Request::Page {
-            output: options.get_str("output")?,
-        },
+        _ => Request::Page(options.get_str("output")?),
     };
     Some(Asked {
         request,
         script: options.get_str("script")?,
         seed: options.get_one("seed")?,
         turns: options.get_one("turns")?,
-        from: options.get_one("from")?,
+        from: options.get_one("from").unwrap_or(0), // a graph has no begin
         to: options.get_one("to").unwrap_or(u64::MAX),
     })
 }
 
-// A subcommand on a script, with the options on its order and its window.
+// A subcommand on a script, with the options on its order.
 fn word<'a>(alloc: Global, name: &'a str, about: &'a str) -> Result<Command<'a>, NoMemory> {
     let script = Arg::new(alloc, "script")
         .value_name("SCRIPT")
         .help("The script's file, or - for standard input")
         .required(true);
     let seed = number(alloc, "seed", "Draw the order from this seed");
-    let turns = number(alloc, "turns", "Draw so many turns at most, up to 10000000");
-    let from = number(alloc, "from", "Begin with this move");
-    let to = number(alloc, "to", "End with this move");
+    let turns = number(alloc, "turns", "Draw so many turns at most, up to 10000000").value_parser(
+        value_parser!(u32).range(0..=10_000_000),
+    );
     Command::new(alloc, name)
         .about(about)
         .arg(script)?
         .arg(seed.default_value("0"))?
-        .arg(
-            turns
-                .value_parser(value_parser!(u32).range(0..=10_000_000))
-                .default_value("1000000"),
-        )?
-        .arg(from.default_value("1"))?
-        .arg(to)
+        .arg(turns.default_value("1000000"))
 }
 
 fn number<'a>(alloc: Global, name: &'a str, help: &'a str) -> Arg<'a> {

@@ -159,7 +159,7 @@ fn last_of(alloc: Global, entries: &[Entry], fields: u32) -> Result<Vec<String>,
         match *entry {
             Entry::Born { slot } => write!(text, "#{slot} born")?,
             Entry::Put { place, new, old } => {
-                add_field(&mut text, place, fields)?;
+                add_field(&mut text, "", place, fields)?;
                 add_target(&mut text, ": ", target(old))?;
                 add_target(&mut text, " -> ", target(new))?;
             }
@@ -171,17 +171,16 @@ fn last_of(alloc: Global, entries: &[Entry], fields: u32) -> Result<Vec<String>,
 
 /// An object, or null, behind some words.
 pub fn add_target(text: &mut String, words: &str, to: Option<u16>) -> Result<(), NoMemory> {
-    text.push_str(words)?;
     match to {
-        None => text.push_str("null"),
-        Some(slot) => write!(text, "#{slot}"),
+        None => write!(text, "{words}null"),
+        Some(slot) => write!(text, "{words}#{slot}"),
     }
 }
 
-/// A field by its place, as `#3.0`, where objects have so many.
-pub fn add_field(text: &mut String, place: u32, fields: u32) -> Result<(), NoMemory> {
+/// A field by its place behind some words, as `#3.0`, where objects have so many.
+pub fn add_field(text: &mut String, words: &str, place: u32, fields: u32) -> Result<(), NoMemory> {
     let fields = fields.max(1);
-    write!(text, "#{}.{}", place / fields, place % fields)
+    write!(text, "{words}#{}.{}", place / fields, place % fields)
 }
 
 fn lists_of(alloc: Global, world: &World) -> Result<Lists, NoMemory> {

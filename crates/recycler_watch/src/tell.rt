@@ -27,86 +27,80 @@ struct Line<'a> {
     lists: Option<&'a Lists>,
 }
 
-/// A run, and what is asked of it. A terminal is told how far a long one has come.
+/// A run, what is asked of it, and how many moves are made. A terminal is told how far a long one has come.
 #[derive(Drop)]
 pub struct Teller<'a> {
     pub alloc: Global,
     pub asked: Asked<'a>,
     pub walk: Walk<'a>,
+    pub moves: u64,
     pub terminal: Option<Stderr>,
 }
 
 impl Teller<'_> {
-    /// Makes the moves up to the end of the window, and writes what is asked of them.
-    pub fn tell<W: Write>(&mut self, out: &mut W) -> io::Result<()> {
+    /// Makes the moves up to the end of the window, writes what is asked of them, and tells whether the run came to the window.
+    pub fn tell<W: Write>(&mut self, out: &mut W) -> io::Result<bool> {
         let asked = self.asked;
         let before = match asked.request {
             Request::Graph => asked.to,
             _ => asked.from.saturating_sub(1),
         };
-        let made = self.skip(before);
+        for _ in 0..before {
+            if self.make_move().is_none() {
+                break;
+            }
+        }
         match asked.request {
-            Request::Text | Request::Data => self.tell_moves(out, made, asked.to)?,
+            Request::Text | Request::Data => self.tell_moves(out, asked.to)?,
             Request::Graph => write_graph(out, &State::of(self.alloc, &self.walk)?)?,
-            Request::Page { .. } => {
+            Request::Page(_) => {
                 out.write_all(HEAD.as_bytes())?;
-                let most = made.saturating_add(100_000);
-                self.tell_moves(out, made, asked.to.min(most))?;
+                let most = self.moves.saturating_add(100_000);
+                self.tell_moves(out, asked.to.min(most))?;
                 out.write_all(TAIL.as_bytes())?;
             }
         }
-        if let Some(mut terminal) = self.terminal {
-            let _ = terminal.write_all(b"\r\x1b[K");
-        }
-        out.flush()
+        out.flush()?;
+        Ok(self.moves >= asked.from)
     }
 
-    // Makes so many moves, or fewer where the run ends before, and tells how many.
-    fn skip(&mut self, moves: u64) -> u64 {
-        for made in 0..moves {
-            if self.walk.make_move().is_none() {
-                return made;
+    // Makes the next move. A terminal is told of every ten thousandth.
+    fn make_move(&mut self) -> Option<Move> {
+        let made = self.walk.make_move()?;
+        self.moves = self.moves.saturating_add(1);
+        if let Some(mut terminal) = self.terminal {
+            if self.moves % 10_000 == 0 {
+                let _ = write!(terminal, "\rmove {} ", self.moves);
             }
-            self.note(made);
         }
-        moves
+        Some(made)
     }
 
     // Makes the moves from here on up to this one, and tells each; before data a line of what is watched, and the whole heap.
-    fn tell_moves<W: Write>(&mut self, out: &mut W, from: u64, to: u64) -> io::Result<()> {
+    fn tell_moves<W: Write>(&mut self, out: &mut W, to: u64) -> io::Result<()> {
         let mut was = State::of(self.alloc, &self.walk)?;
         if self.asked.request != Request::Text {
             self.write_head(out)?;
-            self.write_line(out, from, None, &was)?;
+            self.write_line(out, None, &was)?;
         }
-        for number in from..to {
-            let Some(made) = self.walk.make_move() else {
+        for _ in self.moves..to {
+            let Some(made) = self.make_move() else {
                 break;
             };
             let is = State::of(self.alloc, &self.walk)?;
             match self.asked.request {
-                Request::Text => self.write_text(out, number + 1, made, &was, &is)?,
-                _ => self.write_line(out, number + 1, Some((made, &was)), &is)?,
+                Request::Text => self.write_text(out, made, &was, &is)?,
+                _ => self.write_line(out, Some((made, &was)), &is)?,
             }
-            self.note(number);
             was = is;
         }
         Ok(())
-    }
-
-    fn note(&self, made: u64) {
-        if let Some(mut terminal) = self.terminal {
-            if made % 10_000 == 9_999 {
-                let _ = write!(terminal, "\rmove {} ", made.saturating_add(1));
-            }
-        }
     }
 
     // A move in a line, between headings for what begins with it.
     fn write_text<W: Write>(
         &self,
         out: &mut W,
-        number: u64,
         made: Move,
         was: &State,
         is: &State,
@@ -117,7 +111,7 @@ impl Teller<'_> {
         if is.collector.epoch != was.collector.epoch {
             writeln!(out, "== epoch {}", is.collector.epoch)?;
         }
-        let text = says(self.alloc, made, was, is)?;
+        let (number, text) = (self.moves, says(self.alloc, made, was, is)?);
         match made {
             Move::Command { mutator, .. } => write!(out, "{number:>5} mutator {mutator}")?,
             Move::Step { .. } => write!(out, "{number:>5} collector")?,
@@ -139,18 +133,13 @@ impl Teller<'_> {
         })?;
         // A `<` in the file's name would begin a tag of a page.
         let text = head.to_string(self.alloc)?;
-        for (index, part) in text.split('<').enumerate() {
-            let escape = if index == 0 { "" } else { "\\u003c" };
-            write!(out, "{escape}{part}")?;
-        }
-        writeln!(out)
+        writeln!(out, "{}", text.replace(self.alloc, '<', "\\u003c")?)
     }
 
     // A move and the heap before it, or the whole heap where there is none.
     fn write_line<W: Write>(
         &self,
         out: &mut W,
-        number: u64,
         made: Option<(Move, &State)>,
         is: &State,
     ) -> io::Result<()> {
@@ -166,7 +155,7 @@ impl Teller<'_> {
             answer = Some(answer_text(self.alloc, told.answer)?);
         }
         let line = Line {
-            number,
+            number: self.moves,
             mutator: actor,
             command,
             answer,

@@ -57,10 +57,8 @@ pub fn says(alloc: Global, made: Move, was: &State, is: &State) -> Result<String
             match turn {
                 Turn::Waiting { .. } => text.push_str(", and waits: it hasn't crossed")?,
                 Turn::Collected { epoch, freed } => {
-                    write!(
-                        text,
-                        "; epoch {epoch} is collected, {freed} slots were swept"
-                    )?;
+                    write!(text, "; epoch {epoch} is collected, ")?;
+                    write!(text, "{freed} slots were swept")?;
                 }
                 Turn::Moved | Turn::EpochsSpent => {}
             }
@@ -112,13 +110,11 @@ fn add_step(text: &mut String, seen: Option<(Op, u64)>, is: &State) -> Result<()
         }
         Op::ReturnBox(t, _) => write!(text, "gives mutator {t}'s mailbox back"),
         Op::LoadChild(place) => {
-            text.push_str("loads ")?;
-            add_field(text, place, is.fields)?;
+            add_field(text, "loads ", place, is.fields)?;
             add_target(text, ", which is ", target(found))
         }
         Op::ClearField(place) => {
-            text.push_str("clears ")?;
-            add_field(text, place, is.fields)?;
+            add_field(text, "clears ", place, is.fields)?;
             add_target(text, ", which was ", target(found))
         }
         Op::FreeHeader(slot) => write!(text, "sweeps #{slot}, whose slot is free now"),
