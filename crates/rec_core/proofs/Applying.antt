@@ -37,7 +37,7 @@ use Rattle.rec_core.specs.Kept.{IsBufferOf, Stand, stand_at, HasCrossed, IsHands
 use Rattle.rec_core.specs.Pending.{Filed, filed, code, writes_in, births_in, dated_names, dated_all, older_at, applied_at, epoch_at, buffers, writes_of, births_of, snapshots_of, registers_of, pending}
 use Rattle.rec_core.specs.declared.config.Config.{Config}
 use Rattle.rec_core.proofs.Actors.{epoch_here, settled_here}
-use Rattle.rec_core.proofs.Batches.{gain, loss, gain_named, gain_none, loss_named, loss_none, same_at, none_of, sum_parts}
+use Rattle.rec_core.proofs.Batches.{buffer_there, gain, loss, gain_named, gain_none, loss_named, loss_none, same_at, none_of, sum_parts}
 use Rattle.rec_core.proofs.Counts.{slot_in, accounts_with}
 use Rattle.rec_core.proofs.Moves.{spare_names}
 use Rattle.rec_core.proofs.Sums.{share, log_share, buffers_sum}
@@ -171,17 +171,10 @@ module _ (w : Core) (t : ℕ) (kept : IsKept w) (phase : w.collector.phase ≡ R
       ap (λ n. slice_index_or w.boxes n (collectors.blank 0 0)) (sym at) ∙ (crossed (i + 1) is).1
 
   newer_of : (i : ℕ) → i < length c.newer → IsBufferOf w.config (w.epoch - 1) (slice_index_or c.newer i (collectors.blank 0 0))
-  newer_of i below =
-      let is : IsMutator w.config (i + 1) = by_number w.config.mutators i (omega (arith, many)) in
-      let at : i + 1 - 1 ≡ i = omega arith in
-      subst (λ n. IsBufferOf w.config (w.epoch - 1) (slice_index_or c.newer n (collectors.blank 0 0))) at (kept.collector.newer (i + 1) is)
+  newer_of = buffer_there w.config (w.epoch - 1) c.newer many kept.collector.newer
 
   older_of : (i : ℕ) → i < length c.older → IsBufferOf w.config (w.epoch - 2) (slice_index_or c.older i (collectors.blank 0 0))
-  older_of i below =
-      let both : length c.older ≡ length c.newer = kept.collector.machine.both in
-      let is : IsMutator w.config (i + 1) = by_number w.config.mutators i (omega (arith, many)) in
-      let at : i + 1 - 1 ≡ i = omega arith in
-      subst (λ n. IsBufferOf w.config (w.epoch - 2) (slice_index_or c.older n (collectors.blank 0 0))) at (subst (λ e. IsBufferOf w.config e (collectors.buffer_at c.older (i + 1 - 1))) older_is (kept.collector.older (i + 1) is))
+  older_of = buffer_there w.config (w.epoch - 2) c.older (kept.collector.machine.both ∙ many) (λ t is. subst (λ e. IsBufferOf w.config e (collectors.buffer_at c.older (t - 1))) older_is (kept.collector.older t is))
 
   -- what is added by the accounts is what the newer buffers add
   pub added_is : (x : ℕ) → added (pending w) (x + 1) ≡ targets.added x c.newer

@@ -1,5 +1,5 @@
 -- What a batch adds and takes, read off the collector's buffers, is what the accounts say that it adds and takes.
-use Rattle.std.proofs.Common.{◌≡◌, ◌≢◌, inl, inr, ℕ, ◌+◌, ◌<◌, ◌==◌, List, [], ◌∷◌, suc, Option, None, Some, length, map, slice_index_or, refl, sym, ap, ◌∙◌, arith}
+use Rattle.std.proofs.Common.{◌≡◌, ◌≢◌, inl, inr, ℕ, ◌+◌, ◌-◌, ◌<◌, ◌==◌, List, [], ◌∷◌, suc, Option, None, Some, length, map, slice_index_or, refl, sym, ap, subst, ◌∙◌, arith}
 use Rattle.std.specs.List.{All, sum_by}
 use Rattle.std.proofs.lemmas.Bool.{cases_eq, eq-eqb, ne_eqb}
 use Rattle.std.proofs.lemmas.List.Elements.{All-head, All-tail}
@@ -15,10 +15,18 @@ use Rattle.rec_log.specs.declared.entry.Entry.TheVariants as entries
 use Rattle.rec_counts.specs.Lists.{one}
 use Rattle.rec_apply.specs.Targets.{new_target, old_target, named}
 use Rattle.rec_apply.proofs.Naming.{named-nil, named-cons}
+use Rattle.rec_collector.specs.Private as collectors
+use Rattle.rec_core.specs.Config.{IsMutator}
 use Rattle.rec_core.specs.Kept.{IsMadeIn, IsBufferOf}
 use Rattle.rec_core.specs.Pending.{code, writes_in, births_in, dated_names}
 use Rattle.rec_core.specs.declared.config.Config.{Config}
 use Rattle.rec_core.proofs.Moves.{code_target}
+
+-- what is known of each mutator's buffer is known at each place of their row
+pub buffer_there : (config : Config) (epoch : ℕ) (row : List Contents) → length row ≡ config.mutators → ((t : ℕ) → IsMutator config t → IsBufferOf config epoch (collectors.buffer_at row (t - 1))) → (i : ℕ) → i < length row → IsBufferOf config epoch (slice_index_or row i (collectors.blank 0 0))
+buffer_there config epoch row many each i below =
+    let at : i + 1 - 1 ≡ i = omega arith in
+    subst (λ n. IsBufferOf config epoch (slice_index_or row n (collectors.blank 0 0))) at (each (i + 1) (omega arith, omega (arith, many)))
 
 -- one name of a slot is one of its node
 same_name : (x : ℕ) (target : Option ℕ) → one_if_same (x + 1) (code target) ≡ one (is_slot x target)

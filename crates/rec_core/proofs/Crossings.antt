@@ -69,14 +69,8 @@ unfolding left_of left_at
 left_same q b is = same_at q b q.phase is
   where
     same_at : (r : Private) (c : Contents) (phase : phases.Phase) → IsBetween phase → left_at r c phase ≡ c
-    same_at r c at.Idle is = refl
-    same_at r c (at.Begun work) is = refl
-    same_at r c (at.Scanning reg label before slot) is = refl
-    same_at r c (at.Scanned reg label before) is = refl
-    same_at r c at.Crossing is = refl
     same_at r c at.Swapping is = absurd is
-    same_at r c at.Giving is = refl
-    same_at r c (at.Finished work made) is = refl
+    same_at r c _ is = refl
 
 -- a mutator whose turn in a gathering is to come: the batch of the epoch before the last is the last one
 due_gathers : (requested t : ℕ) (phase : Phase) → stand_at phase t ≡ Stand.Due → (applied_at requested phase ≡ requested - 2) × (under_way phase ≡ 1)

@@ -56,7 +56,7 @@ use Rattle.rec_core.specs.CyclesAt.{IsLoading, AreSeen, HasCyclesAt}
 use Rattle.rec_core.specs.Kept.{IsMadeIn, IsBufferOf, Stand, stand_at, IsLeftOf, one_if_sweeping, IsSomeSwept, IsKept}
 use Rattle.rec_core.specs.Pending.{Filed, writes_in, births_in, dated_names, applied_at, older_at, buffers, pending}
 use Rattle.rec_core.specs.declared.config.Config.{Config}
-use Rattle.rec_core.proofs.Batches.{none_of}
+use Rattle.rec_core.proofs.Batches.{buffer_there, none_of}
 use Rattle.rec_core.proofs.Counts.{slot_in, accounts_with, alike_slots}
 use Rattle.rec_core.proofs.CyclesMarked.{trial_leaves_marked}
 use Rattle.rec_core.proofs.CyclesPrepared.{fields_begun, sets_wait_prepared}
@@ -99,10 +99,8 @@ module _ (w : Core) (c : collectors.Private) (before : Phase) (some : 2 ≤ w.ep
   complete turns collections = record w { collector = record c { phase = Idle; turns = turns; collections = collections; newer = map cleared c.older; older = c.newer } }
 
   -- one of the older buffers
-  older_one : (i : ℕ) → i < length c.older → IsBufferOf w.config (w.epoch - 2) (slice_index_or c.older i (collectors.blank 0 0))
-  older_one i below =
-      let at : i + 1 - 1 ≡ i = omega arith in
-      subst (λ n. IsBufferOf w.config (w.epoch - 2) (slice_index_or c.older n (collectors.blank 0 0))) at (filed_older (i + 1) (omega arith, omega arith))
+  older_there : (i : ℕ) → i < length c.older → IsBufferOf w.config (w.epoch - 2) (slice_index_or c.older i (collectors.blank 0 0))
+  older_there = buffer_there w.config (w.epoch - 2) c.older both filed_older
 
   -- cleared buffers add nothing
   cleared_row : {Y : Type 0} (g : Y → ℕ) (f : Filed → List Y) (e : ℕ) → ((b : Contents) → share g f e (cleared b) ≡ 0) → (row : List Contents) → sum_by (share g f e) (map cleared row) ≡ 0
@@ -131,7 +129,7 @@ module _ (w : Core) (c : collectors.Private) (before : Phase) (some : 2 ≤ w.ep
       λ weight none. omega (
         arith,
         complete_sums weight (λ (b : Filed). writes_in b.buffer.entries) turns collections (λ b. refl),
-        none_of (share weight (λ (b : Filed). writes_in b.buffer.entries) (w.epoch - 2)) c.older (collectors.blank 0 0) (λ i below. early_writes weight (w.epoch - 2) (w.epoch - 1) (slice_index_or c.older i (collectors.blank 0 0)).entries (omega arith) none (older_one i below).made),
+        none_of (share weight (λ (b : Filed). writes_in b.buffer.entries) (w.epoch - 2)) c.older (collectors.blank 0 0) (λ i below. early_writes weight (w.epoch - 2) (w.epoch - 1) (slice_index_or c.older i (collectors.blank 0 0)).entries (omega arith) none (older_there i below).made),
       ),
     );
     births = (
