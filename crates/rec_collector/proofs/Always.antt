@@ -12,24 +12,17 @@ use Rattle.rec_counts.proofs.Times.{times-nil, in_range_once, times_at}
 use Rattle.rec_walk.specs.Load.{Load}
 use Rattle.rec_walk.specs.declared.member.Member.{Member}
 use Rattle.rec_walk.specs.Walk.{IsOf}
-use Rattle.rec_release.specs.CycleFree as frees
 use Rattle.rec_release.specs.declared.at.At.{At}
 use Rattle.rec_release.specs.Release.{IsAtWork, IsHeld, Machine, next_of as release_next, op_at}
 use Rattle.rec_release.specs.Sweep.{next_of as sweep_next}
 use Rattle.rec_counts.proofs.Front.{first_in}
-use Rattle.rec_sigma.specs.declared.at.At as loads_at
 use Rattle.rec_sigma.specs.Prepared.{PreparedTo, LoadsWithin}
 use Rattle.rec_sigma.proofs.Bounds.{few_loads, names_place}
-use Rattle.rec_sigma.specs.Prepare as preps
 use Rattle.rec_trial.proofs.Keeps.{at_work_few}
-use Rattle.rec_trial.specs.declared.phase.Phase as trial_phase
-use Rattle.rec_trial.specs.declared.phase.Phase.TheVariants as trial_at
-use Rattle.rec_trial.specs.Loaded as trials
 use Rattle.rec_trial.specs.Trial.{Machine as Trial, next_of as trial_next, op_at as trial_op_at}
 use Rattle.rec_trial.proofs.AtWork.{at_work_place}
-use Rattle.rec_collector.specs.Clearing.{IsClearing}
+use Rattle.rec_collector.specs.Clearing.{IsTidy}
 use Rattle.rec_collector.specs.Kept.{IsAt, IsMachine, all_fields, limit_of, IsPreparing, IsTesting, IsTrying}
-use Rattle.rec_collector.specs.Parts.{Parts}
 use Rattle.rec_collector.specs.Private.{Private, parts_of}
 use Rattle.rec_collector.specs.Zeros.{AreCounted, AreTheZeros}
 use Rattle.rec_collector.specs.declared.phase.Phase.{Phase}
@@ -38,6 +31,13 @@ use Rattle.rec_collector.specs.Next.{is_spent, next_at, next_of}
 use Rattle.rec_collector.specs.Step.{NamesWord}
 use Rattle.rec_collector.proofs.Exchanging.{exchanged_few}
 use Rattle.rec_collector.proofs.Landing.{now_at}
+use Rattle.rec_counts.specs.Rest.{AreZeros}
+use Rattle.rec_release.specs.CycleFree as frees
+use Rattle.rec_sigma.specs.declared.at.At as loads_at
+use Rattle.rec_sigma.specs.Prepare as preps
+use Rattle.rec_trial.specs.declared.phase.Phase as trial_phase
+use Rattle.rec_trial.specs.declared.phase.Phase.TheVariants as trial_at
+use Rattle.rec_trial.specs.Loaded as trials
 
 -- where each slot has a count, there are none
 none_exact : (s : State) → s.zeros ≡ [] → AreCounted s → AreTheZeros s
@@ -47,17 +47,17 @@ none_exact s z c x = (
 )
 
 -- while slots are released and sets tested
-clear_exact : (w : Parts) → IsClearing w → AreTheZeros w.counts
-clear_exact w c x = (
-  λ h. (c.release.ready.zeros.unreleased x h, c.release.ready.zeros.none x h, λ o. absurd (omega (arith, h, (c.apart x o).no_zero))),
+tidy_exact : {fields : ℕ} (s : State) (at : Option At) → IsTidy fields s at → AreZeros s → AreTheZeros s
+tidy_exact s at c z x = (
+  λ h. (z.unreleased x h, z.none x h, λ o. absurd (omega (arith, h, (c.apart x o).no_zero))),
   λ q. c.all_zeros x q.0 q.1 q.2,
 )
 
 exact_at : (p : Private) (phase : Phase) → IsAt p phase → AreTheZeros p.counts
-exact_at p Releasing a = clear_exact (parts_of p) a.0.clearing
-exact_at p Freeing a = clear_exact (parts_of p) a.0.clearing
-exact_at p Trying a = none_exact p.counts a.zeros a.counted
-exact_at p Preparing a = none_exact p.counts a.tried.zeros a.tried.counted
+exact_at p (Releasing m) a = tidy_exact p.counts m.at a.clearing.tidy a.clearing.release.ready.zeros
+exact_at p (Freeing m) a = tidy_exact p.counts None a.clearing.tidy a.clearing.freeing.ready.zeros
+exact_at p (Trying m) a = none_exact p.counts a.zeros a.counted
+exact_at p (Preparing m) a = none_exact p.counts a.tried.zeros a.tried.counted
 exact_at p (Looking t) a = none_exact p.counts a.rest.zeros a.rest.counted
 exact_at p (Swapping t) a = none_exact p.counts a.rest.zeros a.rest.counted
 exact_at p (Returning t) a = none_exact p.counts a.rest.zeros a.rest.counted
@@ -67,14 +67,14 @@ pub machine_exact : (p : Private) → IsMachine p → AreTheZeros p.counts
 machine_exact p k = exact_at p p.phase k.now
 
 -- a release and the freeing of sets exchange each field of a slot at most once
-testing_few : (p : Private) → IsKeptCounts p.counts → IsTesting p → p.turns ≤ 1 + 2 * length p.newer + all_fields p
-testing_few p c k = omega (arith, k.turns, exchanged_few (parts_of p) k.exchanged c k.exchanges)
+testing_few : (p : Private) (phase : Phase) → IsKeptCounts p.counts → IsTesting p phase → p.turns ≤ 1 + 2 * length p.newer + all_fields p
+testing_few p phase c k = omega (arith, k.turns, exchanged_few (parts_of p) k.exchanged c k.exchanges)
 
 -- a trial takes in three words for each field at most
-trying_few : (p : Private) → p.trial.fields ≡ p.release.fields → IsTrying p → p.turns ≤ 1 + 2 * length p.newer + 4 * all_fields p
-trying_few p e k =
-    let all : length p.counts.slots * p.trial.fields ≡ all_fields p = ap (λ n. length p.counts.slots * n) e in
-    omega (arith, k.turns, at_work_few p.trial p.counts k.kept k.busy, all)
+trying_few : (p : Private) (m : Trial) → IsTrying p m → p.turns ≤ 1 + 2 * length p.newer + 4 * all_fields p
+trying_few p m k =
+    let all : length p.counts.slots * m.fields ≡ all_fields p = ap (λ n. length p.counts.slots * n) k.fields in
+    omega (arith, k.turns, at_work_few m p.counts k.kept k.busy, all)
 
 -- a preparation takes in a word for each field at most
 pub loads_few : (fields : ℕ) (before : State) (at : Option loads_at.At) (after : State) (loads : List Load) → IsKeptCounts before → PreparedTo fields before at after loads → length loads ≤ length after.slots * fields
@@ -83,19 +83,19 @@ loads_few fields before at after loads k h =
     let many : length after.slots * fields ≡ length before.slots * fields = ap (λ n. n * fields) h.others.many in
     omega (arith, f.0, f.1, many)
 
-preparing_few : (p : Private) → p.prep.fields ≡ p.release.fields → IsPreparing p → p.turns ≤ 2 + 2 * length p.newer + 5 * all_fields p
-preparing_few p e k =
-    let all : length p.counts.slots * p.prep.fields ≡ all_fields p = ap (λ n. length p.counts.slots * n) e in
-    omega (arith, k.turns, loads_few p.prep.fields k.before p.prep.at p.counts k.loads k.before_kept k.prepares, all)
+preparing_few : (p : Private) (m : preps.Machine) → IsPreparing p m → p.turns ≤ 2 + 2 * length p.newer + 5 * all_fields p
+preparing_few p m k =
+    let all : length p.counts.slots * m.fields ≡ all_fields p = ap (λ n. length p.counts.slots * n) k.fields in
+    omega (arith, k.turns, loads_few m.fields k.before m.at p.counts k.loads k.before_kept k.prepares, all)
 
 within_at : (p : Private) (phase : Phase) → IsMachine p → IsAt p phase → p.turns ≤ limit_of p
 within_at p Idle m k = omega (arith, k.2)
-within_at p Releasing m k = omega (arith, testing_few p m.counts k.0)
-within_at p Freeing m k = omega (arith, testing_few p m.counts k.0)
-within_at p Trying m k = omega (arith, trying_few p m.trial_fields k)
-within_at p Preparing m k = omega (arith, preparing_few p m.prep_fields k)
+within_at p (Releasing r) m k = omega (arith, testing_few p (Releasing r) m.counts k)
+within_at p (Freeing f) m k = omega (arith, testing_few p (Freeing f) m.counts k)
+within_at p (Trying t) m k = omega (arith, trying_few p t k)
+within_at p (Preparing r) m k = omega (arith, preparing_few p r k)
 within_at p Opening m k = omega (arith, k.0.turns)
-within_at p (Sweeping n) m k = omega (arith, k.0.turns, k.0.left)
+within_at p (Sweeping due n) m k = omega (arith, k.0.turns, k.0.left)
 within_at p (Closing n) m k = omega (arith, k.0.turns, k.0.left)
 within_at p _ m k = omega (arith, k.turns, k.there)
 
@@ -106,7 +106,7 @@ within_limit p k = within_at p p.phase k k.now
 -- so they can be counted
 pub turns_fit : (p : Private) → IsMachine p → p.turns + 1 < 2 ^ 64
 turns_fit p k =
-    let m : all_fields p ≤ 2 ^ 16 * 2 ^ 8 = mul-le-mul {n₁ = length p.counts.slots} {m₁ = p.release.fields} {n₂ = 2 ^ 16} {m₂ = 2 ^ 8} (omega (arith, k.counts.few_slots)) (omega (arith, k.few_fields)) in
+    let m : all_fields p ≤ 2 ^ 16 * 2 ^ 8 = mul-le-mul {n₁ = length p.counts.slots} {m₁ = p.fields} {n₂ = 2 ^ 16} {m₂ = 2 ^ 8} (omega (arith, k.counts.few_slots)) (omega (arith, k.few_fields)) in
     omega (arith, m, within_limit p k, k.few, k.counts.few_slots)
 
 release_names : (m : Machine) (s : State) (mutators : ℕ) → IsAtWork m s → IfSome (release_next m) (NamesWord (length s.slots) m.fields mutators)
@@ -152,25 +152,25 @@ unfolding sweep_next
 sweep_names s None fields mutators k e = tt
 sweep_names s (Some x) fields mutators k e = in_range_once (length s.slots) s.free x k.free_once (first_in s.free x (sym e))
 
-names_at : (p : Private) (phase : Phase) → IsMachine p → p.phase ≡ phase → IfSome (next_at p phase) (NamesWord (length p.counts.slots) p.release.fields (length p.newer))
+names_at : (p : Private) (phase : Phase) → IsMachine p → p.phase ≡ phase → IfSome (next_at p phase) (NamesWord (length p.counts.slots) p.fields (length p.newer))
 unfolding next_at
 names_at p Idle k e =
-    (elim (is_spent p) as (λ b. is_spent p ≡ b → IfSome (cond b None (Some (StoreEpoch (p.epoch + 1)))) (NamesWord (length p.counts.slots) p.release.fields (length p.newer))) [
+    (elim (is_spent p) as (λ b. is_spent p ≡ b → IfSome (cond b None (Some (StoreEpoch (p.epoch + 1)))) (NamesWord (length p.counts.slots) p.fields (length p.newer))) [
       | true ↦ λ q. tt
       | false ↦ λ q. omega (arith, k.epoch, eqb-false (p.epoch + 1) (2 ^ 24) q)
     ]) refl
 names_at p (Looking t) k e = let a : IsAt p (Looking t) = now_at p (Looking t) k e in (a.first, a.there, k.epoch)
 names_at p (Swapping t) k e = let a : IsAt p (Swapping t) = now_at p (Swapping t) k e in (a.first, a.there, k.epoch)
 names_at p (Returning t) k e = let a : IsAt p (Returning t) = now_at p (Returning t) k e in (a.first, a.there, k.epoch)
-names_at p Releasing k e = release_names p.release p.counts (length p.newer) (now_at p Releasing k e).0.clearing.release
-names_at p Freeing k e = rw (← k.freeing_fields) (freeing_names p.freeing p.counts (length p.newer) k.counts (now_at p Freeing k e).0.clearing.freeing)
-names_at p Trying k e = trial_names p.trial p.counts p.release.fields (length p.newer) k.trial_fields (now_at p Trying k e).kept
-names_at p Preparing k e = prep_names p.prep p.counts p.release.fields (length p.newer) k.prep_fields k.counts (now_at p Preparing k e).kept
+names_at p (Releasing m) k e = let a : IsAt p (Releasing m) = now_at p (Releasing m) k e in rw (← a.clearing.fields) (release_names m p.counts (length p.newer) a.clearing.release)
+names_at p (Freeing m) k e = let a : IsAt p (Freeing m) = now_at p (Freeing m) k e in rw (← a.clearing.fields) (freeing_names m p.counts (length p.newer) k.counts a.clearing.freeing)
+names_at p (Trying m) k e = let a : IsAt p (Trying m) = now_at p (Trying m) k e in trial_names m p.counts p.fields (length p.newer) a.fields a.kept
+names_at p (Preparing m) k e = let a : IsAt p (Preparing m) = now_at p (Preparing m) k e in prep_names m p.counts p.fields (length p.newer) a.fields k.counts a.kept
 names_at p Opening k e = tt
-names_at p (Sweeping n) k e = sweep_names p.counts p.due p.release.fields (length p.newer) k.counts (now_at p (Sweeping n) k e).2
+names_at p (Sweeping due n) k e = sweep_names p.counts due p.fields (length p.newer) k.counts (now_at p (Sweeping due n) k e).2
 names_at p (Closing n) k e = tt
 
 -- in every state
-pub names_word : (p : Private) → IsMachine p → IfSome (next_of p) (NamesWord (length p.counts.slots) p.release.fields (length p.newer))
+pub names_word : (p : Private) → IsMachine p → IfSome (next_of p) (NamesWord (length p.counts.slots) p.fields (length p.newer))
 unfolding next_of
 names_word p k = names_at p p.phase k refl

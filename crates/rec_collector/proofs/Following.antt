@@ -1,51 +1,53 @@
 -- Slots are released and sets tested, from a batch, which leaves the counts tidy, to the next trial: what holds after each word, and what
 -- follows it.
-use Rattle.std.proofs.Common.{◌≡◌, ℕ, ◌<◌, true, false, Option, None, Some, List, [], ◌∷◌, refl, arith, sym, ◌∙◌, ap, subst, inl, inr, ◌+◌, ◌*◌, ◌^◌, ◌≤◌, IsSome, length}
+use Rattle.std.proofs.Common.{◌≡◌, ℕ, ◌<◌, true, false, Option, None, Some, List, [], ◌∷◌, refl, arith, sym, ◌∙◌, ap, subst, inl, inr, ◌+◌, ◌*◌, ◌^◌, ◌≤◌, length}
 use Rattle.std.specs.List.{flat_map}
 use Rattle.std.proofs.lemmas.List.{length-set}
 use Rattle.std.proofs.lemmas.Bool.{cases_Bool}
 use Rattle.rec_log.specs.declared.contents.Contents.{Contents}
 use Rattle.rec_counts.specs.declared.slot.Slot.{Slot}
-use Rattle.rec_counts.specs.Counts.{State, slot_at, with_slot}
+use Rattle.rec_counts.specs.Counts.{IsKept, State, slot_at, with_slot}
 use Rattle.rec_counts.specs.Lists.{times}
 use Rattle.rec_counts.specs.Rest.{KeepsRest}
 use Rattle.rec_counts.specs.Slot.{raised}
 use Rattle.rec_counts.proofs.Decrementing.{rest_decremented}
 use Rattle.rec_counts.proofs.Keeping.{field_kept}
 use Rattle.rec_counts.proofs.Times.{times-nil}
-use Rattle.rec_walk.specs.declared.member.Member.{Member}
 use Rattle.rec_apply.specs.Batch.{all_counted, CanFall, all_down, all_up, batch, counted_down, counted_up, down_targets, up_targets, CanRise}
 use Rattle.rec_apply.proofs.Falling.{fall_first, fall_right, fall_zeros_all}
 use Rattle.rec_apply.proofs.Resting.{rest_all_up}
 use Rattle.rec_apply.proofs.Whole.{batch_rests, batch_falls, batch_rises}
 use Rattle.rec_apply.proofs.Kept.{batch_kept}
-use Rattle.rec_release.specs.CycleFree as frees
-use Rattle.rec_release.specs.Release as releases
 use Rattle.rec_release.specs.Release.{IsReady}
 use Rattle.rec_release.specs.TakenOff.{AllZerosButOrange}
 use Rattle.rec_release.specs.declared.at.At.{At}
 use Rattle.rec_release.proofs.TakenOff.{written}
-use Rattle.rec_sigma.specs.Prepare as preps
-use Rattle.rec_trial.specs.Trial.{Machine as Trial}
-use Rattle.rec_collector.specs.Clearing.{IsClearing, IsTidy, HasExchanged, IsWide}
+use Rattle.rec_collector.specs.Clearing.{IsTidy, HasExchanged, IsCleared, IsClearingIn}
 use Rattle.rec_collector.specs.Kept.{AreResting, IsAtRest, NoneReleased, IsAt, IsMachine, IsTesting}
 use Rattle.rec_collector.specs.Parts.{Parts}
-use Rattle.rec_collector.specs.Followed.{followed, next_in, relieved, tested_on, trial_started, with_freed, with_offers, with_released}
+use Rattle.rec_collector.specs.Followed.{followed, next_in, trial_started, with_freed, with_offers, with_released, going_on}
 use Rattle.rec_collector.specs.Given.{IsCovered}
 use Rattle.rec_collector.specs.Offered.{KeepsOffered}
 use Rattle.rec_collector.specs.Private.{Private, parts_of}
-use Rattle.rec_collector.specs.Testing.{is_busy_at, tested, told, zeros_released}
+use Rattle.rec_collector.specs.Testing.{tested, told, zeros_released, Begun}
 use Rattle.rec_collector.specs.Took.{batched}
 use Rattle.rec_collector.specs.declared.phase.Phase.{Phase}
 use Rattle.rec_collector.specs.declared.phase.Phase.TheVariants.{Returning, Releasing, Freeing}
-use Rattle.rec_collector.proofs.Clearing.{release_idle, unfreed_clear, StaysClear, clear_counted, clear_listed, clear_ready, clear_uncoloured, ends_after, released_stays, relieved_stays, tested_stays, zeros_stay}
+use Rattle.rec_collector.proofs.Clearing.{Clears, released_clears, zeros_clear}
 use Rattle.rec_collector.proofs.Outside.{apart_on, black_was, untried_moved, outside_on, raised_lowers}
 use Rattle.rec_collector.proofs.Tidy.{tidy_off}
-use Rattle.rec_collector.proofs.Counting.{Counted, KeepsTold, relieved_told, released_told, same_told, tested_told, told_on, zeros_told}
-use Rattle.rec_collector.proofs.Exchanging.{exchanged_few, none_exchanged, released_exchanged, relieved_exchanged, tested_exchanged, zeros_exchanged}
-use Rattle.rec_collector.proofs.Landing.{Fits, Lands, fits_all, fits_on, fits_self, landed, now_at, told_at}
+use Rattle.rec_collector.proofs.Counting.{Counted, KeepsTold, released_told, same_told, tested_told, told_on, zeros_told, freed_told}
+use Rattle.rec_collector.proofs.Exchanging.{exchanged_few, none_exchanged}
+use Rattle.rec_collector.proofs.Landing.{Fits, Lands, fits_all, now_at, told_at}
 use Rattle.rec_collector.proofs.Offering.{where_keeps, where_kept, where_listed, where_ready, where_uncoloured}
 use Rattle.rec_collector.proofs.Trying.{started_tried, tried_lands}
+use Rattle.rec_collector.proofs.Freeing.{freed_clears}
+use Rattle.rec_release.specs.CycleFree.{listed}
+use Rattle.rec_collector.proofs.Goings.{still}
+use Rattle.rec_collector.proofs.Testing.{tested_clear, clear_counted, clear_listed, clear_ready, clear_uncoloured, ends_after}
+use Rattle.rec_release.specs.CycleFree as frees
+use Rattle.rec_release.specs.Release as releases
+use Rattle.rec_trial.specs.Trial as trials
 
 -- a slot that was incremented has a count
 raised_zeros : (s : State) (x : ℕ) → AllZerosButOrange s → AllZerosButOrange (with_slot s x (raised (slot_at s x)))
@@ -75,6 +77,10 @@ unfolding all_counted
 tidy_all_up s [] at i = i
 tidy_all_up s (t ∷ ts) at i = tidy_all_up (counted_up s t) ts at (tidy_up s t at i)
 
+-- nothing stands in an empty list
+nowhere : {P : Type 0} (xs : List ℕ) (x : ℕ) → xs ≡ [] → 0 < times x xs → P
+nowhere xs x e h = absurd (omega (arith, h, ap (times x) e, times-nil x))
+
 -- what is in the free list, or in the work list, is released
 record AreReleased (s : State) : Type 0 where
   pub free : (x : ℕ) → 0 < times x s.free → (slot_at s x).released ≡ true
@@ -99,170 +105,166 @@ unfolding all_counted
 tidy_all_down s [] at c r i = i
 tidy_all_down s (t ∷ ts) at c r i = tidy_all_down (counted_down s t) ts at (fall_right s (t ∷ []) ts c) (released_down s t r) (tidy_down s t ts at c r i)
 
--- parts that are clear stay so, where nothing is at work
-pub batched_clear : (w : Parts) (newer older : List Contents) → CanFall (all_up w.counts (flat_map up_targets newer)) (flat_map down_targets older) → w.release.at ≡ None → w.freeing.at ≡ None → IsClearing w →
-    IsClearing (record w { counts = batch w.counts newer older })
-batched_clear w newer older c still unfreed i =
-    let s : State = w.counts in
-    let t : State = batch s newer older in
+-- counts that are tidy stay so, where nothing is at work
+pub batched_clear : (fields : ℕ) (s : State) (newer older : List Contents) → CanFall (all_up s (flat_map up_targets newer)) (flat_map down_targets older) → IsTidy fields s None → IsReady s → s.work ≡ [] →
+    IsTidy fields (batch s newer older) None × IsReady (batch s newer older)
+batched_clear fields s newer older c tidy r none =
     let up : State = all_up s (flat_map up_targets newer) in
-    let k : KeepsRest s t = batch_rests s newer older in
-    let released : AreReleased s = record { free = i.release.ready.free; work = i.freeing.released } in
-    let ready : IsReady t = record {
-      zeros = fall_zeros_all up (flat_map down_targets older) c.zeros;
-      free = (released_rests s t k released).free;
-    } in
-    let tidy : IsTidy w.prep.fields t w.release.at =
-    tidy_all_down up (flat_map down_targets older) w.release.at c (released_rests s up (rest_all_up s (flat_map up_targets newer)) released) (tidy_all_up s (flat_map up_targets newer) w.release.at i.tidy) in
-    unfreed_clear (record w { counts = t }) i.idle i.unprepared tidy (release_idle w.release t still ready) unfreed (k.work ∙ i.work unfreed)
-
--- nothing stands in an empty list
-nowhere : {P : Type 0} (xs : List ℕ) (x : ℕ) → xs ≡ [] → 0 < times x xs → P
-nowhere xs x e h = absurd (omega (arith, h, ap (times x) e, times-nil x))
+    let k : KeepsRest s (batch s newer older) = batch_rests s newer older in
+    let released : AreReleased s = record { free = r.free; work = λ x h. nowhere s.work x none h } in (
+      tidy_all_down up (flat_map down_targets older) None c (released_rests s up (rest_all_up s (flat_map up_targets newer)) released) (tidy_all_up s (flat_map up_targets newer) None tidy),
+      record { zeros = fall_zeros_all up (flat_map down_targets older) c.zeros; free = (released_rests s (batch s newer older) k released).free },
+    )
 
 -- at rest no slot is released
-pub none_released : {s : State} {r : releases.Machine} {f : frees.Machine} {t : Trial} {p : preps.Machine} → AreResting s r f t p → NoneReleased s
-none_released {s} a x l = elim (cases_Bool (slot_at s x).released) [
+pub none_released : {fields : ℕ} {s : State} → AreResting fields s → NoneReleased s
+none_released {fields} {s} a x l = elim (cases_Bool (slot_at s x).released) [
   | inl t ↦ nowhere s.free x a.free (a.listed x l t)
   | inr t ↦ t
 ]
 
--- and the parts are clear
-pub resting_clear : (w : Parts) → IsAtRest w → IsClearing w
-resting_clear w a =
-    let s : State = w.counts in
-    let ready : IsReady s = record {
-      zeros = record { once = λ x. omega (arith, ap (times x) a.zeros, times-nil x); none = λ x h. nowhere s.zeros x a.zeros h; unreleased = λ x h. nowhere s.zeros x a.zeros h };
-      free = λ x h. nowhere s.free x a.free h;
-    } in
-    let tidy : IsTidy w.prep.fields s w.release.at = record {
-      untried = a.untried;
-      apart = a.apart;
-      outside = a.outside;
-      all_zeros = λ x r n o. absurd (omega (arith, n, a.counted x r));
-      listed = λ x l r b. nowhere s.free x a.free (a.listed x l r);
-      unbuffered = a.unbuffered;
-      held = λ x h. nowhere s.work x a.work h;
-    } in
-    unfreed_clear w a.idle a.unprepared tidy (release_idle w.release s a.still ready) a.unfreed a.work
+-- and the counts are tidy
+resting_tidy : {fields : ℕ} {s : State} → AreResting fields s → IsTidy fields s None
+resting_tidy {fields} {s} a = record {
+  untried = a.untried;
+  apart = a.apart;
+  outside = a.outside;
+  all_zeros = λ x r n o. absurd (omega (arith, n, a.counted x r));
+  listed = λ x l r b. nowhere s.free x a.free (a.listed x l r);
+  unbuffered = a.unbuffered;
+  held = λ x h. nowhere s.work x a.work h;
+}
 
--- A collection has come to `w`, and the next set may be tested where nothing is at work.
-pub record HasCleared (p : Private) (w : Parts) : Type 0 where
-  pub stays : StaysClear w
-  pub open stays use *
+resting_ready : {fields : ℕ} {s : State} → AreResting fields s → IsReady s
+resting_ready {fields} {s} a = record {
+  zeros = record { once = λ x. omega (arith, ap (times x) a.zeros, times-nil x); none = λ x h. nowhere s.zeros x a.zeros h; unreleased = λ x h. nowhere s.zeros x a.zeros h };
+  free = λ x h. nowhere s.free x a.free h;
+}
+
+pub resting_cleared : (w : Parts) → IsAtRest w → IsCleared w
+resting_cleared w a = record { tidy = resting_tidy a; ready = resting_ready a; zeros = a.zeros; work = a.work }
+
+-- A collection has come to this, and the next set may be tested where nothing has begun.
+pub record HasCleared (p : Private) (b : Begun) : Type 0 where
   pub exchanged : ℕ
-  pub exchanges : HasExchanged w exchanged
+  pub clears : Clears b exchanged
+  pub open clears use *
   pub turns : p.turns ≤ 2 * length p.newer + exchanged
-  pub due : p.due ≡ None
-  pub fits : Fits p w
-  pub told : told w.sets + length w.counts.sets ≤ 2 ^ 16 * p.collections
+  pub fits : Fits p b.parts
+  pub few_told : told b.parts.sets + length b.parts.counts.sets ≤ 2 ^ 16 * p.collections
 
-machine_wide : (p : Private) → IsMachine p → IsWide (parts_of p)
-machine_wide p k = (k.fields, omega (arith, k.fields, k.freeing_fields))
+pub fits_on : {p : Private} {w v : Parts} → Fits p w → KeepsTold w v → Fits p v
+fits_on f k = record { slots = k.slots ∙ f.slots; fields = k.fields ∙ f.fields }
+
+fits_self : (p : Private) → Fits p (parts_of p)
+fits_self p = record { slots = refl; fields = refl }
 
 -- the sets are tested
-tested_clears : (p : Private) (w : Parts) → HasCleared p w → HasCleared p (tested (length w.counts.sets) w)
-tested_clears p w h =
-    let n : ℕ = length w.counts.sets in
-    let all : n ≤ length w.counts.sets = omega arith in
-    let keeps : KeepsTold w (tested n w) = tested_told n w all in
+tested_clears : (p : Private) (b : Begun) → HasCleared p b → HasCleared p (tested (length b.parts.counts.sets) b)
+tested_clears p b h =
+    let n : ℕ = length b.parts.counts.sets in
+    let keeps : KeepsTold b.parts (tested n b).parts = tested_told n b (omega arith) in
     record {
-      stays = tested_stays n w all h.stays;
       exchanged = h.exchanged;
-      exchanges = tested_exchanged n w h.exchanged h.fits.freeing_fields all h.stays h.exchanges;
+      clears = tested_clear n h.exchanged b (omega arith) h.clears;
       turns = h.turns;
-      due = h.due;
-      fits = fits_on h.fits keeps.numbers;
-      told = omega (arith, h.told, keeps.told);
+      fits = fits_on h.fits keeps;
+      few_told = omega (arith, h.few_told, keeps.told);
     }
 
 -- no set is left, and a trial begins
-tries_next : (p : Private) (v : Parts) → HasCleared p v → v.release.at ≡ None → v.freeing.at ≡ None → v.counts.sets ≡ [] → Lands p (tested_on v None None)
-tries_next p v h still unfreed none =
-    let few : h.exchanged ≤ length v.counts.slots * v.release.fields = exchanged_few v h.exchanged h.counts h.exchanges in
+tries_next : (p : Private) (v : Parts) → HasCleared p (still v) → v.counts.sets ≡ [] → Lands p (trial_started v)
+tries_next p v h none =
+    let few : h.exchanged ≤ length v.counts.slots * v.fields = exchanged_few v h.exchanged h.counts h.exchanges in
     let w : Parts = with_offers v in
     let keeps : KeepsOffered v.counts w.counts = where_keeps v.offers v.counts in
-    tried_lands p (trial_started v) (
-    started_tried p w (where_ready v.offers v.counts (clear_ready v h.counts h.clearing h.done still unfreed none)) (where_kept v.offers v.counts h.counts)
-    (where_listed v.offers v.counts (clear_listed v h.counts h.clearing h.done still unfreed none)) (where_uncoloured v.offers v.counts (clear_uncoloured v h.counts h.clearing h.done still unfreed none))
-    (λ x r. omega (arith, keeps.counts x, clear_counted v h.counts h.clearing h.done still unfreed none x (sym (keeps.rest.released x) ∙ r)))
-    (keeps.zeros ∙ h.done still unfreed) still unfreed h.clearing.unprepared (fits_on h.fits (record { slots = keeps.rest.slots; release_fields = refl; freeing_fields = refl; trial_fields = refl; prep_fields = refl })) h.due
-    (omega (arith, h.turns, few, fits_all p v h.fits)) (omega (arith, h.told, ap length none))
+    tried_lands p w (trials.started_of v.fields w.counts) (
+    started_tried p w h.wide (where_ready v.offers v.counts (clear_ready v h.counts h.clearing none)) (where_kept v.offers v.counts h.counts)
+    (where_listed v.offers v.counts (clear_listed v h.counts h.clearing none)) (where_uncoloured v.offers v.counts (clear_uncoloured v h.counts h.clearing none))
+    (λ x r. omega (arith, keeps.counts x, clear_counted v h.counts h.clearing none x (sym (keeps.rest.released x) ∙ r)))
+    (keeps.zeros ∙ h.clearing.zeros) (record { slots = keeps.rest.slots ∙ h.fits.slots; fields = h.fits.fields })
+    (omega (arith, h.turns, few, fits_all p v h.fits)) (omega (arith, h.few_told, ap length none))
     )
 
--- what follows
-pub followed_lands : (p : Private) (w : Parts) → HasCleared p w → Lands p (followed w)
-unfolding followed
-followed_lands p w h = go v.release.at v.freeing.at refl refl
+-- what was begun goes on
+goes_on : (p : Private) (b : Begun) (phase : Phase) → b.phase ≡ Some phase → HasCleared p b → Lands p (next_in phase b.parts)
+goes_on p b phase e h = by phase (subst (λ o. IsClearingIn b.parts o) e h.clearing) (subst (λ o. HasExchanged b.parts o h.exchanged) e h.exchanges)
   where
-    v : Parts
-    v = tested (length w.counts.sets) w
+    by : (phase : Phase) → IsClearingIn b.parts (Some phase) → HasExchanged b.parts (Some phase) h.exchanged → Lands p (next_in phase b.parts)
+    by (Releasing m) c x = record { counts = h.counts; fits = h.fits; told = omega (arith, h.few_told); now = record { clearing = c; exchanged = h.exchanged; exchanges = x; turns = omega (arith, h.turns) } }
+    by (Freeing m) c x = record { counts = h.counts; fits = h.fits; told = omega (arith, h.few_told); now = record { clearing = c; exchanged = h.exchanged; exchanges = x; turns = omega (arith, h.turns) } }
+    by _ c x = absurd c
 
-    t : HasCleared p v
-    t = tested_clears p w h
+-- what follows
+pub followed_lands : (p : Private) (b : Begun) → HasCleared p b → Lands p (followed b)
+unfolding followed
+followed_lands p b h = go c.phase refl
+  where
+    c : Begun
+    c = tested (length b.parts.counts.sets) b
 
-    testing : (phase : Phase) → IsTesting (landed p (next_in phase v))
-    testing phase = record { clearing = t.clearing; exchanged = t.exchanged; exchanges = t.exchanges; turns = omega (arith, t.turns); due = t.due }
+    t : HasCleared p c
+    t = tested_clears p b h
 
-    go : (at : Option At) (member : Option Member) → v.release.at ≡ at → v.freeing.at ≡ member → Lands p (tested_on v at member)
-    go at (Some m) e g = record { counts = t.counts; fits = t.fits; told = t.told; now = (testing Freeing, subst (λ (o : Option Member). IsSome o) (sym g) refl) }
-    go (Some a) None e g = record { counts = t.counts; fits = t.fits; told = t.told; now = (testing Releasing, subst (λ (o : Option At). IsSome o) (sym e) refl) }
-    go None None e g = tries_next p v t e g (ends_after (length w.counts.sets) w refl (ap (λ at. is_busy_at at v.freeing.at) e ∙ ap (is_busy_at None) g))
+    go : (o : Option Phase) → c.phase ≡ o → Lands p (going_on c.parts o)
+    go (Some phase) e = goes_on p c phase e t
+    go None e = tries_next p c.parts (subst (λ o. HasCleared p (record { parts = c.parts; phase = o })) e t) (ends_after (length b.parts.counts.sets) b refl e)
 
--- a word came out of a field of a released slot
-pub released_clears : (p : Private) (word : ℕ) → IsMachine p → p.phase ≡ Releasing → Counted p.counts word → HasCleared p (with_released (parts_of p) word)
-released_clears p word k e c =
-    let a : IsAt p Releasing = now_at p Releasing k e in
-    let keeps = released_told (parts_of p) word in
+-- a word came out of a field, of a released slot or of a member of the set that is freed
+pub testing_clears : (p : Private) (phase : Phase) → IsMachine p → p.phase ≡ phase → (t : IsTesting p phase) → Clears (record { parts = parts_of p; phase = Some phase }) t.exchanged
+testing_clears p phase k e t = record { wide = k.some_fields; counts = k.counts; clearing = t.clearing; exchanges = t.exchanges }
+
+pub released_has : (p : Private) (m : releases.Machine) (word : ℕ) → IsMachine p → p.phase ≡ Releasing m → Counted p.counts word → HasCleared p (with_released m (parts_of p) word)
+released_has p m word k e c =
+    let a : IsTesting p (Releasing m) = now_at p (Releasing m) k e in
+    let keeps : KeepsTold (parts_of p) (with_released m (parts_of p) word).parts = released_told m (parts_of p) word a.clearing.busy in
     record {
-      stays = released_stays (parts_of p) word (machine_wide p k) a.1 c k.counts a.0.clearing;
-      exchanged = a.0.exchanged + 1;
-      exchanges = released_exchanged (parts_of p) word a.0.exchanged a.1 a.0.clearing a.0.exchanges;
-      turns = omega (arith, a.0.turns);
-      due = a.0.due;
-      fits = fits_on (fits_self p k) keeps.numbers;
-      told = omega (arith, told_at p Releasing k e, keeps.told);
+      exchanged = a.exchanged + 1;
+      clears = released_clears m (parts_of p) word a.exchanged c (testing_clears p (Releasing m) k e a);
+      turns = omega (arith, a.turns);
+      fits = fits_on (fits_self p) keeps;
+      few_told = omega (arith, told_at p (Releasing m) k e, keeps.told);
     }
 
--- a word came out of a field of a member of the set that is freed
-pub freed_clears : (p : Private) (word : ℕ) → IsMachine p → p.phase ≡ Freeing → Counted p.counts word → HasCleared p (relieved (with_freed (parts_of p) word))
-freed_clears p word k e c =
-    let a : IsAt p Freeing = now_at p Freeing k e in
-    let keeps = relieved_told (parts_of p) word in
+pub freed_has : (p : Private) (m : frees.Machine) (word : ℕ) → IsMachine p → p.phase ≡ Freeing m → Counted p.counts word → HasCleared p (with_freed m (parts_of p) word)
+freed_has p m word k e c =
+    let a : IsTesting p (Freeing m) = now_at p (Freeing m) k e in
+    let keeps : KeepsTold (parts_of p) (with_freed m (parts_of p) word).parts = freed_told m (parts_of p) word a.clearing.busy in
     record {
-      stays = relieved_stays (parts_of p) word (machine_wide p k) a.1 c k.counts a.0.clearing;
-      exchanged = a.0.exchanged + 1;
-      exchanges = relieved_exchanged (parts_of p) word a.0.exchanged a.1 c k.counts a.0.clearing a.0.exchanges;
-      turns = omega (arith, a.0.turns);
-      due = a.0.due;
-      fits = fits_on (fits_self p k) keeps.numbers;
-      told = omega (arith, told_at p Freeing k e, keeps.told);
+      exchanged = a.exchanged + 1;
+      clears = freed_clears m (parts_of p) word a.exchanged c (testing_clears p (Freeing m) k e a);
+      turns = omega (arith, a.turns);
+      fits = fits_on (fits_self p) keeps;
+      few_told = omega (arith, told_at p (Freeing m) k e, keeps.told);
     }
 
--- a batch can be applied, and the parts are then clear
+-- a batch can be applied, and the counts are then tidy
 covered_falls : (s : State) (newer older : List Contents) → s.zeros ≡ [] → IsCovered s newer older → CanFall (all_up s (flat_map up_targets newer)) (flat_map down_targets older)
 covered_falls s newer older z c =
     let rises : CanRise s (flat_map up_targets newer) = batch_rises s newer older c.in_range c.fits in
     batch_falls s newer older z rises c.covered
 
-pub covered_clears : (w : Parts) (newer older : List Contents) → w.counts.zeros ≡ [] → IsCovered w.counts newer older → w.release.at ≡ None → w.freeing.at ≡ None → IsClearing w → IsClearing (record w { counts = batch w.counts newer older })
-covered_clears w newer older z c still unfreed i = batched_clear w newer older (covered_falls w.counts newer older z c) still unfreed i
-
 -- its zeros are to be released
-pub begun_clears : (p : Private) (t : ℕ) → IsMachine p → p.phase ≡ Returning t → t ≡ length p.newer → IsCovered p.counts p.newer p.older → HasCleared p (zeros_released false (batched p))
-begun_clears p t k e last c =
+pub batch_clears : (w : Parts) (newer older : List Contents) → 0 < w.fields → IsKept w.counts → IsCovered w.counts newer older → IsCleared w → ((x : ℕ) → x < length w.counts.slots → (slot_at w.counts x).released ≡ false) →
+    Clears (zeros_released false (record w { counts = batch w.counts newer older })) 0
+batch_clears w newer older wide k covered c none =
+    let s : State = w.counts in
+    let falls = covered_falls s newer older c.zeros covered in
+    let rests : KeepsRest s (batch s newer older) = batch_rests s newer older in
+    let tidy = batched_clear w.fields s newer older falls c.tidy c.ready c.work in
+    zeros_clear false (record w { counts = batch s newer older }) 0 wide (batch_kept s newer older falls k) tidy.0 tidy.1 (rests.work ∙ c.work)
+    (none_exchanged (record w { counts = batch s newer older }) (λ x l. rests.released x ∙ none x (omega (arith, l, rests.slots))))
+
+pub begun_has : (p : Private) (t : ℕ) → IsMachine p → p.phase ≡ Returning t → t ≡ length p.newer → IsCovered p.counts p.newer p.older → HasCleared p (zeros_released false (batched p))
+begun_has p t k e last c =
     let a : IsAt p (Returning t) = now_at p (Returning t) k e in
     let w : Parts = batched p in
-    let b : IsClearing w = covered_clears (parts_of p) p.newer p.older a.rest.zeros c a.rest.still a.rest.unfreed (resting_clear (parts_of p) a.rest) in
     let rests : KeepsRest p.counts w.counts = batch_rests p.counts p.newer p.older in
-    let none : HasExchanged w 0 = none_exchanged w (λ x l. rests.released x ∙ none_released a.rest x (omega (arith, l, rests.slots))) a.rest.still a.rest.unfreed in
-    let keeps : KeepsTold (parts_of p) (zeros_released false w) = told_on (same_told (parts_of p) w.counts p.release p.freeing rests.slots rests.sets refl refl) (zeros_told false w) in
+    let keeps : KeepsTold (parts_of p) (zeros_released false w).parts = told_on (same_told (parts_of p) w.counts rests.slots rests.sets) (zeros_told false w) in
     record {
-      stays = zeros_stay w (machine_wide p k) a.rest.still a.rest.unfreed (batch_kept p.counts p.newer p.older (covered_falls p.counts p.newer p.older a.rest.zeros c) k.counts) b;
       exchanged = 0;
-      exchanges = zeros_exchanged false w 0 a.rest.still b none;
+      clears = batch_clears (parts_of p) p.newer p.older k.some_fields k.counts c (resting_cleared (parts_of p) a.rest) (none_released a.rest);
       turns = omega (arith, a.turns, last);
-      due = a.due;
-      fits = fits_on (fits_self p k) keeps.numbers;
-      told = omega (arith, told_at p (Returning t) k e, keeps.told);
+      fits = fits_on (fits_self p) keeps;
+      few_told = omega (arith, told_at p (Returning t) k e, keeps.told);
     }

@@ -1,6 +1,6 @@
 -- What the two tests of a set say, and what says it. Where nothing is at work the last set can be refurbished, and where it passed its
 -- tests it can be freed; it was tested as the function of the parts says, however that is told.
-use Rattle.std.proofs.Common.{◌≡◌, ℕ, ◌+◌, ◌<◌, Bool, true, false, not, cond, eqb, List, [], ◌∷◌, count_by, arith, refl, sym, ◌∙◌, subst, ap, inl, inr, ◌-◌, Option, None, Some, length}
+use Rattle.std.proofs.Common.{◌≡◌, ℕ, ◌+◌, ◌<◌, Bool, true, false, not, cond, eqb, List, [], ◌∷◌, count_by, arith, refl, sym, ◌∙◌, subst, ap, inl, inr, ◌-◌, length}
 use Rattle.std.proofs.lemmas.List.Sums.{sum_by-cons}
 use Rattle.std.proofs.lemmas.Bool.{cases_lt, eqb-true, eq-eqb, ne_eqb, false≢true}
 use Rattle.std.proofs.lemmas.Bool.Decides.{eqb_tells}
@@ -14,18 +14,16 @@ use Rattle.rec_counts.proofs.Times.{one-none, one-same, times-cons, times-nil, t
 use Rattle.rec_counts.specs.Groups.{last_set}
 use Rattle.rec_counts.specs.Slot.{absent}
 use Rattle.rec_counts.specs.declared.slot.Slot.{Slot}
-use Rattle.rec_walk.specs.declared.member.Member.{Member}
 use Rattle.rec_release.specs.CycleFree.{IsFreeable}
-use Rattle.rec_release.specs.declared.at.At.{At}
 use Rattle.rec_sigma.specs.Judged.{AreOrange, cyclic_sum}
 use Rattle.rec_sigma.specs.Prepare.{members_of}
 use Rattle.rec_sigma.specs.Refurbish.{IsRefusable, LastRefurbished}
 use Rattle.rec_sigma.specs.Settling.{refurbished_of}
 use Rattle.rec_sigma.proofs.Renewals.{refurbished_last}
-use Rattle.rec_collector.specs.Testing.{touched, verdict_if, verdict_of, is_busy, is_busy_at, counted_by, last_tested, tested_as, zeros_released}
+use Rattle.rec_collector.specs.Testing.{Begun, touched, verdict_if, verdict_of, counted_by, last_tested, tested_as, zeros_released}
 use Rattle.rec_collector.specs.declared.verdict.Verdict.{Verdict}
 use Rattle.rec_collector.specs.declared.verdict.Verdict.TheVariants.{Passed, Touched, Held}
-use Rattle.rec_collector.specs.Clearing.{IsClearing, IsDone}
+use Rattle.rec_collector.specs.Clearing.{IsCleared}
 use Rattle.rec_collector.specs.Parts.{Parts}
 use Rattle.rec_collector.specs.Step.{IsTested}
 
@@ -89,44 +87,32 @@ held_verdict s number o h =
     ap (λ b. verdict_if b (eqb (cyclic_sum s number) 0)) (eq-eqb (touched s number) 0 (orange_untouched s number o))
     ∙ ap (verdict_if true) (ne_eqb (cyclic_sum s number) 0 (λ e. absurd (omega (arith, h, e))))
 
--- nothing is at work
-idle_at : (at : Option At) (m : Option Member) → is_busy_at at m ≡ false → (at ≡ None) × (m ≡ None)
-idle_at (Some a) m e = absurd (false≢true (sym e))
-idle_at None (Some m) e = absurd (false≢true (sym e))
-idle_at None None e = (refl, refl)
-
-pub none_busy : (w : Parts) → is_busy w ≡ false → (w.release.at ≡ None) × (w.freeing.at ≡ None)
-none_busy w e = idle_at w.release.at w.freeing.at e
-
 -- what is released and in the free list is no member
-member_unlisted : (w : Parts) (x : ℕ) → IsKept w.counts → IsClearing w → 0 < times x (last_set w.counts.sets) → times x w.counts.free ≡ 0
+member_unlisted : (w : Parts) (x : ℕ) → IsKept w.counts → IsCleared w → 0 < times x (last_set w.counts.sets) → times x w.counts.free ≡ 0
 member_unlisted w x k c h = elim (cases_lt 0 (times x w.counts.free)) [
   | inl l ↦ absurd (omega (arith, h, k.buffers x, ap one (c.unbuffered x l), times_part x w.counts.sets (length w.counts.sets - 1)))
   | inr l ↦ omega (arith, l)
 ]
 
-pub last_refusable : (w : Parts) → 0 < length w.counts.sets → is_busy w ≡ false → IsKept w.counts → IsClearing w → IsDone w → IsRefusable w.counts
-last_refusable w some idle k c d =
-    let e = none_busy w idle in
-    record {
-      some = some;
-      work = c.work e.1;
-      free = λ x h r. member_unlisted w x k c h;
-      zeros = λ x h r n. ap (times x) (d e.0 e.1) ∙ times-nil x;
-    }
+pub last_refusable : (w : Parts) → 0 < length w.counts.sets → IsKept w.counts → IsCleared w → IsRefusable w.counts
+last_refusable w some k c = record {
+  some = some;
+  work = c.work;
+  free = λ x h r. member_unlisted w x k c h;
+  zeros = λ x h r n. ap (times x) c.zeros ∙ times-nil x;
+}
 
-pub last_freeable : (w : Parts) → 0 < length w.counts.sets → is_busy w ≡ false → verdict_of w.counts (length w.counts.sets - 1) ≡ Passed → IsKept w.counts → IsClearing w → IsDone w → IsFreeable w.counts
-last_freeable w some idle passed k c d =
-    let e = none_busy w idle in
+pub last_freeable : (w : Parts) → 0 < length w.counts.sets → verdict_of w.counts (length w.counts.sets - 1) ≡ Passed → IsKept w.counts → IsCleared w → IsFreeable w.counts
+last_freeable w some passed k c =
     let orange = (verdict_passed w.counts (length w.counts.sets - 1) passed).0 in
     record {
       some = some;
-      work = c.work e.1;
+      work = c.work;
       orange = orange;
       unreleased = λ x h. (c.apart x (orange x h)).unreleased;
       unlisted = λ x h. member_unlisted w x k c h;
       counted = λ x h. (c.apart x (orange x h)).no_zero;
-      ready = c.release.ready;
+      ready = c.ready;
     }
 
 -- states with the same parts are the same
@@ -146,7 +132,7 @@ refurbished_once s t u a b =
     same_state slots (a.roots ∙ sym b.roots) (a.sets ∙ sym b.sets) (a.marked ∙ sym b.marked) (a.work ∙ sym b.work) (a.zeros ∙ sym b.zeros) (a.free ∙ sym b.free)
 
 -- the last set was tested as the function says
-pub is_last_tested : (v u : Parts) → IsKept v.counts → IsRefusable v.counts → IsTested v u → u ≡ last_tested v
+pub is_last_tested : (v : Parts) (u : Begun) → IsKept v.counts → IsRefusable v.counts → IsTested v u → u ≡ last_tested v
 unfolding last_tested
 is_last_tested v u k r (IsTested.passes orange none is) = is ∙ ap (λ verdict. tested_as verdict v) (sym (passed_verdict v.counts (length v.counts.sets - 1) orange none))
 is_last_tested v u k r (IsTested.fails_delta s touched last is) =

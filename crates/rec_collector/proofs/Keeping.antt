@@ -7,25 +7,27 @@ use Rattle.rec_word.specs.Mailbox.{crossing_word}
 use Rattle.rec_word.specs.declared.mailbox.Mailbox.TheVariants.{Retired}
 use Rattle.rec_log.specs.declared.contents.Contents.{Contents}
 use Rattle.rec_apply.specs.Batch.{batch}
-use Rattle.rec_release.specs.Sweep as sweeps
 use Rattle.rec_release.proofs.Kept.{sweep_kept}
-use Rattle.rec_collector.specs.Given.{IsSized, IsGiven, IsGivenAt}
-use Rattle.rec_collector.specs.Kept.{AreSized, AreSpare, IsAt, IsMachine, IsTold, swept_at, under_way, KeepsSizes, IsGathering, IsSweeping, IsTesting}
+use Rattle.rec_collector.specs.Works.{MayWork}
+use Rattle.rec_collector.specs.Given.{IsWork, IsSized, IsGiven, IsGivenAt}
+use Rattle.rec_collector.specs.Kept.{AreSized, AreSpare, IsAt, IsMachine, IsTold, swept_at, under_way, KeepsSizes, IsGathering, IsSweeping}
 use Rattle.rec_collector.specs.Next.{is_spent}
 use Rattle.rec_collector.specs.Private.{Private, blank, buffer_at, parts_of}
 use Rattle.rec_collector.specs.Took.{moved, swapped_at, took_at, batched, came, came_turn, ended_if, took_of, turn_at, turn_of, step_of, swapped_of}
 use Rattle.rec_collector.specs.declared.phase.Phase.{Phase}
 use Rattle.rec_collector.specs.declared.phase.Phase.TheVariants.{Idle, Looking, Swapping, Returning, Releasing, Freeing, Trying, Preparing, Sweeping, Closing, Opening}
-use Rattle.rec_collector.specs.Followed.{Next, followed}
-use Rattle.rec_collector.specs.Testing.{zeros_released}
+use Rattle.rec_collector.specs.Followed.{worked, Next, followed, with_freed, with_released}
+use Rattle.rec_collector.specs.Testing.{zeros_released, told}
 use Rattle.rec_collector.specs.declared.turn.Turn.{Turn}
 use Rattle.rec_collector.specs.declared.turn.Turn.TheVariants.{Moved}
 use Rattle.rec_collector.specs.Step.{IsBetween}
-use Rattle.rec_collector.proofs.Landing.{work_none, work_phase, machine_on, freed_at, now_at, told_at, under_way_at, Lands, landed, landed_keeps, landed_sizes, work_of}
-use Rattle.rec_collector.proofs.Following.{begun_clears, followed_lands, freed_clears, released_clears}
+use Rattle.rec_collector.proofs.Landing.{work_none, work_phase, machine_on, IsWorking, freed_at, now_at, told_at, under_way_at, Lands, landed, landed_keeps, landed_sizes, work_of}
+use Rattle.rec_collector.proofs.Following.{begun_has, followed_lands, freed_has, released_has}
 use Rattle.rec_collector.proofs.Trying.{prepared_lands, took_prepared, took_tried, tried_lands}
 use Rattle.rec_collector.proofs.Steps.{same_swapped, took_between}
 use Rattle.rec_collector.proofs.Sweeping.{ended_keeps, opening_keeps, sweeping_keeps}
+use Rattle.rec_release.specs.Sweep.{swept}
+use Rattle.rec_release.specs.Sweep as sweeps
 
 -- the next epoch is requested, if there is one
 idle_keeps : (p : Private) (word : ℕ) → IsMachine p → p.phase ≡ Idle → IsMachine (took_at p word Idle)
@@ -39,8 +41,8 @@ idle_keeps p word k e = go (is_spent p) refl
     go true s = k
     go false s =
         let a : IsAt p Idle = now_at p Idle k e in
-        machine_on p (p.epoch + 1) p.counts p.due p.freed (Looking 1) k (omega (arith, k.epoch, eqb-false (p.epoch + 1) (2 ^ 24) s)) (omega (arith, under_way_at p Idle k e)) (freed_at p Idle k e) k.counts (told_at p Idle k e)
-        (record { rest = a.0; first = omega arith; there = omega (arith, k.mutators); spares = a.1; turns = omega (arith, a.2); due = a.3 })
+        machine_on p (p.epoch + 1) p.counts p.freed (Looking 1) k (omega (arith, k.epoch, eqb-false (p.epoch + 1) (2 ^ 24) s)) (omega (arith, under_way_at p Idle k e)) (freed_at p Idle k e) k.counts (told_at p Idle k e)
+        (record { rest = a.0; first = omega arith; there = omega (arith, k.mutators); spares = a.1; turns = omega (arith, a.2) })
 
 -- the mailbox of a mutator is held where it has crossed
 look_keeps : (p : Private) (word t : ℕ) → IsMachine p → p.phase ≡ Looking t → IsMachine (took_at p word (Looking t))
@@ -51,22 +53,21 @@ look_keeps p word t k e = go (word == crossing_word p.epoch Retired)
     go false = k
     go true =
         let a : IsAt p (Looking t) = now_at p (Looking t) k e in
-        machine_on p p.epoch p.counts p.due p.freed (Swapping t) k k.epoch (under_way_at p (Looking t) k e) (freed_at p (Looking t) k e) k.counts (told_at p (Looking t) k e)
-        (record { rest = a.rest; first = a.first; there = a.there; spares = a.spares; turns = omega (arith, a.turns, a.first); due = a.due })
+        machine_on p p.epoch p.counts p.freed (Swapping t) k k.epoch (under_way_at p (Looking t) k e) (freed_at p (Looking t) k e) k.counts (told_at p (Looking t) k e)
+        (record { rest = a.rest; first = a.first; there = a.there; spares = a.spares; turns = omega (arith, a.turns, a.first) })
 
 -- the next mutator's mailbox follows
 next_keeps : (p : Private) (t : ℕ) → IsMachine p → p.phase ≡ Returning t → t ≢ length p.newer → IsMachine (moved p (Looking (t + 1)))
 next_keeps p t k e other =
     let a : IsAt p (Returning t) = now_at p (Returning t) k e in
     let same : t + 1 - 1 ≡ t = omega arith in
-    machine_on p p.epoch p.counts p.due p.freed (Looking (t + 1)) k k.epoch (under_way_at p (Returning t) k e) (freed_at p (Returning t) k e) k.counts (told_at p (Returning t) k e)
+    machine_on p p.epoch p.counts p.freed (Looking (t + 1)) k k.epoch (under_way_at p (Returning t) k e) (freed_at p (Returning t) k e) k.counts (told_at p (Returning t) k e)
     (record {
       rest = a.rest;
       first = omega arith;
       there = omega (arith, a.there, other);
       spares = subst (λ from. AreSpare p from) (sym same) a.spares;
       turns = omega (arith, a.turns);
-      due = a.due;
     })
 
 -- a buffer joins the newer ones
@@ -87,7 +88,8 @@ swap_keeps p t box z k e =
       epoch = k.epoch;
       collections = under_way_at p (Swapping t) k e;
       freed = freed_at p (Swapping t) k e;
-      widths = k.widths;
+      some_fields = k.some_fields;
+      few_fields = k.few_fields;
       rows = record { mutators = omega (arith, k.mutators, many); few = omega (arith, k.few, many); both = k.both ∙ sym many; newer = swap_sized p (t - 1) box z k.newer; older = k.older };
       counts = k.counts;
       told = told_at p (Swapping t) k e;
@@ -97,40 +99,66 @@ swap_keeps p t box z k e =
         there = omega (arith, a.there, many);
         spares = λ j f l. get_or-set_other p.newer (t - 1) j box (blank 0 0) (λ q. absurd (omega (arith, a.first, f, q))) ∙ a.spares j (omega (arith, f)) (omega (arith, l, many));
         turns = a.turns;
-        due = a.due;
       };
     }
 
--- the phases in which a word works on the parts
-abbrev pub IsWork : Private → Phase → Type 0
-IsWork p (Returning t) = t ≡ length p.newer
-IsWork p Releasing = Unit {0}
-IsWork p Freeing = Unit {0}
-IsWork p Trying = Unit {0}
-IsWork p Preparing = Unit {0}
-IsWork p _ = ⊥
-
--- what follows it lands
-work_lands : (p : Private) (word : ℕ) (phase : Phase) → IsMachine p → p.phase ≡ phase → IsGivenAt p word phase → IsWork p phase → Lands p (work_of p word phase)
+-- what follows a word that works on the parts lands
+work_lands : (p : Private) (word : ℕ) (phase : Phase) → IsMachine p → p.phase ≡ phase → IsGivenAt p word phase → IsWorking p phase → Lands p (work_of p word phase)
 unfolding IsGivenAt
-work_lands p word (Returning t) k e g last = followed_lands p _ (begun_clears p t k e last (g last))
-work_lands p word Releasing k e g at_work = followed_lands p _ (released_clears p word k e g)
-work_lands p word Freeing k e g at_work = followed_lands p _ (freed_clears p word k e g)
-work_lands p word Trying k e g at_work = tried_lands p _ (took_tried p word k e g)
-work_lands p word Preparing k e g at_work = prepared_lands p _ (took_prepared p word k e)
+work_lands p word (Returning t) k e g last = followed_lands p (zeros_released false (batched p)) (begun_has p t k e last (g last))
+work_lands p word (Releasing m) k e g at_work = followed_lands p (with_released m (parts_of p) word) (released_has p m word k e g)
+work_lands p word (Freeing m) k e g at_work = followed_lands p (with_freed m (parts_of p) word) (freed_has p m word k e g)
+work_lands p word (Trying m) k e g at_work = tried_lands p (parts_of p) _ (took_tried p m word k e g)
+work_lands p word (Preparing m) k e g at_work = prepared_lands p (parts_of p) _ (took_prepared p m word k e)
 work_lands p word _ k e g at_work = absurd at_work
 
-work_keeps : (p : Private) (word : ℕ) (phase : Phase) → IsMachine p → p.phase ≡ phase → IsGivenAt p word phase → IsWork p phase → IsMachine (landed p (work_of p word phase))
-work_keeps p word phase k e g at_work = landed_keeps p (work_of p word phase) phase k e (way phase at_work) (none phase at_work) (work_phase (λ f. under_way f ≡ 1) refl refl refl refl refl refl p word phase) (work_none p word phase) (work_lands p word phase k e g at_work)
+work_keeps : (p : Private) (word : ℕ) (phase : Phase) → IsMachine p → p.phase ≡ phase → IsGivenAt p word phase → IsWorking p phase → IsMachine (landed p (work_of p word phase))
+work_keeps p word phase k e g at_work =
+    landed_keeps p (work_of p word phase) phase k e (way phase at_work) (none phase at_work) (work_phase (λ f. under_way f ≡ 1) (λ m. refl) (λ m. refl) (λ m. refl) (λ m. refl) refl refl p word phase at_work) (work_none p word phase at_work) (work_lands p word phase k e g at_work)
   where
-    way : (phase : Phase) → IsWork p phase → under_way phase ≡ 1
+    way : (phase : Phase) → IsWorking p phase → under_way phase ≡ 1
     way Idle a = absurd a
     way _ a = refl
 
-    none : (phase : Phase) → IsWork p phase → swept_at phase ≡ 0
-    none (Sweeping n) a = absurd a
+    none : (phase : Phase) → IsWorking p phase → swept_at phase ≡ 0
+    none (Sweeping due n) a = absurd a
     none (Closing n) a = absurd a
     none _ a = refl
+
+-- what a word may be where a machine is at work, and what it is given to
+pub may_work : (p : Private) (word : ℕ) (phase : Phase) → IsMachine p → p.phase ≡ phase → IsWork phase → IsGivenAt p word phase → MayWork (parts_of p) word phase
+unfolding IsGivenAt
+may_work p word (Releasing m) k e at_work g = let a : IsAt p (Releasing m) = now_at p (Releasing m) k e in (record { clearing = a.clearing; exchanged = a.exchanged; exchanges = a.exchanges; few = omega (arith, told_at p (Releasing m) k e, k.collections, k.epoch) }, g)
+may_work p word (Freeing m) k e at_work g = let a : IsAt p (Freeing m) = now_at p (Freeing m) k e in (record { clearing = a.clearing; exchanged = a.exchanged; exchanges = a.exchanges; few = omega (arith, told_at p (Freeing m) k e, k.collections, k.epoch) }, g)
+may_work p word (Trying m) k e at_work g = let a : IsAt p (Trying m) = now_at p (Trying m) k e in (a.busy, a.kept, g)
+may_work p word (Preparing m) k e at_work g = let a : IsAt p (Preparing m) = now_at p (Preparing m) k e in (a.busy, a.kept, g)
+may_work p word _ k e at_work g = absurd at_work
+
+pub works_there : (p : Private) (phase : Phase) → IsWork phase → IsWorking p phase
+works_there p (Returning t) w = absurd w
+works_there p (Releasing m) w = tt
+works_there p (Freeing m) w = tt
+works_there p (Trying m) w = tt
+works_there p (Preparing m) w = tt
+works_there p _ w = absurd w
+
+-- what follows such a word, and what is learnt and answered then
+pub work_is : (p : Private) (word : ℕ) (phase : Phase) → IsWork phase → work_of p word phase ≡ worked (parts_of p) word phase
+work_is p word (Returning t) w = absurd w
+work_is p word (Releasing m) w = refl
+work_is p word (Freeing m) w = refl
+work_is p word (Trying m) w = refl
+work_is p word (Preparing m) w = refl
+work_is p word _ w = absurd w
+
+pub work_took : (p : Private) (word : ℕ) (phase : Phase) → IsWork phase → (came p (work_of p word phase) ≡ took_at p word phase) × (came_turn p.epoch (work_of p word phase).phase ≡ turn_at p word phase)
+unfolding took_at turn_at
+work_took p word (Returning t) w = absurd w
+work_took p word (Releasing m) w = (refl, refl)
+work_took p word (Freeing m) w = (refl, refl)
+work_took p word (Trying m) w = (refl, refl)
+work_took p word (Preparing m) w = (refl, refl)
+work_took p word _ w = absurd w
 
 -- a mailbox was given back: with the last one the batch was applied, and else another one follows
 pub returned_as : (p now : Private) (t : ℕ) (b : Bool) → p ≡ now → (t == length p.newer) ≡ b →
@@ -159,7 +187,7 @@ learnt p now word q turn phase v e took told =
     (took ∙ sym (ap (took_at now word) f), told ∙ sym (ap (turn_at now word) f))
 
 -- a turn on the parts, as its calls tell: it came to `n`, which is what follows
-module _ (p now : Private) (word : ℕ) (phase : Phase) (n : Next) (k : IsMachine p) (v : p ≡ now) (e : now.phase ≡ phase) (g : IsGivenAt now word phase) (at_work : IsWork p phase) (is : n ≡ work_of p word phase) where
+module _ (p now : Private) (word : ℕ) (phase : Phase) (n : Next) (k : IsMachine p) (v : p ≡ now) (e : now.phase ≡ phase) (g : IsGivenAt now word phase) (at_work : IsWorking p phase) (is : n ≡ work_of p word phase) where
   abbrev at : p.phase ≡ phase
   at = ap (λ (q : Private). q.phase) v ∙ e
 
@@ -183,7 +211,7 @@ ended_if_keeps p (Closing n) k e = ended_keeps p n k e
 ended_if_keeps p _ k e = k
 
 -- a turn that works on the parts
-came_keeps : (p : Private) (word : ℕ) (phase : Phase) → IsMachine p → p.phase ≡ phase → IsGivenAt p word phase → IsWork p phase → IsMachine (came p (work_of p word phase))
+came_keeps : (p : Private) (word : ℕ) (phase : Phase) → IsMachine p → p.phase ≡ phase → IsGivenAt p word phase → IsWorking p phase → IsMachine (came p (work_of p word phase))
 came_keeps p word phase k e g at_work = let n : Next = work_of p word phase in ended_if_keeps (landed p n) n.phase (work_keeps p word phase k e g at_work) refl
 
 -- a mailbox was given back
@@ -203,7 +231,7 @@ took_keeps_at p word (Looking t) k e g = look_keeps p word t k e
 took_keeps_at p word (Swapping t) k e g = absurd g
 took_keeps_at p word (Returning t) k e g = return_keeps p word t k e g
 took_keeps_at p word Opening k e g = opening_keeps p k e
-took_keeps_at p word (Sweeping n) k e g = sweeping_keeps p n word k e (sweep_kept p.counts p.due k.counts)
+took_keeps_at p word (Sweeping due n) k e g = sweeping_keeps p due n word k e (sweep_kept p.counts due k.counts)
 took_keeps_at p word (Closing n) k e g = ended_keeps p n k e
 took_keeps_at p word phase k e g = came_keeps p word phase k e g tt
 
@@ -226,29 +254,20 @@ machine_kept p word box k between given sized = kept_at p word box p.phase k ref
 
 module _ (p : Private) (b : Bool) where
   gathering_on : (t given_back made : ℕ) → IsGathering p t given_back made → IsGathering (record p { offers = b }) t given_back made
-  gathering_on t given_back made g = record { rest = g.rest; first = g.first; there = g.there; spares = g.spares; turns = g.turns; due = g.due }
-
-  testing_on : IsTesting p → IsTesting (record p { offers = b })
-  testing_on t = record {
-    clearing = record { tidy = t.clearing.tidy; idle = t.clearing.idle; unprepared = t.clearing.unprepared; release = t.clearing.release; freeing = t.clearing.freeing; one = t.clearing.one; work = t.clearing.work };
-    exchanged = t.exchanged;
-    exchanges = record { gone = t.exchanges.gone; are = t.exchanges.are; few = t.exchanges.few };
-    turns = t.turns;
-    due = t.due;
-  }
+  gathering_on t given_back made g = record { rest = g.rest; first = g.first; there = g.there; spares = g.spares; turns = g.turns }
 
   sweeping_on : (swept made : ℕ) → IsSweeping p swept made → IsSweeping (record p { offers = b }) swept made
   sweeping_on swept made s = record { before = s.before; left = s.left; turns = s.turns }
 
   at_on : (phase : Phase) → IsAt p phase → IsAt (record p { offers = b }) phase
   at_on Idle a = a
-  at_on Releasing a = (testing_on a.0, a.1)
-  at_on Freeing a = (testing_on a.0, a.1)
-  at_on Trying a = record { on_trial = a.on_trial; busy = a.busy; due = a.due; turns = a.turns }
-  at_on Preparing a = record { preparation = a.preparation; busy = a.busy; due = a.due; turns = a.turns }
-  at_on Opening a = (sweeping_on 0 0 a.0, a.1, a.2)
-  at_on (Sweeping n) a = (sweeping_on n _ a.0, a.1, a.2)
-  at_on (Closing n) a = (sweeping_on n _ a.0, a.1, a.2)
+  at_on (Releasing m) a = record { clearing = record { fields = a.clearing.fields; busy = a.clearing.busy; tidy = a.clearing.tidy; release = a.clearing.release; work = a.clearing.work }; exchanged = a.exchanged; exchanges = record { gone = a.exchanges.gone; are = a.exchanges.are; few = a.exchanges.few }; turns = a.turns }
+  at_on (Freeing m) a = record { clearing = record { fields = a.clearing.fields; busy = a.clearing.busy; tidy = a.clearing.tidy; freeing = a.clearing.freeing }; exchanged = a.exchanged; exchanges = record { gone = a.exchanges.gone; are = a.exchanges.are; few = a.exchanges.few }; turns = a.turns }
+  at_on (Trying m) a = record { fields = a.fields; on_trial = a.on_trial; busy = a.busy; turns = a.turns }
+  at_on (Preparing m) a = record { fields = a.fields; preparation = a.preparation; busy = a.busy; turns = a.turns }
+  at_on Opening a = (sweeping_on 0 0 a.0, a.1)
+  at_on (Sweeping due n) a = (sweeping_on n _ a.0, a.1, a.2)
+  at_on (Closing n) a = (sweeping_on n _ a.0, a.1)
   at_on _ a = gathering_on _ _ _ a
 
   told_on : (phase : Phase) → IsTold p phase → IsTold (record p { offers = b }) phase
@@ -260,7 +279,8 @@ module _ (p : Private) (b : Bool) where
     epoch = k.epoch;
     collections = k.collections;
     freed = k.freed;
-    widths = k.widths;
+    some_fields = k.some_fields;
+    few_fields = k.few_fields;
     rows = k.rows;
     counts = k.counts;
     told = told_on p.phase k.told;

@@ -1,19 +1,27 @@
 -- Where a turn lands that works on the parts of the machine: the phase that it came to, and what holds there.
-use Rattle.std.proofs.Common.{◌≡◌, ℕ, ◌+◌, ◌*◌, ◌^◌, ◌<◌, ◌≤◌, false, Option, None, Some, List, [], ◌∷◌, length, refl, arith, sym, ap, subst, ◌∙◌}
+use Rattle.std.proofs.Common.{◌≡◌, ℕ, ◌+◌, ◌*◌, ◌^◌, ◌<◌, ◌≤◌, false, Option, None, Some, List, [], ◌∷◌, length, refl, arith, ap, subst, ◌∙◌, IfSome, Bool, slice_get, true}
 use Rattle.rec_counts.specs.Counts.{State, IsKept as IsKeptCounts}
 use Rattle.rec_release.specs.declared.at.At.{At}
-use Rattle.rec_walk.specs.declared.member.Member.{Member}
-use Rattle.rec_sigma.specs.declared.at.At as loads
-use Rattle.rec_trial.specs.Trial.{next_of as trial_next}
-use Rattle.rec_collector.specs.Followed.{Next, followed, prep_started, prepared, prepared_at, relieved, tested_on, trial_started, tried, tried_at, with_freed, with_loaded, with_released, with_tried}
-use Rattle.rec_collector.specs.Kept.{all_fields, HaveFields, IsAt, IsMachine, IsTold, KeepsSizes, swept_at, under_way}
-use Rattle.rec_collector.specs.Parts.{Parts}
+use Rattle.rec_trial.specs.Trial.{Machine as Trial}
+use Rattle.rec_collector.specs.Followed.{Next, followed, prepared, prepared_at, tried, tried_at, with_freed, with_released, going_on, gone_on, relieved_at, with_offers, worked, prep_started}
+use Rattle.rec_collector.specs.Kept.{all_fields, IsAt, IsMachine, IsTold, KeepsSizes, swept_at, under_way}
+use Rattle.rec_collector.specs.Parts.{Parts, new_release}
 use Rattle.rec_collector.specs.Private.{Private, parts_of, with_parts}
-use Rattle.rec_collector.specs.Testing.{tested, zeros_released}
+use Rattle.rec_collector.specs.Testing.{tested, zeros_released, Begun, freeing_at, last_tested, releasing_at}
 use Rattle.rec_collector.specs.Took.{batched, moved}
 use Rattle.rec_collector.specs.declared.phase.Phase.{Phase}
-use Rattle.rec_collector.specs.declared.phase.Phase.TheVariants.{Idle, Releasing, Freeing, Trying, Preparing, Opening, Closing}
-use Rattle.rec_collector.proofs.Counting.{KeepsNumbers}
+use Rattle.rec_collector.specs.declared.phase.Phase.TheVariants.{Idle, Releasing, Freeing, Trying, Preparing, Opening, Closing, Returning}
+use Rattle.rec_collector.specs.Given.{IsWork}
+use Rattle.rec_collector.proofs.Goings.{last_by, tested_all, still, last_refused}
+use Rattle.rec_release.specs.Sweep.{swept}
+use Rattle.rec_walk.specs.declared.member.Member.{Member}
+use Rattle.rec_walk.specs.Walk.{first_member}
+use Rattle.rec_counts.specs.Groups.{last_set}
+use Rattle.rec_sigma.specs.declared.at.At as loads
+use Rattle.rec_release.specs.CycleFree as frees
+use Rattle.rec_release.specs.Release as releases
+use Rattle.rec_sigma.specs.Prepare as preps
+use Rattle.rec_trial.specs.Trial as trials
 
 -- what holds in the phase of a machine
 pub now_at : (p : Private) (phase : Phase) → IsMachine p → p.phase ≡ phase → IsAt p phase
@@ -29,78 +37,97 @@ freed_at p phase k e = subst (λ (f : Phase). p.freed ≤ 2 ^ 16 * p.collections
 pub told_at : (p : Private) (phase : Phase) → IsMachine p → p.phase ≡ phase → IsTold p phase
 told_at p phase k e = subst (λ (f : Phase). IsTold p f) e k.told
 
--- what holds of each phase in which a preparation, a trial or a release may end, holds of the phase that follows it
-module _ (P : Phase → Type 0) (preparing : P Preparing) (opening : P Opening) (closing : P (Closing 0)) where
-  pub prepared_phase : (w : Parts) → P (prepared w).phase
+-- What holds of each phase to which a word may lead holds of the phase that follows a preparation, a trial, and the tests of sets.
+module _ (P : Phase → Type 0) (preparing : (m : preps.Machine) → P (Preparing m)) (opening : P Opening) (closing : P (Closing 0)) where
+  pub prepared_phase : (w : Parts) (v : preps.Work) → P (prepared w v).phase
   unfolding prepared
-  prepared_phase w = go w.prep.at w.counts.free
+  prepared_phase w v = go v.machine.at v.counts.free
     where
-      go : (at : Option loads.At) (free : List ℕ) → P (prepared_at (record w { counts = record w.counts { free = free } }) at).phase
-      go (Some a) free = preparing
+      go : (at : Option loads.At) (free : List ℕ) → P (prepared_at (record w { counts = record v.counts { free = free } }) v.machine at).phase
+      go (Some a) free = preparing v.machine
       go None [] = closing
       go None (x ∷ free) = opening
 
-  module _ (trying : P Trying) where
-    pub tried_phase : (w : Parts) → P (tried w).phase
+  module _ (trying : (m : Trial) → P (Trying m)) where
+    pub tried_phase : (w : Parts) (v : trials.Work) → P (tried w v).phase
     unfolding tried
-    tried_phase w = elim (trial_next w.trial) as (λ op. P (tried_at w op).phase) [ None ↦ prepared_phase (prep_started w) | Some o ↦ trying ]
+    tried_phase w v = elim (trials.next_of v.machine) as (λ op. P (tried_at (record w { counts = v.counts }) v.machine op).phase) [ None ↦ prepared_phase (record w { counts = v.counts }) (prep_started (record w { counts = v.counts })) | Some o ↦ trying v.machine ]
 
-    pub followed_phase : P Freeing → P Releasing → (w : Parts) → P (followed w).phase
-    unfolding followed
-    followed_phase freeing releasing w = go v.release.at v.freeing.at
-      where
-        v : Parts
-        v = tested (length w.counts.sets) w
+    module _ (freeing : (m : frees.Machine) → P (Freeing m)) (releasing : (m : releases.Machine) → P (Releasing m)) where
+      releasing_phase : (m : releases.Machine) (at : Option At) → IfSome (releasing_at m at) P
+      releasing_phase m None = tt
+      releasing_phase m (Some a) = releasing m
 
-        go : (at : Option At) (member : Option Member) → P (tested_on v at member).phase
-        go at (Some m) = freeing
-        go (Some a) None = releasing
-        go None None = tried_phase (trial_started v)
+      freeing_phase : (m : frees.Machine) (at : Option Member) → IfSome (freeing_at m at) P
+      freeing_phase m None = tt
+      freeing_phase m (Some a) = freeing m
 
--- what a word makes of the parts, by phase, where they are at work
+      -- where the zeros are to be released
+      pub zeros_phase : (lowers : Bool) (w : Parts) → IfSome (zeros_released lowers w).phase P
+      zeros_phase lowers w = let v : releases.Work = releases.started_of (new_release w.fields) lowers w.counts in releasing_phase v.machine v.machine.at
+
+      relieved_phase : (w : Parts) (m : frees.Machine) (at : Option Member) → IfSome (relieved_at w m at).phase P
+      relieved_phase w m None = zeros_phase true w
+      relieved_phase w m (Some a) = freeing m
+
+      last_phase : (w : Parts) → IfSome (last_tested w).phase P
+      last_phase w =
+          let at : Option Member = first_member (slice_get (last_set w.counts.sets) 0) in
+          last_by (λ b. IfSome b.phase P) w (λ e. freeing_phase (record { fields = w.fields; at = at }) at) (λ verdict. zeros_phase true (last_refused verdict w))
+
+      pub followed_phase : (b : Begun) → IfSome b.phase P → P (followed b).phase
+      unfolding followed
+      followed_phase b h = go (tested n b) (tested_all (λ c. IfSome c.phase P) (λ w some i. last_phase w) n b (omega arith) h)
+        where
+          n : ℕ
+          n = length b.parts.counts.sets
+
+          go : (c : Begun) → IfSome c.phase P → P (gone_on c).phase
+          go c i = by c.phase i
+            where
+              by : (o : Option Phase) → IfSome o P → P (going_on c.parts o).phase
+              by None i = tried_phase (with_offers c.parts) (trials.started_of c.parts.fields (with_offers c.parts).counts)
+              by (Some phase) i = i
+
+      -- what a word makes of the parts, by phase
+      pub worked_phase : (w : Parts) (word : ℕ) (phase : Phase) → IsWork phase → P (worked w word phase).phase
+      worked_phase w word (Releasing m) at_work = let v : releases.Work = releases.took_of (record { machine = m; counts = w.counts }) word in followed_phase (with_released m w word) (releasing_phase v.machine v.machine.at)
+      worked_phase w word (Freeing m) at_work = let v : frees.Work = frees.took_of (record { machine = m; counts = w.counts }) word in followed_phase (with_freed m w word) (relieved_phase (record w { counts = v.counts }) v.machine v.machine.at)
+      worked_phase w word (Trying m) at_work = tried_phase w (trials.took_of (record { machine = m; counts = w.counts }) word)
+      worked_phase w word (Preparing m) at_work = prepared_phase w (preps.took_of (record { machine = m; counts = w.counts }) word)
+      worked_phase w word _ at_work = absurd at_work
+
+-- the phases in which a word works on the parts, and what follows it there
+abbrev pub IsWorking : Private → Phase → Type 0
+IsWorking p (Returning t) = t ≡ length p.newer
+IsWorking p phase = IsWork phase
+
 abbrev pub work_of : Private → (word : ℕ) → Phase → Next
-work_of p word Releasing = followed (with_released (parts_of p) word)
-work_of p word Freeing = followed (relieved (with_freed (parts_of p) word))
-work_of p word Trying = tried (with_tried (parts_of p) word)
-work_of p word Preparing = prepared (with_loaded (parts_of p) word)
-work_of p word _ = followed (zeros_released false (batched p))
+work_of p word (Returning t) = followed (zeros_released false (batched p))
+work_of p word phase = worked (parts_of p) word phase
 
--- and what holds of the phase that follows
-pub work_phase : (P : Phase → Type 0) → P Releasing → P Freeing → P Trying → P Preparing → P Opening → P (Closing 0) → (p : Private) (word : ℕ) (phase : Phase) → P (work_of p word phase).phase
-work_phase P r f t l o c p word Trying = tried_phase P l o c t (with_tried (parts_of p) word)
-work_phase P r f t l o c p word Preparing = prepared_phase P l o c (with_loaded (parts_of p) word)
-work_phase P r f t l o c p word _ = followed_phase P l o c t f r _
+-- what holds of each phase that may follow
+pub work_phase : (P : Phase → Type 0) → ((m : releases.Machine) → P (Releasing m)) → ((m : frees.Machine) → P (Freeing m)) → ((m : Trial) → P (Trying m)) → ((m : preps.Machine) → P (Preparing m)) → P Opening → P (Closing 0) →
+    (p : Private) (word : ℕ) (phase : Phase) → IsWorking p phase → P (work_of p word phase).phase
+work_phase P r f t l o c p word (Returning u) at_work = followed_phase P l o c t f r (zeros_released false (batched p)) (zeros_phase P l o c t f r false (batched p))
+work_phase P r f t l o c p word (Releasing m) at_work = worked_phase P l o c t f r (parts_of p) word (Releasing m) at_work
+work_phase P r f t l o c p word (Freeing m) at_work = worked_phase P l o c t f r (parts_of p) word (Freeing m) at_work
+work_phase P r f t l o c p word (Trying m) at_work = worked_phase P l o c t f r (parts_of p) word (Trying m) at_work
+work_phase P r f t l o c p word (Preparing m) at_work = worked_phase P l o c t f r (parts_of p) word (Preparing m) at_work
+work_phase P r f t l o c p word _ at_work = absurd at_work
 
 -- nothing is swept yet where the parts were at work
-pub work_none : (p : Private) (word : ℕ) (phase : Phase) → swept_at (work_of p word phase).phase ≡ 0
-work_none p word phase = work_phase (λ f. swept_at f ≡ 0) refl refl refl refl refl refl p word phase
+pub work_none : (p : Private) (word : ℕ) (phase : Phase) → IsWorking p phase → swept_at (work_of p word phase).phase ≡ 0
+work_none p word phase at_work = work_phase (λ f. swept_at f ≡ 0) (λ m. refl) (λ m. refl) (λ m. refl) (λ m. refl) refl refl p word phase at_work
 
 -- these parts have as many slots, and as many fields a slot, as the machine
 pub record Fits (p : Private) (w : Parts) : Type 0 where
   pub slots : length w.counts.slots ≡ length p.counts.slots
-  pub release_fields : w.release.fields ≡ p.release.fields
-  pub widths : HaveFields w.release.fields w.trial.fields w.freeing.fields w.prep.fields
-  pub open widths use *
-
-pub fits_self : (p : Private) → IsMachine p → Fits p (parts_of p)
-fits_self p k = record { slots = refl; release_fields = refl; widths = k.widths }
-
-pub fits_on : {p : Private} {w v : Parts} → Fits p w → KeepsNumbers w v → Fits p v
-fits_on f k = record {
-  slots = k.slots ∙ f.slots;
-  release_fields = k.release_fields ∙ f.release_fields;
-  widths = record {
-    fields = omega (arith, f.fields, k.release_fields);
-    trial_fields = k.trial_fields ∙ f.trial_fields ∙ sym k.release_fields;
-    freeing_fields = k.freeing_fields ∙ f.freeing_fields ∙ sym k.release_fields;
-    prep_fields = k.prep_fields ∙ f.prep_fields ∙ sym k.release_fields;
-    few_fields = omega (arith, f.few_fields, k.release_fields);
-  };
-}
+  pub fields : w.fields ≡ p.fields
 
 -- so as many fields in all
-pub fits_all : (p : Private) (w : Parts) → Fits p w → length w.counts.slots * w.release.fields ≡ all_fields p
-fits_all p w f = ap (λ n. n * w.release.fields) f.slots ∙ ap (λ n. length p.counts.slots * n) f.release_fields
+pub fits_all : (p : Private) (w : Parts) → Fits p w → length w.counts.slots * w.fields ≡ all_fields p
+fits_all p w f = ap (λ n. n * w.fields) f.slots ∙ ap (λ n. length p.counts.slots * n) f.fields
 
 -- one turn was made, which came to these parts and this phase
 abbrev pub landed : Private → Next → Private
@@ -118,7 +145,8 @@ landed_keeps p n phase k e under none on still l = record {
   epoch = k.epoch;
   collections = omega (arith, under_way_at p phase k e, under, on);
   freed = omega (arith, freed_at p phase k e, none, still);
-  widths = l.fits.widths;
+  some_fields = omega (arith, k.some_fields, l.fits.fields);
+  few_fields = omega (arith, k.few_fields, l.fits.fields);
   rows = k.rows;
   counts = l.counts;
   told = l.told;
@@ -127,12 +155,12 @@ landed_keeps p n phase k e under none on still l = record {
 
 -- the numbers stay
 pub landed_sizes : (p q : Private) (n : Next) → Lands p n → KeepsSizes (landed p n) q → KeepsSizes p q
-landed_sizes p q n l s = record { slots = s.slots ∙ l.fits.slots; fields = s.fields ∙ l.fits.release_fields; registers = s.registers; capacity = s.capacity; mutators = s.mutators }
+landed_sizes p q n l s = record { slots = s.slots ∙ l.fits.slots; fields = s.fields ∙ l.fits.fields; registers = s.registers; capacity = s.capacity; mutators = s.mutators }
 
--- a turn that leaves the buffers, the machines and the sets that were tested
-pub machine_on : (p : Private) (epoch : ℕ) (s : State) (due : Option ℕ) (freed : ℕ) (next : Phase) → IsMachine p → epoch < 2 ^ 24 → p.collections + under_way next ≤ epoch → freed ≤ 2 ^ 16 * p.collections + swept_at next → IsKeptCounts s →
-    (let q : Private = moved (record p { epoch = epoch; counts = s; due = due; freed = freed }) next in IsTold q next → IsAt q next → IsMachine q)
-machine_on p epoch s due freed next k fits under swept counts told now = record { epoch = fits; collections = under; freed = swept; widths = k.widths; rows = k.rows; counts = counts; told = told; now = now }
+-- a turn that leaves the buffers and the sets that were tested
+pub machine_on : (p : Private) (epoch : ℕ) (s : State) (freed : ℕ) (next : Phase) → IsMachine p → epoch < 2 ^ 24 → p.collections + under_way next ≤ epoch → freed ≤ 2 ^ 16 * p.collections + swept_at next → IsKeptCounts s →
+    (let q : Private = moved (record p { epoch = epoch; counts = s; freed = freed }) next in IsTold q next → IsAt q next → IsMachine q)
+machine_on p epoch s freed next k fits under swept counts told now = record { epoch = fits; collections = under; freed = swept; some_fields = k.some_fields; few_fields = k.few_fields; rows = k.rows; counts = counts; told = told; now = now }
 
 -- at most one collection is under way
 pub under_way_most : (phase : Phase) → under_way phase ≤ 1

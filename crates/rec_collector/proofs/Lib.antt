@@ -4,6 +4,7 @@ pub mod Clearing
 pub mod Counting
 pub mod Exchanging
 pub mod Following
+pub mod Freeing
 pub mod Goings
 pub mod Judging
 pub mod Keeping
@@ -15,6 +16,7 @@ pub mod Rows
 pub mod Sends
 pub mod Steps
 pub mod Sweeping
+pub mod Testing
 pub mod Tidy
 pub mod Touched
 pub mod Trying

@@ -48,16 +48,13 @@ opened_keeps slots fields registers mutators capacity epoch f few r m small e k 
     let p : Private = opened slots fields registers mutators capacity epoch in
     let newer : length (replicate mutators (blank registers capacity)) ≡ mutators = length-replicate mutators (blank registers capacity) in
     let older : length (replicate mutators (retired (first_registers registers) capacity)) ≡ mutators = length-replicate mutators (retired (first_registers registers) capacity) in
-    let tried : AreTried p.counts p.release p.freeing p.trial = record {
+    let tried : AreTried p.counts = record {
       untried = record { marked = refl; no_gray = opened_each slots mutators (λ (v : Slot). is_gray v.colour ≡ false) refl refl refl; no_white = opened_each slots mutators (λ (v : Slot). is_white v.colour ≡ false) refl refl refl };
-      idle = refl;
       apart = λ x o. absurd (false≢true (sym (opened_each slots mutators (λ (v : Slot). is_orange v.colour ≡ false) refl refl refl x) ∙ ap is_orange o));
       counted = opened_each slots mutators (λ (v : Slot). v.released ≡ false → 0 < v.count) (λ r. m) (λ r. omega arith) (λ r. absurd (false≢true (sym r)));
       zeros = refl;
       roots = refl;
       work = refl;
-      still = refl;
-      unfreed = refl;
       listed = λ x l r. absurd (false≢true (sym (opened_none slots mutators x l) ∙ r));
       unbuffered = λ x h. absurd (omega (arith, h, times-nil x));
     } in
@@ -65,7 +62,8 @@ opened_keeps slots fields registers mutators capacity epoch f few r m small e k 
       epoch = e;
       collections = omega arith;
       freed = omega arith;
-      widths = record { fields = f; trial_fields = refl; freeing_fields = refl; prep_fields = refl; few_fields = few };
+      some_fields = f;
+      few_fields = few;
       rows = record {
         mutators = omega (arith, m, newer);
         few = omega (arith, small, newer);
@@ -77,11 +75,10 @@ opened_keeps slots fields registers mutators capacity epoch f few r m small e k 
       told = omega arith;
       now = (
         record {
-          prepared = record { tried = tried; unprepared = refl; outside = none_outside fields (opened_counts slots mutators) refl (opened_each slots mutators (λ (v : Slot). v.set ≡ None) refl refl refl) };
+          prepared = record { tried = tried; outside = none_outside fields (opened_counts slots mutators) refl (opened_each slots mutators (λ (v : Slot). v.set ≡ None) refl refl refl) };
           free = refl;
         },
         λ i from l. get_or-replicate mutators i (blank registers capacity) (blank 0 0) (omega (arith, l, newer)),
-        refl,
         refl,
       );
     }

@@ -292,17 +292,17 @@ module _ (s : State) (newer older : List Contents) (y : ℕ) (r : (slot_at s y).
   )
 
 -- the members of the sets of a machine
-outside_at : (p : Private) (phase : Phase) → IsAt p phase → HasSets phase → AreOutside p.prep.fields p.counts
+outside_at : (p : Private) (phase : Phase) → IsAt p phase → HasSets phase → AreOutside p.fields p.counts
 outside_at p (Looking t) a h = a.rest.outside
 outside_at p (Swapping t) a h = a.rest.outside
 outside_at p (Returning t) a h = a.rest.outside
-outside_at p Releasing a h = a.0.clearing.outside
-outside_at p Freeing a h = a.0.clearing.outside
-outside_at p Trying a h = absurd h
-outside_at p Preparing a h = absurd h
+outside_at p (Releasing release) a h = a.clearing.outside
+outside_at p (Freeing freeing) a h = a.clearing.outside
+outside_at p (Trying trial) a h = absurd h
+outside_at p (Preparing prep) a h = absurd h
 outside_at p _ a h = a.0.outside
 
-pub machine_outside : (p : Private) → IsMachine p → HasSets p.phase → AreOutside p.prep.fields p.counts
+pub machine_outside : (p : Private) → IsMachine p → HasSets p.phase → AreOutside p.fields p.counts
 machine_outside p k h = outside_at p p.phase k.now h
 
 -- it is the true count now, less the words that were seen

@@ -8,13 +8,18 @@ use Rattle.rec_sigma.proofs.Sends.{prepare_send}
 use Rattle.rec_trial.proofs.Sends.{trial_send}
 use Rattle.rec_collector.specs.contracts.machine.Machine as machine
 use Rattle.rec_collector.specs.contracts.parts.Parts as parts
+use Rattle.rec_collector.specs.contracts.phase.Phase as phase
 
 -- each field of the parts may
 each_part : AllSend (fields parts.TheInside.the_type)
-each_part = (search (counts_send, sendable) depth 20, (search (release_send, sendable) depth 20, (search (freeing_send, sendable) depth 20, (search (trial_send, sendable) depth 20, (search (prepare_send, sendable) depth 20, (search sendable depth 20, (search sendable, tt)))))))
+each_part = (search (counts_send, sendable) depth 20, (search sendable depth 20, (search sendable depth 20, (search sendable, tt))))
 
 parts_send : IsSend parts.the_row
 parts_send = view_send _ _ _ _ _ (recorded_send _ _ _ (parts.TheInside.the_type).to_one (struct_send (shape parts.TheInside.the_type) each_part))
 
+-- and each machine that a phase holds
+phases : IsSend phase.the_field.row
+phases = search (release_send, freeing_send, trial_send, prepare_send, sweep_send, sendable) depth 40
+
 pub machine_send : IsSend machine.the_row
-machine_send = search (parts_send, sweep_send, sendable, crosses) depth 60
+machine_send = search (parts_send, phases, sendable, crosses) depth 60

@@ -7,37 +7,43 @@ use Rattle.rec_word.specs.Word.{target_of}
 use Rattle.rec_word.specs.declared.op.Op.{Op}
 use Rattle.rec_log.specs.declared.contents.Contents.{Contents}
 use Rattle.rec_apply.specs.Batch.{batch}
-use Rattle.rec_apply.specs.Targets.{added, taken}
+use Rattle.rec_apply.specs.Targets.{added, taken, named}
 use Rattle.rec_apply.proofs.Whole.{batch_rests}
 use Rattle.rec_counts.specs.declared.colour.Colour.TheVariants.{Orange}
 use Rattle.rec_counts.specs.declared.slot.Slot.{Slot}
 use Rattle.rec_counts.specs.Counts.{State, slot_at}
 use Rattle.rec_counts.specs.Lists.{one}
 use Rattle.rec_counts.specs.Slot.{absent}
-use Rattle.rec_release.specs.CycleFree as frees
-use Rattle.rec_release.specs.Release as releases
 use Rattle.rec_release.specs.Release.{emptied, without_first}
-use Rattle.rec_release.specs.Sweep as sweeps
 use Rattle.rec_release.specs.TakenOff.{down_if, IsApart, is_lowered, taken_off}
 use Rattle.rec_walk.specs.Load.{Load}
-use Rattle.rec_collector.specs.Followed.{prep_started, relieved, with_freed, with_loaded, with_released, with_tried}
+use Rattle.rec_collector.specs.Followed.{prep_started, with_freed, with_released, relieved_at}
 use Rattle.rec_collector.specs.Given.{IsGiven, IsGivenAt}
 use Rattle.rec_collector.specs.Kept.{IsAtRest, IsMachine, under_way}
 use Rattle.rec_collector.specs.Outside.{HasSets, IsOutside}
-use Rattle.rec_collector.specs.Parts.{Parts}
+use Rattle.rec_collector.specs.Parts.{Parts, new_freeing, new_release}
 use Rattle.rec_collector.specs.Private.{Private, parts_of}
 use Rattle.rec_collector.specs.Step.{Step, GoesOn, PreparesOn, TriesOn, ClearsOn, IsNext, IsTested, IsBetween}
-use Rattle.rec_collector.specs.Testing.{zeros_released}
+use Rattle.rec_collector.specs.Testing.{zeros_released, Begun, counted_by, freeing_at, releasing_at, tested}
 use Rattle.rec_collector.specs.Took.{step_of, swapped_of, took_at, took_of, turn_of}
 use Rattle.rec_collector.specs.Touched.{decrements, IsOrangeIn, named_at, named_by, tried_at, WasUntouched}
 use Rattle.rec_collector.specs.declared.phase.Phase.{Phase}
 use Rattle.rec_collector.specs.declared.phase.Phase.TheVariants.{Returning, Releasing, Freeing, Trying, Preparing}
 use Rattle.rec_collector.specs.declared.turn.Turn.{Turn}
 use Rattle.rec_collector.proofs.Following.{none_released}
-use Rattle.rec_collector.proofs.Goings.{emptied_same, freed_by, freed_off, none_some, relieved_by, released_by, released_off}
+use Rattle.rec_collector.proofs.Goings.{emptied_same, freed_by, freed_off, released_by, released_off, freed_listed}
 use Rattle.rec_collector.proofs.Outside.{Lowers, first_lowers, given_lowers, off_lowers, refurbished_lowers, same_lowers, swept_lowers, batch_same, down_names}
 use Rattle.rec_collector.proofs.Steps.{prepared_on, step_made, tried_on}
 use Rattle.rec_collector.proofs.Landing.{now_at}
+use Rattle.rec_release.specs.declared.at.At.{At}
+use Rattle.rec_collector.specs.declared.verdict.Verdict.TheVariants.{Held, Touched}
+use Rattle.rec_walk.specs.declared.member.Member.{Member}
+use Rattle.rec_collector.proofs.Keeping.{turned}
+use Rattle.rec_release.specs.CycleFree as frees
+use Rattle.rec_release.specs.Release as releases
+use Rattle.rec_trial.specs.Trial as trials
+use Rattle.rec_sigma.specs.Prepare as preps
+use Rattle.rec_release.specs.Sweep as sweeps
 
 -- each orange member was one before, and was named so often, which is nowhere
 record Spares (s t : State) (x named : ℕ) : Type 0 where
@@ -84,26 +90,26 @@ off_spares lowers s (Some y) x a h = record {
         let down : taken_off lowers s (Some y) ≡ down_if false s y = ap (λ b. down_if b s y) plain in
         absurd ((down_names s (Some y) x (a x c).unreleased).lost e (ap (λ t. (slot_at t x).colour) (sym down) ∙ o))
 
--- a word came out of a field of a released slot
-released_spares : (w : Parts) (word x : ℕ) → IsSome w.release.at → IsApart w.counts → IfSome (target_of word) (λ y. 0 < (slot_at w.counts y).count) → Spares w.counts (with_released w word).counts x (decrements w.release.lowers w.counts (target_of word) x)
-released_spares w word x busy a h = released_by (λ v. Spares w.counts v.counts x n) w word (λ e. none_some w.release.at e busy) (λ at e l. off)
-    (λ at e l. let t : State = emptied (released_off w word) at.slot in spares_then (spares_then off (lowers_spares (released_off w word) t x (same_lowers (released_off w word) t (emptied_same (released_off w word) at.slot).0))) (lowers_spares t (without_first t.zeros t) x (first_lowers t.zeros t)))
-  where
-    n : ℕ
-    n = decrements w.release.lowers w.counts (target_of word) x
-
-    off : Spares w.counts (released_off w word) x n
-    off = off_spares w.release.lowers w.counts (target_of word) x a h
-
 -- the zeros are to be released
-zeros_spares : (lowers : Bool) (w : Parts) (x : ℕ) → Spares w.counts (zeros_released lowers w).counts x 0
+zeros_spares : (lowers : Bool) (w : Parts) (x : ℕ) → Spares w.counts (zeros_released lowers w).parts.counts x 0
 unfolding releases.started_of
 zeros_spares lowers w x = lowers_spares w.counts (without_first w.counts.zeros w.counts) x (first_lowers w.counts.zeros w.counts)
 
+-- a word came out of a field of a released slot
+released_spares : (m : releases.Machine) (w : Parts) (word x : ℕ) → IsSome m.at → IsApart w.counts → IfSome (target_of word) (λ y. 0 < (slot_at w.counts y).count) → Spares w.counts (with_released m w word).parts.counts x (decrements m.lowers w.counts (target_of word) x)
+released_spares m w word x busy a h = released_by (λ b. Spares w.counts b.parts.counts x n) m w word busy (λ at e l. off)
+    (λ at e l. let t : State = emptied (released_off m w word) at.slot in spares_then (spares_then off (lowers_spares (released_off m w word) t x (same_lowers (released_off m w word) t (emptied_same (released_off m w word) at.slot).0))) (lowers_spares t (without_first t.zeros t) x (first_lowers t.zeros t)))
+  where
+    n : ℕ
+    n = decrements m.lowers w.counts (target_of word) x
+
+    off : Spares w.counts (released_off m w word) x n
+    off = off_spares m.lowers w.counts (target_of word) x a h
+
 -- a word came out of a field of a member of the set that is freed
-freed_spares : (w : Parts) (word x : ℕ) → IsSome w.freeing.at → IsApart w.counts → IfSome (target_of word) (λ y. 0 < (slot_at w.counts y).count) → Spares w.counts (with_freed w word).counts x (decrements true w.counts (target_of word) x)
-freed_spares w word x busy a h = freed_by (λ v. Spares w.counts v.counts x n) w word (λ e. none_some w.freeing.at e busy) (λ at e l. off) (λ at e l m. off)
-    (λ at e l m. spares_then off (lowers_spares _ _ x (same_lowers (freed_off w word) (frees.listed (freed_off w word)) (λ y. refl))))
+freed_spares : (m : frees.Machine) (w : Parts) (word x : ℕ) → IsSome m.at → IsApart w.counts → IfSome (target_of word) (λ y. 0 < (slot_at w.counts y).count) → Spares w.counts (with_freed m w word).parts.counts x (decrements true w.counts (target_of word) x)
+freed_spares m w word x busy a h = freed_by (λ b. Spares w.counts b.parts.counts x n) m w word busy (λ at e l. off) (λ at e l i. off)
+    (λ at e l i. spares_then (spares_then off (lowers_spares _ _ x (same_lowers (freed_off w word) (frees.listed (freed_off w word)) (λ y. refl)))) (zeros_spares true (freed_listed w word) x))
   where
     n : ℕ
     n = decrements true w.counts (target_of word) x
@@ -111,36 +117,57 @@ freed_spares w word x busy a h = freed_by (λ v. Spares w.counts v.counts x n) w
     off : Spares w.counts (freed_off w word) x n
     off = off_spares true w.counts (target_of word) x a h
 
-relieved_spares : (w : Parts) (x : ℕ) → Spares w.counts (relieved w).counts x 0
-relieved_spares w x = relieved_by (λ v. Spares w.counts v.counts x 0) w (λ e. zeros_spares true w x) (λ m e. lowers_spares w.counts w.counts x (same_lowers w.counts w.counts (λ y. refl)))
-
 -- the last set is tested
-tested_spares : (w v : Parts) (x : ℕ) → IsTested w v → Spares w.counts v.counts x 0
+tested_spares : (w : Parts) (v : Begun) (x : ℕ) → IsTested w v → Spares w.counts v.parts.counts x 0
 unfolding frees.started_of
-tested_spares w v x (IsTested.passes orange none is) = subst (λ (u : Parts). Spares w.counts u.counts x 0) (sym is) (lowers_spares w.counts (frees.given_up w.counts) x (given_lowers w.counts))
-tested_spares w v x (IsTested.fails_delta s not last is) = subst (λ (u : Parts). Spares w.counts u.counts x 0) (sym is) (spares_then (lowers_spares w.counts s x (refurbished_lowers w.counts s last)) (zeros_spares true (record w { counts = s }) x))
-tested_spares w v x (IsTested.fails_sigma s orange some last is) = subst (λ (u : Parts). Spares w.counts u.counts x 0) (sym is) (spares_then (lowers_spares w.counts s x (refurbished_lowers w.counts s last)) (zeros_spares true (record w { counts = s }) x))
+tested_spares w v x (IsTested.passes orange none is) = subst (λ (u : Begun). Spares w.counts u.parts.counts x 0) (sym is) (lowers_spares w.counts (frees.given_up w.counts) x (given_lowers w.counts))
+tested_spares w v x (IsTested.fails_delta s not last is) = subst (λ (u : Begun). Spares w.counts u.parts.counts x 0) (sym is) (spares_then (lowers_spares w.counts s x (refurbished_lowers w.counts s last)) (zeros_spares true (record w { counts = s }) x))
+tested_spares w v x (IsTested.fails_sigma s orange some last is) = subst (λ (u : Begun). Spares w.counts u.parts.counts x 0) (sym is) (spares_then (lowers_spares w.counts s x (refurbished_lowers w.counts s last)) (zeros_spares true (record w { counts = s }) x))
 
 -- where a trial begins, its sets are of the requested epoch
-pub prepares_late : (p q : Private) (w : Parts) (turn : Turn) → PreparesOn p w q turn → tried_at q.epoch q.phase ≡ p.epoch
-prepares_late p q w turn (PreparesOn.more busy g) = ap (λ (r : Private). tried_at r.epoch r.phase) g.after
-prepares_late p q w turn (PreparesOn.sweeps_next done some g) = ap (λ (r : Private). tried_at r.epoch r.phase) g.after
-prepares_late p q w turn (PreparesOn.completes done none e) = ap (λ (r : Private). tried_at r.epoch r.phase) e.after
+pub prepares_late : (p q : Private) (w : Parts) (v : preps.Work) (turn : Turn) → PreparesOn p w v q turn → tried_at q.epoch q.phase ≡ p.epoch
+prepares_late p q w v turn (PreparesOn.more busy g) = ap (λ (r : Private). tried_at r.epoch r.phase) g.after
+prepares_late p q w v turn (PreparesOn.sweeps_next done some g) = ap (λ (r : Private). tried_at r.epoch r.phase) g.after
+prepares_late p q w v turn (PreparesOn.completes done none e) = ap (λ (r : Private). tried_at r.epoch r.phase) e.after
 
-pub tries_late : (p q : Private) (w : Parts) (turn : Turn) → TriesOn p w q turn → tried_at q.epoch q.phase ≡ p.epoch
-tries_late p q w turn (TriesOn.more busy g) = ap (λ (r : Private). tried_at r.epoch r.phase) g.after
-tries_late p q w turn (TriesOn.prepares done on) = prepares_late p q _ turn on
+pub tries_late : (p q : Private) (w : Parts) (v : trials.Work) (turn : Turn) → TriesOn p w v q turn → tried_at q.epoch q.phase ≡ p.epoch
+tries_late p q w v turn (TriesOn.more busy g) = ap (λ (r : Private). tried_at r.epoch r.phase) g.after
+tries_late p q w v turn (TriesOn.prepares done on) = prepares_late p q _ _ turn on
 
 -- what a step leaves of an orange member, and sets
 abbrev Leaves : State → Private → (x named : ℕ) → Type 0
 Leaves s q x named = Spares s q.counts x named × HasSets q.phase
 
+-- what was begun has sets, as every phase between a batch and the next trial
+abbrev IsSetting : Option Phase → Type 0
+IsSetting None = Unit {0}
+IsSetting (Some phase) = HasSets phase
+
+releasing_setting : (m : releases.Machine) (at : Option At) → IsSetting (releasing_at m at)
+releasing_setting m None = tt
+releasing_setting m (Some a) = tt
+
+freeing_setting : (m : frees.Machine) (at : Option Member) → IsSetting (freeing_at m at)
+freeing_setting m None = tt
+freeing_setting m (Some a) = tt
+
+zeros_setting : (lowers : Bool) (w : Parts) → IsSetting (zeros_released lowers w).phase
+zeros_setting lowers w = let v : releases.Work = releases.started_of (new_release w.fields) lowers w.counts in releasing_setting v.machine v.machine.at
+
+tested_setting : (w : Parts) (v : Begun) → IsTested w v → IsSetting v.phase
+tested_setting w v (IsTested.passes orange none is) = let u : frees.Work = frees.started_of (new_freeing w.fields) w.counts in subst (λ (c : Begun). IsSetting c.phase) (sym is) (freeing_setting u.machine u.machine.at)
+tested_setting w v (IsTested.fails_delta s not last is) = subst (λ (c : Begun). IsSetting c.phase) (sym is) (zeros_setting true (record w { counts = s; sets = counted_by Touched w.sets }))
+tested_setting w v (IsTested.fails_sigma s orange some last is) = subst (λ (c : Begun). IsSetting c.phase) (sym is) (zeros_setting true (record w { counts = s; sets = counted_by Held w.sets }))
+
+relieved_setting : (w : Parts) (m : frees.Machine) (at : Option Member) → IsSetting (relieved_at w m at).phase
+relieved_setting w m None = zeros_setting true w
+relieved_setting w m (Some a) = tt
+
 -- what follows a release or the freeing of a set, up to the next trial
-clears_leave : (p q : Private) (turn : Turn) (x : ℕ) {w : Parts} → ClearsOn p q turn w → (tried_at q.epoch q.phase ≡ p.epoch → ⊥) → Leaves w.counts q x 0
-clears_leave p q turn x {w} (ClearsOn.frees_on busy g) early = (same_spares w.counts q.counts x (ap (λ (r : Private). r.counts) g.after), subst HasSets (sym (ap (λ (r : Private). r.phase) g.after)) tt)
-clears_leave p q turn x {w} (ClearsOn.releases_on unfreed busy g) early = (same_spares w.counts q.counts x (ap (λ (r : Private). r.counts) g.after), subst HasSets (sym (ap (λ (r : Private). r.phase) g.after)) tt)
-clears_leave p q turn x {w} (ClearsOn.tests v unfreed still some tested on) early = let more = clears_leave p q turn x on early in (spares_then (tested_spares w v x tested) more.0, more.1)
-clears_leave p q turn x (ClearsOn.tries unfreed still none on) early = absurd (early (tries_late p q _ turn on))
+clears_leave : (p q : Private) (turn : Turn) (x : ℕ) {b : Begun} → IsSetting b.phase → ClearsOn p q turn b → (tried_at q.epoch q.phase ≡ p.epoch → ⊥) → Leaves b.parts.counts q x 0
+clears_leave p q turn x {b} has (ClearsOn.works phase at g) early = (same_spares b.parts.counts q.counts x (ap (λ (r : Private). r.counts) g.after), subst HasSets (sym (ap (λ (r : Private). r.phase) g.after)) (subst IsSetting at has))
+clears_leave p q turn x {b} has (ClearsOn.tests v none some tested on) early = let more = clears_leave p q turn x (tested_setting b.parts v tested) on early in (spares_then (tested_spares b.parts v x tested) more.0, more.1)
+clears_leave p q turn x has (ClearsOn.tries none empty on) early = absurd (early (tries_late p q _ _ turn on))
 
 -- at rest no member is released
 rest_unreleased : (p : Private) (number x : ℕ) → IsAtRest (parts_of p) → (slot_at p.counts x).set ≡ Some number → (slot_at p.counts x).released ≡ false
@@ -183,9 +210,9 @@ module _ (p q : Private) (word x : ℕ) (turn : Turn) (k : IsMachine p) (same : 
   goes g e has none = leaves (ap (λ (r : Private). r.counts) g.after) e (ap (λ (r : Private). r.phase) g.after) has none
 
   -- the sets are tested, after a move that names the slot so often
-  clears : {w : Parts} {n : ℕ} → ClearsOn p q turn w → under_way p.phase ≡ 1 → tried_at p.epoch p.phase ≡ p.epoch - 1 → Spares p.counts w.counts x n → named_by p word x ≡ n → Leaves p.counts q x (named_by p word x)
-  clears {w} {n} on way was s e =
-      let c = clears_leave p q turn x on (early way was) in
+  clears : {b : Begun} {n : ℕ} → IsSetting b.phase → ClearsOn p q turn b → under_way p.phase ≡ 1 → tried_at p.epoch p.phase ≡ p.epoch - 1 → Spares p.counts b.parts.counts x n → named_by p word x ≡ n → Leaves p.counts q x (named_by p word x)
+  clears {b} {n} has on way was s e =
+      let c = clears_leave p q turn x has on (early way was) in
       (subst (Spares p.counts q.counts x) (sym e) (spares_then s c.0), c.1)
 
   step_leaves : {box : Contents} {op : Option Op} → IsGiven p word → HasSets p.phase → Step p word box op q turn → Leaves p.counts q x (named_by p word x)
@@ -198,27 +225,28 @@ module _ (p q : Private) (word x : ℕ) (turn : Turn) (k : IsMachine p) (same : 
   step_leaves given has (Step.apply t at last is on) =
       let w : Parts = record (parts_of p) { counts = batch p.counts p.newer p.older } in
       let n : ℕ = added x p.newer + taken x p.older in
-      clears on (ap under_way at) (ap (tried_at p.epoch) at)
+      clears (zeros_setting false w) on (ap under_way at) (ap (tried_at p.epoch) at)
       (spares_then (batched_spares p x (now_at p (Returning t) k at).rest) (zeros_spares false w x))
       (named_as at ∙ cond-true (t == length p.newer) n 0 (eq-eqb t (length p.newer) last))
-  step_leaves given has (Step.release at is on) =
-      let now = now_at p Releasing k at in
-      clears on (ap under_way at) (ap (tried_at p.epoch) at) (released_spares (parts_of p) word x now.1 now.0.clearing.apart (subst (IsGivenAt p word) at given)) (named_as at)
-  step_leaves given has (Step.freeing at is on) =
-      let v : Parts = with_freed (parts_of p) word in
-      let now = now_at p Freeing k at in
-      clears on (ap under_way at) (ap (tried_at p.epoch) at)
-      (spares_then (freed_spares (parts_of p) word x now.1 now.0.clearing.apart (subst (IsGivenAt p word) at given)) (relieved_spares v x)) (named_as at)
-  step_leaves given has (Step.trial at is on) = absurd (subst HasSets at has)
-  step_leaves given has (Step.preparation at is on) = absurd (subst HasSets at has)
+  step_leaves given has (Step.release m at is on) =
+      let now = now_at p (Releasing m) k at in
+      let v : releases.Work = releases.took_of (record { machine = m; counts = p.counts }) word in
+      clears (releasing_setting v.machine v.machine.at) on (ap under_way at) (ap (tried_at p.epoch) at) (released_spares m (parts_of p) word x now.clearing.busy now.clearing.apart (subst (IsGivenAt p word) at given)) (named_as at)
+  step_leaves given has (Step.freeing m at is on) =
+      let now = now_at p (Freeing m) k at in
+      let v : frees.Work = frees.took_of (record { machine = m; counts = p.counts }) word in
+      clears (relieved_setting (record (parts_of p) { counts = v.counts }) v.machine v.machine.at) on (ap under_way at) (ap (tried_at p.epoch) at)
+      (freed_spares m (parts_of p) word x now.clearing.busy now.clearing.apart (subst (IsGivenAt p word) at given)) (named_as at)
+  step_leaves given has (Step.trial m at is on) = absurd (subst HasSets at has)
+  step_leaves given has (Step.preparation m at is on) = absurd (subst HasSets at has)
   step_leaves given has (Step.begin_sweep at is g) = goes g (counts_started p) tt (named_as at)
-  step_leaves given has (Step.sweep swept u next at is took follows g) =
+  step_leaves given has (Step.sweep first swept u next at is took follows g) =
       let counts : q.counts ≡ u.counts = ap (λ (r : Private). r.counts) g.after in (
-        subst (Spares p.counts q.counts x) (sym (named_as at)) (subst (λ t. Spares p.counts t x 0) (sym (counts ∙ ap (λ (v : sweeps.Work). v.counts) took)) (sweeps_spare p.due)),
+        subst (Spares p.counts q.counts x) (sym (named_as at)) (subst (λ t. Spares p.counts t x 0) (sym (counts ∙ ap (λ (v : sweeps.Work). v.counts) took)) (sweeps_spare first)),
         subst HasSets (sym (ap (λ (r : Private). r.phase) g.after)) (swept_has follows),
       )
     where
-      sweeps_spare : (due : Option ℕ) → Spares p.counts (sweeps.took_at (record { due = p.due; counts = p.counts }) due).counts x 0
+      sweeps_spare : (due : Option ℕ) → Spares p.counts (sweeps.took_at (record { due = first; counts = p.counts }) due).counts x 0
       sweeps_spare None = lowers_spares p.counts p.counts x (same_lowers p.counts p.counts (λ y. refl))
       sweeps_spare (Some z) = lowers_spares p.counts (sweeps.swept p.counts z) x (swept_lowers p.counts z)
 
@@ -237,33 +265,33 @@ pub has_on : (p : Private) (word : ℕ) (box : Contents) → IsMachine p → IsB
 has_on p word box k between given has same = (step_leaves p (step_of p word box) word 0 (turn_of p word) k same given has (step_made p word box k between given)).1
 
 -- A preparation took in a word: it goes on, or is done.
-pub record LoadsOn (w : Parts) (q : Private) : Type 0 where
-  pub counts : q.counts ≡ w.counts
-  pub prep : q.prep ≡ w.prep
-  pub goes : (q.phase ≡ Preparing) ⊎ (HasSets q.phase × (w.prep.at ≡ None))
+pub record LoadsOn (v : preps.Work) (q : Private) : Type 0 where
+  pub counts : q.counts ≡ v.counts
+  pub goes : (q.phase ≡ Preparing v.machine) ⊎ (HasSets q.phase × (v.machine.at ≡ None))
 
-prepares_loads : (p q : Private) (w : Parts) (turn : Turn) → PreparesOn p w q turn → LoadsOn w q
-prepares_loads p q w turn (PreparesOn.more busy g) = record { counts = ap (λ (r : Private). r.counts) g.after; prep = ap (λ (r : Private). r.prep) g.after; goes = inl (ap (λ (r : Private). r.phase) g.after) }
-prepares_loads p q w turn (PreparesOn.sweeps_next done some g) = record { counts = ap (λ (r : Private). r.counts) g.after; prep = ap (λ (r : Private). r.prep) g.after; goes = inr (subst HasSets (sym (ap (λ (r : Private). r.phase) g.after)) tt, done) }
-prepares_loads p q w turn (PreparesOn.completes done none e) = record { counts = ap (λ (r : Private). r.counts) e.after; prep = ap (λ (r : Private). r.prep) e.after; goes = inr (subst HasSets (sym (ap (λ (r : Private). r.phase) e.after)) tt, done) }
+prepares_loads : (p q : Private) (w : Parts) (v : preps.Work) (turn : Turn) → PreparesOn p w v q turn → LoadsOn v q
+prepares_loads p q w v turn (PreparesOn.more busy g) = record { counts = ap (λ (r : Private). r.counts) g.after; goes = inl (ap (λ (r : Private). r.phase) g.after) }
+prepares_loads p q w v turn (PreparesOn.sweeps_next done some g) = record { counts = ap (λ (r : Private). r.counts) g.after; goes = inr (subst HasSets (sym (ap (λ (r : Private). r.phase) g.after)) tt, done) }
+prepares_loads p q w v turn (PreparesOn.completes done none e) = record { counts = ap (λ (r : Private). r.counts) e.after; goes = inr (subst HasSets (sym (ap (λ (r : Private). r.phase) e.after)) tt, done) }
 
-tries_loads : (p q : Private) (w : Parts) (turn : Turn) → TriesOn p w q turn → q.phase ≡ Preparing → LoadsOn (prep_started w) q
-tries_loads p q w turn (TriesOn.more busy g) next = let e : Preparing ≡ Trying = sym next ∙ ap (λ (r : Private). r.phase) g.after in absurd (cc)
-tries_loads p q w turn (TriesOn.prepares over on) next = prepares_loads p q (prep_started w) turn on
+tries_loads : (p q : Private) (w : Parts) (v : trials.Work) (turn : Turn) (m : preps.Machine) → TriesOn p w v q turn → q.phase ≡ Preparing m → LoadsOn (prep_started (record w { counts = v.counts })) q
+tries_loads p q w v turn m (TriesOn.more busy g) next = let e : Preparing m ≡ Trying v.machine = sym next ∙ ap (λ (r : Private). r.phase) g.after in absurd (cc)
+tries_loads p q w v turn m (TriesOn.prepares over on) next = prepares_loads p q _ _ turn on
 
-pub loads_on : (p : Private) (word : ℕ) (box : Contents) → IsMachine p → IsBetween p.phase → IsGiven p word → p.phase ≡ Preparing → LoadsOn (with_loaded (parts_of p) word) (step_of p word box)
+pub loads_on : (p : Private) (m : preps.Machine) (word : ℕ) (box : Contents) → IsMachine p → IsBetween p.phase → IsGiven p word → p.phase ≡ Preparing m → LoadsOn (preps.took_of (record { machine = m; counts = p.counts }) word) (step_of p word box)
 unfolding step_of took_of took_at
-loads_on p word box k between given at =
-    let w : Parts = with_loaded (parts_of p) word in
-    subst (LoadsOn w) (sym (ap (λ f. swapped_of (took_at p word f) box) at)) (prepares_loads p _ w _ (prepared_on p w box))
+loads_on p m word box k between given at =
+    let v : preps.Work = preps.took_of (record { machine = m; counts = p.counts }) word in
+    subst (LoadsOn v) (sym (ap (λ f. swapped_of (took_at p word f) box) at)) (prepares_loads p _ (parts_of p) v _ (prepared_on p (parts_of p) v box))
 
 -- a trial took in its last word, and a preparation begins
-pub begins_on : (p : Private) (word : ℕ) (box : Contents) → IsMachine p → IsBetween p.phase → IsGiven p word → p.phase ≡ Trying → (step_of p word box).phase ≡ Preparing → LoadsOn (prep_started (with_tried (parts_of p) word)) (step_of p word box)
+pub begins_on : (p : Private) (m : trials.Machine) (prep : preps.Machine) (word : ℕ) (box : Contents) → IsMachine p → IsBetween p.phase → IsGiven p word → p.phase ≡ Trying m → (step_of p word box).phase ≡ Preparing prep
+    → LoadsOn (prep_started (record (parts_of p) { counts = (trials.took_of (record { machine = m; counts = p.counts }) word).counts })) (step_of p word box)
 unfolding step_of took_of took_at
-begins_on p word box k between given at next =
-    let w : Parts = with_tried (parts_of p) word in
-    let e : step_of p word box ≡ swapped_of (took_at p word Trying) box = ap (λ f. swapped_of (took_at p word f) box) at in
-    subst (LoadsOn (prep_started w)) (sym e) (tries_loads p _ w _ (tried_on p w box) (ap (λ (q : Private). q.phase) (sym e) ∙ next))
+begins_on p m prep word box k between given at next =
+    let v : trials.Work = trials.took_of (record { machine = m; counts = p.counts }) word in
+    let e : step_of p word box ≡ swapped_of (took_at p word (Trying m)) box = ap (λ f. swapped_of (took_at p word f) box) at in
+    subst (LoadsOn (prep_started (record (parts_of p) { counts = v.counts }))) (sym e) (tries_loads p _ (parts_of p) v _ prep (tried_on p (parts_of p) v box) (ap (λ (q : Private). q.phase) (sym e) ∙ next))
 
 -- what an orange member's outside count was, it is, less what was lowered
 pub outside_later : {before s t : State} {loads : List Load} {number x n : ℕ} → IsOutside before s loads number x → WasUntouched s t number x n → IsOutside before t loads number x

@@ -14,7 +14,6 @@ use Rattle.rec_counts.specs.declared.colour.Colour.{Colour}
 use Rattle.rec_counts.specs.declared.colour.Colour.TheVariants.{Orange}
 use Rattle.rec_release.specs.TakenOff.{IsApart}
 use Rattle.rec_sigma.specs.declared.at.At.{At}
-use Rattle.rec_sigma.specs.Prepare as preps
 use Rattle.rec_sigma.specs.Prepared.{KeepsOthers, PreparedTo, loaded_at}
 use Rattle.rec_sigma.proofs.Cyclics.{others_same}
 use Rattle.rec_sigma.proofs.Runs.{Came, came_first, came_on, more_others, next_set_others}
@@ -28,56 +27,57 @@ use Rattle.rec_trial.proofs.Counted.{started_counted, took_counted}
 use Rattle.rec_trial.proofs.Keeps.{KeepsCounts, LeavesNothing, at_work_few, at_work_keeps, at_work_over, started_keeps, took_keeps}
 use Rattle.rec_trial.proofs.Midway.{times_released}
 use Rattle.rec_trial.proofs.Whole.{whole_over}
-use Rattle.rec_collector.specs.Followed.{next_in, prep_started, prepared, prepared_at, sweep_phase, with_loaded, with_prep, trial_begun, tried, tried_at, with_tried}
-use Rattle.rec_collector.specs.Kept.{AreInPreparation, IsMachine, IsPreparing, IsSweeping, IsTried, all_fields, AreOnTrial, IsListed, IsTrying}
+use Rattle.rec_collector.specs.Followed.{next_in, prep_started, prepared, prepared_at, sweep_phase, tried, tried_at}
+use Rattle.rec_collector.specs.Kept.{AreInPreparation, IsMachine, IsPreparing, IsSweeping, all_fields, AreOnTrial, IsListed, IsTrying, AreTried}
 use Rattle.rec_collector.specs.Parts.{Parts}
 use Rattle.rec_collector.specs.Private.{Private, parts_of}
-use Rattle.rec_collector.specs.Testing.{told}
 use Rattle.rec_collector.specs.declared.phase.Phase.{Phase}
 use Rattle.rec_collector.specs.declared.phase.Phase.TheVariants.{Preparing, Opening, Closing, Trying}
 use Rattle.rec_collector.specs.Zeros.{AreCounted}
-use Rattle.rec_collector.proofs.Landing.{Fits, Lands, fits_all, fits_on, fits_self, landed, now_at, told_at}
+use Rattle.rec_collector.specs.Testing.{told}
+use Rattle.rec_collector.proofs.Landing.{Fits, Lands, fits_all, landed, now_at, told_at}
 use Rattle.rec_collector.proofs.Always.{loads_few}
 use Rattle.rec_collector.proofs.Outside.{apart_on, untried_on, prepared_outside}
+use Rattle.rec_collector.specs.Outside.{AreOutside}
+use Rattle.rec_release.specs.CycleFree.{listed}
+use Rattle.rec_sigma.specs.Prepare as preps
 
 -- What a trial has left holds still where no more than cyclic counts change.
-others_tried : (w : Parts) (v : preps.Work) → KeepsOthers w.counts v.counts → IsTried w → IsTried (with_prep w v)
-others_tried w v o t = record {
-  untried = untried_on w.counts v.counts o.marked (λ x f black purple h. ap (λ (u : Slot). f u.colour) (o.slots x) ∙ h) t.untried;
-  idle = t.idle;
-  apart = apart_on w.counts v.counts o.sets o.zeros (λ x e. (sym (ap (λ (u : Slot). u.colour) (o.slots x)) ∙ e, ap (λ (u : Slot). u.released) (o.slots x))) t.apart;
-  counted = λ x r. omega (arith, ap (λ (u : Slot). u.count) (o.slots x), t.counted x (sym (ap (λ (u : Slot). u.released) (o.slots x)) ∙ r));
-  zeros = o.zeros ∙ t.zeros;
-  roots = o.roots ∙ t.roots;
-  work = o.work ∙ t.work;
-  still = t.still;
-  unfreed = t.unfreed;
-  listed = λ x l r. rw o.free (t.listed x (omega (arith, l, o.many)) (sym (ap (λ (u : Slot). u.released) (o.slots x)) ∙ r));
-  unbuffered = λ x l. ap (λ (u : Slot). u.buffered) (o.slots x) ∙ t.unbuffered x (subst (λ free. 0 < times x free) o.free l);
+others_tried : (s t : State) → KeepsOthers s t → AreTried s → AreTried t
+others_tried s t o k = record {
+  untried = untried_on s t o.marked (λ x f black purple h. ap (λ (u : Slot). f u.colour) (o.slots x) ∙ h) k.untried;
+  apart = apart_on s t o.sets o.zeros (λ x e. (sym (ap (λ (u : Slot). u.colour) (o.slots x)) ∙ e, ap (λ (u : Slot). u.released) (o.slots x))) k.apart;
+  counted = λ x r. omega (arith, ap (λ (u : Slot). u.count) (o.slots x), k.counted x (sym (ap (λ (u : Slot). u.released) (o.slots x)) ∙ r));
+  zeros = o.zeros ∙ k.zeros;
+  roots = o.roots ∙ k.roots;
+  work = o.work ∙ k.work;
+  listed = λ x l r. rw o.free (k.listed x (omega (arith, l, o.many)) (sym (ap (λ (u : Slot). u.released) (o.slots x)) ∙ r));
+  unbuffered = λ x l. ap (λ (u : Slot). u.buffered) (o.slots x) ∙ k.unbuffered x (subst (λ free. 0 < times x free) o.free l);
 }
 
--- A collection has come to `w` in its preparation.
-pub record HasPrepared (p : Private) (w : Parts) : Type 0 where
-  pub preparation : AreInPreparation w.counts w.release w.freeing w.trial w.prep
+-- A collection has come so far in its preparation.
+pub record HasPrepared (p : Private) (w : Parts) (v : preps.Work) : Type 0 where
+  pub fields : v.machine.fields ≡ w.fields
+  pub preparation : AreInPreparation v.counts v.machine
   pub open preparation use *
-  pub counts : IsKeptCounts w.counts
-  pub fits : Fits p w
-  pub due : p.due ≡ None
+  pub counts : IsKeptCounts v.counts
+  pub fits : Fits p (record w { counts = v.counts })
   pub turns : p.turns ≤ 1 + 2 * length p.newer + 4 * all_fields p + length loads
-  pub told : told w.sets + length w.counts.sets ≤ 2 ^ 16 * (p.collections + 1)
+  pub told : told w.sets + length v.counts.sets ≤ 2 ^ 16 * (p.collections + 1)
 
 -- it has begun
-started_prepared : (p : Private) (w : Parts) → IsTried w → IsKeptCounts w.counts → Fits p w → p.due ≡ None → p.turns ≤ 1 + 2 * length p.newer + 4 * all_fields p
-    → told w.sets + length w.counts.sets ≤ 2 ^ 16 * (p.collections + 1) → HasPrepared p (prep_started w)
+started_prepared : (p : Private) (w : Parts) → 0 < w.fields → AreTried w.counts → IsKeptCounts w.counts → Fits p w → p.turns ≤ 1 + 2 * length p.newer + 4 * all_fields p
+    → told w.sets + length w.counts.sets ≤ 2 ^ 16 * (p.collections + 1) → HasPrepared p w (prep_started w)
 unfolding preps.started_of
-started_prepared p w t k fits due turns told =
-    let c : Came w.prep.fields w.counts (preps.started_of w.prep w.counts) [] = came_first w.prep.fields w.counts (omega (arith, fits.fields, fits.prep_fields)) k.numbers in
-    let o : KeepsOthers w.counts (preps.started_of w.prep w.counts).counts = next_set_others w.counts 0 in
+started_prepared p w wide t k fits turns told =
+    let v : preps.Work = prep_started w in
+    let c : Came w.fields w.counts v [] = came_first w.fields w.counts wide k.numbers in
+    let o : KeepsOthers w.counts v.counts = next_set_others w.counts 0 in
     record {
-      preparation = record { tried = others_tried w (preps.started_of w.prep w.counts) o t; kept = c.work; before = w.counts; before_kept = k; loads = []; prepares = c.law };
+      fields = refl;
+      preparation = record { tried = others_tried w.counts v.counts o t; kept = c.work; before = w.counts; before_kept = k; loads = []; prepares = c.law };
       counts = others_kept w.counts _ o k;
-      fits = fits_on fits (record { slots = o.many; release_fields = refl; freeing_fields = refl; trial_fields = refl; prep_fields = refl });
-      due = due;
+      fits = record { slots = o.many ∙ fits.slots; fields = fits.fields };
       turns = omega (arith, turns);
       told = rw o.sets told;
     }
@@ -91,53 +91,56 @@ loaded_one : (at : Option At) (word : ℕ) → IsSome at → length (loaded_at a
 loaded_one None word b = cc
 loaded_one (Some a) word b = refl
 
-pub took_prepared : (p : Private) (word : ℕ) → IsMachine p → p.phase ≡ Preparing → HasPrepared p (with_loaded (parts_of p) word)
-took_prepared p word k e =
-    let a : IsPreparing p = now_at p Preparing k e in
-    let w : preps.Work = record { machine = p.prep; counts = p.counts } in
-    let c : Came p.prep.fields a.before (preps.took_of w word) (a.loads ++ loaded_at p.prep.at word) =
-    came_on p.prep.fields a.before w a.loads word a.before_kept.numbers (record { fields_kept = refl; work = a.kept; law = a.prepares }) in
+pub took_prepared : (p : Private) (m : preps.Machine) (word : ℕ) → IsMachine p → p.phase ≡ Preparing m → HasPrepared p (parts_of p) (preps.took_of (record { machine = m; counts = p.counts }) word)
+took_prepared p m word k e =
+    let a : IsPreparing p m = now_at p (Preparing m) k e in
+    let w : preps.Work = record { machine = m; counts = p.counts } in
+    let c : Came m.fields a.before (preps.took_of w word) (a.loads ++ loaded_at m.at word) =
+    came_on m.fields a.before w a.loads word a.before_kept.numbers (record { fields_kept = refl; work = a.kept; law = a.prepares }) in
     let o : KeepsOthers p.counts (preps.took_of w word).counts = took_others w word in
     record {
+      fields = c.fields_kept ∙ a.fields;
       preparation = record {
-        tried = others_tried (parts_of p) (preps.took_of w word) o a.tried;
+        tried = others_tried p.counts (preps.took_of w word).counts o a.tried;
         kept = c.work;
         before = a.before;
         before_kept = a.before_kept;
-        loads = a.loads ++ loaded_at p.prep.at word;
+        loads = a.loads ++ loaded_at m.at word;
         prepares = rw c.fields_kept c.law;
       };
       counts = others_kept p.counts _ o k.counts;
-      fits = fits_on (fits_self p k) (record { slots = o.many; release_fields = refl; freeing_fields = refl; trial_fields = refl; prep_fields = c.fields_kept });
-      due = a.due;
-      turns = omega (arith, a.turns, length-append a.loads (loaded_at p.prep.at word), loaded_one p.prep.at word a.busy);
-      told = rw o.sets (told_at p Preparing k e);
+      fits = record { slots = o.many; fields = refl };
+      turns = omega (arith, a.turns, length-append a.loads (loaded_at m.at word), loaded_one m.at word a.busy);
+      told = rw o.sets (told_at p (Preparing m) k e);
     }
 
 -- a sweep follows, or has ended
-sweep_follows : (p : Private) (w : Parts) (phase : Phase) (made : ℕ) → HasPrepared p w → w.prep.at ≡ None → IsSweeping (landed p (next_in phase w)) 0 made
-sweep_follows p w phase made h e = record {
-  before = record { tried = h.tried; unprepared = e; outside = prepared_outside w.prep.fields h.before w.counts h.loads h.before_kept (subst (λ (at : Option At). PreparedTo w.prep.fields h.before at w.counts h.loads) e h.prepares) };
-  left = omega (arith, length-once (length w.counts.slots) w.counts.free h.counts.free_once);
-  turns = omega (arith, h.turns, fits_all p w h.fits, loads_few w.prep.fields h.before w.prep.at w.counts h.loads h.before_kept h.prepares, ap (λ n. length w.counts.slots * n) h.fits.prep_fields);
+sweep_follows : (p : Private) (w : Parts) (v : preps.Work) (phase : Phase) (made : ℕ) → HasPrepared p w v → v.machine.at ≡ None → IsSweeping (landed p (next_in phase (record w { counts = v.counts }))) 0 made
+sweep_follows p w v phase made h e = record {
+  before = record { tried = h.tried; outside = subst (λ n. AreOutside n v.counts) h.fields (prepared_outside v.machine.fields h.before v.counts h.loads h.before_kept (subst (λ (at : Option At). PreparedTo v.machine.fields h.before at v.counts h.loads) e h.prepares)) };
+  left = omega (arith, length-once (length v.counts.slots) v.counts.free h.counts.free_once);
+  turns = omega (arith, h.turns, fits_all p (record w { counts = v.counts }) h.fits, loads_few v.machine.fields h.before v.machine.at v.counts h.loads h.before_kept h.prepares, ap (λ n. length v.counts.slots * n) h.fields);
 }
 
 -- what follows
-pub prepared_lands : (p : Private) (w : Parts) → HasPrepared p w → Lands p (prepared w)
+pub prepared_lands : (p : Private) (w : Parts) (v : preps.Work) → HasPrepared p w v → Lands p (prepared w v)
 unfolding prepared
-prepared_lands p w h = go w.prep.at refl
+prepared_lands p w v h = go v.machine.at refl
   where
-    swept : (free : List ℕ) → w.counts.free ≡ free → w.prep.at ≡ None → Lands p (next_in (sweep_phase free) w)
-    swept [] f e = record { counts = h.counts; fits = h.fits; told = h.told; now = (sweep_follows p w (Closing 0) 1 h e, f, h.due) }
-    swept (x ∷ xs) f e = record { counts = h.counts; fits = h.fits; told = h.told; now = (sweep_follows p w Opening 0 h e, omega (arith, ap length f), h.due) }
+    u : Parts
+    u = record w { counts = v.counts }
 
-    go : (at : Option At) → w.prep.at ≡ at → Lands p (prepared_at w at)
-    go None e = swept w.counts.free refl e
+    swept : (free : List ℕ) → v.counts.free ≡ free → v.machine.at ≡ None → Lands p (next_in (sweep_phase free) u)
+    swept [] f e = record { counts = h.counts; fits = h.fits; told = h.told; now = (sweep_follows p w v (Closing 0) 1 h e, f) }
+    swept (x ∷ xs) f e = record { counts = h.counts; fits = h.fits; told = h.told; now = (sweep_follows p w v Opening 0 h e, omega (arith, ap length f)) }
+
+    go : (at : Option At) → v.machine.at ≡ at → Lands p (prepared_at u v.machine at)
+    go None e = swept v.counts.free refl e
     go (Some a) e = record {
       counts = h.counts;
       fits = h.fits;
       told = h.told;
-      now = record { preparation = h.preparation; busy = subst (λ (o : Option At). IsSome o) (sym e) refl; due = h.due; turns = omega (arith, h.turns, fits_all p w h.fits) };
+      now = record { fields = h.fields; preparation = h.preparation; busy = subst (λ (o : Option At). IsSome o) (sym e) refl; turns = omega (arith, h.turns, fits_all p u h.fits) };
     }
 
 module _ (s t : State) (k : KeepsCounts s t) (old : IsKeptCounts s) (new : IsKeptCounts t) (l : IsListed s) where
@@ -196,13 +199,14 @@ over_apart m s a n none z = λ x e.
     let k : KeepsCounts a.before s = at_work_keeps m s a in
     record { member = all x e; no_zero = ap (times x) z ∙ times-nil x; unreleased = k.released x ∙ k.members x (all x e) }
 
--- A collection has come to `w` in its trial.
-pub record HasTried (p : Private) (w : Parts) : Type 0 where
-  pub on_trial : AreOnTrial w.counts w.release w.freeing w.trial w.prep
+-- A collection has come so far in its trial.
+pub record HasTried (p : Private) (w : Parts) (v : Work) : Type 0 where
+  pub fields : v.machine.fields ≡ w.fields
+  pub on_trial : AreOnTrial v.counts v.machine
   pub open on_trial use *
-  pub counts : IsKeptCounts w.counts
-  pub fits : Fits p w
-  pub due : p.due ≡ None
+  pub counts : IsKeptCounts v.counts
+  pub wide : 0 < w.fields
+  pub fits : Fits p (record w { counts = v.counts })
   pub turns : p.turns ≤ 2 * length p.newer + all_fields p + length kept.words
   pub few : length kept.words ≤ 3 * all_fields p + 1
   pub told : told w.sets ≤ 2 ^ 16 * p.collections
@@ -212,90 +216,85 @@ counted_on : (s t : State) → KeepsCounts s t → AreCounted s → AreCounted t
 counted_on s t k c = λ x r. omega (arith, k.counts x, c x (sym (k.released x) ∙ r))
 
 -- it has begun
-pub started_tried : (p : Private) (w : Parts) → IsReady w.counts → IsKeptCounts w.counts → IsListed w.counts → ((x : ℕ) → (slot_at w.counts x).colour ≢ Orange) → AreCounted w.counts → w.counts.zeros ≡ [] → w.release.at ≡ None → w.freeing.at ≡ None → w.prep.at ≡ None
-    → Fits p w → p.due ≡ None → p.turns ≤ 2 * length p.newer + all_fields p → told w.sets ≤ 2 ^ 16 * p.collections → HasTried p (trial_begun w)
-started_tried p w ready k listed none counted zeros still unfreed unprepared fits due turns told =
-    let v : Work = started_of w.trial.fields w.counts in
-    let f : 0 < w.trial.fields = omega (arith, fits.fields, fits.trial_fields) in
-    let keeps : KeepsCounts w.counts v.counts = started_keeps w.trial.fields w.counts f ready in
-    let fields : v.machine.fields ≡ w.trial.fields = started_fields w.trial.fields w.counts f ready in
-    let counts : IsKeptCounts v.counts = started_counted w.trial.fields w.counts f k ready in
+pub started_tried : (p : Private) (w : Parts) → 0 < w.fields → IsReady w.counts → IsKeptCounts w.counts → IsListed w.counts → ((x : ℕ) → (slot_at w.counts x).colour ≢ Orange) → AreCounted w.counts → w.counts.zeros ≡ []
+    → Fits p w → p.turns ≤ 2 * length p.newer + all_fields p → told w.sets ≤ 2 ^ 16 * p.collections → HasTried p w (started_of w.fields w.counts)
+started_tried p w wide ready k listed none counted zeros fits turns told =
+    let v : Work = started_of w.fields w.counts in
+    let keeps : KeepsCounts w.counts v.counts = started_keeps w.fields w.counts wide ready in
+    let fields : v.machine.fields ≡ w.fields = started_fields w.fields w.counts wide ready in
+    let counts : IsKeptCounts v.counts = started_counted w.fields w.counts wide k ready in
     record {
+      fields = fields;
       on_trial = record {
-        kept = record { wide = omega (arith, f, fields); before = w.counts; words = []; kept = k; ready = ready; named = tt; is = sym (run_none w.trial.fields w.counts) ∙ ap (λ n. (run_of n w.counts []).work) (sym fields) };
+        kept = record { wide = omega (arith, wide, fields); before = w.counts; words = []; kept = k; ready = ready; named = tt; is = sym (run_none w.fields w.counts) ∙ ap (λ n. (run_of n w.counts []).work) (sym fields) };
         uncoloured = none;
         counted = counted_on w.counts v.counts keeps counted;
         zeros = keeps.zeros ∙ zeros;
-        still = still;
-        unfreed = unfreed;
-        unprepared = unprepared;
         places = still_listed w.counts v.counts keeps k counts listed;
       };
       counts = counts;
-      fits = fits_on fits (record { slots = keeps.slots; release_fields = refl; freeing_fields = refl; trial_fields = fields; prep_fields = refl });
-      due = due;
+      wide = wide;
+      fits = record { slots = keeps.slots ∙ fits.slots; fields = fits.fields };
       turns = omega (arith, turns);
       few = omega arith;
       told = told;
     }
 
 -- it has gone on
-pub took_tried : (p : Private) (word : ℕ) → IsMachine p → p.phase ≡ Trying → LeadsToUnreleased p.counts word → HasTried p (with_tried (parts_of p) word)
-took_tried p word k e l =
-    let v : Work = took_of (record { machine = p.trial; counts = p.counts }) word in
-    let a : IsTrying p = now_at p Trying k e in
-    let keeps : KeepsCounts p.counts v.counts = took_keeps p.trial p.counts a.kept word l in
-    let counts : IsKeptCounts v.counts = took_counted p.trial p.counts a.kept a.busy word l k.counts in
-    let more : length (took_at_work p.trial p.counts a.kept word l v.machine v.counts refl).words ≡ length a.kept.words + 1 = ap length (took_words p.trial p.counts a.kept word l v.machine v.counts refl) ∙ length_push a.kept.words word in
+pub took_tried : (p : Private) (m : Trial) (word : ℕ) → IsMachine p → p.phase ≡ Trying m → LeadsToUnreleased p.counts word → HasTried p (parts_of p) (took_of (record { machine = m; counts = p.counts }) word)
+took_tried p m word k e l =
+    let v : Work = took_of (record { machine = m; counts = p.counts }) word in
+    let a : IsTrying p m = now_at p (Trying m) k e in
+    let keeps : KeepsCounts p.counts v.counts = took_keeps m p.counts a.kept word l in
+    let counts : IsKeptCounts v.counts = took_counted m p.counts a.kept a.busy word l k.counts in
+    let more : length (took_at_work m p.counts a.kept word l v.machine v.counts refl).words ≡ length a.kept.words + 1 = ap length (took_words m p.counts a.kept word l v.machine v.counts refl) ∙ length_push a.kept.words word in
     record {
+      fields = took_fields m p.counts a.kept word l ∙ a.fields;
       on_trial = record {
-        kept = took_at_work p.trial p.counts a.kept word l v.machine v.counts refl;
-        uncoloured = subst (λ (b : State). (x : ℕ) → (slot_at b x).colour ≢ Orange) (sym (took_before p.trial p.counts a.kept word l v.machine v.counts refl)) a.uncoloured;
+        kept = took_at_work m p.counts a.kept word l v.machine v.counts refl;
+        uncoloured = subst (λ (b : State). (x : ℕ) → (slot_at b x).colour ≢ Orange) (sym (took_before m p.counts a.kept word l v.machine v.counts refl)) a.uncoloured;
         counted = counted_on p.counts v.counts keeps a.counted;
         zeros = keeps.zeros ∙ a.zeros;
-        still = a.still;
-        unfreed = a.unfreed;
-        unprepared = a.unprepared;
         places = still_listed p.counts v.counts keeps k.counts counts a.places;
       };
       counts = counts;
-      fits = fits_on (fits_self p k) (record { slots = keeps.slots; release_fields = refl; freeing_fields = refl; trial_fields = took_fields p.trial p.counts a.kept word l; prep_fields = refl });
-      due = a.due;
+      wide = k.some_fields;
+      fits = record { slots = keeps.slots; fields = refl };
       turns = omega (arith, a.turns, more);
-      few = omega (arith, more, at_work_few p.trial p.counts a.kept a.busy, ap (λ n. length p.counts.slots * n) k.trial_fields);
-      told = told_at p Trying k e;
+      few = omega (arith, more, at_work_few m p.counts a.kept a.busy, ap (λ n. length p.counts.slots * n) a.fields);
+      told = told_at p (Trying m) k e;
     }
 
 -- it is over
-over_tried : (p : Private) (w : Parts) → HasTried p w → IsNone (next_of w.trial) → IsTried w
-over_tried p w h n =
-    let l : LeavesNothing w.counts = at_work_over w.trial w.counts h.kept n in
+over_tried : (p : Private) (w : Parts) (v : Work) → HasTried p w v → IsNone (next_of v.machine) → AreTried v.counts
+over_tried p w v h n =
+    let l : LeavesNothing v.counts = at_work_over v.machine v.counts h.kept n in
     record {
       untried = record { marked = l.marked; no_gray = l.no_gray; no_white = l.no_white };
-      idle = n;
-      apart = over_apart w.trial w.counts h.kept n h.uncoloured h.zeros;
+      apart = over_apart v.machine v.counts h.kept n h.uncoloured h.zeros;
       counted = h.counted;
       zeros = h.zeros;
       roots = l.roots;
       work = l.work;
-      still = h.still;
-      unfreed = h.unfreed;
       listed = λ x i t. omega (arith, h.listed x i t, ap (times x) l.roots, times-nil x);
       unbuffered = h.unbuffered;
     }
 
 -- what follows
-pub tried_lands : (p : Private) (w : Parts) → HasTried p w → Lands p (tried w)
+pub tried_lands : (p : Private) (w : Parts) (v : Work) → HasTried p w v → Lands p (tried w v)
 unfolding tried
-tried_lands p w h = go (next_of w.trial) refl
+tried_lands p w v h = go (next_of v.machine) refl
   where
-    go : (op : Option Op) → next_of w.trial ≡ op → Lands p (tried_at w op)
+    u : Parts
+    u = record w { counts = v.counts }
+
+    go : (op : Option Op) → next_of v.machine ≡ op → Lands p (tried_at u v.machine op)
     go (Some o) e = record {
       counts = h.counts;
       fits = h.fits;
       told = h.told;
-      now = record { on_trial = h.on_trial; busy = subst (λ (op : Option Op). IsSome op) (sym e) refl; due = h.due; turns = omega (arith, h.turns, fits_all p w h.fits) };
+      now = record { fields = h.fields; on_trial = h.on_trial; busy = subst (λ (op : Option Op). IsSome op) (sym e) refl; turns = omega (arith, h.turns, fits_all p u h.fits) };
     }
-    go None e = prepared_lands p (prep_started w) (
-        started_prepared p w (over_tried p w h (subst (λ (op : Option Op). IsNone op) (sym e) refl)) h.counts h.fits h.due (omega (arith, h.turns, h.few)) (omega (arith, h.told, h.counts.few_sets, h.counts.few_slots))
+    go None e = prepared_lands p u (prep_started u) (
+        started_prepared p u h.wide (over_tried p w v h (subst (λ (op : Option Op). IsNone op) (sym e) refl)) h.counts h.fits (omega (arith, h.turns, h.few)) (omega (arith, h.told, h.counts.few_sets, h.counts.few_slots))
         )

@@ -1,19 +1,21 @@
--- What holds of the parts while slots are released and sets tested, from a batch to the next trial.
-use Rattle.std.specs.Prelude.{◌≡◌, ◌⊎◌, ℕ, ◌+◌, ◌-◌, ◌*◌, ◌^◌, ◌<◌, ◌≤◌, nat_le, true, false, Option, None, Some, IsNone, List, [], length}
+-- What holds while slots are released and sets tested, from a batch to the next trial.
+use Rattle.std.specs.Prelude.{◌≡◌, ℕ, ◌+◌, ◌-◌, ◌*◌, ◌^◌, ◌<◌, ◌≤◌, nat_le, true, false, Option, None, Some, IsSome, List, [], length}
 use Rattle.rec_counts.specs.Counts.{State, slot_at}
 use Rattle.rec_counts.specs.Lists.{one, times}
 use Rattle.rec_counts.specs.Colour.{is_gray, is_white}
 use Rattle.rec_release.specs.CycleFree as frees
 use Rattle.rec_release.specs.Release as releases
+use Rattle.rec_release.specs.Release.{IsReady}
 use Rattle.rec_release.specs.Released.{is_at}
 use Rattle.rec_release.specs.Sweep.{AreUnbuffered}
 use Rattle.rec_release.specs.TakenOff.{AllZerosButOrange, IsApart}
 use Rattle.rec_release.specs.declared.at.At.{At}
 use Rattle.rec_walk.specs.declared.member.Member.{Member}
-use Rattle.rec_trial.specs.Trial.{next_of as trial_next}
 use Rattle.rec_collector.specs.Outside.{AreOutside}
 use Rattle.rec_collector.specs.Parts.{Parts}
-use Rattle.rec_collector.specs.Testing.{told}
+use Rattle.rec_collector.specs.Testing.{Begun, told}
+use Rattle.rec_collector.specs.declared.phase.Phase.{Phase}
+use Rattle.rec_collector.specs.declared.phase.Phase.TheVariants.{Freeing, Releasing}
 
 -- no trial is at work on the counts, and the last one has left nothing behind but its sets
 pub record IsUntried (s : State) : Type 0 where
@@ -40,20 +42,40 @@ pub record IsTidy (fields : ℕ) (s : State) (at : Option At) : Type 0 where
   pub unbuffered : AreUnbuffered s
   pub held : AreHeld s
 
--- Slots are released, or a set is freed, or neither; and nothing else is at work.
-pub record IsClearing (w : Parts) : Type 0 where
-  pub tidy : IsTidy w.prep.fields w.counts w.release.at
+-- No slot is released and no set freed: no zeros are left, and the work list is empty.
+pub record IsCleared (w : Parts) : Type 0 where
+  pub tidy : IsTidy w.fields w.counts None
   pub open tidy use *
-  pub idle : IsNone (trial_next w.trial)
-  pub unprepared : w.prep.at ≡ None
-  pub release : releases.IsAtWork w.release w.counts
-  pub freeing : frees.IsAtWork w.freeing w.counts
-  pub one : (w.release.at ≡ None) ⊎ (w.freeing.at ≡ None)
-  pub work : w.freeing.at ≡ None → w.counts.work ≡ []
+  pub ready : IsReady w.counts
+  pub zeros : w.counts.zeros ≡ []
+  pub work : w.counts.work ≡ []
 
--- where neither is done, no zeros are left
-abbrev pub IsDone : Parts → Type 0
-IsDone w = w.release.at ≡ None → w.freeing.at ≡ None → w.counts.zeros ≡ []
+-- slots are released
+pub record IsReleasing (w : Parts) (m : releases.Machine) : Type 0 where
+  pub fields : m.fields ≡ w.fields
+  pub busy : IsSome m.at
+  pub tidy : IsTidy w.fields w.counts m.at
+  pub open tidy use *
+  pub release : releases.IsAtWork m w.counts
+  pub work : w.counts.work ≡ []
+
+-- a set is freed
+pub record IsFreeing (w : Parts) (m : frees.Machine) : Type 0 where
+  pub fields : m.fields ≡ w.fields
+  pub busy : IsSome m.at
+  pub tidy : IsTidy w.fields w.counts None
+  pub open tidy use *
+  pub freeing : frees.IsAtWork m w.counts
+
+-- what holds between a batch and the next trial, by what was begun
+abbrev pub IsClearingIn : Parts → Option Phase → Type 0
+IsClearingIn w None = IsCleared w
+IsClearingIn w (Some (Releasing m)) = IsReleasing w m
+IsClearingIn w (Some (Freeing m)) = IsFreeing w m
+IsClearingIn w (Some _) = ⊥
+
+abbrev pub IsClearing : Begun → Type 0
+IsClearing b = IsClearingIn b.parts b.phase
 
 -- the sets that were tested and those that are left can be counted
 abbrev pub IsFewTold : Parts → Type 0
@@ -68,12 +90,20 @@ abbrev pub freeing_left : (fields : ℕ) → (members : List ℕ) → Option Mem
 freeing_left fields members None = 0
 freeing_left fields members (Some a) = (length members - (a.index + 1)) * fields + (fields - a.field)
 
+abbrev pub fields_left : Parts → Option Phase → ℕ
+fields_left w (Some (Releasing m)) = release_left w.fields m.at
+fields_left w (Some (Freeing m)) = freeing_left w.fields w.counts.work m.at
+fields_left w _ = 0
+
 -- So many fields were exchanged at most. Of each released slot all were, but for those that are left.
-pub record HasExchanged (w : Parts) (exchanged : ℕ) : Type 0 where
+pub record HasExchanged (w : Parts) (phase : Option Phase) (exchanged : ℕ) : Type 0 where
   pub gone : List ℕ
   pub are : (x : ℕ) → times x gone + one (nat_le (length w.counts.slots) x) ≡ one (slot_at w.counts x).released
-  pub few : exchanged + release_left w.release.fields w.release.at + freeing_left w.freeing.fields w.counts.work w.freeing.at ≤ length gone * w.release.fields
+  pub few : exchanged + fields_left w phase ≤ length gone * w.fields
 
--- slots have fields
-abbrev pub IsWide : Parts → Type 0
-IsWide w = (0 < w.release.fields) × (0 < w.freeing.fields)
+-- What a collection has come to, between a batch and the next trial.
+pub record IsClear (b : Begun) : Type 0 where
+  pub clearing : IsClearing b
+  pub exchanged : ℕ
+  pub exchanges : HasExchanged b.parts b.phase exchanged
+  pub few : IsFewTold b.parts

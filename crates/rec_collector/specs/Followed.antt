@@ -3,14 +3,13 @@ use Rattle.std.specs.Prelude.{ℕ, true, false, Option, None, Some, List, [], �
 use Rattle.rec_word.specs.declared.op.Op.{Op}
 use Rattle.rec_release.specs.CycleFree as frees
 use Rattle.rec_release.specs.Release as releases
-use Rattle.rec_release.specs.declared.at.At.{At}
 use Rattle.rec_walk.specs.declared.member.Member.{Member}
 use Rattle.rec_sigma.specs.Prepare as preps
 use Rattle.rec_sigma.specs.declared.at.At as loads
 use Rattle.rec_trial.specs.Trial as trials
 use Rattle.rec_collector.specs.Offered.{offered_where}
-use Rattle.rec_collector.specs.Parts.{Parts}
-use Rattle.rec_collector.specs.Testing.{tested, with_freeing, with_release, zeros_released}
+use Rattle.rec_collector.specs.Parts.{Parts, new_prep}
+use Rattle.rec_collector.specs.Testing.{Begun, tested, with_release, zeros_released}
 use Rattle.rec_collector.specs.declared.phase.Phase.{Phase}
 use Rattle.rec_collector.specs.declared.phase.Phase.TheVariants.{Releasing, Freeing, Trying, Preparing, Opening, Closing}
 
@@ -27,77 +26,77 @@ abbrev pub sweep_phase : List ℕ → Phase
 sweep_phase [] = Closing 0
 sweep_phase (x ∷ free) = Opening
 
--- the preparation goes on while a field is due; then what is free is swept
-abbrev pub prepared_at : Parts → Option loads.At → Next
-prepared_at w (Some a) = next_in Preparing w
-prepared_at w None = next_in (sweep_phase w.counts.free) w
+-- a preparation goes on while a field is due; then what is free is swept
+abbrev pub prepared_at : Parts → preps.Machine → Option loads.At → Next
+prepared_at w m (Some a) = next_in (Preparing m) w
+prepared_at w m None = next_in (sweep_phase w.counts.free) w
 
-unfoldable pub prepared : Parts → Next
-prepared w = prepared_at w w.prep.at
-
-abbrev pub with_prep : Parts → preps.Work → Parts
-with_prep w v = record w { counts = v.counts; prep = v.machine }
+-- a preparation came so far
+unfoldable pub prepared : Parts → preps.Work → Next
+prepared w v = prepared_at (record w { counts = v.counts }) v.machine v.machine.at
 
 -- the sets are to be prepared
-abbrev pub prep_started : Parts → Parts
-prep_started w = with_prep w (preps.started_of w.prep w.counts)
+abbrev pub prep_started : Parts → preps.Work
+prep_started w = preps.started_of (new_prep w.fields) w.counts
 
--- the trial goes on while a field is to be loaded; then its sets are prepared
-abbrev pub tried_at : Parts → Option Op → Next
-tried_at w (Some op) = next_in Trying w
-tried_at w None = prepared (prep_started w)
+-- a trial goes on while a field is to be loaded; then its sets are prepared
+abbrev pub tried_at : Parts → trials.Machine → Option Op → Next
+tried_at w m (Some op) = next_in (Trying m) w
+tried_at w m None = prepared w (prep_started w)
 
-unfoldable pub tried : Parts → Next
-tried w = tried_at w (trials.next_of w.trial)
-
-abbrev pub with_trial : Parts → trials.Work → Parts
-with_trial w v = record w { counts = v.counts; trial = v.machine }
+-- a trial came so far
+unfoldable pub tried : Parts → trials.Work → Next
+tried w v = tried_at (record w { counts = v.counts }) v.machine (trials.next_of v.machine)
 
 -- every slot is offered where that was asked for
 abbrev pub with_offers : Parts → Parts
 with_offers w = record w { counts = offered_where w.offers w.counts; offers = false }
 
--- a trial begins on these counts
-abbrev pub trial_begun : Parts → Parts
-trial_begun w = with_trial w (trials.started_of w.trial.fields w.counts)
-
 -- a trial begins, once every slot was offered where that was asked for
-abbrev pub trial_started : Parts → Parts
-trial_started w = trial_begun (with_offers w)
+abbrev pub trial_started : Parts → Next
+trial_started w = tried (with_offers w) (trials.started_of w.fields (with_offers w).counts)
 
--- the freeing of a set, or the release of a slot, goes on while a field is due; then a trial begins
-abbrev pub tested_on : Parts → Option At → Option Member → Next
-tested_on w at (Some m) = next_in Freeing w
-tested_on w (Some a) None = next_in Releasing w
-tested_on w None None = tried (trial_started w)
+-- what was begun goes on; where nothing was, a trial begins
+abbrev pub going_on : Parts → Option Phase → Next
+going_on w (Some phase) = next_in phase w
+going_on w None = trial_started w
 
-abbrev pub tested_next : Parts → Next
-tested_next w = tested_on w w.release.at w.freeing.at
+abbrev pub gone_on : Begun → Next
+gone_on b = going_on b.parts b.phase
 
 -- sets are tested where nothing is released or freed
-unfoldable pub followed : Parts → Next
-followed w = tested_next (tested (length w.counts.sets) w)
+unfoldable pub followed : Begun → Next
+followed b = gone_on (tested (length b.parts.counts.sets) b)
 
 -- a word came out of a field of a released slot
-abbrev pub with_released : Parts → (word : ℕ) → Parts
-with_released w word = with_release w (releases.took_of (record { machine = w.release; counts = w.counts }) word)
+abbrev pub with_released : releases.Machine → Parts → (word : ℕ) → Begun
+with_released m w word = with_release w (releases.took_of (record { machine = m; counts = w.counts }) word)
+
+-- the freeing of a set goes on while a field is due; then the zeros are released
+abbrev pub relieved_at : Parts → frees.Machine → Option Member → Begun
+relieved_at w m (Some a) = record { parts = w; phase = Some (Freeing m) }
+relieved_at w m None = zeros_released true w
+
+-- the freeing of a set came so far
+abbrev pub relieved : Parts → frees.Work → Begun
+relieved w v = relieved_at (record w { counts = v.counts }) v.machine v.machine.at
 
 -- a word came out of a field of a member of the set that is freed
-abbrev pub with_freed : Parts → (word : ℕ) → Parts
-with_freed w word = with_freeing w (frees.took_of (record { machine = w.freeing; counts = w.counts }) word)
-
-abbrev pub relieved_at : Parts → Option Member → Parts
-relieved_at w (Some m) = w
-relieved_at w None = zeros_released true w
-
--- once a set is freed, the zeros are released
-abbrev pub relieved : Parts → Parts
-relieved w = relieved_at w w.freeing.at
+abbrev pub with_freed : frees.Machine → Parts → (word : ℕ) → Begun
+with_freed m w word = relieved w (frees.took_of (record { machine = m; counts = w.counts }) word)
 
 -- a field was loaded for the trial
-abbrev pub with_tried : Parts → (word : ℕ) → Parts
-with_tried w word = with_trial w (trials.took_of (record { machine = w.trial; counts = w.counts }) word)
+abbrev pub with_tried : trials.Machine → Parts → (word : ℕ) → Next
+with_tried m w word = tried w (trials.took_of (record { machine = m; counts = w.counts }) word)
 
 -- a field was loaded for the preparation
-abbrev pub with_loaded : Parts → (word : ℕ) → Parts
-with_loaded w word = with_prep w (preps.took_of (record { machine = w.prep; counts = w.counts }) word)
+abbrev pub with_loaded : preps.Machine → Parts → (word : ℕ) → Next
+with_loaded m w word = prepared w (preps.took_of (record { machine = m; counts = w.counts }) word)
+
+-- what follows a word, by the machine that is at work
+abbrev pub worked : Parts → (word : ℕ) → Phase → Next
+worked w word (Releasing release) = followed (with_released release w word)
+worked w word (Freeing freeing) = followed (with_freed freeing w word)
+worked w word (Trying trial) = with_tried trial w word
+worked w word (Preparing prep) = with_loaded prep w word
+worked w word phase = next_in phase w

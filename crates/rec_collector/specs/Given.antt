@@ -7,7 +7,7 @@ use Rattle.rec_apply.specs.Targets.{added, taken}
 use Rattle.rec_trial.specs.Rules.{LeadsToUnreleased}
 use Rattle.rec_collector.specs.Private.{Private}
 use Rattle.rec_collector.specs.declared.phase.Phase.{Phase}
-use Rattle.rec_collector.specs.declared.phase.Phase.TheVariants.{Swapping, Returning, Releasing, Freeing, Trying, Preparing}
+use Rattle.rec_collector.specs.declared.phase.Phase.TheVariants.{Swapping, Returning, Releasing, Freeing, Trying, Preparing, Sweeping}
 
 -- these buffers name slots that are there, and no count passes the greatest or falls below zero
 pub record IsCovered (s : State) (newer older : List Contents) : Type 0 where
@@ -21,10 +21,10 @@ pub record IsCovered (s : State) (newer older : List Contents) : Type 0 where
 unfoldable pub IsGivenAt : Private → (word : ℕ) → Phase → Type 0
 IsGivenAt p word (Swapping t) = ⊥
 IsGivenAt p word (Returning t) = t ≡ length p.newer → IsCovered p.counts p.newer p.older
-IsGivenAt p word Releasing = IfSome (target_of word) (λ slot. 0 < (slot_at p.counts slot).count)
-IsGivenAt p word Freeing = IfSome (target_of word) (λ slot. 0 < (slot_at p.counts slot).count)
-IsGivenAt p word Trying = LeadsToUnreleased p.counts word
-IsGivenAt p word Preparing = IfSome (target_of word) (λ slot. slot < length p.counts.slots)
+IsGivenAt p word (Releasing release) = IfSome (target_of word) (λ slot. 0 < (slot_at p.counts slot).count)
+IsGivenAt p word (Freeing freeing) = IfSome (target_of word) (λ slot. 0 < (slot_at p.counts slot).count)
+IsGivenAt p word (Trying trial) = LeadsToUnreleased p.counts word
+IsGivenAt p word (Preparing prep) = IfSome (target_of word) (λ slot. slot < length p.counts.slots)
 IsGivenAt p word _ = Unit {0}
 
 -- what the word found has to be
@@ -44,3 +44,16 @@ IsSwapping _ = ⊥
 abbrev pub swapping_for : Phase → Option ℕ
 swapping_for (Swapping t) = Some t
 swapping_for _ = None
+
+-- a machine is at work in this phase
+abbrev pub IsWork : Phase → Type 0
+IsWork (Releasing release) = Unit {0}
+IsWork (Freeing freeing) = Unit {0}
+IsWork (Trying trial) = Unit {0}
+IsWork (Preparing prep) = Unit {0}
+IsWork _ = ⊥
+
+-- a sweep is at work
+abbrev pub IsSweepingIn : Phase → Type 0
+IsSweepingIn (Sweeping due swept) = Unit {0}
+IsSweepingIn _ = ⊥

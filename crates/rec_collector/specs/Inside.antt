@@ -14,16 +14,12 @@ private inside =
       phase = inside.phase;
       registers = inside.registers;
       capacity = inside.capacity;
+      fields = inside.parts.fields;
       counts = inside.parts.counts;
       newer = inside.newer.items;
       older = inside.older.items;
-      release = inside.parts.release;
-      freeing = inside.parts.freeing;
-      trial = inside.parts.trial;
-      prep = inside.parts.prep;
       sets = inside.parts.sets;
       offers = inside.parts.offers;
-      due = inside.sweep;
     }
 
 -- what the fields of every machine keep

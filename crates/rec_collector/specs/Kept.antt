@@ -1,11 +1,9 @@
 -- What every machine keeps, by phase.
-use Rattle.std.specs.Prelude.{◌≡◌, ◌≢◌, ℕ, ◌+◌, ◌-◌, ◌*◌, ◌^◌, ◌<◌, ◌≤◌, true, false, None, IsNone, IsSome, List, [], length, slice_get}
+use Rattle.std.specs.Prelude.{◌≡◌, ◌≢◌, ℕ, ◌+◌, ◌-◌, ◌*◌, ◌^◌, ◌<◌, ◌≤◌, true, false, Some, IsSome, List, [], length, slice_get}
 use Rattle.rec_log.specs.declared.contents.Contents.{Contents}
 use Rattle.rec_counts.specs.declared.colour.Colour.TheVariants.{Orange}
 use Rattle.rec_counts.specs.Counts.{State, slot_at, IsKept as IsKeptCounts}
 use Rattle.rec_counts.specs.Lists.{times}
-use Rattle.rec_release.specs.CycleFree as frees
-use Rattle.rec_release.specs.Release as releases
 use Rattle.rec_release.specs.Sweep.{AreUnbuffered}
 use Rattle.rec_release.specs.TakenOff.{IsApart}
 use Rattle.rec_sigma.specs.Prepare as preps
@@ -13,7 +11,7 @@ use Rattle.rec_walk.specs.Load.{Load}
 use Rattle.rec_sigma.specs.Prepared as prepared
 use Rattle.rec_trial.specs.Loaded as trials
 use Rattle.rec_trial.specs.Trial.{Machine as Trial, next_of as trial_next}
-use Rattle.rec_collector.specs.Clearing.{IsUntried, IsClearing, HasExchanged}
+use Rattle.rec_collector.specs.Clearing.{IsUntried, IsClearingIn, HasExchanged}
 use Rattle.rec_collector.specs.Given.{IsSized}
 use Rattle.rec_collector.specs.Outside.{AreOutside}
 use Rattle.rec_collector.specs.Parts.{Parts}
@@ -25,7 +23,7 @@ use Rattle.rec_collector.specs.declared.phase.Phase.TheVariants.{Idle, Looking, 
 
 -- how many fields there are in all
 abbrev pub all_fields : Private → ℕ
-all_fields p = length p.counts.slots * p.release.fields
+all_fields p = length p.counts.slots * p.fields
 
 -- the most turns that a collection takes
 abbrev pub limit_of : Private → ℕ
@@ -52,37 +50,30 @@ pub record IsListed (s : State) : Type 0 where
 
 -- Nothing is left to release or to try, and each slot has a count. Every released slot is in the free list, and no slot of it is
 -- buffered.
-pub record AreTried (s : State) (release : releases.Machine) (freeing : frees.Machine) (trial : Trial) : Type 0 where
+pub record AreTried (s : State) : Type 0 where
   pub untried : IsUntried s
-  pub idle : IsNone (trial_next trial)
   pub apart : IsApart s
   pub counted : AreCounted s
   pub zeros : s.zeros ≡ []
   pub roots : s.roots ≡ []
   pub work : s.work ≡ []
-  pub still : release.at ≡ None
-  pub unfreed : freeing.at ≡ None
   pub listed : (x : ℕ) → x < length s.slots → (slot_at s x).released ≡ true → 0 < times x s.free
   pub unbuffered : AreUnbuffered s
 
-abbrev pub IsTried : Parts → Type 0
-IsTried w = AreTried w.counts w.release w.freeing w.trial
-
--- nor is anything left to prepare
-pub record ArePrepared (s : State) (release : releases.Machine) (freeing : frees.Machine) (trial : Trial) (prep : preps.Machine) : Type 0 where
-  pub tried : AreTried s release freeing trial
+-- nor is anything left to prepare, of slots with so many fields
+pub record ArePrepared (fields : ℕ) (s : State) : Type 0 where
+  pub tried : AreTried s
   pub open tried use *
-  pub unprepared : prep.at ≡ None
-  pub outside : AreOutside prep.fields s
+  pub outside : AreOutside fields s
 
 -- nor to sweep
-pub record AreResting (s : State) (release : releases.Machine) (freeing : frees.Machine) (trial : Trial) (prep : preps.Machine) : Type 0 where
-  pub prepared : ArePrepared s release freeing trial prep
+pub record AreResting (fields : ℕ) (s : State) : Type 0 where
+  pub prepared : ArePrepared fields s
   pub open prepared use *
   pub free : s.free ≡ []
 
 abbrev pub IsAtRest : Parts → Type 0
-IsAtRest w = AreResting w.counts w.release w.freeing w.trial w.prep
+IsAtRest w = AreResting w.fields w.counts
 
 -- so many mailboxes were given back; the mutator at work is there, and so many turns were made
 pub record IsGathering (p : Private) (t given_back made : ℕ) : Type 0 where
@@ -91,39 +82,34 @@ pub record IsGathering (p : Private) (t given_back made : ℕ) : Type 0 where
   pub there : t ≤ length p.newer
   pub spares : AreSpare p given_back
   pub turns : p.turns ≡ made
-  pub due : p.due ≡ None
 
 -- Slots are released, or a set is freed. Each turn since the batch exchanged another field.
-pub record IsTesting (p : Private) : Type 0 where
-  pub clearing : IsClearing (parts_of p)
+pub record IsTesting (p : Private) (phase : Phase) : Type 0 where
+  pub clearing : IsClearingIn (parts_of p) (Some phase)
   pub exchanged : ℕ
-  pub exchanges : HasExchanged (parts_of p) exchanged
+  pub exchanges : HasExchanged (parts_of p) (Some phase) exchanged
   pub turns : p.turns ≤ 1 + 2 * length p.newer + exchanged
-  pub due : p.due ≡ None
 
 -- A trial is at work or over, and nothing is left to release. No slot was Orange as it began.
-pub record AreOnTrial (s : State) (release : releases.Machine) (freeing : frees.Machine) (trial : Trial) (prep : preps.Machine) : Type 0 where
+pub record AreOnTrial (s : State) (trial : Trial) : Type 0 where
   pub kept : trials.IsAtWork trial s
   pub uncoloured : (x : ℕ) → (slot_at kept.before x).colour ≢ Orange
   pub counted : AreCounted s
   pub zeros : s.zeros ≡ []
-  pub still : release.at ≡ None
-  pub unfreed : freeing.at ≡ None
-  pub unprepared : prep.at ≡ None
   pub places : IsListed s
   pub open places use *
 
 -- a trial is at work: each turn since it began took in a word
-pub record IsTrying (p : Private) : Type 0 where
-  pub on_trial : AreOnTrial p.counts p.release p.freeing p.trial p.prep
+pub record IsTrying (p : Private) (trial : Trial) : Type 0 where
+  pub fields : trial.fields ≡ p.fields
+  pub on_trial : AreOnTrial p.counts trial
   pub open on_trial use *
-  pub busy : IsSome (trial_next p.trial)
-  pub due : p.due ≡ None
+  pub busy : IsSome (trial_next trial)
   pub turns : p.turns ≤ 1 + 2 * length p.newer + all_fields p + length kept.words
 
 -- the sets that a trial found are prepared, or were
-pub record AreInPreparation (s : State) (release : releases.Machine) (freeing : frees.Machine) (trial : Trial) (prep : preps.Machine) : Type 0 where
-  pub tried : AreTried s release freeing trial
+pub record AreInPreparation (s : State) (prep : preps.Machine) : Type 0 where
+  pub tried : AreTried s
   pub kept : preps.IsAtWork prep s
   pub before : State
   pub before_kept : IsKeptCounts before
@@ -131,62 +117,58 @@ pub record AreInPreparation (s : State) (release : releases.Machine) (freeing : 
   pub prepares : prepared.PreparedTo prep.fields before prep.at s loads
 
 -- they are: each turn since this began took in a word
-pub record IsPreparing (p : Private) : Type 0 where
-  pub preparation : AreInPreparation p.counts p.release p.freeing p.trial p.prep
+pub record IsPreparing (p : Private) (prep : preps.Machine) : Type 0 where
+  pub fields : prep.fields ≡ p.fields
+  pub preparation : AreInPreparation p.counts prep
   pub open preparation use *
-  pub busy : IsSome p.prep.at
-  pub due : p.due ≡ None
+  pub busy : IsSome prep.at
   pub turns : p.turns ≤ 2 + 2 * length p.newer + 4 * all_fields p + length loads
 
 -- A sweep is at work, or about to begin or to end: so many were swept, and the others are left.
 pub record IsSweeping (p : Private) (swept made : ℕ) : Type 0 where
-  pub before : ArePrepared p.counts p.release p.freeing p.trial p.prep
+  pub before : ArePrepared p.fields p.counts
   pub open before use *
   pub left : swept + length p.counts.free ≤ length p.counts.slots
   pub turns : p.turns ≤ 2 + 2 * length p.newer + 5 * all_fields p + made
 
 -- what holds in each phase
 abbrev pub IsAt : Private → Phase → Type 0
-IsAt p Idle = IsAtRest (parts_of p) × AreSpare p 0 × (p.turns ≡ 0) × (p.due ≡ None)
+IsAt p Idle = IsAtRest (parts_of p) × AreSpare p 0 × (p.turns ≡ 0)
 IsAt p (Looking t) = IsGathering p t (t - 1) (2 * t - 1)
 IsAt p (Swapping t) = IsGathering p t (t - 1) (2 * t)
 IsAt p (Returning t) = IsGathering p t t (2 * t)
-IsAt p Releasing = IsTesting p × IsSome p.release.at
-IsAt p Freeing = IsTesting p × IsSome p.freeing.at
-IsAt p Trying = IsTrying p
-IsAt p Preparing = IsPreparing p
-IsAt p Opening = IsSweeping p 0 0 × (0 < length p.counts.free) × (p.due ≡ None)
-IsAt p (Sweeping swept) = IsSweeping p swept (swept + 1) × (0 < length p.counts.free) × (p.due ≡ slice_get p.counts.free 0)
-IsAt p (Closing swept) = IsSweeping p swept (swept + 1) × (p.counts.free ≡ []) × (p.due ≡ None)
+IsAt p (Releasing release) = IsTesting p (Releasing release)
+IsAt p (Freeing freeing) = IsTesting p (Freeing freeing)
+IsAt p (Trying trial) = IsTrying p trial
+IsAt p (Preparing prep) = IsPreparing p prep
+IsAt p Opening = IsSweeping p 0 0 × (0 < length p.counts.free)
+IsAt p (Sweeping due swept) = IsSweeping p swept (swept + 1) × (0 < length p.counts.free) × (due ≡ slice_get p.counts.free 0)
+IsAt p (Closing swept) = IsSweeping p swept (swept + 1) × (p.counts.free ≡ [])
 
 -- how many slots the collection under way has swept
 abbrev pub swept_at : Phase → ℕ
-swept_at (Sweeping swept) = swept
+swept_at (Sweeping due swept) = swept
 swept_at (Closing swept) = swept
 swept_at _ = 0
+
+-- whether the collection under way has made its trial
+abbrev pub tried_in : Phase → ℕ
+tried_in (Preparing prep) = 1
+tried_in Opening = 1
+tried_in (Sweeping due swept) = 1
+tried_in (Closing swept) = 1
+tried_in _ = 0
 
 -- The sets that were tested, and those that wait, were found by the trials of the collections so far, not more in each than there
 -- can be slots.
 abbrev pub IsTold : Private → Phase → Type 0
-IsTold p Trying = told p.sets ≤ 2 ^ 16 * p.collections
-IsTold p Preparing = told p.sets + length p.counts.sets ≤ 2 ^ 16 * (p.collections + 1)
-IsTold p Opening = told p.sets + length p.counts.sets ≤ 2 ^ 16 * (p.collections + 1)
-IsTold p (Sweeping swept) = told p.sets + length p.counts.sets ≤ 2 ^ 16 * (p.collections + 1)
-IsTold p (Closing swept) = told p.sets + length p.counts.sets ≤ 2 ^ 16 * (p.collections + 1)
-IsTold p _ = told p.sets + length p.counts.sets ≤ 2 ^ 16 * p.collections
+IsTold p (Trying trial) = told p.sets ≤ 2 ^ 16 * p.collections
+IsTold p phase = told p.sets + length p.counts.sets ≤ 2 ^ 16 * (p.collections + tried_in phase)
 
 -- whether a collection is under way
 abbrev pub under_way : Phase → ℕ
 under_way Idle = 0
 under_way _ = 1
-
--- slots have as many fields for each machine: some, and few
-pub record HaveFields (n trial freeing prep : ℕ) : Type 0 where
-  pub fields : 0 < n
-  pub trial_fields : trial ≡ n
-  pub freeing_fields : freeing ≡ n
-  pub prep_fields : prep ≡ n
-  pub few_fields : n < 2 ^ 8
 
 -- each mutator has two buffers, and there are some mutators, and few
 pub record AreRows (registers capacity : ℕ) (news olds : List Contents) : Type 0 where
@@ -201,8 +183,8 @@ pub record IsMachine (p : Private) : Type 0 where
   pub epoch : p.epoch < 2 ^ 24
   pub collections : p.collections + under_way p.phase ≤ p.epoch
   pub freed : p.freed ≤ 2 ^ 16 * p.collections + swept_at p.phase
-  pub widths : HaveFields p.release.fields p.trial.fields p.freeing.fields p.prep.fields
-  pub open widths use *
+  pub some_fields : 0 < p.fields
+  pub few_fields : p.fields < 2 ^ 8
   pub rows : AreRows p.registers p.capacity p.newer p.older
   pub open rows use *
   pub counts : IsKeptCounts p.counts
@@ -212,7 +194,7 @@ pub record IsMachine (p : Private) : Type 0 where
 -- what no step changes: the numbers of slots, fields, registers and mutators, and what a buffer can hold
 pub record KeepsSizes (p q : Private) : Type 0 where
   pub slots : length q.counts.slots ≡ length p.counts.slots
-  pub fields : q.release.fields ≡ p.release.fields
+  pub fields : q.fields ≡ p.fields
   pub registers : q.registers ≡ p.registers
   pub capacity : q.capacity ≡ p.capacity
   pub mutators : length q.newer ≡ length p.newer

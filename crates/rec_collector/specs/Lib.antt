@@ -13,4 +13,5 @@ pub mod Step
 pub mod Testing
 pub mod Took
 pub mod Touched
+pub mod Works
 pub mod Zeros

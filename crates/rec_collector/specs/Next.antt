@@ -21,12 +21,12 @@ next_at p Idle = if is_spent p then None else Some (StoreEpoch (p.epoch + 1))
 next_at p (Looking t) = Some (LookBox t p.epoch)
 next_at p (Swapping t) = Some (ReturnBox t p.epoch)
 next_at p (Returning t) = Some (ReturnBox t p.epoch)
-next_at p Releasing = next_of_release p.release
-next_at p Freeing = next_of_freeing p.freeing
-next_at p Trying = next_of_trial p.trial
-next_at p Preparing = next_of_prep p.prep
+next_at p (Releasing release) = next_of_release release
+next_at p (Freeing freeing) = next_of_freeing freeing
+next_at p (Trying trial) = next_of_trial trial
+next_at p (Preparing prep) = next_of_prep prep
 next_at p Opening = Some AddFreed
-next_at p (Sweeping swept) = next_of_sweep p.due
+next_at p (Sweeping due swept) = next_of_sweep due
 next_at p (Closing swept) = Some AddFreed
 
 -- what comes next; None where the epochs are spent

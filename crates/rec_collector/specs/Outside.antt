@@ -15,8 +15,8 @@ lost before s x = (slot_at before x).count - (slot_at s x).count
 
 -- sets are prepared, and wait for their tests or are tested
 abbrev pub HasSets : Phase → Type 0
-HasSets Trying = ⊥
-HasSets Preparing = ⊥
+HasSets (Trying trial) = ⊥
+HasSets (Preparing prep) = ⊥
 HasSets _ = Unit {0}
 
 -- The member is as preparation left it, but for the references that were lowered since: it has no more than then, and its cyclic count

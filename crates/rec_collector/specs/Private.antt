@@ -2,20 +2,15 @@
 use Rattle.std.specs.Prelude.{ℕ, ◌-◌, Bool, false, Option, None, Some, List, [], ◌∷◌, replicate, slice_index_or as item_at}
 use Rattle.rec_log.specs.declared.contents.Contents.{Contents}
 use Rattle.rec_counts.specs.Counts.{State, opened as opened_counts}
-use Rattle.rec_release.specs.CycleFree as frees
-use Rattle.rec_release.specs.Release.{Machine}
-use Rattle.rec_sigma.specs.Prepare as preps
-use Rattle.rec_trial.specs.Trial.{Machine as Trial}
-use Rattle.rec_collector.specs.Parts.{Parts, idle_parts, no_sets}
+use Rattle.rec_collector.specs.Parts.{Parts, no_sets}
 use Rattle.rec_collector.specs.declared.sets.Sets.{Sets}
 use Rattle.rec_collector.specs.declared.phase.Phase.{Phase}
 use Rattle.rec_collector.specs.declared.phase.Phase.TheVariants.{Idle}
 
 -- the requested epoch, the collections completed and the slots swept since opening, and the turns since the last collection;
--- how far the collection has come; the registers and the room of each buffer; the counts; for each mutator the newer
--- buffer, which is a spare until its mailbox was gathered, and the older one; the release, the freeing of a set, the trial and the
--- preparation; what became of the sets that were tested; whether every slot is to be offered to the next trial; and the slot that is
--- swept next
+-- how far the collection has come, with the machine that is at work; the registers and the room of each buffer; how many fields a slot
+-- has; the counts; for each mutator the newer buffer, which is a spare until its mailbox was gathered, and the older one; what became of
+-- the sets that were tested; and whether every slot is to be offered to the next trial
 pub record Private : Type 0 where
   pub epoch : ℕ
   pub collections : ℕ
@@ -24,16 +19,12 @@ pub record Private : Type 0 where
   pub phase : Phase
   pub registers : ℕ
   pub capacity : ℕ
+  pub fields : ℕ
   pub counts : State
   pub newer : List Contents
   pub older : List Contents
-  pub release : Machine
-  pub freeing : frees.Machine
-  pub trial : Trial
-  pub prep : preps.Machine
   pub sets : Sets
   pub offers : Bool
-  pub due : Option ℕ
 
 -- a buffer without entries that has these registers as its snapshot
 abbrev pub retired : (registers : List (Option ℕ)) (capacity : ℕ) → Contents
@@ -62,25 +53,21 @@ opened slots fields registers mutators capacity first_epoch =
       phase = Idle;
       registers = registers;
       capacity = capacity;
+      fields = fields;
       counts = opened_counts slots mutators;
       newer = replicate mutators (blank registers capacity);
       older = replicate mutators (retired (first_registers registers) capacity);
-      release = (idle_parts (opened_counts slots mutators) fields).release;
-      freeing = (idle_parts (opened_counts slots mutators) fields).freeing;
-      trial = (idle_parts (opened_counts slots mutators) fields).trial;
-      prep = (idle_parts (opened_counts slots mutators) fields).prep;
       sets = no_sets;
       offers = false;
-      due = None;
     }
 
 -- the buffer of the mutator of this number, which is one more than its place
 abbrev pub buffer_at : List Contents → (place : ℕ) → Contents
 buffer_at buffers place = item_at buffers place (blank 0 0)
 
--- the parts that work between a batch and a sweep
+-- what the collection works on between a batch and a sweep
 abbrev pub parts_of : Private → Parts
-parts_of p = record { counts = p.counts; release = p.release; freeing = p.freeing; trial = p.trial; prep = p.prep; sets = p.sets; offers = p.offers }
+parts_of p = record { counts = p.counts; fields = p.fields; sets = p.sets; offers = p.offers }
 
 abbrev pub with_parts : Private → Parts → Private
-with_parts p w = record p { counts = w.counts; release = w.release; freeing = w.freeing; trial = w.trial; prep = w.prep; sets = w.sets; offers = w.offers }
+with_parts p w = record p { counts = w.counts; fields = w.fields; sets = w.sets; offers = w.offers }

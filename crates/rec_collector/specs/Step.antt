@@ -14,11 +14,14 @@ use Rattle.rec_release.specs.Sweep as sweeps
 use Rattle.rec_sigma.specs.Judged.{AreOrange, cyclic_sum}
 use Rattle.rec_sigma.specs.Prepare.{next_of as prep_next}
 use Rattle.rec_sigma.specs.Refurbish.{LastRefurbished}
+use Rattle.rec_sigma.specs.Prepare as preps
+use Rattle.rec_release.specs.Release as releases
+use Rattle.rec_trial.specs.Trial as trials
 use Rattle.rec_trial.specs.Trial.{next_of as trial_next}
-use Rattle.rec_collector.specs.Followed.{prep_started, relieved, trial_started, with_freed, with_loaded, with_released, with_tried}
-use Rattle.rec_collector.specs.Parts.{Parts}
+use Rattle.rec_collector.specs.Followed.{prep_started, with_freed, with_offers, with_released}
+use Rattle.rec_collector.specs.Parts.{Parts, new_freeing}
 use Rattle.rec_collector.specs.Private.{Private, parts_of, with_parts}
-use Rattle.rec_collector.specs.Testing.{counted_by, with_freeing, zeros_released}
+use Rattle.rec_collector.specs.Testing.{Begun, counted_by, with_freeing, zeros_released}
 use Rattle.rec_collector.specs.Took.{cleared}
 use Rattle.rec_collector.specs.declared.verdict.Verdict.TheVariants.{Passed, Touched, Held}
 use Rattle.rec_collector.specs.declared.phase.Phase.{Phase}
@@ -39,21 +42,21 @@ pub record Ends (r q : Private) (turn : Turn) (swept : ℕ) : Type 0 where
 
 -- A preparation came so far. While a field is due it goes on. Then a sweep begins, unless the free list is empty: then the
 -- collection is complete.
-pub data PreparesOn (p : Private) (w : Parts) (q : Private) (turn : Turn) : Type 0 where
-  more : w.prep.at ≢ None → GoesOn (with_parts p w) q turn Preparing → PreparesOn p w q turn
-  sweeps_next : w.prep.at ≡ None → w.counts.free ≢ [] → GoesOn (with_parts p w) q turn Opening → PreparesOn p w q turn
-  completes : w.prep.at ≡ None → w.counts.free ≡ [] → Ends (with_parts p w) q turn 0 → PreparesOn p w q turn
+pub data PreparesOn (p : Private) (w : Parts) (v : preps.Work) (q : Private) (turn : Turn) : Type 0 where
+  more : v.machine.at ≢ None → GoesOn (record (with_parts p w) { counts = v.counts }) q turn (Preparing v.machine) → PreparesOn p w v q turn
+  sweeps_next : v.machine.at ≡ None → v.counts.free ≢ [] → GoesOn (record (with_parts p w) { counts = v.counts }) q turn Opening → PreparesOn p w v q turn
+  completes : v.machine.at ≡ None → v.counts.free ≡ [] → Ends (record (with_parts p w) { counts = v.counts }) q turn 0 → PreparesOn p w v q turn
 
 -- A trial came so far. While a field is to be loaded it goes on. Then the sets that it found are prepared.
-pub data TriesOn (p : Private) (w : Parts) (q : Private) (turn : Turn) : Type 0 where
-  more : trial_next w.trial ≢ None → GoesOn (with_parts p w) q turn Trying → TriesOn p w q turn
-  prepares : trial_next w.trial ≡ None → PreparesOn p (prep_started w) q turn → TriesOn p w q turn
+pub data TriesOn (p : Private) (w : Parts) (v : trials.Work) (q : Private) (turn : Turn) : Type 0 where
+  more : trial_next v.machine ≢ None → GoesOn (record (with_parts p w) { counts = v.counts }) q turn (Trying v.machine) → TriesOn p w v q turn
+  prepares : trial_next v.machine ≡ None → PreparesOn p (record w { counts = v.counts }) (prep_started (record w { counts = v.counts })) q turn → TriesOn p w v q turn
 
--- The last set was tested, which made `v` of `w`. It passes where each member is Orange and the members' outside counts sum to
--- zero: then it is freed. Else it is counted under the first test that it fails, and refurbished, and its zeros are released.
-pub data IsTested (w v : Parts) : Type 0 where
+-- The last set was tested, which began `v`. It passes where each member is Orange and the members' outside counts sum to zero: then it
+-- is freed. Else it is counted under the first test that it fails, and refurbished, and its zeros are released.
+pub data IsTested (w : Parts) (v : Begun) : Type 0 where
   passes : AreOrange w.counts (length w.counts.sets - 1) → cyclic_sum w.counts (length w.counts.sets - 1) ≡ 0
-      → v ≡ with_freeing (record w { sets = counted_by Passed w.sets }) (frees.started_of w.freeing w.counts) → IsTested w v
+      → v ≡ with_freeing (record w { sets = counted_by Passed w.sets }) (frees.started_of (new_freeing w.fields) w.counts) → IsTested w v
   fails_delta : (s : State) → (AreOrange w.counts (length w.counts.sets - 1) → ⊥) → LastRefurbished w.counts s
       → v ≡ zeros_released true (record w { counts = s; sets = counted_by Touched w.sets }) → IsTested w v
   fails_sigma : (s : State) → AreOrange w.counts (length w.counts.sets - 1) → 0 < cyclic_sum w.counts (length w.counts.sets - 1) → LastRefurbished w.counts s
@@ -61,15 +64,14 @@ pub data IsTested (w v : Parts) : Type 0 where
 
 -- A release, or the freeing of a set, came so far. While a field is due it goes on. Then the last set is tested, and once no set is
 -- left a trial begins.
-pub data ClearsOn (p q : Private) (turn : Turn) : Parts → Type 0 where
-  frees_on : {w : Parts} → w.freeing.at ≢ None → GoesOn (with_parts p w) q turn Freeing → ClearsOn p q turn w
-  releases_on : {w : Parts} → w.freeing.at ≡ None → w.release.at ≢ None → GoesOn (with_parts p w) q turn Releasing → ClearsOn p q turn w
-  tests : {w : Parts} (v : Parts) → w.freeing.at ≡ None → w.release.at ≡ None → 0 < length w.counts.sets → IsTested w v → ClearsOn p q turn v → ClearsOn p q turn w
-  tries : {w : Parts} → w.freeing.at ≡ None → w.release.at ≡ None → w.counts.sets ≡ [] → TriesOn p (trial_started w) q turn → ClearsOn p q turn w
+pub data ClearsOn (p q : Private) (turn : Turn) : Begun → Type 0 where
+  works : {b : Begun} (phase : Phase) → b.phase ≡ Some phase → GoesOn (with_parts p b.parts) q turn phase → ClearsOn p q turn b
+  tests : {b : Begun} (c : Begun) → b.phase ≡ None → 0 < length b.parts.counts.sets → IsTested b.parts c → ClearsOn p q turn c → ClearsOn p q turn b
+  tries : {b : Begun} → b.phase ≡ None → b.parts.counts.sets ≡ [] → TriesOn p (with_offers b.parts) (trials.started_of b.parts.fields (with_offers b.parts).counts) q turn → ClearsOn p q turn b
 
 -- after one slot more was swept, the next one follows, or the end of the sweep
 pub data IsNext (swept : ℕ) (w : sweeps.Work) (next_phase : Phase) : Type 0 where
-  more : w.due ≢ None → next_phase ≡ Sweeping (swept + 1) → IsNext swept w next_phase
+  more : w.due ≢ None → next_phase ≡ Sweeping w.due (swept + 1) → IsNext swept w next_phase
   last : w.due ≡ None → next_phase ≡ Closing (swept + 1) → IsNext swept w next_phase
 
 -- What a step may be. `word` is the word that the operation `op` finds, `box` what is in the mailbox, where the step takes
@@ -86,16 +88,16 @@ pub data Step (p : Private) (word : ℕ) (box : Contents) (op : Option Op) (q : 
       → GoesOn p q turn (Looking (t + 1)) → Step p word box op q turn
   apply : (t : ℕ) → p.phase ≡ Returning t → t ≡ length p.newer → op ≡ Some (ReturnBox t p.epoch)
       → ClearsOn p q turn (zeros_released false (record (parts_of p) { counts = batch p.counts p.newer p.older })) → Step p word box op q turn
-  release : p.phase ≡ Releasing → op ≡ release_next p.release → ClearsOn p q turn (with_released (parts_of p) word) → Step p word box op q turn
-  freeing : p.phase ≡ Freeing → op ≡ freeing_next p.freeing → ClearsOn p q turn (relieved (with_freed (parts_of p) word)) → Step p word box op q turn
-  trial : p.phase ≡ Trying → op ≡ trial_next p.trial → TriesOn p (with_tried (parts_of p) word) q turn → Step p word box op q turn
-  preparation : p.phase ≡ Preparing → op ≡ prep_next p.prep → PreparesOn p (with_loaded (parts_of p) word) q turn → Step p word box op q turn
+  release : (m : releases.Machine) → p.phase ≡ Releasing m → op ≡ release_next m → ClearsOn p q turn (with_released m (parts_of p) word) → Step p word box op q turn
+  freeing : (m : frees.Machine) → p.phase ≡ Freeing m → op ≡ freeing_next m → ClearsOn p q turn (with_freed m (parts_of p) word) → Step p word box op q turn
+  trial : (m : trials.Machine) → p.phase ≡ Trying m → op ≡ trial_next m → TriesOn p (parts_of p) (trials.took_of (record { machine = m; counts = p.counts }) word) q turn → Step p word box op q turn
+  preparation : (m : preps.Machine) → p.phase ≡ Preparing m → op ≡ prep_next m → PreparesOn p (parts_of p) (preps.took_of (record { machine = m; counts = p.counts }) word) q turn → Step p word box op q turn
   begin_sweep : p.phase ≡ Opening → op ≡ Some AddFreed
-      → GoesOn (record p { due = (sweeps.started_of p.counts).due; counts = (sweeps.started_of p.counts).counts }) q turn (Sweeping 0) → Step p word box op q turn
-  sweep : (swept : ℕ) (w : sweeps.Work) (next_phase : Phase) → p.phase ≡ Sweeping swept → op ≡ sweeps.next_of p.due
-      → w ≡ sweeps.took_of (record { due = p.due; counts = p.counts }) word
+      → GoesOn (record p { counts = (sweeps.started_of p.counts).counts }) q turn (Sweeping (sweeps.started_of p.counts).due 0) → Step p word box op q turn
+  sweep : (due : Option ℕ) (swept : ℕ) (w : sweeps.Work) (next_phase : Phase) → p.phase ≡ Sweeping due swept → op ≡ sweeps.next_of due
+      → w ≡ sweeps.took_of (record { due = due; counts = p.counts }) word
       → IsNext swept w next_phase
-      → GoesOn (record p { due = w.due; counts = w.counts; freed = p.freed + 1 }) q turn next_phase → Step p word box op q turn
+      → GoesOn (record p { counts = w.counts; freed = p.freed + 1 }) q turn next_phase → Step p word box op q turn
   end_sweep : (swept : ℕ) → p.phase ≡ Closing swept → op ≡ Some AddFreed → Ends p q turn swept → Step p word box op q turn
 
 -- What a step leaves in the mailbox that it looks at, which held `box`: where it takes the buffer there, a buffer without entries, with

@@ -1,17 +1,17 @@
 -- What is learnt, and what a turn answers: functions of the private record and of the word found.
-use Rattle.std.specs.Prelude.{ℕ, ◌+◌, ◌-◌, ◌==◌, false, Option, None, Some, [], if◌then◌else◌, length, map, replicate, slice_set}
+use Rattle.std.specs.Prelude.{ℕ, ◌+◌, ◌-◌, ◌==◌, false, Option, None, [], if◌then◌else◌, length, map, replicate, slice_set}
 use Rattle.rec_word.specs.Mailbox.{crossing_word}
 use Rattle.rec_word.specs.declared.mailbox.Mailbox.TheVariants.{Retired}
 use Rattle.rec_log.specs.declared.contents.Contents.{Contents}
 use Rattle.rec_apply.specs.Batch.{batch}
 use Rattle.rec_release.specs.Sweep as sweeps
-use Rattle.rec_collector.specs.Followed.{Next, followed, prepared, relieved, tried, with_freed, with_loaded, with_released, with_tried}
+use Rattle.rec_collector.specs.Followed.{Next, followed, worked}
 use Rattle.rec_collector.specs.Next.{is_spent}
 use Rattle.rec_collector.specs.Parts.{Parts}
 use Rattle.rec_collector.specs.Private.{Private, parts_of, with_parts, spare}
 use Rattle.rec_collector.specs.Testing.{zeros_released}
 use Rattle.rec_collector.specs.declared.phase.Phase.{Phase}
-use Rattle.rec_collector.specs.declared.phase.Phase.TheVariants.{Idle, Looking, Swapping, Returning, Releasing, Freeing, Trying, Preparing, Opening, Sweeping, Closing}
+use Rattle.rec_collector.specs.declared.phase.Phase.TheVariants.{Idle, Looking, Swapping, Returning, Opening, Sweeping, Closing}
 use Rattle.rec_collector.specs.declared.turn.Turn.{Turn}
 use Rattle.rec_collector.specs.declared.turn.Turn.TheVariants.{Moved, Waiting, Collected, EpochsSpent}
 
@@ -47,15 +47,11 @@ returned p t = if t == length p.newer then came p (followed (zeros_released fals
 -- after so many slots the sweep goes on, or ends
 abbrev pub swept_phase : (swept : ℕ) → Option ℕ → Phase
 swept_phase swept None = Closing swept
-swept_phase swept (Some x) = Sweeping swept
-
--- the counts of a sweep, and the slot that it frees next
-abbrev pub with_sweep : Private → sweeps.Work → Private
-with_sweep p w = record p { counts = w.counts; due = w.due }
+swept_phase swept due = Sweeping due swept
 
 -- one slot more is swept
 abbrev pub swept_one : Private → (swept : ℕ) → sweeps.Work → Private
-swept_one p swept w = moved (record (with_sweep p w) { freed = p.freed + 1 }) (swept_phase (swept + 1) w.due)
+swept_one p swept w = moved (record p { counts = w.counts; freed = p.freed + 1 }) (swept_phase (swept + 1) w.due)
 
 -- what is learnt, by phase
 unfoldable pub took_at : Private → (word : ℕ) → Phase → Private
@@ -63,13 +59,10 @@ took_at p word Idle = if is_spent p then p else moved (record p { epoch = p.epoc
 took_at p word (Looking t) = if word == crossing_word p.epoch Retired then moved p (Swapping t) else p
 took_at p word (Swapping t) = moved p (Swapping t)
 took_at p word (Returning t) = returned p t
-took_at p word Releasing = came p (followed (with_released (parts_of p) word))
-took_at p word Freeing = came p (followed (relieved (with_freed (parts_of p) word)))
-took_at p word Trying = came p (tried (with_tried (parts_of p) word))
-took_at p word Preparing = came p (prepared (with_loaded (parts_of p) word))
-took_at p word Opening = moved (with_sweep p (sweeps.started_of p.counts)) (Sweeping 0)
-took_at p word (Sweeping swept) = swept_one p swept (sweeps.took_of (record { due = p.due; counts = p.counts }) word)
+took_at p word Opening = let w : sweeps.Work = sweeps.started_of p.counts in moved (record p { counts = w.counts }) (Sweeping w.due 0)
+took_at p word (Sweeping due swept) = swept_one p swept (sweeps.took_of (record { due = due; counts = p.counts }) word)
 took_at p word (Closing swept) = ended p
+took_at p word phase = came p (worked (parts_of p) word phase)
 
 -- what is learnt
 unfoldable pub took_of : Private → (word : ℕ) → Private
@@ -107,12 +100,8 @@ unfoldable pub turn_at : Private → (word : ℕ) → Phase → Turn
 turn_at p word Idle = if is_spent p then EpochsSpent else Moved
 turn_at p word (Looking t) = if word == crossing_word p.epoch Retired then Moved else Waiting t
 turn_at p word (Returning t) = if t == length p.newer then came_turn p.epoch (followed (zeros_released false (batched p))).phase else Moved
-turn_at p word Releasing = came_turn p.epoch (followed (with_released (parts_of p) word)).phase
-turn_at p word Freeing = came_turn p.epoch (followed (relieved (with_freed (parts_of p) word))).phase
-turn_at p word Trying = came_turn p.epoch (tried (with_tried (parts_of p) word)).phase
-turn_at p word Preparing = came_turn p.epoch (prepared (with_loaded (parts_of p) word)).phase
 turn_at p word (Closing swept) = Collected (p.epoch - 1) swept
-turn_at p word _ = Moved
+turn_at p word phase = came_turn p.epoch (worked (parts_of p) word phase).phase
 
 -- what a turn answers
 unfoldable pub turn_of : Private → (word : ℕ) → Turn

@@ -16,8 +16,8 @@ abbrev pub tried_at : (requested : ℕ) → Phase → ℕ
 tried_at requested (Looking t) = requested - 1
 tried_at requested (Swapping t) = requested - 1
 tried_at requested (Returning t) = requested - 1
-tried_at requested Releasing = requested - 1
-tried_at requested Freeing = requested - 1
+tried_at requested (Releasing release) = requested - 1
+tried_at requested (Freeing freeing) = requested - 1
 tried_at requested _ = requested
 
 -- counted where a reference that came out of a field leads to the slot, and is decremented: where the work lowers, an orange target is
@@ -28,8 +28,8 @@ decrements lowers s target x = one (is_slot x target && not (is_lowered lowers (
 -- how often a step names the slot, by phase: the increments, the decrements and the snapshots of a batch, or one decrement
 abbrev pub named_at : Private → (word x : ℕ) → Phase → ℕ
 named_at p word x (Returning t) = if t == length p.newer then added x p.newer + taken x p.older else 0
-named_at p word x Releasing = decrements p.release.lowers p.counts (target_of word) x
-named_at p word x Freeing = decrements true p.counts (target_of word) x
+named_at p word x (Releasing release) = decrements release.lowers p.counts (target_of word) x
+named_at p word x (Freeing freeing) = decrements true p.counts (target_of word) x
 named_at p word x _ = 0
 
 -- how often a step names the slot

@@ -28,7 +28,7 @@ pub fn machine_makes_steps()
 
 /// The operation that comes next names a word of the heap, and is one of the collector's seven.
 pub fn machine_names_words()
-    ensures { (p : Private) → IsMachine p → IfSome (next_of p) (NamesWord (length p.counts.slots) p.release.fields (length p.newer)) }
+    ensures { (p : Private) → IsMachine p → IfSome (next_of p) (NamesWord (length p.counts.slots) p.fields (length p.newer)) }
 {}
 
 /// What every machine keeps holds after every step, whatever the word that the step finds and the buffer in the mailbox, as
@@ -46,7 +46,7 @@ pub fn zeros_are_exact()
 /// which each reference lowered since preparation took one off: its true count now, less the words that preparation saw in fields of
 /// the set's members.
 pub fn orange_members_have_outside_counts()
-    ensures outside { (p : Private) → IsMachine p → HasSets p.phase → AreOutside p.prep.fields p.counts }
+    ensures outside { (p : Private) → IsMachine p → HasSets p.phase → AreOutside p.fields p.counts }
     ensures cyclic { (fields : ℕ) (s : State) (a : AreOutside fields s) (number x : ℕ) → (slot_at s x).set ≡ Some number → (slot_at s x).colour ≡ Orange → (slot_at s x).cyclic ≡ (slot_at s x).count - seen a.before number a.loads x }
 {}
 

@@ -1,15 +1,13 @@
-ghost use Rattle.std.specs.Prelude.{◌≡◌, ◌≢◌, ◌+◌, ◌*◌, ◌^◌, ◌<◌, ◌≤◌, ◌↔◌, ℕ, None, [], length, IfOk, IfSome, IsNone, IsTrue, true};
+ghost use Rattle.std.specs.Prelude.{◌≡◌, ◌≢◌, ◌+◌, ◌*◌, ◌^◌, ◌<◌, ◌≤◌, ◌↔◌, ℕ, None, length, IfOk, IsNone, true};
 ghost use Rattle.rec_word.specs.Mailbox.{crossing_word};
 ghost use Rattle.rec_word.specs.declared.mailbox.Mailbox.TheVariants.{Retired};
-ghost use Rattle.rec_word.specs.Word.{target_of};
 ghost use Rattle.rec_counts.specs.Counts.{slot_at};
-ghost use Rattle.rec_trial.specs.Rules.{LeadsToUnreleased};
 ghost use Rattle.rec_collector.specs.Causes.{HasCause};
-ghost use Rattle.rec_collector.specs.Given.{IsCovered, IsGiven, IsSized, IsSwapping, swapping_for};
+ghost use Rattle.rec_collector.specs.Given.{IsCovered, IsGiven, IsGivenAt, IsSized, IsSwapping, IsSweepingIn, IsWork, swapping_for};
 ghost use Rattle.rec_collector.specs.Kept.{IsMachine, KeepsSizes, limit_of};
 ghost use Rattle.rec_collector.specs.Next.{next_of};
 ghost use Rattle.rec_collector.specs.Private.{Private, opened};
-ghost use Rattle.rec_collector.specs.Took.{came_turn, ended, ended_if, left_of, swapped_of, swept_phase, took_at, took_of, turn_at, turn_of};
+ghost use Rattle.rec_collector.specs.Took.{came_turn, ended_if, left_of, swapped_of, took_at, took_of, turn_at, turn_of};
 
 use crate::buffers::{clear_all, open_row};
 use crate::parts::Parts;
@@ -42,7 +40,6 @@ pub struct Machine {
     parts: Parts,
     newer: Vec<Buffer>,
     older: Vec<Buffer>,
-    sweep: Sweep,
 }
 
 impl Model for Machine {
@@ -93,10 +90,9 @@ impl Machine {
             phase: Phase::Idle,
             registers: regs,
             capacity: cap,
-            parts: Parts::idle(counts, fields),
+            parts: Parts::of(counts, fields),
             newer,
             older,
-            sweep: Sweep::idle(fields),
         })
     }
 
@@ -107,7 +103,7 @@ impl Machine {
         ensures next { result ≡ next_of self.now }
         ensures none { IsNone result ↔ ((self.now.phase ≡ Phase.Idle) × (self.now.epoch + 1 ≡ 2 ^ 24)) }
     {
-        match self.phase {
+        match &self.phase {
             Phase::Idle => {
                 if self.epoch + 1 == EPOCHS {
                     None
@@ -115,16 +111,16 @@ impl Machine {
                     Some(Op::StoreEpoch(self.epoch + 1))
                 }
             }
-            Phase::Looking { mutator } => Some(Op::LookBox(mutator, self.epoch)),
+            Phase::Looking { mutator } => Some(Op::LookBox(*mutator, self.epoch)),
             Phase::Swapping { mutator } | Phase::Returning { mutator } => {
-                Some(Op::ReturnBox(mutator, self.epoch))
+                Some(Op::ReturnBox(*mutator, self.epoch))
             }
-            Phase::Releasing => self.parts.release.next(),
-            Phase::Freeing => self.parts.freeing.next(),
-            Phase::Trying => self.parts.trial.next(),
-            Phase::Preparing => self.parts.prep.next(),
+            Phase::Releasing(release) => release.next(),
+            Phase::Freeing(freeing) => freeing.next(),
+            Phase::Trying(trial) => trial.next(),
+            Phase::Preparing(prep) => prep.next(),
             Phase::Opening | Phase::Closing { .. } => Some(Op::AddFreed),
-            Phase::Sweeping { .. } => self.sweep.next(),
+            Phase::Sweeping { sweep, .. } => sweep.next(),
         }
     }
 
@@ -205,10 +201,10 @@ impl Machine {
     }
 
     /// How far the collection has come.
-    pub fn phase(&self) -> Phase
-        ensures { result ≡ self.now.phase }
+    pub fn phase(&self) -> &Phase
+        ensures { result.now ≡ self.now.phase }
     {
-        self.phase
+        &self.phase
     }
 
     /// What is kept of the slots: their true and cyclic counts, colours, flags and sets, the root buffer, and the lists.
@@ -286,13 +282,10 @@ impl Machine {
             Phase::Looking { mutator } => self.took_look(mutator, word),
             Phase::Swapping { .. } => Turn::Moved,
             Phase::Returning { mutator } => self.took_return(mutator),
-            Phase::Releasing => self.took_release(word),
-            Phase::Freeing => self.took_freeing(word),
-            Phase::Trying => self.took_trial(word),
-            Phase::Preparing => self.took_preparation(word),
             Phase::Opening => self.took_opening(),
-            Phase::Sweeping { swept } => self.took_sweep(swept, word),
+            Phase::Sweeping { .. } => self.took_sweep(word),
             Phase::Closing { swept } => self.end(swept),
+            _ => self.took_work(word),
         }
     }
 
@@ -356,66 +349,18 @@ impl Machine {
         self.end_if_nothing_is_free()
     }
 
-    // A word came out of a field of a released slot.
+    // A word came out of a field, or was loaded from one, for the machine at work. Where its work is over, the next phase follows.
     #[inline(always)]
-    fn took_release(&mut self, word: u64) -> Turn
-        requires phase { self.old.phase ≡ Phase.Releasing }
-        requires counted { IfSome (target_of word) (λ slot. 0 < (slot_at self.old.counts slot).count) }
+    fn took_work(&mut self, word: u64) -> Turn
+        requires works { IsWork self.old.phase }
+        requires given { IsGivenAt self.old word self.old.phase }
 
-        ensures took { self.new ≡ took_at self.old word Phase.Releasing }
-        ensures turn { result ≡ turn_at self.old word Phase.Releasing }
+        ensures took { self.new ≡ took_at self.old word self.old.phase }
+        ensures turn { result ≡ turn_at self.old word self.old.phase }
         ensures same { KeepsSizes self.old self.new }
         ensures kept { IsMachine self.new }
     {
-        self.phase = self.parts.took_release(word);
-        self.turns += 1;
-        self.end_if_nothing_is_free()
-    }
-
-    // A word came out of a field of a member of the set that is freed.
-    #[inline(always)]
-    fn took_freeing(&mut self, word: u64) -> Turn
-        requires phase { self.old.phase ≡ Phase.Freeing }
-        requires counted { IfSome (target_of word) (λ slot. 0 < (slot_at self.old.counts slot).count) }
-
-        ensures took { self.new ≡ took_at self.old word Phase.Freeing }
-        ensures turn { result ≡ turn_at self.old word Phase.Freeing }
-        ensures same { KeepsSizes self.old self.new }
-        ensures kept { IsMachine self.new }
-    {
-        self.phase = self.parts.took_freeing(word);
-        self.turns += 1;
-        self.end_if_nothing_is_free()
-    }
-
-    // A field was loaded for the trial.
-    #[inline(always)]
-    fn took_trial(&mut self, word: u64) -> Turn
-        requires phase { self.old.phase ≡ Phase.Trying }
-        requires unreleased { LeadsToUnreleased self.old.counts word }
-
-        ensures took { self.new ≡ took_at self.old word Phase.Trying }
-        ensures turn { result ≡ turn_at self.old word Phase.Trying }
-        ensures same { KeepsSizes self.old self.new }
-        ensures kept { IsMachine self.new }
-    {
-        self.phase = self.parts.took_trial(word);
-        self.turns += 1;
-        self.end_if_nothing_is_free()
-    }
-
-    // A field was loaded for the preparation of sets.
-    #[inline(always)]
-    fn took_preparation(&mut self, word: u64) -> Turn
-        requires phase { self.old.phase ≡ Phase.Preparing }
-        requires in_range { IfSome (target_of word) (λ slot. slot < length self.old.counts.slots) }
-
-        ensures took { self.new ≡ took_at self.old word Phase.Preparing }
-        ensures turn { result ≡ turn_at self.old word Phase.Preparing }
-        ensures same { KeepsSizes self.old self.new }
-        ensures kept { IsMachine self.new }
-    {
-        self.phase = self.parts.took_preparation(word);
+        self.parts.took(&mut self.phase, word);
         self.turns += 1;
         self.end_if_nothing_is_free()
     }
@@ -430,8 +375,9 @@ impl Machine {
         ensures same { KeepsSizes self.old self.new }
         ensures kept { IsMachine self.new }
     {
-        self.sweep.start(&mut self.parts.counts);
-        self.phase = Phase::Sweeping { swept: 0 };
+        let mut sweep = Sweep::idle();
+        sweep.start(&mut self.parts.counts);
+        self.phase = Phase::Sweeping { sweep, swept: 0 };
         self.turns += 1;
         Turn::Moved
     }
@@ -439,18 +385,25 @@ impl Machine {
     // A slot more is swept.
     #[inline(always)]
     #[tactic(auto, unfolding(crate::specs::Took::took_at, crate::specs::Took::turn_at))]
-    fn took_sweep(&mut self, swept: u32, word: u64) -> Turn
-        requires phase { self.old.phase ≡ Phase.Sweeping swept }
+    fn took_sweep(&mut self, word: u64) -> Turn
+        requires sweeping { IsSweepingIn self.old.phase }
 
-        ensures took { self.new ≡ took_at self.old word (Phase.Sweeping swept) }
-        ensures turn { result ≡ turn_at self.old word (Phase.Sweeping swept) }
+        ensures took { self.new ≡ took_at self.old word self.old.phase }
+        ensures turn { result ≡ turn_at self.old word self.old.phase }
         ensures same { KeepsSizes self.old self.new }
         ensures kept { IsMachine self.new }
     {
-        self.sweep.took(&mut self.parts.counts, word);
+        let Phase::Sweeping { sweep, swept } = &mut self.phase else {
+            return Turn::Moved;
+        };
+        sweep.took(&mut self.parts.counts, word);
         self.parts.counts.rules();
+        *swept += 1;
+        let swept = *swept;
+        if sweep.next().is_none() {
+            self.phase = Phase::Closing { swept };
+        }
         self.freed += 1;
-        self.phase = after_slot(&self.sweep, swept + 1);
         self.turns += 1;
         Turn::Moved
     }
@@ -488,16 +441,5 @@ impl Machine {
             epoch: self.epoch - 1,
             freed: swept,
         }
-    }
-}
-
-// What follows once so many slots were swept: the next one, or the end of the sweep.
-fn after_slot(sweep: &Sweep, swept: u32) -> Phase
-    ensures { result ≡ swept_phase swept sweep.now }
-{
-    if sweep.next().is_some() {
-        Phase::Sweeping { swept }
-    } else {
-        Phase::Closing { swept }
     }
 }

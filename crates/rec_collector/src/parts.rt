@@ -1,17 +1,15 @@
-ghost use Rattle.std.specs.Prelude.{◌≡◌, ◌+◌, ◌<◌, ◌^◌, ℕ, None, [], length, IfSome, IsNone, IsSome, false, true};
-ghost use Rattle.rec_word.specs.Word.{target_of};
-ghost use Rattle.rec_counts.specs.Counts.{slot_at};
+ghost use Rattle.std.specs.Prelude.{◌≡◌, ◌+◌, ◌<◌, None, Some, length, false, true};
 ghost use Rattle.rec_apply.specs.Batch.{batch};
+ghost use Rattle.rec_release.specs.CycleFree.{IsFreeable, started_of};
 ghost use Rattle.rec_release.specs.Release.{IsReady};
-ghost use Rattle.rec_trial.specs.Loaded.{IsAtWork as IsTrying};
-ghost use Rattle.rec_trial.specs.Trial.{next_of as trial_next};
-ghost use Rattle.rec_trial.specs.Rules.{IsReady as IsReadyForTrial, LeadsToUnreleased};
-ghost use Rattle.rec_sigma.specs.Prepare.{IsAtWork as IsPreparing};
-ghost use Rattle.rec_collector.specs.Clearing.{IsClearing, IsDone, IsFewTold, IsWide};
-ghost use Rattle.rec_collector.specs.Followed.{followed, prep_started, prepared, relieved, trial_started, tried, with_freed, with_loaded, with_released, with_tried};
+ghost use Rattle.rec_trial.specs.Rules.{IsReady as IsReadyForTrial};
+ghost use Rattle.rec_collector.specs.Clearing.{IsClear, IsCleared, IsFewTold};
+ghost use Rattle.rec_collector.specs.Followed.{followed, prep_started, prepared, sweep_phase, trial_started, with_offers, worked};
+ghost use Rattle.rec_collector.specs.Kept.{NoneReleased};
 ghost use Rattle.rec_collector.specs.Given.{IsCovered};
-ghost use Rattle.rec_collector.specs.Parts.{idle_parts};
-ghost use Rattle.rec_collector.specs.Testing.{is_busy, last_tested, tested, zeros_released};
+ghost use Rattle.rec_collector.specs.Parts.{new_freeing, new_parts};
+ghost use Rattle.rec_collector.specs.Works.{MayWork};
+ghost use Rattle.rec_collector.specs.Testing.{last_tested, with_freeing, zeros_released};
 
 use crate::offer::offer_slots;
 use crate::phase::Phase;
@@ -25,40 +23,37 @@ use rec_sigma::{Prep, refurbish};
 use rec_trial::Trial;
 use std::marker::Model;
 
-/// What works between a batch and a sweep: the counts, the four machines that work on them, what became of the sets, and whether
-/// the next trial is offered every slot.
+/// What a collection works on between a batch and a sweep: the counts, how many fields a slot has, what became of the sets, and
+/// whether the next trial is offered every slot.
 #[derive(Debug, Drop)]
 pub(crate) struct Parts {
     pub(crate) counts: Counts,
-    pub(crate) release: Release,
-    pub(crate) freeing: CycleFree,
-    pub(crate) trial: Trial,
-    pub(crate) prep: Prep,
+    fields: u8,
     pub(crate) sets: Sets,
     // Whether every slot is to be offered to the next trial.
-    pub(crate) offers: bool,
+    offers: bool,
 }
 
 impl Model for Parts {
+    ghost use Rattle.std.specs.Prelude.{◌<◌};
     ghost use Rattle.rec_collector.specs.Parts.{Parts as Whole};
 
     ghost Value = { Whole };
 
-    ghost view = { λ parts. record { counts = parts.counts; release = parts.release; freeing = parts.freeing; trial = parts.trial; prep = parts.prep; sets = parts.sets; offers = parts.offers } };
+    ghost view = { λ parts. record { counts = parts.counts; fields = parts.fields; sets = parts.sets; offers = parts.offers } };
+
+    ghost invariant = { λ parts. 0 < parts.fields };
 }
 
 impl Parts {
-    /// Parts with no work, over slots with so many fields, at least one. No set was tested yet.
-    pub(crate) fn idle(counts: Counts, fields: u8) -> Parts
+    /// The parts of a new machine, over slots with so many fields, at least one. No set was tested yet.
+    pub(crate) fn of(counts: Counts, fields: u8) -> Parts
         requires { 0 < fields }
-        ensures { result ≡ idle_parts counts fields }
+        ensures { result ≡ new_parts counts fields }
     {
         Parts {
             counts,
-            release: Release::idle(fields),
-            freeing: CycleFree::idle(fields),
-            trial: Trial::idle(fields),
-            prep: Prep::idle(fields),
+            fields,
             sets: Sets {
                 freed: 0,
                 delta: 0,
@@ -71,71 +66,85 @@ impl Parts {
     /// The batch of these buffers is applied, and its zeros are to be released. The answer is the phase that follows.
     pub(crate) fn apply_batch(&mut self, newer: &[Buffer], older: &[Buffer]) -> Phase
         requires covered { IsCovered self.old.counts newer.now older.now }
-        requires clearing { IsClearing self.old }
-        requires still { self.old.release.at ≡ None }
-        requires unfreed { self.old.freeing.at ≡ None }
-        requires zeros { self.old.counts.zeros ≡ [] }
+        requires cleared { IsCleared self.old }
+        requires unreleased { NoneReleased self.old.counts }
         requires told { IsFewTold self.old }
-        requires wide { IsWide self.old }
         ensures { record { parts = self.new; phase = result } ≡ followed (zeros_released false (record self.old { counts = batch self.old.counts newer.now older.now })) }
     {
+        self.counts.rules();
         apply(&mut self.counts, newer, older);
-        self.release_zeros()
+        let begun = self.release_zeros(false);
+        self.follow(begun)
     }
 
-    /// A word came out of a field of a released slot.
-    pub(crate) fn took_release(&mut self, word: u64) -> Phase
-        requires busy { IsSome self.old.release.at }
-        requires clearing { IsClearing self.old }
-        requires told { IsFewTold self.old }
-        requires wide { IsWide self.old }
-        requires counted { IfSome (target_of word) (λ slot. 0 < (slot_at self.old.counts slot).count) }
-        ensures { record { parts = self.new; phase = result } ≡ followed (with_released self.old word) }
-    {
-        self.counts.rules();
-        self.release.took(&mut self.counts, word);
-        self.follow()
-    }
-
-    /// A word came out of a field of a member of a set that is freed. After the last one the zeros are released.
+    /// A word came out of a field or was loaded from one, for the machine that is at work. Where its work is over, the next phase
+    /// follows. No phase is a local here, since a function pays for the size of its locals whenever it is called.
     #[inline(always)]
-    pub(crate) fn took_freeing(&mut self, word: u64) -> Phase
-        requires busy { IsSome self.old.freeing.at }
-        requires clearing { IsClearing self.old }
-        requires told { IsFewTold self.old }
-        requires wide { IsWide self.old }
-        requires counted { IfSome (target_of word) (λ slot. 0 < (slot_at self.old.counts slot).count) }
-        ensures { record { parts = self.new; phase = result } ≡ followed (relieved (with_freed self.old word)) }
+    pub(crate) fn took(&mut self, phase: &mut Phase, word: u64)
+        requires { MayWork self.old word phase.old }
+        ensures { record { parts = self.new; phase = phase.new } ≡ worked self.old word phase.old }
     {
-        self.counts.rules();
-        self.freeing.took(&mut self.counts, word);
-        self.relieve();
-        self.follow()
+        match phase {
+            Phase::Releasing(release) => {
+                self.counts.rules();
+                release.took(&mut self.counts, word);
+                if release.next().is_none() {
+                    self.end_release(phase);
+                }
+            }
+            Phase::Freeing(freeing) => {
+                self.counts.rules();
+                freeing.took(&mut self.counts, word);
+                if freeing.next().is_none() {
+                    self.end_freeing(phase);
+                }
+            }
+            Phase::Trying(trial) => {
+                trial.took(&mut self.counts, word);
+                if trial.next().is_none() {
+                    self.end_trial(phase);
+                }
+            }
+            Phase::Preparing(prep) => {
+                prep.took(&mut self.counts, word);
+                if prep.next().is_none() {
+                    self.end_preparing(phase);
+                }
+            }
+            _ => {}
+        }
     }
 
-    /// A field was loaded for the trial.
-    #[inline(always)]
-    pub(crate) fn took_trial(&mut self, word: u64) -> Phase
-        requires busy { IsSome (trial_next self.old.trial) }
-        requires kept { IsTrying self.old.trial self.old.counts }
-        requires unprepared { self.old.prep.at ≡ None }
-        requires unreleased { LeadsToUnreleased self.old.counts word }
-        ensures { record { parts = self.new; phase = result } ≡ tried (with_tried self.old word) }
+    // After a release the next set is tested.
+    fn end_release(&mut self, phase: &mut Phase)
+        requires { IsClear (record { parts = self.old; phase = None }) }
+        ensures { record { parts = self.new; phase = phase.new } ≡ followed (record { parts = self.old; phase = None }) }
     {
-        self.trial.took(&mut self.counts, word);
-        self.after_trial()
+        *phase = self.follow(None);
     }
 
-    /// A field was loaded for the preparation.
-    #[inline(always)]
-    pub(crate) fn took_preparation(&mut self, word: u64) -> Phase
-        requires busy { IsSome self.old.prep.at }
-        requires kept { IsPreparing self.old.prep self.old.counts }
-        requires in_range { IfSome (target_of word) (λ slot. slot < length self.old.counts.slots) }
-        ensures { record { parts = self.new; phase = result } ≡ prepared (with_loaded self.old word) }
+    // Once a set is freed, the zeros are released.
+    fn end_freeing(&mut self, phase: &mut Phase)
+        requires ready { IsReady self.old.counts }
+        requires clear { IsClear (zeros_released true self.old) }
+        ensures { record { parts = self.new; phase = phase.new } ≡ followed (zeros_released true self.old) }
     {
-        self.prep.took(&mut self.counts, word);
-        self.after_preparation()
+        let begun = self.release_zeros(true);
+        *phase = self.follow(begun);
+    }
+
+    // After a trial its sets are prepared.
+    fn end_trial(&mut self, phase: &mut Phase)
+        ensures { record { parts = self.new; phase = phase.new } ≡ prepared self.old (prep_started self.old) }
+    {
+        *phase = self.prepare();
+    }
+
+    // After a preparation a sweep begins.
+    fn end_preparing(&self, phase: &mut Phase)
+        ensures { phase.new ≡ sweep_phase self.now.counts.free }
+    {
+        *phase = self.end_preparation();
     }
 
     /// Every slot is to be offered to the next trial.
@@ -145,127 +154,109 @@ impl Parts {
         self.offers = true;
     }
 
-    // The zeros of a batch are to be released. The answer is the phase that follows.
-    fn release_zeros(&mut self) -> Phase
-        requires clearing { IsClearing self.old }
-        requires still { self.old.release.at ≡ None }
-        requires unfreed { self.old.freeing.at ≡ None }
-        requires told { IsFewTold self.old }
-        requires wide { IsWide self.old }
-        ensures { record { parts = self.new; phase = result } ≡ followed (zeros_released false self.old) }
+    // The zeros are to be released. The answer is the release, if there are any.
+    fn release_zeros(&mut self, lowers: bool) -> Option<Phase>
+        requires { IsReady self.old.counts }
+        ensures { record { parts = self.new; phase = result } ≡ zeros_released lowers self.old }
     {
-        self.release.start(&mut self.counts, false);
-        self.follow()
-    }
-
-    // Once a set is freed, the zeros are released.
-    fn relieve(&mut self)
-        requires still { self.old.release.at ≡ None }
-        requires ready { IsReady self.old.counts }
-        ensures { self.new ≡ relieved self.old }
-    {
-        if self.freeing.next().is_none() {
-            self.release.start(&mut self.counts, true);
+        let mut release = Release::idle(self.fields);
+        release.start(&mut self.counts, lowers);
+        if release.next().is_none() {
+            return None;
         }
+        Some(Phase::Releasing(release))
     }
 
-    // What follows once a release or the freeing of a set has come so far: while it has work it goes on; then the next sets are
-    // tested, and after the last one a trial begins.
-    fn follow(&mut self) -> Phase
-        requires clearing { IsClearing self.old }
-        requires done { IsDone self.old }
-        requires told { IsFewTold self.old }
-        requires wide { IsWide self.old }
-        ensures { record { parts = self.new; phase = result } ≡ followed self.old }
+    // What follows where this was begun: while nothing was, the next set is tested, and after the last one a trial begins.
+    fn follow(&mut self, begun: Option<Phase>) -> Phase
+        requires { IsClear (record { parts = self.old; phase = begun }) }
+        ensures { record { parts = self.new; phase = result } ≡ followed (record { parts = self.old; phase = begun }) }
     {
+        let mut begun = begun;
         self.counts.rules();
-        self.test_sets();
-        if self.freeing.next().is_some() {
-            return Phase::Freeing;
+        while begun.is_none() && self.counts.sets() > 0 {
+            begun = self.test_last();
         }
-        if self.release.next().is_some() {
-            return Phase::Releasing;
+        match begun {
+            Some(phase) => phase,
+            None => self.start_trial(),
         }
-        self.start_trial();
-        self.after_trial()
-    }
-
-    // Tests the sets, the last first, until one passes, a slot is to be released, or no set is left.
-    fn test_sets(&mut self)
-        requires clearing { IsClearing self.old }
-        requires done { IsDone self.old }
-        requires told { IsFewTold self.old }
-        requires wide { IsWide self.old }
-        ensures { self.new ≡ tested (length self.old.counts.sets) self.old }
-    {
-        self.counts.rules();
-        while self.counts.sets() > 0 && !self.is_busy() {
-            self.test_last();
-        }
-    }
-
-    // Whether a slot is released or a set freed.
-    fn is_busy(&self) -> bool
-        ensures { result ≡ is_busy self.now }
-    {
-        self.release.next().is_some() || self.freeing.next().is_some()
     }
 
     // Tests the last set, and begins to free it where it passes. Else it is refurbished, and its zeros are released.
-    fn test_last(&mut self)
+    fn test_last(&mut self) -> Option<Phase>
         requires some { 0 < length self.old.counts.sets }
-        requires idle { is_busy self.old ≡ false }
-        requires clearing { IsClearing self.old }
-        requires done { IsDone self.old }
+        requires cleared { IsCleared self.old }
         requires told { IsFewTold self.old }
-        ensures { self.new ≡ last_tested self.old }
+        ensures { record { parts = self.new; phase = result } ≡ last_tested self.old }
     {
         self.counts.rules();
         let set = self.counts.sets() - 1;
         let verdict = judge(&self.counts, set);
         self.sets.count(verdict);
         if let Verdict::Passed = verdict {
-            self.freeing.start(&mut self.counts, set);
+            self.free_set(set)
         } else {
             refurbish(&mut self.counts, set);
-            self.release.start(&mut self.counts, true);
+            self.release_zeros(true)
         }
     }
 
+    // Begins to free the last set, if it has a member.
+    fn free_set(&mut self, set: u16) -> Option<Phase>
+        requires last { set + 1 ≡ length self.old.counts.sets }
+        requires freeable { IsFreeable self.old.counts }
+        ensures { record { parts = self.new; phase = result } ≡ with_freeing self.old (started_of (new_freeing self.old.fields) self.old.counts) }
+    {
+        let mut freeing = CycleFree::idle(self.fields);
+        freeing.start(&mut self.counts, set);
+        if freeing.next().is_none() {
+            return None;
+        }
+        Some(Phase::Freeing(freeing))
+    }
+
     // A trial begins. Where that was asked for, every slot is offered to it.
-    fn start_trial(&mut self)
-        requires idle { IsNone (trial_next self.old.trial) }
+    fn start_trial(&mut self) -> Phase
         requires ready { IsReadyForTrial self.old.counts }
-        ensures { self.new ≡ trial_started self.old }
+        ensures { record { parts = self.new; phase = result } ≡ trial_started self.old }
+    {
+        self.make_offers();
+        let mut trial = Trial::idle(self.fields);
+        trial.start(&mut self.counts);
+        if trial.next().is_some() {
+            return Phase::Trying(trial);
+        }
+        self.prepare()
+    }
+
+    // Every slot is offered, where that was asked for.
+    fn make_offers(&mut self)
+        ensures { self.new ≡ with_offers self.old }
     {
         if self.offers {
             offer_slots(&mut self.counts);
             self.offers = false;
         }
-        self.trial.start(&mut self.counts);
     }
 
-    // What follows once a trial has come so far: it goes on while it has work; then the sets that it found are prepared.
-    #[inline(always)]
-    fn after_trial(&mut self) -> Phase
-        requires { self.old.prep.at ≡ None }
-        ensures { record { parts = self.new; phase = result } ≡ tried self.old }
+    // The sets that the trial found are to be prepared.
+    fn prepare(&mut self) -> Phase
+        ensures { record { parts = self.new; phase = result } ≡ prepared self.old (prep_started self.old) }
     {
-        if self.trial.next().is_some() {
-            return Phase::Trying;
+        let mut prep = Prep::idle(self.fields);
+        prep.start(&mut self.counts);
+        if prep.next().is_some() {
+            return Phase::Preparing(prep);
         }
-        self.prep.start(&mut self.counts);
-        self.after_preparation()
+        self.end_preparation()
     }
 
-    // What follows once a preparation has come so far: it goes on while it has work. Then a sweep begins, which has ended already
-    // where the free list is empty.
-    fn after_preparation(&self) -> Phase
-        ensures { record { parts = self.now; phase = result } ≡ prepared self.now }
+    // A sweep begins, which has ended already where the free list is empty.
+    fn end_preparation(&self) -> Phase
+        ensures { result ≡ sweep_phase self.now.counts.free }
     {
-        if self.prep.next().is_some() {
-            Phase::Preparing
-        } else if self.counts.free_list().is_empty() {
+        if self.counts.free_list().is_empty() {
             Phase::Closing { swept: 0 }
         } else {
             Phase::Opening

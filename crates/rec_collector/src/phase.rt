@@ -1,5 +1,9 @@
-/// How far a collection has come.
-#[derive(Clone, Copy, Debug, PartialEq, Eq)]
+use rec_release::{CycleFree, Release, Sweep};
+use rec_sigma::Prep;
+use rec_trial::Trial;
+
+/// How far a collection has come, with the machine that is at work.
+#[derive(Debug, Drop)]
 pub enum Phase {
     /// No collection is under way; the next epoch is requested next.
     Idle,
@@ -10,17 +14,17 @@ pub enum Phase {
     /// The mailbox of this mutator is held, with a spare in it, and is given back next.
     Returning { mutator: u8 },
     /// The zeros are released, a field at a time.
-    Releasing,
+    Releasing(Release),
     /// A set that passed its tests is freed, a field at a time.
-    Freeing,
+    Freeing(CycleFree),
     /// A trial is at work, and a field is loaded next.
-    Trying,
+    Trying(Trial),
     /// The sets that a trial found are prepared for their tests, and a field is loaded next.
-    Preparing,
+    Preparing(Prep),
     /// A sweep begins next.
     Opening,
     /// The free list is swept, a slot at a time; so many were.
-    Sweeping { swept: u32 },
+    Sweeping { sweep: Sweep, swept: u32 },
     /// The sweep of so many slots ends next.
     Closing { swept: u32 },
 }

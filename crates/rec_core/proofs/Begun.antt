@@ -15,18 +15,20 @@ use Rattle.rec_counts.specs.declared.slot.Slot.{Slot}
 use Rattle.rec_counts.proofs.Times.{times-nil}
 use Rattle.rec_apply.proofs.Kept.{batch_kept}
 use Rattle.rec_release.specs.Release.{IsReady}
-use Rattle.rec_collector.specs.Clearing.{IsClearing}
+use Rattle.rec_collector.specs.Clearing.{IsCleared}
 use Rattle.rec_collector.specs.Kept as collector_kept
 use Rattle.rec_collector.specs.Parts.{Parts}
 use Rattle.rec_collector.specs.Private.{parts_of}
 use Rattle.rec_collector.specs.Testing.{zeros_released}
-use Rattle.rec_collector.specs.declared.phase.Phase.TheVariants.{Returning, Releasing}
-use Rattle.rec_collector.proofs.Following.{batched_clear, none_released, resting_clear}
-use Rattle.rec_collector.proofs.Clearing.{zeros_clear}
+use Rattle.rec_collector.specs.declared.phase.Phase.TheVariants.{Opening, Returning}
+use Rattle.rec_collector.proofs.Clearing.{zeros_clear, Clears}
+use Rattle.rec_collector.proofs.Exchanging.{none_exchanged}
+use Rattle.rec_collector.proofs.Following.{batched_clear, none_released, resting_cleared}
+use Rattle.rec_collector.proofs.Goings.{still}
 use Rattle.rec_core.specs.Config.{IsMutator}
 use Rattle.rec_core.specs.Core.{Core}
 use Rattle.rec_core.specs.CyclesAt.{HasCyclesAt}
-use Rattle.rec_core.specs.Kept.{Stand, stand_at, one_if_sweeping, IsKept}
+use Rattle.rec_core.specs.Kept.{freeing_due, Stand, stand_at, one_if_sweeping, IsKept}
 use Rattle.rec_core.specs.Pending.{older_at, pending}
 use Rattle.rec_core.proofs.Applying.{last_is, counted, counted_rest, counted_zeros, falls, added_is, applies}
 use Rattle.rec_core.proofs.Counts.{counted_slot}
@@ -68,7 +70,7 @@ module _ (w : Core) (t : ℕ) (kept : IsKept w) (phase : w.collector.phase ≡ R
       let there : x < length c.counts.slots = member_there c.counts x kept.collector.machine.counts member in
       ap (λ (v : Slot). v.released) (counted_slot c.counts x there) ∙ none_released rest x there
 
-  pub batch_comes : HasCome w (slice_set w.crossing (t - 1) (crossing_word w.epoch Spare)) w.words batched
+  pub batch_comes : HasCome w (slice_set w.crossing (t - 1) (crossing_word w.epoch Spare)) w.words (still batched)
   batch_comes =
       let is : IsMutator w.config t = last_is w t kept phase last in
       let move = Move.batch (applies w t kept phase last) in
@@ -79,18 +81,15 @@ module _ (w : Core) (t : ℕ) (kept : IsKept w) (phase : w.collector.phase ≡ R
           way = ap collector_kept.under_way phase;
           still = ap one_if_sweeping phase;
           older = ap (older_at w.epoch) phase;
-          mutators = returned_mutators w t kept phase is {next = Releasing} refl (λ s_ there other.
+          mutators = returned_mutators w t kept phase is {next = Opening} refl (λ s_ there other.
               let up : s_ ≤ t = omega (arith, there.1, many) in
               sym (ap (λ q. stand_at q s_) phase ∙ cond-true (nat_lt s_ t) Stand.Done (if s_ == t then Stand.Held else Stand.Due) (lt-ltb s_ t (omega arith))));
           accounted = move_accounted move kept.accounted;
-          uncounted = λ _. move_uncounted move kept.accounted (kept.uncounted rest.unfreed);
+          uncounted = λ _. move_uncounted move kept.accounted (kept.uncounted (ap freeing_due phase));
           sound = kept.sound;
           many_words = refl;
           slots = (counted_rest w t kept phase last).slots ∙ slots;
           fields = kept.collector.fields;
-          freeing_fields = kept.collector.machine.freeing_fields ∙ kept.collector.fields;
-          trial_fields = kept.collector.machine.trial_fields ∙ kept.collector.fields;
-          prep_fields = kept.collector.machine.prep_fields ∙ kept.collector.fields;
           counts = batch_kept c.counts c.newer c.older (falls w t kept phase last) kept.collector.machine.counts;
           listed = ready.free;
           emptied = λ x f below within released. absurd (unreleased x below released);
@@ -99,12 +98,14 @@ module _ (w : Core) (t : ℕ) (kept : IsKept w) (phase : w.collector.phase ≡ R
             (subst (HasCyclesAt (pending w) c) phase kept.cycles);
       }
 
-  -- nothing is at work on the counts that the batch made
-  batch_clear : IsClearing batched
-  batch_clear =
-      let before : IsClearing (parts_of c) = resting_clear (parts_of c) rest in
-      batched_clear (parts_of c) c.newer c.older (falls w t kept phase last) rest.still rest.unfreed before
+  -- the batch left the counts tidy
+  batch_clears : Clears (zeros_released false batched) 0
+  batch_clears =
+      let before : IsCleared (parts_of c) = resting_cleared (parts_of c) rest in
+      let tidy = batched_clear c.fields c.counts c.newer c.older (falls w t kept phase last) before.tidy before.ready before.work in
+      zeros_clear false batched 0 kept.collector.machine.some_fields (batch_kept c.counts c.newer c.older (falls w t kept phase last) kept.collector.machine.counts) tidy.0 tidy.1 ((counted_rest w t kept phase last).work ∙ before.work)
+      (none_exchanged batched (λ x l. (counted_rest w t kept phase last).released x ∙ none_released rest x (omega (arith, l, (counted_rest w t kept phase last).slots))))
 
   -- The batch is applied, and the first of its zeros is released.
   pub applied_lands : HasCleared w (slice_set w.crossing (t - 1) (crossing_word w.epoch Spare)) w.words (zeros_released false batched)
-  applied_lands = cleared (zeros_come false batch_comes rest.still rest.unfreed ready) (zeros_clear false batched kept.collector.machine.fields rest.still rest.unfreed batch_clear)
+  applied_lands = cleared (zeros_come false batch_comes ready) batch_clears

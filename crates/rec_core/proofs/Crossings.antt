@@ -37,7 +37,7 @@ use Rattle.rec_core.specs.Cells.{cell}
 use Rattle.rec_core.specs.Config.{IsMutator, HasLabel}
 use Rattle.rec_core.specs.Core.{Core, cells_of, sight, mutator, box, crossing_of, spare_of, with_mutator}
 use Rattle.rec_core.specs.CyclesAt.{HasCyclesAt}
-use Rattle.rec_core.specs.Kept.{IsSettledIn, HasLabelAt, IsOwn, IsBufferOf, Stand, stand_at, IsBehind, IsCrossing, IsHandshake, IsActor, IsScanning, entries_made, IsKept, HasMutators, IsMadeIn}
+use Rattle.rec_core.specs.Kept.{IsSettledIn, HasLabelAt, IsOwn, IsBufferOf, Stand, stand_at, IsBehind, IsCrossing, IsHandshake, IsActor, IsScanning, entries_made, IsKept, HasMutators, IsMadeIn, freeing_due}
 use Rattle.rec_core.specs.Moves.{performed, found_by, stepped, begun}
 use Rattle.rec_core.specs.Pending.{epoch_at, applied_at, pending}
 use Rattle.rec_core.proofs.Actors.{own_stepped, epoch_here, handshake_stays, unsettled_due, spare_buffer, others_stay}
@@ -219,7 +219,7 @@ given_kept w t kept is busy may phase same =
       made = subst (λ (n : ℕ). n ≤ 1 + sum_by (entries_made w.config) (slice_set w.mutators (t - 1) q)) (add-zero w.made) (entries_stay w t 0 q kept is (omega (arith, entries)));
       sound = subst (λ (rss : List (List (Option ℕ))). IsSound (record (sight w) { registers = rss })) (sym (registers_stay w t q q_registers)) kept.sound;
       accounted = subst IsAccounted (sym quiet) kept.accounted;
-      uncounted = subst (λ (x : Pending). w.collector.freeing.at ≡ None → HasUncountedReleased x) (sym quiet) kept.uncounted;
+      uncounted = subst (λ (x : Pending). freeing_due w.collector.phase ≡ None → HasUncountedReleased x) (sym quiet) kept.uncounted;
       cycles = subst (λ (x : Pending). HasCyclesAt x w.collector w.collector.phase) (sym quiet) kept.cycles;
     } in
     subst (λ (b : Contents). IsKept (performed w t (next_of p) word q b)) (sym same) (after_give IsKept w t p.number (p.epoch + 1) word q (next_of p) c.operation whole)

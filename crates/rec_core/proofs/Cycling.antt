@@ -14,7 +14,9 @@ use Rattle.rec_counts.specs.declared.slot.Slot.{Slot}
 use Rattle.rec_model.proofs.Moving.{move_fields}
 use Rattle.rec_release.specs.Sweep.{AreUnbuffered}
 use Rattle.rec_trial.specs.Promised.{IsTrial}
+use Rattle.rec_trial.specs.Trial.{Machine}
 use Rattle.rec_trial.proofs.Places.{ltb_yes}
+use Rattle.rec_sigma.specs.Prepare as preps
 use Rattle.rec_sigma.specs.Prepared as prepared
 use Rattle.rec_collector.specs.Private.{Private}
 use Rattle.rec_collector.specs.Kept.{IsMachine, IsAt, NoneReleased}
@@ -34,9 +36,9 @@ AreAlive released s = (node : ℕ) → 0 < node → is_member s node ≡ true �
 
 -- so while sets wait, and while they are prepared
 abbrev pub AreAliveAt : (released : ℕ → Bool) → State → Phase → Type 0
-AreAliveAt released s Releasing = Unit {0}
-AreAliveAt released s Freeing = Unit {0}
-AreAliveAt released s Trying = Unit {0}
+AreAliveAt released s (Releasing m) = Unit {0}
+AreAliveAt released s (Freeing m) = Unit {0}
+AreAliveAt released s (Trying m) = Unit {0}
 AreAliveAt released s _ = AreAlive released s
 
 -- what is kept of a slot that isn't there is not released
@@ -66,18 +68,18 @@ listed_alive s k listed unbuffered node pos member = unreleased_in s node (λ be
 -- no machine releases a member before the next batch
 pub machine_alive : (c : Private) (phase : Phase) → IsMachine c → IsAt c phase → AreAliveAt (λ node. (slot_in c.counts node).released) c.counts phase
 machine_alive c Idle m now = none_alive c.counts (none_released now.0)
-machine_alive c Releasing m now = tt
-machine_alive c Freeing m now = tt
-machine_alive c Trying m now = tt
-machine_alive c Preparing m now = listed_alive c.counts m.counts now.tried.listed now.tried.unbuffered
+machine_alive c (Releasing release) m now = tt
+machine_alive c (Freeing freeing) m now = tt
+machine_alive c (Trying trial) m now = tt
+machine_alive c (Preparing prep) m now = listed_alive c.counts m.counts now.tried.listed now.tried.unbuffered
 machine_alive c Opening m now = listed_alive c.counts m.counts now.0.tried.listed now.0.tried.unbuffered
-machine_alive c (Sweeping n) m now = listed_alive c.counts m.counts now.0.tried.listed now.0.tried.unbuffered
+machine_alive c (Sweeping due n) m now = listed_alive c.counts m.counts now.0.tried.listed now.0.tried.unbuffered
 machine_alive c (Closing n) m now = listed_alive c.counts m.counts now.0.tried.listed now.0.tried.unbuffered
 machine_alive c _ m now = none_alive c.counts (none_released now.rest)
 
 -- a trial at work
-loading_moved : {w v : Pending} (c : Private) (m : Move w v) → IsAfterLoads m → IsAccounted w → IsLoading w c → IsLoading v c
-loading_moved {w} {v} c m after i l = record {
+loading_moved : {w v : Pending} (s : State) (trial : Machine) (m : Move w v) → IsAfterLoads m → IsAccounted w → IsLoading w s trial → IsLoading v s trial
+loading_moved {w} {v} s trial m after i l = record {
   before = l.before;
   words = l.words;
   run = l.run;
@@ -87,21 +89,21 @@ loading_moved {w} {v} c m after i l = record {
 }
 
 -- sets that are prepared
-seen_moved : {w v : Pending} (c : Private) (m : Move w v) → IsAfterLoads m → IsAccounted w → AreAlive w.released c.counts → AreSeen w c → AreSeen v c
-seen_moved {w} {v} c m after i alive l = record {
+seen_moved : {w v : Pending} (s : State) (prep : preps.Machine) (m : Move w v) → IsAfterLoads m → IsAccounted w → AreAlive w.released s → AreSeen w s prep → AreSeen v s prep
+seen_moved {w} {v} s prep m after i alive l = record {
   before = l.before;
   before_kept = l.before_kept;
   loads = l.loads;
-  prepares = subst (λ f. prepared.PreparedTo f l.before c.prep.at c.counts l.loads) (sym (move_fields m)) l.prepares;
+  prepares = subst (λ f. prepared.PreparedTo f l.before prep.at s l.loads) (sym (move_fields m)) l.prepares;
   fields = subst (λ f. AreFields f l.loads) (sym (move_fields m)) l.fields;
-  stands = sets_stand_moved c.counts l.loads m after i alive l.stands;
+  stands = sets_stand_moved s l.loads m after i alive l.stands;
 }
 
 -- What is known of the sets is kept by the moves that mutators make. A move that may not be made while sets are tested is one that is
 -- made before the batch.
 pub cycles_moved : {w v : Pending} (c : Private) (phase : Phase) (m : Move w v) → IsAfterLoads m → (w.applied + 1 ≡ w.requested → IsAmongTests m) → IsAccounted w → AreAliveAt w.released c.counts phase → HasCyclesAt w c phase → HasCyclesAt v c phase
-cycles_moved c Releasing m after among i alive h = sets_test_moved c.counts m (among h.testing.done) i h
-cycles_moved c Freeing m after among i alive h = sets_test_moved c.counts m (among h.testing.done) i h
-cycles_moved c Trying m after among i alive h = loading_moved c m after i h
-cycles_moved c Preparing m after among i alive h = seen_moved c m after i alive h
+cycles_moved c (Releasing release) m after among i alive h = sets_test_moved c.counts m (among h.testing.done) i h
+cycles_moved c (Freeing freeing) m after among i alive h = sets_test_moved c.counts m (among h.testing.done) i h
+cycles_moved c (Trying trial) m after among i alive h = loading_moved c.counts trial m after i h
+cycles_moved c (Preparing prep) m after among i alive h = seen_moved c.counts prep m after i alive h
 cycles_moved c _ m after among i alive h = sets_wait_moved c.counts m after i alive h

@@ -27,8 +27,8 @@ use Rattle.rec_collector.specs.declared.phase.Phase.{Phase}
 use Rattle.rec_collector.specs.declared.phase.Phase.TheVariants.{Idle, Looking, Swapping, Returning, Releasing, Freeing, Trying, Preparing, Opening, Sweeping, Closing}
 use Rattle.rec_core.specs.Core.{Core}
 use Rattle.rec_core.specs.Cycles.{is_member_of, SetsTest}
-use Rattle.rec_core.specs.Freed.{TestsSets, Passes, IsProvenGarbage, AreGone, IsForgotten}
-use Rattle.rec_core.specs.Kept.{IsKept}
+use Rattle.rec_core.specs.Freed.{IsFreeingSet, TestsSets, Passes, IsProvenGarbage, AreGone, IsForgotten}
+use Rattle.rec_core.specs.Kept.{freeing_due, IsKept}
 use Rattle.rec_core.specs.Pending.{slot_of, pending, applied_at}
 use Rattle.rec_core.proofs.CyclesTest.{IsJudged, set_is_tested}
 use Rattle.rec_core.proofs.Steps.{slot_there}
@@ -56,17 +56,9 @@ pub passed_are_garbage : (w : Core) (number : ℕ) → IsKept w → TestsSets w.
 passed_are_garbage w number kept tests p = go w.collector.phase refl tests
   where
     go : (phase : Phase) → w.collector.phase ≡ phase → TestsSets phase → IsProvenGarbage w number
-    go Releasing is t = passes_with w number kept (cycles_in w Releasing kept is) (now_at w Releasing kept is).0.clearing.apart p
-    go Freeing is t = passes_with w number kept (cycles_in w Freeing kept is) (now_at w Freeing kept is).0.clearing.apart p
-    go Idle is t = absurd t
-    go (Looking n) is t = absurd t
-    go (Swapping n) is t = absurd t
-    go (Returning n) is t = absurd t
-    go Trying is t = absurd t
-    go Preparing is t = absurd t
-    go Opening is t = absurd t
-    go (Sweeping n) is t = absurd t
-    go (Closing n) is t = absurd t
+    go (Releasing m) is t = passes_with w number kept (cycles_in w (Releasing m) kept is) (now_at w (Releasing m) kept is).clearing.apart p
+    go (Freeing m) is t = passes_with w number kept (cycles_in w (Freeing m) kept is) (now_at w (Freeing m) kept is).clearing.apart p
+    go _ is t = absurd t
 
 -- what was given up is dead
 dead_is : (free released : Bool) → released ≡ true → (if free then true else released) ≡ true
@@ -81,21 +73,25 @@ given_up_are_gone w kept = record {
         unreached = λ epoch from reached. dead_out_of_reach (pending w) epoch from kept.accounted.unnamed (slot + 1) reached dead;
         unnamed = kept.accounted.unnamed (slot + 1) (omega arith) dead;
       };
-  members = λ is slot some. (now_at w Freeing kept is).0.clearing.freeing.released slot some;
+  members = members_released w.collector.phase refl;
 }
+  where
+    members_released : (phase : Phase) → w.collector.phase ≡ phase → IsFreeingSet phase → (slot : ℕ) → 0 < times slot w.collector.counts.work → (slot_at w.collector.counts slot).released ≡ true
+    members_released (Freeing m) here is slot some = (now_at w (Freeing m) kept here).clearing.freeing.released slot some
+    members_released _ here is slot some = absurd is
 
 -- A slot that is swept next.
-swept_is_forgotten : (w : Core) (n slot : ℕ) → IsKept w → w.collector.phase ≡ Sweeping n → w.collector.due ≡ Some slot → IsForgotten w slot
-swept_is_forgotten w n slot kept is due =
-    let now = now_at w (Sweeping n) kept is in
+swept_is_forgotten : (w : Core) (n slot : ℕ) → IsKept w → w.collector.phase ≡ Sweeping (Some slot) n → IsForgotten w slot
+swept_is_forgotten w n slot kept is =
+    let now = now_at w (Sweeping (Some slot) n) kept is in
     let c = w.collector.counts in
-    let first : slice_get c.free 0 ≡ Some slot = sym now.2 ∙ due in
+    let first : slice_get c.free 0 ≡ Some slot = sym now.2 in
     let there : 0 < times slot c.free = first_in c.free slot first in
     let listed_released : (slot_at c slot).released ≡ true = kept.collector.listed slot there in
     let once = kept.collector.machine.counts.free_once slot in
     let below : slot < length c.slots = in_range_once (length c.slots) c.free slot kept.collector.machine.counts.free_once there in
     let node : slot_of w (slot + 1) ≡ slot_at c slot = slot_there w kept slot (subst (λ n. slot < n) kept.collector.slots below) in
-    let uncounted : HasUncountedReleased (pending w) = kept.uncounted now.0.tried.unfreed in
+    let uncounted : HasUncountedReleased (pending w) = kept.uncounted (ap freeing_due is) in
     let none : (pending w).count (slot + 1) ≡ 0 = uncounted (slot + 1) (omega arith) (ap (λ (v : Slot). v.released) node ∙ listed_released) in
     let done : (pending w).applied + 1 ≡ (pending w).requested = ap (λ (f : Phase). applied_at w.epoch f + 1) is ∙ positive in
     let alone : one (slot_at c slot).buffered ≡ 0 = ap one (now.0.tried.unbuffered slot there) in
@@ -150,10 +146,10 @@ freed_is_forgotten w slot kept named = go w.collector.phase refl named
     go (Looking n) is e = absurd (cc)
     go (Swapping n) is e = absurd (cc)
     go (Returning n) is e = absurd (cc)
-    go Releasing is e = absurd (releases_none w.collector.release.fields slot w.collector.release.at e)
-    go Freeing is e = absurd (frees_none w.collector.freeing.fields slot w.collector.freeing.at e)
-    go Trying is e = absurd (tries_none w.collector.trial slot w.collector.trial.phase e)
-    go Preparing is e = absurd (prepares_none w.collector.prep.fields slot w.collector.prep.at e)
+    go (Releasing m) is e = absurd (releases_none m.fields slot m.at e)
+    go (Freeing m) is e = absurd (frees_none m.fields slot m.at e)
+    go (Trying m) is e = absurd (tries_none m slot m.phase e)
+    go (Preparing m) is e = absurd (prepares_none m.fields slot m.at e)
     go Opening is e = absurd (cc)
-    go (Sweeping n) is e = swept_is_forgotten w n slot kept is (sweeps_it slot w.collector.due e)
+    go (Sweeping due n) is e = swept_is_forgotten w n slot kept (is ∙ ap (λ (o : Option ℕ). Sweeping o n) (sweeps_it slot due e))
     go (Closing n) is e = absurd (cc)

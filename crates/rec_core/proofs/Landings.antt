@@ -22,11 +22,9 @@ use Rattle.rec_counts.specs.Slot.{absent, fresh}
 use Rattle.rec_counts.specs.declared.slot.Slot.{Slot}
 use Rattle.rec_counts.proofs.Times.{times-append}
 use Rattle.rec_model.proofs.Opened.{named-nones}
-use Rattle.rec_walk.specs.declared.member.Member.{Member}
 use Rattle.rec_trial.specs.Promised.{unloaded}
 use Rattle.rec_trial.specs.Rules.{IsReady, released_among}
 use Rattle.rec_trial.specs.Trial as trials
-use Rattle.rec_trial.proofs.AtWork.{started_fields}
 use Rattle.rec_trial.proofs.Counted.{started_counted}
 use Rattle.rec_trial.proofs.Keeps.{KeepsCounts, started_keeps}
 use Rattle.rec_trial.proofs.Midway.{times_released}
@@ -36,9 +34,10 @@ use Rattle.rec_sigma.specs.Prepared as prepared
 use Rattle.rec_sigma.specs.Prepared.{KeepsOthers}
 use Rattle.rec_sigma.proofs.Runs.{Came, came_first, next_set_others, started_is}
 use Rattle.rec_sigma.proofs.Kept.{others_kept}
-use Rattle.rec_collector.specs.Followed.{prep_started, trial_begun, trial_started, with_offers}
+use Rattle.rec_collector.specs.Followed.{prep_started, with_offers}
 use Rattle.rec_collector.specs.Offered.{KeepsOffered}
-use Rattle.rec_collector.specs.Parts.{Parts}
+use Rattle.rec_collector.specs.Parts.{Parts, new_prep}
+use Rattle.rec_collector.specs.Testing.{Begun}
 use Rattle.rec_collector.specs.Private as collectors
 use Rattle.rec_collector.specs.Private.{parts_of, with_parts}
 use Rattle.rec_collector.specs.Kept as collector_kept
@@ -48,12 +47,13 @@ use Rattle.rec_collector.specs.declared.phase.Phase.{Phase}
 use Rattle.rec_collector.specs.declared.phase.Phase.TheVariants.{Idle, Trying, Preparing, Opening}
 use Rattle.rec_collector.specs.declared.turn.Turn.{Turn}
 use Rattle.rec_collector.proofs.Following.{none_released}
+use Rattle.rec_collector.proofs.Goings.{still}
 use Rattle.rec_collector.proofs.Offering.{where_keeps, where_kept, where_ready}
 use Rattle.rec_core.specs.Config.{IsMutator}
 use Rattle.rec_core.specs.Core.{Core}
 use Rattle.rec_core.specs.Cycles.{is_member, word_loaded, SetsWait}
 use Rattle.rec_core.specs.CyclesAt.{IsLoading, AreSeen, HasCyclesAt}
-use Rattle.rec_core.specs.Kept.{IsMadeIn, IsBufferOf, Stand, stand_at, IsLeftOf, one_if_sweeping, IsSomeSwept, IsKept}
+use Rattle.rec_core.specs.Kept.{IsMadeIn, IsBufferOf, Stand, stand_at, freeing_due, one_if_sweeping, release_due, IsLeft, IsLeftOf, IsSomeSwept, IsKept}
 use Rattle.rec_core.specs.Pending.{Filed, writes_in, births_in, dated_names, applied_at, older_at, buffers, pending}
 use Rattle.rec_core.specs.declared.config.Config.{Config}
 use Rattle.rec_core.proofs.Batches.{buffer_there, none_of}
@@ -64,6 +64,7 @@ use Rattle.rec_core.proofs.CyclesTrial.{trial_stands_begun}
 use Rattle.rec_core.proofs.CyclesWait.{sets_stand_begun, sets_wait_moved}
 use Rattle.rec_core.proofs.Cycling.{none_alive}
 use Rattle.rec_core.proofs.Landed.{landed_pending, HasLanded}
+use Rattle.rec_core.proofs.Zeros.{landed_empty}
 use Rattle.rec_core.proofs.Steps.{fields_many}
 use Rattle.rec_core.proofs.Sums.{share, buffers_sum}
 use Rattle.rec_core.proofs.Turns.{phase_moves}
@@ -212,10 +213,9 @@ offered_alike s t k = record {
   free = λ x some. inl (subst (λ xs. 0 < times x xs) k.rest.free some);
 }
 
--- Where a collection has come to, it has come to with such counts, as long as no set is freed.
-pub landed_alike : {w : Core} {crossing words : List ℕ} {v : Parts} → HasLanded w crossing words v → v.freeing.at ≡ None → (t : State) (trial : trials.Machine) (prep : preps.Machine) → IsAlike v.counts t → IsKeptCounts t
-    → trial.fields ≡ w.config.fields → prep.fields ≡ w.config.fields → HasLanded w crossing words (record v { counts = t; trial = trial; prep = prep })
-landed_alike {w} {crossing} {words} {v} l unfreed t trial prep same counts trial_fields prep_fields =
+-- Where a collection has come to with nothing begun, it has come to with such counts.
+pub landed_alike : {w : Core} {crossing words : List ℕ} {v : Parts} → HasLanded w crossing words (still v) → (t : State) → IsAlike v.counts t → IsKeptCounts t → HasLanded w crossing words (still (record v { counts = t }))
+landed_alike {w} {crossing} {words} {v} l t same counts =
     let move : Move (landed_pending w words v.counts) (landed_pending w words t) = Move.dropping (landed_drops w words v.counts t same) in
     record {
       kept = l.kept;
@@ -224,27 +224,58 @@ landed_alike {w} {crossing} {words} {v} l unfreed t trial prep same counts trial
       older = l.older;
       mutators = l.mutators;
       accounted = move_accounted move l.accounted;
-      uncounted = λ none. move_uncounted move l.accounted (l.uncounted none);
+      uncounted = λ none. move_uncounted move l.accounted (l.uncounted refl);
       sound = l.sound;
       many_words = l.many_words;
       slots = same.slots ∙ l.slots;
       fields = l.fields;
-      freeing_fields = l.freeing_fields;
-      trial_fields = trial_fields;
-      prep_fields = prep_fields;
       counts = counts;
       listed = λ x some. same.released x ∙ elim (same.free x some) [ inl there ↦ l.listed x there | inr is ↦ is ];
-      emptied = λ x f below within released. elim (l.emptied x f below within (sym (same.released x) ∙ released)) [
-        | inl left ↦ inl left
-        | inr rest ↦ elim rest [
-          | inl left ↦ absurd (subst (λ (m : Option Member). IsLeftOf v.counts.work m x f) unfreed left)
-          | inr none ↦ inr (inr none)
-        ]
-      ];
+      emptied = λ x f below within released. inr (inr (landed_empty l x f below within (sym (same.released x) ∙ released)));
     }
 
+-- a phase in which nothing is released or freed is one in which nothing of that is begun
+pub landed_in : {w : Core} {crossing words : List ℕ} (v : Parts) (phase : Phase) → release_due phase ≡ None → freeing_due phase ≡ None → HasLanded w crossing words (still v) → HasLanded w crossing words (record { parts = v; phase = Some phase })
+landed_in {w} {crossing} {words} v phase unreleased unfreed l = record {
+  kept = l.kept;
+  way = l.way;
+  still = l.still;
+  older = l.older;
+  mutators = l.mutators;
+  accounted = l.accounted;
+  uncounted = λ none. l.uncounted refl;
+  sound = l.sound;
+  many_words = l.many_words;
+  slots = l.slots;
+  fields = l.fields;
+  counts = l.counts;
+  listed = l.listed;
+  emptied = λ x f below within released. inr (inr (landed_empty l x f below within released));
+}
+
+pub landed_still : {w : Core} {crossing words : List ℕ} (v : Parts) (phase : Phase) → release_due phase ≡ None → freeing_due phase ≡ None → HasLanded w crossing words (record { parts = v; phase = Some phase }) → HasLanded w crossing words (still v)
+landed_still {w} {crossing} {words} v phase unreleased unfreed l = record {
+  kept = l.kept;
+  way = l.way;
+  still = l.still;
+  older = l.older;
+  mutators = l.mutators;
+  accounted = l.accounted;
+  uncounted = λ none. l.uncounted unfreed;
+  sound = l.sound;
+  many_words = l.many_words;
+  slots = l.slots;
+  fields = l.fields;
+  counts = l.counts;
+  listed = l.listed;
+  emptied = λ x f below within released. elim (l.emptied x f below within released) [
+    | inl left ↦ absurd (subst (λ o. IsLeft o x f) unreleased left)
+    | inr rest ↦ elim rest [ inl left ↦ absurd (subst (λ o. IsLeftOf v.counts.work o x f) unfreed left) | inr none ↦ inr (inr none) ]
+  ];
+}
+
 -- whether every slot is to be offered to the next trial doesn't matter to it
-landed_asked : {w : Core} {crossing words : List ℕ} {v : Parts} → HasLanded w crossing words v → (offers : Bool) → HasLanded w crossing words (record v { offers = offers })
+landed_asked : {w : Core} {crossing words : List ℕ} {v : Parts} → HasLanded w crossing words (still v) → (offers : Bool) → HasLanded w crossing words (still (record v { offers = offers }))
 landed_asked l offers = record {
   kept = l.kept;
   way = l.way;
@@ -257,24 +288,20 @@ landed_asked l offers = record {
   many_words = l.many_words;
   slots = l.slots;
   fields = l.fields;
-  freeing_fields = l.freeing_fields;
-  trial_fields = l.trial_fields;
-  prep_fields = l.prep_fields;
   counts = l.counts;
   listed = l.listed;
   emptied = l.emptied;
 }
 
 -- every slot is offered where that was asked for
-pub landed_offered : {w : Core} {crossing words : List ℕ} {v : Parts} → HasLanded w crossing words v → v.freeing.at ≡ None → HasLanded w crossing words (with_offers v)
-landed_offered {w} {crossing} {words} {v} l unfreed =
+pub landed_offered : {w : Core} {crossing words : List ℕ} {v : Parts} → HasLanded w crossing words (still v) → HasLanded w crossing words (still (with_offers v))
+landed_offered {w} {crossing} {words} {v} l =
     let s : State = (with_offers v).counts in
-    landed_asked (landed_alike l unfreed s v.trial v.prep (offered_alike v.counts s (where_keeps v.offers v.counts)) (where_kept v.offers v.counts l.counts) l.trial_fields l.prep_fields) false
+    landed_asked (landed_alike l s (offered_alike v.counts s (where_keeps v.offers v.counts)) (where_kept v.offers v.counts l.counts)) false
 
 -- one turn more, and another phase, change nothing of what is known of the sets in that phase
 came_cycles : (p : Pending) (c : collectors.Private) (phase : Phase) → HasCyclesAt p c phase → HasCyclesAt p (moved c phase) phase
-came_cycles p c Trying h = record { before = h.before; words = h.words; run = h.run; trial = h.trial; at = h.at; stands = h.stands }
-came_cycles p c Preparing h = record { before = h.before; before_kept = h.before_kept; loads = h.loads; prepares = h.prepares; fields = h.fields; stands = h.stands }
+came_cycles p c (Trying m) h = h
 came_cycles p c _ h = h
 
 -- a phase of a collection that has applied its batch: every mailbox is home, and nothing is swept yet
@@ -298,7 +325,7 @@ here_done w kept =
     omega (arith, first, kept.collector.begun)
 
 -- in such a phase, a collection has come to where it is
-pub lands_here : (w : Core) (phase : Phase) → IsKept w → w.collector.phase ≡ phase → IsUnswept w.epoch phase → HasLanded w w.crossing w.words (parts_of w.collector)
+pub lands_here : (w : Core) (phase : Phase) → IsKept w → w.collector.phase ≡ phase → IsUnswept w.epoch phase → HasLanded w w.crossing w.words (record { parts = parts_of w.collector; phase = Some w.collector.phase })
 lands_here w phase kept is on =
     let k = kept.collector in
     let same : pending w ≡ landed_pending w w.words w.collector.counts = here_pending w phase is on in
@@ -314,9 +341,6 @@ lands_here w phase kept is on =
       many_words = refl;
       slots = k.slots;
       fields = k.fields;
-      freeing_fields = k.machine.freeing_fields ∙ k.fields;
-      trial_fields = k.machine.trial_fields ∙ k.fields;
-      prep_fields = k.machine.prep_fields ∙ k.fields;
       counts = k.machine.counts;
       listed = k.listed;
       emptied = k.emptied;
@@ -327,7 +351,7 @@ module _ (w : Core) (crossing words : List ℕ) (q : collectors.Private) (machin
   landed = record w { crossing = crossing; words = words; collector = q }
 
   -- the collection goes on
-  pub goes_on : (v : Parts) (next : Phase) → HasLanded w crossing words v → IsUnswept w.epoch next → HasCyclesAt (landed_pending w words v.counts) (with_parts w.collector v) next → q ≡ moved (with_parts w.collector v) next → IsKept landed
+  pub goes_on : (v : Parts) (next : Phase) → HasLanded w crossing words (record { parts = v; phase = Some next }) → IsUnswept w.epoch next → HasCyclesAt (landed_pending w words v.counts) (with_parts w.collector v) next → q ≡ moved (with_parts w.collector v) next → IsKept landed
   goes_on v next l on cycles is =
       let k = l.kept.collector in
       let c : collectors.Private = moved (with_parts w.collector v) next in
@@ -363,8 +387,8 @@ module _ (w : Core) (crossing words : List ℕ) (q : collectors.Private) (machin
       subst (λ (x : collectors.Private). IsKept (record w { crossing = crossing; words = words; collector = x })) (sym is) whole
 
   -- the collection is complete
-  completes : (v : Parts) → HasLanded w crossing words v → v.freeing.at ≡ None → SetsWait (landed_pending w words v.counts) v.counts → q ≡ ended (with_parts w.collector v) → IsKept landed
-  completes v l unfreed waits is =
+  completes : (v : Parts) → HasLanded w crossing words (still v) → SetsWait (landed_pending w words v.counts) v.counts → q ≡ ended (with_parts w.collector v) → IsKept landed
+  completes v l waits is =
       let k = l.kept.collector in
       let c : collectors.Private = ended (with_parts w.collector v) in
       let its : collector_kept.IsMachine c = subst collector_kept.IsMachine is machine in
@@ -401,58 +425,62 @@ module _ (w : Core) (crossing words : List ℕ) (q : collectors.Private) (machin
         made = l.kept.made;
         sound = l.sound;
         accounted = move_accounted (Move.dropping drops) l.accounted;
-        uncounted = λ none. move_uncounted (Move.dropping drops) l.accounted (l.uncounted unfreed);
+        uncounted = λ none. move_uncounted (Move.dropping drops) l.accounted (l.uncounted refl);
         cycles = sets_wait_moved v.counts (Move.dropping drops) tt l.accounted (none_alive v.counts (none_released its.now.0)) waits;
       } in
       subst (λ (x : collectors.Private). IsKept (record w { crossing = crossing; words = words; collector = x })) (sym is) whole
 
   -- all fields, by the slots of the counts
-  places_landed : (v : Parts) → HasLanded w crossing words v → (slots : ℕ) → length v.counts.slots ≡ slots → length words ≡ slots * w.config.fields
-  places_landed v l slots many = l.many_words ∙ sym (fields_many w slots w.config.fields l.kept (sym many ∙ l.slots) refl)
+  places_landed : {b : Begun} → HasLanded w crossing words b → (slots : ℕ) → length b.parts.counts.slots ≡ slots → length words ≡ slots * w.config.fields
+  places_landed l slots many = l.many_words ∙ sym (fields_many w slots w.config.fields l.kept (sym many ∙ l.slots) refl)
 
   -- whatever follows a preparation
-  pub prepares_kept : (v : Parts) (turn : Turn) → HasLanded w crossing words v → AreSeen (landed_pending w words v.counts) (with_parts w.collector v) → v.freeing.at ≡ None → PreparesOn w.collector v q turn → IsKept landed
-  prepares_kept v turn l seen unfreed on = go on
+  pub prepares_kept : (v : Parts) (u : preps.Work) (turn : Turn) → HasLanded w crossing words (still (record v { counts = u.counts })) → AreSeen (landed_pending w words u.counts) u.counts u.machine → PreparesOn w.collector v u q turn → IsKept landed
+  prepares_kept v u turn l seen on = go on
     where
-      waits : v.prep.at ≡ None → SetsWait (landed_pending w words v.counts) v.counts
+      its : Parts
+      its = record v { counts = u.counts }
+
+      waits : u.machine.at ≡ None → SetsWait (landed_pending w words u.counts) u.counts
       waits done =
-          let all : prepared.PreparedTo w.config.fields seen.before None v.counts seen.loads = subst (λ a. prepared.PreparedTo w.config.fields seen.before a v.counts seen.loads) done seen.prepares in
-          sets_wait_prepared (landed_pending w words v.counts) seen.before v.counts seen.loads seen.before_kept (places_landed v l (length seen.before.slots) all.others.many) seen.fields all seen.stands
+          let all : prepared.PreparedTo w.config.fields seen.before None u.counts seen.loads = subst (λ a. prepared.PreparedTo w.config.fields seen.before a u.counts seen.loads) done seen.prepares in
+          sets_wait_prepared (landed_pending w words u.counts) seen.before u.counts seen.loads seen.before_kept (places_landed l (length seen.before.slots) all.others.many) seen.fields all seen.stands
 
-      go : PreparesOn w.collector v q turn → IsKept landed
-      go (PreparesOn.more some g) = goes_on v Preparing l (record { way = refl; still = refl; applied = refl; older = refl; stands = λ s. refl; between = tt; some = tt }) seen g.after
-      go (PreparesOn.sweeps_next none some g) = goes_on v Opening l (record { way = refl; still = refl; applied = refl; older = refl; stands = λ s. refl; between = tt; some = tt }) (waits none) g.after
-      go (PreparesOn.completes none free e) = completes v l unfreed (waits none) e.after
+      go : PreparesOn w.collector v u q turn → IsKept landed
+      go (PreparesOn.more some g) = goes_on its (Preparing u.machine) (landed_in its (Preparing u.machine) refl refl l) (record { way = refl; still = refl; applied = refl; older = refl; stands = λ s. refl; between = tt; some = tt }) seen g.after
+      go (PreparesOn.sweeps_next none some g) = goes_on its Opening (landed_in its Opening refl refl l) (record { way = refl; still = refl; applied = refl; older = refl; stands = λ s. refl; between = tt; some = tt }) (waits none) g.after
+      go (PreparesOn.completes none free e) = completes its l (waits none) e.after
 
-  prep_others : (m : preps.Machine) (s : State) → KeepsOthers s (preps.started_of m s).counts
-  prep_others m s = subst (λ (x : preps.Work). KeepsOthers s x.counts) (sym (started_is m s)) (next_set_others s 0)
+  prep_others : (v : Parts) → KeepsOthers v.counts (prep_started v).counts
+  prep_others v = subst (λ (x : preps.Work). KeepsOthers v.counts x.counts) (sym (started_is (new_prep v.fields) v.counts)) (next_set_others v.counts 0)
 
-  pub prep_lands : (v : Parts) → HasLanded w crossing words v → v.freeing.at ≡ None → HasLanded w crossing words (prep_started v)
-  prep_lands v l unfreed =
-      let u : preps.Work = preps.started_of v.prep v.counts in
-      let others : KeepsOthers v.counts u.counts = prep_others v.prep v.counts in
-      landed_alike l unfreed u.counts v.trial u.machine (prepared_alike v.counts u.counts others) (others_kept v.counts u.counts others l.counts) l.trial_fields (ap (λ (x : preps.Work). x.machine.fields) (started_is v.prep v.counts) ∙ l.prep_fields)
+  pub prep_lands : (v : Parts) → HasLanded w crossing words (still v) → HasLanded w crossing words (still (record v { counts = (prep_started v).counts }))
+  prep_lands v l =
+      let u : preps.Work = prep_started v in
+      let others : KeepsOthers v.counts u.counts = prep_others v in
+      landed_alike l u.counts (prepared_alike v.counts u.counts others) (others_kept v.counts u.counts others l.counts)
 
-  prep_seen : (v : Parts) → HasLanded w crossing words v → IsLoading (landed_pending w words v.counts) (with_parts w.collector v) → trials.next_of v.trial ≡ None
-      → AreSeen (landed_pending w words (prep_started v).counts) (with_parts w.collector (prep_started v))
-  prep_seen v l loading over =
-      let u : preps.Work = preps.started_of v.prep v.counts in
-      let others : KeepsOthers v.counts u.counts = prep_others v.prep v.counts in
+  prep_seen : (v : Parts) (m : trials.Machine) → HasLanded w crossing words (still v) → IsLoading (landed_pending w words v.counts) v.counts m → trials.next_of m ≡ None
+      → AreSeen (landed_pending w words (prep_started v).counts) (prep_started v).counts (prep_started v).machine
+  prep_seen v m l loading over =
+      let u : preps.Work = prep_started v in
+      let others : KeepsOthers v.counts u.counts = prep_others v in
       let p : Pending = landed_pending w words u.counts in
       let some : 1 ≤ w.config.fields = l.kept.config.some_fields in
+      let same : v.fields ≡ w.config.fields = l.fields in
       let came : Came w.config.fields v.counts (preps.work_of w.config.fields (preps.next_set v.counts 0)) [] = came_first w.config.fields v.counts some l.counts.numbers in
       let counts : loading.run.work.counts ≡ v.counts = ap (λ (x : trials.Work). x.counts) loading.at in
       let done : IsNone (trials.next_of loading.run.work.machine) = subst (λ (x : trials.Work). IsNone (trials.next_of x.machine)) (sym loading.at) (subst (λ o. IsNone o) (sym over) refl) in
       let many : length v.counts.slots ≡ length loading.before.slots = ap (λ (x : State). length x.slots) (sym counts) ∙ loading.trial.careful.slots in
       let marked : IsMarked p (is_member loading.run.work.counts) (word_loaded w.config.fields loading.run.marking)
-      = trial_leaves_marked p w.config.fields loading.before loading.words loading.run loading.trial done refl (places_landed v l (length loading.before.slots) many)
+      = trial_leaves_marked p w.config.fields loading.before loading.words loading.run loading.trial done refl (places_landed l (length loading.before.slots) many)
       (λ x below. slot_counted u.counts x (omega (arith, below, many, others.many)) ∙ ap (λ (y : Slot). y.count) (others.slots x) ∙ ap (λ (y : State). (slot_at y x).count) (sym counts) ∙ loading.trial.careful.counts x)
       (record { marks = loading.stands.marks; blacks = loading.stands.blacks }) in
       record {
         before = v.counts;
         before_kept = l.counts;
         loads = [];
-        prepares = subst (λ (x : preps.Work). prepared.PreparedTo w.config.fields v.counts x.machine.at x.counts []) (sym (started_is v.prep v.counts)) came.law;
+        prepares = subst (λ (x : preps.Work). prepared.PreparedTo w.config.fields v.counts x.machine.at x.counts []) (sym (started_is (new_prep v.fields) v.counts)) came.law;
         fields = fields_begun w.config.fields;
         stands = sets_stand_begun p v.counts u.counts loading.run.marking others (subst (λ (y : State). IsMarked p (is_member y) (word_loaded w.config.fields loading.run.marking)) counts marked);
       }
@@ -463,29 +491,31 @@ module _ (w : Core) (crossing words : List ℕ) (q : collectors.Private) (machin
           ap (λ n. (slice_index_or s.slots n fresh).count) at ∙ ap (λ (y : Slot). y.count) (get_or_default s.slots x fresh absent below)
 
   -- whatever follows a trial
-  pub tries_kept : (v : Parts) (turn : Turn) → HasLanded w crossing words v → IsLoading (landed_pending w words v.counts) (with_parts w.collector v) → v.freeing.at ≡ None → TriesOn w.collector v q turn → IsKept landed
-  tries_kept v turn l loading unfreed (TriesOn.more some g) = goes_on v Trying l (record { way = refl; still = refl; applied = refl; older = refl; stands = λ s. refl; between = tt; some = tt }) loading g.after
-  tries_kept v turn l loading unfreed (TriesOn.prepares over on) = prepares_kept (prep_started v) turn (prep_lands v l unfreed) (prep_seen v l loading over) unfreed on
+  pub tries_kept : (v : Parts) (u : trials.Work) (turn : Turn) → HasLanded w crossing words (still (record v { counts = u.counts })) → IsLoading (landed_pending w words u.counts) u.counts u.machine → TriesOn w.collector v u q turn → IsKept landed
+  tries_kept v u turn l loading (TriesOn.more some g) = goes_on (record v { counts = u.counts }) (Trying u.machine) (landed_in (record v { counts = u.counts }) (Trying u.machine) refl refl l) (record { way = refl; still = refl; applied = refl; older = refl; stands = λ s. refl; between = tt; some = tt }) loading g.after
+  tries_kept v u turn l loading (TriesOn.prepares over on) =
+      let its : Parts = record v { counts = u.counts } in
+      prepares_kept its (prep_started its) turn (prep_lands its l) (prep_seen its u.machine l loading over) on
 
   -- where nothing is left to release or to test, a trial begins
-  trial_begins_on : (v : Parts) (turn : Turn) → HasLanded w crossing words v → IsReady v.counts → v.freeing.at ≡ None → TriesOn w.collector (trial_begun v) q turn → IsKept landed
-  trial_begins_on v turn l ready unfreed on =
+  trial_begins_on : (v : Parts) (turn : Turn) → HasLanded w crossing words (still v) → IsReady v.counts → TriesOn w.collector v (trials.started_of v.fields v.counts) q turn → IsKept landed
+  trial_begins_on v turn l ready on =
       let some : 1 ≤ w.config.fields = l.kept.config.some_fields in
-      let wide : 0 < v.trial.fields = omega (arith, some, l.trial_fields) in
-      let u : trials.Work = trials.started_of v.trial.fields v.counts in
-      let fields : u.machine.fields ≡ v.trial.fields = started_fields v.trial.fields v.counts wide ready in
-      tries_kept (trial_begun v) turn
-      (landed_alike l unfreed u.counts u.machine v.prep (tried_alike v.counts u.counts (started_keeps v.trial.fields v.counts wide ready)) (started_counted v.trial.fields v.counts wide l.counts ready) (fields ∙ l.trial_fields) l.prep_fields)
+      let same : v.fields ≡ w.config.fields = l.fields in
+      let wide : 0 < v.fields = omega (arith, some, same) in
+      let u : trials.Work = trials.started_of v.fields v.counts in
+      tries_kept v u turn
+      (landed_alike l u.counts (tried_alike v.counts u.counts (started_keeps v.fields v.counts wide ready)) (started_counted v.fields v.counts wide l.counts ready))
       (record {
         before = v.counts;
         words = [];
         run = unloaded u;
-        trial = begun_promised w.config.fields v.counts u some ready (ap (λ n. trials.started_of n v.counts) l.trial_fields);
+        trial = begun_promised w.config.fields v.counts u some ready (ap (λ n. trials.started_of n v.counts) same);
         at = refl;
         stands = trial_stands_begun (landed_pending w words u.counts) u;
       })
-      unfreed on
+      on
 
   -- once every slot was offered to it, where that was asked for
-  pub trial_begins : (v : Parts) (turn : Turn) → HasLanded w crossing words v → IsReady v.counts → v.freeing.at ≡ None → TriesOn w.collector (trial_started v) q turn → IsKept landed
-  trial_begins v turn l ready unfreed on = trial_begins_on (with_offers v) turn (landed_offered l unfreed) (where_ready v.offers v.counts ready) unfreed on
+  pub trial_begins : (v : Parts) (turn : Turn) → HasLanded w crossing words (still v) → IsReady v.counts → TriesOn w.collector (with_offers v) (trials.started_of v.fields (with_offers v).counts) q turn → IsKept landed
+  trial_begins v turn l ready on = trial_begins_on (with_offers v) turn (landed_offered l) (where_ready v.offers v.counts ready) on

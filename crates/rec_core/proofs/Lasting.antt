@@ -28,17 +28,20 @@ use Rattle.rec_mutator.specs.declared.phase.Phase.TheVariants as at
 use Rattle.rec_mutator.specs.declared.work.Work.{Work}
 use Rattle.rec_mutator.specs.declared.work.Work.TheVariants as works
 use Rattle.rec_mutator.proofs.Steps.{whole_made}
+use Rattle.rec_sigma.specs.Prepare as preps
+use Rattle.rec_trial.specs.Trial as trials
 use Rattle.rec_collector.specs.Kept as collector_kept
 use Rattle.rec_collector.specs.Next as collectors_next
 use Rattle.rec_collector.specs.Parts.{Parts}
 use Rattle.rec_collector.specs.Private as collectors
 use Rattle.rec_collector.specs.Private.{with_parts}
 use Rattle.rec_collector.specs.Step as collectors_step
+use Rattle.rec_collector.specs.Testing.{Begun}
 use Rattle.rec_collector.specs.Took as collectors_took
 use Rattle.rec_collector.specs.Took.{cleared}
 use Rattle.rec_collector.specs.Touched.{tried_at}
 use Rattle.rec_collector.specs.declared.phase.Phase.{Phase}
-use Rattle.rec_collector.specs.declared.phase.Phase.TheVariants.{Idle, Looking, Swapping, Returning, Releasing, Freeing, Trying, Preparing, Opening, Sweeping, Closing}
+use Rattle.rec_collector.specs.declared.phase.Phase.TheVariants.{Idle, Looking, Swapping, Returning}
 use Rattle.rec_collector.specs.declared.turn.Turn.{Turn}
 use Rattle.rec_collector.proofs.Steps as collectors_made
 use Rattle.rec_collector.proofs.Always.{names_word}
@@ -290,20 +293,19 @@ goes_rows p q w turn next g = Rows.kept_rows (ap (λ (x : collectors.Private). x
 ends_rows : (p q : collectors.Private) (w : Parts) (turn : Turn) (swept : ℕ) → collectors_step.Ends (with_parts p w) q turn swept → Rows p q
 ends_rows p q w turn swept e = Rows.turned_rows (ap (λ (x : collectors.Private). x.newer) e.after) (ap (λ (x : collectors.Private). x.older) e.after)
 
-prepares_rows : (p q : collectors.Private) (w : Parts) (turn : Turn) → collectors_step.PreparesOn p w q turn → Rows p q
-prepares_rows p q w turn (collectors_step.PreparesOn.more busy g) = goes_rows p q w turn _ g
-prepares_rows p q w turn (collectors_step.PreparesOn.sweeps_next done some g) = goes_rows p q w turn _ g
-prepares_rows p q w turn (collectors_step.PreparesOn.completes done none e) = ends_rows p q w turn _ e
+prepares_rows : (p q : collectors.Private) (w : Parts) (v : preps.Work) (turn : Turn) → collectors_step.PreparesOn p w v q turn → Rows p q
+prepares_rows p q w v turn (collectors_step.PreparesOn.more busy g) = goes_rows p q (record w { counts = v.counts }) turn _ g
+prepares_rows p q w v turn (collectors_step.PreparesOn.sweeps_next done some g) = goes_rows p q (record w { counts = v.counts }) turn _ g
+prepares_rows p q w v turn (collectors_step.PreparesOn.completes done none e) = ends_rows p q (record w { counts = v.counts }) turn _ e
 
-tries_rows : (p q : collectors.Private) (w : Parts) (turn : Turn) → collectors_step.TriesOn p w q turn → Rows p q
-tries_rows p q w turn (collectors_step.TriesOn.more busy g) = goes_rows p q w turn _ g
-tries_rows p q w turn (collectors_step.TriesOn.prepares done on) = prepares_rows p q _ turn on
+tries_rows : (p q : collectors.Private) (w : Parts) (v : trials.Work) (turn : Turn) → collectors_step.TriesOn p w v q turn → Rows p q
+tries_rows p q w v turn (collectors_step.TriesOn.more busy g) = goes_rows p q (record w { counts = v.counts }) turn _ g
+tries_rows p q w v turn (collectors_step.TriesOn.prepares done on) = prepares_rows p q _ _ turn on
 
-clears_rows : (p q : collectors.Private) (turn : Turn) {w : Parts} → collectors_step.ClearsOn p q turn w → Rows p q
-clears_rows p q turn (collectors_step.ClearsOn.frees_on busy g) = goes_rows p q _ turn _ g
-clears_rows p q turn (collectors_step.ClearsOn.releases_on unfreed busy g) = goes_rows p q _ turn _ g
-clears_rows p q turn (collectors_step.ClearsOn.tests v unfreed still some tested on) = clears_rows p q turn on
-clears_rows p q turn (collectors_step.ClearsOn.tries unfreed still none on) = tries_rows p q _ turn on
+clears_rows : (p q : collectors.Private) (turn : Turn) {b : Begun} → collectors_step.ClearsOn p q turn b → Rows p q
+clears_rows p q turn {b} (collectors_step.ClearsOn.works phase at g) = goes_rows p q b.parts turn _ g
+clears_rows p q turn (collectors_step.ClearsOn.tests c none some tested on) = clears_rows p q turn on
+clears_rows p q turn (collectors_step.ClearsOn.tries none empty on) = tries_rows p q _ _ turn on
 
 -- cleared buffers have no writes
 cleared_none : (g : Write → ℕ) (row : List Contents) → sum_by (wrote g) (map cleared row) ≡ 0
@@ -313,16 +315,7 @@ cleared_none g (b ∷ row) = omega (arith, sum_by-cons (wrote g) (cleared b) (ma
 -- the older buffers are of an epoch before the one that was requested for the last trial
 older_early : (first collections requested : ℕ) (phase : Phase) → 1 ≤ first → first + collections + collector_kept.under_way phase ≡ requested → older_at requested phase < tried_at requested phase
 older_early first collections requested Idle some e = omega (arith, e)
-older_early first collections requested (Looking t) some e = omega (arith, e)
-older_early first collections requested (Swapping t) some e = omega (arith, e)
-older_early first collections requested (Returning t) some e = omega (arith, e)
-older_early first collections requested Releasing some e = omega (arith, e)
-older_early first collections requested Freeing some e = omega (arith, e)
-older_early first collections requested Trying some e = omega (arith, e)
-older_early first collections requested Preparing some e = omega (arith, e)
-older_early first collections requested Opening some e = omega (arith, e)
-older_early first collections requested (Sweeping n) some e = omega (arith, e)
-older_early first collections requested (Closing n) some e = omega (arith, e)
+older_early first collections requested _ some e = omega (arith, e)
 
 -- what one operation of the collector does to a word
 op_goes : (w v : Core) (op : Op) (epoch place slots fields mutators : ℕ) → v.words ≡ (with_cell (cells_of w) op (written op (cell (cells_of w) op))).words → collectors_step.NamesWord slots fields mutators op → Goes w v (cleared_by w (Some op)) epoch place
@@ -403,20 +396,20 @@ module _ (w : Core) (op : Op) (kept : IsKept w) (named : ◌≡◌ {A = Option O
   writes_keep (collectors_step.Step.gather t at crossed is g) = λ weight early. gathered_keep t at crossed (ap (λ (x : collectors.Private). x.newer) g.after) (ap (λ (x : collectors.Private). x.older) g.after) weight
   writes_keep (collectors_step.Step.give_back t at other is g) = rows_keep (boxes_stay at refl) (Rows.kept_rows (ap (λ (x : collectors.Private). x.newer) g.after) (ap (λ (x : collectors.Private). x.older) g.after))
   writes_keep (collectors_step.Step.apply t at last is on) = rows_keep (boxes_stay at refl) (clears_rows c q _ on)
-  writes_keep (collectors_step.Step.release at is on) = rows_keep (boxes_stay at refl) (clears_rows c q _ on)
-  writes_keep (collectors_step.Step.freeing at is on) = rows_keep (boxes_stay at refl) (clears_rows c q _ on)
-  writes_keep (collectors_step.Step.trial at is on) = rows_keep (boxes_stay at refl) (tries_rows c q _ _ on)
-  writes_keep (collectors_step.Step.preparation at is on) = rows_keep (boxes_stay at refl) (prepares_rows c q _ _ on)
+  writes_keep (collectors_step.Step.release m at is on) = rows_keep (boxes_stay at refl) (clears_rows c q _ on)
+  writes_keep (collectors_step.Step.freeing m at is on) = rows_keep (boxes_stay at refl) (clears_rows c q _ on)
+  writes_keep (collectors_step.Step.trial m at is on) = rows_keep (boxes_stay at refl) (tries_rows c q _ _ _ on)
+  writes_keep (collectors_step.Step.preparation m at is on) = rows_keep (boxes_stay at refl) (prepares_rows c q _ _ _ on)
   writes_keep (collectors_step.Step.begin_sweep at is g) = rows_keep (boxes_stay at refl) (Rows.kept_rows (ap (λ (x : collectors.Private). x.newer) g.after) (ap (λ (x : collectors.Private). x.older) g.after))
-  writes_keep (collectors_step.Step.sweep swept u next at is took follows g) = rows_keep (boxes_stay at refl) (Rows.kept_rows (ap (λ (x : collectors.Private). x.newer) g.after) (ap (λ (x : collectors.Private). x.older) g.after))
+  writes_keep (collectors_step.Step.sweep due swept u next at is took follows g) = rows_keep (boxes_stay at refl) (Rows.kept_rows (ap (λ (x : collectors.Private). x.newer) g.after) (ap (λ (x : collectors.Private). x.older) g.after))
   writes_keep (collectors_step.Step.end_sweep swept at is e) = rows_keep (boxes_stay at refl) (Rows.turned_rows (ap (λ (x : collectors.Private). x.newer) e.after) (ap (λ (x : collectors.Private). x.older) e.after))
 
   op_keeps : Keeps w v (cleared_by w (Some op)) (tried_in w)
   op_keeps =
       let made = collectors_made.step_made c found its_box kept.collector.machine kept.collector.between (given_is w op kept named) in
-      let names : collectors_step.NamesWord (length c.counts.slots) c.release.fields (length c.newer) op = subst (λ (o : Option Op). IfSome o (collectors_step.NamesWord (length c.counts.slots) c.release.fields (length c.newer))) named (names_word c kept.collector.machine) in
+      let names : collectors_step.NamesWord (length c.counts.slots) c.fields (length c.newer) op = subst (λ (o : Option Op). IfSome o (collectors_step.NamesWord (length c.counts.slots) c.fields (length c.newer))) named (names_word c kept.collector.machine) in
       record {
-        words = λ place. op_goes w v op (tried_in w) place (length c.counts.slots) c.release.fields (length c.newer) refl names;
+        words = λ place. op_goes w v op (tried_in w) place (length c.counts.slots) c.fields (length c.newer) refl names;
         writes = writes_keep (subst (λ (o : Option Op). collectors_step.Step c found its_box o q (collectors_took.turn_of c found)) named made);
       }
 

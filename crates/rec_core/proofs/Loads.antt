@@ -52,14 +52,14 @@ unfolding collectors_next.next_at release_next freeing_next
 loads_tried w place (Looking t) at named = absurd (cc)
 loads_tried w place (Swapping t) at named = absurd (cc)
 loads_tried w place (Returning t) at named = absurd (cc)
-loads_tried w place Releasing at named = go w.collector.release.at named
+loads_tried w place (Releasing m) at named = go m.at named
   where
-    go : (x : Option At) → ◌≡◌ {A = Option Op} (release_op_at w.collector.release.fields x) (Some (ops.LoadChild place)) → w.epoch - 1 ≡ w.epoch
+    go : (x : Option At) → ◌≡◌ {A = Option Op} (release_op_at m.fields x) (Some (ops.LoadChild place)) → w.epoch - 1 ≡ w.epoch
     go None named = absurd (cc)
     go (Some a) named = absurd (cc)
-loads_tried w place Freeing at named = go w.collector.freeing.at named
+loads_tried w place (Freeing m) at named = go m.at named
   where
-    go : (x : Option Member) → ◌≡◌ {A = Option Op} (freeing_op_at w.collector.freeing.fields x) (Some (ops.LoadChild place)) → w.epoch - 1 ≡ w.epoch
+    go : (x : Option Member) → ◌≡◌ {A = Option Op} (freeing_op_at m.fields x) (Some (ops.LoadChild place)) → w.epoch - 1 ≡ w.epoch
     go None named = absurd (cc)
     go (Some a) named = absurd (cc)
 loads_tried w place _ at named = refl

@@ -3,7 +3,7 @@ use Rattle.std.proofs.Common.{true}
 use Rattle.rec_model.specs.Pending.{Pending}
 use Rattle.rec_collector.specs.Private.{Private}
 use Rattle.rec_collector.specs.declared.phase.Phase.{Phase}
-use Rattle.rec_collector.specs.declared.phase.Phase.TheVariants.{Trying, Preparing}
+use Rattle.rec_collector.specs.declared.phase.Phase.TheVariants.{Idle}
 use Rattle.rec_collector.proofs.Keeping.{offers_kept}
 use Rattle.rec_core.specs.Core.{Core}
 use Rattle.rec_core.specs.CyclesAt.{HasCyclesAt}
@@ -11,10 +11,9 @@ use Rattle.rec_core.specs.Kept.{IsKept}
 use Rattle.rec_core.specs.Moves.{offering}
 use Rattle.rec_core.specs.Pending.{pending}
 
--- its sets are the same, and so is what is at work on them
+-- its sets are the same, and so is what is at work on them: its counts stay
 cycles_on : (w : Pending) (c : Private) (phase : Phase) → HasCyclesAt w c phase → HasCyclesAt w (record c { offers = true }) phase
-cycles_on w c Trying k = record { before = k.before; words = k.words; run = k.run; trial = k.trial; at = k.at; stands = k.stands }
-cycles_on w c Preparing k = record { before = k.before; before_kept = k.before_kept; loads = k.loads; prepares = k.prepares; fields = k.fields; stands = k.stands }
+cycles_on w c Idle k = k
 cycles_on w c _ k = k
 
 -- That all slots are to be offered changes nothing of what a heap keeps.

@@ -26,23 +26,25 @@ use Rattle.rec_walk.specs.Load.{Load, place_loaded}
 use Rattle.rec_sigma.specs.Prepared.{PreparedTo, loaded_at, places_left, seen, sets_begun}
 use Rattle.rec_sigma.proofs.Cyclics.{seen-nil}
 use Rattle.rec_sigma.proofs.Runs.{Came, came_first, came_on, started_is}
-use Rattle.rec_collector.specs.Followed.{prep_started, with_loaded, with_tried}
+use Rattle.rec_trial.specs.Trial as trials
+use Rattle.rec_collector.specs.Followed.{prep_started}
 use Rattle.rec_collector.specs.Given.{IsGiven}
 use Rattle.rec_collector.specs.Next.{next_of, next_at, is_spent}
 use Rattle.rec_collector.specs.Outside.{HasSets, IsOutside}
-use Rattle.rec_collector.specs.Parts.{Parts}
+use Rattle.rec_collector.specs.Parts.{new_prep}
 use Rattle.rec_collector.specs.Private as collectors
 use Rattle.rec_collector.specs.Private.{parts_of}
 use Rattle.rec_collector.specs.Took.{step_of}
 use Rattle.rec_collector.specs.Touched.{IsOrangeIn, named_by, tried_at, WasUntouched}
 use Rattle.rec_collector.specs.declared.phase.Phase.{Phase}
 use Rattle.rec_collector.specs.declared.phase.Phase.TheVariants.{Idle, Releasing, Freeing, Trying, Preparing, Sweeping}
+use Rattle.rec_collector.proofs.Goings.{still}
 use Rattle.rec_collector.proofs.Touched.{begins_on, has_on, loads_on, LoadsOn, outside_later, untouched, untouched_on, untouched_same}
 use Rattle.rec_core.specs.Cells.{cell}
 use Rattle.rec_core.specs.Core.{Core, cells_of, box}
 use Rattle.rec_core.specs.Freed.{Passes}
 use Rattle.rec_core.specs.Kept.{IsKept}
-use Rattle.rec_core.specs.Loads.{BeginsPreparing, fields_loaded, load_of, Loaded, loaded_by, loaded_in, loaded_over, named_by_op, named_in, named_over, tried_in}
+use Rattle.rec_core.specs.Loads.{BeginsPreparing, fields_loaded, IsPreparing, IsTrying, load_of, Loaded, loaded_by, loaded_in, loaded_over, named_by_op, named_in, named_over, tried_in}
 use Rattle.rec_core.specs.Moves.{AllFit, Fits, Move, after_move, after_moves, looked_at, turned, turned_at, turned_by}
 use Rattle.rec_core.specs.declared.config.Config.{Config}
 use Rattle.rec_core.proofs.CyclesTest.{none_of}
@@ -115,7 +117,7 @@ all_untouched w (m ∷ ms) number x kept has fit within o =
 
 -- what the run has loaded since the preparation of these sets began: the preparation goes on, or is done
 data Stage (fields : ℕ) (before : State) (w : Core) (loads : List Load) : Type 0 where
-  loading : w.collector.phase ≡ Preparing → Came fields before (record { machine = w.collector.prep; counts = w.collector.counts }) loads → Stage fields before w loads
+  loading : (m : preps.Machine) → w.collector.phase ≡ Preparing m → Came fields before (record { machine = m; counts = w.collector.counts }) loads → Stage fields before w loads
   done : HasSets w.collector.phase → map (place_loaded fields) loads ≡ places_of fields (concat before.sets)
       → ((number x : ℕ) → IsOrangeIn w.collector.counts number x → IsOutside before w.collector.counts loads number x) → Stage fields before w loads
 
@@ -127,19 +129,19 @@ loads_none c place Idle has named = go (is_spent c) named
     go : (b : Bool) → ◌≡◌ {A = Option Op} (cond b None (Some (ops.StoreEpoch (c.epoch + 1)))) (Some (ops.LoadChild place)) → ⊥
     go true named = cc
     go false named = cc
-loads_none c place Releasing has named = go c.release.at named
+loads_none c place (Releasing m) has named = go m.at named
   where
-    go : (x : Option releases.At) → ◌≡◌ {A = Option Op} (release_op_at c.release.fields x) (Some (ops.LoadChild place)) → ⊥
+    go : (x : Option releases.At) → ◌≡◌ {A = Option Op} (release_op_at m.fields x) (Some (ops.LoadChild place)) → ⊥
     go None named = cc
     go (Some a) named = cc
-loads_none c place Freeing has named = go c.freeing.at named
+loads_none c place (Freeing m) has named = go m.at named
   where
-    go : (x : Option Member) → ◌≡◌ {A = Option Op} (freeing_op_at c.freeing.fields x) (Some (ops.LoadChild place)) → ⊥
+    go : (x : Option Member) → ◌≡◌ {A = Option Op} (freeing_op_at m.fields x) (Some (ops.LoadChild place)) → ⊥
     go None named = cc
     go (Some a) named = cc
-loads_none c place Trying has named = has
-loads_none c place Preparing has named = has
-loads_none c place (Sweeping n) has named = go c.due named
+loads_none c place (Trying m) has named = has
+loads_none c place (Preparing m) has named = has
+loads_none c place (Sweeping due n) has named = go due named
   where
     go : (x : Option ℕ) → ◌≡◌ {A = Option Op} (sweep_op_at x) (Some (ops.LoadChild place)) → ⊥
     go None named = cc
@@ -163,14 +165,16 @@ done_members fields before s loads k p number x o =
     record { member = was; fewer = omega (arith, same); cyclic = omega (arith, p.members number x (set_there before number x k was) was, same) }
 
 -- a preparation that took in a word goes on, or is done
-stage_of : (fields : ℕ) (before : State) (v : Core) (loads : List Load) (u : Parts) → IsKeptCounts before → LoadsOn u v.collector → Came fields before (record { machine = v.collector.prep; counts = v.collector.counts }) loads → Stage fields before v loads
+stage_of : (fields : ℕ) (before : State) (v : Core) (loads : List Load) (u : preps.Work) → IsKeptCounts before → LoadsOn u v.collector → Came fields before u loads → Stage fields before v loads
 stage_of fields before v loads u k on came = go on.goes
   where
-    go : (v.collector.phase ≡ Preparing) ⊎ (HasSets v.collector.phase × (u.prep.at ≡ None)) → Stage fields before v loads
-    go (inl at) = Stage.loading at came
+    here : Came fields before (record { machine = u.machine; counts = v.collector.counts }) loads
+    here = subst (λ s. Came fields before (record { machine = u.machine; counts = s }) loads) (sym on.counts) came
+
+    go : (v.collector.phase ≡ Preparing u.machine) ⊎ (HasSets v.collector.phase × (u.machine.at ≡ None)) → Stage fields before v loads
+    go (inl at) = Stage.loading u.machine at here
     go (inr (has, over)) =
-        let at : v.collector.prep.at ≡ None = ap (λ (m : preps.Machine). m.at) on.prep ∙ over in
-        let p : PreparedTo fields before None v.collector.counts loads = subst (λ (a : Option At). PreparedTo fields before a v.collector.counts loads) at came.law in
+        let p : PreparedTo fields before None v.collector.counts loads = subst (λ (a : Option At). PreparedTo fields before a v.collector.counts loads) over here.law in
         Stage.done has (sym (append-nil (map (place_loaded fields) loads)) ∙ p.places) (done_members fields before v.collector.counts loads k p)
 
 -- a word more is loaded
@@ -196,29 +200,27 @@ module _ (w : Core) (before : State) (loads : List Load) (tells : IsKeptCounts b
       subst (Stage fields before (turned w)) (sym none)
       (Stage.done (turn_has w kept later has same) places (λ number x o. let u = turn_untouched w number x kept later has same o in outside_later (members number x u.orange) u))
 
-  loading_on : w.collector.phase ≡ Preparing → Came fields before (record { machine = w.collector.prep; counts = w.collector.counts }) loads → Stage fields before (turned w) more
+  loading_on : (m : preps.Machine) → w.collector.phase ≡ Preparing m → Came fields before (record { machine = m; counts = w.collector.counts }) loads → Stage fields before (turned w) more
   unfolding next_of next_at
-  loading_on at came = go (next_of w.collector) refl
+  loading_on m at came = go (next_of w.collector) refl
     where
       go : (y : Option Op) → next_of w.collector ≡ y → Stage fields before (turned_at w y) (loads ++ fields_loaded fields (loaded_by w y))
-      go None none = subst (Stage fields before w) (sym (append-nil loads)) (Stage.loading at came)
+      go None none = subst (Stage fields before w) (sym (append-nil loads)) (Stage.loading m at came)
       go (Some op) named =
           let c : collectors.Private = w.collector in
           let word : ℕ = cell (cells_of w) op in
-          let q : collectors.Private = step_of c word (box w (looked_at c.phase)) in
-          let on : LoadsOn (with_loaded (parts_of c) word) q = loads_on c word (box w (looked_at c.phase)) kept.collector.machine kept.collector.between (given_is w op kept named) at in
-          let (a, due, its) = loads_due c.prep op (ap (next_at c) (sym at) ∙ named) in
-          let its_fields : c.prep.fields ≡ fields = came.fields_kept in
-          let below : a.member.field < fields = subst (λ n. a.member.field < n) its_fields (subst (λ (o : Option At). IfSome o (λ (b : At). b.member.field < c.prep.fields)) due (now_at w Preparing kept at).kept.field) in
-          let further : List Load = loads ++ loaded_at c.prep.at word in
+          let u : preps.Work = preps.took_of (record { machine = m; counts = c.counts }) word in
+          let on : LoadsOn u (step_of c word (box w (looked_at c.phase))) = loads_on c m word (box w (looked_at c.phase)) kept.collector.machine kept.collector.between (given_is w op kept named) at in
+          let (a, due, its) = loads_due m op (ap (next_at c) (sym at) ∙ named) in
+          let its_fields : m.fields ≡ fields = came.fields_kept in
+          let below : a.member.field < fields = subst (λ n. a.member.field < n) its_fields (subst (λ (o : Option At). IfSome o (λ (b : At). b.member.field < m.fields)) due (now_at w (Preparing m) kept at).kept.field) in
+          let further : List Load = loads ++ loaded_at m.at word in
           let whole : further ≡ loads ++ fields_loaded fields (loaded_by w (Some op)) = ap (λ o. loads ++ loaded_at o word) due ∙ ap (λ ls. loads ++ ls) (load_same w op a fields (its ∙ ap (λ n. ops.LoadChild (place_of a.member.slot a.member.field n)) its_fields) below) in
-          let u : preps.Work = preps.took_of (record { machine = c.prep; counts = c.counts }) word in
-          let took : Came fields before u further = came_on fields before (record { machine = c.prep; counts = c.counts }) loads word tells.numbers came in
-          let there : Came fields before (record { machine = q.prep; counts = q.counts }) further = subst (λ s. Came fields before (record { machine = q.prep; counts = s }) further) (sym on.counts) (subst (λ m. Came fields before (record { machine = m; counts = u.counts }) further) (sym on.prep) took) in
-          subst (Stage fields before (turned_by w op word)) whole (stage_of fields before (turned_by w op word) further (with_loaded (parts_of c) word) tells on there)
+          let took : Came fields before u further = came_on fields before (record { machine = m; counts = c.counts }) loads word tells.numbers came in
+          subst (Stage fields before (turned_by w op word)) whole (stage_of fields before (turned_by w op word) further u tells on took)
 
   turn_stage : Stage fields before w loads → Stage fields before (turned w) more
-  turn_stage (Stage.loading at came) = loading_on at came
+  turn_stage (Stage.loading m at came) = loading_on m at came
   turn_stage (Stage.done has places members) = done_on has places members
 
 -- where nothing is loaded
@@ -226,17 +228,17 @@ still_stage : (fields : ℕ) (before : State) (v : Core) (loads : List Load) →
 still_stage fields before v loads s = subst (Stage fields before v) (sym (append-nil loads)) s
 
 -- only what a stage says of the collector counts
-alike_stage : {fields : ℕ} {before : State} {w v : Core} {loads : List Load} → v.collector.phase ≡ w.collector.phase → v.collector.prep ≡ w.collector.prep → v.collector.counts ≡ w.collector.counts → Stage fields before w loads → Stage fields before v loads
-alike_stage {fields} {before} {w} {v} {loads} phase prep counts (Stage.loading at came) =
-    Stage.loading (phase ∙ at) (subst (λ s. Came fields before (record { machine = v.collector.prep; counts = s }) loads) (sym counts) (subst (λ m. Came fields before (record { machine = m; counts = w.collector.counts }) loads) (sym prep) came))
-alike_stage {fields} {before} {w} {v} {loads} phase prep counts (Stage.done has places members) =
+alike_stage : {fields : ℕ} {before : State} {w v : Core} {loads : List Load} → v.collector.phase ≡ w.collector.phase → v.collector.counts ≡ w.collector.counts → Stage fields before w loads → Stage fields before v loads
+alike_stage {fields} {before} {w} {v} {loads} phase counts (Stage.loading m at came) =
+    Stage.loading m (phase ∙ at) (subst (λ s. Came fields before (record { machine = m; counts = s }) loads) (sym counts) came)
+alike_stage {fields} {before} {w} {v} {loads} phase counts (Stage.done has places members) =
     Stage.done (subst HasSets (sym phase) has) places (subst (λ s. (number x : ℕ) → IsOrangeIn s number x → IsOutside before s loads number x) (sym counts) members)
 
 move_stage : (w : Core) (m : Move) (before : State) (loads : List Load) → IsKeptCounts before → IsKept w → Fits w m → tried_in (after_move w m) ≡ tried_in w → Stage w.config.fields before w loads → Stage w.config.fields before (after_move w m) (loads ++ fields_loaded w.config.fields (loaded_in w m))
-move_stage w (Move.Begins t work) before loads tells kept fits same s = still_stage w.config.fields before (after_move w (Move.Begins t work)) loads (alike_stage refl refl refl s)
-move_stage w (Move.Steps t) before loads tells kept fits same s = still_stage w.config.fields before (after_move w (Move.Steps t)) loads (alike_stage refl refl refl s)
+move_stage w (Move.Begins t work) before loads tells kept fits same s = still_stage w.config.fields before (after_move w (Move.Begins t work)) loads (alike_stage refl refl s)
+move_stage w (Move.Steps t) before loads tells kept fits same s = still_stage w.config.fields before (after_move w (Move.Steps t)) loads (alike_stage refl refl s)
 move_stage w Move.Turns before loads tells kept fits same s = turn_stage w before loads tells kept (move_kept w Move.Turns kept fits) same s
-move_stage w Move.Offers before loads tells kept fits same s = still_stage w.config.fields before (after_move w Move.Offers) loads (alike_stage refl refl refl s)
+move_stage w Move.Offers before loads tells kept fits same s = still_stage w.config.fields before (after_move w Move.Offers) loads (alike_stage refl refl s)
 
 -- all moves
 moves_stage : (w : Core) (ms : List Move) (before : State) (loads : List Load) → IsKeptCounts before → IsKept w → AllFit w ms → BeginsNoTrial w ms → Stage w.config.fields before w loads → Stage w.config.fields before (after_moves w ms) (loads ++ fields_loaded w.config.fields (loaded_over w ms))
@@ -269,28 +271,41 @@ renewed fields b s at p = record {
   others = record { slots = λ x. refl; many = refl; roots = refl; sets = refl; marked = refl; work = refl; zeros = refl; free = refl };
 }
 
+-- the machine that is at work
+trying_in : (phase : Phase) → IsTrying phase → (m : trials.Machine) × (phase ≡ Trying m)
+trying_in (Trying m) is = (m, refl)
+trying_in _ is = absurd is
+
+preparing_in : (phase : Phase) → IsPreparing phase → (m : preps.Machine) × (phase ≡ Preparing m)
+preparing_in (Preparing m) is = (m, refl)
+preparing_in _ is = absurd is
+
 begun_stage : (w : Core) → IsKept w → IsKept (turned w) → BeginsPreparing w → Stage w.config.fields (turned w).collector.counts (turned w) []
 unfolding next_of next_at
-begun_stage w kept later begins = go (next_of w.collector) refl later begins.1
+begun_stage w kept later begins =
+    let (m, at) = trying_in w.collector.phase begins.0 in
+    let (prep, next) = preparing_in (turned w).collector.phase begins.1 in
+    go m prep at (next_of w.collector) refl later next
   where
-    go : (y : Option Op) → next_of w.collector ≡ y → IsKept (turned_at w y) → (turned_at w y).collector.phase ≡ Preparing → Stage w.config.fields (turned_at w y).collector.counts (turned_at w y) []
-    go None none later next = let e : Trying ≡ Preparing = sym begins.0 ∙ next in absurd (cc)
-    go (Some op) named later next =
+    go : (m : trials.Machine) (prep : preps.Machine) → w.collector.phase ≡ Trying m → (y : Option Op) → next_of w.collector ≡ y → IsKept (turned_at w y) → (turned_at w y).collector.phase ≡ Preparing prep → Stage w.config.fields (turned_at w y).collector.counts (turned_at w y) []
+    go m prep at None none later next = let e : Trying m ≡ Preparing prep = sym at ∙ next in absurd (cc)
+    go m prep at (Some op) named later next =
         let c : collectors.Private = w.collector in
         let word : ℕ = cell (cells_of w) op in
         let fields : ℕ = w.config.fields in
-        let v : Parts = with_tried (parts_of c) word in
+        let tried : ℕ → State = λ n. (trials.took_of (record { machine = m; counts = c.counts }) n).counts in
+        let s : State = tried word in
+        let u : preps.Work = prep_started (record (parts_of c) { counts = s }) in
         let q : collectors.Private = step_of c word (box w (looked_at c.phase)) in
-        let on : LoadsOn (prep_started v) q = begins_on c word (box w (looked_at c.phase)) kept.collector.machine kept.collector.between (given_is w op kept named) begins.0 next in
-        let (place, its) = loads_child c.trial op (sym (ap (next_at c) (sym begins.0) ∙ named)) in
-        let lands : HasLanded w w.crossing w.words (with_tried (parts_of c) (slice_index_or w.words place 0)) = trying_lands w kept begins.0 place (ap (next_at c) (sym begins.0) ∙ named ∙ ap (λ o. Some o) its) in
-        let counts : IsKeptCounts v.counts = subst (λ o. IsKeptCounts (with_tried (parts_of c) (cell (cells_of w) o)).counts) (sym its) lands.counts in
-        let wide : c.prep.fields ≡ fields = kept.collector.machine.prep_fields ∙ kept.collector.fields in
-        let first : Came c.prep.fields v.counts (preps.work_of c.prep.fields (preps.next_set v.counts 0)) [] = came_first c.prep.fields v.counts (subst (λ n. 0 < n) (sym wide) kept.config.some_fields) counts.numbers in
-        let begun : Came c.prep.fields v.counts (preps.started_of c.prep v.counts) [] = subst (λ (u : preps.Work). Came c.prep.fields v.counts u []) (sym (started_is c.prep v.counts)) first in
-        let there : Came c.prep.fields v.counts (record { machine = q.prep; counts = q.counts }) [] = subst (λ s. Came c.prep.fields v.counts (record { machine = q.prep; counts = s }) []) (sym on.counts) (subst (λ m. Came c.prep.fields v.counts (record { machine = m; counts = (preps.started_of c.prep v.counts).counts }) []) (sym on.prep) begun) in
-        let anew : Came c.prep.fields q.counts (record { machine = q.prep; counts = q.counts }) [] = record { fields_kept = there.fields_kept; work = there.work; law = renewed c.prep.fields v.counts q.counts q.prep.at there.law } in
-        Stage.loading next (subst (λ n. Came n q.counts (record { machine = q.prep; counts = q.counts }) []) wide anew)
+        let on : LoadsOn u q = begins_on c m prep word (box w (looked_at c.phase)) kept.collector.machine kept.collector.between (given_is w op kept named) at next in
+        let (place, its) = loads_child m op (sym (ap (next_at c) (sym at) ∙ named)) in
+        let lands : HasLanded w w.crossing w.words (still (record (parts_of c) { counts = tried (slice_index_or w.words place 0) })) = trying_lands w m kept at place (ap (next_at c) (sym at) ∙ named ∙ ap (λ o. Some o) its) in
+        let counts : IsKeptCounts s = subst (λ o. IsKeptCounts (tried (cell (cells_of w) o))) (sym its) lands.counts in
+        let wide : c.fields ≡ fields = kept.collector.fields in
+        let first : Came c.fields s (preps.work_of c.fields (preps.next_set s 0)) [] = came_first c.fields s (subst (λ n. 0 < n) (sym wide) kept.config.some_fields) counts.numbers in
+        let begun : Came fields s u [] = subst (λ n. Came n s u []) wide (subst (λ (v : preps.Work). Came c.fields s v []) (sym (started_is (new_prep c.fields) s)) first) in
+        let law : PreparedTo fields q.counts u.machine.at u.counts [] = subst (λ t. PreparedTo fields t u.machine.at u.counts []) (sym on.counts) (renewed fields s u.counts u.machine.at begun.law) in
+        stage_of fields q.counts (turned_by w op word) [] u later.collector.machine.counts on (record { fields_kept = begun.fields_kept; work = begun.work; law = law })
 
 -- so it is of the moves since a preparation began
 since_begun : (w : Core) (ms : List Move) → IsKept w → BeginsPreparing w → AllFit (turned w) ms → BeginsNoTrial (turned w) ms → Stage w.config.fields (turned w).collector.counts (after_moves (turned w) ms) (fields_loaded w.config.fields (loaded_over (turned w) ms))
@@ -318,14 +333,14 @@ module _ (w : Core) (ms : List Move) (kept : IsKept w) (begins : BeginsPreparing
   run_places = go (since_begun w ms kept begins fit within)
     where
       go : Stage w.config.fields (turned w).collector.counts end all → map (λ (l : Loaded). l.place) (loaded_over (turned w) ms) ≡ places_of w.config.fields (concat (turned w).collector.counts.sets)
-      go (Stage.loading at came) = absurd (subst HasSets at has)
+      go (Stage.loading m at came) = absurd (subst HasSets at has)
       go (Stage.done has places members) = sym (load_place w.config.fields (loaded_over (turned w) ms)) ∙ places
 
   pub run_outside : (number x : ℕ) → IsOrangeIn end.collector.counts number x → IsOutside (turned w).collector.counts end.collector.counts all number x
   run_outside number x o = go (since_begun w ms kept begins fit within)
     where
       go : Stage w.config.fields (turned w).collector.counts end all → IsOutside (turned w).collector.counts end.collector.counts all number x
-      go (Stage.loading at came) = absurd (subst HasSets at has)
+      go (Stage.loading m at came) = absurd (subst HasSets at has)
       go (Stage.done has places members) = members number x o
 
   -- a set that passes both tests has no more references than words that lead to its members from within

@@ -14,22 +14,22 @@ use Rattle.rec_sigma.specs.Prepared.{KeepsOthers, LoadsWithin, loaded_at}
 use Rattle.rec_sigma.proofs.Bounds.{names_place}
 use Rattle.rec_sigma.proofs.Runs.{Came, came_on}
 use Rattle.rec_sigma.proofs.Kept.{others_kept}
-use Rattle.rec_collector.specs.Followed.{with_loaded}
 use Rattle.rec_collector.specs.Kept as collector_kept
-use Rattle.rec_collector.specs.Private.{Private, parts_of, with_parts}
+use Rattle.rec_collector.specs.Private.{Private, parts_of}
 use Rattle.rec_collector.specs.Step.{PreparesOn}
 use Rattle.rec_collector.specs.declared.phase.Phase.TheVariants.{Preparing}
 use Rattle.rec_collector.specs.declared.turn.Turn.{Turn}
+use Rattle.rec_collector.proofs.Goings.{still}
 use Rattle.rec_collector.proofs.Trying.{took_others}
 use Rattle.rec_core.specs.Core.{Core}
 use Rattle.rec_core.specs.Cycles.{AreFields, SetsStand}
 use Rattle.rec_core.specs.CyclesAt.{AreSeen}
-use Rattle.rec_core.specs.Kept.{IsKept}
+use Rattle.rec_core.specs.Kept.{IsKept, freeing_due, release_due}
 use Rattle.rec_core.specs.Pending.{pending}
 use Rattle.rec_core.proofs.CyclesPrepared.{fields_more}
 use Rattle.rec_core.proofs.CyclesWait.{sets_stand_loaded, sets_stand_moved}
 use Rattle.rec_core.proofs.Landed.{landed_pending, HasLanded}
-use Rattle.rec_core.proofs.Landings.{IsAlike, IsUnswept, here_done, here_pending, landed_alike, landed_drops, lands_here, prepared_alike, prepares_kept}
+use Rattle.rec_core.proofs.Landings.{IsAlike, IsUnswept, here_done, here_pending, landed_alike, landed_drops, landed_still, lands_here, prepared_alike, prepares_kept}
 use Rattle.rec_core.proofs.Steps.{fields_many}
 use Rattle.rec_core.proofs.Trying.{target_there}
 use Rattle.rec_core.proofs.Turns.{alive_in, cycles_in, now_at}
@@ -54,17 +54,19 @@ due_within m a places e h = go (subst (λ (at : Option At). IfSome (op_at m.fiel
     go : LoadsWithin places (LoadChild (place_of a.member.slot a.member.field m.fields)) → place_of a.member.slot a.member.field m.fields < places
     go (place, is, below) = let same : place_of a.member.slot a.member.field m.fields ≡ place = cc in omega (arith, same, below)
 
-module _ (w : Core) (kept : IsKept w) (phase : w.collector.phase ≡ Preparing) where
-  now : collector_kept.IsPreparing w.collector
-  now = now_at w Preparing kept phase
+module _ (w : Core) (m : Machine) (kept : IsKept w) (phase : w.collector.phase ≡ Preparing m) where
+  open w use {collector as c}
 
-  unswept : IsUnswept w.epoch Preparing
+  now : collector_kept.IsPreparing c m
+  now = now_at w (Preparing m) kept phase
+
+  unswept : IsUnswept w.epoch (Preparing m)
   unswept = record { way = refl; still = refl; applied = refl; older = refl; stands = λ s. refl; between = tt; some = tt }
 
-  fields : w.collector.prep.fields ≡ w.config.fields
-  fields = kept.collector.machine.prep_fields ∙ kept.collector.fields
+  fields : m.fields ≡ w.config.fields
+  fields = now.fields ∙ kept.collector.fields
 
-  module _ (a : At) (at : w.collector.prep.at ≡ Some a) where
+  module _ (a : At) (at : m.at ≡ Some a) where
     abbrev place : ℕ
     place = place_of a.member.slot a.member.field w.config.fields
 
@@ -72,56 +74,54 @@ module _ (w : Core) (kept : IsKept w) (phase : w.collector.phase ≡ Preparing) 
     found = slice_index_or w.words place 0
 
     abbrev after : Work
-    after = took_of (record { machine = w.collector.prep; counts = w.collector.counts }) found
+    after = took_of (record { machine = m; counts = c.counts }) found
 
     inside : place < length w.words
     inside =
-        let many : length w.collector.counts.slots * w.collector.prep.fields ≡ length w.words = fields_many w (length w.collector.counts.slots) w.collector.prep.fields kept kept.collector.slots fields in
-        let below : place_of a.member.slot a.member.field w.collector.prep.fields < length w.collector.counts.slots * w.collector.prep.fields
-        = due_within w.collector.prep a (length w.collector.counts.slots * w.collector.prep.fields) at (names_place w.collector.prep w.collector.counts kept.collector.machine.counts now.kept) in
-        let same : place_of a.member.slot a.member.field w.collector.prep.fields ≡ place = ap (place_of a.member.slot a.member.field) fields in
+        let many : length c.counts.slots * m.fields ≡ length w.words = fields_many w (length c.counts.slots) m.fields kept kept.collector.slots fields in
+        let below : place_of a.member.slot a.member.field m.fields < length c.counts.slots * m.fields = due_within m a (length c.counts.slots * m.fields) at (names_place m c.counts kept.collector.machine.counts now.kept) in
+        let same : place_of a.member.slot a.member.field m.fields ≡ place = ap (place_of a.member.slot a.member.field) fields in
         omega (arith, below, many, same)
 
     -- its word leads to a slot that is there
-    pub seen_there : IfSome (target_of found) (λ slot. slot < length w.collector.counts.slots)
-    seen_there = target_there w place kept now.tried.still now.tried.unfreed inside
+    pub seen_there : IfSome (target_of found) (λ slot. slot < length c.counts.slots)
+    seen_there = target_there w place kept (ap release_due phase) (ap freeing_due phase) inside
 
-    others : KeepsOthers w.collector.counts after.counts
-    others = took_others (record { machine = w.collector.prep; counts = w.collector.counts }) found
+    others : KeepsOthers c.counts after.counts
+    others = took_others (record { machine = m; counts = c.counts }) found
 
-    alike : IsAlike w.collector.counts after.counts
-    alike = prepared_alike w.collector.counts after.counts others
+    alike : IsAlike c.counts after.counts
+    alike = prepared_alike c.counts after.counts others
 
-    seen : AreSeen (pending w) w.collector
-    seen = cycles_in w Preparing kept phase
+    seen : AreSeen (pending w) c.counts m
+    seen = cycles_in w (Preparing m) kept phase
 
-    came : Came w.config.fields seen.before after (seen.loads ++ loaded_at w.collector.prep.at found)
-    came = came_on w.config.fields seen.before (record { machine = w.collector.prep; counts = w.collector.counts }) seen.loads found seen.before_kept.numbers (record { fields_kept = fields; work = now.kept; law = seen.prepares })
+    came : Came w.config.fields seen.before after (seen.loads ++ loaded_at m.at found)
+    came = came_on w.config.fields seen.before (record { machine = m; counts = c.counts }) seen.loads found seen.before_kept.numbers (record { fields_kept = fields; work = now.kept; law = seen.prepares })
 
     -- where it has come to, words and crossing words are as they were
-    pub preparing_lands : HasLanded w w.crossing w.words (with_loaded (parts_of w.collector) found)
-    preparing_lands = landed_alike (lands_here w Preparing kept phase unswept) now.tried.unfreed after.counts w.collector.trial after.machine alike (others_kept w.collector.counts after.counts others kept.collector.machine.counts)
-        (kept.collector.machine.trial_fields ∙ kept.collector.fields) came.fields_kept
+    pub preparing_lands : HasLanded w w.crossing w.words (still (record (parts_of c) { counts = after.counts }))
+    preparing_lands =
+        landed_alike (landed_still (parts_of c) c.phase (ap release_due phase) (ap freeing_due phase) (lands_here w (Preparing m) kept phase unswept)) after.counts alike (others_kept c.counts after.counts others kept.collector.machine.counts)
 
     -- and what it has loaded stands
-    pub preparing_seen : AreSeen (landed_pending w w.words (with_loaded (parts_of w.collector) found).counts) (with_parts w.collector (with_loaded (parts_of w.collector) found))
+    pub preparing_seen : AreSeen (landed_pending w w.words after.counts) after.counts after.machine
     preparing_seen =
-        let p : Pending = landed_pending w w.words w.collector.counts in
+        let p : Pending = landed_pending w w.words c.counts in
         let v : Pending = landed_pending w w.words after.counts in
-        let drops : Drops p v = landed_drops w w.words w.collector.counts after.counts alike in
-        let stands : SetsStand p w.collector.counts seen.loads = subst (λ (x : Pending). SetsStand x w.collector.counts seen.loads) (here_pending w Preparing phase unswept) seen.stands in
-        let moved : SetsStand v w.collector.counts seen.loads = sets_stand_moved w.collector.counts seen.loads (dropping drops) tt (lands_here w Preparing kept phase unswept).accounted (alive_in w Preparing kept phase) stands in
-        let below : a.member.field < w.config.fields = subst (λ n. a.member.field < n) fields (subst (λ (o : Option At). IfSome o (λ (b : At). b.member.field < w.collector.prep.fields)) at now.kept.field) in
+        let drops : Drops p v = landed_drops w w.words c.counts after.counts alike in
+        let stands : SetsStand p c.counts seen.loads = subst (λ (x : Pending). SetsStand x c.counts seen.loads) (here_pending w (Preparing m) phase unswept) seen.stands in
+        let moved : SetsStand v c.counts seen.loads = sets_stand_moved c.counts seen.loads (dropping drops) tt (lands_here w (Preparing m) kept phase unswept).accounted (alive_in w (Preparing m) kept phase) stands in
+        let below : a.member.field < w.config.fields = subst (λ n. a.member.field < n) fields (subst (λ (o : Option At). IfSome o (λ (b : At). b.member.field < m.fields)) at now.kept.field) in
         record {
           before = seen.before;
           before_kept = seen.before_kept;
-          loads = seen.loads ++ loaded_at w.collector.prep.at found;
+          loads = seen.loads ++ loaded_at m.at found;
           prepares = came.law;
           fields = subst (λ (o : Option At). AreFields w.config.fields (seen.loads ++ loaded_at o found)) (sym at) (fields_more w.config.fields seen.loads a found below seen.fields);
-          stands = subst (λ (o : Option At). SetsStand v after.counts (seen.loads ++ loaded_at o found)) (sym at)
-              (sets_stand_loaded v w.collector.counts after.counts seen.loads a preparing_lands.accounted (here_done w kept) inside others moved);
+          stands = subst (λ (o : Option At). SetsStand v after.counts (seen.loads ++ loaded_at o found)) (sym at) (sets_stand_loaded v c.counts after.counts seen.loads a preparing_lands.accounted (here_done w kept) inside others moved);
         }
 
     -- whatever follows
-    pub preparing_kept : (q : Private) (turn : Turn) → collector_kept.IsMachine q → PreparesOn w.collector (with_loaded (parts_of w.collector) found) q turn → IsKept (record w { collector = q })
-    preparing_kept q turn machine on = prepares_kept w w.crossing w.words q machine (with_loaded (parts_of w.collector) found) turn preparing_lands preparing_seen now.tried.unfreed on
+    pub preparing_kept : (q : Private) (turn : Turn) → collector_kept.IsMachine q → PreparesOn c (parts_of c) after q turn → IsKept (record w { collector = q })
+    preparing_kept q turn machine on = prepares_kept w w.crossing w.words q machine (parts_of c) after turn preparing_lands preparing_seen on

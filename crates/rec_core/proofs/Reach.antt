@@ -48,6 +48,7 @@ use Rattle.rec_core.proofs.Releasing as releasing
 use Rattle.rec_core.proofs.Steps.{slot_there}
 use Rattle.rec_core.proofs.Sweeping.{root_named, due_released}
 use Rattle.rec_core.proofs.Trying.{loads_child}
+use Rattle.rec_core.proofs.Turns.{now_at}
 use Rattle.rec_core.proofs.Turning.{some_op}
 use Rattle.rec_core.proofs.Words.{IsOwnOp, own_next}
 
@@ -142,31 +143,29 @@ turned_at_keeps w op Idle kept is named = subst (λ o. KeepsReached (sight w) (s
 turned_at_keeps w op (Looking t) kept is named = subst (λ o. KeepsReached (sight w) (sight (turned_at w (Some o)))) (sym (some_op op (ops.LookBox t w.collector.epoch) (sym named))) (keeps_all (sight w))
 turned_at_keeps w op (Swapping t) kept is named = absurd (subst IsBetween is kept.collector.between)
 turned_at_keeps w op (Returning t) kept is named = subst (λ o. KeepsReached (sight w) (sight (turned_at w (Some o)))) (sym (some_op op (ops.ReturnBox t w.collector.epoch) (sym named))) (keeps_all (sight w))
-turned_at_keeps w op Releasing kept is named = go w.collector.release.at refl
+turned_at_keeps w op (Releasing m) kept is named = go m.at refl
   where
-    go : (x : Option At) → w.collector.release.at ≡ x → KeepsReached (sight w) (sight (turned_at w (Some op)))
-    go None at = let not_so : ◌≡◌ {A = Option Op} (Some op) None = sym named ∙ ap (release_op_at w.collector.release.fields) at in absurd (cc)
+    go : (x : Option At) → m.at ≡ x → KeepsReached (sight w) (sight (turned_at w (Some op)))
+    go None at = let not_so : ◌≡◌ {A = Option Op} (Some op) None = sym named ∙ ap (release_op_at m.fields) at in absurd (cc)
     go (Some a) at =
-        let its : op ≡ ops.ClearField (place_of a.slot a.field w.config.fields) = some_op op (ops.ClearField (place_of a.slot a.field w.config.fields)) (sym named ∙ ap (release_op_at w.collector.release.fields) at ∙ ap (λ n. Some (ops.ClearField (place_of a.slot a.field n))) kept.collector.fields) in
-        subst (λ o. KeepsReached (sight w) (sight (turned_at w (Some o)))) (sym its) (keeps_others_field w a.slot a.field kept (releasing.may_empty w a kept is at).within (releasing.may_empty w a kept is at).released)
-turned_at_keeps w op Freeing kept is named = go w.collector.freeing.at refl
+        let fields : m.fields ≡ w.config.fields = (now_at w (Releasing m) kept is).clearing.fields ∙ kept.collector.fields in
+        let its : op ≡ ops.ClearField (place_of a.slot a.field w.config.fields) = some_op op (ops.ClearField (place_of a.slot a.field w.config.fields)) (sym named ∙ ap (release_op_at m.fields) at ∙ ap (λ n. Some (ops.ClearField (place_of a.slot a.field n))) fields) in
+        subst (λ o. KeepsReached (sight w) (sight (turned_at w (Some o)))) (sym its) (keeps_others_field w a.slot a.field kept (releasing.may_empty w m a kept is at).within (releasing.may_empty w m a kept is at).released)
+turned_at_keeps w op (Freeing m) kept is named = go m.at refl
   where
-    go : (x : Option Member) → w.collector.freeing.at ≡ x → KeepsReached (sight w) (sight (turned_at w (Some op)))
-    go None at = let not_so : ◌≡◌ {A = Option Op} (Some op) None = sym named ∙ ap (freeing_op_at w.collector.freeing.fields) at in absurd (cc)
+    go : (x : Option Member) → m.at ≡ x → KeepsReached (sight w) (sight (turned_at w (Some op)))
+    go None at = let not_so : ◌≡◌ {A = Option Op} (Some op) None = sym named ∙ ap (freeing_op_at m.fields) at in absurd (cc)
     go (Some a) at =
-        let fields : w.collector.freeing.fields ≡ w.config.fields = kept.collector.machine.freeing_fields ∙ kept.collector.fields in
-        let its : op ≡ ops.ClearField (place_of a.slot a.field w.config.fields) = some_op op (ops.ClearField (place_of a.slot a.field w.config.fields)) (sym named ∙ ap (freeing_op_at w.collector.freeing.fields) at ∙ ap (λ n. Some (ops.ClearField (place_of a.slot a.field n))) fields) in
-        subst (λ o. KeepsReached (sight w) (sight (turned_at w (Some o)))) (sym its) (keeps_others_field w a.slot a.field kept (freeing.may_empty w a kept is at).within (freeing.may_empty w a kept is at).released)
-turned_at_keeps w op Trying kept is named = let (place, its) = loads_child w.collector.trial op (sym named) in load_keeps w op place its
-turned_at_keeps w op Preparing kept is named = let (a, at, its) = loads_due w.collector.prep op named in load_keeps w op (place_of a.member.slot a.member.field w.collector.prep.fields) its
+        let fields : m.fields ≡ w.config.fields = (now_at w (Freeing m) kept is).clearing.fields ∙ kept.collector.fields in
+        let its : op ≡ ops.ClearField (place_of a.slot a.field w.config.fields) = some_op op (ops.ClearField (place_of a.slot a.field w.config.fields)) (sym named ∙ ap (freeing_op_at m.fields) at ∙ ap (λ n. Some (ops.ClearField (place_of a.slot a.field n))) fields) in
+        subst (λ o. KeepsReached (sight w) (sight (turned_at w (Some o)))) (sym its) (keeps_others_field w a.slot a.field kept (freeing.may_empty w m a kept is at).within (freeing.may_empty w m a kept is at).released)
+turned_at_keeps w op (Trying m) kept is named = let (place, its) = loads_child m op (sym named) in load_keeps w op place its
+turned_at_keeps w op (Preparing m) kept is named = let (a, at, its) = loads_due m op named in load_keeps w op (place_of a.member.slot a.member.field m.fields) its
 turned_at_keeps w op Opening kept is named = subst (λ o. KeepsReached (sight w) (sight (turned_at w (Some o)))) (sym (some_op op ops.AddFreed (sym named))) (keeps_all (sight w))
-turned_at_keeps w op (Sweeping n) kept is named = go w.collector.due refl
-  where
-    go : (x : Option ℕ) → w.collector.due ≡ x → KeepsReached (sight w) (sight (turned_at w (Some op)))
-    go None due = let not_so : ◌≡◌ {A = Option Op} (Some op) None = sym named ∙ ap sweep_next due in absurd (cc)
-    go (Some x) due =
-        let its : op ≡ ops.FreeHeader x = some_op op (ops.FreeHeader x) (sym named ∙ ap sweep_next due) in
-        subst (λ o. KeepsReached (sight w) (sight (turned_at w (Some o)))) (sym its) (keeps_others_header w x kept (due_released w n x kept is due))
+turned_at_keeps w op (Sweeping None n) kept is named = let not_so : ◌≡◌ {A = Option Op} (Some op) None = sym named in absurd (cc)
+turned_at_keeps w op (Sweeping (Some x) n) kept is named =
+    let its : op ≡ ops.FreeHeader x = some_op op (ops.FreeHeader x) (sym named) in
+    subst (λ o. KeepsReached (sight w) (sight (turned_at w (Some o)))) (sym its) (keeps_others_header w x kept (due_released w n x kept is))
 turned_at_keeps w op (Closing n) kept is named = subst (λ o. KeepsReached (sight w) (sight (turned_at w (Some o)))) (sym (some_op op ops.AddFreed (sym named))) (keeps_all (sight w))
 
 -- A turn of the collector keeps what registers reach.

@@ -54,35 +54,36 @@ given_at : (w : Core) (op : Op) (phase : Phase) → IsKept w → w.collector.pha
 unfolding IsGivenAt next_at release_next freeing_next
 given_at w op (Swapping t) kept is named = subst IsBetween is kept.collector.between
 given_at w op (Returning t) kept is named = λ last. covered w t kept is last
-given_at w op Releasing kept is named = go w.collector.release.at refl
+given_at w op (Releasing m) kept is named = go m.at refl
   where
-    go : (x : Option At) → w.collector.release.at ≡ x → IfSome (target_of (cell (cells_of w) op)) (λ slot. 0 < (slot_at w.collector.counts slot).count)
-    go None at = let not_so : ◌≡◌ {A = Option Op} (Some op) None = sym named ∙ ap (release_op_at w.collector.release.fields) at in absurd (cc)
+    go : (x : Option At) → m.at ≡ x → IfSome (target_of (cell (cells_of w) op)) (λ slot. 0 < (slot_at w.collector.counts slot).count)
+    go None at = let not_so : ◌≡◌ {A = Option Op} (Some op) None = sym named ∙ ap (release_op_at m.fields) at in absurd (cc)
     go (Some a) at =
         let place : ℕ = place_of a.slot a.field w.config.fields in
-        let its : op ≡ ops.ClearField place = some_op op (ops.ClearField place) (sym named ∙ ap (release_op_at w.collector.release.fields) at ∙ ap (λ n. Some (ops.ClearField (place_of a.slot a.field n))) kept.collector.fields) in
+        let fields : m.fields ≡ w.config.fields = (now_at w (Releasing m) kept is).clearing.fields ∙ kept.collector.fields in
+        let its : op ≡ ops.ClearField place = some_op op (ops.ClearField place) (sym named ∙ ap (release_op_at m.fields) at ∙ ap (λ n. Some (ops.ClearField (place_of a.slot a.field n))) fields) in
         let found : cell (cells_of w) op ≡ slice_index_or w.words place 0 = ap (cell (cells_of w)) its in
-        subst (λ n. IfSome (target_of n) (λ slot. 0 < (slot_at w.collector.counts slot).count)) (sym found) (taken.counted_word w a.slot a.field (releasing.may_empty w a kept is at))
-given_at w op Freeing kept is named = go w.collector.freeing.at refl
+        subst (λ n. IfSome (target_of n) (λ slot. 0 < (slot_at w.collector.counts slot).count)) (sym found) (taken.counted_word w a.slot a.field (releasing.may_empty w m a kept is at))
+given_at w op (Freeing m) kept is named = go m.at refl
   where
-    go : (x : Option Member) → w.collector.freeing.at ≡ x → IfSome (target_of (cell (cells_of w) op)) (λ slot. 0 < (slot_at w.collector.counts slot).count)
-    go None at = let not_so : ◌≡◌ {A = Option Op} (Some op) None = sym named ∙ ap (freeing_op_at w.collector.freeing.fields) at in absurd (cc)
+    go : (x : Option Member) → m.at ≡ x → IfSome (target_of (cell (cells_of w) op)) (λ slot. 0 < (slot_at w.collector.counts slot).count)
+    go None at = let not_so : ◌≡◌ {A = Option Op} (Some op) None = sym named ∙ ap (freeing_op_at m.fields) at in absurd (cc)
     go (Some a) at =
         let place : ℕ = place_of a.slot a.field w.config.fields in
-        let fields : w.collector.freeing.fields ≡ w.config.fields = kept.collector.machine.freeing_fields ∙ kept.collector.fields in
-        let its : op ≡ ops.ClearField place = some_op op (ops.ClearField place) (sym named ∙ ap (freeing_op_at w.collector.freeing.fields) at ∙ ap (λ n. Some (ops.ClearField (place_of a.slot a.field n))) fields) in
+        let fields : m.fields ≡ w.config.fields = (now_at w (Freeing m) kept is).clearing.fields ∙ kept.collector.fields in
+        let its : op ≡ ops.ClearField place = some_op op (ops.ClearField place) (sym named ∙ ap (freeing_op_at m.fields) at ∙ ap (λ n. Some (ops.ClearField (place_of a.slot a.field n))) fields) in
         let found : cell (cells_of w) op ≡ slice_index_or w.words place 0 = ap (cell (cells_of w)) its in
-        subst (λ n. IfSome (target_of n) (λ slot. 0 < (slot_at w.collector.counts slot).count)) (sym found) (taken.counted_word w a.slot a.field (freeing.may_empty w a kept is at))
-given_at w op Trying kept is named =
-    let (place, its) = loads_child w.collector.trial op (sym named) in
-    subst (λ o. LeadsToUnreleased w.collector.counts (cell (cells_of w) o)) (sym its) (loaded_leads w kept is place (named ∙ ap (λ o. Some o) its))
-given_at w op Preparing kept is named =
-    let (a, at, due) = loads_due w.collector.prep op named in
+        subst (λ n. IfSome (target_of n) (λ slot. 0 < (slot_at w.collector.counts slot).count)) (sym found) (taken.counted_word w a.slot a.field (freeing.may_empty w m a kept is at))
+given_at w op (Trying m) kept is named =
+    let (place, its) = loads_child m op (sym named) in
+    subst (λ o. LeadsToUnreleased w.collector.counts (cell (cells_of w) o)) (sym its) (loaded_leads w m kept is place (named ∙ ap (λ o. Some o) its))
+given_at w op (Preparing m) kept is named =
+    let (a, at, due) = loads_due m op named in
     let place : ℕ = place_of a.member.slot a.member.field w.config.fields in
-    let fields : w.collector.prep.fields ≡ w.config.fields = kept.collector.machine.prep_fields ∙ kept.collector.fields in
+    let fields : m.fields ≡ w.config.fields = (now_at w (Preparing m) kept is).fields ∙ kept.collector.fields in
     let its : op ≡ ops.LoadChild place = due ∙ ap (λ n. ops.LoadChild (place_of a.member.slot a.member.field n)) fields in
     let found : cell (cells_of w) op ≡ slice_index_or w.words place 0 = ap (cell (cells_of w)) its in
-    subst (λ n. IfSome (target_of n) (λ slot. slot < length w.collector.counts.slots)) (sym found) (seen_there w kept is a at)
+    subst (λ n. IfSome (target_of n) (λ slot. slot < length w.collector.counts.slots)) (sym found) (seen_there w m kept is a at)
 given_at w op _ kept is named = tt
 
 pub given_is : (w : Core) (op : Op) → IsKept w → ◌≡◌ {A = Option Op} (next_of w.collector) (Some op) → IsGiven w.collector (cell (cells_of w) op)

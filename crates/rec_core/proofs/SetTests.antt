@@ -1,6 +1,6 @@
 -- Sets are tested while nothing is released or freed: one that passes is given up, any other refurbished. Whatever follows, every heap
 -- keeps what it keeps.
-use Rattle.std.proofs.Common.{◌≡◌, ◌⊎◌, inl, inr, ℕ, suc, ◌+◌, ◌-◌, ◌*◌, ◌<◌, ◌==◌, true, false, Option, None, Some, List, [], ◌∷◌, length, slice_get, slice_index_or, refl, sym, ap, subst, ◌∙◌, arith}
+use Rattle.std.proofs.Common.{◌≡◌, ◌⊎◌, inl, inr, ℕ, suc, ◌+◌, ◌-◌, ◌*◌, ◌<◌, ◌==◌, true, Option, None, Some, List, [], ◌∷◌, length, slice_get, slice_index_or, refl, sym, ap, subst, ◌∙◌, arith}
 use Rattle.std.proofs.lemmas.Bool.{cases_Bool}
 use Rattle.std.proofs.lemmas.Bool.Decides.{eqb_tells}
 use Rattle.rec_counts.specs.Counts.{State, slot_at}
@@ -10,6 +10,8 @@ use Rattle.rec_counts.specs.declared.slot.Slot.{Slot}
 use Rattle.rec_counts.proofs.Times.{times-nil, times-cons}
 use Rattle.rec_counts.proofs.Front.{nothing_first}
 use Rattle.rec_walk.specs.Walk.{first_member}
+use Rattle.rec_walk.specs.declared.member.Member.{Member}
+use Rattle.rec_model.specs.Pending.{Pending}
 use Rattle.rec_release.specs.CycleFree.{IsFreeable, given_up}
 use Rattle.rec_release.specs.Release.{IsReady}
 use Rattle.rec_walk.proofs.Walks.{first_none}
@@ -26,18 +28,22 @@ use Rattle.rec_collector.specs.Private.{with_parts}
 use Rattle.rec_collector.specs.Kept as collector_kept
 use Rattle.rec_collector.specs.Step.{ClearsOn, IsTested}
 use Rattle.rec_collector.specs.declared.sets.Sets.{Sets}
-use Rattle.rec_collector.specs.Testing.{counted_by, is_busy, last_tested}
+use Rattle.rec_collector.specs.Clearing.{IsCleared, IsClearing}
+use Rattle.rec_collector.specs.Testing.{Begun, counted_by, freeing_at, last_tested}
+use Rattle.rec_collector.specs.declared.phase.Phase.{Phase}
 use Rattle.rec_collector.specs.declared.phase.Phase.TheVariants.{Releasing, Freeing}
 use Rattle.rec_collector.specs.declared.turn.Turn.{Turn}
-use Rattle.rec_collector.proofs.Clearing.{clear_ready, last_clear, last_freeable, last_refusable, refused_clear}
-use Rattle.rec_collector.proofs.Goings.{last_by, last_given}
-use Rattle.rec_collector.proofs.Judging.{is_last_tested, verdict_passed}
+use Rattle.rec_collector.proofs.Goings.{last_by, last_given, still}
+use Rattle.rec_collector.proofs.Judging.{is_last_tested, last_freeable, last_refusable, verdict_passed}
+use Rattle.rec_collector.proofs.Testing.{clear_ready, last_clear, refurbished_ready}
 use Rattle.rec_core.specs.Core.{Core}
+use Rattle.rec_core.specs.Cycles.{SetsTest}
+use Rattle.rec_core.specs.CyclesAt.{HasCyclesAt}
 use Rattle.rec_core.specs.Kept.{IsLeftOf, IsKept}
 use Rattle.rec_core.proofs.Counts.{alike_slots, counted_slot, none_release, set_release}
 use Rattle.rec_core.proofs.CyclesTest.{IsJudged, set_given_up, sets_test_alike, sets_test_refurbished}
-use Rattle.rec_core.proofs.Landed.{landed_pending, HasLanded, HasCleared, applied_pending}
-use Rattle.rec_core.proofs.Landings.{goes_on, trial_begins}
+use Rattle.rec_core.proofs.Landed.{landed_pending, HasLanded, HasCleared, applied_pending, begun_freeing}
+use Rattle.rec_core.proofs.Landings.{IsUnswept, goes_on, trial_begins}
 use Rattle.rec_core.proofs.Zeros.{HasCome, AreEmpty, cleared, empty_uncounted, landed_empty, some_fields, zeros_come}
 
 -- what stands in a list stands at a place of it
@@ -65,37 +71,38 @@ first_left members x f some = go (slice_get members 0) refl
     go (Some y) is = let at = stands x members some in (at.place, omega arith, at.within, at.is, λ e. omega arith)
 
 -- Nothing is at work, and a set is left.
-module _ (w : Core) (crossing words : List ℕ) (v : Parts) (h : HasCleared w crossing words v) (unfreed : v.freeing.at ≡ None) (still : v.release.at ≡ None) (some : 0 < length v.counts.sets) where
+module _ (w : Core) (crossing words : List ℕ) (v : Parts) (h : HasCleared w crossing words (still v)) (some : 0 < length v.counts.sets) where
   open v use {counts as s}
 
   abbrev number : ℕ
   number = length s.sets - 1
 
-  l : HasLanded w crossing words v
+  l : HasLanded w crossing words (still v)
   l = h.landed
 
-  idle : is_busy v ≡ false
-  idle = rw (still, unfreed) refl
+  idle : IsCleared v
+  idle = h.clears.clearing
 
   refusable : IsRefusable s
-  refusable = last_refusable v some idle l.counts h.clearing h.done
+  refusable = last_refusable v some l.counts idle
 
   empty : AreEmpty w.config.slots w.config.fields words s
-  empty = landed_empty l still unfreed
+  empty = landed_empty l
 
   judged : AreOrange s number → cyclic_sum s number ≡ 0 → IsJudged (landed_pending w words s) s number
   judged orange none = record {
     kept = l.counts;
-    apart = h.clearing.apart;
+    apart = idle.apart;
     released = λ x below. ap (λ (c : Slot). c.released) (counted_slot s x below);
     count = λ x below. ap (λ (c : Slot). c.count) (counted_slot s x below);
     orange = orange;
     none = none;
   }
 
-  -- a set that passes is given up
-  given_comes : AreOrange s number → cyclic_sum s number ≡ 0 → IsFreeable s → HasCome w crossing words (last_given v)
-  given_comes orange none f =
+  -- a set that passes is given up, and its first member's first field is due
+  given_lands : AreOrange s number → cyclic_sum s number ≡ 0 → IsFreeable s → (at : Option Member) → first_member (slice_get (last_set s.sets) 0) ≡ at
+      → HasCome w crossing words (record { parts = (last_given v).parts; phase = freeing_at (record { fields = v.fields; at = at }) at })
+  given_lands orange none f at first =
       let given = set_given_up (landed_pending w words s) (landed_pending w words (given_up s)) s number l.accounted h.tests (judged orange none) (set_release (applied_pending w) words s) in
       let released : (x : ℕ) → one (slot_at (given_up s) x).released ≡ one (slot_at s x).released + times x (last_set s.sets) = λ x. given_released s x l.counts f in
       let many : length (given_up s).slots ≡ w.config.slots = given_many s ∙ l.slots in
@@ -106,6 +113,7 @@ module _ (w : Core) (crossing words : List ℕ) (v : Parts) (h : HasCleared w cr
       ] in
       let headers : length w.headers ≡ w.config.slots = l.kept.headers in
       let places : length words ≡ w.config.slots * w.config.fields = l.many_words ∙ l.kept.sound.places ∙ ap (λ n. n * w.config.fields) headers in
+      let due : begun_freeing (freeing_at (record { fields = v.fields; at = at }) at) ≡ first_member (slice_get (last_set s.sets) 0) = given_due v.fields at ∙ sym first in
       record {
         landed = record {
           kept = l.kept;
@@ -115,7 +123,7 @@ module _ (w : Core) (crossing words : List ℕ) (v : Parts) (h : HasCleared w cr
           mutators = l.mutators;
           accounted = given.0;
           uncounted = λ unstarted.
-              let no_members : last_set s.sets ≡ [] = nothing_first (last_set s.sets) (first_none (slice_get (last_set s.sets) 0) unstarted) in
+              let no_members : last_set s.sets ≡ [] = nothing_first (last_set s.sets) (first_none (slice_get (last_set s.sets) 0) (sym due ∙ unstarted)) in
               empty_uncounted (applied_pending w) words w.config.slots (given_up s) (some_fields l) many places (λ x f below within is. elim (before x is) [
                 | inl old ↦ empty x f below within old
                 | inr member ↦ absurd (omega (arith, member, ap (times x) no_members, times-nil x))
@@ -124,21 +132,23 @@ module _ (w : Core) (crossing words : List ℕ) (v : Parts) (h : HasCleared w cr
           many_words = l.many_words;
           slots = many;
           fields = l.fields;
-          freeing_fields = l.freeing_fields;
-          trial_fields = l.trial_fields;
-          prep_fields = l.prep_fields;
           counts = given_kept s some f.work l.counts;
           listed = λ x there. elim (cases_Bool (slot_at (given_up s) x).released) [ inl is ↦ is | inr not ↦ absurd (omega (arith, released x, ap one not, ap one (l.listed x there))) ];
           emptied = λ x f_ below within is. elim (before x is) [
             | inl old ↦ inr (inr (empty x f_ below within old))
-            | inr member ↦ inr (inl (subst (λ ms. IsLeftOf ms (first_member (slice_get (last_set s.sets) 0)) x f_) (sym (given_work s f)) (first_left (last_set s.sets) x f_ member)))
+            | inr member ↦ inr (inl (subst (λ ms. IsLeftOf ms (begun_freeing (freeing_at (record { fields = v.fields; at = at }) at)) x f_) (sym (given_work s f))
+                (subst (λ o. IsLeftOf (last_set s.sets) o x f_) (sym due) (first_left (last_set s.sets) x f_ member))))
           ];
         };
         tests = given.1;
       }
+    where
+      given_due : (fields : ℕ) (o : Option Member) → begun_freeing (freeing_at (record { fields = fields; at = o }) o) ≡ o
+      given_due fields None = refl
+      given_due fields (Some a) = refl
 
   -- any other is refurbished
-  refused_comes : (sets : Sets) → IsReady (refurbished_of s) → HasCome w crossing words (record v { counts = refurbished_of s; sets = sets })
+  refused_comes : (sets : Sets) → IsReady (refurbished_of s) → HasCome w crossing words (still (record v { counts = refurbished_of s; sets = sets }))
   refused_comes sets ready =
       let t : State = refurbished_of s in
       let r : LastRefurbished s t = refurbished_last s l.counts refusable in
@@ -152,14 +162,11 @@ module _ (w : Core) (crossing words : List ℕ) (v : Parts) (h : HasCleared w cr
           older = l.older;
           mutators = l.mutators;
           accounted = alike.0;
-          uncounted = λ none node pos is. (same node).0 ∙ l.uncounted none node pos (sym (same node).1 ∙ is);
+          uncounted = λ none node pos is. (same node).0 ∙ l.uncounted refl node pos (sym (same node).1 ∙ is);
           sound = l.sound;
           many_words = l.many_words;
           slots = r.many ∙ l.slots;
           fields = l.fields;
-          freeing_fields = l.freeing_fields;
-          trial_fields = l.trial_fields;
-          prep_fields = l.prep_fields;
           counts = refurbished_kept s refusable l.counts;
           listed = ready.free;
           emptied = λ x f below within is. inr (inr (empty x f below within (sym (same_released r x) ∙ is)));
@@ -169,22 +176,33 @@ module _ (w : Core) (crossing words : List ℕ) (v : Parts) (h : HasCleared w cr
 
   -- where the test of the last set comes to
   last_lands : HasCleared w crossing words (last_tested v)
-  last_lands =
-      let wide : 0 < v.release.fields = omega (arith, some_fields l, l.fields) in
-      let freed : 0 < v.freeing.fields = omega (arith, some_fields l, l.freeing_fields) in
-      cleared (last_by (HasCome w crossing words) v (λ passed. let says = verdict_passed s number passed in given_comes says.0 says.1 (last_freeable v some idle passed l.counts h.clearing h.done))
-      (λ verdict. let ready = (refused_clear verdict v some idle l.counts h.clearing h.done).release.ready in zeros_come true (refused_comes (counted_by verdict v.sets) ready) still unfreed ready))
-      (last_clear v wide freed some idle l.counts h.clearing h.done)
+  last_lands = cleared (last_by (HasCome w crossing words) v
+      (λ passed. let says = verdict_passed s number passed in given_lands says.0 says.1 (last_freeable v some passed l.counts idle) (first_member (slice_get (last_set s.sets) 0)) refl)
+      (λ verdict. let ready = refurbished_ready v some l.counts idle in zeros_come true (refused_comes (counted_by verdict v.sets) ready) ready))
+      (last_clear h.exchanged v some h.clears)
 
-  pub tested_lands : (u : Parts) → IsTested v u → HasCleared w crossing words u
+  pub tested_lands : (u : Begun) → IsTested v u → HasCleared w crossing words u
   tested_lands u tested = subst (HasCleared w crossing words) (sym (is_last_tested v u l.counts refusable tested)) last_lands
 
+-- a release, or the freeing of a set, goes on
+begun_unswept : (epoch : ℕ) (v : Parts) (phase : Phase) → IsClearing (record { parts = v; phase = Some phase }) → IsUnswept epoch phase
+begun_unswept epoch v (Releasing m) clearing = record { way = refl; still = refl; applied = refl; older = refl; stands = λ s. refl; between = tt; some = tt }
+begun_unswept epoch v (Freeing m) clearing = record { way = refl; still = refl; applied = refl; older = refl; stands = λ s. refl; between = tt; some = tt }
+begun_unswept epoch v _ clearing = absurd clearing
+
+-- and the sets that are left are to be tested
+begun_tests : (p : Pending) (c : collectors.Private) (v : Parts) (phase : Phase) → IsClearing (record { parts = v; phase = Some phase }) → SetsTest p v.counts → HasCyclesAt p (with_parts c v) phase
+begun_tests p c v (Releasing m) clearing tests = tests
+begun_tests p c v (Freeing m) clearing tests = tests
+begun_tests p c v _ clearing tests = absurd clearing
+
 -- whatever follows a release, or the freeing of a set
-pub clears_kept : (w : Core) (crossing words : List ℕ) (q : collectors.Private) → collector_kept.IsMachine q → (turn : Turn) {v : Parts} → HasCleared w crossing words v → ClearsOn w.collector q turn v → IsKept (record w { crossing = crossing; words = words; collector = q })
-clears_kept w crossing words q machine turn {v} h (ClearsOn.frees_on busy g) =
-    goes_on w crossing words q machine v Freeing h.landed (record { way = refl; still = refl; applied = refl; older = refl; stands = λ s. refl; between = tt; some = tt }) h.tests g.after
-clears_kept w crossing words q machine turn {v} h (ClearsOn.releases_on unfreed busy g) =
-    goes_on w crossing words q machine v Releasing h.landed (record { way = refl; still = refl; applied = refl; older = refl; stands = λ s. refl; between = tt; some = tt }) h.tests g.after
-clears_kept w crossing words q machine turn {v} h (ClearsOn.tests u unfreed still some tested on) = clears_kept w crossing words q machine turn (tested_lands w crossing words v h unfreed still some u tested) on
-clears_kept w crossing words q machine turn {v} h (ClearsOn.tries unfreed still none on) =
-    trial_begins w crossing words q machine v turn h.landed (clear_ready v h.landed.counts h.clearing h.done still unfreed none) unfreed on
+pub clears_kept : (w : Core) (crossing words : List ℕ) (q : collectors.Private) → collector_kept.IsMachine q → (turn : Turn) {b : Begun} → HasCleared w crossing words b → ClearsOn w.collector q turn b → IsKept (record w { crossing = crossing; words = words; collector = q })
+clears_kept w crossing words q machine turn {b} h (ClearsOn.works phase is g) =
+    let there : HasCleared w crossing words (record { parts = b.parts; phase = Some phase }) = subst (λ o. HasCleared w crossing words (record { parts = b.parts; phase = o })) is h in
+    goes_on w crossing words q machine b.parts phase there.landed (begun_unswept w.epoch b.parts phase there.clears.clearing) (begun_tests (landed_pending w words b.parts.counts) w.collector b.parts phase there.clears.clearing there.tests) g.after
+clears_kept w crossing words q machine turn {b} h (ClearsOn.tests c is some tested on) =
+    clears_kept w crossing words q machine turn (tested_lands w crossing words b.parts (subst (λ o. HasCleared w crossing words (record { parts = b.parts; phase = o })) is h) some c tested) on
+clears_kept w crossing words q machine turn {b} h (ClearsOn.tries is none on) =
+    let there : HasCleared w crossing words (still b.parts) = subst (λ o. HasCleared w crossing words (record { parts = b.parts; phase = o })) is h in
+    trial_begins w crossing words q machine b.parts turn there.landed (clear_ready b.parts there.landed.counts there.clears.clearing none) on

@@ -43,7 +43,7 @@ use Rattle.rec_core.specs.Cells.{cell}
 use Rattle.rec_core.specs.Config.{IsMutator}
 use Rattle.rec_core.specs.Core.{Core, cells_of, sight, mutator, box, crossing_of, nobody, with_mutator}
 use Rattle.rec_core.specs.CyclesAt.{HasCyclesAt}
-use Rattle.rec_core.specs.Kept.{IsSettledIn, HasLabelAt, IsHandshake, stand_at, IsOwn, IsBufferOf, IsActor, HasCollector, IsScanning, HasScans, entries_made, IsKept}
+use Rattle.rec_core.specs.Kept.{IsSettledIn, HasLabelAt, IsHandshake, stand_at, IsOwn, IsBufferOf, IsActor, HasCollector, IsScanning, HasScans, entries_made, freeing_due, IsKept}
 use Rattle.rec_core.specs.Pending.{code, epoch_at, slot_of, pending}
 use Rattle.rec_core.specs.declared.config.Config.{Config}
 use Rattle.rec_core.proofs.Actors.{own_stepped, settled_here, epoch_here, behind_due, actor_stays, mutator_changes}
@@ -179,7 +179,7 @@ entries_stay w t births q kept is more = omega (arith, kept.made, more, sum_by-s
 -- what is to be accounted for after a step of a mutator
 pub record HasAccounts (w : Core) (v : Pending) : Type 0 where
   pub accounted : IsAccounted v
-  pub uncounted : w.collector.freeing.at ≡ None → HasUncountedReleased v
+  pub uncounted : freeing_due w.collector.phase ≡ None → HasUncountedReleased v
   pub cycles : HasCyclesAt v w.collector w.collector.phase
 
 -- A heap in which a mutator has moved, with headers, words and births, is kept where each part of it is.

@@ -29,8 +29,6 @@ use Rattle.rec_counts.specs.Slot.{absent, fresh, swept_clean}
 use Rattle.rec_counts.specs.Slot.{is_in as is_in_set}
 use Rattle.rec_counts.specs.declared.slot.Slot.{Slot}
 use Rattle.rec_counts.proofs.Times.{times-nil, times-cons, times_part, times_rest, one-same, one-le, in_range_once}
-use Rattle.rec_release.specs.declared.at.At.{At}
-use Rattle.rec_walk.specs.declared.member.Member.{Member}
 use Rattle.rec_release.specs.Sweep.{swept}
 use Rattle.rec_counts.proofs.Front.{first_in}
 use Rattle.rec_mutator.specs.Private.{Private}
@@ -46,14 +44,14 @@ use Rattle.rec_core.specs.Config.{IsMutator}
 use Rattle.rec_core.specs.Core.{Core, sight, nobody}
 use Rattle.rec_core.specs.Cycles.{SetsWait}
 use Rattle.rec_core.specs.CyclesAt.{HasCyclesAt}
-use Rattle.rec_core.specs.Kept.{IsBufferOf, IsLeft, IsLeftOf, Stand, stand_at, HasPassed, IsScanning, HasScans, one_if_sweeping, IsSomeSwept, IsKept}
+use Rattle.rec_core.specs.Kept.{freeing_due, IsBufferOf, Stand, stand_at, HasPassed, IsScanning, HasScans, one_if_sweeping, IsSomeSwept, IsKept}
 use Rattle.rec_core.specs.Pending.{dated_all, epoch_at, older_at, applied_at, pending}
 use Rattle.rec_core.specs.declared.config.Config.{Config}
 use Rattle.rec_core.proofs.Counts.{slot_in, accounts_with, emptied_leads}
 use Rattle.rec_core.proofs.CyclesWait.{KeepsMembers, sets_wait_moved, sets_wait_swept, slot_keeps_members}
 use Rattle.rec_core.proofs.Landings.{complete_drops, cleared_buffer}
 use Rattle.rec_core.proofs.Places.{place_within}
-use Rattle.rec_core.proofs.Turns.{alive_in, cycles_in, now_at, phase_moves}
+use Rattle.rec_core.proofs.Turns.{alive_in, cycles_in, emptied_in, now_at, phase_moves}
 
 -- as a sweep begins or ends, a scan that has begun before knows nothing more
 scans_change : (config : Config) (headers later : List ℕ) (freed next : ℕ) (mutators : List Private) → ((before slot : ℕ) → HasPassed headers freed before slot → HasPassed later next before slot) → HasScans config headers freed mutators → HasScans config later next mutators
@@ -75,7 +73,7 @@ passed_more headers freed before slot is = let up : before ≤ freed = is.0 in (
 -- A sweep begins.
 module _ (w : Core) (due : Option ℕ) (kept : IsKept w) (phase : w.collector.phase ≡ Opening) where
   abbrev began_by : collectors.Private
-  began_by = record w.collector { due = due; phase = Sweeping 0; turns = w.collector.turns + 1 }
+  began_by = record w.collector { phase = Sweeping due 0; turns = w.collector.turns + 1 }
 
   pub began_kept : collector_kept.IsMachine began_by → IsKept (record w { freed = w.freed + 1; collector = began_by })
   began_kept machine =
@@ -102,14 +100,14 @@ module _ (w : Core) (due : Option ℕ) (kept : IsKept w) (phase : w.collector.ph
           newer = k.newer;
           older = λ s there. subst (λ e. IsBufferOf w.config e (collectors.buffer_at w.collector.older (s - 1))) older (k.older s there);
           listed = k.listed;
-          emptied = k.emptied;
+          emptied = emptied_in w Opening kept phase;
         };
         sweeps = record { odd = odd_next w.freed (kept.sweeps.odd ∙ still); few = omega (arith, kept.sweeps.few, still); some = tt };
         scans = scans_change w.config w.headers w.headers w.freed (w.freed + 1) w.mutators (passed_more w.headers w.freed) kept.scans;
         made = kept.made;
         sound = kept.sound;
         accounted = subst IsAccounted (sym same) kept.accounted;
-        uncounted = λ unfreed. subst HasUncountedReleased (sym same) (kept.uncounted unfreed);
+        uncounted = λ _. subst HasUncountedReleased (sym same) (kept.uncounted (ap freeing_due phase));
         cycles = subst (λ (p : Pending). SetsWait p w.collector.counts) (sym same) (cycles_in w Opening kept phase);
       }
     where
@@ -155,14 +153,14 @@ module _ (w : Core) (swept_ : ℕ) (kept : IsKept w) (phase : w.collector.phase 
               subst (IsBufferOf w.config (w.epoch - 1)) (sym at_) (cleared_buffer w.config (w.epoch - 1) (w.epoch - 2) (collectors.buffer_at w.collector.older (s - 1)) (older s there));
           older = k.newer;
           listed = k.listed;
-          emptied = k.emptied;
+          emptied = emptied_in w (Closing swept_) kept phase;
         };
         sweeps = record { odd = even_next w.freed (kept.sweeps.odd ∙ odd); few = omega (arith, kept.sweeps.few, odd); some = tt };
         scans = scans_change w.config w.headers w.headers w.freed (w.freed + 1) w.mutators (passed_more w.headers w.freed) kept.scans;
         made = kept.made;
         sound = kept.sound;
         accounted = move_accounted (Move.dropping drops) accounted;
-        uncounted = λ unfreed. move_uncounted (Move.dropping drops) accounted (subst HasUncountedReleased (sym same) (kept.uncounted unfreed));
+        uncounted = λ _. move_uncounted (Move.dropping drops) accounted (subst HasUncountedReleased (sym same) (kept.uncounted (ap freeing_due phase)));
         cycles = sets_wait_moved w.collector.counts (Move.dropping drops) tt accounted (alive_in w (Closing swept_) kept phase) (subst (λ (p : Pending). SetsWait p w.collector.counts) (sym same) (cycles_in w (Closing swept_) kept phase));
       }
     where
@@ -237,15 +235,15 @@ slot_freed p headers s x there header released none empty =
     }
 
 -- A slot of the free list is swept: its header is 0 and its count one.
-module _ (w : Core) (done : ℕ) (x : ℕ) (kept : IsKept w) (phase : w.collector.phase ≡ Sweeping done) (first : w.collector.due ≡ Some x) where
+module _ (w : Core) (done : ℕ) (x : ℕ) (kept : IsKept w) (phase : w.collector.phase ≡ Sweeping (Some x) done) where
   open w use {collector as c}
   open kept use {headers, collector.{slots}}
 
-  sweeping : collector_kept.IsAt c (Sweeping done)
-  sweeping = now_at w (Sweeping done) kept phase
+  sweeping : collector_kept.IsAt c (Sweeping (Some x) done)
+  sweeping = now_at w (Sweeping (Some x) done) kept phase
 
   listed : 0 < times x c.counts.free
-  listed = first_in c.counts.free x (sym sweeping.2 ∙ first)
+  listed = first_in c.counts.free x (sym sweeping.2)
 
   pub swept_below : x < w.config.slots
   swept_below = let there : x < length c.counts.slots = in_range_once (length c.counts.slots) c.counts.free x kept.collector.machine.counts.free_once listed in omega (arith, slots)
@@ -258,17 +256,17 @@ module _ (w : Core) (done : ℕ) (x : ℕ) (kept : IsKept w) (phase : w.collecto
   in_accounts = let one_ : x + 1 - 1 ≡ x = omega arith in ap (λ (n : ℕ). slice_index_or c.counts.slots n fresh) one_ ∙ get_or_default c.counts.slots x fresh absent (omega (arith, swept_below, slots))
 
   uncounted : (slot_at c.counts x).count ≡ 0
-  uncounted = ap (λ (v : Slot). v.count) (sym in_accounts) ∙ kept.uncounted sweeping.0.tried.unfreed (x + 1) (omega arith) (ap (λ (v : Slot). v.released) in_accounts ∙ due_released)
+  uncounted = ap (λ (v : Slot). v.count) (sym in_accounts) ∙ kept.uncounted (ap freeing_due phase) (x + 1) (omega arith) (ap (λ (v : Slot). v.released) in_accounts ∙ due_released)
 
-  -- its fields are empty
-  empty : (f : ℕ) → f < w.config.fields → slice_index_or w.words (place_of x f w.config.fields) 0 ≡ 0
-  empty f within = elim (kept.collector.emptied x f swept_below within due_released) [
-    | inl left ↦ absurd (subst (λ (o : Option At). IsLeft o x f) sweeping.0.tried.still left)
-    | inr rest ↦ elim rest [
-      | inl left ↦ absurd (subst (λ (o : Option Member). IsLeftOf c.counts.work o x f) sweeping.0.tried.unfreed left)
-      | inr none ↦ none
-    ]
+  -- the fields of what was given up are empty
+  given_up_empty : (y f : ℕ) → y < w.config.slots → f < w.config.fields → (slot_at c.counts y).released ≡ true → slice_index_or w.words (place_of y f w.config.fields) 0 ≡ 0
+  given_up_empty y f below within released = elim (emptied_in w (Sweeping (Some x) done) kept phase y f below within released) [
+    | inl left ↦ absurd left
+    | inr rest ↦ elim rest [ inl left ↦ absurd left | inr none ↦ none ]
   ]
+
+  empty : (f : ℕ) → f < w.config.fields → slice_index_or w.words (place_of x f w.config.fields) 0 ≡ 0
+  empty f within = given_up_empty x f swept_below within due_released
 
   dead : is_dead (pending w) (x + 1) ≡ true
   dead = ap (λ (b : Bool). if (pending w).free (x + 1) then true else b) (ap (λ (v : Slot). v.released) in_accounts ∙ due_released) ∙ either ((pending w).free (x + 1))
@@ -348,11 +346,11 @@ module _ (w : Core) (done : ℕ) (x : ℕ) (kept : IsKept w) (phase : w.collecto
           let within : f < w.config.fields = omega (arith, there, many) in
           word_in (sight w) x f within ∙ empty f within ∙ sym (get_or-replicate w.config.fields f 0 0 within))
 
-  abbrev swept_by : (due : Option ℕ) (next : Phase) → collectors.Private
-  swept_by due next = record c { counts = swept c.counts x; due = due; freed = c.freed + 1; phase = next; turns = c.turns + 1 }
+  abbrev swept_by : (next : Phase) → collectors.Private
+  swept_by next = record c { counts = swept c.counts x; freed = c.freed + 1; phase = next; turns = c.turns + 1 }
 
-  abbrev after_sweep : (due : Option ℕ) (next : Phase) → Core
-  after_sweep due next = record w { headers = slice_set w.headers x 0; collector = swept_by due next }
+  abbrev after_sweep : (next : Phase) → Core
+  after_sweep next = record w { headers = slice_set w.headers x 0; collector = swept_by next }
 
   -- a phase in which the sweep goes on, or ends next
   pub record IsStillSweeping (next : Phase) : Type 0 where
@@ -373,7 +371,7 @@ module _ (w : Core) (done : ℕ) (x : ℕ) (kept : IsKept w) (phase : w.collecto
 
   -- the first of the list is nowhere else in it
   gone : (y : ℕ) → 0 < times y (drop 1 c.counts.free) → y ≢ x
-  gone y there = go c.counts.free (sym sweeping.2 ∙ first) (kept.collector.machine.counts.free_once y) there
+  gone y there = go c.counts.free (sym sweeping.2) (kept.collector.machine.counts.free_once y) there
     where
       go : (xs : List ℕ) → slice_get xs 0 ≡ Some x → times y xs ≤ one (nat_lt y (length c.counts.slots)) → 0 < times y (drop 1 xs) → y ≢ x
       go [] is few there_ same = absurd (omega (arith, there_, times-nil y))
@@ -398,8 +396,8 @@ module _ (w : Core) (done : ℕ) (x : ℕ) (kept : IsKept w) (phase : w.collecto
   still_members : KeepsMembers c.counts (swept c.counts x)
   still_members = slot_keeps_members c.counts (swept c.counts x) x (swept_clean (slot_at c.counts x)) refl refl in_no_set in_no_set
 
-  pub swept_kept : (due : Option ℕ) (next : Phase) → IsStillSweeping next → collector_kept.IsMachine (swept_by due next) → IsKept (after_sweep due next)
-  swept_kept due next on machine =
+  pub swept_kept : (next : Phase) → IsStillSweeping next → collector_kept.IsMachine (swept_by next) → IsKept (after_sweep next)
+  swept_kept next on machine =
       let k = kept.collector in
       let way : collector_kept.under_way c.phase ≡ 1 = ap collector_kept.under_way phase in
       let odd : one_if_sweeping c.phase ≡ 1 = ap one_if_sweeping phase in
@@ -407,7 +405,7 @@ module _ (w : Core) (done : ℕ) (x : ℕ) (kept : IsKept w) (phase : w.collecto
       let applied : applied_at w.epoch c.phase ≡ applied_at w.epoch next = ap (applied_at w.epoch) phase ∙ sym (on.applied w.epoch) in
       let leads = emptied_leads w.words w.config.fields x (let some : 1 ≤ w.config.fields = kept.config.some_fields in some) empty in
       let freed = slot_freed (pending w) w.headers c.counts x (omega (arith, swept_below, slots)) (omega (arith, swept_below, headers)) due_released uncounted leads in
-      let same : pending (after_sweep due next) ≡ record (accounts_with (pending w) w.words (swept c.counts x)) { free = λ node. slice_index_or (slice_set w.headers x 0) (node - 1) 0 == 0 } = rw (sym applied, sym older) refl in
+      let same : pending (after_sweep next) ≡ record (accounts_with (pending w) w.words (swept c.counts x)) { free = λ node. slice_index_or (slice_set w.headers x 0) (node - 1) 0 == 0 } = rw (sym applied, sym older) refl in
       record {
         config = kept.config;
         headers = length-set w.headers x 0 ∙ headers;
@@ -428,7 +426,7 @@ module _ (w : Core) (done : ℕ) (x : ℕ) (kept : IsKept w) (phase : w.collecto
           listed = λ y there. ap (λ (v : Slot). v.released) (released_else y (gone y there)) ∙ k.listed y (omega (arith, there, times_rest y c.counts.free));
           emptied = λ y f below within is. elim (cases_eq y x) [
             | inl same_ ↦ absurd (false≢true (sym swept_unreleased ∙ ap (λ n. (slot_at (swept c.counts x) n).released) (sym same_) ∙ is))
-            | inr other ↦ k.emptied y f below within (sym (ap (λ (v : Slot). v.released) (released_else y other)) ∙ is)
+            | inr other ↦ inr (inr (given_up_empty y f below within (sym (ap (λ (v : Slot). v.released) (released_else y other)) ∙ is)))
           ];
         };
         sweeps = record { odd = kept.sweeps.odd ∙ odd ∙ sym on.sweeping; few = omega (arith, kept.sweeps.few, odd, on.sweeping); some = on.some };
@@ -436,7 +434,7 @@ module _ (w : Core) (done : ℕ) (x : ℕ) (kept : IsKept w) (phase : w.collecto
         made = kept.made;
         sound = sound;
         accounted = subst IsAccounted (sym same) (move_accounted (Move.freeing freed) kept.accounted);
-        uncounted = λ unfreed. subst HasUncountedReleased (sym same) (move_uncounted (Move.freeing freed) kept.accounted (kept.uncounted unfreed));
-        cycles = on.waits (pending (after_sweep due next)) (swept_by due next) (subst (λ (p : Pending). SetsWait p (swept c.counts x)) (sym same)
-            (sets_wait_swept c.counts (swept c.counts x) (Move.freeing freed) tt kept.accounted (alive_in w (Sweeping done) kept phase) still_members (cycles_in w (Sweeping done) kept phase)));
+        uncounted = λ _. subst HasUncountedReleased (sym same) (move_uncounted (Move.freeing freed) kept.accounted (kept.uncounted (ap freeing_due phase)));
+        cycles = on.waits (pending (after_sweep next)) (swept_by next) (subst (λ (p : Pending). SetsWait p (swept c.counts x)) (sym same)
+            (sets_wait_swept c.counts (swept c.counts x) (Move.freeing freed) tt kept.accounted (alive_in w (Sweeping (Some x) done) kept phase) still_members (cycles_in w (Sweeping (Some x) done) kept phase)));
       }

@@ -1,5 +1,5 @@
 -- What a turn of the collector shows of its sweep.
-use Rattle.std.proofs.Common.{◌≡◌, ℕ, zero, suc, ◌+◌, ◌-◌, ◌%◌, ◌^◌, ◌<◌, true, Option, None, Some, length, slice_index_or, refl, sym, ap, subst, ◌∙◌, arith}
+use Rattle.std.proofs.Common.{◌≡◌, ℕ, zero, suc, ◌+◌, ◌-◌, ◌%◌, ◌^◌, ◌<◌, Bool, false, true, Option, None, Some, length, slice_index_or, refl, sym, ap, subst, ◌∙◌, arith}
 use Rattle.std.proofs.lemmas.Bool.{eq-eqb, true≢false}
 use Rattle.rec_word.specs.Op.{written}
 use Rattle.rec_word.specs.Place.{place_of}
@@ -7,19 +7,25 @@ use Rattle.rec_word.specs.declared.op.Op.{Op}
 use Rattle.rec_word.specs.declared.op.Op.TheVariants as ops
 use Rattle.rec_log.specs.declared.contents.Contents.{Contents}
 use Rattle.rec_model.specs.Sight.{IsTaken}
-use Rattle.rec_counts.specs.Counts.{slot_at}
+use Rattle.rec_counts.specs.Counts.{State, slot_at}
 use Rattle.rec_release.specs.declared.at.At.{At}
 use Rattle.rec_walk.specs.declared.member.Member.{Member}
+use Rattle.rec_release.specs.CycleFree as frees
 use Rattle.rec_release.specs.CycleFree.{next_of as freeing_next, op_at as freeing_op_at}
+use Rattle.rec_release.specs.Release as releases
 use Rattle.rec_release.specs.Release.{next_of as release_next, op_at as release_op_at}
 use Rattle.rec_release.specs.Sweep as sweeps
-use Rattle.rec_collector.specs.Followed.{prep_started, trial_started}
+use Rattle.rec_sigma.specs.Prepare as preps
+use Rattle.rec_trial.specs.Trial as trials
+use Rattle.rec_collector.specs.Followed.{prep_started, relieved_at, with_freed, with_released}
 use Rattle.rec_collector.specs.Kept.{swept_at}
 use Rattle.rec_collector.specs.Next.{next_of}
-use Rattle.rec_collector.specs.Parts.{Parts}
-use Rattle.rec_collector.specs.Private.{Private}
-use Rattle.rec_collector.specs.Step.{Step, ClearsOn, TriesOn, PreparesOn}
-use Rattle.rec_collector.specs.Took.{step_of, turn_of}
+use Rattle.rec_collector.specs.Parts.{Parts, new_freeing, new_release}
+use Rattle.rec_collector.specs.Private.{Private, parts_of}
+use Rattle.rec_collector.specs.Step.{Step, ClearsOn, IsTested, TriesOn, PreparesOn}
+use Rattle.rec_collector.specs.Testing.{Begun, freeing_at, releasing_at}
+use Rattle.rec_collector.specs.Took.{batched, step_of, turn_of}
+use Rattle.rec_collector.specs.declared.phase.Phase.{Phase}
 use Rattle.rec_collector.specs.declared.turn.Turn.{Turn}
 use Rattle.rec_collector.proofs.Steps.{step_made}
 use Rattle.rec_core.specs.Cells.{cell, with_cell}
@@ -59,20 +65,65 @@ none_told : (w : Core) (q : Private) → swept_at q.phase ≡ 0 → 0 < swept_at
 none_told w q none more = absurd (omega (arith, none, more))
 
 -- a preparation tells none, a trial tells none, and no test tells one
-preparation_told : (p : Private) (w : Parts) (q : Private) (turn : Turn) → PreparesOn p w q turn → swept_at q.phase ≡ 0
-preparation_told p w q turn (PreparesOn.more some g) = ap (λ c. swept_at c.phase) g.after
-preparation_told p w q turn (PreparesOn.sweeps_next none some g) = ap (λ c. swept_at c.phase) g.after
-preparation_told p w q turn (PreparesOn.completes none empty e) = ap (λ c. swept_at c.phase) e.after
+preparation_told : (p : Private) (w : Parts) (v : preps.Work) (q : Private) (turn : Turn) → PreparesOn p w v q turn → swept_at q.phase ≡ 0
+preparation_told p w v q turn (PreparesOn.more some g) = ap (λ c. swept_at c.phase) g.after
+preparation_told p w v q turn (PreparesOn.sweeps_next none some g) = ap (λ c. swept_at c.phase) g.after
+preparation_told p w v q turn (PreparesOn.completes none empty e) = ap (λ c. swept_at c.phase) e.after
 
-trial_told : (p : Private) (w : Parts) (q : Private) (turn : Turn) → TriesOn p w q turn → swept_at q.phase ≡ 0
-trial_told p w q turn (TriesOn.more some g) = ap (λ c. swept_at c.phase) g.after
-trial_told p w q turn (TriesOn.prepares none on) = preparation_told p (prep_started w) q turn on
+trial_told : (p : Private) (w : Parts) (v : trials.Work) (q : Private) (turn : Turn) → TriesOn p w v q turn → swept_at q.phase ≡ 0
+trial_told p w v q turn (TriesOn.more some g) = ap (λ c. swept_at c.phase) g.after
+trial_told p w v q turn (TriesOn.prepares none on) = let u : Parts = record w { counts = v.counts } in preparation_told p u (prep_started u) q turn on
 
-test_told : (p q : Private) (turn : Turn) (w : Parts) → ClearsOn p q turn w → swept_at q.phase ≡ 0
-test_told p q turn w (ClearsOn.frees_on some g) = ap (λ c. swept_at c.phase) g.after
-test_told p q turn w (ClearsOn.releases_on none some g) = ap (λ c. swept_at c.phase) g.after
-test_told p q turn w (ClearsOn.tests v none still some tested on) = test_told p q turn v on
-test_told p q turn w (ClearsOn.tries none still empty on) = trial_told p (trial_started w) q turn on
+-- nor does what was begun between a batch and a trial
+abbrev TellsNone : Option Phase → Type 0
+TellsNone None = Unit {0}
+TellsNone (Some phase) = swept_at phase ≡ 0
+
+release_tells : (m : releases.Machine) (at : Option At) → TellsNone (releasing_at m at)
+release_tells m None = tt
+release_tells m (Some a) = refl
+
+freeing_tells : (m : frees.Machine) (at : Option Member) → TellsNone (freeing_at m at)
+freeing_tells m None = tt
+freeing_tells m (Some a) = refl
+
+zeros_tell : (lowers : Bool) (fields : ℕ) (s : State) → TellsNone (releasing_at (releases.started_of (new_release fields) lowers s).machine (releases.started_of (new_release fields) lowers s).machine.at)
+zeros_tell lowers fields s = let v : releases.Work = releases.started_of (new_release fields) lowers s in release_tells v.machine v.machine.at
+
+released_tells : (m : releases.Machine) (w : Parts) (word : ℕ) → TellsNone (with_released m w word).phase
+released_tells m w word = let v : releases.Work = releases.took_of (record { machine = m; counts = w.counts }) word in release_tells v.machine v.machine.at
+
+relieved_tells : (w : Parts) (m : frees.Machine) (at : Option Member) → TellsNone (relieved_at w m at).phase
+relieved_tells w m None = zeros_tell true w.fields w.counts
+relieved_tells w m (Some a) = refl
+
+freed_tells : (m : frees.Machine) (w : Parts) (word : ℕ) → TellsNone (with_freed m w word).phase
+freed_tells m w word = let v : frees.Work = frees.took_of (record { machine = m; counts = w.counts }) word in relieved_tells (record w { counts = v.counts }) v.machine v.machine.at
+
+tested_tells : (w : Parts) (v : Begun) → IsTested w v → TellsNone v.phase
+tested_tells w v (IsTested.passes orange none is) = let u : frees.Work = frees.started_of (new_freeing w.fields) w.counts in subst (λ (c : Begun). TellsNone c.phase) (sym is) (freeing_tells u.machine u.machine.at)
+tested_tells w v (IsTested.fails_delta s not last is) = subst (λ (c : Begun). TellsNone c.phase) (sym is) (zeros_tell true w.fields s)
+tested_tells w v (IsTested.fails_sigma s orange some last is) = subst (λ (c : Begun). TellsNone c.phase) (sym is) (zeros_tell true w.fields s)
+
+test_told : (p q : Private) (turn : Turn) (b : Begun) → TellsNone b.phase → ClearsOn p q turn b → swept_at q.phase ≡ 0
+test_told p q turn b tells (ClearsOn.works phase at g) = ap (λ c. swept_at c.phase) g.after ∙ subst TellsNone at tells
+test_told p q turn b tells (ClearsOn.tests c none some tested on) = test_told p q turn c (tested_tells b.parts c tested) on
+test_told p q turn b tells (ClearsOn.tries none empty on) = trial_told p _ _ q turn on
+
+-- and none of them sweeps a slot
+pub preparation_sweeps : {p : Private} {w : Parts} {v : preps.Work} {q : Private} {turn : Turn} → PreparesOn p w v q turn → q.freed ≡ p.freed
+preparation_sweeps (PreparesOn.more some g) = ap (λ (c : Private). c.freed) g.after
+preparation_sweeps (PreparesOn.sweeps_next none some g) = ap (λ (c : Private). c.freed) g.after
+preparation_sweeps (PreparesOn.completes none empty e) = ap (λ (c : Private). c.freed) e.after
+
+pub trial_sweeps : {p : Private} {w : Parts} {v : trials.Work} {q : Private} {turn : Turn} → TriesOn p w v q turn → q.freed ≡ p.freed
+trial_sweeps (TriesOn.more some g) = ap (λ (c : Private). c.freed) g.after
+trial_sweeps (TriesOn.prepares none on) = preparation_sweeps on
+
+pub test_sweeps : {p q : Private} {turn : Turn} {b : Begun} → ClearsOn p q turn b → q.freed ≡ p.freed
+test_sweeps (ClearsOn.works phase begun g) = ap (λ (c : Private). c.freed) g.after
+test_sweeps (ClearsOn.tests c none some tested on) = test_sweeps on
+test_sweeps (ClearsOn.tries none empty on) = trial_sweeps on
 
 -- the freed word goes up by one
 freed_by : (w : Core) (op : Op) (word : ℕ) → IsKept w → word ≡ cell (cells_of w) op → op ≡ ops.AddFreed → (with_cell (cells_of w) op (written op word)).freed ≡ w.freed + 1
@@ -94,45 +145,42 @@ rule_sweeps w op word q turn left kept names found (Step.gather t looking crosse
 rule_sweeps w op word q turn left kept names found (Step.give_back t returning more named g) =
     rests_by w op (ops.ReturnBox t w.collector.epoch) word q left (some_op op (ops.ReturnBox t w.collector.epoch) named) refl refl (none_told w q (ap (λ c. swept_at c.phase) g.after)) names tt
 rule_sweeps w op word q turn left kept names found (Step.apply t returning last named on) =
-    rests_by w op (ops.ReturnBox t w.collector.epoch) word q left (some_op op (ops.ReturnBox t w.collector.epoch) named) refl refl (none_told w q (test_told w.collector q turn _ on)) names tt
-rule_sweeps w op word q turn left kept names found (Step.release releasing named on) = go w.collector.release.at refl
+    rests_by w op (ops.ReturnBox t w.collector.epoch) word q left (some_op op (ops.ReturnBox t w.collector.epoch) named) refl refl (none_told w q (test_told w.collector q turn _ (zeros_tell false (batched w.collector).fields (batched w.collector).counts) on)) names tt
+rule_sweeps w op word q turn left kept names found (Step.release m releasing named on) = go m.at refl
   where
-    go : (x : Option At) → w.collector.release.at ≡ x → IsSweep w (collected w op word q left)
-    go None at = let not_so : ◌≡◌ {A = Option Op} (Some op) None = named ∙ ap (release_op_at w.collector.release.fields) at in absurd (cc)
+    go : (x : Option At) → m.at ≡ x → IsSweep w (collected w op word q left)
+    go None at = let not_so : ◌≡◌ {A = Option Op} (Some op) None = named ∙ ap (release_op_at m.fields) at in absurd (cc)
     go (Some a) at =
-        let place : ℕ = place_of a.slot a.field w.collector.release.fields in
-        let its : op ≡ ops.ClearField place = some_op op (ops.ClearField place) (named ∙ ap (release_op_at w.collector.release.fields) at) in
-        rests_by w op (ops.ClearField place) word q left its refl refl (none_told w q (test_told w.collector q turn _ on)) names tt
-rule_sweeps w op word q turn left kept names found (Step.freeing freeing named on) = go w.collector.freeing.at refl
+        let place : ℕ = place_of a.slot a.field m.fields in
+        let its : op ≡ ops.ClearField place = some_op op (ops.ClearField place) (named ∙ ap (release_op_at m.fields) at) in
+        rests_by w op (ops.ClearField place) word q left its refl refl (none_told w q (test_told w.collector q turn _ (released_tells m (parts_of w.collector) word) on)) names tt
+rule_sweeps w op word q turn left kept names found (Step.freeing m freeing named on) = go m.at refl
   where
-    go : (x : Option Member) → w.collector.freeing.at ≡ x → IsSweep w (collected w op word q left)
-    go None at = let not_so : ◌≡◌ {A = Option Op} (Some op) None = named ∙ ap (freeing_op_at w.collector.freeing.fields) at in absurd (cc)
+    go : (x : Option Member) → m.at ≡ x → IsSweep w (collected w op word q left)
+    go None at = let not_so : ◌≡◌ {A = Option Op} (Some op) None = named ∙ ap (freeing_op_at m.fields) at in absurd (cc)
     go (Some a) at =
-        let place : ℕ = place_of a.slot a.field w.collector.freeing.fields in
-        let its : op ≡ ops.ClearField place = some_op op (ops.ClearField place) (named ∙ ap (freeing_op_at w.collector.freeing.fields) at) in
-        rests_by w op (ops.ClearField place) word q left its refl refl (none_told w q (test_told w.collector q turn _ on)) names tt
-rule_sweeps w op word q turn left kept names found (Step.trial trying named on) =
-    let (place, its) = loads_child w.collector.trial op named in
-    rests_by w op (ops.LoadChild place) word q left its refl refl (none_told w q (trial_told w.collector _ q turn on)) names tt
-rule_sweeps w op word q turn left kept names found (Step.preparation preparing named on) =
-    let (a, at, its) = loads_due w.collector.prep op (sym named) in
-    rests_by w op (ops.LoadChild (place_of a.member.slot a.member.field w.collector.prep.fields)) word q left its refl refl (none_told w q (preparation_told w.collector _ q turn on)) names tt
+        let place : ℕ = place_of a.slot a.field m.fields in
+        let its : op ≡ ops.ClearField place = some_op op (ops.ClearField place) (named ∙ ap (freeing_op_at m.fields) at) in
+        rests_by w op (ops.ClearField place) word q left its refl refl (none_told w q (test_told w.collector q turn _ (freed_tells m (parts_of w.collector) word) on)) names tt
+rule_sweeps w op word q turn left kept names found (Step.trial m trying named on) =
+    let (place, its) = loads_child m op named in
+    rests_by w op (ops.LoadChild place) word q left its refl refl (none_told w q (trial_told w.collector _ _ q turn on)) names tt
+rule_sweeps w op word q turn left kept names found (Step.preparation m preparing named on) =
+    let (a, at, its) = loads_due m op (sym named) in
+    rests_by w op (ops.LoadChild (place_of a.member.slot a.member.field m.fields)) word q left its refl refl (none_told w q (preparation_told w.collector _ _ q turn on)) names tt
 rule_sweeps w op word q turn left kept names found (Step.begin_sweep opening named g) =
     let its : op ≡ ops.AddFreed = some_op op ops.AddFreed named in
     let none : one_if_sweeping w.collector.phase ≡ 0 = ap one_if_sweeping opening in
     let even : w.freed % 2 ≡ one_if_sweeping w.collector.phase = kept.sweeps.odd in
     IsSweep.marks (names ∙ ap (λ i. Some i) its) (ap (λ i. (with_cell (cells_of w) i (written i word)).headers) its) (freed_by w op word kept found its) (λ (odd : w.freed % 2 ≡ 1). absurd (omega (arith, odd, even, none))) (ap (λ c. swept_at c.phase) g.after)
-rule_sweeps w op word q turn left kept names found (Step.sweep swept u next sweeping named took follows g) = go w.collector.due refl
-  where
-    go : (x : Option ℕ) → w.collector.due ≡ x → IsSweep w (collected w op word q left)
-    go None due = let not_so : ◌≡◌ {A = Option Op} (Some op) None = named ∙ ap sweeps.next_of due in absurd (cc)
-    go (Some x) due =
-        let its : op ≡ ops.FreeHeader x = some_op op (ops.FreeHeader x) (named ∙ ap sweeps.next_of due) in
-        let below : x < w.config.slots = swept_below w swept x kept sweeping due in
-        let released : (slot_at w.collector.counts x).released ≡ true = due_released w swept x kept sweeping due in
-        let headers : length w.headers ≡ w.config.slots = kept.headers in
-        IsSweep.frees x (names ∙ ap (λ i. Some i) its) (omega (arith, below, headers)) (released_taken w x kept below released) (λ from. released_unreached w x x kept released from refl) (kept.sweeps.odd ∙ ap one_if_sweeping sweeping)
-        (ap (λ i. (with_cell (cells_of w) i (written i word)).headers) its) (ap (λ i. (with_cell (cells_of w) i (written i word)).freed) its)
+rule_sweeps w op word q turn left kept names found (Step.sweep None swept u next sweeping named took follows g) = let not_so : ◌≡◌ {A = Option Op} (Some op) None = named in absurd (cc)
+rule_sweeps w op word q turn left kept names found (Step.sweep (Some x) swept u next sweeping named took follows g) =
+    let its : op ≡ ops.FreeHeader x = some_op op (ops.FreeHeader x) named in
+    let below : x < w.config.slots = swept_below w swept x kept sweeping in
+    let released : (slot_at w.collector.counts x).released ≡ true = due_released w swept x kept sweeping in
+    let headers : length w.headers ≡ w.config.slots = kept.headers in
+    IsSweep.frees x (names ∙ ap (λ i. Some i) its) (omega (arith, below, headers)) (released_taken w x kept below released) (λ from. released_unreached w x x kept released from refl) (kept.sweeps.odd ∙ ap one_if_sweeping sweeping)
+    (ap (λ i. (with_cell (cells_of w) i (written i word)).headers) its) (ap (λ i. (with_cell (cells_of w) i (written i word)).freed) its)
 rule_sweeps w op word q turn left kept names found (Step.end_sweep swept closing named e) =
     let its : op ≡ ops.AddFreed = some_op op ops.AddFreed named in
     let some : 0 < swept = subst IsSomeSwept closing kept.sweeps.some in

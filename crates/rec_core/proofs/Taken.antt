@@ -19,12 +19,11 @@ use Rattle.rec_counts.specs.Counts.{State, slot_at}
 use Rattle.rec_counts.specs.Lists.{times}
 use Rattle.rec_counts.specs.Rest.{AreZeros}
 use Rattle.rec_counts.specs.declared.slot.Slot.{Slot}
-use Rattle.rec_release.specs.CycleFree as frees
-use Rattle.rec_release.specs.Release as releases
 use Rattle.rec_release.specs.TakenOff.{taken_off}
 use Rattle.rec_release.proofs.TakenOff.{KeepsMost, off_most}
 use Rattle.rec_release.proofs.Kept.{off_kept}
 use Rattle.rec_collector.specs.Private.{parts_of}
+use Rattle.rec_collector.specs.declared.phase.Phase.{Phase}
 use Rattle.rec_core.specs.Core.{Core, sight}
 use Rattle.rec_core.specs.Cycles.{SetsTest}
 use Rattle.rec_core.specs.Kept.{IsLeft, IsLeftOf, IsKept}
@@ -33,7 +32,7 @@ use Rattle.rec_core.proofs.TurnCases.{word_at, words_without}
 use Rattle.rec_core.proofs.Counts.{slot_in, accounts_with, clears, counted_slot}
 use Rattle.rec_core.proofs.CyclesLess.{less_taken_off}
 use Rattle.rec_core.proofs.CyclesTest.{sets_test_taken}
-use Rattle.rec_core.proofs.Landed.{landed_pending, applied_pending}
+use Rattle.rec_core.proofs.Landed.{landed_pending, applied_pending, begun_freeing, begun_release}
 use Rattle.rec_core.proofs.Landings.{IsUnswept}
 use Rattle.rec_core.proofs.Moves.{code_target, home_of}
 use Rattle.rec_core.proofs.Places.{place_within}
@@ -141,15 +140,15 @@ module _ (w : Core) (slot field : ℕ) (may : MayEmpty w slot field) where
   pub off_accounted : (lowers : Bool) → IsAccounted (landed_pending w words (off lowers))
   off_accounted lowers = move_accounted (Move.clearing (rule lowers)) accounted
 
-  -- what is still to be emptied by these machines
-  abbrev pub IsLeftBy : (lowers : Bool) → releases.Machine → frees.Machine → Type 0
-  IsLeftBy lowers m n =
-      (x f : ℕ) → x < w.config.slots → f < w.config.fields → (slot_at (off lowers) x).released ≡ true → IsLeft m.at x f ⊎ (IsLeftOf (off lowers).work n.at x f ⊎ (slice_index_or words (place_of x f w.config.fields) 0 ≡ 0))
+  -- what is still to be emptied, where this was begun
+  abbrev pub IsLeftBy : (lowers : Bool) → Option Phase → Type 0
+  IsLeftBy lowers begun =
+      (x f : ℕ) → x < w.config.slots → f < w.config.fields → (slot_at (off lowers) x).released ≡ true → IsLeft (begun_release begun) x f ⊎ (IsLeftOf (off lowers).work (begun_freeing begun) x f ⊎ (slice_index_or words (place_of x f w.config.fields) 0 ≡ 0))
 
-  -- where these machines have come to
-  pub off_comes : (lowers : Bool) (m : releases.Machine) (n : frees.Machine) → m.fields ≡ w.config.fields → n.fields ≡ w.config.fields → (n.at ≡ None → HasUncountedReleased (landed_pending w words (off lowers))) → AreZeros c.counts
-      → SetsTest (pending w) c.counts → IsLeftBy lowers m n → HasCome w w.crossing words (record (parts_of c) { counts = off lowers; release = m; freeing = n })
-  off_comes lowers m n release_fields freeing_fields uncounted zeros tests left =
+  -- where the collection has come to, if this was begun
+  pub off_comes : (lowers : Bool) (begun : Option Phase) → (begun_freeing begun ≡ None → HasUncountedReleased (landed_pending w words (off lowers))) → AreZeros c.counts → SetsTest (pending w) c.counts → IsLeftBy lowers begun
+      → HasCome w w.crossing words (record { parts = record (parts_of c) { counts = off lowers }; phase = begun })
+  off_comes lowers begun uncounted zeros tests left =
       record {
         landed = record {
           kept = kept;
@@ -162,10 +161,7 @@ module _ (w : Core) (slot field : ℕ) (may : MayEmpty w slot field) where
           sound = sound;
           many_words = length-set w.words place 0;
           slots = (most lowers).slots ∙ slots;
-          fields = release_fields;
-          freeing_fields = freeing_fields;
-          trial_fields = kept.collector.machine.trial_fields ∙ kept.collector.fields;
-          prep_fields = kept.collector.machine.prep_fields ∙ kept.collector.fields;
+          fields = kept.collector.fields;
           counts = off_kept lowers c.counts (target_of word) counted_word zeros kept.collector.machine.counts;
           listed = λ x there. (most lowers).released x ∙ kept.collector.listed x (subst (λ xs. 0 < times x xs) (most lowers).free there);
           emptied = left;

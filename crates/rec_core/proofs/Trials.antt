@@ -5,11 +5,12 @@ use Rattle.rec_log.specs.declared.contents.Contents.{Contents}
 use Rattle.rec_mutator.specs.Private.{is_busy}
 use Rattle.rec_release.specs.Sweep as sweeps
 use Rattle.rec_collector.specs.Next as collectors_next
-use Rattle.rec_collector.specs.Parts.{Parts}
 use Rattle.rec_collector.specs.Private as collectors
 use Rattle.rec_collector.specs.Step as collectors_step
+use Rattle.rec_collector.specs.Testing.{Begun}
 use Rattle.rec_collector.specs.Touched.{tried_at}
 use Rattle.rec_collector.specs.declared.phase.Phase.{Phase}
+use Rattle.rec_collector.specs.declared.phase.Phase.TheVariants.{Idle}
 use Rattle.rec_collector.specs.declared.turn.Turn.{Turn}
 use Rattle.rec_collector.proofs.Steps as collectors_made
 use Rattle.rec_collector.proofs.Touched.{prepares_late, tries_late}
@@ -41,11 +42,15 @@ goes_tried g = ap (λ (x : collectors.Private). tried_at x.epoch x.phase) g.afte
 ends_tried : {r q : collectors.Private} {turn : Turn} {swept : ℕ} → collectors_step.Ends r q turn swept → tried_at q.epoch q.phase ≡ r.epoch
 ends_tried e = ap (λ (x : collectors.Private). tried_at x.epoch x.phase) e.after
 
-clears_tried : (p q : collectors.Private) (turn : Turn) {w : Parts} → collectors_step.ClearsOn p q turn w → p.epoch - 1 ≤ tried_at q.epoch q.phase
-clears_tried p q turn (collectors_step.ClearsOn.frees_on busy g) = omega (arith, goes_tried g)
-clears_tried p q turn (collectors_step.ClearsOn.releases_on unfreed busy g) = omega (arith, goes_tried g)
-clears_tried p q turn (collectors_step.ClearsOn.tests v unfreed still some tested on) = clears_tried p q turn on
-clears_tried p q turn (collectors_step.ClearsOn.tries unfreed still none on) = omega (arith, tries_late p q _ turn on)
+-- the last trial was made in the requested epoch, or in the one before
+tried_least : (requested : ℕ) (phase : Phase) → requested - 1 ≤ tried_at requested phase
+tried_least requested Idle = omega arith
+tried_least requested _ = omega arith
+
+clears_tried : (p q : collectors.Private) (turn : Turn) {b : Begun} → collectors_step.ClearsOn p q turn b → p.epoch - 1 ≤ tried_at q.epoch q.phase
+clears_tried p q turn (collectors_step.ClearsOn.works phase at g) = omega (arith, goes_tried g, tried_least p.epoch phase)
+clears_tried p q turn (collectors_step.ClearsOn.tests c none some tested on) = clears_tried p q turn on
+clears_tried p q turn (collectors_step.ClearsOn.tries none empty on) = omega (arith, tries_late p q _ _ turn on)
 
 swept_tried : {swept requested : ℕ} {w : sweeps.Work} {next : Phase} → collectors_step.IsNext swept w next → tried_at requested next ≡ requested
 swept_tried {requested = requested} (collectors_step.IsNext.more busy is) = ap (tried_at requested) is
@@ -59,12 +64,12 @@ step_rises (collectors_step.Step.wait t at other is same turn) = omega (arith, a
 step_rises {p} (collectors_step.Step.gather t at crossed is g) = omega (arith, ap (tried_at p.epoch) at, goes_tried g)
 step_rises {p} (collectors_step.Step.give_back t at other is g) = omega (arith, ap (tried_at p.epoch) at, goes_tried g)
 step_rises {p} {q} (collectors_step.Step.apply t at last is on) = omega (arith, ap (tried_at p.epoch) at, clears_tried p q _ on)
-step_rises {p} {q} (collectors_step.Step.release at is on) = omega (arith, ap (tried_at p.epoch) at, clears_tried p q _ on)
-step_rises {p} {q} (collectors_step.Step.freeing at is on) = omega (arith, ap (tried_at p.epoch) at, clears_tried p q _ on)
-step_rises {p} {q} (collectors_step.Step.trial at is on) = omega (arith, ap (tried_at p.epoch) at, tries_late p q _ _ on)
-step_rises {p} {q} (collectors_step.Step.preparation at is on) = omega (arith, ap (tried_at p.epoch) at, prepares_late p q _ _ on)
+step_rises {p} {q} (collectors_step.Step.release m at is on) = omega (arith, ap (tried_at p.epoch) at, clears_tried p q _ on)
+step_rises {p} {q} (collectors_step.Step.freeing m at is on) = omega (arith, ap (tried_at p.epoch) at, clears_tried p q _ on)
+step_rises {p} {q} (collectors_step.Step.trial m at is on) = omega (arith, ap (tried_at p.epoch) at, tries_late p q _ _ _ on)
+step_rises {p} {q} (collectors_step.Step.preparation m at is on) = omega (arith, ap (tried_at p.epoch) at, prepares_late p q _ _ _ on)
 step_rises {p} (collectors_step.Step.begin_sweep at is g) = omega (arith, ap (tried_at p.epoch) at, goes_tried g)
-step_rises {p} (collectors_step.Step.sweep swept u next at is took follows g) = omega (arith, ap (tried_at p.epoch) at, goes_tried g, swept_tried {requested = p.epoch} follows)
+step_rises {p} (collectors_step.Step.sweep due swept u next at is took follows g) = omega (arith, ap (tried_at p.epoch) at, goes_tried g, swept_tried {requested = p.epoch} follows)
 step_rises {p} (collectors_step.Step.end_sweep swept at is e) = omega (arith, ap (tried_at p.epoch) at, ends_tried e)
 
 turn_rises : (w : Core) → IsKept w → IsKept (turned w) → tried_in w ≤ tried_in (turned w)

@@ -21,24 +21,24 @@ use Rattle.rec_trial.specs.declared.phase.Phase.TheVariants as trial_at
 use Rattle.rec_trial.specs.Loaded.{noted}
 use Rattle.rec_trial.specs.Rules.{LeadsToUnreleased}
 use Rattle.rec_trial.specs.Trial.{Machine, Work, next_of, op_at, took_of}
-use Rattle.rec_trial.proofs.AtWork.{at_work_place, took_fields}
+use Rattle.rec_trial.proofs.AtWork.{at_work_place}
 use Rattle.rec_trial.proofs.Counted.{took_counted}
 use Rattle.rec_trial.proofs.Keeps.{took_keeps}
 use Rattle.rec_trial.proofs.Promised.{took_promised, took_recorded}
-use Rattle.rec_collector.specs.Followed.{with_tried}
 use Rattle.rec_collector.specs.Kept as collector_kept
-use Rattle.rec_collector.specs.Private.{Private, parts_of, with_parts}
+use Rattle.rec_collector.specs.Private.{Private, parts_of}
 use Rattle.rec_collector.specs.Step.{TriesOn}
 use Rattle.rec_collector.specs.declared.phase.Phase.TheVariants.{Trying}
 use Rattle.rec_collector.specs.declared.turn.Turn.{Turn}
+use Rattle.rec_collector.proofs.Goings.{still}
 use Rattle.rec_core.specs.Core.{Core}
 use Rattle.rec_core.specs.Cycles.{TrialStands}
 use Rattle.rec_core.specs.CyclesAt.{IsLoading}
-use Rattle.rec_core.specs.Kept.{IsLeft, IsLeftOf, IsKept}
+use Rattle.rec_core.specs.Kept.{IsLeft, IsLeftOf, IsKept, freeing_due, release_due}
 use Rattle.rec_core.specs.Pending.{code, slot_of, pending}
 use Rattle.rec_core.proofs.CyclesTrial.{trial_stands_noted}
 use Rattle.rec_core.proofs.Landed.{landed_pending, HasLanded}
-use Rattle.rec_core.proofs.Landings.{IsUnswept, here_done, here_pending, landed_alike, lands_here, tried_alike, tries_kept}
+use Rattle.rec_core.proofs.Landings.{IsUnswept, here_done, here_pending, landed_alike, landed_still, lands_here, tried_alike, tries_kept}
 use Rattle.rec_core.proofs.Moves.{code_target}
 use Rattle.rec_core.proofs.Steps.{slot_there, fields_many}
 use Rattle.rec_core.proofs.Turns.{cycles_in, now_at}
@@ -59,7 +59,7 @@ loads_child m op named = go m.phase named
 
 -- A word of the heap leads to no slot that was given up, where no release is at work: the fields of those that were given up are
 -- empty, and no other field names one.
-module _ (w : Core) (place : ℕ) (kept : IsKept w) (still : w.collector.release.at ≡ None) (unfreed : w.collector.freeing.at ≡ None) (inside : place < length w.words) where
+module _ (w : Core) (place : ℕ) (kept : IsKept w) (unreleased : release_due w.collector.phase ≡ None) (unfreed : freeing_due w.collector.phase ≡ None) (inside : place < length w.words) where
   abbrev word : ℕ
   word = slice_index_or w.words place 0
 
@@ -77,7 +77,7 @@ module _ (w : Core) (place : ℕ) (kept : IsKept w) (still : w.collector.release
         let at : place ≡ place_of own f w.config.fields = sym (div-add-mod place w.config.fields) ∙ ap (λ n. n + f) (mul_comm w.config.fields own) in
         let released : (slot_at w.collector.counts own).released ≡ true = ap (λ (v : Slot). v.released) (sym (slot_there w kept own there)) ∙ up in
         elim (kept.collector.emptied own f there within released) [
-          | inl left ↦ absurd (subst (λ (o : Option At). IsLeft o own f) still left)
+          | inl left ↦ absurd (subst (λ (o : Option At). IsLeft o own f) unreleased left)
           | inr rest ↦ elim rest [
             | inl left ↦ absurd (subst (λ (o : Option Member). IsLeftOf w.collector.counts.work o own f) unfreed left)
             | inr none ↦ ap (λ n. slice_index_or w.words n 0) at ∙ none
@@ -129,58 +129,54 @@ module _ (w : Core) (place : ℕ) (kept : IsKept w) (still : w.collector.release
       go (Some slot) is = let many : length w.collector.counts.slots ≡ w.config.slots = kept.collector.slots in omega (arith, (live_target slot is).0, many)
 
 -- A trial is at work: the field that it loads is one of the heap.
-module _ (w : Core) (kept : IsKept w) (phase : w.collector.phase ≡ Trying) where
-  now : collector_kept.IsTrying w.collector
-  now = now_at w Trying kept phase
+module _ (w : Core) (m : Machine) (kept : IsKept w) (phase : w.collector.phase ≡ Trying m) where
+  open w use {collector as c}
 
-  unswept : IsUnswept w.epoch Trying
+  now : collector_kept.IsTrying c m
+  now = now_at w (Trying m) kept phase
+
+  unswept : IsUnswept w.epoch (Trying m)
   unswept = record { way = refl; still = refl; applied = refl; older = refl; stands = λ s. refl; between = tt; some = tt }
 
-  loaded_inside : (place : ℕ) → ◌≡◌ {A = Option Op} (next_of w.collector.trial) (Some (LoadChild place)) → place < length w.words
-  loaded_inside place named =
-      subst (λ n. place < n) (fields_many w (length w.collector.counts.slots) w.collector.trial.fields kept kept.collector.slots (kept.collector.machine.trial_fields ∙ kept.collector.fields))
-      (at_work_place w.collector.trial w.collector.counts now.kept place named)
+  loaded_inside : (place : ℕ) → ◌≡◌ {A = Option Op} (next_of m) (Some (LoadChild place)) → place < length w.words
+  loaded_inside place named = subst (λ n. place < n) (fields_many w (length c.counts.slots) m.fields kept kept.collector.slots (now.fields ∙ kept.collector.fields)) (at_work_place m c.counts now.kept place named)
 
   -- and what it finds there leads to no slot that was given up
-  pub loaded_leads : (place : ℕ) → ◌≡◌ {A = Option Op} (next_of w.collector.trial) (Some (LoadChild place)) → LeadsToUnreleased w.collector.counts (slice_index_or w.words place 0)
-  loaded_leads place named = unreleased_target w place kept now.still now.unfreed (loaded_inside place named)
+  pub loaded_leads : (place : ℕ) → ◌≡◌ {A = Option Op} (next_of m) (Some (LoadChild place)) → LeadsToUnreleased c.counts (slice_index_or w.words place 0)
+  loaded_leads place named = unreleased_target w place kept (ap release_due phase) (ap freeing_due phase) (loaded_inside place named)
 
   -- where it has come to, words and crossing words are as they were
-  module _ (place : ℕ) (named : ◌≡◌ {A = Option Op} (next_of w.collector.trial) (Some (LoadChild place))) where
+  module _ (place : ℕ) (named : ◌≡◌ {A = Option Op} (next_of m) (Some (LoadChild place))) where
     abbrev found : ℕ
     found = slice_index_or w.words place 0
 
     abbrev after : Work
-    after = took_of (record { machine = w.collector.trial; counts = w.collector.counts }) found
+    after = took_of (record { machine = m; counts = c.counts }) found
 
-    pub trying_lands : HasLanded w w.crossing w.words (with_tried (parts_of w.collector) found)
+    pub trying_lands : HasLanded w w.crossing w.words (still (record (parts_of c) { counts = after.counts }))
     trying_lands =
-        let machine = kept.collector.machine in
         let leads = loaded_leads place named in
-        landed_alike (lands_here w Trying kept phase unswept) now.unfreed after.counts after.machine w.collector.prep
-        (tried_alike w.collector.counts after.counts (took_keeps w.collector.trial w.collector.counts now.kept found leads))
-        (took_counted w.collector.trial w.collector.counts now.kept now.busy found leads machine.counts)
-        (took_fields w.collector.trial w.collector.counts now.kept found leads ∙ machine.trial_fields ∙ kept.collector.fields)
-        (machine.prep_fields ∙ kept.collector.fields)
+        landed_alike (landed_still (parts_of c) c.phase (ap release_due phase) (ap freeing_due phase) (lands_here w (Trying m) kept phase unswept)) after.counts
+        (tried_alike c.counts after.counts (took_keeps m c.counts now.kept found leads)) (took_counted m c.counts now.kept now.busy found leads kept.collector.machine.counts)
 
     -- and its record goes with it
-    pub trying_loads : IsLoading (landed_pending w w.words (with_tried (parts_of w.collector) found).counts) (with_parts w.collector (with_tried (parts_of w.collector) found))
+    pub trying_loads : IsLoading (landed_pending w w.words after.counts) after.counts after.machine
     trying_loads =
-        let loading : IsLoading (pending w) w.collector = cycles_in w Trying kept phase in
-        let p : Pending = landed_pending w w.words w.collector.counts in
+        let loading : IsLoading (pending w) c.counts m = cycles_in w (Trying m) kept phase in
+        let p : Pending = landed_pending w w.words c.counts in
         let named_there : next_of loading.run.work.machine ≡ Some (LoadChild place) = ap (λ (x : Work). next_of x.machine) loading.at ∙ named in
         let stands : TrialStands p (noted loading.run (word_in p place))
-        = trial_stands_noted p w.config.fields loading.before loading.words loading.run place (lands_here w Trying kept phase unswept).accounted (here_done w kept) refl loading.trial named_there (loaded_inside place named)
-        (subst (λ (x : Pending). TrialStands x loading.run) (here_pending w Trying phase unswept) loading.stands) in
+        = trial_stands_noted p w.config.fields loading.before loading.words loading.run place (lands_here w (Trying m) kept phase unswept).accounted (here_done w kept) refl loading.trial named_there (loaded_inside place named)
+        (subst (λ (x : Pending). TrialStands x loading.run) (here_pending w (Trying m) phase unswept) loading.stands) in
         record {
           before = loading.before;
           words = loading.words ++ found ∷ [];
           run = noted loading.run found;
-          trial = took_promised w.config.fields loading.before loading.words loading.run w.collector.trial w.collector.counts found (loaded_leads place named) loading.at loading.trial;
-          at = took_recorded loading.run w.collector.trial w.collector.counts found after.machine after.counts loading.at refl;
+          trial = took_promised w.config.fields loading.before loading.words loading.run m c.counts found (loaded_leads place named) loading.at loading.trial;
+          at = took_recorded loading.run m c.counts found after.machine after.counts loading.at refl;
           stands = record { marks = stands.marks; blacks = stands.blacks };
         }
 
     -- whatever follows
-    pub trying_kept : (q : Private) (turn : Turn) → collector_kept.IsMachine q → TriesOn w.collector (with_tried (parts_of w.collector) found) q turn → IsKept (record w { collector = q })
-    trying_kept q turn machine on = tries_kept w w.crossing w.words q machine (with_tried (parts_of w.collector) found) turn trying_lands trying_loads now.unfreed on
+    pub trying_kept : (q : Private) (turn : Turn) → collector_kept.IsMachine q → TriesOn c (parts_of c) after q turn → IsKept (record w { collector = q })
+    trying_kept q turn machine on = tries_kept w w.crossing w.words q machine (parts_of c) after turn trying_lands trying_loads on

@@ -9,10 +9,13 @@ use Rattle.rec_word.specs.declared.op.Op.{Op}
 use Rattle.rec_word.specs.declared.op.Op.TheVariants.{LoadChild}
 use Rattle.rec_release.specs.declared.at.At.{At}
 use Rattle.rec_walk.specs.declared.member.Member.{Member}
+use Rattle.rec_release.specs.CycleFree.{Machine as SetFreeing}
+use Rattle.rec_release.specs.Release.{Machine as Release}
 use Rattle.rec_release.specs.Sweep.{swept}
+use Rattle.rec_sigma.specs.Prepare.{Machine as Preparation, took_of as loaded_of}
 use Rattle.rec_sigma.specs.declared.at.At as loads
-use Rattle.rec_trial.specs.Trial.{next_of as trial_next}
-use Rattle.rec_collector.specs.Followed.{relieved, with_freed, with_loaded, with_released, with_tried}
+use Rattle.rec_trial.specs.Trial.{Machine as Trial, next_of as trial_next, took_of as tried_of}
+use Rattle.rec_collector.specs.Followed.{with_freed, with_released}
 use Rattle.rec_collector.specs.Private.{Private, parts_of, spare}
 use Rattle.rec_collector.specs.Step.{ClearsOn, PreparesOn, TriesOn}
 use Rattle.rec_collector.specs.Testing.{zeros_released}
@@ -35,9 +38,9 @@ words_without w slot field = slice_set w.words (place_of slot field w.config.fie
 abbrev pub crossing_with : Core → (t : ℕ) → Mailbox → List ℕ
 crossing_with w t mailbox = slice_set w.crossing (t - 1) (crossing_word w.epoch mailbox)
 
--- after the sweep of a slot, with the slot that is swept next, and the phase that follows
+-- after the sweep of a slot, with the phase that follows
 abbrev pub swept_by : Private → (slot : ℕ) → Phase → Private
-swept_by c slot next = record c { counts = swept c.counts slot; due = slice_get (drop 1 c.counts.free) 0; freed = c.freed + 1; phase = next; turns = c.turns + 1 }
+swept_by c slot next = record c { counts = swept c.counts slot; freed = c.freed + 1; phase = next; turns = c.turns + 1 }
 
 -- with the header of a slot freed
 abbrev pub header_freed : Core → (slot : ℕ) → Core
@@ -53,15 +56,15 @@ pub data IsTurn (w v : Core) : Type 0 where
       → v ≡ record w { crossing = crossing_with w t Spare; collector = moved w.collector (Looking (t + 1)) } → IsTurn w v
   applies : (t : ℕ) (q : Private) (turn : Turn) → IsMutator w.config t → w.collector.phase ≡ Returning t → t ≡ length w.collector.newer
       → ClearsOn w.collector q turn (zeros_released false (batched w.collector)) → v ≡ record w { crossing = crossing_with w t Spare; collector = q } → IsTurn w v
-  releases : (a : At) (q : Private) (turn : Turn) → w.collector.phase ≡ Releasing → w.collector.release.at ≡ Some a
-      → ClearsOn w.collector q turn (with_released (parts_of w.collector) (word_at w a.slot a.field)) → v ≡ record w { words = words_without w a.slot a.field; collector = q } → IsTurn w v
-  frees : (a : Member) (q : Private) (turn : Turn) → w.collector.phase ≡ Freeing → w.collector.freeing.at ≡ Some a
-      → ClearsOn w.collector q turn (relieved (with_freed (parts_of w.collector) (word_at w a.slot a.field))) → v ≡ record w { words = words_without w a.slot a.field; collector = q } → IsTurn w v
-  tries : (place : ℕ) (q : Private) (turn : Turn) → w.collector.phase ≡ Trying → ◌≡◌ {A = Option Op} (trial_next w.collector.trial) (Some (LoadChild place))
-      → TriesOn w.collector (with_tried (parts_of w.collector) (slice_index_or w.words place 0)) q turn → v ≡ record w { collector = q } → IsTurn w v
-  prepares : (a : loads.At) (q : Private) (turn : Turn) → w.collector.phase ≡ Preparing → w.collector.prep.at ≡ Some a
-      → PreparesOn w.collector (with_loaded (parts_of w.collector) (word_at w a.member.slot a.member.field)) q turn → v ≡ record w { collector = q } → IsTurn w v
-  begins_sweep : w.collector.phase ≡ Opening → v ≡ record w { freed = w.freed + 1; collector = moved (record w.collector { due = slice_get w.collector.counts.free 0 }) (Sweeping 0) } → IsTurn w v
-  sweeps : (n slot : ℕ) (next : Phase) → w.collector.phase ≡ Sweeping n → w.collector.due ≡ Some slot → (next ≡ Sweeping (n + 1)) ⊎ (next ≡ Closing (n + 1))
+  releases : (m : Release) (a : At) (q : Private) (turn : Turn) → w.collector.phase ≡ Releasing m → m.at ≡ Some a
+      → ClearsOn w.collector q turn (with_released m (parts_of w.collector) (word_at w a.slot a.field)) → v ≡ record w { words = words_without w a.slot a.field; collector = q } → IsTurn w v
+  frees : (m : SetFreeing) (a : Member) (q : Private) (turn : Turn) → w.collector.phase ≡ Freeing m → m.at ≡ Some a
+      → ClearsOn w.collector q turn (with_freed m (parts_of w.collector) (word_at w a.slot a.field)) → v ≡ record w { words = words_without w a.slot a.field; collector = q } → IsTurn w v
+  tries : (m : Trial) (place : ℕ) (q : Private) (turn : Turn) → w.collector.phase ≡ Trying m → ◌≡◌ {A = Option Op} (trial_next m) (Some (LoadChild place))
+      → TriesOn w.collector (parts_of w.collector) (tried_of (record { machine = m; counts = w.collector.counts }) (slice_index_or w.words place 0)) q turn → v ≡ record w { collector = q } → IsTurn w v
+  prepares : (m : Preparation) (a : loads.At) (q : Private) (turn : Turn) → w.collector.phase ≡ Preparing m → m.at ≡ Some a
+      → PreparesOn w.collector (parts_of w.collector) (loaded_of (record { machine = m; counts = w.collector.counts }) (word_at w a.member.slot a.member.field)) q turn → v ≡ record w { collector = q } → IsTurn w v
+  begins_sweep : w.collector.phase ≡ Opening → v ≡ record w { freed = w.freed + 1; collector = moved w.collector (Sweeping (slice_get w.collector.counts.free 0) 0) } → IsTurn w v
+  sweeps : (n slot : ℕ) (next : Phase) → w.collector.phase ≡ Sweeping (Some slot) n → (next ≡ Sweeping (slice_get (drop 1 w.collector.counts.free) 0) (n + 1)) ⊎ (next ≡ Closing (n + 1))
       → v ≡ record w { headers = slice_set w.headers slot 0; collector = swept_by w.collector slot next } → IsTurn w v
   ends_sweep : (n : ℕ) → w.collector.phase ≡ Closing n → v ≡ record w { freed = w.freed + 1; collector = ended w.collector } → IsTurn w v

@@ -1,6 +1,5 @@
 -- Every turn of the collector keeps what every heap keeps, rule by rule; and so does every run.
-use Rattle.std.proofs.Common.{◌≡◌, ℕ, ◌+◌, ◌-◌, ◌*◌, ◌%◌, ◌^◌, ◌<◌, ◌≤◌, ◌==◌, Bool, true, List, Option, None, Some, length, drop, slice_index_or, slice_set, refl, sym, ap, subst, ◌∙◌, arith}
-use Rattle.std.specs.List.{slice_get}
+use Rattle.std.proofs.Common.{◌≡◌, ℕ, ◌+◌, ◌-◌, ◌*◌, ◌%◌, ◌^◌, ◌<◌, ◌≤◌, ◌==◌, Bool, true, List, Option, None, Some, length, slice_index_or, slice_set, refl, sym, ap, subst, ◌∙◌, arith}
 use Rattle.std.proofs.lemmas.Bool.{eq-eqb, ne_eqb, cond-true, cond-false}
 use Rattle.std.proofs.lemmas.List.{set-get_or}
 use Rattle.rec_word.specs.Mailbox.{crossing_word}
@@ -15,14 +14,16 @@ use Rattle.rec_walk.specs.declared.member.Member.{Member}
 use Rattle.rec_release.specs.CycleFree.{next_of as freeing_next, op_at as freeing_op_at}
 use Rattle.rec_release.specs.Release.{next_of as release_next, op_at as release_op_at}
 use Rattle.rec_release.specs.Sweep as sweeps
-use Rattle.rec_collector.specs.Followed.{relieved, with_freed, with_loaded, with_released, with_tried}
+use Rattle.rec_sigma.specs.Prepare.{took_of as loaded_of}
+use Rattle.rec_trial.specs.Trial.{took_of as tried_of}
+use Rattle.rec_collector.specs.Followed.{with_freed, with_released}
 use Rattle.rec_collector.specs.Kept as collector_kept
 use Rattle.rec_collector.specs.Next as collector_next
 use Rattle.rec_collector.specs.Private as collectors
 use Rattle.rec_collector.specs.Private.{parts_of}
 use Rattle.rec_collector.specs.Step.{Step, ClearsOn, TriesOn, PreparesOn, IsNext}
 use Rattle.rec_collector.specs.declared.phase.Phase.{Phase}
-use Rattle.rec_collector.specs.declared.phase.Phase.TheVariants.{Idle, Looking, Swapping, Returning, Releasing, Freeing, Trying, Preparing, Opening, Sweeping, Closing}
+use Rattle.rec_collector.specs.declared.phase.Phase.TheVariants.{Idle, Looking, Returning, Releasing, Freeing, Trying, Preparing, Opening, Sweeping, Closing}
 use Rattle.rec_collector.specs.declared.turn.Turn.{Turn}
 use Rattle.rec_core.specs.Cells.{cell}
 use Rattle.rec_core.specs.Config.{IsMutator}
@@ -56,17 +57,9 @@ freed_more w kept =
     small (w.freed + 1) (omega (arith, one_at_most w.collector.phase))
   where
     one_at_most : (phase : Phase) → one_if_sweeping phase ≤ 1
-    one_at_most Idle = omega arith
-    one_at_most (Looking t) = omega arith
-    one_at_most (Swapping t) = omega arith
-    one_at_most (Returning t) = omega arith
-    one_at_most Releasing = omega arith
-    one_at_most Freeing = omega arith
-    one_at_most Trying = omega arith
-    one_at_most Preparing = omega arith
-    one_at_most Opening = omega arith
-    one_at_most (Sweeping n) = omega arith
+    one_at_most (Sweeping due n) = omega arith
     one_at_most (Closing n) = omega arith
+    one_at_most _ = omega arith
 
     small : (n : ℕ) → n < 2 ^ 64 → n % 2 ^ 64 ≡ n
     small n below = grind (arith, below)
@@ -142,43 +135,44 @@ rule_kept w op word q turn m (Step.apply t returning last named on) =
     subst IsKept (sym (plain_left w op word q (Returning t) returning refl))
     (subst (λ o. IsKept (record (collected w o word q (box w 1)) { boxes = w.boxes })) (sym its)
     (subst (λ n. IsKept (record w { crossing = slice_set w.crossing (t - 1) (crossing_word n Spare); collector = q })) (sym epoch) whole))
-rule_kept w op word q turn m (Step.release releasing named on) = go w.collector.release.at refl
+rule_kept w op word q turn m (Step.release release releasing named on) = go release.at refl
   where
-    go : (x : Option At) → w.collector.release.at ≡ x → IsKept (collected w op word q (left_by w.collector word (box w (looked_at w.collector.phase)) w.collector.phase))
-    go None at = let not_so : ◌≡◌ {A = Option Op} (Some op) None = named ∙ ap (release_op_at w.collector.release.fields) at in absurd (cc)
+    go : (x : Option At) → release.at ≡ x → IsKept (collected w op word q (left_by w.collector word (box w (looked_at w.collector.phase)) w.collector.phase))
+    go None at = let not_so : ◌≡◌ {A = Option Op} (Some op) None = named ∙ ap (release_op_at release.fields) at in absurd (cc)
     go (Some a) at =
         let place : ℕ = place_of a.slot a.field w.config.fields in
-        let its : op ≡ ops.ClearField place = some_op op (ops.ClearField place) (named ∙ ap (release_op_at w.collector.release.fields) at ∙ ap (λ n. Some (ops.ClearField (place_of a.slot a.field n))) m.kept.collector.fields) in
+        let fields : release.fields ≡ w.config.fields = (now_at w (Releasing release) m.kept releasing).clearing.fields ∙ m.kept.collector.fields in
+        let its : op ≡ ops.ClearField place = some_op op (ops.ClearField place) (named ∙ ap (release_op_at release.fields) at ∙ ap (λ n. Some (ops.ClearField (place_of a.slot a.field n))) fields) in
         let found : word ≡ slice_index_or w.words place 0 = m.found ∙ ap (cell (cells_of w)) its in
-        let whole = clears_kept w w.crossing (slice_set w.words place 0) q m.machine turn (released_lands w a m.kept releasing at) (subst (λ n. ClearsOn w.collector q turn (with_released (parts_of w.collector) n)) found on) in
-        subst IsKept (sym (plain_left w op word q Releasing releasing refl)) (subst (λ o. IsKept (record (collected w o word q (box w 1)) { boxes = w.boxes })) (sym its) whole)
-rule_kept w op word q turn m (Step.freeing freeing named on) = go w.collector.freeing.at refl
+        let whole = clears_kept w w.crossing (slice_set w.words place 0) q m.machine turn (released_lands w release a m.kept releasing at) (subst (λ n. ClearsOn w.collector q turn (with_released release (parts_of w.collector) n)) found on) in
+        subst IsKept (sym (plain_left w op word q (Releasing release) releasing refl)) (subst (λ o. IsKept (record (collected w o word q (box w 1)) { boxes = w.boxes })) (sym its) whole)
+rule_kept w op word q turn m (Step.freeing freeing is_freeing named on) = go freeing.at refl
   where
-    go : (x : Option Member) → w.collector.freeing.at ≡ x → IsKept (collected w op word q (left_by w.collector word (box w (looked_at w.collector.phase)) w.collector.phase))
-    go None at = let not_so : ◌≡◌ {A = Option Op} (Some op) None = named ∙ ap (freeing_op_at w.collector.freeing.fields) at in absurd (cc)
+    go : (x : Option Member) → freeing.at ≡ x → IsKept (collected w op word q (left_by w.collector word (box w (looked_at w.collector.phase)) w.collector.phase))
+    go None at = let not_so : ◌≡◌ {A = Option Op} (Some op) None = named ∙ ap (freeing_op_at freeing.fields) at in absurd (cc)
     go (Some a) at =
         let place : ℕ = place_of a.slot a.field w.config.fields in
-        let fields : w.collector.freeing.fields ≡ w.config.fields = m.kept.collector.machine.freeing_fields ∙ m.kept.collector.fields in
-        let its : op ≡ ops.ClearField place = some_op op (ops.ClearField place) (named ∙ ap (freeing_op_at w.collector.freeing.fields) at ∙ ap (λ n. Some (ops.ClearField (place_of a.slot a.field n))) fields) in
+        let fields : freeing.fields ≡ w.config.fields = (now_at w (Freeing freeing) m.kept is_freeing).clearing.fields ∙ m.kept.collector.fields in
+        let its : op ≡ ops.ClearField place = some_op op (ops.ClearField place) (named ∙ ap (freeing_op_at freeing.fields) at ∙ ap (λ n. Some (ops.ClearField (place_of a.slot a.field n))) fields) in
         let found : word ≡ slice_index_or w.words place 0 = m.found ∙ ap (cell (cells_of w)) its in
-        let whole = clears_kept w w.crossing (slice_set w.words place 0) q m.machine turn (freed_lands w a m.kept freeing at) (subst (λ n. ClearsOn w.collector q turn (relieved (with_freed (parts_of w.collector) n))) found on) in
-        subst IsKept (sym (plain_left w op word q Freeing freeing refl)) (subst (λ o. IsKept (record (collected w o word q (box w 1)) { boxes = w.boxes })) (sym its) whole)
-rule_kept w op word q turn m (Step.trial trying named on) =
-    let (place, its) = loads_child w.collector.trial op named in
+        let whole = clears_kept w w.crossing (slice_set w.words place 0) q m.machine turn (freed_lands w freeing a m.kept is_freeing at) (subst (λ n. ClearsOn w.collector q turn (with_freed freeing (parts_of w.collector) n)) found on) in
+        subst IsKept (sym (plain_left w op word q (Freeing freeing) is_freeing refl)) (subst (λ o. IsKept (record (collected w o word q (box w 1)) { boxes = w.boxes })) (sym its) whole)
+rule_kept w op word q turn m (Step.trial trial trying named on) =
+    let (place, its) = loads_child trial op named in
     let found : word ≡ slice_index_or w.words place 0 = m.found ∙ ap (cell (cells_of w)) its in
     let stays : slice_set w.words place word ≡ w.words = ap (slice_set w.words place) found ∙ set-get_or w.words place 0 in
-    let whole = trying_kept w m.kept trying place (sym named ∙ ap (λ o. Some o) its) q turn m.machine (subst (λ n. TriesOn w.collector (with_tried (parts_of w.collector) n) q turn) found on) in
-    subst IsKept (sym (plain_left w op word q Trying trying refl))
+    let whole = trying_kept w trial m.kept trying place (sym named ∙ ap (λ o. Some o) its) q turn m.machine (subst (λ n. TriesOn w.collector (parts_of w.collector) (tried_of (record { machine = trial; counts = w.collector.counts }) n) q turn) found on) in
+    subst IsKept (sym (plain_left w op word q (Trying trial) trying refl))
     (subst (λ o. IsKept (record (collected w o word q (box w 1)) { boxes = w.boxes })) (sym its) (subst (λ ws. IsKept (record w { words = ws; collector = q })) (sym stays) whole))
-rule_kept w op word q turn m (Step.preparation preparing named on) =
-    let (a, at, due) = loads_due w.collector.prep op (sym named) in
+rule_kept w op word q turn m (Step.preparation prep preparing named on) =
+    let (a, at, due) = loads_due prep op (sym named) in
     let place : ℕ = place_of a.member.slot a.member.field w.config.fields in
-    let fields : w.collector.prep.fields ≡ w.config.fields = m.kept.collector.machine.prep_fields ∙ m.kept.collector.fields in
+    let fields : prep.fields ≡ w.config.fields = (now_at w (Preparing prep) m.kept preparing).fields ∙ m.kept.collector.fields in
     let its : op ≡ ops.LoadChild place = due ∙ ap (λ n. ops.LoadChild (place_of a.member.slot a.member.field n)) fields in
     let found : word ≡ slice_index_or w.words place 0 = m.found ∙ ap (cell (cells_of w)) its in
     let stays : slice_set w.words place word ≡ w.words = ap (slice_set w.words place) found ∙ set-get_or w.words place 0 in
-    let whole = preparing_kept w m.kept preparing a at q turn m.machine (subst (λ n. PreparesOn w.collector (with_loaded (parts_of w.collector) n) q turn) found on) in
-    subst IsKept (sym (plain_left w op word q Preparing preparing refl))
+    let whole = preparing_kept w prep m.kept preparing a at q turn m.machine (subst (λ n. PreparesOn w.collector (parts_of w.collector) (loaded_of (record { machine = prep; counts = w.collector.counts }) n) q turn) found on) in
+    subst IsKept (sym (plain_left w op word q (Preparing prep) preparing refl))
     (subst (λ o. IsKept (record (collected w o word q (box w 1)) { boxes = w.boxes })) (sym its) (subst (λ ws. IsKept (record w { words = ws; collector = q })) (sym stays) whole))
 rule_kept w op word q turn m (Step.begin_sweep opening named g) =
     let its : op ≡ ops.AddFreed = some_op op ops.AddFreed named in
@@ -189,26 +183,22 @@ rule_kept w op word q turn m (Step.begin_sweep opening named g) =
     (subst (λ o. IsKept (record (collected w o word q (box w 1)) { boxes = w.boxes })) (sym its)
     (subst (λ n. IsKept (record w { freed = n; collector = q })) (sym more) (subst (λ x. IsKept (record w { freed = w.freed + 1; collector = x })) (sym (begun_after g.after)) whole)))
   where
-    begun_after : q ≡ record w.collector { due = (sweeps.started_of w.collector.counts).due; counts = (sweeps.started_of w.collector.counts).counts; phase = Sweeping 0; turns = w.collector.turns + 1 }
-        → q ≡ record w.collector { due = (sweeps.started_of w.collector.counts).due; phase = Sweeping 0; turns = w.collector.turns + 1 }
+    begun_after : q ≡ record w.collector { counts = (sweeps.started_of w.collector.counts).counts; phase = Sweeping (sweeps.started_of w.collector.counts).due 0; turns = w.collector.turns + 1 }
+        → q ≡ record w.collector { phase = Sweeping (sweeps.started_of w.collector.counts).due 0; turns = w.collector.turns + 1 }
     begun_after is = is
-rule_kept w op word q turn m (Step.sweep swept u next sweeping named took follows g) = go w.collector.due refl
+rule_kept w op word q turn m (Step.sweep None swept u next sweeping named took follows g) = let not_so : ◌≡◌ {A = Option Op} (Some op) None = named in absurd (cc)
+rule_kept w op word q turn m (Step.sweep (Some x) swept u next sweeping named took follows g) =
+    let its : op ≡ ops.FreeHeader x = some_op op (ops.FreeHeader x) named in
+    let after : q ≡ record w.collector { counts = sweeps.swept w.collector.counts x; freed = w.collector.freed + 1; phase = next; turns = w.collector.turns + 1 }
+    = g.after ∙ ap (λ (v : sweeps.Work). record w.collector { counts = v.counts; freed = w.collector.freed + 1; phase = next; turns = w.collector.turns + 1 }) took in
+    let whole = swept_kept w swept x m.kept sweeping next (still next follows) (subst collector_kept.IsMachine after m.machine) in
+    subst IsKept (sym (plain_left w op word q (Sweeping (Some x) swept) sweeping refl))
+    (subst (λ o. IsKept (record (collected w o word q (box w 1)) { boxes = w.boxes })) (sym its)
+    (subst (λ y. IsKept (record w { headers = slice_set w.headers x 0; collector = y })) (sym after) whole))
   where
-    still : (n : Phase) → IsNext swept u n → (x : ℕ) (due : w.collector.due ≡ Some x) → IsStillSweeping w swept x m.kept sweeping due n
-    still n (IsNext.more some is) x due = subst (IsStillSweeping w swept x m.kept sweeping due) (sym is) (record { sweeping = refl; way = refl; applied = λ e. refl; older = λ e. refl; stands = λ s. refl; between = tt; some = tt; waits = λ p d h. h })
-    still n (IsNext.last none is) x due = subst (IsStillSweeping w swept x m.kept sweeping due) (sym is) (record { sweeping = refl; way = refl; applied = λ e. refl; older = λ e. refl; stands = λ s. refl; between = tt; some = omega arith; waits = λ p d h. h })
-
-    go : (x : Option ℕ) → w.collector.due ≡ x → IsKept (collected w op word q (left_by w.collector word (box w (looked_at w.collector.phase)) w.collector.phase))
-    go None due = let not_so : ◌≡◌ {A = Option Op} (Some op) None = named ∙ ap sweeps.next_of due in absurd (cc)
-    go (Some x) due =
-        let its : op ≡ ops.FreeHeader x = some_op op (ops.FreeHeader x) (named ∙ ap sweeps.next_of due) in
-        let work : u ≡ record { due = slice_get (drop 1 w.collector.counts.free) 0; counts = sweeps.swept w.collector.counts x } = took ∙ ap (λ (o : Option ℕ). sweeps.took_at (record { due = w.collector.due; counts = w.collector.counts }) o) due in
-        let after : q ≡ record w.collector { counts = sweeps.swept w.collector.counts x; due = slice_get (drop 1 w.collector.counts.free) 0; freed = w.collector.freed + 1; phase = next; turns = w.collector.turns + 1 }
-        = g.after ∙ ap (λ (v : sweeps.Work). record w.collector { due = v.due; counts = v.counts; freed = w.collector.freed + 1; phase = next; turns = w.collector.turns + 1 }) work in
-        let whole = swept_kept w swept x m.kept sweeping due (slice_get (drop 1 w.collector.counts.free) 0) next (still next follows x due) (subst collector_kept.IsMachine after m.machine) in
-        subst IsKept (sym (plain_left w op word q (Sweeping swept) sweeping refl))
-        (subst (λ o. IsKept (record (collected w o word q (box w 1)) { boxes = w.boxes })) (sym its)
-        (subst (λ y. IsKept (record w { headers = slice_set w.headers x 0; collector = y })) (sym after) whole))
+    still : (n : Phase) → IsNext swept u n → IsStillSweeping w swept x m.kept sweeping n
+    still n (IsNext.more some is) = subst (IsStillSweeping w swept x m.kept sweeping) (sym is) (record { sweeping = refl; way = refl; applied = λ e. refl; older = λ e. refl; stands = λ s. refl; between = tt; some = tt; waits = λ p d h. h })
+    still n (IsNext.last none is) = subst (IsStillSweeping w swept x m.kept sweeping) (sym is) (record { sweeping = refl; way = refl; applied = λ e. refl; older = λ e. refl; stands = λ s. refl; between = tt; some = omega arith; waits = λ p d h. h })
 rule_kept w op word q turn m (Step.end_sweep swept closing named e) =
     let its : op ≡ ops.AddFreed = some_op op ops.AddFreed named in
     let found : word ≡ w.freed = m.found ∙ ap (cell (cells_of w)) its in

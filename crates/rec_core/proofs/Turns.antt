@@ -1,18 +1,20 @@
 -- The turns of the collector that neither count nor release keep what every heap keeps: requests, waits, gathering, and the ends
 -- of a sweep.
-use Rattle.std.proofs.Common.{◌≡◌, ◌≢◌, inl, inr, ℕ, ◌+◌, ◌-◌, ◌^◌, ◌<◌, ◌≤◌, ◌==◌, nat_lt, if◌then◌else◌, Bool, List, length, slice_index_or, slice_set, refl, sym, ap, subst, ◌∙◌, arith}
+use Rattle.std.proofs.Common.{◌≡◌, ◌≢◌, ◌⊎◌, inl, inr, ℕ, ◌+◌, ◌-◌, ◌^◌, ◌<◌, ◌≤◌, ◌==◌, nat_lt, if◌then◌else◌, Bool, true, List, length, slice_index_or, slice_set, refl, sym, ap, subst, ◌∙◌, arith}
 use Rattle.std.specs.List.{sum_by, flat_map}
 use Rattle.std.proofs.lemmas.Bool.{cases_eq, cases_lt, eq-eqb, ne_eqb, lt-ltb, le-ltb, cond-true, cond-false}
 use Rattle.std.proofs.lemmas.List.{length-set, get_or-set_same, get_or-set_other}
 use Rattle.std.proofs.lemmas.List.Sums.{sum_by-set}
 use Rattle.rec_word.specs.Mailbox.{crossing_word}
 use Rattle.rec_word.specs.declared.mailbox.Mailbox.TheVariants.{Retired, Spare, WithCollector, WithMutator}
+use Rattle.rec_word.specs.Place.{place_of}
 use Rattle.rec_model.specs.Accounted.{IsAccounted, HasUncountedReleased}
 use Rattle.rec_model.specs.Moves.{Move, Drops, Requests}
 use Rattle.rec_model.specs.Pending.{Write, Dated, Pending}
 use Rattle.rec_model.proofs.Consequences.{move_uncounted}
 use Rattle.rec_model.proofs.Moving.{move_accounted}
 use Rattle.rec_log.specs.declared.contents.Contents.{Contents}
+use Rattle.rec_counts.specs.Counts.{slot_at}
 use Rattle.rec_mutator.specs.Private.{Private}
 use Rattle.rec_collector.specs.Private as collectors
 use Rattle.rec_collector.specs.Kept as collector_kept
@@ -22,7 +24,7 @@ use Rattle.rec_core.specs.Config.{IsMutator}
 use Rattle.rec_core.specs.Core.{Core, mutator, box, crossing_of, spare_of, nobody}
 use Rattle.rec_core.specs.Cycles.{SetsWait}
 use Rattle.rec_core.specs.CyclesAt.{HasCyclesAt}
-use Rattle.rec_core.specs.Kept.{IsBufferOf, Stand, stand_at, HasCrossed, IsHandshake, IsActor, HasMutators, HasCollector, IsKept, one_if_sweeping}
+use Rattle.rec_core.specs.Kept.{IsBufferOf, IsLeft, IsLeftOf, Stand, stand_at, HasCrossed, IsHandshake, IsActor, HasMutators, HasCollector, IsKept, freeing_due, one_if_sweeping, release_due}
 use Rattle.rec_core.specs.Pending.{Filed, writes_in, births_in, dated_names, older_at, buffers, pending, applied_at, slot_of}
 use Rattle.rec_core.specs.declared.config.Config.{Config}
 use Rattle.rec_core.proofs.Actors.{spare_buffer, settled_here}
@@ -65,6 +67,12 @@ cycles_in w phase kept is = subst (HasCyclesAt (pending w) w.collector) is kept.
 -- and that no member of theirs is given up before the next batch
 pub alive_in : (w : Core) (phase : Phase) → IsKept w → w.collector.phase ≡ phase → AreAliveAt (λ node. (slot_of w node).released) w.collector.counts phase
 alive_in w phase kept is = machine_alive w.collector phase kept.collector.machine (now_at w phase kept is)
+
+-- which fields of slots that were given up are still to be emptied, in that phase
+pub emptied_in : (w : Core) (phase : Phase) → IsKept w → w.collector.phase ≡ phase → (x f : ℕ) → x < w.config.slots → f < w.config.fields → (slot_at w.collector.counts x).released ≡ true
+    → IsLeft (release_due phase) x f ⊎ (IsLeftOf w.collector.counts.work (freeing_due phase) x f ⊎ (slice_index_or w.words (place_of x f w.config.fields) 0 ≡ 0))
+emptied_in w phase kept is x f below within released =
+    subst (λ (p : Phase). IsLeft (release_due p) x f ⊎ (IsLeftOf w.collector.counts.work (freeing_due p) x f ⊎ (slice_index_or w.words (place_of x f w.config.fields) 0 ≡ 0))) is (kept.collector.emptied x f below within released)
 
 -- a mutator's number, by its place
 pub numbered : (w : Core) (i : ℕ) → IsKept w → i < w.config.mutators → IsMutator w.config (i + 1)
@@ -177,14 +185,14 @@ module _ (w : Core) (c : collectors.Private) (kept : IsKept w) (idle : w.collect
               subst (IsBufferOf w.config (w.epoch + 1 - 1)) (sym (spare_newer (t - 1) (omega (arith, is.0, is.1)))) (spare_buffer w.config (w.epoch + 1 - 1));
           older = λ t is. subst (λ e. IsBufferOf w.config e (collectors.buffer_at w.collector.older (t - 1))) (last ∙ sym same) (k.older t is);
           listed = k.listed;
-          emptied = k.emptied;
+          emptied = emptied_in w Idle kept idle;
         };
         sweeps = record { odd = kept.sweeps.odd ∙ none; few = omega (arith, kept.sweeps.few, none); some = tt };
         scans = kept.scans;
         made = kept.made;
         sound = kept.sound;
         accounted = move_accounted (Move.request requests) kept.accounted;
-        uncounted = λ unfreed. move_uncounted (Move.request requests) kept.accounted (kept.uncounted unfreed);
+        uncounted = λ _. move_uncounted (Move.request requests) kept.accounted (kept.uncounted (ap freeing_due idle));
         cycles = sets_wait_moved w.collector.counts (Move.request requests) tt kept.accounted (alive_in w Idle kept idle) (cycles_in w Idle kept idle);
       }
 
@@ -371,14 +379,14 @@ module _ (w : Core) (t : ℕ) (kept : IsKept w) (phase : w.collector.phase ≡ L
           ];
           older = λ s there. subst (λ e. IsBufferOf w.config e (collectors.buffer_at w.collector.older (s - 1))) older (k.older s there);
           listed = k.listed;
-          emptied = k.emptied;
+          emptied = emptied_in w (Looking t) kept phase;
         };
         sweeps = record { odd = kept.sweeps.odd ∙ none; few = omega (arith, kept.sweeps.few, none); some = tt };
         scans = kept.scans;
         made = kept.made;
         sound = kept.sound;
         accounted = subst (λ n. IsAccounted (record (pending gathered) { applied = n })) applied (move_accounted (Move.dropping drops) kept.accounted);
-        uncounted = λ unfreed. move_uncounted (Move.dropping drops) kept.accounted (kept.uncounted unfreed);
+        uncounted = λ _. move_uncounted (Move.dropping drops) kept.accounted (kept.uncounted (ap freeing_due phase));
         cycles = subst (λ n. SetsWait (record (pending gathered) { applied = n }) w.collector.counts) applied
             (sets_wait_moved w.collector.counts (Move.dropping drops) tt kept.accounted (alive_in w (Looking t) kept phase) (cycles_in w (Looking t) kept phase));
       }
@@ -438,13 +446,13 @@ module _ (w : Core) (t : ℕ) (kept : IsKept w) (phase : w.collector.phase ≡ R
           newer = k.newer;
           older = λ s there. subst (λ e. IsBufferOf w.config e (collectors.buffer_at w.collector.older (s - 1))) older (k.older s there);
           listed = k.listed;
-          emptied = k.emptied;
+          emptied = emptied_in w (Returning t) kept phase;
         };
         sweeps = record { odd = kept.sweeps.odd ∙ none; few = omega (arith, kept.sweeps.few, none); some = tt };
         scans = kept.scans;
         made = kept.made;
         sound = kept.sound;
         accounted = subst IsAccounted (sym same) kept.accounted;
-        uncounted = λ unfreed. subst HasUncountedReleased (sym same) (kept.uncounted unfreed);
+        uncounted = λ _. subst HasUncountedReleased (sym same) (kept.uncounted (ap freeing_due phase));
         cycles = subst (λ x. SetsWait x w.collector.counts) (sym same) (cycles_in w (Returning t) kept phase);
       }

@@ -140,12 +140,12 @@ may_step w t kept is busy =
     spared _ here between = none (subst TakesNone (sym here) tt)
 
 -- what the collector names is there
-pub collector_within : (w : Core) (op : Op) → IsKept w → collector_step.NamesWord (length w.collector.counts.slots) w.collector.release.fields (length w.collector.newer) op → IsWithin (cells_of w) op
+pub collector_within : (w : Core) (op : Op) → IsKept w → collector_step.NamesWord (length w.collector.counts.slots) w.collector.fields (length w.collector.newer) op → IsWithin (cells_of w) op
 collector_within w (ops.StoreEpoch e) kept names = tt
 collector_within w (ops.LookBox t e) kept names = (names.0, subst (λ n. t ≤ n) (kept.collector.mutators ∙ sym kept.mutators.words) names.1)
 collector_within w (ops.ReturnBox t e) kept names = (names.0, subst (λ n. t ≤ n) (kept.collector.mutators ∙ sym kept.mutators.words) names.1)
-collector_within w (ops.LoadChild place) kept names = subst (λ n. place < n) (fields_many w (length w.collector.counts.slots) w.collector.release.fields kept kept.collector.slots kept.collector.fields) names
-collector_within w (ops.ClearField place) kept names = subst (λ n. place < n) (fields_many w (length w.collector.counts.slots) w.collector.release.fields kept kept.collector.slots kept.collector.fields) names
+collector_within w (ops.LoadChild place) kept names = subst (λ n. place < n) (fields_many w (length w.collector.counts.slots) w.collector.fields kept kept.collector.slots kept.collector.fields) names
+collector_within w (ops.ClearField place) kept names = subst (λ n. place < n) (fields_many w (length w.collector.counts.slots) w.collector.fields kept kept.collector.slots kept.collector.fields) names
 collector_within w (ops.FreeHeader slot) kept names = subst (λ n. slot < n) (kept.collector.slots ∙ sym kept.headers) names
 collector_within w ops.AddFreed kept names = tt
 collector_within w _ kept names = absurd names
@@ -154,6 +154,6 @@ collector_within w _ kept names = absurd names
 pub may_turn : (w : Core) → IsKept w → IfSome (collector_next.next_of w.collector) (MayTurn w)
 may_turn w kept = go (collector_next.next_of w.collector) refl (collector_words.names_word w.collector kept.collector.machine)
   where
-    go : (x : Option Op) → collector_next.next_of w.collector ≡ x → IfSome x (collector_step.NamesWord (length w.collector.counts.slots) w.collector.release.fields (length w.collector.newer)) → IfSome x (MayTurn w)
+    go : (x : Option Op) → collector_next.next_of w.collector ≡ x → IfSome x (collector_step.NamesWord (length w.collector.counts.slots) w.collector.fields (length w.collector.newer)) → IfSome x (MayTurn w)
     go None none names = tt
     go (Some op) named names = record { within = collector_within w op kept names; given = given_is w op kept named; sized = sized_is w kept }

@@ -25,7 +25,7 @@ use Rattle.rec_collector.specs.Private as collectors
 use Rattle.rec_collector.specs.Kept as collector_kept
 use Rattle.rec_collector.specs.Step as collector_step
 use Rattle.rec_collector.specs.declared.phase.Phase.{Phase}
-use Rattle.rec_collector.specs.declared.phase.Phase.TheVariants.{Looking, Swapping, Returning, Sweeping, Closing}
+use Rattle.rec_collector.specs.declared.phase.Phase.TheVariants.{Looking, Swapping, Returning, Releasing, Freeing, Sweeping, Closing}
 use Rattle.rec_core.specs.Config.{IsConfig, IsMutator, HasLabel}
 use Rattle.rec_core.specs.Core.{Core, sight, spare_of, nobody}
 use Rattle.rec_core.specs.CyclesAt.{HasCyclesAt}
@@ -133,13 +133,22 @@ abbrev pub IsLeftOf : (members : List ℕ) → Option Member → (slot f : ℕ) 
 IsLeftOf members None slot f = ⊥
 IsLeftOf members (Some a) slot f = (index : ℕ) × (a.index ≤ index) × (index < length members) × (slot ≡ slice_index_or members index 0) × (index ≡ a.index → a.field ≤ f)
 
+-- the fields that are due, of a slot that is released and of a member of the set that is freed
+abbrev pub release_due : Phase → Option At
+release_due (Releasing release) = release.at
+release_due _ = None
+
+abbrev pub freeing_due : Phase → Option Member
+freeing_due (Freeing freeing) = freeing.at
+freeing_due _ = None
+
 -- what is known of the collector: its machine is one, of the sizes of this heap; its buffers are of the last two epochs; its free
 -- list has released slots, and the fields of released slots are emptied, but for those that are still to be
 pub record HasCollector (config : Config) (requested : ℕ) (words : List ℕ) (c : collectors.Private) : Type 0 where
   pub machine : collector_kept.IsMachine c
   pub between : collector_step.IsBetween c.phase
   pub slots : length c.counts.slots ≡ config.slots
-  pub fields : c.release.fields ≡ config.fields
+  pub fields : c.fields ≡ config.fields
   pub registers : c.registers ≡ config.registers
   pub capacity : c.capacity ≡ config.log_entries
   pub mutators : length c.newer ≡ config.mutators
@@ -148,11 +157,11 @@ pub record HasCollector (config : Config) (requested : ℕ) (words : List ℕ) (
   pub newer : (t : ℕ) → IsMutator config t → IsBufferOf config (requested - 1) (collectors.buffer_at c.newer (t - 1))
   pub older : (t : ℕ) → IsMutator config t → IsBufferOf config (older_at requested c.phase) (collectors.buffer_at c.older (t - 1))
   pub listed : (x : ℕ) → 0 < times x c.counts.free → (slot_at c.counts x).released ≡ true
-  pub emptied : (x f : ℕ) → x < config.slots → f < config.fields → (slot_at c.counts x).released ≡ true → IsLeft c.release.at x f ⊎ (IsLeftOf c.counts.work c.freeing.at x f ⊎ (slice_index_or words (place_of x f config.fields) 0 ≡ 0))
+  pub emptied : (x f : ℕ) → x < config.slots → f < config.fields → (slot_at c.counts x).released ≡ true → IsLeft (release_due c.phase) x f ⊎ (IsLeftOf c.counts.work (freeing_due c.phase) x f ⊎ (slice_index_or words (place_of x f config.fields) 0 ≡ 0))
 
 -- a sweep runs
 abbrev pub is_sweeping : Phase → Bool
-is_sweeping (Sweeping swept) = true
+is_sweeping (Sweeping due swept) = true
 is_sweeping (Closing swept) = true
 is_sweeping _ = false
 
@@ -202,5 +211,5 @@ pub record IsKept (w : Core) : Type 0 where
   pub sound : IsSound (sight w)
   pub accounted : IsAccounted (pending w)
   -- what was given up has no count, but while a set is freed
-  pub uncounted : w.collector.freeing.at ≡ None → HasUncountedReleased (pending w)
+  pub uncounted : freeing_due w.collector.phase ≡ None → HasUncountedReleased (pending w)
   pub cycles : HasCyclesAt (pending w) w.collector w.collector.phase

@@ -8,6 +8,7 @@ use Rattle.rec_model.specs.Sets.{Cleared}
 use Rattle.rec_walk.specs.Load.{Load}
 use Rattle.rec_collector.specs.Next.{next_of}
 use Rattle.rec_collector.specs.Touched.{named_by, tried_at}
+use Rattle.rec_collector.specs.declared.phase.Phase.{Phase}
 use Rattle.rec_collector.specs.declared.phase.Phase.TheVariants.{Trying, Preparing}
 use Rattle.rec_core.specs.Cells.{cell}
 use Rattle.rec_core.specs.Core.{Core, cells_of}
@@ -82,9 +83,18 @@ abbrev pub named_over : Core → List Move → (x : ℕ) → ℕ
 named_over w [] x = 0
 named_over w (m ∷ ms) x = named_in w m x + named_over (after_move w m) ms x
 
+-- a trial is at work, and a preparation is
+abbrev pub IsTrying : Phase → Type 0
+IsTrying (Trying trial) = Unit {0}
+IsTrying _ = ⊥
+
+abbrev pub IsPreparing : Phase → Type 0
+IsPreparing (Preparing prep) = Unit {0}
+IsPreparing _ = ⊥
+
 -- with the turn that comes next a trial is over, and the preparation of its sets begins
 abbrev pub BeginsPreparing : Core → Type 0
-BeginsPreparing w = (w.collector.phase ≡ Trying) × ((turned w).collector.phase ≡ Preparing)
+BeginsPreparing w = IsTrying w.collector.phase × IsPreparing (turned w).collector.phase
 
 -- what was loaded, as the load of a slot's field
 abbrev pub load_of : (fields : ℕ) → Loaded → Load

@@ -7,13 +7,14 @@ use Rattle.rec_counts.specs.Lists.{one}
 use Rattle.rec_apply.specs.Targets.{named}
 use Rattle.rec_walk.specs.Walk.{places_left}
 use Rattle.rec_walk.specs.Load.{Load}
+use Rattle.rec_release.specs.CycleFree as frees
+use Rattle.rec_sigma.specs.Prepare as preps
 use Rattle.rec_sigma.specs.Prepared.{PreparedTo}
 use Rattle.rec_trial.specs.Loaded.{Run}
 use Rattle.rec_trial.specs.Promised.{IsTrial}
 use Rattle.rec_trial.specs.Still.{AreStill}
 use Rattle.rec_trial.specs.Trial.{Work}
-use Rattle.rec_collector.specs.Parts.{Parts}
-use Rattle.rec_collector.specs.Private.{Private, parts_of}
+use Rattle.rec_collector.specs.Private.{Private}
 use Rattle.rec_collector.specs.declared.phase.Phase.{Phase}
 use Rattle.rec_collector.specs.declared.phase.Phase.TheVariants.{Idle, Looking, Swapping, Returning, Releasing, Freeing, Trying, Preparing, Opening, Sweeping, Closing}
 use Rattle.rec_core.specs.Core.{Core, sight}
@@ -45,12 +46,12 @@ abbrev pub AreUnnamed : Core → State → Type 0
 AreUnnamed w s = (x i : ℕ) → (slot_at s x).set ≡ Some i → holds (sight w) x ≡ 0
 
 -- A trial to which every slot was offered is at work, and each word that it loaded stands.
-pub record TrialRests (w : Core) (words : List ℕ) (v : Parts) : Type 0 where
+pub record TrialRests (w : Core) (words : List ℕ) (v : Work) : Type 0 where
   pub before : State
   pub loaded : List ℕ
   pub run : Run
   pub trial : IsTrial w.config.fields before loaded run
-  pub at : ◌≡◌ {A = Work} run.work (record { machine = v.trial; counts = v.counts })
+  pub at : ◌≡◌ {A = Work} run.work v
   pub marks : AreStill (word_in w.config.fields words) run.marking
   pub blacks : AreStill (word_in w.config.fields words) run.blackening
   pub finds : AreStill (word_in w.config.fields words) run.collecting
@@ -58,11 +59,11 @@ pub record TrialRests (w : Core) (words : List ℕ) (v : Parts) : Type 0 where
   pub emptied : AreEmptied w.config.fields words [] before
 
 -- The sets that it found are prepared: its members are just what is not within reach.
-pub record PrepRests (w : Core) (words : List ℕ) (v : Parts) : Type 0 where
+pub record PrepRests (w : Core) (words : List ℕ) (v : preps.Work) : Type 0 where
   pub before : State
   pub before_kept : IsKept before
   pub loads : List Load
-  pub prepares : PreparedTo w.config.fields before v.prep.at v.counts loads
+  pub prepares : PreparedTo w.config.fields before v.machine.at v.counts loads
   pub are_loads : AreLoadsOf w.config.fields words loads
   pub counted : (x i : ℕ) → (slot_at before x).set ≡ Some i → (slot_at before x).count ≡ heap_sum words x
   pub back : LeadBack w.config.fields words [] before
@@ -76,11 +77,9 @@ pub record SetsRest (w : Core) (words left : List ℕ) (s : State) : Type 0 wher
   pub found : AreFound w words s
   pub unnamed : AreUnnamed w s
 
--- The last set passed its tests, and its fields are exchanged. Nothing came to the zeros.
-pub record FreesRest (w : Core) (words : List ℕ) (v : Parts) : Type 0 where
-  pub sets : SetsRest w words (places_left v.freeing.fields v.counts.work v.freeing.at) v.counts
-  pub zeros : v.counts.zeros ≡ []
-  pub still : v.release.at ≡ None
+-- The last set passed its tests, and its fields are exchanged.
+abbrev pub FreesRest : Core → (words : List ℕ) → frees.Work → Type 0
+FreesRest w words v = SetsRest w words (places_left v.machine.fields v.counts.work v.machine.at) v.counts
 
 -- Every slot is to be offered to a trial; the collection that makes it is the first, the one that frees its sets the second; then
 -- nothing is left to do.
@@ -96,10 +95,10 @@ next_round Round.Second = Round.Over
 next_round Round.Over = Round.Over
 
 abbrev pub RestsFirst : Core → (words : List ℕ) → Private → Phase → Type 0
-RestsFirst w words c Trying = TrialRests w words (parts_of c)
-RestsFirst w words c Preparing = PrepRests w words (parts_of c)
+RestsFirst w words c (Trying trial) = TrialRests w words (record { machine = trial; counts = c.counts })
+RestsFirst w words c (Preparing prep) = PrepRests w words (record { machine = prep; counts = c.counts })
 RestsFirst w words c Opening = SetsRest w words [] c.counts
-RestsFirst w words c (Sweeping n) = SetsRest w words [] c.counts
+RestsFirst w words c (Sweeping due n) = SetsRest w words [] c.counts
 RestsFirst w words c (Closing n) = SetsRest w words [] c.counts
 RestsFirst w words c _ = c.offers ≡ true
 
@@ -108,8 +107,8 @@ RestsSecond w words c Idle = SetsRest w words [] c.counts
 RestsSecond w words c (Looking t) = SetsRest w words [] c.counts
 RestsSecond w words c (Swapping t) = SetsRest w words [] c.counts
 RestsSecond w words c (Returning t) = SetsRest w words [] c.counts
-RestsSecond w words c Releasing = ⊥
-RestsSecond w words c Freeing = FreesRest w words (parts_of c)
+RestsSecond w words c (Releasing release) = ⊥
+RestsSecond w words c (Freeing freeing) = FreesRest w words (record { machine = freeing; counts = c.counts })
 RestsSecond w words c _ = AreWithinReach w words c.counts
 
 -- what is known in each phase of each round

@@ -1,4 +1,5 @@
 use crate::fact::Fact;
+use crate::stage::Stage;
 use rec_collector::Turn;
 use rec_model::{Answer, Cmd, Told};
 use rec_mutator::{Made, Work};
@@ -27,8 +28,8 @@ pub enum Event {
     Frees(u64),
     /// Turns, and polls of whoever the collector waits for, to the end of a collection, which has swept so many slots.
     Ends(u32),
-    /// Turns, and polls of whoever the collector waits for, until the collector comes to this phase.
-    Reaches(&'static str),
+    /// Turns, and polls of whoever the collector waits for, until the collection has come so far.
+    Reaches(Stage),
     /// Every slot is to be offered to the next trial.
     Offers,
     /// The heap is settled, and this is told.

@@ -6,6 +6,7 @@ ghost use Rattle.rec_core.specs.Core.{mutator};
 use crate::event::Event;
 use crate::fact::{is_so, is_there};
 use crate::settled::settled;
+use crate::stage::{Stage, is_at};
 use rec_collector::Turn;
 use rec_model::{Cmd, Told};
 use rec_mutator::{Made, Work};
@@ -40,7 +41,6 @@ pub fn go_on(
 // Lets an event happen, and answers whether what is told is what the event says.
 fn happen(alloc: Global, world: &mut World, event: Event) -> Result<bool, Fail> {
     Ok(match event {
-        Event::Reaches(phase) => reach(alloc, world, phase)?,
         Event::Settles(told) => settled(alloc, world)? == Some(told),
         Event::Leaves(live) => match settled(alloc, world)? {
             Some(Ok(told)) => told.live == live,
@@ -69,6 +69,7 @@ fn happen_by_itself(world: &mut World, event: Event) -> bool {
         }
         Event::Frees(word) => turn_until(world, word),
         Event::Ends(freed) => end(world) == Some(freed),
+        Event::Reaches(stage) => reach(world, stage),
         Event::Offers => {
             world.offer_all();
             true
@@ -179,15 +180,13 @@ fn end(world: &mut World) -> Option<u32> {
     None
 }
 
-// Whether the collector comes to this phase, as it is printed.
-fn reach(alloc: Global, world: &mut World, phase: &str) -> Result<bool, Fail> {
-    let phase = format!(in alloc; "phase: {phase}")?;
+// Whether a collection comes so far.
+fn reach(world: &mut World, stage: Stage) -> bool {
     for _ in 0..TURNS {
-        let shown = format!(in alloc; "{world:?}")?;
-        if shown.find(phase.as_str()).is_some() {
-            return Ok(true);
+        if is_at(world.collector().phase(), stage) {
+            return true;
         }
         advance(world);
     }
-    Ok(false)
+    false
 }

@@ -28,3 +28,5 @@ mod opening;
 mod settled;
 #[cfg(test)]
 mod settling;
+#[cfg(test)]
+mod stage;

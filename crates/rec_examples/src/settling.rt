@@ -4,6 +4,7 @@ use crate::event::Event::*;
 use crate::event::{Event, get, new, null, put, sets, stands};
 use crate::fact::Fact;
 use crate::happen::{go_on, play};
+use crate::stage::Stage;
 use rec_collector::Turn;
 use rec_model::{Answer, Cmd};
 use rec_settle::{EpochsSpent, Settled};
@@ -206,20 +207,20 @@ fn play_parts(rt: &impl Abort, alloc: Global, parts: &[&[Event]]) -> Result<(), 
     Ok(())
 }
 
-// A chain is let go of before the collection comes to the phase. Where it looks for the second mutator one mailbox is taken, and
+// A chain is let go of before the collection comes to the stage. Where it looks for the second mutator one mailbox is taken, and
 // one isn't.
 #[test]
 fn a_chain_is_released(rt: HostRuntime) -> Result<(), Fail> {
-    for phase in [
-        "Looking { mutator: 1 }",
-        "Returning { mutator: 1 }",
-        "Looking { mutator: 2 }",
-        "Releasing",
-        "Opening",
-        "Sweeping { swept: 2 }",
-        "Closing",
+    for stage in [
+        Stage::Looks(1),
+        Stage::GivesBack(1),
+        Stage::Looks(2),
+        Stage::Releases,
+        Stage::OpensSweep,
+        Stage::Sweeps(2),
+        Stage::ClosesSweep,
     ] {
-        let rest = [null!(2, 1), Reaches(phase), Leaves(1)];
+        let rest = [null!(2, 1), Reaches(stage), Leaves(1)];
         play_parts(&rt, rt.alloc(), &[&CHAIN, &rest])?;
     }
     Ok(())
@@ -228,20 +229,26 @@ fn a_chain_is_released(rt: HostRuntime) -> Result<(), Fail> {
 // A ring is, and the test of its set is passed.
 #[test]
 fn a_ring_is_freed(rt: HostRuntime) -> Result<(), Fail> {
-    for phase in ["Trying", "Preparing", "Freeing", "Opening", "Closing"] {
-        let rest = [null!(1, 1), Reaches(phase), Leaves(1)];
+    for stage in [
+        Stage::Tries,
+        Stage::Prepares,
+        Stage::Frees,
+        Stage::OpensSweep,
+        Stage::ClosesSweep,
+    ] {
+        let rest = [null!(1, 1), Reaches(stage), Leaves(1)];
         play_parts(&rt, rt.alloc(), &[&RING, &rest])?;
     }
     Ok(())
 }
 
-// A chain or a ring is let go of where the collection has come to the phase.
+// A chain or a ring is let go of where the collection has come to the stage.
 #[test]
 fn lets_go_amid_a_collection(rt: HostRuntime) -> Result<(), Fail> {
-    for phase in ["Looking { mutator: 1 }", "Looking { mutator: 2 }", "Trying"] {
-        let chain = [Reaches(phase), null!(2, 1), Leaves(1)];
+    for stage in [Stage::Looks(1), Stage::Looks(2), Stage::Tries] {
+        let chain = [Reaches(stage), null!(2, 1), Leaves(1)];
         play_parts(&rt, rt.alloc(), &[&CHAIN, &chain])?;
-        let ring = [Reaches(phase), null!(1, 1), Leaves(1)];
+        let ring = [Reaches(stage), null!(1, 1), Leaves(1)];
         play_parts(&rt, rt.alloc(), &[&RING, &ring])?;
     }
     Ok(())
@@ -250,9 +257,9 @@ fn lets_go_amid_a_collection(rt: HostRuntime) -> Result<(), Fail> {
 // A register holds a chain, and a field holds a ring.
 #[test]
 fn keeps_what_is_held(rt: HostRuntime) -> Result<(), Fail> {
-    for phase in ["Looking { mutator: 2 }", "Trying"] {
-        play_parts(&rt, rt.alloc(), &[&CHAIN, &[Reaches(phase), Leaves(4)]])?;
-        let held = [Reaches(phase), Leaves(3)];
+    for stage in [Stage::Looks(2), Stage::Tries] {
+        play_parts(&rt, rt.alloc(), &[&CHAIN, &[Reaches(stage), Leaves(4)]])?;
+        let held = [Reaches(stage), Leaves(3)];
         play_parts(&rt, rt.alloc(), &[&RING, &HELD_RING, &held])?;
     }
     Ok(())
@@ -261,7 +268,7 @@ fn keeps_what_is_held(rt: HostRuntime) -> Result<(), Fail> {
 // The chain's slots are swept, two of them before settling. What settling tells is what it swept itself; the collection tells all.
 #[test]
 fn tells_what_it_swept(rt: HostRuntime) -> Result<(), Fail> {
-    let begins = [null!(2, 1), Reaches("Sweeping { swept: 2 }")];
+    let begins = [null!(2, 1), Reaches(Stage::Sweeps(2))];
     play_parts(&rt, rt.alloc(), &[&CHAIN, &begins, &[settles!(4, 1, 1)]])?;
     play_parts(&rt, rt.alloc(), &[&CHAIN, &begins, &[Ends(3)]])
 }

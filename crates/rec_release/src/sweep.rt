@@ -20,9 +20,9 @@ impl Model for Sweep {
 }
 
 impl Sweep {
-    /// A sweep with no work. How many fields a slot has doesn't matter to it: they are null already.
+    /// A sweep with no work.
     #[tactic(auto, unfolding(crate::specs::Sweep::next_of))]
-    pub fn idle(_fields: u8) -> Sweep
+    pub fn idle() -> Sweep
         ensures idle { result ≡ None }
         ensures none { IsNone (next_of result) }
     {

@@ -123,7 +123,7 @@ fn sweeps_a_slot(rt: HostRuntime) -> Result<(), Fail> {
     counts.release(2);
     assert!(rt; !counts.buffered(2));
     list_free(&mut counts, 2);
-    let mut sweep = Sweep::idle(1);
+    let mut sweep = Sweep::idle();
     assert_eq!(rt; sweep.next(), None);
     sweep.start(&mut counts);
     assert_eq!(rt; sweep.next(), Some(Op::FreeHeader(2)));

@@ -3,12 +3,9 @@ use Rattle.std.proofs.Common.{◌≡◌, ℕ, ◌+◌, ◌≤◌, length, refl, 
 use Rattle.rec_model.specs.Heap.{Heap}
 use Rattle.rec_model.specs.Sight.{Sight, StandsBy}
 use Rattle.rec_collector.specs.Kept.{swept_at}
-use Rattle.rec_collector.specs.Parts.{Parts}
 use Rattle.rec_collector.specs.Private.{Private}
-use Rattle.rec_collector.specs.Step.{ClearsOn, PreparesOn, TriesOn}
 use Rattle.rec_collector.specs.declared.phase.Phase.{Phase}
 use Rattle.rec_collector.specs.declared.phase.Phase.TheVariants.{Sweeping, Closing}
-use Rattle.rec_collector.specs.declared.turn.Turn.{Turn}
 use Rattle.rec_core.specs.Core.{Core, sight}
 use Rattle.rec_core.specs.Kept.{IsKept}
 use Rattle.rec_core.specs.Moves.{turned}
@@ -16,26 +13,11 @@ use Rattle.rec_core.specs.Quiet.{AreQuiet}
 use Rattle.rec_core.specs.Swept.{swept}
 use Rattle.rec_core.proofs.TurnCases.{IsTurn}
 use Rattle.rec_core.proofs.Reach.{turned_keeps, keeps_stands_by}
+use Rattle.rec_core.proofs.Swept.{preparation_sweeps, test_sweeps, trial_sweeps}
 use Rattle.rec_core.proofs.Rest.TurnRules.{turn_is}
 use Rattle.rec_core.proofs.Turns.{now_at}
 use Rattle.rec_settle.specs.Collecting.{IsAmid, IsCollection}
 use Rattle.rec_settle.proofs.Amid.{quiet_amid}
-
--- no slot is swept by a preparation, a trial or a test
-preparation_sweeps : {p : Private} {w : Parts} {q : Private} {turn : Turn} → PreparesOn p w q turn → q.freed ≡ p.freed
-preparation_sweeps (PreparesOn.more some g) = ap (λ (c : Private). c.freed) g.after
-preparation_sweeps (PreparesOn.sweeps_next none some g) = ap (λ (c : Private). c.freed) g.after
-preparation_sweeps (PreparesOn.completes none empty e) = ap (λ (c : Private). c.freed) e.after
-
-trial_sweeps : {p : Private} {w : Parts} {q : Private} {turn : Turn} → TriesOn p w q turn → q.freed ≡ p.freed
-trial_sweeps (TriesOn.more some g) = ap (λ (c : Private). c.freed) g.after
-trial_sweeps (TriesOn.prepares none on) = preparation_sweeps on
-
-test_sweeps : {p q : Private} {turn : Turn} {w : Parts} → ClearsOn p q turn w → q.freed ≡ p.freed
-test_sweeps (ClearsOn.frees_on some g) = ap (λ (c : Private). c.freed) g.after
-test_sweeps (ClearsOn.releases_on none some g) = ap (λ (c : Private). c.freed) g.after
-test_sweeps (ClearsOn.tests v none still some tested on) = test_sweeps on
-test_sweeps (ClearsOn.tries none still empty on) = trial_sweeps on
 
 -- What a turn leaves of the births, and that it takes no sweep back.
 record TurnStays (w v : Core) : Type 0 where
@@ -55,12 +37,12 @@ turn_stays w v turn = go turn
     go (IsTurn.gathers t there phase word is) = same _ is refl (omega arith)
     go (IsTurn.gives_back t there phase other is) = same _ is refl (omega arith)
     go (IsTurn.applies t q answer there phase last on is) = same _ is refl (omega (arith, test_sweeps on))
-    go (IsTurn.releases a q answer phase at on is) = same _ is refl (omega (arith, test_sweeps on))
-    go (IsTurn.frees a q answer phase at on is) = same _ is refl (omega (arith, test_sweeps on))
-    go (IsTurn.tries place q answer phase named on is) = same _ is refl (omega (arith, trial_sweeps on))
-    go (IsTurn.prepares a q answer phase at on is) = same _ is refl (omega (arith, preparation_sweeps on))
+    go (IsTurn.releases m a q answer phase at on is) = same _ is refl (omega (arith, test_sweeps on))
+    go (IsTurn.frees m a q answer phase at on is) = same _ is refl (omega (arith, test_sweeps on))
+    go (IsTurn.tries m place q answer phase named on is) = same _ is refl (omega (arith, trial_sweeps on))
+    go (IsTurn.prepares m a q answer phase at on is) = same _ is refl (omega (arith, preparation_sweeps on))
     go (IsTurn.begins_sweep phase is) = same _ is refl (omega arith)
-    go (IsTurn.sweeps n slot next phase due which is) = same _ is refl (omega arith)
+    go (IsTurn.sweeps n slot next phase which is) = same _ is refl (omega arith)
     go (IsTurn.ends_sweep n phase is) = same _ is refl (omega arith)
 
 -- What stays from one heap to a later one; and how many slots were swept meanwhile is the difference of the two numbers.
@@ -122,7 +104,7 @@ few_swept w kept = go w.collector.phase refl
     slots = kept.collector.slots
 
     go : (phase : Phase) → w.collector.phase ≡ phase → swept w ≤ w.config.slots
-    go (Sweeping n) is = omega (arith, ap swept_at is, (now_at w (Sweeping n) kept is).0.left, slots)
+    go (Sweeping due n) is = omega (arith, ap swept_at is, (now_at w (Sweeping due n) kept is).0.left, slots)
     go (Closing n) is = omega (arith, ap swept_at is, (now_at w (Closing n) kept is).0.left, slots)
     go _ is = omega (arith, ap swept_at is)
 

@@ -34,9 +34,9 @@ moved_busy w v kept cause idle = omega (arith, cause.0, (now_at v Idle kept idle
 few_turns : (w : Core) → IsKept w → w.collector.turns ≤ turns_of w.config
 few_turns w kept =
     let slots : length w.collector.counts.slots ≡ w.config.slots = kept.collector.slots in
-    let fields : w.collector.release.fields ≡ w.config.fields = kept.collector.fields in
+    let fields : w.collector.fields ≡ w.config.fields = kept.collector.fields in
     let mutators : length w.collector.newer ≡ w.config.mutators = kept.collector.mutators in
-    let limit : limit_of w.collector ≡ turns_of w.config = ap (λ n. 6 * (n * w.collector.release.fields) + 2 * n + 3 * length w.collector.newer + 16) slots ∙ ap (λ n. 6 * (w.config.slots * n) + 2 * w.config.slots + 3 * length w.collector.newer + 16) fields ∙ ap (λ n. 6 * (w.config.slots * w.config.fields) + 2 * w.config.slots + 3 * n + 16) mutators in
+    let limit : limit_of w.collector ≡ turns_of w.config = ap (λ n. 6 * (n * w.collector.fields) + 2 * n + 3 * length w.collector.newer + 16) slots ∙ ap (λ n. 6 * (w.config.slots * n) + 2 * w.config.slots + 3 * length w.collector.newer + 16) fields ∙ ap (λ n. 6 * (w.config.slots * w.config.fields) + 2 * w.config.slots + 3 * n + 16) mutators in
     subst (λ n. w.collector.turns ≤ n) limit (within_limit w.collector kept.collector.machine)
 
 few_waits : (w : Core) (phase : Phase) → waits_at w phase ≤ 1

@@ -5,7 +5,7 @@ use Rattle.rec_mutator.specs.Private.{Private, is_busy}
 use Rattle.rec_collector.specs.Private as collectors
 use Rattle.rec_collector.specs.Step.{IsBetween}
 use Rattle.rec_collector.specs.declared.phase.Phase.{Phase}
-use Rattle.rec_collector.specs.declared.phase.Phase.TheVariants.{Idle, Looking, Swapping, Returning, Releasing, Freeing, Trying, Preparing, Opening, Sweeping, Closing}
+use Rattle.rec_collector.specs.declared.phase.Phase.TheVariants.{Looking, Swapping, Returning}
 use Rattle.rec_core.specs.Config.{IsMutator}
 use Rattle.std.specs.Option.{IfSome}
 use Rattle.rec_word.specs.declared.op.Op.{Op}
@@ -118,9 +118,6 @@ pub none_out_where_even : (w : Core) → IsKept w → All (λ word. word % 2 ≡
 none_out_where_even w kept even = by w.collector.phase refl
   where
     by : (phase : Phase) → w.collector.phase ≡ phase → boxes_at w.collector phase ≡ []
-    by Idle is = refl
-    by (Looking t) is = refl
-    by (Swapping t) is = refl
     by (Returning t) is =
         let may : MayTurn w (ops.ReturnBox t w.collector.epoch) = subst (λ (x : Option Op). IfSome x (MayTurn w)) (returns_op w.collector t is) (may_turn w kept) in
         let words_many = kept.mutators.words in
@@ -130,10 +127,4 @@ none_out_where_even w kept even = by w.collector.phase refl
         let word = (subst (IsHandshake w.config w.epoch (mutator w t) (crossing_of w t) (box w t)) stands held).0.word in
         let zero_ = even (t - 1) 0 (omega (arith, may.within.0, may.within.1)) in
         absurd (omega (arith, word, zero_))
-    by Releasing is = refl
-    by Freeing is = refl
-    by Trying is = refl
-    by Preparing is = refl
-    by Opening is = refl
-    by (Sweeping n) is = refl
-    by (Closing n) is = refl
+    by _ is = refl

@@ -12,7 +12,7 @@ use Rattle.rec_collector.specs.Private.{Private, spare}
 use Rattle.rec_collector.specs.Step.{IsBetween}
 use Rattle.rec_collector.specs.Took.{took_of, step_of, left_of, left_at}
 use Rattle.rec_collector.specs.declared.phase.Phase.{Phase}
-use Rattle.rec_collector.specs.declared.phase.Phase.TheVariants.{Idle, Looking, Swapping, Returning, Releasing, Freeing, Trying, Preparing, Opening, Sweeping, Closing}
+use Rattle.rec_collector.specs.declared.phase.Phase.TheVariants.{Looking, Swapping}
 use Rattle.rec_core.specs.Core.{Core, cells_of, box}
 use Rattle.rec_core.specs.Kept.{IsKept}
 use Rattle.rec_core.specs.Moves.{Move, after_move, after_moves, AllFit, found_by, looked_at, left_by, turned, turned_at}
@@ -46,16 +46,7 @@ not_swapping c word between stays = by (took_of c word).phase refl
         ∙ stays (record (spare (took_of c word)) { capacity = (spare (took_of c word)).capacity + 1 }) in
         let more : (spare (took_of c word)).capacity ≡ (spare (took_of c word)).capacity + 1 = ap (λ (b : Contents). b.capacity) same in
         omega (arith, more)
-    by Idle is swaps = swaps
-    by (Looking t) is swaps = swaps
-    by (Returning t) is swaps = swaps
-    by Releasing is swaps = swaps
-    by Freeing is swaps = swaps
-    by Trying is swaps = swaps
-    by Preparing is swaps = swaps
-    by Opening is swaps = swaps
-    by (Sweeping n) is swaps = swaps
-    by (Closing n) is swaps = swaps
+    by _ is swaps = swaps
 
 learns_alone : (c : Private) (word : ℕ) (b : Contents) → IsBetween c.phase → ((d : Contents) → left_by c word d c.phase ≡ d) → step_of c word b ≡ took_of c word
 unfolding step_of

@@ -1,6 +1,7 @@
 -- The calls of the collector's turn.
-use Rattle.std.proofs.Common.{◌≡◌, ℕ, ◌+◌, ◌-◌, ◌==◌, ◌<◌, arith, Bool, true, false, cond, if◌then◌else◌, eq-eqb, ne_eqb, List, [], ◌∷◌, length, slice_set, length-set, Option, Some, None, refl, sym, ap, ◌∙◌, subst}
+use Rattle.std.proofs.Common.{◌≡◌, ℕ, ◌+◌, ◌-◌, ◌==◌, ◌<◌, arith, Bool, true, false, cond, if◌then◌else◌, eq-eqb, ne_eqb, [], ◌∷◌, length, slice_set, length-set, Option, Some, None, refl, sym, ap, ◌∙◌, subst}
 use Rattle.std.specs.Option.{IfSome}
+use Rattle.std.proofs.lemmas.Bool.{eqb-true}
 use Rattle.atomic_table.specs.Table.{Me, Step, Allows, rest}
 use Rattle.rec_word.specs.Op.{written}
 use Rattle.rec_word.specs.Mailbox.{crossing_word}
@@ -15,20 +16,18 @@ use Rattle.rec_release.specs.declared.at.At.{At}
 use Rattle.rec_walk.specs.declared.member.Member.{Member}
 use Rattle.rec_sigma.specs.Prepare.{op_at as prep_op_at, next_of as prep_next}
 use Rattle.rec_sigma.specs.declared.at.At as loads
-use Rattle.rec_trial.specs.Trial.{next_of as trial_next}
-use Rattle.rec_collector.specs.Followed.{Next, followed, prep_started, prepared, prepared_at, relieved, sweep_phase, tested_on, trial_started, tried, tried_at, with_freed, with_loaded, with_released, with_tried}
+use Rattle.rec_collector.specs.Followed.{Next}
 use Rattle.rec_collector.specs.Given.{IsGiven, IsGivenAt, IsSized, IsSwapping}
 use Rattle.rec_world.specs.Mailbox.{held}
 use Rattle.rec_collector.specs.Kept.{IsMachine, KeepsSizes}
 use Rattle.rec_collector.specs.Next.{next_of, next_at, is_spent}
-use Rattle.rec_collector.specs.Parts.{Parts}
-use Rattle.rec_collector.specs.Private.{Private, parts_of, with_parts, spare}
+use Rattle.rec_collector.specs.Private.{Private, with_parts, spare}
 use Rattle.rec_collector.specs.Step.{IsBetween, NamesWord}
-use Rattle.rec_collector.specs.Testing.{tested, zeros_released}
-use Rattle.rec_collector.specs.Took.{batched, came, ended_if, left_of, moved, took_of, took_at, step_of, swapped_of, swapped_at, swept_phase}
+use Rattle.rec_collector.specs.Took.{came, ended_if, left_of, moved, took_of, took_at, step_of, swapped_of, swapped_at, swept_phase}
 use Rattle.rec_collector.specs.declared.phase.Phase.{Phase}
 use Rattle.rec_collector.specs.declared.phase.Phase.TheVariants.{Idle, Looking, Swapping, Returning, Releasing, Freeing, Trying, Preparing, Opening, Sweeping, Closing}
 use Rattle.rec_collector.proofs.Always.{names_word}
+use Rattle.rec_collector.proofs.Landing.{IsWorking, work_of, work_phase}
 use Rattle.atomic_table.specs.Seated.{TableId}
 use Rattle.rec_core.specs.Core.{Core, cells_of, box}
 use Rattle.rec_world.specs.World.{IsWorld}
@@ -100,24 +99,24 @@ kind_at p op Idle is between named = Kind.lone (subst IsLone (sym is) tt) (store
 kind_at p op (Looking t) is between named = Kind.at_box t is (sym (some_op (ops.LookBox t p.epoch) op named))
 kind_at p op (Swapping t) is between named = absurd between
 kind_at p op (Returning t) is between named = Kind.gives_box t is (sym (some_op (ops.ReturnBox t p.epoch) op named))
-kind_at p op Releasing is between named = Kind.lone (subst IsLone (sym is) tt) (go p.release.at named)
+kind_at p op (Releasing m) is between named = Kind.lone (subst IsLone (sym is) tt) (go m.at named)
   where
-    go : (x : Option At) → ◌≡◌ {A = Option Op} (release_op_at p.release.fields x) (Some op) → IsLoneOp op
+    go : (x : Option At) → ◌≡◌ {A = Option Op} (release_op_at m.fields x) (Some op) → IsLoneOp op
     go None e = absurd (not_none op e)
     go (Some a) e = is_lone _ op tt e
-kind_at p op Freeing is between named = Kind.lone (subst IsLone (sym is) tt) (go p.freeing.at named)
+kind_at p op (Freeing m) is between named = Kind.lone (subst IsLone (sym is) tt) (go m.at named)
   where
-    go : (x : Option Member) → ◌≡◌ {A = Option Op} (freeing_op_at p.freeing.fields x) (Some op) → IsLoneOp op
+    go : (x : Option Member) → ◌≡◌ {A = Option Op} (freeing_op_at m.fields x) (Some op) → IsLoneOp op
     go None e = absurd (not_none op e)
     go (Some a) e = is_lone _ op tt e
-kind_at p op Trying is between named = Kind.lone (subst IsLone (sym is) tt) (subst IsLoneOp (sym (loads_child p.trial op (sym named)).1) tt)
-kind_at p op Preparing is between named = Kind.lone (subst IsLone (sym is) tt) (go p.prep.at named)
+kind_at p op (Trying m) is between named = Kind.lone (subst IsLone (sym is) tt) (subst IsLoneOp (sym (loads_child m op (sym named)).1) tt)
+kind_at p op (Preparing m) is between named = Kind.lone (subst IsLone (sym is) tt) (go m.at named)
   where
-    go : (x : Option loads.At) → ◌≡◌ {A = Option Op} (prep_op_at p.prep.fields x) (Some op) → IsLoneOp op
+    go : (x : Option loads.At) → ◌≡◌ {A = Option Op} (prep_op_at m.fields x) (Some op) → IsLoneOp op
     go None e = absurd (not_none op e)
     go (Some a) e = is_lone _ op tt e
 kind_at p op Opening is between named = Kind.lone (subst IsLone (sym is) tt) (is_lone ops.AddFreed op tt named)
-kind_at p op (Sweeping n) is between named = Kind.lone (subst IsLone (sym is) tt) (go p.due named)
+kind_at p op (Sweeping due n) is between named = Kind.lone (subst IsLone (sym is) tt) (go due named)
   where
     go : (x : Option ℕ) → ◌≡◌ {A = Option Op} (sweep_next x) (Some op) → IsLoneOp op
     go None e = absurd (not_none op e)
@@ -134,50 +133,15 @@ HoldsNone (Swapping t) = ⊥
 HoldsNone (Returning t) = ⊥
 HoldsNone _ = Unit {0}
 
-prepared_none : (w : Parts) → HoldsNone (prepared w).phase
-unfolding prepared
-prepared_none w = go w.prep.at
-  where
-    swept : (free : List ℕ) → HoldsNone (sweep_phase free)
-    swept [] = tt
-    swept (x ∷ free) = tt
-
-    go : (x : Option loads.At) → HoldsNone (prepared_at w x).phase
-    go (Some a) = tt
-    go None = swept w.counts.free
-
-tried_none : (w : Parts) → HoldsNone (tried w).phase
-unfolding tried
-tried_none w = go (trial_next w.trial)
-  where
-    go : (x : Option Op) → HoldsNone (tried_at w x).phase
-    go (Some op) = tt
-    go None = prepared_none (prep_started w)
-
-followed_none : (w : Parts) → HoldsNone (followed w).phase
-unfolding followed
-followed_none w = go (tested (length w.counts.sets) w).release.at (tested (length w.counts.sets) w).freeing.at
-  where
-    go : (x : Option At) (m : Option Member) → HoldsNone (tested_on (tested (length w.counts.sets) w) x m).phase
-    go x (Some m) = tt
-    go (Some a) None = tt
-    go None None = tried_none (trial_started (tested (length w.counts.sets) w))
-
 came_none : (p : Private) (n : Next) → HoldsNone n.phase → HoldsNone (came p n).phase
 came_none p n none = go n.phase none
   where
     go : (phase : Phase) → HoldsNone phase → HoldsNone (ended_if phase (moved (with_parts p n.parts) phase)).phase
-    go Idle none = tt
-    go (Looking t) none = tt
-    go (Swapping t) none = absurd none
-    go (Returning t) none = absurd none
-    go Releasing none = tt
-    go Freeing none = tt
-    go Trying none = tt
-    go Preparing none = tt
-    go Opening none = tt
-    go (Sweeping n) none = tt
-    go (Closing n) none = tt
+    go (Closing m) none = tt
+    go _ none = none
+
+works_none : (p : Private) (word : ℕ) (phase : Phase) → IsWorking p phase → HoldsNone (came p (work_of p word phase)).phase
+works_none p word phase at_work = came_none p (work_of p word phase) (work_phase HoldsNone (λ m. tt) (λ m. tt) (λ m. tt) (λ m. tt) tt tt p word phase at_work)
 
 took_none : (p : Private) (word : ℕ) (phase : Phase) → p.phase ≡ phase → IsBetween phase → NotLooking phase → HoldsNone (took_at p word phase).phase
 unfolding took_at
@@ -188,25 +152,19 @@ took_none p word Idle is between looks_none = go (is_spent p)
     go false = tt
 took_none p word (Looking t) is between looks_none = absurd looks_none
 took_none p word (Swapping t) is between looks_none = absurd between
-took_none p word (Returning t) is between looks_none = go (t == length p.newer)
+took_none p word (Returning t) is between looks_none = go (t == length p.newer) refl
   where
-    next : Next
-    next = followed (zeros_released false (batched p))
-
-    go : (last : Bool) → HoldsNone (if last then came p next else record p { phase = Looking (t + 1); turns = p.turns + 1 }).phase
-    go true = came_none p next (followed_none (zeros_released false (batched p)))
-    go false = tt
-took_none p word Releasing is between looks_none = came_none p (followed (with_released (parts_of p) word)) (followed_none (with_released (parts_of p) word))
-took_none p word Freeing is between looks_none = came_none p (followed (relieved (with_freed (parts_of p) word))) (followed_none (relieved (with_freed (parts_of p) word)))
-took_none p word Trying is between looks_none = came_none p (tried (with_tried (parts_of p) word)) (tried_none (with_tried (parts_of p) word))
-took_none p word Preparing is between looks_none = came_none p (prepared (with_loaded (parts_of p) word)) (prepared_none (with_loaded (parts_of p) word))
+    go : (last : Bool) → (t == length p.newer) ≡ last → HoldsNone (if last then came p (work_of p word (Returning t)) else record p { phase = Looking (t + 1); turns = p.turns + 1 }).phase
+    go true all = works_none p word (Returning t) (eqb-true t (length p.newer) all)
+    go false more = tt
 took_none p word Opening is between looks_none = tt
-took_none p word (Sweeping n) is between looks_none = go _
+took_none p word (Sweeping due n) is between looks_none = go _
   where
     go : (x : Option ℕ) → HoldsNone (swept_phase (n + 1) x)
     go None = tt
     go (Some x) = tt
 took_none p word (Closing n) is between looks_none = tt
+took_none p word phase is between looks_none = works_none p word phase tt
 
 holds_none : (p : Private) (word : ℕ) → IsBetween p.phase → NotLooking p.phase → HoldsNone (took_of p word).phase
 unfolding took_of
@@ -365,7 +323,7 @@ hit_turn p q r t word b m m' is hit took is_m swapped left =
       (λ k. (t - 1, m_is k) ∷ []) ∙ (λ k. boxes_at r (ap (λ (x : Private). x.phase) (sym r_is) k)),
       record {
         slots = ap (λ (x : Private). length x.counts.slots) r_is;
-        fields = ap (λ (x : Private). x.release.fields) r_is;
+        fields = ap (λ (x : Private). x.fields) r_is;
         registers = ap (λ (x : Private). x.registers) r_is;
         capacity = ap (λ (x : Private). x.capacity) r_is;
         mutators = ap (λ (x : Private). length x.newer) r_is ∙ length-set p.newer (t - 1) (held m);
@@ -388,17 +346,7 @@ no_else_turn p op between looks_none named load clear free store add give = by (
     alone (ops.FreeHeader slot) e a = free slot e
     alone (ops.StoreEpoch epoch) e a = store epoch e
     alone ops.AddFreed e a = add e
-    alone (ops.LoadField x) e a = a
-    alone (ops.SwapField x y) e a = a
-    alone (ops.LoadHeader x) e a = a
-    alone ops.LoadEpoch e a = a
-    alone (ops.LoadCross x) e a = a
-    alone (ops.ClaimHeader x y) e a = a
-    alone ops.LoadFreed e a = a
-    alone (ops.TakeBox x y) e a = a
-    alone (ops.GiveBox x y) e a = a
-    alone (ops.LookBox x y) e a = a
-    alone (ops.ReturnBox x y) e a = a
+    alone _ e a = a
 
     by : Kind p op → ⊥
     by (Kind.at_box t phase o) = subst NotLooking phase looks_none
@@ -406,14 +354,14 @@ no_else_turn p op between looks_none named load clear free store add give = by (
     by (Kind.lone phase o) = alone op refl o
 
 -- The word of a turn's operation is there.
-pub turn_names : (p : Private) (op : Op) → IsMachine p → ◌≡◌ {A = Option Op} (next_of p) (Some op) → NamesWord (length p.counts.slots) p.release.fields (length p.newer) op
-turn_names p op machine named = subst (λ (x : Option Op). IfSome x (NamesWord (length p.counts.slots) p.release.fields (length p.newer))) named (names_word p machine)
+pub turn_names : (p : Private) (op : Op) → IsMachine p → ◌≡◌ {A = Option Op} (next_of p) (Some op) → NamesWord (length p.counts.slots) p.fields (length p.newer) op
+turn_names p op machine named = subst (λ (x : Option Op). IfSome x (NamesWord (length p.counts.slots) p.fields (length p.newer))) named (names_word p machine)
 
 pub turn_there : (key : Core) (op : Op) (opened p : Private) (words : ℕ) → IsWorld key → opened ≡ key.collector → KeepsSizes opened p → IsMachine p → ◌≡◌ {A = Option Op} (next_of p) (Some op)
     → words ≡ length key.words + length key.headers + 2 + length key.crossing → index_of (length key.words) (length key.headers) op < words
 turn_there key op opened p words world is keeps machine named wide =
-    let names : NamesWord (length key.collector.counts.slots) key.collector.release.fields (length key.collector.newer) op =
-    subst (λ (y : ℕ × ℕ × ℕ). NamesWord y.0 y.1 y.2 op) (λ k. ((keeps.slots ∙ ap (λ (x : Private). length x.counts.slots) is) k, (keeps.fields ∙ ap (λ (x : Private). x.release.fields) is) k, (keeps.mutators ∙ ap (λ (x : Private). length x.newer) is) k)) (turn_names p op machine named) in
+    let names : NamesWord (length key.collector.counts.slots) key.collector.fields (length key.collector.newer) op =
+    subst (λ (y : ℕ × ℕ × ℕ). NamesWord y.0 y.1 y.2 op) (λ k. ((keeps.slots ∙ ap (λ (x : Private). length x.counts.slots) is) k, (keeps.fields ∙ ap (λ (x : Private). x.fields) is) k, (keeps.mutators ∙ ap (λ (x : Private). length x.newer) is) k)) (turn_names p op machine named) in
     let low = row_within (cells_of key) op (collector_within key op (world_kept key world) names) in
     omega (arith, low, wide)
 
@@ -450,22 +398,13 @@ pub not_looking : (p : Private) (op : Op) → IsBetween p.phase → ◌≡◌ {A
 not_looking p op between named no_look = by p.phase refl
   where
     by : (phase : Phase) → p.phase ≡ phase → NotLooking p.phase
-    by Idle is = subst NotLooking (sym is) tt
     by (Looking t) is = absurd (looks_then (kind p op between named))
       where
         looks_then : Kind p op → ⊥
         looks_then (Kind.at_box u phase o) = no_look u p.epoch o
         looks_then (Kind.gives_box u phase o) = subst (λ (x : Phase). IsReturning x → ⊥) (sym is) (λ r. r) (subst IsReturning (sym phase) tt)
         looks_then (Kind.lone phase o) = subst IsLone is phase
-    by (Swapping t) is = subst NotLooking (sym is) tt
-    by (Returning t) is = subst NotLooking (sym is) tt
-    by Releasing is = subst NotLooking (sym is) tt
-    by Freeing is = subst NotLooking (sym is) tt
-    by Trying is = subst NotLooking (sym is) tt
-    by Preparing is = subst NotLooking (sym is) tt
-    by Opening is = subst NotLooking (sym is) tt
-    by (Sweeping n) is = subst NotLooking (sym is) tt
-    by (Closing n) is = subst NotLooking (sym is) tt
+    by _ is = subst NotLooking (sym is) tt
 
 pub looking_boxes : (p : Private) (t : ℕ) → p.phase ≡ Looking t → boxes_out p ≡ []
 looking_boxes p t is = ap (boxes_at p) is

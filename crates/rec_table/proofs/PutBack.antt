@@ -37,7 +37,7 @@ returning_holds p op between named is none =
     absurd (omega (arith, bad))
 
 -- such a turn requests no epoch, whatever it found
-ended_epoch : (phase : Phase) (c : Private) → (ended_if phase c).epoch ≡ c.epoch
+pub ended_epoch : (phase : Phase) (c : Private) → (ended_if phase c).epoch ≡ c.epoch
 ended_epoch (Closing swept) c = refl
 ended_epoch _ c = refl
 
@@ -52,7 +52,7 @@ took_returning c t word is = ap (λ f. (took_at c word f).epoch) is ∙ go (t ==
     go true = ended_epoch next.phase (moved (with_parts c next.parts) next.phase)
     go false = refl
 
-swapped_epoch : (c : Private) (buffer : Contents) → (swapped_of c buffer).epoch ≡ c.epoch
+pub swapped_epoch : (c : Private) (buffer : Contents) → (swapped_of c buffer).epoch ≡ c.epoch
 unfolding swapped_of swapped_at
 swapped_epoch c buffer = go c.phase
   where

@@ -19,7 +19,7 @@ use Rattle.rec_collector.specs.Given.{IsGiven, IsSized}
 use Rattle.rec_collector.specs.Next.{next_of, next_at}
 use Rattle.rec_collector.specs.Private.{Private, spare, blank}
 use Rattle.rec_collector.specs.declared.phase.Phase.{Phase}
-use Rattle.rec_collector.specs.declared.phase.Phase.TheVariants.{Idle, Looking, Swapping, Returning, Releasing, Freeing, Trying, Preparing, Opening, Sweeping, Closing}
+use Rattle.rec_collector.specs.declared.phase.Phase.TheVariants.{Looking, Returning}
 use Rattle.rec_core.specs.Config.{IsMutator}
 use Rattle.rec_core.specs.Core.{Core, cells_of, mutator, box, crossing_of}
 use Rattle.rec_core.specs.Kept.{IsKept, IsHandshake, Stand, stand_at}
@@ -76,16 +76,7 @@ hand_kept w op x kept is named giving = by w.collector.phase refl
         (λ (ne : x - 1 ≢ t - 1).
         ap (λ (f : Phase). get_or (set w.boxes (looked_at f - 1) (left_by w.collector (cell (cells_of w) op) (box w (looked_at f)) f)) (x - 1) (blank 0 0)) at_phase
         ∙ get_or-set_other w.boxes (t - 1) (x - 1) (left_by w.collector (cell (cells_of w) op) (box w t) (Looking t)) (blank 0 0) ne)
-    by Idle at_phase = still Idle at_phase refl
-    by (Swapping t) at_phase = still (Swapping t) at_phase refl
-    by (Returning t) at_phase = still (Returning t) at_phase refl
-    by Releasing at_phase = still Releasing at_phase refl
-    by Freeing at_phase = still Freeing at_phase refl
-    by Trying at_phase = still Trying at_phase refl
-    by Preparing at_phase = still Preparing at_phase refl
-    by Opening at_phase = still Opening at_phase refl
-    by (Sweeping n) at_phase = still (Sweeping n) at_phase refl
-    by (Closing n) at_phase = still (Closing n) at_phase refl
+    by phase at_phase = still phase at_phase refl
 
 mutator_beats : (key : Core) (run : List Move) (x : ℕ) → 1 ≤ x → beats_of x key run ≡ beats_of x key (run ++ Move.Turns ∷ [])
 mutator_beats key run x le =

@@ -1,36 +1,23 @@
 -- A turn requests at most one epoch more.
 use Rattle.std.proofs.Common.{◌≡◌, ℕ, ◌+◌, ◌<◌, ◌≤◌, ◌==◌, Bool, true, false, if◌then◌else◌, List, [], ◌∷◌, ◌++◌, Option, None, Some, length, refl, sym, ap, ◌∙◌, arith, append_assoc}
 use Rattle.std.proofs.lemmas.List.{append-nil, length-append}
-use Rattle.rec_log.specs.declared.contents.Contents.{Contents}
-use Rattle.rec_collector.specs.Followed.{Next, followed, prepared, relieved, tried, with_freed, with_loaded, with_released, with_tried}
+use Rattle.rec_collector.specs.Followed.{Next, followed, worked}
 use Rattle.rec_collector.specs.Next.{is_spent, next_of}
 use Rattle.rec_collector.specs.Private.{Private, parts_of, with_parts}
 use Rattle.rec_collector.specs.Testing.{zeros_released}
-use Rattle.rec_collector.specs.Took.{batched, came, ended_if, moved, step_of, swapped_at, swapped_of, took_at, took_of}
+use Rattle.rec_collector.specs.Took.{batched, came, moved, step_of, took_at, took_of}
 use Rattle.rec_collector.specs.declared.phase.Phase.{Phase}
-use Rattle.rec_collector.specs.declared.phase.Phase.TheVariants.{Idle, Looking, Swapping, Returning, Releasing, Freeing, Trying, Preparing, Opening, Sweeping, Closing}
+use Rattle.rec_collector.specs.declared.phase.Phase.TheVariants.{Idle, Looking, Swapping, Returning, Opening, Sweeping, Closing}
 use Rattle.rec_word.specs.Mailbox.{crossing_word}
 use Rattle.rec_word.specs.declared.mailbox.Mailbox.TheVariants.{Retired}
 use Rattle.rec_word.specs.declared.op.Op.{Op}
 use Rattle.rec_table.specs.Beats.{gathered}
 use Rattle.rec_table.specs.Held.{Gathers, gathers_now}
 use Rattle.rec_table.specs.Rule.{crew_more}
+use Rattle.rec_table.proofs.PutBack.{ended_epoch, swapped_epoch}
 use Rattle.rec_threads.specs.Done.{HasCollected}
 use Rattle.rec_table.specs.declared.views.Beat.{Beat}
 use Rattle.rec_table.specs.declared.views.Beat.TheVariants.{Begins, Saw, Took}
-
-ended_epoch : (phase : Phase) (p : Private) → (ended_if phase p).epoch ≡ p.epoch
-ended_epoch Idle p = refl
-ended_epoch (Looking t) p = refl
-ended_epoch (Swapping t) p = refl
-ended_epoch (Returning t) p = refl
-ended_epoch Releasing p = refl
-ended_epoch Freeing p = refl
-ended_epoch Trying p = refl
-ended_epoch Preparing p = refl
-ended_epoch Opening p = refl
-ended_epoch (Sweeping swept) p = refl
-ended_epoch (Closing swept) p = refl
 
 came_epoch : (p : Private) (n : Next) → (came p n).epoch ≤ p.epoch + 1
 came_epoch p n = let e : (came p n).epoch ≡ p.epoch = ended_epoch n.phase (moved (with_parts p n.parts) n.phase) in omega (arith, e)
@@ -45,37 +32,20 @@ took_rises p word Idle = either_rises (is_spent p) p p (moved (record p { epoch 
 took_rises p word (Looking t) = either_rises (word == crossing_word p.epoch Retired) p (moved p (Swapping t)) p (omega arith) (omega arith)
 took_rises p word (Swapping t) = omega arith
 took_rises p word (Returning t) = either_rises (t == length p.newer) p (came p (followed (zeros_released false (batched p)))) (moved p (Looking (t + 1))) (came_epoch p (followed (zeros_released false (batched p)))) (omega arith)
-took_rises p word Releasing = came_epoch p (followed (with_released (parts_of p) word))
-took_rises p word Freeing = came_epoch p (followed (relieved (with_freed (parts_of p) word)))
-took_rises p word Trying = came_epoch p (tried (with_tried (parts_of p) word))
-took_rises p word Preparing = came_epoch p (prepared (with_loaded (parts_of p) word))
 took_rises p word Opening = omega arith
-took_rises p word (Sweeping swept) = omega arith
+took_rises p word (Sweeping due swept) = omega arith
 took_rises p word (Closing swept) = omega arith
-
-swapped_epoch : (p : Private) (b : Contents) (phase : Phase) → (swapped_at p b phase).epoch ≡ p.epoch
-unfolding swapped_at
-swapped_epoch p b Idle = refl
-swapped_epoch p b (Looking t) = refl
-swapped_epoch p b (Swapping t) = refl
-swapped_epoch p b (Returning t) = refl
-swapped_epoch p b Releasing = refl
-swapped_epoch p b Freeing = refl
-swapped_epoch p b Trying = refl
-swapped_epoch p b Preparing = refl
-swapped_epoch p b Opening = refl
-swapped_epoch p b (Sweeping swept) = refl
-swapped_epoch p b (Closing swept) = refl
+took_rises p word phase = came_epoch p (worked (parts_of p) word phase)
 
 took_epoch : (p : Private) (word : ℕ) → (took_of p word).epoch ≤ p.epoch + 1
 unfolding took_of
 took_epoch p word = took_rises p word p.phase
 
 pub gathered_epoch : (p : Private) (b : Beat) → (gathered p b).epoch ≤ p.epoch + 1
-unfolding step_of swapped_of
+unfolding step_of
 gathered_epoch p (Begins work) = omega arith
 gathered_epoch p (Saw word) = took_epoch p word
-gathered_epoch p (Took word b) = let e = swapped_epoch (took_of p word) b (took_of p word).phase in let t = took_epoch p word in omega (arith, e, t)
+gathered_epoch p (Took word b) = let e = swapped_epoch (took_of p word) b in let t = took_epoch p word in omega (arith, e, t)
 
 -- what the collector has done after so many turns
 pub record HasTurned (turns : ℕ) (g g' : Gathers) : Type 0 where

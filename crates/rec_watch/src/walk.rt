@@ -108,7 +108,9 @@ impl<'a> Walk<'a> {
         }
         let made = self.step();
         self.settling = Some((requested, left));
-        if self.world.collector().phase() == Phase::Idle && self.world.epoch() != requested {
+        if matches!(self.world.collector().phase(), Phase::Idle)
+            && self.world.epoch() != requested
+        {
             if left == SETTLING_COLLECTIONS {
                 self.world.offer_all();
             }

@@ -12,7 +12,7 @@ use Rattle.rec_collector.specs.Given as collector_given
 use Rattle.rec_collector.specs.Private as collectors
 use Rattle.rec_collector.specs.Took as collector_took
 use Rattle.rec_collector.specs.declared.phase.Phase.{Phase}
-use Rattle.rec_collector.specs.declared.phase.Phase.TheVariants.{Idle, Looking, Swapping, Returning, Releasing, Freeing, Trying, Preparing, Opening, Sweeping, Closing}
+use Rattle.rec_collector.specs.declared.phase.Phase.TheVariants.{Swapping}
 use Rattle.rec_core.proofs.Crossings.{left_same}
 use Rattle.rec_world.specs.Mailbox.{held}
 
@@ -54,17 +54,8 @@ unfolding collector_took.swapped_of collector_took.swapped_at
 collector_stays c b not = go c.phase not
   where
     go : (phase : Phase) → (collector_given.IsSwapping phase → ⊥) → c ≡ collector_took.swapped_at c b phase
-    go Idle none = refl
-    go (Looking t) none = refl
     go (Swapping t) none = absurd (none tt)
-    go (Returning t) none = refl
-    go Releasing none = refl
-    go Freeing none = refl
-    go Trying none = refl
-    go Preparing none = refl
-    go Opening none = refl
-    go (Sweeping n) none = refl
-    go (Closing n) none = refl
+    go _ none = refl
 
 -- a spare is left where it holds one, and else what was there
 pub collector_leaves : (c : collectors.Private) (b : Contents) → (collector_given.IsSwapping c.phase → ⊥) → collector_took.left_of c b ≡ b
@@ -72,17 +63,8 @@ unfolding collector_took.left_of collector_took.left_at
 collector_leaves c b not = go c.phase not
   where
     go : (phase : Phase) → (collector_given.IsSwapping phase → ⊥) → collector_took.left_at c b phase ≡ b
-    go Idle none = refl
-    go (Looking t) none = refl
     go (Swapping t) none = absurd (none tt)
-    go (Returning t) none = refl
-    go Releasing none = refl
-    go Freeing none = refl
-    go Trying none = refl
-    go Preparing none = refl
-    go Opening none = refl
-    go (Sweeping n) none = refl
-    go (Closing n) none = refl
+    go _ none = refl
 
 pub gathered_stays : (c : collectors.Private) (x : Option Contents) → IsSome x → (collector_given.IsSwapping c.phase → ⊥) → x ≡ Some (collector_took.left_of c (held x))
 gathered_stays c x home not = held_some x home ∙ ap (λ b. Some b) (sym (collector_leaves c (held x) not))

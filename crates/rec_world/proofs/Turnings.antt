@@ -11,19 +11,16 @@ use Rattle.rec_word.specs.declared.op.Op.TheVariants as ops
 use Rattle.rec_log.specs.declared.contents.Contents.{Contents}
 use Rattle.rec_collector.specs.Causes.{HasCause}
 use Rattle.rec_collector.specs.Given.{IsSwapping, swapping_for}
-use Rattle.rec_collector.specs.Followed.{Next, followed, prepared, relieved, tried, with_freed, with_loaded, with_released, with_tried}
 use Rattle.rec_collector.specs.Kept.{swept_at, under_way}
-use Rattle.rec_collector.specs.Next.{next_of, next_at, is_spent}
+use Rattle.rec_collector.specs.Next.{next_of, next_at}
 use Rattle.rec_collector.specs.Private as collectors
-use Rattle.rec_collector.specs.Private.{parts_of, with_parts}
 use Rattle.rec_collector.specs.Step.{IsBetween}
-use Rattle.rec_collector.specs.Testing.{zeros_released}
-use Rattle.rec_collector.specs.Took.{batched, came, ended_if, left_at, left_of, moved, took_of, took_at, step_of, swapped_of, swapped_at, swept_phase}
+use Rattle.rec_collector.specs.Took.{left_at, left_of, took_of, took_at, step_of, swapped_of, swapped_at}
 use Rattle.rec_collector.specs.declared.phase.Phase.{Phase}
-use Rattle.rec_collector.specs.declared.phase.Phase.TheVariants.{Idle, Looking, Swapping, Returning, Releasing, Freeing, Trying, Preparing, Opening, Sweeping, Closing}
+use Rattle.rec_collector.specs.declared.phase.Phase.TheVariants.{Idle, Looking, Swapping}
 use Rattle.rec_collector.specs.declared.turn.Turn.{Turn}
 use Rattle.rec_collector.specs.declared.turn.Turn.TheVariants as turns
-use Rattle.rec_collector.proofs.Steps.{prepared_between, tried_between, followed_between}
+use Rattle.rec_collector.proofs.Steps.{took_between}
 use Rattle.rec_collector.proofs.Landing.{under_way_most}
 use Rattle.rec_core.specs.Cells.{Cells, cell, with_cell}
 use Rattle.rec_core.specs.Core.{Core, cells_of, box, crossing_of}
@@ -42,48 +39,14 @@ abbrev pub looks_for : Phase → Option ℕ
 looks_for (Looking t) = Some t
 looks_for _ = None
 
-came_between : (c : collectors.Private) (n : Next) → IsBetween n.phase → IsBetween (came c n).phase
-came_between c n between = at n.phase between
-  where
-    at : (phase : Phase) → IsBetween phase → IsBetween (ended_if phase (moved (with_parts c n.parts) phase)).phase
-    at (Swapping t) between = absurd between
-    at _ between = tt
-
--- a turn that looks at no mailbox holds none, by phase
-took_between : (c : collectors.Private) (word : ℕ) (phase : Phase) → c.phase ≡ phase → IsBetween phase → looks_for phase ≡ None → IsBetween (took_at c word phase).phase
-unfolding took_at
-took_between c word Idle is between none = go (is_spent c)
-  where
-    go : (spent : Bool) → IsBetween (if spent then c else record c { epoch = c.epoch + 1; phase = Looking 1; turns = c.turns + 1 }).phase
-    go true = subst IsBetween (sym is) tt
-    go false = tt
-took_between c word (Looking t) is between none = let not_so : ◌≡◌ {A = Option ℕ} (Some t) None = none in absurd (cc)
-took_between c word (Swapping t) is between none = absurd between
-took_between c word (Returning t) is between none = go (t == length c.newer)
-  where
-    next : Next
-    next = followed (zeros_released false (batched c))
-
-    go : (last : Bool) → IsBetween (if last then came c next else record c { phase = Looking (t + 1); turns = c.turns + 1 }).phase
-    go true = came_between c next (followed_between (zeros_released false (batched c)))
-    go false = tt
-took_between c word Releasing is between none = came_between c (followed (with_released (parts_of c) word)) (followed_between (with_released (parts_of c) word))
-took_between c word Freeing is between none = came_between c (followed (relieved (with_freed (parts_of c) word))) (followed_between (relieved (with_freed (parts_of c) word)))
-took_between c word Trying is between none = came_between c (tried (with_tried (parts_of c) word)) (tried_between (with_tried (parts_of c) word))
-took_between c word Preparing is between none = came_between c (prepared (with_loaded (parts_of c) word)) (prepared_between (with_loaded (parts_of c) word))
-took_between c word Opening is between none = tt
-took_between c word (Sweeping n) is between none = go _
-  where
-    go : (x : Option ℕ) → IsBetween (swept_phase (n + 1) x)
-    go None = tt
-    go (Some x) = tt
-took_between c word (Closing n) is between none = tt
-
--- so nothing is to be swapped then
+-- A turn that looks at no mailbox holds none, so nothing is to be swapped then.
 none_swaps : (c : collectors.Private) (word : ℕ) → IsBetween c.phase → looks_for c.phase ≡ None → IsSwapping (took_of c word).phase → ⊥
 unfolding took_of
-none_swaps c word between none = between_holds (took_at c word c.phase).phase (took_between c word c.phase refl between none)
+none_swaps c word between none = between_holds (took_at c word c.phase).phase (took_between c word c.phase refl between looks_not)
   where
+    looks_not : (t : ℕ) → c.phase ≢ Looking t
+    looks_not t is = let not_so : ◌≡◌ {A = Option ℕ} (Some t) None = ap looks_for (sym is) ∙ none in cc
+
     between_holds : (phase : Phase) → IsBetween phase → IsSwapping phase → ⊥
     between_holds (Swapping t) between is = absurd between
     between_holds _ between is = is

@@ -199,14 +199,14 @@ fn lists_of(alloc: Global, world: &World) -> Result<Lists, NoMemory> {
     })
 }
 
-fn phase_name(phase: Phase) -> &'static str {
+fn phase_name(phase: &Phase) -> &'static str {
     match phase {
         Phase::Idle => "rest",
         Phase::Looking { .. } | Phase::Swapping { .. } | Phase::Returning { .. } => "gather",
-        Phase::Releasing => "release",
-        Phase::Freeing => "free",
-        Phase::Trying => "trial",
-        Phase::Preparing => "prepare",
+        Phase::Releasing(_) => "release",
+        Phase::Freeing(_) => "free",
+        Phase::Trying(_) => "trial",
+        Phase::Preparing(_) => "prepare",
         Phase::Opening | Phase::Sweeping { .. } | Phase::Closing { .. } => "sweep",
     }
 }

@@ -6,11 +6,10 @@ use Rattle.rec_sigma.specs.declared.at.At as loads
 use Rattle.rec_sigma.specs.Prepare.{Machine, Work, took_of}
 use Rattle.rec_sigma.specs.Prepared.{PreparedTo, loaded_at}
 use Rattle.rec_sigma.proofs.Runs.{Came, came_on}
-use Rattle.rec_collector.specs.Followed.{with_loaded}
 use Rattle.rec_collector.specs.Kept as collector_kept
 use Rattle.rec_collector.specs.Parts.{Parts}
-use Rattle.rec_collector.specs.Private.{parts_of}
 use Rattle.rec_collector.specs.declared.phase.Phase.TheVariants.{Preparing}
+use Rattle.rec_collector.proofs.Goings.{still}
 use Rattle.rec_core.specs.Core.{Core}
 use Rattle.rec_core.specs.Kept.{IsKept}
 use Rattle.rec_core.specs.Resting.{PrepRests, SetsRest}
@@ -23,16 +22,15 @@ use Rattle.rec_core.proofs.Rest.SettlingTests.{unheld_prepared}
 use Rattle.rec_core.proofs.Turns.{now_at}
 
 -- A field was loaded for the preparation, and the word that stands there was found.
-pub prep_rests_more : (w : Core) (a : loads.At) → IsKept w → w.collector.phase ≡ Preparing → w.collector.prep.at ≡ Some a → PrepRests w w.words (parts_of w.collector)
-    → PrepRests w w.words (with_loaded (parts_of w.collector) (word_at w a.member.slot a.member.field))
-prep_rests_more w a kept phase at h =
+pub prep_rests_more : (w : Core) (m : Machine) (a : loads.At) → IsKept w → w.collector.phase ≡ Preparing m → m.at ≡ Some a → PrepRests w w.words (record { machine = m; counts = w.collector.counts })
+    → PrepRests w w.words (took_of (record { machine = m; counts = w.collector.counts }) (word_at w a.member.slot a.member.field))
+prep_rests_more w m a kept phase at h =
     let fields : ℕ = w.config.fields in
-    let m : Machine = w.collector.prep in
     let s : State = w.collector.counts in
     let found : ℕ = word_at w a.member.slot a.member.field in
     let after : Work = took_of (record { machine = m; counts = s }) found in
-    let same : m.fields ≡ fields = kept.collector.machine.prep_fields ∙ kept.collector.fields in
-    let now : collector_kept.IsPreparing w.collector = now_at w Preparing kept phase in
+    let now : collector_kept.IsPreparing w.collector m = now_at w (Preparing m) kept phase in
+    let same : m.fields ≡ fields = now.fields ∙ kept.collector.fields in
     let below : a.member.field < fields = subst (λ n. a.member.field < n) same (subst (λ (o : Option loads.At). IfSome o (λ (b : loads.At). b.member.field < m.fields)) at now.kept.field) in
     let came : Came fields h.before after (h.loads ++ loaded_at m.at found)
     = came_on fields h.before (record { machine = m; counts = s }) h.loads found h.before_kept.numbers (record { fields_kept = same; work = now.kept; law = h.prepares }) in
@@ -49,8 +47,8 @@ prep_rests_more w a kept phase at h =
     }
 
 -- All sets are prepared: nothing holds them.
-pub sets_rest_begun : {w : Core} {crossing words : List ℕ} {v : Parts} → HasLanded w crossing words v → PrepRests w words v → v.prep.at ≡ None → SetsRest w words [] v.counts
-sets_rest_begun {w} {crossing} {words} {v} l h done =
+pub sets_rest_begun : {w : Core} {crossing words : List ℕ} (v : Parts) (m : Machine) → HasLanded w crossing words (still v) → PrepRests w words (record { machine = m; counts = v.counts }) → m.at ≡ None → SetsRest w words [] v.counts
+sets_rest_begun {w} {crossing} {words} v m l h done =
     let fields : ℕ = w.config.fields in
     let all : PreparedTo fields h.before None v.counts h.loads = subst (λ (o : Option loads.At). PreparedTo fields h.before o v.counts h.loads) done h.prepares in
     let long : length words ≡ length h.before.slots * fields = words_landed l ∙ ap (λ n. n * fields) all.others.many in

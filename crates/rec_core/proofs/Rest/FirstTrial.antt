@@ -29,11 +29,11 @@ use Rattle.rec_trial.proofs.Promised.{begun_promised, took_promised, took_record
 use Rattle.rec_sigma.specs.Prepare as preps
 use Rattle.rec_sigma.specs.Prepared.{PreparedTo}
 use Rattle.rec_sigma.proofs.Runs.{Came, came_first, started_is}
-use Rattle.rec_collector.specs.Followed.{prep_started, trial_started, with_offers, with_tried}
+use Rattle.rec_collector.specs.Followed.{prep_started, with_offers}
 use Rattle.rec_collector.specs.Offered.{AreOffered, KeepsOffered}
-use Rattle.rec_collector.specs.Parts.{Parts}
-use Rattle.rec_collector.specs.Private.{parts_of}
+use Rattle.rec_collector.specs.Parts.{Parts, new_prep}
 use Rattle.rec_collector.specs.declared.phase.Phase.TheVariants.{Trying}
+use Rattle.rec_collector.proofs.Goings.{still}
 use Rattle.rec_collector.proofs.Offering.{offers_whole, where_ready}
 use Rattle.rec_core.specs.Core.{Core, sight}
 use Rattle.rec_core.specs.Kept.{IsKept}
@@ -47,10 +47,11 @@ use Rattle.rec_core.proofs.Rest.SettlingPrepared.{loads_begun}
 use Rattle.rec_core.proofs.Rest.SettlingSets.{found_counts, found_lead_back, references_in_words}
 use Rattle.rec_core.proofs.Steps.{fields_many, taken_slot}
 use Rattle.rec_core.proofs.Trying.{loaded_leads}
+use Rattle.rec_core.proofs.Turns.{now_at}
 use Rattle.rec_core.proofs.Zeros.{landed_empty}
 use Rattle.rec_core.proofs.Rest.Rested.{named_root}
 
-module _ {w : Core} {crossing words : List ℕ} {v : Parts} (l : HasLanded w crossing words v) where
+module _ {w : Core} {crossing words : List ℕ} {v : Parts} (l : HasLanded w crossing words (still v)) where
   open v use {counts as s}
 
   abbrev p : Pending
@@ -98,26 +99,26 @@ module _ {w : Core} {crossing words : List ℕ} {v : Parts} (l : HasLanded w cro
       free true e some = free_unreleased x (eqb-true (slice_index_or w.headers x 1) 0 e)
       free false e some = absurd (omega (arith, some))
 
-  -- where no slot is released and no set freed, released slots lead nowhere
-  emptied_landed : v.release.at ≡ None → v.freeing.at ≡ None → AreEmptied w.config.fields words [] v.counts
-  emptied_landed still unfreed place inside released _ =
+  -- where nothing is begun, released slots lead nowhere
+  emptied_landed : AreEmptied w.config.fields words [] v.counts
+  emptied_landed place inside released _ =
       let fields : ℕ = w.config.fields in
       let wide : 0 < fields = l.kept.config.some_fields in
       let x : ℕ = place / fields in
       let f : ℕ = place % fields in
       let there : x < w.config.slots = div_below place fields w.config.slots wide (omega (arith, inside, words_landed, ap (λ n. n * fields) l.slots)) in
       let at : place ≡ place_of x f fields = sym (div-add-mod place fields) ∙ ap (λ n. n + f) (mul_comm fields x) in
-      ap (λ n. target_of (slice_index_or words n 0)) at ∙ ap target_of (landed_empty l still unfreed x f there (mod-lt place wide) released)
+      ap (λ n. target_of (slice_index_or words n 0)) at ∙ ap target_of (landed_empty l x f there (mod-lt place wide) released)
 
   -- every slot is offered: these are the counts with which the trial begins
-  offered_landed : v.release.at ≡ None → v.freeing.at ≡ None → v.counts.sets ≡ [] → v.offers ≡ true → AreCounted w words v.counts
+  offered_landed : v.counts.sets ≡ [] → v.offers ≡ true → AreCounted w words v.counts
       → IsOffered w.config.fields (word_in w.config.fields words) (holds (sight w)) (with_offers v).counts × AreEmptied w.config.fields words [] (with_offers v).counts
-  offered_landed still unfreed none asked counted =
+  offered_landed none asked counted =
       let fields : ℕ = w.config.fields in
       let t : State = (with_offers v).counts in
       let offers : AreOffered s t = (offers_whole v asked l.counts none).0 in
       let keeps : KeepsOffered s t = offers.keeps in
-      let empty : AreEmptied fields words [] t = λ place inside released z. emptied_landed still unfreed place inside (sym (keeps.rest.released (place / fields)) ∙ released) z in
+      let empty : AreEmptied fields words [] t = λ place inside released z. emptied_landed place inside (sym (keeps.rest.released (place / fields)) ∙ released) z in
       let long : length words ≡ length t.slots * fields = words_landed ∙ ap (λ n. n * fields) (sym keeps.rest.slots) in (
         record {
           seeds = λ x e. offers.seeds x (sym (keeps.rest.released x) ∙ e);
@@ -131,17 +132,17 @@ module _ {w : Core} {crossing words : List ℕ} {v : Parts} (l : HasLanded w cro
       )
 
 -- So where counts are true, and every slot is to be offered, the trial that begins now rests.
-pub trial_rests_begun : {w : Core} {crossing words : List ℕ} {v : Parts} → HasLanded w crossing words v → IsReady v.counts → v.release.at ≡ None → v.freeing.at ≡ None → v.counts.sets ≡ [] → v.offers ≡ true
-    → AreCounted w words v.counts → TrialRests w words (trial_started v)
-trial_rests_begun {w} {crossing} {words} {v} l ready still unfreed none asked counted =
+pub trial_rests_begun : {w : Core} {crossing words : List ℕ} {v : Parts} → HasLanded w crossing words (still v) → IsReady v.counts → v.counts.sets ≡ [] → v.offers ≡ true → AreCounted w words v.counts
+    → TrialRests w words (started_of v.fields (with_offers v).counts)
+trial_rests_begun {w} {crossing} {words} {v} l ready none asked counted =
     let before : State = (with_offers v).counts in
-    let u : Work = started_of v.trial.fields before in
-    let offered = offered_landed l still unfreed none asked counted in
+    let u : Work = started_of v.fields before in
+    let offered = offered_landed l none asked counted in
     record {
       before = before;
       loaded = [];
       run = unloaded u;
-      trial = begun_promised w.config.fields before u l.kept.config.some_fields (where_ready v.offers v.counts ready) (ap (λ n. started_of n before) l.trial_fields);
+      trial = begun_promised w.config.fields before u l.kept.config.some_fields (where_ready v.offers v.counts ready) (ap (λ n. started_of n before) l.fields);
       at = refl;
       marks = tt;
       blacks = tt;
@@ -179,15 +180,14 @@ module _ (word : ℕ → ℕ → ℕ) (r : Run) (found : ℕ) (is : found ≡ wo
   still_finds _ h = h
 
 -- A field was loaded: each word that was loaded stands still.
-pub trial_rests_more : (w : Core) (place : ℕ) → IsKept w → w.collector.phase ≡ Trying → ◌≡◌ {A = Option Op} (trial_next w.collector.trial) (Some (LoadChild place))
-    → TrialRests w w.words (parts_of w.collector) → TrialRests w w.words (with_tried (parts_of w.collector) (slice_index_or w.words place 0))
-trial_rests_more w place kept phase named h =
-    let m : Machine = w.collector.trial in
+pub trial_rests_more : (w : Core) (m : Machine) (place : ℕ) → IsKept w → w.collector.phase ≡ Trying m → ◌≡◌ {A = Option Op} (trial_next m) (Some (LoadChild place))
+    → TrialRests w w.words (record { machine = m; counts = w.collector.counts }) → TrialRests w w.words (took_of (record { machine = m; counts = w.collector.counts }) (slice_index_or w.words place 0))
+trial_rests_more w m place kept phase named h =
     let s : State = w.collector.counts in
     let found : ℕ = slice_index_or w.words place 0 in
     let after : Work = took_of (record { machine = m; counts = s }) found in
     let word : ℕ → ℕ → ℕ = word_in w.config.fields w.words in
-    let fields : m.fields ≡ w.config.fields = kept.collector.machine.trial_fields ∙ kept.collector.fields in
+    let fields : m.fields ≡ w.config.fields = (now_at w (Trying m) kept phase).fields ∙ kept.collector.fields in
     let here : place ≡ place_of m.slot m.field w.config.fields = due_place m place named ∙ ap (place_of m.slot m.field) fields in
     let same : h.run.work.machine ≡ m = ap (λ (x : Work). x.machine) h.at in
     let is : found ≡ word h.run.work.machine.slot h.run.work.machine.field = ap (λ n. slice_index_or w.words n 0) here ∙ ap (λ (x : Machine). word x.slot x.field) (sym same) in
@@ -195,7 +195,7 @@ trial_rests_more w place kept phase named h =
       before = h.before;
       loaded = h.loaded ++ found ∷ [];
       run = noted h.run found;
-      trial = took_promised w.config.fields h.before h.loaded h.run m s found (loaded_leads w kept phase place named) h.at h.trial;
+      trial = took_promised w.config.fields h.before h.loaded h.run m s found (loaded_leads w m kept phase place named) h.at h.trial;
       at = took_recorded h.run m s found after.machine after.counts h.at refl;
       marks = still_marks word h.run found is h.run.work.machine.phase h.marks;
       blacks = still_blacks word h.run found is h.run.work.machine.phase h.blacks;
@@ -205,8 +205,9 @@ trial_rests_more w place kept phase named h =
     }
 
 -- The trial is over: it found what is not within reach, and its sets are to be prepared.
-pub prep_rests_begun : {w : Core} {crossing words : List ℕ} {v : Parts} → HasLanded w crossing words v → TrialRests w words v → trial_next v.trial ≡ None → PrepRests w words (prep_started v)
-prep_rests_begun {w} {crossing} {words} {v} l h over =
+pub prep_rests_begun : {w : Core} {crossing words : List ℕ} (v : Parts) (m : Machine) → HasLanded w crossing words (still v) → TrialRests w words (record { machine = m; counts = v.counts }) → trial_next m ≡ None
+    → PrepRests w words (prep_started v)
+prep_rests_begun {w} {crossing} {words} v m l h over =
     let fields : ℕ = w.config.fields in
     let word : ℕ → ℕ → ℕ = word_in fields words in
     let after : State = h.run.work.counts in
@@ -222,7 +223,7 @@ prep_rests_begun {w} {crossing} {words} {v} l h over =
       before = v.counts;
       before_kept = l.counts;
       loads = [];
-      prepares = subst (λ (x : preps.Work). PreparedTo fields v.counts x.machine.at x.counts []) (sym (started_is v.prep v.counts)) came.law;
+      prepares = subst (λ (x : preps.Work). PreparedTo fields v.counts x.machine.at x.counts []) (sym (started_is (new_prep v.fields) v.counts)) came.law;
       are_loads = loads_begun fields words;
       counted = subst (λ (t : State). (x i : ℕ) → (slot_at t x).set ≡ Some i → (slot_at t x).count ≡ heap_sum words x) same
           (found_counts fields h.before h.loaded words h.run (holds (sight w)) h.trial done h.marks h.blacks h.finds h.offered kept long h.emptied);

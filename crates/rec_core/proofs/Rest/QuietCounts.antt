@@ -18,8 +18,8 @@ use Rattle.rec_counts.specs.declared.slot.Slot.{Slot}
 use Rattle.rec_apply.specs.Targets.{named}
 use Rattle.rec_mutator.specs.Private.{Private}
 use Rattle.rec_collector.specs.Kept.{under_way}
-use Rattle.rec_collector.specs.Parts.{Parts}
 use Rattle.rec_collector.specs.Private.{blank, buffer_at}
+use Rattle.rec_collector.specs.Testing.{Begun}
 use Rattle.rec_collector.specs.declared.phase.Phase.{Phase}
 use Rattle.rec_collector.specs.declared.phase.Phase.TheVariants.{Idle}
 use Rattle.rec_core.specs.Config.{IsMutator}
@@ -175,8 +175,8 @@ accounted_count first w words s kept mutators stands way behind accounted slots 
     ledger_count w words s a x accounted silent snapshots (omega (arith, headers, below)) (omega (arith, slots, below))
 
 -- So it is where a turn of the collection has come to.
-pub landed_count : (first : ℕ) {w : Core} {crossing words : List ℕ} {v : Parts} → HasLanded w crossing words v → AreQuiet first w → AreGathered w → first < w.epoch → AreCounted w words v.counts
-landed_count first {w} {crossing} {words} {v} k quiet done early = accounted_count first w words v.counts k.kept k.mutators (λ t. refl) k.way k.older k.accounted k.slots quiet done early
+pub landed_count : (first : ℕ) {w : Core} {crossing words : List ℕ} {b : Begun} → HasLanded w crossing words b → AreQuiet first w → AreGathered w → first < w.epoch → AreCounted w words b.parts.counts
+landed_count first {w} {crossing} {words} {b} k quiet done early = accounted_count first w words b.parts.counts k.kept k.mutators (λ t. refl) k.way k.older k.accounted k.slots quiet done early
 
 -- Between two collections the older buffers are those of the last batch, and the newer ones spares.
 pub idle_count : (first : ℕ) (w : Core) → IsKept w → AreQuiet first w → w.collector.phase ≡ Idle → first < w.epoch → AreCounted w w.words w.collector.counts

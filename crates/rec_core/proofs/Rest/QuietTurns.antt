@@ -1,5 +1,5 @@
 -- A turn of the collector leaves the mutators of a heap at rest.
-use Rattle.std.proofs.Common.{◌≡◌, ◌≢◌, ◌⊎◌, inl, inr, ℕ, ◌+◌, ◌-◌, ◌≤◌, true, false, List, length, slice_get, slice_index_or, slice_set, refl, sym, ap, subst, ◌∙◌, arith}
+use Rattle.std.proofs.Common.{◌≡◌, ◌≢◌, ◌⊎◌, inl, inr, ℕ, ◌+◌, ◌-◌, ◌≤◌, true, false, Option, Some, List, length, slice_get, slice_index_or, slice_set, refl, sym, ap, subst, ◌∙◌, arith}
 use Rattle.std.proofs.lemmas.Bool.{cases_eq, false≢true, ltb-true, lt-ltb, leb-true, le-leb}
 use Rattle.std.proofs.lemmas.List.{get_or-set_same, get_or-set_other}
 use Rattle.rec_word.specs.Mailbox.{crossing_word}
@@ -8,10 +8,14 @@ use Rattle.rec_word.specs.declared.mailbox.Mailbox.TheVariants.{Retired, Spare, 
 use Rattle.rec_log.specs.declared.contents.Contents.{Contents}
 use Rattle.rec_mutator.specs.Private.{is_busy}
 use Rattle.rec_mutator.specs.Private as mutators
+use Rattle.rec_sigma.specs.Prepare as preps
+use Rattle.rec_trial.specs.Trial as trials
+use Rattle.rec_collector.specs.Clearing.{IsClearingIn}
 use Rattle.rec_collector.specs.Kept.{under_way}
 use Rattle.rec_collector.specs.Parts.{Parts}
 use Rattle.rec_collector.specs.Private.{Private, blank, buffer_at, spare, with_parts}
 use Rattle.rec_collector.specs.Step.{GoesOn, PreparesOn, TriesOn, ClearsOn}
+use Rattle.rec_collector.specs.Testing.{Begun}
 use Rattle.rec_collector.specs.Took.{ended, moved}
 use Rattle.rec_collector.specs.declared.phase.Phase.{Phase}
 use Rattle.rec_collector.specs.declared.phase.Phase.TheVariants.{Idle, Looking, Swapping, Returning, Releasing, Freeing, Trying, Preparing, Opening, Sweeping, Closing}
@@ -21,6 +25,11 @@ use Rattle.rec_core.specs.Core.{Core, mutator, box, crossing_of}
 use Rattle.rec_core.specs.Kept.{Stand, stand_at, IsHandshake, IsKept}
 use Rattle.rec_core.specs.Pending.{older_at}
 use Rattle.rec_core.specs.Quiet.{IsRetired, gathered, AreQuiet}
+use Rattle.rec_core.proofs.Begun.{applied_lands}
+use Rattle.rec_core.proofs.Freeing.{freed_lands}
+use Rattle.rec_core.proofs.Landed.{HasCleared}
+use Rattle.rec_core.proofs.Releasing.{released_lands}
+use Rattle.rec_core.proofs.SetTests.{tested_lands}
 use Rattle.rec_core.proofs.TurnCases.{crossing_with, words_without, swept_by, IsTurn}
 use Rattle.rec_core.specs.declared.config.Config.{Config}
 
@@ -38,13 +47,7 @@ older_most requested Idle = omega arith
 older_most requested (Looking t) = omega arith
 older_most requested (Swapping t) = omega arith
 older_most requested (Returning t) = omega arith
-older_most requested Releasing = omega arith
-older_most requested Freeing = omega arith
-older_most requested Trying = omega arith
-older_most requested Preparing = omega arith
-older_most requested Opening = omega arith
-older_most requested (Sweeping n) = omega arith
-older_most requested (Closing n) = omega arith
+older_most requested _ = omega arith
 
 -- Where nobody works, nothing of a later epoch than the requested one is there.
 pub quiet_begun : (w : Core) → IsKept w → ((t : ℕ) → IsMutator w.config t → is_busy (mutator w t) ≡ false) → AreQuiet (w.epoch + 1) w
@@ -84,22 +87,28 @@ goes_to next past g =
     GoesOrEnds.goes (ap (λ (x : Private). x.newer) g.after) (ap (λ (x : Private). x.older) g.after) (subst IsPast (sym (ap (λ (x : Private). x.phase) g.after)) past)
 
 -- a preparation that came so far
-prepares_comes : {c : Private} {w : Parts} {q : Private} {turn : Turn} → PreparesOn c w q turn → GoesOrEnds c q
-prepares_comes (PreparesOn.more left g) = goes_to Preparing tt g
-prepares_comes (PreparesOn.sweeps_next none some g) = goes_to Opening tt g
+prepares_comes : {c : Private} {w : Parts} {v : preps.Work} {q : Private} {turn : Turn} → PreparesOn c w v q turn → GoesOrEnds c q
+prepares_comes {c} {w} {v} (PreparesOn.more left g) = goes_to {w = record w { counts = v.counts }} (Preparing v.machine) tt g
+prepares_comes {c} {w} {v} (PreparesOn.sweeps_next none some g) = goes_to {w = record w { counts = v.counts }} Opening tt g
 prepares_comes (PreparesOn.completes none empty e) = GoesOrEnds.ends (ap (λ (x : Private). x.older) e.after) (ap (λ (x : Private). x.phase) e.after)
 
 -- a trial
-tries_comes : {c : Private} {w : Parts} {q : Private} {turn : Turn} → TriesOn c w q turn → GoesOrEnds c q
-tries_comes (TriesOn.more left g) = goes_to Trying tt g
+tries_comes : {c : Private} {w : Parts} {v : trials.Work} {q : Private} {turn : Turn} → TriesOn c w v q turn → GoesOrEnds c q
+tries_comes {c} {w} {v} (TriesOn.more left g) = goes_to {w = record w { counts = v.counts }} (Trying v.machine) tt g
 tries_comes (TriesOn.prepares none on) = prepares_comes on
 
--- a release, or the freeing of a set
-clears_comes : {c q : Private} {turn : Turn} {w : Parts} → ClearsOn c q turn w → GoesOrEnds c q
-clears_comes (ClearsOn.frees_on left g) = goes_to Freeing tt g
-clears_comes (ClearsOn.releases_on none left g) = goes_to Releasing tt g
-clears_comes (ClearsOn.tests v unfreed still some tested on) = clears_comes on
-clears_comes (ClearsOn.tries unfreed still none on) = tries_comes on
+-- what is begun between a batch and the next trial is a release, or the freeing of a set
+clearing_past : (v : Parts) (phase : Phase) → IsClearingIn v (Some phase) → IsPast phase
+clearing_past v (Releasing m) clear = tt
+clearing_past v (Freeing m) clear = tt
+clearing_past v _ clear = absurd clear
+
+-- one of these
+clears_comes : {w : Core} {crossing words : List ℕ} {q : Private} {turn : Turn} {b : Begun} → HasCleared w crossing words b → ClearsOn w.collector q turn b → GoesOrEnds w.collector q
+clears_comes {w} {crossing} {words} {q} {turn} {b} h (ClearsOn.works phase is g) = goes_to {w = b.parts} phase (clearing_past b.parts phase (subst (IsClearingIn b.parts) is h.clears.clearing)) g
+clears_comes {w} {crossing} {words} {q} {turn} {b} h (ClearsOn.tests c none some tested on) =
+    clears_comes (tested_lands w crossing words b.parts (subst (λ o. HasCleared w crossing words (record { parts = b.parts; phase = o })) none h) some c tested) on
+clears_comes h (ClearsOn.tries none left on) = tries_comes on
 
 -- Where every mailbox was gathered, and the collection goes on or is complete, the mutators rest. Headers, words and the freed word don't
 -- matter, and no crossing word turns into one of a mailbox that waits.
@@ -239,9 +248,9 @@ quiet_turned first w v kept after turn quiet = go turn
         (λ s there waits. (other_waits w t Spare s kept is there (λ e. cc) waits).1)
         comes quiet)
 
-    swept : (n : ℕ) (phase : Phase) → (phase ≡ Sweeping (n + 1)) ⊎ (phase ≡ Closing (n + 1)) → IsPast phase
-    swept n phase (inl is) = subst IsPast (sym is) tt
-    swept n phase (inr is) = subst IsPast (sym is) tt
+    swept : (due : Option ℕ) (n : ℕ) (phase : Phase) → (phase ≡ Sweeping due (n + 1)) ⊎ (phase ≡ Closing (n + 1)) → IsPast phase
+    swept due n phase (inl is) = subst IsPast (sym is) tt
+    swept due n phase (inr is) = subst IsPast (sym is) tt
 
     go : IsTurn w v → AreQuiet first v
     go (IsTurn.spent idle last e) = becomes w e quiet
@@ -249,12 +258,12 @@ quiet_turned first w v kept after turn quiet = go turn
     go (IsTurn.waits t is looks other e) = becomes w e quiet
     go (IsTurn.gathers t is looks crossed e) = becomes _ e (gathers_quiet first w t kept is looks crossed quiet)
     go (IsTurn.gives_back t is returns more e) = becomes _ e (gives_back_quiet first w t kept is returns quiet)
-    go (IsTurn.applies t q turned is returns last on e) = last_back t q is returns last (clears_comes on) e
-    go (IsTurn.releases a q turned at field on e) = past Releasing tt at w.headers (words_without w a.slot a.field) w.freed q (clears_comes on) e
-    go (IsTurn.frees a q turned at field on e) = past Freeing tt at w.headers (words_without w a.slot a.field) w.freed q (clears_comes on) e
-    go (IsTurn.tries place q turned at loads on e) = past Trying tt at w.headers w.words w.freed q (tries_comes on) e
-    go (IsTurn.prepares a q turned at field on e) = past Preparing tt at w.headers w.words w.freed q (prepares_comes on) e
+    go (IsTurn.applies t q turned is returns last on e) = last_back t q is returns last (clears_comes (applied_lands w t kept returns last) on) e
+    go (IsTurn.releases m a q turned at field on e) = past (Releasing m) tt at w.headers (words_without w a.slot a.field) w.freed q (clears_comes (released_lands w m a kept at field) on) e
+    go (IsTurn.frees m a q turned at field on e) = past (Freeing m) tt at w.headers (words_without w a.slot a.field) w.freed q (clears_comes (freed_lands w m a kept at field) on) e
+    go (IsTurn.tries m place q turned at loads on e) = past (Trying m) tt at w.headers w.words w.freed q (tries_comes on) e
+    go (IsTurn.prepares m a q turned at field on e) = past (Preparing m) tt at w.headers w.words w.freed q (prepares_comes on) e
     go (IsTurn.begins_sweep at e) =
-        past Opening tt at w.headers w.words (w.freed + 1) (moved (record w.collector { due = slice_get w.collector.counts.free 0 }) (Sweeping 0)) (GoesOrEnds.goes refl refl tt) e
-    go (IsTurn.sweeps n slot next at due more e) = past (Sweeping n) tt at (slice_set w.headers slot 0) w.words w.freed (swept_by w.collector slot next) (GoesOrEnds.goes refl refl (swept n next more)) e
+        past Opening tt at w.headers w.words (w.freed + 1) (moved w.collector (Sweeping (slice_get w.collector.counts.free 0) 0)) (GoesOrEnds.goes refl refl tt) e
+    go (IsTurn.sweeps n slot next at more e) = past (Sweeping (Some slot) n) tt at (slice_set w.headers slot 0) w.words w.freed (swept_by w.collector slot next) (GoesOrEnds.goes refl refl (swept _ n next more)) e
     go (IsTurn.ends_sweep n at e) = past (Closing n) tt at w.headers w.words (w.freed + 1) (ended w.collector) (GoesOrEnds.ends refl refl) e

@@ -1,7 +1,8 @@
 -- What is known of a heap at rest is said of what is held in it alone: of headers and registers.
 use Rattle.std.proofs.Common.{◌≡◌, ℕ, false, None, Some, List, sym, ap, subst}
 use Rattle.rec_counts.specs.Counts.{State, slot_at}
-use Rattle.rec_collector.specs.Parts.{Parts}
+use Rattle.rec_sigma.specs.Prepare as preps
+use Rattle.rec_trial.specs.Trial.{Work}
 use Rattle.rec_collector.specs.Private.{Private}
 use Rattle.rec_collector.specs.declared.phase.Phase.{Phase}
 use Rattle.rec_collector.specs.declared.phase.Phase.TheVariants.{Idle, Looking, Swapping, Returning, Releasing, Freeing, Trying, Preparing, Opening, Sweeping, Closing}
@@ -26,7 +27,7 @@ module _ (w v : Core) (same : holds (sight v) ≡ holds (sight w)) (words : List
   unnamed_seen : (s : State) → AreUnnamed w s → AreUnnamed (seen_as w v) s
   unnamed_seen s h = subst (λ (f : ℕ → ℕ). (x i : ℕ) → (slot_at s x).set ≡ Some i → f x ≡ 0) (sym same) h
 
-  trial_seen : (p : Parts) → TrialRests w words p → TrialRests (seen_as w v) words p
+  trial_seen : (p : Work) → TrialRests w words p → TrialRests (seen_as w v) words p
   trial_seen p h = record {
     before = h.before;
     loaded = h.loaded;
@@ -40,7 +41,7 @@ module _ (w v : Core) (same : holds (sight v) ≡ holds (sight w)) (words : List
     emptied = h.emptied;
   }
 
-  prep_seen : (p : Parts) → PrepRests w words p → PrepRests (seen_as w v) words p
+  prep_seen : (p : preps.Work) → PrepRests w words p → PrepRests (seen_as w v) words p
   prep_seen p h = record {
     before = h.before;
     before_kept = h.before_kept;
@@ -57,10 +58,10 @@ module _ (w v : Core) (same : holds (sight v) ≡ holds (sight w)) (words : List
   sets_seen left s h = record { unheld = h.unheld; found = found_seen s h.found; unnamed = unnamed_seen s h.unnamed }
 
   first_seen : (c : Private) (phase : Phase) → RestsIn Round.First w words c phase → RestsIn Round.First (seen_as w v) words c phase
-  first_seen c Trying h = trial_seen _ h
-  first_seen c Preparing h = prep_seen _ h
+  first_seen c (Trying trial) h = trial_seen _ h
+  first_seen c (Preparing prep) h = prep_seen _ h
   first_seen c Opening h = sets_seen _ _ h
-  first_seen c (Sweeping n) h = sets_seen _ _ h
+  first_seen c (Sweeping due n) h = sets_seen _ _ h
   first_seen c (Closing n) h = sets_seen _ _ h
   first_seen c _ h = h
 
@@ -69,8 +70,8 @@ module _ (w v : Core) (same : holds (sight v) ≡ holds (sight w)) (words : List
   second_seen c (Looking t) h = sets_seen _ _ h
   second_seen c (Swapping t) h = sets_seen _ _ h
   second_seen c (Returning t) h = sets_seen _ _ h
-  second_seen c Releasing h = absurd h
-  second_seen c Freeing h = record { sets = sets_seen _ _ h.sets; zeros = h.zeros; still = h.still }
+  second_seen c (Releasing release) h = absurd h
+  second_seen c (Freeing freeing) h = sets_seen _ _ h
   second_seen c _ h = within_seen c.counts h
 
   round_seen : (r : Round) (c : Private) (phase : Phase) → RestsIn r w words c phase → RestsIn r (seen_as w v) words c phase

@@ -1,5 +1,5 @@
 -- A heap at rest, over the turns of the collection whose trial is offered every slot and of the one that frees its sets.
-use Rattle.std.proofs.Common.{◌≡◌, ◌⊎◌, inl, inr, ℕ, ◌+◌, ◌≤◌, Some, slice_set, refl, sym, ap, subst, ◌∙◌, arith}
+use Rattle.std.proofs.Common.{◌≡◌, ◌⊎◌, inl, inr, ℕ, ◌+◌, ◌≤◌, Option, Some, drop, slice_get, slice_set, refl, sym, ap, subst, ◌∙◌, arith}
 use Rattle.std.proofs.lemmas.Bool.{false≢true}
 use Rattle.rec_collector.specs.declared.phase.Phase.{Phase}
 use Rattle.rec_collector.specs.declared.phase.Phase.TheVariants.{Idle, Looking, Returning, Releasing, Freeing, Trying, Preparing, Opening, Sweeping, Closing}
@@ -16,22 +16,26 @@ use Rattle.rec_core.proofs.Rest.SecondTurns.{second_turned}
 use Rattle.rec_core.proofs.Rest.TurnRules.{turn_is}
 use Rattle.rec_core.proofs.Rest.Within.{sets_swept, within_swept}
 
+-- behind a slot that is swept the sweep goes on, or ends
+abbrev FollowsSweep : Core → (n : ℕ) → (next : Phase) → Type 0
+FollowsSweep w n next = (next ≡ Sweeping (slice_get (drop 1 w.collector.counts.free) 0) (n + 1)) ⊎ (next ≡ Closing (n + 1))
+
 -- in a phase in which a slot is swept, whatever the round
-swept_first : (w : Core) (n slot : ℕ) (next : Phase) → IsKept w → w.collector.phase ≡ Sweeping n → w.collector.due ≡ Some slot → (next ≡ Sweeping (n + 1)) ⊎ (next ≡ Closing (n + 1)) → RestsIn Round.First w w.words w.collector (Sweeping n)
+swept_first : (w : Core) (n slot : ℕ) (next : Phase) → IsKept w → w.collector.phase ≡ Sweeping (Some slot) n → FollowsSweep w n next → RestsIn Round.First w w.words w.collector (Sweeping (Some slot) n)
     → RestsIn Round.First (header_freed w slot) w.words (swept_by w.collector slot next) next
-swept_first w n slot next kept phase due (inl is) h = subst (RestsIn Round.First (header_freed w slot) w.words (swept_by w.collector slot next)) (sym is) (sets_swept w n slot kept phase due h)
-swept_first w n slot next kept phase due (inr is) h = subst (RestsIn Round.First (header_freed w slot) w.words (swept_by w.collector slot next)) (sym is) (sets_swept w n slot kept phase due h)
+swept_first w n slot next kept phase (inl is) h = subst (RestsIn Round.First (header_freed w slot) w.words (swept_by w.collector slot next)) (sym is) (sets_swept w n slot kept phase h)
+swept_first w n slot next kept phase (inr is) h = subst (RestsIn Round.First (header_freed w slot) w.words (swept_by w.collector slot next)) (sym is) (sets_swept w n slot kept phase h)
 
-swept_second : (w : Core) (n slot : ℕ) (next : Phase) → IsKept w → w.collector.phase ≡ Sweeping n → w.collector.due ≡ Some slot → (next ≡ Sweeping (n + 1)) ⊎ (next ≡ Closing (n + 1)) → RestsIn Round.Second w w.words w.collector (Sweeping n)
+swept_second : (w : Core) (n slot : ℕ) (next : Phase) → IsKept w → w.collector.phase ≡ Sweeping (Some slot) n → FollowsSweep w n next → RestsIn Round.Second w w.words w.collector (Sweeping (Some slot) n)
     → RestsIn Round.Second (header_freed w slot) w.words (swept_by w.collector slot next) next
-swept_second w n slot next kept phase due (inl is) h = subst (RestsIn Round.Second (header_freed w slot) w.words (swept_by w.collector slot next)) (sym is) (within_swept w n slot kept phase due h)
-swept_second w n slot next kept phase due (inr is) h = subst (RestsIn Round.Second (header_freed w slot) w.words (swept_by w.collector slot next)) (sym is) (within_swept w n slot kept phase due h)
+swept_second w n slot next kept phase (inl is) h = subst (RestsIn Round.Second (header_freed w slot) w.words (swept_by w.collector slot next)) (sym is) (within_swept w n slot kept phase h)
+swept_second w n slot next kept phase (inr is) h = subst (RestsIn Round.Second (header_freed w slot) w.words (swept_by w.collector slot next)) (sym is) (within_swept w n slot kept phase h)
 
-swept_rests : (r : Round) (w : Core) (n slot : ℕ) (next : Phase) → IsKept w → w.collector.phase ≡ Sweeping n → w.collector.due ≡ Some slot → (next ≡ Sweeping (n + 1)) ⊎ (next ≡ Closing (n + 1)) → RestsIn r w w.words w.collector (Sweeping n)
+swept_rests : (r : Round) (w : Core) (n slot : ℕ) (next : Phase) → IsKept w → w.collector.phase ≡ Sweeping (Some slot) n → FollowsSweep w n next → RestsIn r w w.words w.collector (Sweeping (Some slot) n)
     → RestsIn r (header_freed w slot) w.words (swept_by w.collector slot next) next
-swept_rests Round.First w n slot next kept phase due which h = swept_first w n slot next kept phase due which h
-swept_rests Round.Second w n slot next kept phase due which h = swept_second w n slot next kept phase due which h
-swept_rests Round.Over w n slot next kept phase due which h = within_swept w n slot kept phase due h
+swept_rests Round.First w n slot next kept phase which h = swept_first w n slot next kept phase which h
+swept_rests Round.Second w n slot next kept phase which h = swept_second w n slot next kept phase which h
+swept_rests Round.Over w n slot next kept phase which h = within_swept w n slot kept phase h
 
 -- where a turn has come to is said of the heap that it left, where the same is held in it
 seen : (r : Round) (w v : Core) → v.config ≡ w.config → holds (sight v) ≡ holds (sight w) → ComesTo r w v.words v.collector → TurnsTo r w v
@@ -43,7 +47,7 @@ record IsSeenAlike (w v : Core) : Type 0 where
   config : v.config ≡ w.config
   held : holds (sight v) ≡ holds (sight w)
 
-alike : (w v : Core) → IsTurn w v → ((n : ℕ) → w.collector.phase ≡ Sweeping n → ⊥) → IsSeenAlike w v
+alike : (w v : Core) → IsTurn w v → ((due : Option ℕ) (n : ℕ) → w.collector.phase ≡ Sweeping due n → ⊥) → IsSeenAlike w v
 alike w v turn unswept = go turn
   where
     same : (x : Core) → v ≡ x → x.config ≡ w.config → holds (sight x) ≡ holds (sight w) → IsSeenAlike w v
@@ -56,21 +60,21 @@ alike w v turn unswept = go turn
     go (IsTurn.gathers t there phase word is) = same _ is refl refl
     go (IsTurn.gives_back t there phase other is) = same _ is refl refl
     go (IsTurn.applies t q answer there phase last on is) = same _ is refl refl
-    go (IsTurn.releases a q answer phase at on is) = same _ is refl refl
-    go (IsTurn.frees a q answer phase at on is) = same _ is refl refl
-    go (IsTurn.tries place q answer phase named on is) = same _ is refl refl
-    go (IsTurn.prepares a q answer phase at on is) = same _ is refl refl
+    go (IsTurn.releases m a q answer phase at on is) = same _ is refl refl
+    go (IsTurn.frees m a q answer phase at on is) = same _ is refl refl
+    go (IsTurn.tries m place q answer phase named on is) = same _ is refl refl
+    go (IsTurn.prepares m a q answer phase at on is) = same _ is refl refl
     go (IsTurn.begins_sweep phase is) = same _ is refl refl
-    go (IsTurn.sweeps n slot next phase due which is) = absurd (unswept n phase)
+    go (IsTurn.sweeps n slot next phase which is) = absurd (unswept (Some slot) n phase)
     go (IsTurn.ends_sweep n phase is) = same _ is refl refl
 
 -- whether a slot is swept
-sweeping_or_not : (phase : Phase) → ((n : ℕ) × (phase ≡ Sweeping n)) ⊎ ((n : ℕ) → phase ≡ Sweeping n → ⊥)
-sweeping_or_not (Sweeping n) = inl (n, refl)
-sweeping_or_not _ = inr (λ n is. cc)
+sweeping_or_not : (phase : Phase) → ((due : Option ℕ) × (n : ℕ) × (phase ≡ Sweeping due n)) ⊎ ((due : Option ℕ) (n : ℕ) → phase ≡ Sweeping due n → ⊥)
+sweeping_or_not (Sweeping due n) = inl (due, n, refl)
+sweeping_or_not _ = inr (λ due n is. cc)
 
 -- one phase isn't another
-other : {n : ℕ} {at : Phase} (phase : Phase) → (phase ≡ Sweeping n → ⊥) → at ≡ phase → at ≡ Sweeping n → ⊥
+other : {due : Option ℕ} {n : ℕ} {at : Phase} (phase : Phase) → (phase ≡ Sweeping due n → ⊥) → at ≡ phase → at ≡ Sweeping due n → ⊥
 other phase differs is sweeping = differs (sym is ∙ sweeping)
 
 module _ (first : ℕ) (w : Core) (kept : IsKept w) (quiet : AreQuiet first w) where
@@ -79,7 +83,7 @@ module _ (first : ℕ) (w : Core) (kept : IsKept w) (quiet : AreQuiet first w) w
   busy all idle = false≢true (sym (ap (λ phase. gathered phase 1) idle) ∙ all 1 (omega arith, kept.config.some_mutators))
 
   -- a turn that sweeps no slot
-  comes : (r : Round) (v : Core) → IsTurn w v → ((w.collector.phase ≡ Idle → ⊥) → first + epochs_before r ≤ w.epoch) → ((n : ℕ) → w.collector.phase ≡ Sweeping n → ⊥) → RestsIn r w w.words w.collector w.collector.phase → (r ≡ Round.Over → ⊥)
+  comes : (r : Round) (v : Core) → IsTurn w v → ((w.collector.phase ≡ Idle → ⊥) → first + epochs_before r ≤ w.epoch) → ((due : Option ℕ) (n : ℕ) → w.collector.phase ≡ Sweeping due n → ⊥) → RestsIn r w w.words w.collector w.collector.phase → (r ≡ Round.Over → ⊥)
       → ComesTo r w v.words v.collector
   comes Round.First v turn late unswept h some =
       let (words, same, there) = first_turned w v kept turn (λ all crossing words u l. landed_count first l quiet all (omega (arith, late (busy all)))) unswept h in
@@ -88,29 +92,29 @@ module _ (first : ℕ) (w : Core) (kept : IsKept w) (quiet : AreQuiet first w) w
   comes Round.Over v turn late unswept h some = absurd (some refl)
 
   -- a turn that sweeps one
-  sweeps : (r : Round) (n : ℕ) (v : Core) → IsTurn w v → w.collector.phase ≡ Sweeping n → RestsIn r w w.words w.collector (Sweeping n) → TurnsTo r w v
-  sweeps r n v (IsTurn.sweeps m slot next phase due which is) sweeping h =
+  sweeps : (r : Round) (due : Option ℕ) (n : ℕ) (v : Core) → IsTurn w v → w.collector.phase ≡ Sweeping due n → RestsIn r w w.words w.collector (Sweeping due n) → TurnsTo r w v
+  sweeps r due n v (IsTurn.sweeps m slot next phase which is) sweeping h =
       let rests = rests_seen r (header_freed w slot) (record w { headers = slice_set w.headers slot 0; collector = swept_by w.collector slot next }) refl refl w.words (swept_by w.collector slot next) next
-      (swept_rests r w m slot next kept phase due which (subst (RestsIn r w w.words w.collector) (sym sweeping ∙ phase) h)) in
+      (swept_rests r w m slot next kept phase which (subst (RestsIn r w w.words w.collector) (sym sweeping ∙ phase) h)) in
       subst (TurnsTo r w) (sym is) (TurnsTo.goes_on refl rests)
-  sweeps r n v (IsTurn.spent phase last is) sweeping h = absurd (other Idle (λ e. cc) phase sweeping)
-  sweeps r n v (IsTurn.requests phase is) sweeping h = absurd (other Idle (λ e. cc) phase sweeping)
-  sweeps r n v (IsTurn.waits t there phase word is) sweeping h = absurd (other (Looking t) (λ e. cc) phase sweeping)
-  sweeps r n v (IsTurn.gathers t there phase word is) sweeping h = absurd (other (Looking t) (λ e. cc) phase sweeping)
-  sweeps r n v (IsTurn.gives_back t there phase more is) sweeping h = absurd (other (Returning t) (λ e. cc) phase sweeping)
-  sweeps r n v (IsTurn.applies t q answer there phase last on is) sweeping h = absurd (other (Returning t) (λ e. cc) phase sweeping)
-  sweeps r n v (IsTurn.releases a q answer phase at on is) sweeping h = absurd (other Releasing (λ e. cc) phase sweeping)
-  sweeps r n v (IsTurn.frees a q answer phase at on is) sweeping h = absurd (other Freeing (λ e. cc) phase sweeping)
-  sweeps r n v (IsTurn.tries place q answer phase named on is) sweeping h = absurd (other Trying (λ e. cc) phase sweeping)
-  sweeps r n v (IsTurn.prepares a q answer phase at on is) sweeping h = absurd (other Preparing (λ e. cc) phase sweeping)
-  sweeps r n v (IsTurn.begins_sweep phase is) sweeping h = absurd (other Opening (λ e. cc) phase sweeping)
-  sweeps r n v (IsTurn.ends_sweep m phase is) sweeping h = absurd (other (Closing m) (λ e. cc) phase sweeping)
+  sweeps r due n v (IsTurn.spent phase last is) sweeping h = absurd (other Idle (λ e. cc) phase sweeping)
+  sweeps r due n v (IsTurn.requests phase is) sweeping h = absurd (other Idle (λ e. cc) phase sweeping)
+  sweeps r due n v (IsTurn.waits t there phase word is) sweeping h = absurd (other (Looking t) (λ e. cc) phase sweeping)
+  sweeps r due n v (IsTurn.gathers t there phase word is) sweeping h = absurd (other (Looking t) (λ e. cc) phase sweeping)
+  sweeps r due n v (IsTurn.gives_back t there phase more is) sweeping h = absurd (other (Returning t) (λ e. cc) phase sweeping)
+  sweeps r due n v (IsTurn.applies t q answer there phase last on is) sweeping h = absurd (other (Returning t) (λ e. cc) phase sweeping)
+  sweeps r due n v (IsTurn.releases m a q answer phase at on is) sweeping h = absurd (other (Releasing m) (λ e. cc) phase sweeping)
+  sweeps r due n v (IsTurn.frees m a q answer phase at on is) sweeping h = absurd (other (Freeing m) (λ e. cc) phase sweeping)
+  sweeps r due n v (IsTurn.tries m place q answer phase named on is) sweeping h = absurd (other (Trying m) (λ e. cc) phase sweeping)
+  sweeps r due n v (IsTurn.prepares m a q answer phase at on is) sweeping h = absurd (other (Preparing m) (λ e. cc) phase sweeping)
+  sweeps r due n v (IsTurn.begins_sweep phase is) sweeping h = absurd (other Opening (λ e. cc) phase sweeping)
+  sweeps r due n v (IsTurn.ends_sweep m phase is) sweeping h = absurd (other (Closing m) (λ e. cc) phase sweeping)
 
   -- Every turn of either collection keeps what is known of it, and its last one leaves what is known of the next. Mutators did nothing
   -- in so many epochs.
   pub rests_turned : (r : Round) → ((w.collector.phase ≡ Idle → ⊥) → first + epochs_before r ≤ w.epoch) → (r ≡ Round.Over → ⊥) → RestsIn r w w.words w.collector w.collector.phase → TurnsTo r w (turned w)
   rests_turned r late some h = elim (sweeping_or_not w.collector.phase) [
-    | inl is ↦ sweeps r is.0 (turned w) (turn_is w kept) is.1 (subst (RestsIn r w w.words w.collector) is.1 h)
+    | inl is ↦ sweeps r is.0 is.1 (turned w) (turn_is w kept) is.2 (subst (RestsIn r w w.words w.collector) is.2 h)
     | inr unswept ↦
         let same : IsSeenAlike w (turned w) = alike w (turned w) (turn_is w kept) unswept in
         seen r w (turned w) same.config same.held (comes r (turned w) (turn_is w kept) late unswept h some)

@@ -1,5 +1,5 @@
 -- The batch of a heap at rest: it counts what registers name, and no register names a member of a set. So nothing holds the sets still.
-use Rattle.std.proofs.Common.{◌≡◌, ℕ, ◌+◌, ◌-◌, ◌<◌, Bool, false, Option, Some, List, [], length, map, sym, ap, subst, ◌∙◌, arith}
+use Rattle.std.proofs.Common.{◌≡◌, ℕ, ◌+◌, ◌-◌, ◌<◌, Bool, false, Option, None, Some, List, [], length, map, sym, ap, subst, ◌∙◌, arith}
 use Rattle.std.specs.List.{flat_map}
 use Rattle.std.proofs.lemmas.List.Sums.{get_or-le-sum_by}
 use Rattle.rec_model.proofs.Sums.{sum_by-map}
@@ -10,17 +10,19 @@ use Rattle.rec_counts.specs.Rest.{KeepsRest}
 use Rattle.rec_apply.specs.Batch.{batch, down_targets, up_targets}
 use Rattle.rec_apply.specs.Targets.{new_target, old_target, named}
 use Rattle.rec_apply.proofs.Naming.{named-nil, added_is, taken_is}
-use Rattle.rec_walk.specs.Walk.{places_left}
-use Rattle.rec_release.specs.Release.{first_of, started_of, without_first}
+use Rattle.rec_release.specs.Release.{started_of}
+use Rattle.rec_release.specs.TakenOff.{IsApart}
 use Rattle.rec_mutator.specs.Private.{Private}
-use Rattle.rec_collector.specs.Clearing.{IsClearing}
+use Rattle.rec_collector.specs.Clearing.{IsCleared}
 use Rattle.rec_collector.specs.Parts.{Parts}
 use Rattle.rec_collector.specs.Private as collectors
 use Rattle.rec_collector.specs.Private.{buffer_at, parts_of}
-use Rattle.rec_collector.specs.Testing.{zeros_released}
+use Rattle.rec_collector.specs.Testing.{Begun, zeros_released}
 use Rattle.rec_collector.specs.Took.{batched}
-use Rattle.rec_collector.specs.declared.phase.Phase.TheVariants.{Returning}
-use Rattle.rec_collector.proofs.Following.{batched_clear, resting_clear}
+use Rattle.rec_collector.specs.declared.phase.Phase.{Phase}
+use Rattle.rec_collector.specs.declared.phase.Phase.TheVariants.{Returning, Freeing}
+use Rattle.rec_collector.proofs.Following.{batched_clear, resting_cleared}
+use Rattle.rec_collector.proofs.Goings.{first_begun}
 use Rattle.rec_core.specs.Config.{IsMutator}
 use Rattle.rec_core.specs.Core.{Core, mutator, nobody, sight}
 use Rattle.rec_core.specs.Kept.{IsKept}
@@ -32,15 +34,19 @@ use Rattle.rec_core.proofs.Rest.SecondReach.{no_zeros_rest}
 use Rattle.rec_core.proofs.Rest.SettlingBetween.{AreOutside, unheld_batch}
 use Rattle.rec_core.proofs.Turns.{now_at}
 
+-- Between the batch and the trial of the second collection the last set passed and is freed, or nothing is begun: no slot is released.
+abbrev pub FreesIn : Core → (words : List ℕ) → Parts → Option Phase → Type 0
+FreesIn w words v None = SetsRest w words [] v.counts
+FreesIn w words v (Some (Freeing m)) = FreesRest w words (record { machine = m; counts = v.counts })
+FreesIn w words v (Some _) = ⊥
+
+abbrev pub FreesOn : Core → (words : List ℕ) → Begun → Type 0
+FreesOn w words b = FreesIn w words b.parts b.phase
+
 -- Where there are no zeros, none is released.
-pub no_zeros_released : (w : Core) (words : List ℕ) (lowers : Bool) (v : Parts) → v.counts.zeros ≡ []
-    → SetsRest w words (places_left v.freeing.fields v.counts.work v.freeing.at) v.counts → FreesRest w words (zeros_released lowers v)
+pub no_zeros_released : (w : Core) (words : List ℕ) (lowers : Bool) (v : Parts) → v.counts.zeros ≡ [] → SetsRest w words [] v.counts → FreesOn w words (zeros_released lowers v)
 unfolding started_of
-no_zeros_released w words lowers v none rest = record {
-  sets = subst (λ zs. SetsRest w words (places_left v.freeing.fields (without_first zs v.counts).work v.freeing.at) (without_first zs v.counts)) (sym none) rest;
-  zeros = ap (λ zs. (without_first zs v.counts).zeros) none ∙ none;
-  still = ap first_of none;
-}
+no_zeros_released w words lowers v none rest = subst (λ zs. FreesOn w words (first_begun v.fields lowers zs v)) (sym none) rest
 
 -- what a buffer without entries adds and takes off is what its snapshot names
 added_by : (x : ℕ) (registers : List (Option ℕ)) (b : Contents) → IsRetired registers b → named x registers ≡ 0 → named x (map new_target b.entries) + named x b.snapshot ≡ 0
@@ -95,13 +101,9 @@ module _ (w : Core) (t : ℕ) (kept : IsKept w) (phase : w.collector.phase ≡ R
     unnamed = λ x i is. rested.unnamed x i (sym (keeps.set x) ∙ is);
   }
 
-  clear : IsClearing (batched c)
-  clear =
-      let before : IsClearing (parts_of c) = resting_clear (parts_of c) rest in
-      batched_clear (parts_of c) c.newer c.older (falls w t kept phase last) rest.still rest.unfreed before
-
   -- The batch is applied. No zeros are left of it, as the counts come to what fields and registers name.
-  pub frees_rest_applied : AreCounted w w.words (batch w.collector.counts w.collector.newer w.collector.older) → FreesRest w w.words (zeros_released false (batched w.collector))
+  pub frees_rest_applied : AreCounted w w.words (batch w.collector.counts w.collector.newer w.collector.older) → FreesOn w w.words (zeros_released false (batched w.collector))
   frees_rest_applied counted =
-      let none : s.zeros ≡ [] = no_zeros_rest w w.words [] s (keeps.slots ∙ kept.collector.slots) (counted_zeros w t kept phase last) clear.apart counted rested_then in
-      no_zeros_released w w.words false (batched c) none (subst (λ at. SetsRest w w.words (places_left c.freeing.fields s.work at) s) (sym rest.unfreed) rested_then)
+      let before : IsCleared (parts_of c) = resting_cleared (parts_of c) rest in
+      let apart : IsApart s = (batched_clear c.fields c.counts c.newer c.older (falls w t kept phase last) before.tidy before.ready before.work).0.apart in
+      no_zeros_released w w.words false (batched c) (no_zeros_rest w w.words [] s (keeps.slots ∙ kept.collector.slots) (counted_zeros w t kept phase last) apart counted rested_then) rested_then

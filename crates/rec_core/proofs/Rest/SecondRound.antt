@@ -8,21 +8,29 @@ use Rattle.rec_counts.specs.Counts.{State, IsKept, slot_at}
 use Rattle.rec_counts.specs.Groups.{last_set}
 use Rattle.rec_counts.specs.Slot.{is_in}
 use Rattle.rec_counts.proofs.Keeping.{set_there}
+use Rattle.rec_walk.specs.declared.member.Member.{Member}
 use Rattle.rec_walk.specs.Walk.{first_member}
 use Rattle.rec_release.specs.CycleFree.{given_up, started_of}
 use Rattle.rec_walk.specs.Walk.{places_left}
 use Rattle.rec_sigma.specs.Judged.{AreOrange, cyclic_sum}
-use Rattle.rec_collector.specs.Followed.{trial_started}
-use Rattle.rec_collector.specs.Parts.{Parts}
-use Rattle.rec_collector.specs.Private.{Private}
+use Rattle.rec_trial.specs.Trial as trials
+use Rattle.rec_collector.specs.Clearing.{IsCleared}
+use Rattle.rec_collector.specs.Followed.{with_offers}
+use Rattle.rec_collector.specs.Parts.{Parts, new_freeing}
+use Rattle.rec_collector.specs.Private.{Private, with_parts}
 use Rattle.rec_collector.specs.Step.{ClearsOn, IsTested, TriesOn}
-use Rattle.rec_collector.specs.Testing.{with_freeing}
+use Rattle.rec_collector.specs.Testing.{Begun, freeing_at, with_freeing}
+use Rattle.rec_collector.specs.Took.{moved}
+use Rattle.rec_collector.specs.declared.phase.Phase.{Phase}
+use Rattle.rec_collector.specs.declared.phase.Phase.TheVariants.{Freeing}
 use Rattle.rec_collector.specs.declared.sets.Sets.{Sets}
 use Rattle.rec_collector.specs.declared.turn.Turn.{Turn}
+use Rattle.rec_collector.proofs.Goings.{still}
 use Rattle.rec_core.specs.Core.{Core}
-use Rattle.rec_core.specs.Resting.{AreWithinReach, ComesTo, FreesRest, Round, SetsRest}
+use Rattle.rec_core.specs.Resting.{AreWithinReach, ComesTo, RestsIn, Round, SetsRest}
 use Rattle.rec_core.specs.Resting.ComesTo.{goes_on}
 use Rattle.rec_core.proofs.Landed.{HasCleared}
+use Rattle.rec_core.proofs.Rest.SecondBatch.{FreesIn, FreesOn}
 use Rattle.rec_core.proofs.Rest.SettlingPasses.{IsGivenUp, given, still_in, unheld_given_up, unheld_passes}
 use Rattle.rec_core.proofs.SetTests.{tested_lands}
 use Rattle.rec_core.proofs.Zeros.{some_fields}
@@ -32,18 +40,14 @@ places_begun : (fields : ℕ) (members : List ℕ) → places_of fields members 
 places_begun fields [] = refl
 places_begun fields (x ∷ xs) = refl
 
-module _ (w : Core) (words : List ℕ) (v : Parts) (fields : 0 < w.config.fields) (own_fields : v.freeing.fields ≡ w.config.fields) (kept : IsKept v.counts)
-    (work : v.counts.work ≡ []) (unfreed : v.freeing.at ≡ None) (rested : FreesRest w words v) where
+module _ (w : Core) (words : List ℕ) (v : Parts) (fields : 0 < w.config.fields) (own_fields : v.fields ≡ w.config.fields) (kept : IsKept v.counts) (clear : IsCleared v) (rested : SetsRest w words [] v.counts) where
   open v use {counts as s}
 
   abbrev number : ℕ
   number = length s.sets - 1
 
-  rested_now : SetsRest w words [] s
-  rested_now = subst (λ at. SetsRest w words (places_left v.freeing.fields s.work at) s) unfreed rested.sets
-
   passes : AreOrange s number × (cyclic_sum s number ≡ 0)
-  passes = unheld_passes w.config.fields words s kept rested_now.unheld
+  passes = unheld_passes w.config.fields words s kept rested.unheld
 
   -- what is left is found as before: members of the last set are released now
   found : (x : ℕ) → (slot_at (given_up s) x).released ≡ false → (slot_at (given_up s) x).set ≡ None → (slot_at s x).released ≡ false × ((slot_at s x).set ≡ None)
@@ -55,45 +59,57 @@ module _ (w : Core) (words : List ℕ) (v : Parts) (fields : 0 < w.config.fields
 
   rested_then : SetsRest w words (places_of w.config.fields (last_set s.sets)) (given_up s)
   rested_then = record {
-    unheld = unheld_given_up w.config.fields words s fields kept rested_now.unheld;
-    found = λ x unreleased none. let was = found x unreleased none in rested_now.found x was.0 was.1;
-    unnamed = λ x i is. rested_now.unnamed x i (still_in s x i is).was;
+    unheld = unheld_given_up w.config.fields words s fields kept rested.unheld;
+    found = λ x unreleased none. let was = found x unreleased none in rested.found x was.0 was.1;
+    unnamed = λ x i is. rested.unnamed x i (still_in s x i is).was;
   }
 
-  given_rests : (sets : Sets) → FreesRest w words (with_freeing (record v { sets = sets }) (started_of v.freeing s))
+  given_rests : (sets : Sets) → FreesOn w words (with_freeing (record v { sets = sets }) (started_of (new_freeing v.fields) s))
   unfolding started_of
-  given_rests sets =
-      let left : places_of w.config.fields (last_set s.sets) ≡ places_left v.freeing.fields (s.work ++ last_set s.sets) (first_member (slice_get (last_set s.sets) 0)) =
-      ap (λ n. places_of n (last_set s.sets)) (sym own_fields)
-      ∙ places_begun v.freeing.fields (last_set s.sets)
-      ∙ ap (λ held. places_left v.freeing.fields (held ++ last_set s.sets) (first_member (slice_get (last_set s.sets) 0))) (sym work) in
-      record { sets = subst (λ ps. SetsRest w words ps (given_up s)) left rested_then; zeros = rested.zeros; still = rested.still }
+  given_rests sets = by (first_member (slice_get (last_set s.sets) 0)) refl
+    where
+      left : places_of w.config.fields (last_set s.sets) ≡ places_left v.fields (s.work ++ last_set s.sets) (first_member (slice_get (last_set s.sets) 0))
+      left =
+          ap (λ n. places_of n (last_set s.sets)) (sym own_fields)
+          ∙ places_begun v.fields (last_set s.sets)
+          ∙ ap (λ held. places_left v.fields (held ++ last_set s.sets) (first_member (slice_get (last_set s.sets) 0))) (sym clear.work)
 
-  tested_rests : (u : Parts) → IsTested v u → FreesRest w words u
-  tested_rests u (IsTested.passes orange none is) = subst (FreesRest w words) (sym is) (given_rests (record v.sets { freed = v.sets.freed + 1 }))
-  tested_rests u (IsTested.fails_delta t touched last is) = absurd (touched passes.0)
-  tested_rests u (IsTested.fails_sigma t orange some last is) = absurd (omega (arith, some, passes.1))
+      rests : SetsRest w words (places_left v.fields (s.work ++ last_set s.sets) (first_member (slice_get (last_set s.sets) 0))) (given_up s)
+      rests = subst (λ ps. SetsRest w words ps (given_up s)) left rested_then
 
--- The last set passes its tests.
-frees_rest_tested : {w : Core} {crossing words : List ℕ} {v u : Parts} → HasCleared w crossing words v → v.freeing.at ≡ None → v.release.at ≡ None → 0 < length v.counts.sets → FreesRest w words v
-    → IsTested v u → FreesRest w words u
-frees_rest_tested {w} {crossing} {words} {v} {u} h unfreed still some rested tested =
-    tested_rests w words v (some_fields h.landed) h.landed.freeing_fields h.landed.counts (h.clearing.work unfreed) unfreed rested u tested
+      by : (at : Option Member) → first_member (slice_get (last_set s.sets) 0) ≡ at
+          → FreesIn w words (record v { counts = given_up s; sets = sets }) (freeing_at (record { fields = v.fields; at = first_member (slice_get (last_set s.sets) 0) }) at)
+      by None e = subst (λ at. SetsRest w words (places_left v.fields (s.work ++ last_set s.sets) at) (given_up s)) e rests
+      by (Some a) e = rests
+
+  tested_rests : (b : Begun) → IsTested v b → FreesOn w words b
+  tested_rests b (IsTested.passes orange none is) = subst (FreesOn w words) (sym is) (given_rests (record v.sets { freed = v.sets.freed + 1 }))
+  tested_rests b (IsTested.fails_delta t touched last is) = absurd (touched passes.0)
+  tested_rests b (IsTested.fails_sigma t orange some last is) = absurd (omega (arith, some, passes.1))
 
 -- no slot is in a set where there is none
 none_in : (s : State) (x : ℕ) → IsKept s → s.sets ≡ [] → (set : Option ℕ) → (slot_at s x).set ≡ set → (slot_at s x).set ≡ None
 none_in s x k none None is = is
 none_in s x k none (Some i) is = absurd (omega (arith, set_there s i x k is, ap length none))
 
--- The second collection goes on: while a set is left, it is freed; then a trial begins, with all within reach that isn't released.
-pub second_clears : {w : Core} {crossing words : List ℕ} {q : Private} {turn : Turn} {v : Parts} → HasCleared w crossing words v → FreesRest w words v
-    → ((u : Parts) → HasCleared w crossing words u → u.freeing.at ≡ None → u.release.at ≡ None → u.counts.sets ≡ [] → AreWithinReach w words u.counts
-    → TriesOn w.collector (trial_started u) q turn → ComesTo Round.Second w words q)
-    → ClearsOn w.collector q turn v → ComesTo Round.Second w words q
-second_clears {w} {crossing} {words} {q} {turn} {v} h rested tries (ClearsOn.frees_on busy g) =
-    subst (ComesTo Round.Second w words) (sym g.after) (goes_on refl rested)
-second_clears {w} {crossing} {words} {q} {turn} {v} h rested tries (ClearsOn.releases_on unfreed busy g) = absurd (busy rested.still)
-second_clears {w} {crossing} {words} {q} {turn} {v} h rested tries (ClearsOn.tests u unfreed still some tested on) =
-    second_clears (tested_lands w crossing words v h unfreed still some u tested) (frees_rest_tested h unfreed still some rested tested) tries on
-second_clears {w} {crossing} {words} {q} {turn} {v} h rested tries (ClearsOn.tries unfreed still none on) =
-    tries v h unfreed still none (λ x unreleased. rested.sets.found x unreleased (none_in v.counts x h.landed.counts none (slot_at v.counts x).set refl)) on
+-- the freeing of a set goes on
+frees_in : (w : Core) (words : List ℕ) (v : Parts) (phase : Phase) → FreesIn w words v (Some phase) → RestsIn Round.Second w words (moved (with_parts w.collector v) phase) phase
+frees_in w words v (Freeing m) rested = rested
+frees_in w words v _ rested = absurd rested
+
+-- The second collection goes on: while a set is left, it is freed, as it passes its tests; then a trial begins, with all within reach that
+-- isn't released.
+pub second_clears : {w : Core} {crossing words : List ℕ} {q : Private} {turn : Turn} {b : Begun} → HasCleared w crossing words b → FreesOn w words b
+    → ((u : Parts) → HasCleared w crossing words (still u) → u.counts.sets ≡ [] → AreWithinReach w words u.counts
+    → TriesOn w.collector (with_offers u) (trials.started_of u.fields (with_offers u).counts) q turn → ComesTo Round.Second w words q)
+    → ClearsOn w.collector q turn b → ComesTo Round.Second w words q
+second_clears {w} {crossing} {words} {q} {turn} {b} h rested tries (ClearsOn.works phase is g) =
+    subst (ComesTo Round.Second w words) (sym g.after) (goes_on refl (frees_in w words b.parts phase (subst (FreesIn w words b.parts) is rested)))
+second_clears {w} {crossing} {words} {q} {turn} {b} h rested tries (ClearsOn.tests c none some tested on) =
+    let its : HasCleared w crossing words (still b.parts) = subst (λ o. HasCleared w crossing words (record { parts = b.parts; phase = o })) none h in
+    let sets : SetsRest w words [] b.parts.counts = subst (FreesIn w words b.parts) none rested in
+    second_clears (tested_lands w crossing words b.parts its some c tested) (tested_rests w words b.parts (some_fields its.landed) its.landed.fields its.landed.counts its.clears.clearing sets c tested) tries on
+second_clears {w} {crossing} {words} {q} {turn} {b} h rested tries (ClearsOn.tries none empty on) =
+    let its : HasCleared w crossing words (still b.parts) = subst (λ o. HasCleared w crossing words (record { parts = b.parts; phase = o })) none h in
+    let sets : SetsRest w words [] b.parts.counts = subst (FreesIn w words b.parts) none rested in
+    tries b.parts its empty (λ x unreleased. sets.found x unreleased (none_in b.parts.counts x its.landed.counts empty (slot_at b.parts.counts x).set refl)) on

@@ -1,19 +1,23 @@
 -- The collection that frees the sets, turn by turn, but for the sweep of a slot, which changes what is held.
-use Rattle.std.proofs.Common.{◌≡◌, ℕ, ◌+◌, ◌-◌, ◌<◌, true, None, Some, List, [], length, slice_index_or, refl, sym, ap, subst, ◌∙◌, arith}
+use Rattle.std.proofs.Common.{◌≡◌, ℕ, ◌+◌, ◌-◌, ◌<◌, true, Option, Some, List, [], length, slice_index_or, refl, sym, ap, subst, ◌∙◌, arith}
 use Rattle.rec_word.specs.Word.{target_of}
 use Rattle.rec_counts.specs.declared.slot.Slot.{Slot}
+use Rattle.rec_release.specs.CycleFree as frees
 use Rattle.rec_release.specs.TakenOff.{taken_off}
 use Rattle.rec_walk.specs.declared.member.Member.{Member}
 use Rattle.rec_release.proofs.TakenOff.{off_most}
+use Rattle.rec_sigma.specs.Prepare as preps
+use Rattle.rec_trial.specs.Trial.{Work, started_of, took_of}
 use Rattle.rec_trial.proofs.Keeps.{took_keeps}
-use Rattle.rec_collector.specs.Followed.{trial_started, with_loaded, with_tried}
+use Rattle.rec_collector.specs.Followed.{with_offers}
 use Rattle.rec_collector.specs.Parts.{Parts}
-use Rattle.rec_collector.specs.Private.{Private, parts_of}
+use Rattle.rec_collector.specs.Private.{Private}
 use Rattle.rec_collector.specs.Step.{TriesOn}
 use Rattle.rec_collector.specs.declared.phase.Phase.{Phase}
 use Rattle.rec_collector.specs.declared.phase.Phase.TheVariants.{Idle, Looking, Returning, Releasing, Freeing, Trying, Preparing, Opening, Sweeping, Closing}
 use Rattle.rec_collector.specs.declared.turn.Turn.{Turn}
-use Rattle.rec_collector.proofs.Clearing.{clear_ready}
+use Rattle.rec_collector.proofs.Goings.{still}
+use Rattle.rec_collector.proofs.Testing.{clear_ready}
 use Rattle.rec_collector.proofs.Trying.{took_others}
 use Rattle.rec_core.specs.Core.{Core}
 use Rattle.rec_core.specs.Kept.{IsKept}
@@ -40,25 +44,25 @@ module _ (first : ℕ) (w : Core) (kept : IsKept w) (quiet : AreQuiet first w) w
   known_in phase is h = subst (RestsIn Round.Second w w.words w.collector) is h
 
   -- once no set is left, a trial begins
-  tries_on : {crossing words : List ℕ} {q : Private} {turn : Turn} (u : Parts) → HasCleared w crossing words u → u.freeing.at ≡ None → u.release.at ≡ None → u.counts.sets ≡ [] → AreWithinReach w words u.counts
-      → TriesOn w.collector (trial_started u) q turn → ComesTo Round.Second w words q
-  tries_on u h unfreed still none within on = within_tries (within_begun h.landed (clear_ready u h.landed.counts h.clearing h.done still unfreed none) within) on
+  tries_on : {crossing words : List ℕ} {q : Private} {turn : Turn} (u : Parts) → HasCleared w crossing words (still u) → u.counts.sets ≡ [] → AreWithinReach w words u.counts
+      → TriesOn w.collector (with_offers u) (started_of u.fields (with_offers u).counts) q turn → ComesTo Round.Second w words q
+  tries_on u h none within on = within_tries (within_begun h.landed (clear_ready u h.landed.counts h.clears.clearing none) within) on
 
   -- the counts after the exchange of a field are true
-  exchanged_count : (a : Member) (phase : w.collector.phase ≡ Freeing) (at : w.collector.freeing.at ≡ Some a) → first < w.epoch
+  exchanged_count : (m : frees.Machine) (a : Member) (phase : w.collector.phase ≡ Freeing m) (at : m.at ≡ Some a) → first < w.epoch
       → AreCounted w (words_without w a.slot a.field) (taken_off true w.collector.counts (target_of (word_at w a.slot a.field)))
-  exchanged_count a phase at early =
-      let may : MayEmpty w a.slot a.field = may_empty w a kept phase at in
+  exchanged_count m a phase at early =
+      let may : MayEmpty w a.slot a.field = may_empty w m a kept phase at in
       let slots : length w.collector.counts.slots ≡ w.config.slots = kept.collector.slots in
       accounted_count first w (words_without w a.slot a.field) (taken_off true w.collector.counts (target_of (word_at w a.slot a.field))) kept kept.mutators may.unswept.stands may.unswept.way may.unswept.older
       (off_accounted w a.slot a.field may true)
       ((off_most true w.collector.counts (target_of (word_at w a.slot a.field))).slots ∙ slots)
-      quiet (all_gathered w Freeing phase (λ t there. refl)) early
+      quiet (all_gathered w (Freeing m) phase (λ t there. refl)) early
 
   abbrev Comes : Core → Type 0
   Comes after = ComesTo Round.Second w after.words after.collector
 
-  pub second_turned : (v : Core) → IsTurn w v → ((w.collector.phase ≡ Idle → ⊥) → first + 1 < w.epoch) → ((n : ℕ) → w.collector.phase ≡ Sweeping n → ⊥) → RestsIn Round.Second w w.words w.collector w.collector.phase → ComesTo Round.Second w v.words v.collector
+  pub second_turned : (v : Core) → IsTurn w v → ((w.collector.phase ≡ Idle → ⊥) → first + 1 < w.epoch) → ((due : Option ℕ) (n : ℕ) → w.collector.phase ≡ Sweeping due n → ⊥) → RestsIn Round.Second w w.words w.collector w.collector.phase → ComesTo Round.Second w v.words v.collector
   second_turned v (IsTurn.spent phase last is) late unswept h = subst Comes (sym is) (ComesTo.goes_on refl h)
   second_turned v (IsTurn.requests phase is) late unswept h = subst Comes (sym is) (ComesTo.goes_on refl (known_in Idle phase h))
   second_turned v (IsTurn.waits t there phase word is) late unswept h = subst Comes (sym is) (ComesTo.goes_on refl h)
@@ -75,19 +79,22 @@ module _ (first : ℕ) (w : Core) (kept : IsKept w) (quiet : AreQuiet first w) w
     where
       other_phase : Returning t ≡ Idle → ⊥
       other_phase is = cc
-  second_turned v (IsTurn.releases a q turn phase at on is) late unswept h = absurd (known_in Releasing phase h)
-  second_turned v (IsTurn.frees a q turn phase at on is) late unswept h =
+  second_turned v (IsTurn.releases m a q turn phase at on is) late unswept h = absurd (known_in (Releasing m) phase h)
+  second_turned v (IsTurn.frees m a q turn phase at on is) late unswept h =
       let far : first + 1 < w.epoch = late (λ idle. other_phase (sym phase ∙ idle)) in
-      subst Comes (sym is) (second_clears (freed_lands w a kept phase at) (frees_rest_more w a kept phase at (exchanged_count a phase at (omega (arith, far))) (known_in Freeing phase h)) tries_on on)
+      subst Comes (sym is) (second_clears (freed_lands w m a kept phase at) (frees_rest_more w m a kept phase at (exchanged_count m a phase at (omega (arith, far))) (known_in (Freeing m) phase h)) tries_on on)
     where
-      other_phase : Freeing ≡ Idle → ⊥
+      other_phase : Freeing m ≡ Idle → ⊥
       other_phase is = cc
-  second_turned v (IsTurn.tries place q turn phase named on is) late unswept h =
-      let keeps = took_keeps w.collector.trial w.collector.counts (now_at w Trying kept phase).kept (slice_index_or w.words place 0) (loaded_leads w kept phase place named) in
-      subst Comes (sym is) (within_tries (within_same w w.words w.collector.counts (with_tried (parts_of w.collector) (slice_index_or w.words place 0)).counts keeps.released (known_in Trying phase h)) on)
-  second_turned v (IsTurn.prepares a q turn phase at on is) late unswept h =
-      let others = took_others (record { machine = w.collector.prep; counts = w.collector.counts }) (word_at w a.member.slot a.member.field) in
-      subst Comes (sym is) (within_prepares (within_same w w.words w.collector.counts (with_loaded (parts_of w.collector) (word_at w a.member.slot a.member.field)).counts (λ x. ap (λ (y : Slot). y.released) (others.slots x)) (known_in Preparing phase h)) on)
+  second_turned v (IsTurn.tries m place q turn phase named on is) late unswept h =
+      let u : Work = took_of (record { machine = m; counts = w.collector.counts }) (slice_index_or w.words place 0) in
+      let keeps = took_keeps m w.collector.counts (now_at w (Trying m) kept phase).kept (slice_index_or w.words place 0) (loaded_leads w m kept phase place named) in
+      subst Comes (sym is) (within_tries (within_same w w.words w.collector.counts u.counts keeps.released (known_in (Trying m) phase h)) on)
+  second_turned v (IsTurn.prepares m a q turn phase at on is) late unswept h =
+      let found : ℕ = word_at w a.member.slot a.member.field in
+      let u : preps.Work = preps.took_of (record { machine = m; counts = w.collector.counts }) found in
+      let others = took_others (record { machine = m; counts = w.collector.counts }) found in
+      subst Comes (sym is) (within_prepares (within_same w w.words w.collector.counts u.counts (λ x. ap (λ (y : Slot). y.released) (others.slots x)) (known_in (Preparing m) phase h)) on)
   second_turned v (IsTurn.begins_sweep phase is) late unswept h = subst Comes (sym is) (ComesTo.goes_on refl (known_in Opening phase h))
-  second_turned v (IsTurn.sweeps n slot next phase due which is) late unswept h = absurd (unswept n phase)
+  second_turned v (IsTurn.sweeps n slot next phase which is) late unswept h = absurd (unswept (Some slot) n phase)
   second_turned v (IsTurn.ends_sweep n phase is) late unswept h = subst Comes (sym is) (ComesTo.completes refl refl (known_in (Closing n) phase h))

@@ -15,7 +15,9 @@ use Rattle.rec_release.specs.CycleFree.{next_of as freeing_next, op_at as freein
 use Rattle.rec_release.specs.Release.{next_of as release_next, op_at as release_op_at}
 use Rattle.rec_release.specs.Sweep as sweeps
 use Rattle.rec_collector.specs.Causes.{HasCause}
-use Rattle.rec_collector.specs.Followed.{relieved, with_freed, with_loaded, with_released, with_tried}
+use Rattle.rec_sigma.specs.Prepare as preps
+use Rattle.rec_trial.specs.Trial as trials
+use Rattle.rec_collector.specs.Followed.{with_freed, with_released}
 use Rattle.rec_collector.specs.Next.{next_of}
 use Rattle.rec_collector.specs.Private as collectors
 use Rattle.rec_collector.specs.Private.{Private, parts_of}
@@ -100,41 +102,42 @@ rule_is w op word q turn kept found (Step.apply t returning last named on) =
     plain w op (ops.ReturnBox t w.collector.epoch) word q (Returning t) returning refl its
     ∙ ap (λ (n : ℕ). let v : Core = record w { crossing = slice_set w.crossing (t - 1) (crossing_word n Spare); collector = q } in v) kept.collector.epoch
     )
-rule_is w op word q turn kept found (Step.release releasing named on) = go w.collector.release.at refl
+rule_is w op word q turn kept found (Step.release m releasing named on) = go m.at refl
   where
-    go : (x : Option At) → w.collector.release.at ≡ x → IsTurn w (collected w op word q (left_by w.collector word (box w (looked_at w.collector.phase)) w.collector.phase))
-    go None at = let not_so : ◌≡◌ {A = Option Op} (Some op) None = named ∙ ap (release_op_at w.collector.release.fields) at in absurd (cc)
+    go : (x : Option At) → m.at ≡ x → IsTurn w (collected w op word q (left_by w.collector word (box w (looked_at w.collector.phase)) w.collector.phase))
+    go None at = let not_so : ◌≡◌ {A = Option Op} (Some op) None = named ∙ ap (release_op_at m.fields) at in absurd (cc)
     go (Some a) at =
         let place : ℕ = place_of a.slot a.field w.config.fields in
-        let its : op ≡ ops.ClearField place = some_op op (ops.ClearField place) (named ∙ ap (release_op_at w.collector.release.fields) at ∙ ap (λ n. Some (ops.ClearField (place_of a.slot a.field n))) kept.collector.fields) in
+        let fields : m.fields ≡ w.config.fields = (now_at w (Releasing m) kept releasing).clearing.fields ∙ kept.collector.fields in
+        let its : op ≡ ops.ClearField place = some_op op (ops.ClearField place) (named ∙ ap (release_op_at m.fields) at ∙ ap (λ n. Some (ops.ClearField (place_of a.slot a.field n))) fields) in
         let there : word ≡ word_at w a.slot a.field = found ∙ ap (cell (cells_of w)) its in
-        IsTurn.releases a q turn releasing at (subst (λ n. ClearsOn w.collector q turn (with_released (parts_of w.collector) n)) there on) (plain w op (ops.ClearField place) word q Releasing releasing refl its)
-rule_is w op word q turn kept found (Step.freeing freeing named on) = go w.collector.freeing.at refl
+        IsTurn.releases m a q turn releasing at (subst (λ n. ClearsOn w.collector q turn (with_released m (parts_of w.collector) n)) there on) (plain w op (ops.ClearField place) word q (Releasing m) releasing refl its)
+rule_is w op word q turn kept found (Step.freeing m freeing named on) = go m.at refl
   where
-    go : (x : Option Member) → w.collector.freeing.at ≡ x → IsTurn w (collected w op word q (left_by w.collector word (box w (looked_at w.collector.phase)) w.collector.phase))
-    go None at = let not_so : ◌≡◌ {A = Option Op} (Some op) None = named ∙ ap (freeing_op_at w.collector.freeing.fields) at in absurd (cc)
+    go : (x : Option Member) → m.at ≡ x → IsTurn w (collected w op word q (left_by w.collector word (box w (looked_at w.collector.phase)) w.collector.phase))
+    go None at = let not_so : ◌≡◌ {A = Option Op} (Some op) None = named ∙ ap (freeing_op_at m.fields) at in absurd (cc)
     go (Some a) at =
         let place : ℕ = place_of a.slot a.field w.config.fields in
-        let fields : w.collector.freeing.fields ≡ w.config.fields = kept.collector.machine.freeing_fields ∙ kept.collector.fields in
-        let its : op ≡ ops.ClearField place = some_op op (ops.ClearField place) (named ∙ ap (freeing_op_at w.collector.freeing.fields) at ∙ ap (λ n. Some (ops.ClearField (place_of a.slot a.field n))) fields) in
+        let fields : m.fields ≡ w.config.fields = (now_at w (Freeing m) kept freeing).clearing.fields ∙ kept.collector.fields in
+        let its : op ≡ ops.ClearField place = some_op op (ops.ClearField place) (named ∙ ap (freeing_op_at m.fields) at ∙ ap (λ n. Some (ops.ClearField (place_of a.slot a.field n))) fields) in
         let there : word ≡ word_at w a.slot a.field = found ∙ ap (cell (cells_of w)) its in
-        IsTurn.frees a q turn freeing at (subst (λ n. ClearsOn w.collector q turn (relieved (with_freed (parts_of w.collector) n))) there on) (plain w op (ops.ClearField place) word q Freeing freeing refl its)
-rule_is w op word q turn kept found (Step.trial trying named on) =
-    let (place, its) = loads_child w.collector.trial op named in
+        IsTurn.frees m a q turn freeing at (subst (λ n. ClearsOn w.collector q turn (with_freed m (parts_of w.collector) n)) there on) (plain w op (ops.ClearField place) word q (Freeing m) freeing refl its)
+rule_is w op word q turn kept found (Step.trial m trying named on) =
+    let (place, its) = loads_child m op named in
     let there : word ≡ slice_index_or w.words place 0 = found ∙ ap (cell (cells_of w)) its in
     let stays : slice_set w.words place word ≡ w.words = ap (slice_set w.words place) there ∙ set-get_or w.words place 0 in
-    IsTurn.tries place q turn trying (sym named ∙ ap (λ o. Some o) its) (subst (λ n. TriesOn w.collector (with_tried (parts_of w.collector) n) q turn) there on) (
-    plain w op (ops.LoadChild place) word q Trying trying refl its ∙ ap (λ (ws : List ℕ). let v : Core = record w { words = ws; collector = q } in v) stays
+    IsTurn.tries m place q turn trying (sym named ∙ ap (λ o. Some o) its) (subst (λ n. TriesOn w.collector (parts_of w.collector) (trials.took_of (record { machine = m; counts = w.collector.counts }) n) q turn) there on) (
+    plain w op (ops.LoadChild place) word q (Trying m) trying refl its ∙ ap (λ (ws : List ℕ). let v : Core = record w { words = ws; collector = q } in v) stays
     )
-rule_is w op word q turn kept found (Step.preparation preparing named on) =
-    let (a, at, due) = loads_due w.collector.prep op (sym named) in
+rule_is w op word q turn kept found (Step.preparation m preparing named on) =
+    let (a, at, due) = loads_due m op (sym named) in
     let place : ℕ = place_of a.member.slot a.member.field w.config.fields in
-    let fields : w.collector.prep.fields ≡ w.config.fields = kept.collector.machine.prep_fields ∙ kept.collector.fields in
+    let fields : m.fields ≡ w.config.fields = (now_at w (Preparing m) kept preparing).fields ∙ kept.collector.fields in
     let its : op ≡ ops.LoadChild place = due ∙ ap (λ n. ops.LoadChild (place_of a.member.slot a.member.field n)) fields in
     let there : word ≡ word_at w a.member.slot a.member.field = found ∙ ap (cell (cells_of w)) its in
     let stays : slice_set w.words place word ≡ w.words = ap (slice_set w.words place) there ∙ set-get_or w.words place 0 in
-    IsTurn.prepares a q turn preparing at (subst (λ n. PreparesOn w.collector (with_loaded (parts_of w.collector) n) q turn) there on) (
-    plain w op (ops.LoadChild place) word q Preparing preparing refl its ∙ ap (λ (ws : List ℕ). let v : Core = record w { words = ws; collector = q } in v) stays
+    IsTurn.prepares m a q turn preparing at (subst (λ n. PreparesOn w.collector (parts_of w.collector) (preps.took_of (record { machine = m; counts = w.collector.counts }) n) q turn) there on) (
+    plain w op (ops.LoadChild place) word q (Preparing m) preparing refl its ∙ ap (λ (ws : List ℕ). let v : Core = record w { words = ws; collector = q } in v) stays
     )
 rule_is w op word q turn kept found (Step.begin_sweep opening named g) =
     let its : op ≡ ops.AddFreed = some_op op ops.AddFreed named in
@@ -145,22 +148,18 @@ rule_is w op word q turn kept found (Step.begin_sweep opening named g) =
     ∙ ap (λ (n : ℕ). let v : Core = record w { freed = n; collector = q } in v) more
     ∙ ap (λ (c : Private). let v : Core = record w { freed = w.freed + 1; collector = c } in v) g.after
     )
-rule_is w op word q turn kept found (Step.sweep n u next sweeping named took follows g) = go w.collector.due refl
+rule_is w op word q turn kept found (Step.sweep None n u next sweeping named took follows g) = let not_so : ◌≡◌ {A = Option Op} (Some op) None = named in absurd (cc)
+rule_is w op word q turn kept found (Step.sweep (Some x) n u next sweeping named took follows g) =
+    let its : op ≡ ops.FreeHeader x = some_op op (ops.FreeHeader x) named in
+    let after : q ≡ swept_by w.collector x next
+    = g.after ∙ ap (λ (v : sweeps.Work). let c : Private = record w.collector { counts = v.counts; freed = w.collector.freed + 1; phase = next; turns = w.collector.turns + 1 } in c) took in
+    IsTurn.sweeps n x next sweeping (follow follows) (
+    plain w op (ops.FreeHeader x) word q (Sweeping (Some x) n) sweeping refl its ∙ ap (λ (c : Private). let v : Core = record w { headers = slice_set w.headers x 0; collector = c } in v) after
+    )
   where
-    follow : IsNext n u next → (next ≡ Sweeping (n + 1)) ⊎ (next ≡ Closing (n + 1))
-    follow (IsNext.more some is) = inl is
+    follow : IsNext n u next → (next ≡ Sweeping (slice_get (drop 1 w.collector.counts.free) 0) (n + 1)) ⊎ (next ≡ Closing (n + 1))
+    follow (IsNext.more some is) = inl (is ∙ ap (λ (v : sweeps.Work). Sweeping v.due (n + 1)) took)
     follow (IsNext.last none is) = inr is
-
-    go : (x : Option ℕ) → w.collector.due ≡ x → IsTurn w (collected w op word q (left_by w.collector word (box w (looked_at w.collector.phase)) w.collector.phase))
-    go None due = let not_so : ◌≡◌ {A = Option Op} (Some op) None = named ∙ ap sweeps.next_of due in absurd (cc)
-    go (Some x) due =
-        let its : op ≡ ops.FreeHeader x = some_op op (ops.FreeHeader x) (named ∙ ap sweeps.next_of due) in
-        let work : u ≡ record { due = slice_get (drop 1 w.collector.counts.free) 0; counts = sweeps.swept w.collector.counts x } = took ∙ ap (λ (o : Option ℕ). sweeps.took_at (record { due = w.collector.due; counts = w.collector.counts }) o) due in
-        let after : q ≡ swept_by w.collector x next
-        = g.after ∙ ap (λ (v : sweeps.Work). let c : Private = record w.collector { due = v.due; counts = v.counts; freed = w.collector.freed + 1; phase = next; turns = w.collector.turns + 1 } in c) work in
-        IsTurn.sweeps n x next sweeping due (follow follows) (
-        plain w op (ops.FreeHeader x) word q (Sweeping n) sweeping refl its ∙ ap (λ (c : Private). let v : Core = record w { headers = slice_set w.headers x 0; collector = c } in v) after
-        )
 rule_is w op word q turn kept found (Step.end_sweep n closing named e) =
     let its : op ≡ ops.AddFreed = some_op op ops.AddFreed named in
     let there : word ≡ w.freed = found ∙ ap (cell (cells_of w)) its in

@@ -10,16 +10,18 @@ use Rattle.rec_counts.proofs.Times.{times-nil, times-cons, one-same}
 use Rattle.rec_apply.specs.Targets.{named}
 use Rattle.rec_release.specs.Sweep.{Swept, swept, swept_if}
 use Rattle.rec_trial.specs.Rules.{IsReady}
+use Rattle.rec_trial.specs.Trial.{Work, started_of}
 use Rattle.rec_trial.proofs.Keeps.{started_keeps}
 use Rattle.rec_sigma.specs.Prepare as preps
 use Rattle.rec_sigma.specs.Prepared.{KeepsOthers}
 use Rattle.rec_sigma.proofs.Runs.{next_set_others}
-use Rattle.rec_collector.specs.Followed.{prep_started, trial_started}
+use Rattle.rec_collector.specs.Followed.{prep_started, with_offers}
 use Rattle.rec_collector.specs.Parts.{Parts}
 use Rattle.rec_collector.specs.Private.{Private}
 use Rattle.rec_collector.specs.Step.{PreparesOn, TriesOn}
 use Rattle.rec_collector.specs.declared.phase.Phase.TheVariants.{Sweeping}
 use Rattle.rec_collector.specs.declared.turn.Turn.{Turn}
+use Rattle.rec_collector.proofs.Goings.{still}
 use Rattle.rec_collector.proofs.Offering.{where_keeps, where_ready}
 use Rattle.rec_core.specs.Core.{Core, sight}
 use Rattle.rec_core.specs.Kept.{IsKept}
@@ -36,12 +38,13 @@ pub within_same : (w : Core) (words : List ℕ) (s t : State) → ((x : ℕ) →
 within_same w words s t same within x unreleased = within x (sym (same x) ∙ unreleased)
 
 -- a trial that begins
-pub within_begun : {w : Core} {crossing words : List ℕ} {v : Parts} → HasLanded w crossing words v → IsReady v.counts → AreWithinReach w words v.counts → AreWithinReach w words (trial_started v).counts
+pub within_begun : {w : Core} {crossing words : List ℕ} {v : Parts} → HasLanded w crossing words (still v) → IsReady v.counts → AreWithinReach w words v.counts → AreWithinReach w words (started_of v.fields (with_offers v).counts).counts
 within_begun {w} {crossing} {words} {v} l ready within =
-    let wide : 0 < v.trial.fields = omega (arith, l.kept.config.some_fields, l.trial_fields) in
+    let same : v.fields ≡ w.config.fields = l.fields in
+    let wide : 0 < v.fields = omega (arith, l.kept.config.some_fields, same) in
     let offered = where_keeps v.offers v.counts in
-    let keeps = started_keeps v.trial.fields _ wide (where_ready v.offers v.counts ready) in
-    within_same w words v.counts (trial_started v).counts (λ x. keeps.released x ∙ offered.rest.released x) within
+    let keeps = started_keeps v.fields (with_offers v).counts wide (where_ready v.offers v.counts ready) in
+    within_same w words v.counts (started_of v.fields (with_offers v).counts).counts (λ x. keeps.released x ∙ offered.rest.released x) within
 
 -- a preparation that begins
 prep_others : (v : Parts) → KeepsOthers v.counts (prep_started v).counts
@@ -49,19 +52,20 @@ unfolding preps.started_of
 prep_others v = next_set_others v.counts 0
 
 -- whatever follows a preparation,
-pub within_prepares : {w : Core} {words : List ℕ} {v : Parts} {q : Private} {turn : Turn} → AreWithinReach w words v.counts → PreparesOn w.collector v q turn → ComesTo Round.Second w words q
+pub within_prepares : {w : Core} {words : List ℕ} {u : Parts} {v : preps.Work} {q : Private} {turn : Turn} → AreWithinReach w words v.counts → PreparesOn w.collector u v q turn → ComesTo Round.Second w words q
 within_prepares within (PreparesOn.more some g) = rw (g.after) (ComesTo.goes_on refl within)
 within_prepares within (PreparesOn.sweeps_next none some g) = rw (g.after) (ComesTo.goes_on refl within)
 within_prepares within (PreparesOn.completes none empty e) = rw (e.after) (ComesTo.completes refl refl within)
 
 -- and a trial
-pub within_tries : {w : Core} {words : List ℕ} {v : Parts} {q : Private} {turn : Turn} → AreWithinReach w words v.counts → TriesOn w.collector v q turn → ComesTo Round.Second w words q
+pub within_tries : {w : Core} {words : List ℕ} {u : Parts} {v : Work} {q : Private} {turn : Turn} → AreWithinReach w words v.counts → TriesOn w.collector u v q turn → ComesTo Round.Second w words q
 within_tries within (TriesOn.more some g) = rw (g.after) (ComesTo.goes_on refl within)
-within_tries {w} {words} {v} within (TriesOn.prepares none on) =
-    within_prepares (within_same w words v.counts (prep_started v).counts (λ x. ap (λ (y : Slot). y.released) ((prep_others v).slots x)) within) on
+within_tries {w} {words} {u} {v} within (TriesOn.prepares none on) =
+    let its : Parts = record u { counts = v.counts } in
+    within_prepares (within_same w words v.counts (prep_started its).counts (λ x. ap (λ (y : Slot). y.released) ((prep_others its).slots x)) within) on
 
 -- A released slot is swept: then it is free, and any other slot is as it was.
-module _ (w : Core) (n slot : ℕ) (kept : IsKept w) (phase : w.collector.phase ≡ Sweeping n) (due : w.collector.due ≡ Some slot) where
+module _ (w : Core) (n slot : ℕ) (kept : IsKept w) (phase : w.collector.phase ≡ Sweeping (Some slot) n) where
   abbrev s : State
   s = w.collector.counts
 
@@ -69,10 +73,10 @@ module _ (w : Core) (n slot : ℕ) (kept : IsKept w) (phase : w.collector.phase 
   after = header_freed w slot
 
   below : slot < w.config.slots
-  below = swept_below w n slot kept phase due
+  below = swept_below w n slot kept phase
 
   released : (slot_at s slot).released ≡ true
-  released = due_released w n slot kept phase due
+  released = due_released w n slot kept phase
 
   others : (x : ℕ) → x ≢ slot → slot_at (swept s slot) x ≡ slot_at s x
   others x other = get_or-set_other s.slots slot x (swept_clean (slot_at s slot)) absent other
@@ -113,7 +117,7 @@ module _ (w : Core) (n slot : ℕ) (kept : IsKept w) (phase : w.collector.phase 
   -- the one slot that is swept
   once : Swept s (swept s slot) (slot ∷ [])
   once = record {
-    free = first s.free (sym (now_at w (Sweeping n) kept phase).2 ∙ due);
+    free = first s.free (sym (now_at w (Sweeping (Some slot) n) kept phase).2);
     slots = λ x. elim (cases_eq x slot) [
       | inl same ↦
           let some : 0 < times x (slot ∷ []) = omega (arith, ap (λ k. times k (slot ∷ [])) same, times-cons slot slot [], one-same slot) in

@@ -4,7 +4,7 @@ use Rattle.rec_collector.specs.Given.{IsGivenAt}
 use Rattle.rec_collector.specs.Inside.{private}
 use Rattle.rec_collector.specs.Private.{Private, parts_of}
 use Rattle.rec_collector.specs.declared.phase.Phase.TheVariants.{Returning}
-use Rattle.rec_collector.proofs.Following.{resting_clear}
+use Rattle.rec_collector.proofs.Following.{none_released, resting_cleared}
 use Rattle.rec_collector.proofs.Landing.{now_at}
 use Rattle.rec_collector.proofs.Keeping.{batch_follows, returned_as, turned, turned_keeps}
 use Rattle.rec_collector.proofs.machine.Machine.took_return.Goals as goal
@@ -15,10 +15,15 @@ returns-then-from-len-clause-took c = (returned_as _ _ c.args.mutator false c.se
 pub returns-then-from-len-clause-turn : goal.returns-then-from-len-clause-turn
 returns-then-from-len-clause-turn c = (returned_as _ _ c.args.mutator false c.self.view_is (ne_eqb _ _ (λ q. c.if-from-len.true (c.from.ensures ∙ q ∙ sym c.self.inside.newer.ok.0 ∙ sym c.len.ensures)))).1
 
-pub apply_batch-self-inside-requires-clause-clearing : goal.apply_batch-self-inside-requires-clause-clearing
-apply_batch-self-inside-requires-clause-clearing c =
+pub apply_batch-self-inside-requires-clause-cleared : goal.apply_batch-self-inside-requires-clause-cleared
+apply_batch-self-inside-requires-clause-cleared c =
     let p : Private = private c.self.inside in
-    resting_clear (parts_of p) (now_at p (Returning c.args.mutator) c.self.invariant (ap (λ (q : Private). q.phase) c.self.view_is ∙ c.requires.phase)).rest
+    resting_cleared (parts_of p) (now_at p (Returning c.args.mutator) c.self.invariant (ap (λ (q : Private). q.phase) c.self.view_is ∙ c.requires.phase)).rest
+
+pub apply_batch-self-inside-requires-clause-unreleased : goal.apply_batch-self-inside-requires-clause-unreleased
+apply_batch-self-inside-requires-clause-unreleased c =
+    let p : Private = private c.self.inside in
+    none_released (now_at p (Returning c.args.mutator) c.self.invariant (ap (λ (q : Private). q.phase) c.self.view_is ∙ c.requires.phase)).rest
 
 pub invariant_of-self-2 : goal.invariant_of-self-2
 unfolding IsGivenAt

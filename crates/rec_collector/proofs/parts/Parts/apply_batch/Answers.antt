@@ -1,14 +1,15 @@
-use Rattle.std.proofs.Common.{◌≡◌, ap, sym, subst, ◌∙◌}
-use Rattle.rec_counts.specs.Counts.{State}
-use Rattle.rec_apply.specs.Batch.{batch}
-use Rattle.rec_collector.specs.Clearing.{IsClearing}
+use Rattle.std.proofs.Common.{◌≡◌, ◌<◌, false, sym, ◌∙◌, ap, subst}
+use Rattle.rec_counts.specs.Counts.{IsKept, State}
+use Rattle.rec_collector.specs.Clearing.{IsClear}
 use Rattle.rec_collector.specs.Parts.{Parts}
-use Rattle.rec_collector.proofs.Following.{covered_clears}
+use Rattle.rec_collector.specs.Testing.{Begun, zeros_released}
+use Rattle.rec_apply.specs.Batch.{batch}
+use Rattle.rec_collector.proofs.Answering.{batch_clear}
 use Rattle.rec_collector.proofs.parts.Parts.apply_batch.Goals as goal
 
-pub release_zeros-requires-clause-clearing : goal.release_zeros-requires-clause-clearing
-release_zeros-requires-clause-clearing c =
-    let w : Parts = record { counts = c.self.inside.counts; release = c.self.inside.release; freeing = c.self.inside.freeing; trial = c.self.inside.trial; prep = c.self.inside.prep; sets = c.self.inside.sets; offers = c.self.inside.offers } in
-    let e : record w { counts = c.apply.new.counts } ≡ record c.args.self.now { counts = batch c.args.self.now.counts c.args.newer.now c.args.older.now } =
-    ap (λ (s : State). record w { counts = s }) c.apply.ensures.order ∙ ap (λ (v : Parts). record v { counts = batch v.counts c.args.newer.now c.args.older.now }) c.self.view_is in
-    subst IsClearing (sym e) (covered_clears c.args.self.now c.args.newer.now c.args.older.now c.requires.zeros c.requires.covered c.requires.still c.requires.unfreed c.requires.clearing)
+pub follow-requires : goal.follow-requires
+follow-requires c =
+    let w : Parts = record { counts = c.self.inside.counts; fields = c.self.inside.fields; sets = c.self.inside.sets; offers = c.self.inside.offers } in
+    let e : ◌≡◌ {A = Begun} (record { parts = c.release_zeros-begun.new.self; phase = c.release_zeros-begun.result }) (zeros_released false (record c.args.self.now { counts = batch c.args.self.now.counts c.args.newer.now c.args.older.now })) =
+    c.release_zeros-begun.ensures ∙ ap (λ (s : State). zeros_released false (record w { counts = s })) c.apply.ensures.order ∙ ap (λ (v : Parts). zeros_released false (record v { counts = batch v.counts c.args.newer.now c.args.older.now })) c.self.view_is in
+    subst IsClear (sym e) (batch_clear c.args.self.now c.args.newer.now c.args.older.now (subst (λ (v : Parts). 0 < v.fields) c.self.view_is c.self.invariant) (subst (λ (v : Parts). IsKept v.counts) c.self.view_is c.rules.ensures) c.requires.covered c.requires.cleared c.requires.unreleased c.requires.told)

@@ -1,47 +1,50 @@
-use Rattle.std.proofs.Common.{◌≡◌, true, false, Option, is_some, ap, sym, subst, ◌∙◌}
-use Rattle.rec_word.specs.declared.op.Op.{Op}
-use Rattle.rec_counts.specs.Counts.{IsKept as IsKeptCounts}
-use Rattle.rec_release.specs.CycleFree as frees
-use Rattle.rec_release.specs.Release as releases
-use Rattle.rec_collector.specs.Followed.{next_in, tested_next}
+use Rattle.std.proofs.Common.{◌≡◌, ◌<◌, is_some, Option, length, arith, sym, ◌∙◌, ap, subst}
+use Rattle.std.proofs.lemmas.Bool.{false≢true}
+use Rattle.std.proofs.lemmas.List.{nil_from_length}
+use Rattle.rec_counts.specs.Counts.{IsKept}
+use Rattle.rec_collector.specs.Clearing.{IsClearingIn, IsCleared}
 use Rattle.rec_collector.specs.Parts.{Parts}
-use Rattle.rec_collector.specs.declared.phase.Phase.TheVariants.{Freeing, Releasing}
-use Rattle.rec_collector.proofs.Answering.{follows, freeing_next, none_of, release_next, tests_free, tests_release, tests_try, tested_ready, tested_still}
+use Rattle.rec_collector.specs.Testing.{Begun}
+use Rattle.rec_collector.specs.declared.phase.Phase.{Phase}
+use Rattle.rec_collector.proofs.Answering.{last_under_test, none_of, starts_test, test_begins, test_ends}
+use Rattle.rec_collector.proofs.Goings.{last_sets}
+use Rattle.rec_collector.proofs.Testing.{clear_ready}
 use Rattle.rec_collector.proofs.parts.Parts.follow.Goals as goal
+use Rattle.rec_collector.proofs.parts.Parts.follow.Goals.{then-loop-self-test+else-sets-gt0, else-loop-self-test, In-None}
 
-pub returns-then-is_some : goal.returns-then-is_some
-returns-then-is_some c =
-    let e : is_some (frees.next_of c.self-2.inside.freeing) ≡ true = sym (ap (λ (o : Option Op). is_some o) c.next.ensures.next) ∙ sym c.is_some.ensures ∙ c.if-is_some.true in
-    follows c.args.self.now c.test_sets.new.self _ c.test_sets.ensures (subst (λ (w : Parts). next_in Freeing w ≡ tested_next w) c.self-2.view_is (tests_free _ e))
+pub loop-self-init : goal.loop-self-init
+loop-self-init c =
+    starts_test (record { parts = c.args.self.now; phase = c.args.begun }) (subst (λ (w : Parts). IsKept w.counts) c.self.view_is c.rules.ensures) (subst (λ (w : Parts). 0 < w.fields) c.self.view_is c.self.invariant) c.requires
 
-pub returns-then-is_some-2 : goal.returns-then-is_some-2
-returns-then-is_some-2 c =
-    let e : is_some (frees.next_of c.self-2.inside.freeing) ≡ false = sym (ap (λ (o : Option Op). is_some o) c.next.ensures.next) ∙ sym c.is_some.ensures ∙ c.if-is_some.false in
-    let b : is_some (releases.next_of c.self-2.inside.release) ≡ true = sym (ap (λ (o : Option Op). is_some o) c.next-2.ensures.next) ∙ sym c.is_some-2.ensures ∙ c.if-is_some-2.true in
-    follows c.args.self.now c.test_sets.new.self _ c.test_sets.ensures (subst (λ (w : Parts). next_in Releasing w ≡ tested_next w) c.self-2.view_is (tests_release _ e b))
+pub test_last-begun-requires-clause-cleared : goal.test_last-begun-requires-clause-cleared
+test_last-begun-requires-clause-cleared c = subst (IsClearingIn c.loop-self.self) (none_of c.loop-self.begun c.loop-self-test.ensures) c.loop-self.invariant.clears.clearing
 
-pub start_trial-requires-clause-idle : goal.start_trial-requires-clause-idle
-start_trial-requires-clause-idle c =
-    let kept : IsKeptCounts c.args.self.now.counts = subst (λ (v : Parts). IsKeptCounts v.counts) c.self.view_is c.rules.ensures in
-    (tested_still c.args.self.now c.test_sets.new.self c.test_sets.ensures (record { wide = c.requires.wide; counts = kept; clearing = c.requires.clearing; done = c.requires.done })).clearing.idle
+pub test_last-begun-requires-clause-told : goal.test_last-begun-requires-clause-told
+test_last-begun-requires-clause-told c = c.loop-self.invariant.few
 
-pub start_trial-requires-clause-ready : goal.start_trial-requires-clause-ready
-start_trial-requires-clause-ready c =
-    let w : Parts = c.test_sets.new.self in
-    let kept : IsKeptCounts c.args.self.now.counts = subst (λ (v : Parts). IsKeptCounts v.counts) c.self.view_is c.rules.ensures in
-    let e : is_some (frees.next_of w.freeing) ≡ false = ap (λ (v : Parts). is_some (frees.next_of v.freeing)) (sym c.self-2.view_is) ∙ sym (ap (λ (o : Option Op). is_some o) c.next.ensures.next) ∙ sym c.is_some.ensures ∙ c.if-is_some.false in
-    let b : is_some (releases.next_of w.release) ≡ false = ap (λ (v : Parts). is_some (releases.next_of v.release)) (sym c.self-2.view_is) ∙ sym (ap (λ (o : Option Op). is_some o) c.next-2.ensures.next) ∙ sym c.is_some-2.ensures ∙ c.if-is_some-2.false in
-    tested_ready c.args.self.now w c.test_sets.ensures (record { wide = c.requires.wide; counts = kept; clearing = c.requires.clearing; done = c.requires.done })
-    (none_of w.release.at (sym (release_next w.release) ∙ b)) (none_of w.freeing.at (sym (freeing_next w.freeing) ∙ e))
+pub loop-self-smaller : goal.loop-self-smaller
+loop-self-smaller c =
+    let some : 0 < length c.loop-self.self.counts.sets = omega (arith, c.if-sets-gt0.true, c.sets.ensures, ap (λ (w : Parts). length w.counts.sets) c.self-in-loop-self.view_is) in
+    omega (arith, last_sets c.loop-self.self some, ap (λ (b : Begun). length b.parts.counts.sets) c.test_last-begun.ensures)
 
-pub after_trial-requires : goal.after_trial-requires
-after_trial-requires c =
-    let kept : IsKeptCounts c.args.self.now.counts = subst (λ (v : Parts). IsKeptCounts v.counts) c.self.view_is c.rules.ensures in
-    ap (λ (v : Parts). v.prep.at) c.start_trial.ensures ∙ (tested_still c.args.self.now c.test_sets.new.self c.test_sets.ensures (record { wide = c.requires.wide; counts = kept; clearing = c.requires.clearing; done = c.requires.done })).clearing.unprepared
+pub loop-self-preserved : goal.loop-self-preserved
+loop-self-preserved c =
+    let some : 0 < length c.loop-self.self.counts.sets = omega (arith, c.if-sets-gt0.true, c.sets.ensures, ap (λ (w : Parts). length w.counts.sets) c.self-in-loop-self.view_is) in
+    last_under_test (record { parts = c.args.self.now; phase = c.args.begun }) (record { parts = c.loop-self.self; phase = c.loop-self.begun }) (record { parts = c.test_last-begun.new.self; phase = c.test_last-begun.result }) c.loop-self.invariant (none_of c.loop-self.begun c.loop-self-test.ensures) some c.test_last-begun.ensures
 
-pub returns : goal.returns
-returns c =
-    let w : Parts = c.test_sets.new.self in
-    let e : is_some (frees.next_of w.freeing) ≡ false = ap (λ (v : Parts). is_some (frees.next_of v.freeing)) (sym c.self-2.view_is) ∙ sym (ap (λ (o : Option Op). is_some o) c.next.ensures.next) ∙ sym c.is_some.ensures ∙ c.if-is_some.false in
-    let b : is_some (releases.next_of w.release) ≡ false = ap (λ (v : Parts). is_some (releases.next_of v.release)) (sym c.self-2.view_is) ∙ sym (ap (λ (o : Option Op). is_some o) c.next-2.ensures.next) ∙ sym c.is_some-2.ensures ∙ c.if-is_some-2.false in
-    follows c.args.self.now w _ c.test_sets.ensures (tests_try w c.start_trial.new.self _ e b c.after_trial.ensures c.start_trial.ensures)
+no_sets : (c : In-None) → length c.loop-self.self.counts.sets ≡ 0
+no_sets c = elim c.loop-self-test.branch [
+  | then-loop-self-test+else-sets-gt0 w ↦ omega (arith, w.if-sets-gt0.false, w.sets.ensures, ap (λ (v : Parts). length v.counts.sets) c.self-in-loop-self.view_is)
+  | else-loop-self-test w ↦ absurd (false≢true (sym (ap (λ (o : Option Phase). is_some o) c.in-None.is) ∙ w.loop-self-test.ensures))
+]
+
+pub start_trial-requires : goal.start_trial-requires
+start_trial-requires c =
+    let cleared : IsCleared c.loop-self.self = subst (IsClearingIn c.loop-self.self) c.in-None.is c.loop-self.invariant.clears.clearing in
+    record { ready = clear_ready c.loop-self.self c.loop-self.invariant.clears.counts cleared (nil_from_length c.loop-self.self.counts.sets (no_sets c.before)) }
+
+pub returns-in-Some : goal.returns-in-Some
+returns-in-Some c = test_begins (record { parts = c.args.self.now; phase = c.args.begun }) (record { parts = c.loop-self.self; phase = c.loop-self.begun }) c.in-Some.phase c.loop-self.invariant c.in-Some.is
+
+pub returns-in-None : goal.returns-in-None
+returns-in-None c = c.start_trial.ensures ∙ test_ends (record { parts = c.args.self.now; phase = c.args.begun }) (record { parts = c.loop-self.self; phase = c.loop-self.begun }) c.loop-self.invariant c.in-None.is (no_sets c.before.before)

@@ -1,9 +1,9 @@
 use Rattle.std.proofs.Common.{length}
 use Rattle.rec_collector.proofs.Answering.{IsUnderTest}
-use Rattle.rec_collector.proofs.parts.Parts.test_sets.Given as goal
+use Rattle.rec_collector.proofs.parts.Parts.follow.Given as goal
 
 abbrev pub invariant-loop-self : goal.invariant-loop-self
-invariant-loop-self l = IsUnderTest l.fn.self l.self
+invariant-loop-self l = IsUnderTest (record { parts = l.fn.self; phase = l.fn.begun }) (record { parts = l.self; phase = l.begun })
 
 abbrev pub decreases-loop-self : goal.decreases-loop-self
 decreases-loop-self l = length l.self.counts.sets

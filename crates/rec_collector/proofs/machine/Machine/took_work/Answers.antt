@@ -1,0 +1,47 @@
+use Rattle.std.proofs.Common.{◌≡◌, arith, refl, sym, ◌∙◌, subst}
+use Rattle.rec_collector.specs.Followed.{Next}
+use Rattle.rec_collector.specs.Given.{IsGivenAt, IsWork}
+use Rattle.rec_collector.specs.Inside.{private}
+use Rattle.rec_collector.specs.Kept.{KeepsSizes}
+use Rattle.rec_collector.specs.Private.{Private}
+use Rattle.rec_collector.specs.Took.{took_at, turn_at}
+use Rattle.rec_collector.proofs.Always.{turns_fit}
+use Rattle.rec_collector.proofs.Keeping.{may_work, turned, turned_keeps, work_is, work_took, works_there}
+use Rattle.rec_collector.proofs.machine.Machine.took_work.Goals as goal
+use Rattle.rec_collector.proofs.machine.Machine.took_work.Goals.{After-end_if_nothing_is_free}
+
+pub took-requires : goal.took-requires
+took-requires c =
+    let p : Private = private c.self.inside in
+    may_work p c.args.word p.phase c.self.invariant refl (subst (λ (q : Private). IsWork q.phase) (sym c.self.view_is) c.requires.works) (subst (λ (q : Private). IsGivenAt q c.args.word q.phase) (sym c.self.view_is) c.requires.given)
+
+pub overflow_add-self : goal.overflow_add-self
+overflow_add-self c = omega (arith, turns_fit (private c.self.inside) c.self.invariant)
+
+pub invariant_of-self : goal.invariant_of-self
+invariant_of-self c =
+    let p : Private = private c.self.inside in
+    let w : IsWork p.phase = subst (λ (q : Private). IsWork q.phase) (sym c.self.view_is) c.requires.works in
+    let n : Next = record { parts = c.took.new.self; phase = c.took.new.phase } in
+    turned_keeps p p c.args.word p.phase n c.self.invariant refl refl (subst (λ (q : Private). IsGivenAt q c.args.word q.phase) (sym c.self.view_is) c.requires.given) (works_there p p.phase w) (c.took.ensures ∙ sym (work_is p c.args.word p.phase w))
+
+told : (c : After-end_if_nothing_is_free) → (let now : Private = c.args.self.now in
+    (c.end_if_nothing_is_free.new.self ≡ took_at now c.args.word now.phase) × (c.end_if_nothing_is_free.result ≡ turn_at now c.args.word now.phase) × KeepsSizes now c.end_if_nothing_is_free.new.self)
+told c =
+    let p : Private = private c.self.inside in
+    let w : IsWork p.phase = subst (λ (q : Private). IsWork q.phase) (sym c.self.view_is) c.requires.works in
+    let n : Next = record { parts = c.took.new.self; phase = c.took.new.phase } in
+    let ends = c.end_if_nothing_is_free.ensures in
+    let learnt = work_took p c.args.word p.phase w in
+    subst (λ (now : Private). (c.end_if_nothing_is_free.new.self ≡ took_at now c.args.word now.phase) × (c.end_if_nothing_is_free.result ≡ turn_at now c.args.word now.phase) × KeepsSizes now c.end_if_nothing_is_free.new.self) c.self.view_is
+    (turned p p c.args.word p.phase n c.self.invariant refl refl (subst (λ (q : Private). IsGivenAt q c.args.word q.phase) (sym c.self.view_is) c.requires.given) (works_there p p.phase w) (c.took.ensures ∙ sym (work_is p c.args.word p.phase w))
+    c.end_if_nothing_is_free.new.self c.end_if_nothing_is_free.result learnt.0 learnt.1 ends.took ends.turn ends.same)
+
+pub returns-clause-took : goal.returns-clause-took
+returns-clause-took c = (told c).0
+
+pub returns-clause-turn : goal.returns-clause-turn
+returns-clause-turn c = (told c).1
+
+pub returns-clause-same : goal.returns-clause-same
+returns-clause-same c = (told c).2
