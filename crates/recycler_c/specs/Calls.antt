@@ -183,9 +183,11 @@ pub record HasSettled (h h' : Option End) (told : Settled) : Type 0 where
   pub after : Core
   pub is : rests_in h' ≡ Some after
   pub config : after.config ≡ before.config
+  pub left : before.epoch + 4 < 2 ^ 24
   pub settled : IsSettled after
   pub settles : IsSettling before after
   pub epochs : told.epochs ≡ 3 + under_way before.collector.phase
+  pub requested : after.epoch ≡ before.epoch + 3
   pub freed : after.collector.freed ≡ before.collector.freed + told.freed
   pub live : told.live ≡ taken_slots after
   pub registers : (sight after).registers ≡ (sight before).registers
