@@ -16,7 +16,7 @@ const TURNS: u32 = 150; // fewer than the scripts need, so that the rest runs mu
 
 #[test]
 fn watched_runs_end_as_played_ones(rt: HostRuntime) -> Result<(), Fail> {
-    for seed in 0..50 {
+    for seed in 0..8 {
         let script = small_script(rt.alloc(), seed)?;
         let watched = watched_end(rt.alloc(), &script, seed)?;
         let played = played_end(rt.alloc(), &script, seed)?;
@@ -42,7 +42,7 @@ fn watched_end(alloc: Global, script: &Script, seed: u64) -> Result<String, Fail
             break;
         }
     }
-    Ok(format!(in alloc; "{:?}", walk.world)?)
+    Ok(format!(in alloc; "{:?}", walk.world())?)
 }
 
 // The last world of the same script, played and settled.

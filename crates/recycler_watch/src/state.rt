@@ -3,7 +3,7 @@
 use rec_collector::Phase;
 use rec_counts::Colour;
 use rec_log::{Buffer, Entry};
-use rec_watch::Walk;
+use rec_watch::{Stage, Walk};
 use rec_word::target;
 use rec_world::World;
 use serde::Serialize;
@@ -78,13 +78,13 @@ pub struct State {
 impl State {
     /// What is seen of the heap of a run.
     pub fn of(alloc: Global, walk: &Walk<'_>) -> Result<State, NoMemory> {
-        let (world, fields) = (&walk.world, walk.script.fields());
+        let (world, fields) = (walk.world(), walk.script().fields());
         let sets = world.sets();
         Ok(State {
             slots: slots_of(alloc, world, fields as usize)?,
             mutators: mutators_of(alloc, world, fields)?,
             collector: Collector {
-                settles: walk.settling.is_some(),
+                settles: walk.stage() != Stage::Playing,
                 phase: phase_name(world.collector().phase()),
                 epoch: world.epoch(),
                 collections: world.collections(),

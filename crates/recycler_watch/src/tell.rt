@@ -121,7 +121,7 @@ impl Teller<'_> {
     }
 
     fn write_head<W: Write>(&self, out: &mut W) -> io::Result<()> {
-        let (asked, script) = (self.asked, self.walk.script);
+        let (asked, script) = (self.asked, self.walk.script());
         let head = json!(in self.alloc; {
             "script": asked.script,
             "seed": asked.seed,

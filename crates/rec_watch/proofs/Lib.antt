@@ -1,0 +1,5 @@
+mod Counting
+mod OneRun
+mod OneSettling
+mod Playing
+mod Settling

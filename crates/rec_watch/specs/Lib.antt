@@ -1,0 +1,4 @@
+pub mod Inside
+pub mod Moves
+pub mod Stages
+pub mod Watched
