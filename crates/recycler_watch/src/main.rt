@@ -1,5 +1,6 @@
 //! See the collector work: a script is played as `recycler play` does, and what happens is shown, move by move.
-//! It promises no more than to be safe and to end; what the collector promises is said by the crates below.
+//! The run is that of `rec_watch`, which proves it to be the one that `play` and `settle` make. Of what is written of it no more is
+//! promised than that it is written safely, and that the program ends.
 #![tactic(auto)]
 
 mod graph;
