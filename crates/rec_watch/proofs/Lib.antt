@@ -1,4 +1,5 @@
 mod Counting
+mod Ending
 mod OneRun
 mod OneSettling
 mod Playing

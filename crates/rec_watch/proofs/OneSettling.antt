@@ -113,18 +113,18 @@ collection_once first start v u kept quiet a b = go (ordered first start a.last 
     go (inr path) = sym (same_last u v b a path)
 
 -- mutators are at rest once settling has completed the collection of the requested epoch
-record IsAtRest (first : ℕ) (w : Core) : Type 0 where
-  kept : IsKept w
-  quiet : AreQuiet first w
+pub record IsAtRest (first : ℕ) (w : Core) : Type 0 where
+  pub kept : IsKept w
+  pub quiet : AreQuiet first w
 
-rests_after : (first : ℕ) (start v : Core) → IsAtRest first start → IsCollection start v → IsAtRest first v
+pub rests_after : (first : ℕ) (start v : Core) → IsAtRest first start → IsCollection start v → IsAtRest first v
 rests_after first start v r c = let next = quiet_after first start v r.kept r.quiet c in record { kept = next.kept; quiet = next.quiet }
 
-rests_finished : (first : ℕ) (start v : Core) → IsAtRest first start → Finishes start v → IsAtRest first v
+pub rests_finished : (first : ℕ) (start v : Core) → IsAtRest first start → Finishes start v → IsAtRest first v
 rests_finished first start v r (Finishes.one idle c) = rests_after first start v r c
 rests_finished first start v r (Finishes.two w busy c d) = rests_after first w v (rests_after first start w r c) d
 
-rests_offered : (first : ℕ) (w : Core) → IsAtRest first w → IsAtRest first (offering w)
+pub rests_offered : (first : ℕ) (w : Core) → IsAtRest first w → IsAtRest first (offering w)
 rests_offered first w r = record {
   kept = offering_kept w r.kept;
   quiet = λ t is. let own = r.quiet t is in record { idle = own.idle; log = own.log; box = own.box; newer = own.newer; older = own.older };

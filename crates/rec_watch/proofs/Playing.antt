@@ -56,7 +56,7 @@ names_go before mid after slot t cmd told still seen lowest n = go (is_birth (cm
     go false unborn = (n, NamesGoOn.same unborn)
 
 -- a mutator of the heap is one of the script
-is_of_script : (script : Contents) (w : Core) (t : ℕ) → w.config ≡ config_of script → IsMutator w.config t → (1 ≤ t) × (t ≤ length script.commands)
+pub is_of_script : (script : Contents) (w : Core) (t : ℕ) → w.config ≡ config_of script → IsMutator w.config t → (1 ≤ t) × (t ≤ length script.commands)
 is_of_script script w t config is = subst (λ (c : Config). IsMutator c t) config is
 
 -- while the rule gives turns

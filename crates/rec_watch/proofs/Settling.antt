@@ -40,6 +40,10 @@ played_at : (s : Stage) (w : Watched) → (s ≡ Playing → ⊥) → IsAt s w �
 played_at Playing w other h = absurd (other refl)
 played_at _ w other h = h
 
+-- where settling goes on, all turns of the rule were made
+pub has_played : (w : Watched) → Collects w.stage → IsWatched w → HasPlayed w
+has_played w collects is = played_at w.stage w (λ playing. subst Collects playing collects) is.at
+
 -- The rule has no turn left: settling begins at this stage.
 pub last_played : (w : Watched) (rest : Rest) (stage : Stage) → w.stage ≡ Playing → (stage ≡ Playing → ⊥) → IsWatched w → to_come w.rest ≡ [] → ((stage ≡ EpochsSpent → ⊥) → w.world.epoch + 4 < 2 ^ 24) → Settles stage w.world w.world → IsWatched (record w { rest = rest; stage = stage })
 last_played w rest stage playing other is none left settles =
@@ -136,7 +140,7 @@ settles_next Freeing played w v collects kept idle whole h = record { collected 
 settles_next _ played w v collects kept idle whole h = absurd collects
 
 -- the next stage is not that of the rule
-next_other : (s : Stage) (epoch : ℕ) → stage_after s epoch ≡ Playing → ⊥
+pub next_other : (s : Stage) (epoch : ℕ) → stage_after s epoch ≡ Playing → ⊥
 next_other (Finishing requested) epoch is = go (epoch == requested) is
   where
     go : (b : Bool) → ◌≡◌ {A = Stage} (if b then Finishing requested else Offering) Playing → ⊥
@@ -148,7 +152,7 @@ next_other _ epoch is = cc
 -- A turn of settling was made.
 module _ (w : Watched) (world : Core) (collects : Collects w.stage) (is : IsWatched w) (idle : AreIdle world) (config : world.config ≡ config_of w.script) (kept : IsWorld world) where
   so : HasPlayed w
-  so = played_at w.stage w (λ playing. subst Collects playing collects) is.at
+  so = has_played w collects is
 
   -- it completed no collection
   pub settled_on : (turn : Turn) → IsShort turn → HasStepped w.script w.made w.world turn world → IsWatched (record w { world = world })

@@ -1,4 +1,5 @@
 pub mod Inside
+pub mod Left
 pub mod Moves
 pub mod Stages
 pub mod Watched

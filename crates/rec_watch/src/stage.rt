@@ -1,6 +1,6 @@
 //! How far a run has come.
-ghost use Rattle.std.specs.Prelude.{◌≡◌, ◌↔◌, IsTrue};
-ghost use Rattle.rec_watch.specs.Stages.{Settles, stage_after};
+ghost use Rattle.std.specs.Prelude.{◌≡◌};
+ghost use Rattle.rec_watch.specs.Stages.{stage_after};
 
 /// How far a run has come.
 #[derive(Clone, Copy, Debug, PartialEq, Eq)]

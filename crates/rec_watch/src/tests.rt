@@ -37,11 +37,7 @@ fn small_script(alloc: Global, seed: u64) -> Result<Script, Fail> {
 // The last world of a watched run, in full.
 fn watched_end(alloc: Global, script: &Script, seed: u64) -> Result<String, Fail> {
     let mut walk = Walk::open(alloc, script, seed, TURNS)?;
-    for _ in 0..u64::MAX {
-        if walk.make_move().is_none() {
-            break;
-        }
-    }
+    while walk.make_move().is_some() {}
     Ok(format!(in alloc; "{:?}", walk.world())?)
 }
 

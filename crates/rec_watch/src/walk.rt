@@ -1,11 +1,12 @@
 //! A run that is made move by move.
 
-ghost use Rattle.std.specs.Prelude.{◌≡◌, ◌↔◌, ◌⊎◌, [], ◌∷◌, IfErr, IfOk, IfSome, IsNone, IsTrue};
+ghost use Rattle.std.specs.Prelude.{◌≡◌, ◌<◌, IfErr, IfOk, IfSome, IsNone};
 ghost use Rattle.rec_core.specs.Core.{opened};
 ghost use Rattle.rec_play.specs.Numbers.{config_of};
 ghost use Rattle.rec_play.specs.Played.{lengths_of as lengths_in};
 ghost use Rattle.rec_play.specs.Playing.{generator_of};
 ghost use Rattle.rec_world.specs.declared.open_error.OpenError as errors;
+ghost use Rattle.rec_watch.specs.Left.{moves_left};
 ghost use Rattle.rec_watch.specs.Stages.{Collects, GoesOn, IsOver};
 ghost use Rattle.rec_watch.specs.Watched.{IsWatched, Tells, turning};
 ghost use Rattle.rec_watch.specs.declared.stage.Stage as stages;
@@ -85,6 +86,8 @@ impl<'a> Walk<'a> {
         ensures told { IfSome result (Tells self.old self.new) }
         ensures watched { IsWatched self.new }
 
+        // A run ends: each move leaves fewer to come.
+        ensures nearer { IfSome result (λ told. moves_left self.new < moves_left self.old) }
         ensures ended { IsNone result → IsOver self.new.stage }
         ensures stays { IsOver self.old.stage → IsNone result × (self.new ≡ self.old) }
     {
@@ -104,6 +107,7 @@ impl<'a> Walk<'a> {
         ensures script { self.new.script ≡ self.old.script }
         ensures rule { self.new.rule ≡ self.old.rule }
         ensures told { IfSome result (Tells self.old self.new) }
+        ensures nearer { IfSome result (λ told. moves_left self.new < moves_left self.old) }
         ensures ended { IsNone result → IsOver self.new.stage }
     {
         match self.schedule.next_turn() {
@@ -136,6 +140,7 @@ impl<'a> Walk<'a> {
         ensures script { self.new.script ≡ self.old.script }
         ensures rule { self.new.rule ≡ self.old.rule }
         ensures told { Tells self.old self.new result }
+        ensures nearer { moves_left self.new < moves_left self.old }
     {
         self.offer();
         let (turn, seen) = turn_collector(self.script, &self.made, &mut self.world);

@@ -6,10 +6,12 @@ use Rattle.rec_play.specs.declared.actor.Actor.TheVariants.{Mutator, Collector}
 use Rattle.rec_play.proofs.Rounds.{commands_are}
 use Rattle.rec_settle.specs.Collecting.{IsAmid}
 use Rattle.rec_watch.specs.Inside.{watched}
+use Rattle.rec_watch.specs.Left.{moves_left}
 use Rattle.rec_watch.specs.Moves.{Carries, made_by}
 use Rattle.rec_watch.specs.Stages.{IsFinishing}
 use Rattle.rec_watch.specs.Watched.{IsWatched, Tells, Watched}
 use Rattle.rec_watch.specs.declared.stage.Stage.TheVariants.{Playing, Finishing, EpochsSpent}
+use Rattle.rec_watch.proofs.Ending.{first_nearer}
 use Rattle.rec_watch.proofs.Playing.{turn_comes, turn_made, turn_stepped}
 use Rattle.rec_watch.proofs.Settling.{last_played, tells_first}
 use Rattle.rec_watch.proofs.walk.Walk.play.Goals as goal
@@ -90,3 +92,8 @@ returns-else-requested-lt-SETTLING_EPOCHS-clause-told c =
     let d : In-None = (goal.at.returns-else-requested-lt-SETTLING_EPOCHS-clause-told c).In-None in
     subst (λ (w : Watched). Tells w c.settle.new.self c.settle.result) c.self.view_is
     (tells_first (watched c.self.inside) c.settle.new.self c.next_turn.new.self c.epoch-requested.result c.settle.result (playing d.before) (none d) c.settle.ensures.told)
+
+pub returns-else-requested-lt-SETTLING_EPOCHS-clause-nearer : goal.returns-else-requested-lt-SETTLING_EPOCHS-clause-nearer
+returns-else-requested-lt-SETTLING_EPOCHS-clause-nearer c =
+    let d : In-None = (goal.at.returns-else-requested-lt-SETTLING_EPOCHS-clause-nearer c).In-None in
+    omega (arith, c.settle.ensures.nearer, ap moves_left c.self.view_is, first_nearer (watched c.self.inside) c.next_turn.new.self c.epoch-requested.result (playing d.before) c.self.invariant c.epoch-requested.ensures.epoch)
