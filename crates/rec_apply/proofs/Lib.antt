@@ -1,5 +1,6 @@
 pub mod Falling
 pub mod Kept
+pub mod Marking
 pub mod Naming
 pub mod Resting
 pub mod Rising

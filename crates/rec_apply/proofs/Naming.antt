@@ -1,15 +1,15 @@
 -- How often a slot is named.
 use Rattle.std.proofs.Common.{◌≡◌, ℕ, ◌+◌, ◌<◌, cond, Option, None, List, [], ◌∷◌, ◌++◌, length, map, take, drop, get_or, refl, arith, sym, ◌∙◌, ap}
 use Rattle.std.specs.List.{flat_map, sum_by}
-use Rattle.std.proofs.lemmas.List.{take-append-drop, drop_more, take_more, flat_map_more}
+use Rattle.std.proofs.lemmas.List.{append-nil, take-append-drop, drop_more, take_more, flat_map_more}
 use Rattle.std.proofs.lemmas.List.Sums.{sum_by-cons, sum_by-append}
 use Rattle.std.proofs.lemmas.List.Concat.{flat_map-append}
 use Rattle.rec_word.specs.Word.{is_slot}
 use Rattle.rec_counts.specs.Lists.{one}
 use Rattle.rec_log.specs.declared.contents.Contents.{Contents}
 use Rattle.rec_log.specs.declared.entry.Entry.{Entry}
-use Rattle.rec_apply.specs.Targets.{named, added, taken, new_target, old_target}
-use Rattle.rec_apply.specs.Batch.{up_targets, down_targets}
+use Rattle.rec_apply.specs.Targets.{named, added, taken, leaf_born, leaves, new_target, old_target}
+use Rattle.rec_apply.specs.Batch.{up_targets, down_targets, mark_targets}
 
 pub named-nil : (x : ℕ) → named x [] ≡ 0
 unfolding named
@@ -45,6 +45,21 @@ pub added_is : (x : ℕ) (bs : List Contents) → named x (flat_map up_targets b
 added_is x bs = named_parts x up_targets bs ∙ named_halves x new_target bs
 
 -- what is taken off is what the decrements name
+leaves_part : (x : ℕ) (bs : List Contents) → sum_by (λ (b : Contents). named x (mark_targets b)) bs ≡ leaves x bs
+leaves_part x [] = refl
+leaves_part x (b ∷ bs) =
+    omega (
+      arith,
+      sum_by-cons (λ (b : Contents). named x (mark_targets b)) b bs,
+      sum_by-cons (λ (b : Contents). named x (map leaf_born b.entries)) b bs,
+      ap (named x) (append-nil (map leaf_born b.entries)),
+      leaves_part x bs,
+    )
+
+-- so are births of leaves
+pub leaves_is : (x : ℕ) (bs : List Contents) → named x (flat_map mark_targets bs) ≡ leaves x bs
+leaves_is x bs = named_parts x mark_targets bs ∙ leaves_part x bs
+
 pub taken_is : (x : ℕ) (bs : List Contents) → named x (flat_map down_targets bs) ≡ taken x bs
 taken_is x bs = named_parts x down_targets bs ∙ named_halves x old_target bs
 

@@ -5,7 +5,7 @@ use Rattle.std.proofs.lemmas.Bool.Decides.{eqb_tells}
 use Rattle.rec_counts.specs.Counts.{State, slot_at, opened}
 use Rattle.rec_counts.specs.Lists.{one}
 use Rattle.rec_counts.proofs.Times.{one-le}
-use Rattle.rec_apply.specs.Targets.{named, added, taken}
+use Rattle.rec_apply.specs.Targets.{named, added, leaves, taken}
 use Rattle.rec_apply.specs.Worked.{first_log, second_log}
 
 added_first : (x : ℕ) → added x (first_log ∷ []) ≡ one (eqb x 2) + one (eqb x 1) + one (eqb x 0) + one (eqb x 1)
@@ -37,6 +37,15 @@ two_is_there x =
       | inl q ↦ let there : one (ltb x 4) ≡ 1 = ap (λ z. one (ltb z 4)) q.1 in omega (arith, there, one-le (eqb x 2))
       | inr q ↦ let n : one (eqb x 2) ≡ 0 = ap one q.0 in omega (arith, n)
     ]
+
+-- neither log bears a leaf
+pub first_leaves : (x : ℕ) → leaves x (first_log ∷ []) ≡ 0
+unfolding named
+first_leaves x = refl
+
+pub second_leaves : (x : ℕ) → leaves x (second_log ∷ []) ≡ 0
+unfolding named
+second_leaves x = refl
 
 -- the first log can be counted at opening
 pub first_in_range : (x : ℕ) → 4 ≤ x → added x (first_log ∷ []) + taken x [] ≡ 0

@@ -1,11 +1,11 @@
 //! The increments of a batch, or its decrements.
 ghost use Rattle.std.specs.Prelude.{◌≡◌, map, flat_map, IfSome};
 ghost use Rattle.rec_apply.specs.Targets.{entry_target};
-ghost use Rattle.rec_apply.specs.Batch.{CanChange, CanCount, all_counted, counted, targets_of};
+ghost use Rattle.rec_apply.specs.Batch.{CanChange, CanCount, all_counted, counted, snapshot_of, targets_of};
 
 use crate::targets::entry_target;
 use crate::way::Way;
-use rec_counts::Counts;
+use rec_counts::{Colour, Counts};
 use rec_log::{Buffer, Entry};
 
 /// Counts what all these buffers name, buffer by buffer.
@@ -26,7 +26,17 @@ fn count_buffer(counts: &mut Counts, buffer: &Buffer, way: Way)
     ensures { counts.new ≡ all_counted way counts.old (targets_of way buffer.now) }
 {
     count_entries(counts, buffer.entries(), way);
-    count_slots(counts, buffer.snapshot(), way);
+    count_slots(counts, snapshot(buffer, way), way);
+}
+
+/// The snapshot of a buffer, which bears no leaves.
+fn snapshot(buffer: &Buffer, way: Way) -> &[Option<u16>]
+    ensures { result.now ≡ snapshot_of way buffer.now }
+{
+    match way {
+        Way::Up | Way::Down => buffer.snapshot(),
+        Way::Mark => &[],
+    }
 }
 
 #[inline(always)]
@@ -58,6 +68,7 @@ fn count_target(counts: &mut Counts, target: Option<u16>, way: Way)
         match way {
             Way::Up => counts.increment(slot),
             Way::Down => counts.decrement(slot),
+            Way::Mark => counts.set_colour(slot, Colour::Green),
         }
     }
 }

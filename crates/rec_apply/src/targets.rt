@@ -1,6 +1,6 @@
 //! What an entry names.
 ghost use Rattle.std.specs.Prelude.{◌≡◌};
-ghost use Rattle.rec_apply.specs.Targets.{entry_target, new_target, old_target};
+ghost use Rattle.rec_apply.specs.Targets.{entry_target, leaf_born, new_target, old_target};
 
 use crate::way::Way;
 use rec_log::Entry;
@@ -14,6 +14,7 @@ pub(crate) fn entry_target(entry: Entry, way: Way) -> Option<u16>
     match way {
         Way::Up => new_target(entry),
         Way::Down => old_target(entry),
+        Way::Mark => leaf_born(entry),
     }
 }
 
@@ -33,6 +34,16 @@ fn old_target(entry: Entry) -> Option<u16>
 {
     match entry {
         Entry::Put { old, .. } => target(old),
-        Entry::Born { slot } => Some(slot),
+        Entry::Born { slot, .. } => Some(slot),
+    }
+}
+
+/// The leaf that it bore, if it bore one.
+fn leaf_born(entry: Entry) -> Option<u16>
+    ensures { result ≡ leaf_born entry }
+{
+    match entry {
+        Entry::Born { slot, leaf: true } => Some(slot),
+        _ => None,
     }
 }

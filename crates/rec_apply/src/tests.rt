@@ -42,7 +42,10 @@ fn first_log(alloc: Global) -> Result<Buffer, NoMemory>
     ensures { IfOk result (λ log. log ≡ first_log) }
 {
     let mut log = Buffer::open(alloc, 3, 2)?;
-    note(&mut log, Entry::Born { slot: 2 });
+    note(&mut log, Entry::Born {
+            slot: 2,
+            leaf: false,
+        });
     note(
         &mut log,
         Entry::Put {

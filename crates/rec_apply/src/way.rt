@@ -1,8 +1,10 @@
-/// Which way a batch changes counts.
+/// Which way a batch changes counts, or that it marks leaves.
 #[derive(Clone, Copy, Debug, PartialEq, Eq, Drop)]
 pub enum Way {
     /// Up, by increments: what is referred to from now on.
     Up,
     /// Down, by decrements: what is no longer referred to.
     Down,
+    /// Neither: each leaf that was born becomes Green.
+    Mark,
 }

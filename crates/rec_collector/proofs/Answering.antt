@@ -33,6 +33,7 @@ use Rattle.rec_release.specs.Release as releases
 use Rattle.rec_sigma.specs.Prepare as preps
 use Rattle.rec_sigma.specs.declared.at.At as loads
 use Rattle.rec_trial.specs.Trial as trials
+use Rattle.rec_collector.specs.Zeros.{AreCounted}
 
 -- a preparation goes on while a field is due; then what is free is swept
 pub more_prepared : (w : Parts) (v : preps.Work) → is_some (preps.next_of v.machine) ≡ true → next_in (Preparing v.machine) (with_counts w v.counts) ≡ prepared w v
@@ -111,10 +112,10 @@ freed_clear m w word counted k wide c =
     let told : KeepsTold w (with_freed m w word).parts = freed_told m w word c.clearing.busy in
     record { clearing = on.clearing; exchanged = c.exchanged + 1; exchanges = on.exchanges; few = omega (arith, c.few, told.told) }
 
-pub batch_clear : (w : Parts) (newer older : List Contents) → 0 < w.fields → IsKept w.counts → IsCovered w.counts newer older → IsCleared w → NoneReleased w.counts → IsFewTold w → IsClear (zeros_released false (record w { counts = batch w.counts newer older }))
-batch_clear w newer older wide k covered c none few =
+pub batch_clear : (w : Parts) (newer older : List Contents) → 0 < w.fields → IsKept w.counts → IsCovered w.counts newer older → IsCleared w → NoneReleased w.counts → AreCounted w.counts → IsFewTold w → IsClear (zeros_released false (record w { counts = batch w.counts newer older }))
+batch_clear w newer older wide k covered c none counted few =
     let v : Parts = record w { counts = batch w.counts newer older } in
-    let on : Clears (zeros_released false v) 0 = batch_clears w newer older wide k covered c none in
+    let on : Clears (zeros_released false v) 0 = batch_clears w newer older wide k covered c none counted in
     let rests : KeepsRest w.counts v.counts = batch_rests w.counts newer older in
     let told : KeepsTold w (zeros_released false v).parts = told_on (same_told w v.counts rests.slots rests.sets) (zeros_told false v) in
     record { clearing = on.clearing; exchanged = 0; exchanges = on.exchanges; few = omega (arith, few, told.told) }

@@ -1,25 +1,26 @@
 -- From a batch to the next trial: what holds where the next of the zeros is released, and where a word came out of a released slot.
-use Rattle.std.proofs.Common.{◌≡◌, ℕ, ◌+◌, ◌<◌, Bool, None, Some, List, [], ◌∷◌, refl, arith, ◌∙◌, ap, subst}
+use Rattle.std.proofs.Common.{◌≡◌, ℕ, ◌+◌, ◌<◌, Bool, None, Some, List, [], ◌∷◌, refl, arith, ◌∙◌, ap, subst, true, false, Option, IsNone, length, leb, ◌≤◌, ◌*◌}
 use Rattle.rec_word.specs.Word.{target_of}
 use Rattle.rec_counts.specs.declared.slot.Slot.{Slot}
-use Rattle.rec_counts.specs.Counts.{State, IsKept}
-use Rattle.rec_counts.specs.Lists.{times}
+use Rattle.rec_counts.specs.Counts.{State, IsKept, slot_at}
+use Rattle.rec_counts.specs.Lists.{times, one}
 use Rattle.rec_counts.proofs.Times.{times-nil}
-use Rattle.rec_release.specs.Release.{started_of as zeros_started, emptied, first_of, without_first, IsReady}
+use Rattle.rec_release.specs.Release.{started_of as zeros_started, emptied, next_from, without_first, IsReady}
 use Rattle.rec_release.specs.declared.at.At.{At}
-use Rattle.rec_release.proofs.Keeping.{emptied_length, held_off, ready_emptied, work_next, work_on}
+use Rattle.rec_release.proofs.Keeping.{each_next, emptied_length, first_length, first_zero, none_left, FirstZero, held_off, ready_emptied, work_next, work_on}
 use Rattle.rec_release.proofs.Kept.{off_kept, emptied_kept, first_kept}
 use Rattle.rec_release.proofs.TakenOff.{ready_off, KeepsMost}
 use Rattle.rec_collector.specs.Clearing.{release_left, HasExchanged, IsClearing, IsReleasing, IsTidy}
 use Rattle.rec_collector.specs.Followed.{with_released}
 use Rattle.rec_collector.specs.Parts.{Parts}
-use Rattle.rec_collector.specs.Testing.{Begun, zeros_released}
+use Rattle.rec_collector.specs.Testing.{Begun, zeros_released, with_release}
 use Rattle.rec_collector.specs.declared.phase.Phase.TheVariants.{Releasing}
 use Rattle.rec_collector.proofs.Counting.{Counted}
 use Rattle.rec_collector.proofs.Exchanging.{exchanged_as, first_are}
-use Rattle.rec_collector.proofs.Goings.{emptied_same, first_begun, first_work, next_begun, released_by, released_emptied, released_last, released_more, released_most, released_off}
-use Rattle.rec_collector.proofs.Tidy.{tidy_emptied, tidy_next, tidy_off}
+use Rattle.rec_collector.proofs.Goings.{emptied_same, next_begun, released_by, released_emptied, released_last, released_more, released_most, released_off}
+use Rattle.rec_collector.proofs.Tidy.{tidy_emptied, tidy_first, tidy_off}
 use Rattle.rec_release.specs.Release as releases
+use Rattle.rec_counts.specs.Colour.{is_green}
 
 -- A collection has come to this, between a batch and the next trial, with so many fields exchanged at most.
 pub record Clears (b : Begun) (exchanged : ℕ) : Type 0 where
@@ -28,25 +29,66 @@ pub record Clears (b : Begun) (exchanged : ℕ) : Type 0 where
   pub clearing : IsClearing b
   pub exchanges : HasExchanged b.parts b.phase exchanged
 
+-- The zeros were released up to this field: what holds of the counts then.
+record HasReleased (w : Parts) (n : ℕ) (at : Option At) (u : State) : Type 0 where
+  pub counts : IsKept u
+  pub tidy : IsTidy w.fields u at
+  pub work : u.work ≡ []
+  pub gone : List ℕ
+  pub are : (x : ℕ) → times x gone + one (leb (length u.slots) x) ≡ one (slot_at u x).released
+  pub few : n + release_left w.fields at ≤ length gone * w.fields
+
+-- a Green zero is released, and empty at once
+green_released : (w : Parts) (n : ℕ) (s : State) (z : ℕ) (zs : List ℕ) → s.zeros ≡ z ∷ zs → IsReady s → is_green (slot_at s z).colour ≡ true → HasReleased w n None s → HasReleased w n None (emptied (without_first (z ∷ zs) s) z)
+green_released w n s z zs e ready green h =
+    let u : State = without_first (z ∷ zs) s in
+    let first : FirstZero s z zs = first_zero s z zs e ready in
+    let same = emptied_same u z in
+    record {
+      counts = emptied_kept u z (omega (arith, first.in_range, first_length (z ∷ zs) s)) first.unlisted (first_kept (z ∷ zs) s e h.counts);
+      tidy = tidy_emptied u (record { slot = z; field = 0 }) (tidy_first (z ∷ zs) s e ready.zeros h.tidy);
+      work = same.1 ∙ h.work;
+      gone = z ∷ h.gone;
+      are = λ x. omega (arith, first_are z zs s h.gone e ready h.are x, ap (λ k. one (leb k x)) (emptied_length u z), ap (λ (v : Slot). one v.released) (same.0 x));
+      few = omega (arith, h.few);
+    }
+
+-- the first that isn't Green is released
+other_released : (w : Parts) (n : ℕ) (s : State) (z : ℕ) (zs : List ℕ) → s.zeros ≡ z ∷ zs → IsReady s → is_green (slot_at s z).colour ≡ false → HasReleased w n None s → HasReleased w n (Some (record { slot = z; field = 0 })) (without_first (z ∷ zs) s)
+other_released w n s z zs e ready green h = record {
+  counts = first_kept (z ∷ zs) s e h.counts;
+  tidy = tidy_first (z ∷ zs) s e ready.zeros h.tidy;
+  work = h.work;
+  gone = z ∷ h.gone;
+  are = first_are z zs s h.gone e ready h.are;
+  few = omega (arith, h.few);
+}
+
+-- what was begun then
+released_begun : (fields : ℕ) (lowers : Bool) (w : Parts) (n : ℕ) (at : Option At) (u : State) → fields ≡ w.fields → 0 < w.fields → HasReleased w n at u → releases.IsAtWork (record { fields = fields; at = at; lowers = lowers }) u
+    → (IsNone (releases.next_of (record { fields = fields; at = at; lowers = lowers })) → u.zeros ≡ []) → Clears (with_release w (releases.work_of fields lowers (record { at = at; counts = u }))) n
+unfolding releases.next_of
+released_begun fields lowers w n None u same wide h r none = record {
+  wide = wide;
+  counts = h.counts;
+  clearing = record { tidy = h.tidy; ready = r.ready; zeros = none refl; work = h.work };
+  exchanges = record { gone = h.gone; are = h.are; few = h.few };
+}
+released_begun fields lowers w n (Some a) u same wide h r none = record {
+  wide = wide;
+  counts = h.counts;
+  clearing = record { fields = same; busy = refl; tidy = h.tidy; release = r; work = h.work };
+  exchanges = record { gone = h.gone; are = h.are; few = h.few };
+}
+
 -- the next of the zeros is released
 pub next_clears : (fields : ℕ) (lowers : Bool) (w : Parts) (n : ℕ) → fields ≡ w.fields → 0 < w.fields → IsKept w.counts → IsTidy w.fields w.counts None → IsReady w.counts → w.counts.work ≡ [] → HasExchanged w None n → Clears (next_begun fields lowers w) n
-next_clears fields lowers w n same wide k tidy ready work h = go s.zeros refl
-  where
-    s : State
-    s = w.counts
-
-    go : (zs : List ℕ) → s.zeros ≡ zs → Clears (first_begun fields lowers zs w) n
-    go zs e = by zs e (subst (λ ys. IsTidy w.fields (without_first ys s) (first_of ys)) e (tidy_next s ready.zeros tidy))
-        (subst (λ ys. releases.IsAtWork (record { fields = fields; at = first_of ys; lowers = lowers }) (without_first ys s)) e (work_next fields lowers s (omega (arith, wide, same)) ready))
-      where
-        by : (zs : List ℕ) → s.zeros ≡ zs → IsTidy w.fields (without_first zs s) (first_of zs) → releases.IsAtWork (record { fields = fields; at = first_of zs; lowers = lowers }) (without_first zs s) → Clears (first_begun fields lowers zs w) n
-        by [] e t r = record { wide = wide; counts = k; clearing = record { tidy = t; ready = r.ready; zeros = e; work = work }; exchanges = h }
-        by (z ∷ zs) e t r = record {
-          wide = wide;
-          counts = first_kept (z ∷ zs) s e k;
-          clearing = record { fields = same; busy = refl; tidy = t; release = r; work = first_work (z ∷ zs) s ∙ work };
-          exchanges = record { gone = z ∷ h.gone; are = first_are z zs s h.gone e ready h.are; few = omega (arith, h.few) };
-        }
+next_clears fields lowers w n same wide k tidy ready work h =
+    let s : State = w.counts in
+    released_begun fields lowers w n (next_from s.zeros s).at (next_from s.zeros s).counts same wide
+    (each_next (HasReleased w n) (green_released w n) (other_released w n) s.zeros s refl ready (record { counts = k; tidy = tidy; work = work; gone = h.gone; are = h.are; few = h.few }))
+    (work_next fields lowers s (omega (arith, wide, same)) ready)
+    (none_left fields lowers s)
 
 pub zeros_clear : (lowers : Bool) (w : Parts) (n : ℕ) → 0 < w.fields → IsKept w.counts → IsTidy w.fields w.counts None → IsReady w.counts → w.counts.work ≡ [] → HasExchanged w None n → Clears (zeros_released lowers w) n
 unfolding zeros_started

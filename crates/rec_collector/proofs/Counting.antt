@@ -46,11 +46,11 @@ same_told w t slots sets = record { slots = slots; fields = refl; told = ap (λ 
 
 pub zeros_told : (lowers : Bool) (w : Parts) → KeepsTold w (zeros_released lowers w).parts
 unfolding zeros_started
-zeros_told lowers w = same_told w _ (next_length w.counts.zeros w.counts) (next_sets w.counts.zeros w.counts)
+zeros_told lowers w = same_told w _ (next_length w.counts) (next_sets w.counts)
 
 pub released_told : (m : releases.Machine) (w : Parts) (word : ℕ) → IsSome m.at → KeepsTold w (with_released m w word).parts
 released_told m w word busy = released_by (λ b. KeepsTold w b.parts) m w word busy (λ a e l. same_told w _ n.slots n.sets)
-    (λ a e l. let u : State = emptied s a.slot in same_told w _ (next_length u.zeros u ∙ emptied_length s a.slot ∙ n.slots) (next_sets u.zeros u ∙ emptied_sets s a.slot ∙ n.sets))
+    (λ a e l. let u : State = emptied s a.slot in same_told w _ (next_length u ∙ emptied_length s a.slot ∙ n.slots) (next_sets u ∙ emptied_sets s a.slot ∙ n.sets))
   where
     s : State
     s = released_off m w word

@@ -12,7 +12,7 @@ use Rattle.rec_counts.proofs.Times.{length-once, one-le, times-cons, times-nil}
 use Rattle.rec_counts.proofs.Front.{first_and_rest}
 use Rattle.rec_walk.specs.Walk.{first_member}
 use Rattle.rec_release.specs.Release.{without_first, IsReady}
-use Rattle.rec_release.proofs.Keeping.{first_zero, next_length, released_first, released_same, FirstZero}
+use Rattle.rec_release.proofs.Keeping.{first_zero, first_length, released_first, released_same, FirstZero}
 use Rattle.rec_collector.specs.Clearing.{fields_left, freeing_left, HasExchanged}
 use Rattle.rec_collector.specs.Parts.{Parts}
 use Rattle.rec_collector.specs.declared.phase.Phase.{Phase}
@@ -42,7 +42,7 @@ pub first_are : (z : ℕ) (zs : List ℕ) (s : State) (gone : List ℕ) → s.ze
 first_are z zs s gone e r are x =
     let first : FirstZero s z zs = first_zero s z zs e r in
     let v : Slot = record (slot_at s z) { released = true } in
-    let many : one (leb (length (without_first (z ∷ zs) s).slots) x) ≡ one (leb (length s.slots) x) = ap (λ k. one (leb k x)) (next_length (z ∷ zs) s) in
+    let many : one (leb (length (without_first (z ∷ zs) s).slots) x) ≡ one (leb (length s.slots) x) = ap (λ k. one (leb k x)) (first_length (z ∷ zs) s) in
     elim (eqb_tells x z) [
       | inl q ↦
           let n : one (eqb x z) ≡ 1 = ap one q.0 in

@@ -13,10 +13,10 @@ use Rattle.rec_counts.specs.Slot.{raised}
 use Rattle.rec_counts.proofs.Decrementing.{rest_decremented}
 use Rattle.rec_counts.proofs.Keeping.{field_kept}
 use Rattle.rec_counts.proofs.Times.{times-nil}
-use Rattle.rec_apply.specs.Batch.{all_counted, CanFall, all_down, all_up, batch, counted_down, counted_up, down_targets, up_targets, CanRise}
+use Rattle.rec_apply.specs.Batch.{all_counted, CanFall, all_down, all_up, batch, counted_down, counted_up, down_targets, up_targets, CanRise, all_marked, counted, mark_targets}
 use Rattle.rec_apply.proofs.Falling.{fall_first, fall_right, fall_zeros_all}
-use Rattle.rec_apply.proofs.Resting.{rest_all_up}
-use Rattle.rec_apply.proofs.Whole.{batch_rests, batch_falls, batch_rises}
+use Rattle.rec_apply.proofs.Resting.{rest_all_up, all_keep}
+use Rattle.rec_apply.proofs.Whole.{batch_rests, batch_falls, batch_rises, marked_by}
 use Rattle.rec_apply.proofs.Kept.{batch_kept}
 use Rattle.rec_release.specs.Release.{IsReady}
 use Rattle.rec_release.specs.TakenOff.{AllZerosButOrange}
@@ -34,7 +34,7 @@ use Rattle.rec_collector.specs.Took.{batched}
 use Rattle.rec_collector.specs.declared.phase.Phase.{Phase}
 use Rattle.rec_collector.specs.declared.phase.Phase.TheVariants.{Returning, Releasing, Freeing}
 use Rattle.rec_collector.proofs.Clearing.{Clears, released_clears, zeros_clear}
-use Rattle.rec_collector.proofs.Outside.{apart_on, black_was, untried_moved, outside_on, raised_lowers}
+use Rattle.rec_collector.proofs.Outside.{apart_on, in_use_orange, marked_lowers, unlike_was, untried_moved, outside_on, raised_lowers}
 use Rattle.rec_collector.proofs.Tidy.{tidy_off}
 use Rattle.rec_collector.proofs.Counting.{Counted, KeepsTold, released_told, same_told, tested_told, told_on, zeros_told, freed_told}
 use Rattle.rec_collector.proofs.Exchanging.{exchanged_few, none_exchanged}
@@ -48,6 +48,10 @@ use Rattle.rec_collector.proofs.Testing.{tested_clear, clear_counted, clear_list
 use Rattle.rec_release.specs.CycleFree as frees
 use Rattle.rec_release.specs.Release as releases
 use Rattle.rec_trial.specs.Trial as trials
+use Rattle.rec_apply.specs.declared.way.Way.TheVariants.{Mark}
+use Rattle.rec_apply.proofs.Marking.{rest_all_marked}
+use Rattle.rec_counts.specs.declared.colour.Colour.TheVariants.{Green}
+use Rattle.rec_collector.specs.Zeros.{AreCounted}
 
 -- a slot that was incremented has a count
 raised_zeros : (s : State) (x : ℕ) → AllZerosButOrange s → AllZerosButOrange (with_slot s x (raised (slot_at s x)))
@@ -64,13 +68,38 @@ tidy_up s (Some x) at i =
     let released : (y : ℕ) → (slot_at (with_slot s x v) y).released ≡ (slot_at s y).released = field_kept (λ (w : Slot). w.released) s.slots x v refl in
     record {
       untried = untried_moved s (with_slot s x v) refl (raised_lowers s x) i.untried;
-      apart = apart_on s (with_slot s x v) refl refl (black_was s x v refl) i.apart;
+      apart = apart_on s (with_slot s x v) refl refl (unlike_was s x v (in_use_orange (slot_at s x).colour)) i.apart;
       all_zeros = raised_zeros s x i.all_zeros;
       outside = outside_on s (with_slot s x v) (raised_lowers s x) i.outside;
       listed = λ y l r b. i.listed y (omega (arith, l, length-set s.slots x v)) (sym (released y) ∙ r) (sym (buffered y) ∙ b);
       unbuffered = λ y l. buffered y ∙ i.unbuffered y l;
       held = λ y l. buffered y ∙ i.held y l;
     }
+
+-- A leaf becomes Green, where each slot has a count.
+tidy_mark : {fields : ℕ} → (s : State) (t : Option ℕ) → IsTidy fields s None × AreCounted s → IsTidy fields (counted Mark s t) None × AreCounted (counted Mark s t)
+tidy_mark s None i = i
+tidy_mark s (Some x) (i, c) =
+    let v : Slot = record (slot_at s x) { colour = Green } in
+    let buffered : (y : ℕ) → (slot_at (with_slot s x v) y).buffered ≡ (slot_at s y).buffered = field_kept (λ (w : Slot). w.buffered) s.slots x v refl in
+    let released : (y : ℕ) → (slot_at (with_slot s x v) y).released ≡ (slot_at s y).released = field_kept (λ (w : Slot). w.released) s.slots x v refl in
+    let count : (y : ℕ) → (slot_at (with_slot s x v) y).count ≡ (slot_at s y).count = field_kept (λ (w : Slot). w.count) s.slots x v refl in
+    let counted_still : AreCounted (with_slot s x v) = λ y r. omega (arith, count y, c y (sym (released y) ∙ r)) in
+    (
+      record {
+        untried = untried_moved s (with_slot s x v) refl (marked_lowers s x) i.untried;
+        apart = apart_on s (with_slot s x v) refl refl (unlike_was s x v (λ o. cc)) i.apart;
+        all_zeros = λ y r n o. absurd (omega (arith, n, counted_still y r));
+        outside = outside_on s (with_slot s x v) (marked_lowers s x) i.outside;
+        listed = λ y l r b. i.listed y (omega (arith, l, length-set s.slots x v)) (sym (released y) ∙ r) (sym (buffered y) ∙ b);
+        unbuffered = λ y l. buffered y ∙ i.unbuffered y l;
+        held = λ y l. buffered y ∙ i.held y l;
+      },
+      counted_still,
+    )
+
+tidy_marks : {fields : ℕ} → (s : State) (ts : List (Option ℕ)) → IsTidy fields s None → AreCounted s → IsTidy fields (all_marked s ts) None
+tidy_marks {fields} s ts i c = (all_keep Mark (λ u. IsTidy fields u None × AreCounted u) tidy_mark s ts (i, c)).0
 
 tidy_all_up : {fields : ℕ} → (s : State) (ts : List (Option ℕ)) (at : Option At) → IsTidy fields s at → IsTidy fields (all_up s ts) at
 unfolding all_counted
@@ -106,13 +135,15 @@ tidy_all_down s [] at c r i = i
 tidy_all_down s (t ∷ ts) at c r i = tidy_all_down (counted_down s t) ts at (fall_right s (t ∷ []) ts c) (released_down s t r) (tidy_down s t ts at c r i)
 
 -- counts that are tidy stay so, where nothing is at work
-pub batched_clear : (fields : ℕ) (s : State) (newer older : List Contents) → CanFall (all_up s (flat_map up_targets newer)) (flat_map down_targets older) → IsTidy fields s None → IsReady s → s.work ≡ [] →
+pub batched_clear : (fields : ℕ) (s : State) (newer older : List Contents) → CanFall (all_up (marked_by s newer) (flat_map up_targets newer)) (flat_map down_targets older) → IsTidy fields s None → AreCounted s → IsReady s → s.work ≡ [] →
     IsTidy fields (batch s newer older) None × IsReady (batch s newer older)
-batched_clear fields s newer older c tidy r none =
-    let up : State = all_up s (flat_map up_targets newer) in
+batched_clear fields s newer older c tidy counted r none =
+    let marked : State = marked_by s newer in
+    let up : State = all_up marked (flat_map up_targets newer) in
     let k : KeepsRest s (batch s newer older) = batch_rests s newer older in
     let released : AreReleased s = record { free = r.free; work = λ x h. nowhere s.work x none h } in (
-      tidy_all_down up (flat_map down_targets older) None c (released_rests s up (rest_all_up s (flat_map up_targets newer)) released) (tidy_all_up s (flat_map up_targets newer) None tidy),
+      tidy_all_down up (flat_map down_targets older) None c (released_rests marked up (rest_all_up marked (flat_map up_targets newer)) (released_rests s marked (rest_all_marked s (flat_map mark_targets newer)) released))
+          (tidy_all_up marked (flat_map up_targets newer) None (tidy_marks s (flat_map mark_targets newer) tidy counted)),
       record { zeros = fall_zeros_all up (flat_map down_targets older) c.zeros; free = (released_rests s (batch s newer older) k released).free },
     )
 
@@ -239,19 +270,19 @@ freed_has p m word k e c =
     }
 
 -- a batch can be applied, and the counts are then tidy
-covered_falls : (s : State) (newer older : List Contents) → s.zeros ≡ [] → IsCovered s newer older → CanFall (all_up s (flat_map up_targets newer)) (flat_map down_targets older)
+covered_falls : (s : State) (newer older : List Contents) → s.zeros ≡ [] → IsCovered s newer older → CanFall (all_up (marked_by s newer) (flat_map up_targets newer)) (flat_map down_targets older)
 covered_falls s newer older z c =
-    let rises : CanRise s (flat_map up_targets newer) = batch_rises s newer older c.in_range c.fits in
+    let rises : CanRise (marked_by s newer) (flat_map up_targets newer) = batch_rises s newer older c.in_range c.fits in
     batch_falls s newer older z rises c.covered
 
 -- its zeros are to be released
-pub batch_clears : (w : Parts) (newer older : List Contents) → 0 < w.fields → IsKept w.counts → IsCovered w.counts newer older → IsCleared w → ((x : ℕ) → x < length w.counts.slots → (slot_at w.counts x).released ≡ false) →
+pub batch_clears : (w : Parts) (newer older : List Contents) → 0 < w.fields → IsKept w.counts → IsCovered w.counts newer older → IsCleared w → ((x : ℕ) → x < length w.counts.slots → (slot_at w.counts x).released ≡ false) → AreCounted w.counts →
     Clears (zeros_released false (record w { counts = batch w.counts newer older })) 0
-batch_clears w newer older wide k covered c none =
+batch_clears w newer older wide k covered c none counted =
     let s : State = w.counts in
     let falls = covered_falls s newer older c.zeros covered in
     let rests : KeepsRest s (batch s newer older) = batch_rests s newer older in
-    let tidy = batched_clear w.fields s newer older falls c.tidy c.ready c.work in
+    let tidy = batched_clear w.fields s newer older falls c.tidy counted c.ready c.work in
     zeros_clear false (record w { counts = batch s newer older }) 0 wide (batch_kept s newer older falls k) tidy.0 tidy.1 (rests.work ∙ c.work)
     (none_exchanged (record w { counts = batch s newer older }) (λ x l. rests.released x ∙ none x (omega (arith, l, rests.slots))))
 
@@ -263,7 +294,7 @@ begun_has p t k e last c =
     let keeps : KeepsTold (parts_of p) (zeros_released false w).parts = told_on (same_told (parts_of p) w.counts rests.slots rests.sets) (zeros_told false w) in
     record {
       exchanged = 0;
-      clears = batch_clears (parts_of p) p.newer p.older k.some_fields k.counts c (resting_cleared (parts_of p) a.rest) (none_released a.rest);
+      clears = batch_clears (parts_of p) p.newer p.older k.some_fields k.counts c (resting_cleared (parts_of p) a.rest) (none_released a.rest) a.rest.counted;
       turns = omega (arith, a.turns, last);
       fits = fits_on (fits_self p) keeps;
       few_told = omega (arith, told_at p (Returning t) k e, keeps.told);

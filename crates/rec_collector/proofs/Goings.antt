@@ -55,10 +55,6 @@ with_counts w s = record w { counts = s }
 abbrev pub still : Parts → Begun
 still w = record { parts = w; phase = None }
 
--- the first of these zeros is released, if there is one
-abbrev pub first_begun : (fields : ℕ) (lowers : Bool) → List ℕ → Parts → Begun
-first_begun fields lowers zs w = with_release w (record { machine = record { fields = fields; at = first_of zs; lowers = lowers }; counts = without_first zs w.counts })
-
 -- the next of the zeros is
 abbrev pub next_begun : (fields : ℕ) (lowers : Bool) → Parts → Begun
 next_begun fields lowers w = with_release w (with_next fields lowers w.counts)
@@ -160,7 +156,7 @@ refurbished_many s = (all_same (slice_get (last_set s.sets) 0) (last_set s.sets)
 -- the release of the zeros leaves the sets and the number of slots
 pub zeros_sets : (lowers : Bool) (w : Parts) → (zeros_released lowers w).parts.counts.sets ≡ w.counts.sets
 unfolding zeros_started
-zeros_sets lowers w = next_sets w.counts.zeros w.counts
+zeros_sets lowers w = next_sets w.counts
 
 -- the test of the last set leaves the sets before it
 pub last_sets : (w : Parts) → 0 < length w.counts.sets → length (last_tested w).parts.counts.sets + 1 ≡ length w.counts.sets

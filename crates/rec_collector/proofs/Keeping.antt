@@ -28,6 +28,8 @@ use Rattle.rec_collector.proofs.Steps.{same_swapped, took_between}
 use Rattle.rec_collector.proofs.Sweeping.{ended_keeps, opening_keeps, sweeping_keeps}
 use Rattle.rec_release.specs.Sweep.{swept}
 use Rattle.rec_release.specs.Sweep as sweeps
+use Rattle.rec_trial.specs.Rules.{visible}
+use Rattle.rec_trial.proofs.Visible.{visible_leads}
 
 -- the next epoch is requested, if there is one
 idle_keeps : (p : Private) (word : ℕ) → IsMachine p → p.phase ≡ Idle → IsMachine (took_at p word Idle)
@@ -108,7 +110,7 @@ unfolding IsGivenAt
 work_lands p word (Returning t) k e g last = followed_lands p (zeros_released false (batched p)) (begun_has p t k e last (g last))
 work_lands p word (Releasing m) k e g at_work = followed_lands p (with_released m (parts_of p) word) (released_has p m word k e g)
 work_lands p word (Freeing m) k e g at_work = followed_lands p (with_freed m (parts_of p) word) (freed_has p m word k e g)
-work_lands p word (Trying m) k e g at_work = tried_lands p (parts_of p) _ (took_tried p m word k e g)
+work_lands p word (Trying m) k e g at_work = tried_lands p (parts_of p) _ (took_tried p m (visible p.counts word) k e (visible_leads p.counts word g))
 work_lands p word (Preparing m) k e g at_work = prepared_lands p (parts_of p) _ (took_prepared p m word k e)
 work_lands p word _ k e g at_work = absurd at_work
 

@@ -22,6 +22,7 @@ use Rattle.rec_release.specs.CycleFree as frees
 use Rattle.rec_release.specs.Release as releases
 use Rattle.rec_sigma.specs.Prepare as preps
 use Rattle.rec_trial.specs.Trial as trials
+use Rattle.rec_trial.specs.Rules.{visible}
 
 -- what holds in the phase of a machine
 pub now_at : (p : Private) (phase : Phase) → IsMachine p → p.phase ≡ phase → IsAt p phase
@@ -93,7 +94,7 @@ module _ (P : Phase → Type 0) (preparing : (m : preps.Machine) → P (Preparin
       pub worked_phase : (w : Parts) (word : ℕ) (phase : Phase) → IsWork phase → P (worked w word phase).phase
       worked_phase w word (Releasing m) at_work = let v : releases.Work = releases.took_of (record { machine = m; counts = w.counts }) word in followed_phase (with_released m w word) (releasing_phase v.machine v.machine.at)
       worked_phase w word (Freeing m) at_work = let v : frees.Work = frees.took_of (record { machine = m; counts = w.counts }) word in followed_phase (with_freed m w word) (relieved_phase (record w { counts = v.counts }) v.machine v.machine.at)
-      worked_phase w word (Trying m) at_work = tried_phase w (trials.took_of (record { machine = m; counts = w.counts }) word)
+      worked_phase w word (Trying m) at_work = tried_phase w (trials.took_of (record { machine = m; counts = w.counts }) (visible w.counts word))
       worked_phase w word (Preparing m) at_work = prepared_phase w (preps.took_of (record { machine = m; counts = w.counts }) word)
       worked_phase w word _ at_work = absurd at_work
 

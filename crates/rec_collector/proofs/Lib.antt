@@ -6,6 +6,7 @@ pub mod Exchanging
 pub mod Following
 pub mod Freeing
 pub mod Goings
+pub mod Greens
 pub mod Judging
 pub mod Keeping
 pub mod Landing

@@ -1,7 +1,7 @@
 -- Every slot is offered to a trial, one after another: what that leaves of the counts, and that a trial may begin.
-use Rattle.std.proofs.Common.{◌≡◌, ◌≢◌, ℕ, zero, suc, ◌+◌, ◌<◌, ◌≤◌, Bool, true, false, eqb, cond, List, [], ◌∷◌, length, filter, refl, arith, sym, ◌∙◌, ap, subst, inl, inr, ◌-◌, ◌++◌, map, take, drop, set, get_or}
+use Rattle.std.proofs.Common.{◌||◌, ◌≡◌, ◌≢◌, ℕ, zero, suc, ◌+◌, ◌<◌, ◌≤◌, Bool, true, false, eqb, cond, List, [], ◌∷◌, length, filter, refl, arith, sym, ◌∙◌, ap, subst, inl, inr, ◌-◌, ◌++◌, map, take, drop, set, get_or}
 use Rattle.std.specs.List.{concat, range_with_len}
-use Rattle.std.proofs.lemmas.Bool.{cases_Bool, cases_eq, cases_lt, eq-eqb, ne_eqb}
+use Rattle.std.proofs.lemmas.Bool.{cases_Bool, cases_eq, cases_lt, eq-eqb, false≢true, ne_eqb}
 use Rattle.std.proofs.lemmas.List.FromFn.{filter_of_map_range_with_len_more}
 use Rattle.std.proofs.lemmas.List.{map-id, get_or_past, length-map, append-nil, append_assoc, drop_all, get_or-append_right, get_or-drop, get_or-set_same, get_or_default, length-append, length-drop, length-take, set-set, take_all}
 use Rattle.std.proofs.lemmas.List.Edits.{map_over_more}
@@ -10,8 +10,8 @@ use Rattle.rec_counts.specs.declared.colour.Colour.TheVariants.{Purple, Orange}
 use Rattle.rec_counts.specs.declared.slot.Slot.{Slot}
 use Rattle.rec_counts.specs.Counts.{State, IsKept, slot_at, with_slot}
 use Rattle.rec_counts.specs.Lists.{one, times}
-use Rattle.rec_counts.specs.Slot.{absent, is_in}
-use Rattle.rec_counts.specs.Colour.{is_gray, is_white}
+use Rattle.rec_counts.specs.Slot.{absent, is_in, stays as keeps_colour}
+use Rattle.rec_counts.specs.Colour.{is_gray, is_white, is_green}
 use Rattle.rec_counts.proofs.Decrementing.{rest_same}
 use Rattle.rec_counts.proofs.Times.{times-append, times-cons, times-nil}
 use Rattle.rec_counts.proofs.Keeping.{map_at}
@@ -26,15 +26,19 @@ offered_at : (s : State) (x : ℕ) → slot_at (offered s) x ≡ offered_slot (s
 unfolding offered
 offered_at s x = map_at offered_slot refl s.slots x
 
-offered_true : (v : Slot) → v.released ≡ true → offered_slot v ≡ v
+-- a released slot keeps its colour
+released_keeps : (v : Slot) → v.released ≡ true → keeps_colour v ≡ true
+released_keeps v r = ap (λ b. b || is_green v.colour) r
+
+offered_true : (v : Slot) → keeps_colour v ≡ true → offered_slot v ≡ v
 offered_true v r = ap (λ b. offered_if b v) r
 
-offered_false : (v : Slot) → v.released ≡ false → offered_slot v ≡ record v { colour = Purple; buffered = true }
+offered_false : (v : Slot) → keeps_colour v ≡ false → offered_slot v ≡ record v { colour = Purple; buffered = true }
 offered_false v r = ap (λ b. offered_if b v) r
 
 -- it has a new colour and a new place at most
 stays : {A : Type 0} (f : Slot → A) → ((v : Slot) → f (record v { colour = Purple; buffered = true }) ≡ f v) → (s : State) (x : ℕ) → f (slot_at (offered s) x) ≡ f (slot_at s x)
-stays f h s x = ap f (offered_at s x) ∙ elim (slot_at s x).released as (λ b. f (offered_if b (slot_at s x)) ≡ f (slot_at s x)) [ true ↦ refl | false ↦ h (slot_at s x) ]
+stays f h s x = ap f (offered_at s x) ∙ elim (keeps_colour (slot_at s x)) as (λ b. f (offered_if b (slot_at s x)) ≡ f (slot_at s x)) [ true ↦ refl | false ↦ h (slot_at s x) ]
 
 offered_keeps : (s : State) → KeepsOffered s (offered s)
 unfolding offered
@@ -96,7 +100,7 @@ unfolding offered
 offered_roots s x = omega (arith, times-append x s.roots (missing s), missing_once s x)
 
 buffered_now : (v : Slot) → one v.buffered + one (is_missing v) ≡ one (offered_slot v).buffered
-buffered_now v = go v.released v.buffered refl
+buffered_now v = go (keeps_colour v) v.buffered refl
   where
     go : (r b : Bool) → v.buffered ≡ b → one b + one (is_missing_if r b) ≡ one (offered_if r v).buffered
     go true b e = omega (arith, ap one e)
@@ -122,11 +126,11 @@ offered_kept s k =
 
 -- a colour that a slot that isn't offered lacks, and which isn't Purple
 no_colour : (f : Colour → Bool) → f Purple ≡ false → (s : State) → ((x : ℕ) → f (slot_at s x).colour ≡ false) → (x : ℕ) → f (slot_at (offered s) x).colour ≡ false
-no_colour f p s h x = ap (λ (v : Slot). f v.colour) (offered_at s x) ∙ elim (slot_at s x).released as (λ b. f (offered_if b (slot_at s x)).colour ≡ false) [ true ↦ h x | false ↦ p ]
+no_colour f p s h x = ap (λ (v : Slot). f v.colour) (offered_at s x) ∙ elim (keeps_colour (slot_at s x)) as (λ b. f (offered_if b (slot_at s x)).colour ≡ false) [ true ↦ h x | false ↦ p ]
 
 -- a released slot is in the root buffer only where it was
 same_roots : (s : State) (x : ℕ) → (slot_at s x).released ≡ true → times x (offered s).roots ≡ times x s.roots
-same_roots s x r = let none : one (is_missing (slot_at s x)) ≡ 0 = ap (λ b. one (is_missing_if b (slot_at s x).buffered)) r in omega (arith, none, offered_roots s x)
+same_roots s x r = let none : one (is_missing (slot_at s x)) ≡ 0 = ap (λ b. one (is_missing_if b (slot_at s x).buffered)) (released_keeps (slot_at s x) r) in omega (arith, none, offered_roots s x)
 
 -- a trial may begin
 pub offered_ready : (s : State) → IsReady s → IsReady (offered s)
@@ -162,7 +166,7 @@ offered_listed s l =
       only = λ x h. keeps.rest.released x ∙ l.only x (omega (arith, h, ap (times x) keeps.rest.free));
       unbuffered = λ x h.
           let there : 0 < times x s.free = omega (arith, h, ap (times x) keeps.rest.free) in
-          ap (λ (v : Slot). v.buffered) (offered_at s x ∙ offered_true (slot_at s x) (l.only x there)) ∙ l.unbuffered x there;
+          ap (λ (v : Slot). v.buffered) (offered_at s x ∙ offered_true (slot_at s x) (released_keeps (slot_at s x) (l.only x there))) ∙ l.unbuffered x there;
     }
 
 pub where_listed : (offers : Bool) (s : State) → IsListed s → IsListed (offered_where offers s)
@@ -172,22 +176,40 @@ where_listed false s l = l
 -- no slot is Orange where none was
 pub where_uncoloured : (offers : Bool) (s : State) → ((x : ℕ) → (slot_at s x).colour ≢ Orange) → (x : ℕ) → (slot_at (offered_where offers s) x).colour ≢ Orange
 where_uncoloured false s h = h
-where_uncoloured true s h = λ x e. elim (cases_Bool (slot_at s x).released) [
+where_uncoloured true s h = λ x e. elim (cases_Bool (keeps_colour (slot_at s x))) [
   | inl r ↦ h x (sym (ap (λ (v : Slot). v.colour) (offered_at s x ∙ offered_true (slot_at s x) r)) ∙ e)
   | inr r ↦ let q : Purple ≡ Orange = sym (ap (λ (v : Slot). v.colour) (offered_at s x ∙ offered_false (slot_at s x) r)) ∙ e in cc
 ]
 
--- where no set is left, each slot that isn't released is a candidate root
+-- no slot becomes Green, and each that is stays so
+green_by : (b : Bool) (v : Slot) → (b ≡ false → is_green v.colour ≡ false) → is_green (offered_if b v).colour ≡ is_green v.colour
+green_by true v h = refl
+green_by false v h = sym (h refl)
+
+not_green : (r : Bool) (v : Slot) → (r || is_green v.colour) ≡ false → is_green v.colour ≡ false
+not_green true v e = absurd (false≢true (sym e))
+not_green false v e = e
+
+offered_green : (s : State) (x : ℕ) → is_green (slot_at (offered s) x).colour ≡ is_green (slot_at s x).colour
+offered_green s x = ap (λ (v : Slot). is_green v.colour) (offered_at s x) ∙ green_by (keeps_colour (slot_at s x)) (slot_at s x) (not_green (slot_at s x).released (slot_at s x))
+
+pub where_green : (offers : Bool) (s : State) (x : ℕ) → is_green (slot_at (offered_where offers s) x).colour ≡ is_green (slot_at s x).colour
+where_green true s x = offered_green s x
+where_green false s x = refl
+
+-- where no set is left, each slot that is neither released nor Green is a candidate root
 all_offered : (s : State) → IsKept s → s.sets ≡ [] → AreOffered s (offered s)
 all_offered s k none = record {
-  seeds = λ x r.
-      let whole : slot_at (offered s) x ≡ record (slot_at s x) { colour = Purple; buffered = true } = offered_at s x ∙ offered_false (slot_at s x) r in
-      let now : one (offered_slot (slot_at s x)).buffered ≡ 1 = ap (λ (v : Slot). one v.buffered) (offered_false (slot_at s x) r) in
+  seeds = λ x r g.
+      let open_slot : keeps_colour (slot_at s x) ≡ false = ap (λ b. b || is_green (slot_at s x).colour) r ∙ g in
+      let whole : slot_at (offered s) x ≡ record (slot_at s x) { colour = Purple; buffered = true } = offered_at s x ∙ offered_false (slot_at s x) open_slot in
+      let now : one (offered_slot (slot_at s x)).buffered ≡ 1 = ap (λ (v : Slot). one v.buffered) (offered_false (slot_at s x) open_slot) in
       record {
         root = omega (arith, offered_roots s x, k.buffers x, ap (λ sets. times x (concat sets)) none, times-nil x, buffered_now (slot_at s x), now);
         purple = ap (λ (v : Slot). v.colour) whole;
         unreleased = ap (λ (v : Slot). v.released) whole ∙ r;
       };
+  green = offered_green s;
   keeps = offered_keeps s;
 }
 
@@ -196,7 +218,7 @@ pub offers_whole : (w : Parts) → w.offers ≡ true → IsKept w.counts → w.c
 offers_whole w e k none = (subst (AreOffered w.counts) (ap (λ b. offered_where b w.counts) (sym e)) (all_offered w.counts k none), refl)
 
 -- a Purple slot is in no buffer, and is pushed to the root buffer
-pub pushed_one : (s t : State) (x : ℕ) → x < length s.slots → (slot_at s x).released ≡ false → t ≡ with_slot s x (record (slot_at s x) { colour = Purple }) → (slot_at t x).buffered ≡ false
+pub pushed_one : (s t : State) (x : ℕ) → x < length s.slots → keeps_colour (slot_at s x) ≡ false → t ≡ with_slot s x (record (slot_at s x) { colour = Purple }) → (slot_at t x).buffered ≡ false
     → record (with_slot t x (record (slot_at t x) { buffered = true })) { roots = t.roots ++ x ∷ [] } ≡ offered_one s x
 pushed_one s t x l r e u =
     let v : Slot = record (slot_at s x) { colour = Purple } in

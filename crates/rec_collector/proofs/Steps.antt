@@ -42,6 +42,7 @@ use Rattle.rec_release.specs.Release as releases
 use Rattle.rec_sigma.specs.declared.at.At as loads
 use Rattle.rec_sigma.specs.Prepare as preps
 use Rattle.rec_trial.specs.Trial as trials
+use Rattle.rec_trial.specs.Rules.{visible}
 
 none_some : {A : Type 0} (x : A) → Some x ≢ None
 none_some x e = cc
@@ -188,7 +189,7 @@ step_at p word box (Swapping t) k is b g = absurd b
 step_at p word box (Returning t) k is b g = return_step p word box t k is g
 step_at p word box (Releasing m) k is b g = Step.release m is refl (cleared_on p (with_released m (parts_of p) word) box (released_has p m word k is g))
 step_at p word box (Freeing m) k is b g = Step.freeing m is refl (cleared_on p (with_freed m (parts_of p) word) box (freed_has p m word k is g))
-step_at p word box (Trying m) k is b g = Step.trial m is refl (tried_on p (parts_of p) (trials.took_of (record { machine = m; counts = p.counts }) word) box)
+step_at p word box (Trying m) k is b g = Step.trial m is refl (tried_on p (parts_of p) (trials.took_of (record { machine = m; counts = p.counts }) (visible p.counts word)) box)
 step_at p word box (Preparing m) k is b g = Step.preparation m is refl (prepared_on p (parts_of p) (preps.took_of (record { machine = m; counts = p.counts }) word) box)
 step_at p word box Opening k is b g = Step.begin_sweep is refl (record { after = refl; answer = refl })
 step_at p word box (Sweeping due n) k is b g = swept_step p word box due n (sweeps.took_of (record { due = due; counts = p.counts }) word) is refl (sweeps.took_of (record { due = due; counts = p.counts }) word).due refl

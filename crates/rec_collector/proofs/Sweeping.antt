@@ -20,7 +20,7 @@ use Rattle.rec_collector.specs.Zeros.{AreCounted}
 use Rattle.rec_collector.specs.Took.{cleared, ended, moved, swept_phase, swept_one, took_at}
 use Rattle.rec_collector.specs.declared.phase.Phase.TheVariants.{Opening, Sweeping, Closing}
 use Rattle.rec_collector.proofs.Landing.{machine_on, freed_at, now_at, told_at, under_way_at}
-use Rattle.rec_collector.proofs.Outside.{apart_on, black_was, untried_moved, outside_on, swept_lowers}
+use Rattle.rec_collector.proofs.Outside.{apart_on, unlike_was, untried_moved, outside_on, swept_lowers}
 use Rattle.rec_collector.proofs.Rows.{cleared_sized, cleared_spares}
 use Rattle.rec_release.specs.Sweep as sweeps
 
@@ -66,7 +66,7 @@ swept_counted s x c = λ y r. elim (written s x (swept_clean (slot_at s x)) y) [
 swept_tried : (s : State) (x : ℕ) → slice_get s.free 0 ≡ Some x → AreTried s → AreTried (swept s x)
 swept_tried s x first t = record {
   untried = untried_moved s (swept s x) refl (swept_lowers s x) t.untried;
-  apart = apart_on s (swept s x) refl refl (black_was s x (swept_clean (slot_at s x)) refl) t.apart;
+  apart = apart_on s (swept s x) refl refl (unlike_was s x (swept_clean (slot_at s x)) (λ o. cc)) t.apart;
   counted = swept_counted s x t.counted;
   zeros = t.zeros;
   roots = t.roots;

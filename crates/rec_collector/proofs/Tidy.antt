@@ -21,7 +21,7 @@ use Rattle.rec_release.specs.CycleFree.{dead_if, given_up, listed, IsFreeable}
 use Rattle.rec_release.specs.Release.{emptied, first_of, listed_if, without_first, IsReady}
 use Rattle.rec_release.proofs.Giving.{given_many, given_slot}
 use Rattle.rec_release.proofs.Keeping.{released_same}
-use Rattle.rec_release.proofs.Orange.{given_apart, given_zeros, lists_keep, next_keeps, off_keeps}
+use Rattle.rec_release.proofs.Orange.{given_apart, given_zeros, first_keeps, lists_keep, off_keeps}
 use Rattle.rec_release.proofs.TakenOff.{off_most, KeepsMost}
 use Rattle.rec_sigma.specs.declared.fate.Fate.{Fate}
 use Rattle.rec_sigma.specs.declared.fate.Fate.TheVariants.{Free}
@@ -29,7 +29,7 @@ use Rattle.rec_sigma.specs.Refurbish.{fate_at, fate_if, is_root, is_zero, refurb
 use Rattle.rec_sigma.specs.declared.fate.Fate.TheVariants as fates
 use Rattle.rec_sigma.proofs.Renewals.{released_after, same_count, same_released}
 use Rattle.rec_collector.specs.Clearing.{IsTidy}
-use Rattle.rec_collector.proofs.Outside.{untried_moved, first_lowers, given_lowers, off_lowers, outside_on, refurbished_lowers, same_lowers}
+use Rattle.rec_collector.proofs.Outside.{in_use_orange, untried_moved, first_lowers, given_lowers, off_lowers, outside_on, refurbished_lowers, same_lowers}
 
 -- what the sets have, the earlier ones and the last have
 times_last : (x : ℕ) (xss : List (List ℕ)) → times x (concat xss) ≡ times x (concat (earlier_sets xss)) + times x (last_set xss)
@@ -50,14 +50,15 @@ times_filter p x (y ∷ ys) = elim (p y) as (λ b. times x (cond b (y ∷ filter
 -- a refurbished member is Orange only where it was
 refurbished_orange : (f : Fate) (v : Slot) → (refurbished f v).colour ≡ Orange → v.colour ≡ Orange
 refurbished_orange Free v o = o
-refurbished_orange _ v o = cc
+refurbished_orange fates.Root v o = cc
+refurbished_orange _ v o = absurd (in_use_orange v.colour o)
 
 -- a member that isn't released is Orange no more
 fate_uncolours : (released none root : Bool) (v : Slot) → released ≡ false → (refurbished (fate_if released none root) v).colour ≡ Orange → ⊥
 fate_uncolours true none root v e o = true≢false e
-fate_uncolours false true root v e o = cc
+fate_uncolours false true root v e o = in_use_orange v.colour o
 fate_uncolours false false true v e o = cc
-fate_uncolours false false false v e o = cc
+fate_uncolours false false false v e o = in_use_orange v.colour o
 
 apart_refurbished : (s t : State) → IsKept s → LastRefurbished s t → IsApart s → IsApart t
 apart_refurbished s t k r a = λ x o.
@@ -137,16 +138,16 @@ pub tidy_emptied : {fields : ℕ} → (s : State) (a : At) → IsTidy fields s (
 tidy_emptied s a i = tidy_listed_if (slot_at s a.slot).buffered s a refl i
 
 -- the first of the zeros, if there is one, is released
-tidy_first : {fields : ℕ} → (zs : List ℕ) (s : State) → s.zeros ≡ zs → AreZeros s → IsTidy fields s None → IsTidy fields (without_first zs s) (first_of zs)
+pub tidy_first : {fields : ℕ} → (zs : List ℕ) (s : State) → s.zeros ≡ zs → AreZeros s → IsTidy fields s None → IsTidy fields (without_first zs s) (first_of zs)
 tidy_first [] s e k i = i
 tidy_first (z ∷ zs) s e k i =
     let v : Slot = record (slot_at s z) { released = true } in
     let buffered : (x : ℕ) → (slot_at (with_slot s z v) x).buffered ≡ (slot_at s x).buffered = field_kept (λ (w : Slot). w.buffered) s.slots z v refl in
     record {
       untried = untried_moved s (without_first (z ∷ zs) s) refl (first_lowers (z ∷ zs) s) i.untried;
-      apart = subst (λ ys. IsApart (without_first ys s)) e ((next_keeps true s k).apart i.apart);
+      apart = (first_keeps (z ∷ zs) true s e k).apart i.apart;
       outside = outside_on s (without_first (z ∷ zs) s) (first_lowers (z ∷ zs) s) i.outside;
-      all_zeros = subst (λ ys. AllZerosButOrange (without_first ys s)) e ((next_keeps true s k).zeros i.all_zeros);
+      all_zeros = (first_keeps (z ∷ zs) true s e k).zeros i.all_zeros;
       listed = λ x l r b. elim (eqb_tells x z) [
         | inl q ↦ let n : one (eqb x z) ≡ 1 = ap one q.0 in omega (arith, n)
         | inr q ↦ omega (arith, i.listed x (omega (arith, l, length-set s.slots z v)) (sym (released_same s z x q.1) ∙ r) (sym (buffered x) ∙ b))
@@ -154,9 +155,6 @@ tidy_first (z ∷ zs) s e k i =
       unbuffered = λ x l. buffered x ∙ i.unbuffered x l;
       held = λ x l. buffered x ∙ i.held x l;
     }
-
-pub tidy_next : {fields : ℕ} → (s : State) → AreZeros s → IsTidy fields s None → IsTidy fields (without_first s.zeros s) (first_of s.zeros)
-tidy_next s k i = tidy_first s.zeros s refl k i
 
 -- a member that is given up is in no buffer, and any other slot is as it was
 dead_unbuffered : (b : Bool) (v : Slot) → v.buffered ≡ false → (dead_if b (unbuffered_if b v)).buffered ≡ false

@@ -7,14 +7,14 @@ use Rattle.rec_word.specs.Word.{target_of}
 use Rattle.rec_word.specs.declared.op.Op.{Op}
 use Rattle.rec_log.specs.declared.contents.Contents.{Contents}
 use Rattle.rec_apply.specs.Batch.{batch}
-use Rattle.rec_apply.specs.Targets.{added, taken, named}
+use Rattle.rec_apply.specs.Targets.{added, taken, named, leaves as leaf_births}
 use Rattle.rec_apply.proofs.Whole.{batch_rests}
 use Rattle.rec_counts.specs.declared.colour.Colour.TheVariants.{Orange}
 use Rattle.rec_counts.specs.declared.slot.Slot.{Slot}
 use Rattle.rec_counts.specs.Counts.{State, slot_at}
 use Rattle.rec_counts.specs.Lists.{one}
 use Rattle.rec_counts.specs.Slot.{absent}
-use Rattle.rec_release.specs.Release.{emptied, without_first}
+use Rattle.rec_release.specs.Release.{emptied, next_from}
 use Rattle.rec_release.specs.TakenOff.{down_if, IsApart, is_lowered, taken_off}
 use Rattle.rec_walk.specs.Load.{Load}
 use Rattle.rec_collector.specs.Followed.{prep_started, with_freed, with_released, relieved_at}
@@ -32,7 +32,7 @@ use Rattle.rec_collector.specs.declared.phase.Phase.TheVariants.{Returning, Rele
 use Rattle.rec_collector.specs.declared.turn.Turn.{Turn}
 use Rattle.rec_collector.proofs.Following.{none_released}
 use Rattle.rec_collector.proofs.Goings.{emptied_same, freed_by, freed_off, released_by, released_off, freed_listed}
-use Rattle.rec_collector.proofs.Outside.{Lowers, first_lowers, given_lowers, off_lowers, refurbished_lowers, same_lowers, swept_lowers, batch_same, down_names}
+use Rattle.rec_collector.proofs.Outside.{Lowers, next_lowers, given_lowers, off_lowers, refurbished_lowers, same_lowers, swept_lowers, batch_same, down_names}
 use Rattle.rec_collector.proofs.Steps.{prepared_on, step_made, tried_on}
 use Rattle.rec_collector.proofs.Landing.{now_at}
 use Rattle.rec_release.specs.declared.at.At.{At}
@@ -44,6 +44,7 @@ use Rattle.rec_release.specs.Release as releases
 use Rattle.rec_trial.specs.Trial as trials
 use Rattle.rec_sigma.specs.Prepare as preps
 use Rattle.rec_release.specs.Sweep as sweeps
+use Rattle.rec_trial.specs.Rules.{visible}
 
 -- each orange member was one before, and was named so often, which is nowhere
 record Spares (s t : State) (x named : ℕ) : Type 0 where
@@ -93,12 +94,12 @@ off_spares lowers s (Some y) x a h = record {
 -- the zeros are to be released
 zeros_spares : (lowers : Bool) (w : Parts) (x : ℕ) → Spares w.counts (zeros_released lowers w).parts.counts x 0
 unfolding releases.started_of
-zeros_spares lowers w x = lowers_spares w.counts (without_first w.counts.zeros w.counts) x (first_lowers w.counts.zeros w.counts)
+zeros_spares lowers w x = lowers_spares w.counts (next_from w.counts.zeros w.counts).counts x (next_lowers w.counts)
 
 -- a word came out of a field of a released slot
 released_spares : (m : releases.Machine) (w : Parts) (word x : ℕ) → IsSome m.at → IsApart w.counts → IfSome (target_of word) (λ y. 0 < (slot_at w.counts y).count) → Spares w.counts (with_released m w word).parts.counts x (decrements m.lowers w.counts (target_of word) x)
 released_spares m w word x busy a h = released_by (λ b. Spares w.counts b.parts.counts x n) m w word busy (λ at e l. off)
-    (λ at e l. let t : State = emptied (released_off m w word) at.slot in spares_then (spares_then off (lowers_spares (released_off m w word) t x (same_lowers (released_off m w word) t (emptied_same (released_off m w word) at.slot).0))) (lowers_spares t (without_first t.zeros t) x (first_lowers t.zeros t)))
+    (λ at e l. let t : State = emptied (released_off m w word) at.slot in spares_then (spares_then off (lowers_spares (released_off m w word) t x (same_lowers (released_off m w word) t (emptied_same (released_off m w word) at.slot).0))) (lowers_spares t (next_from t.zeros t).counts x (next_lowers t)))
   where
     n : ℕ
     n = decrements m.lowers w.counts (target_of word) x
@@ -176,7 +177,7 @@ rest_unreleased p number x r is = elim (cases_lt x (length p.counts.slots)) [
   | inr past ↦ let none : None ≡ Some number = ap (λ (v : Slot). v.set) (sym (get_or_past p.counts.slots x absent past)) ∙ is in absurd (cc)
 ]
 
-batched_spares : (p : Private) (x : ℕ) → IsAtRest (parts_of p) → Spares p.counts (batch p.counts p.newer p.older) x (added x p.newer + taken x p.older)
+batched_spares : (p : Private) (x : ℕ) → IsAtRest (parts_of p) → Spares p.counts (batch p.counts p.newer p.older) x (added x p.newer + taken x p.older + leaf_births x p.newer)
 batched_spares p x r = record {
   each = λ number o.
       let was : (slot_at p.counts x).set ≡ Some number = sym ((batch_rests p.counts p.newer p.older).set x) ∙ o.0 in
@@ -221,10 +222,10 @@ module _ (p q : Private) (word x : ℕ) (turn : Turn) (k : IsMachine p) (same : 
   step_leaves given has (Step.request at more is g) = goes g refl tt (named_as at)
   step_leaves given has (Step.wait t at other is kept turned) = leaves (ap (λ (r : Private). r.counts) kept) refl (ap (λ (r : Private). r.phase) kept) has (named_as at)
   step_leaves given has (Step.gather t at crossed is g) = goes g refl tt (named_as at)
-  step_leaves given has (Step.give_back t at other is g) = goes g refl tt (named_as at ∙ cond-false (t == length p.newer) (added x p.newer + taken x p.older) 0 (ne_eqb t (length p.newer) other))
+  step_leaves given has (Step.give_back t at other is g) = goes g refl tt (named_as at ∙ cond-false (t == length p.newer) (added x p.newer + taken x p.older + leaf_births x p.newer) 0 (ne_eqb t (length p.newer) other))
   step_leaves given has (Step.apply t at last is on) =
       let w : Parts = record (parts_of p) { counts = batch p.counts p.newer p.older } in
-      let n : ℕ = added x p.newer + taken x p.older in
+      let n : ℕ = added x p.newer + taken x p.older + leaf_births x p.newer in
       clears (zeros_setting false w) on (ap under_way at) (ap (tried_at p.epoch) at)
       (spares_then (batched_spares p x (now_at p (Returning t) k at).rest) (zeros_spares false w x))
       (named_as at ∙ cond-true (t == length p.newer) n 0 (eq-eqb t (length p.newer) last))
@@ -286,10 +287,10 @@ loads_on p m word box k between given at =
 
 -- a trial took in its last word, and a preparation begins
 pub begins_on : (p : Private) (m : trials.Machine) (prep : preps.Machine) (word : ℕ) (box : Contents) → IsMachine p → IsBetween p.phase → IsGiven p word → p.phase ≡ Trying m → (step_of p word box).phase ≡ Preparing prep
-    → LoadsOn (prep_started (record (parts_of p) { counts = (trials.took_of (record { machine = m; counts = p.counts }) word).counts })) (step_of p word box)
+    → LoadsOn (prep_started (record (parts_of p) { counts = (trials.took_of (record { machine = m; counts = p.counts }) (visible p.counts word)).counts })) (step_of p word box)
 unfolding step_of took_of took_at
 begins_on p m prep word box k between given at next =
-    let v : trials.Work = trials.took_of (record { machine = m; counts = p.counts }) word in
+    let v : trials.Work = trials.took_of (record { machine = m; counts = p.counts }) (visible p.counts word) in
     let e : step_of p word box ≡ swapped_of (took_at p word (Trying m)) box = ap (λ f. swapped_of (took_at p word f) box) at in
     subst (LoadsOn (prep_started (record (parts_of p) { counts = v.counts }))) (sym e) (tries_loads p _ (parts_of p) v _ prep (tried_on p (parts_of p) v box) (ap (λ (q : Private). q.phase) (sym e) ∙ next))
 

@@ -19,7 +19,7 @@ use Rattle.rec_sigma.proofs.Cyclics.{others_same}
 use Rattle.rec_sigma.proofs.Runs.{Came, came_first, came_on, more_others, next_set_others}
 use Rattle.rec_sigma.proofs.Kept.{others_kept}
 use Rattle.rec_trial.specs.Loaded.{IsAtWork, Run, run_of}
-use Rattle.rec_trial.specs.Rules.{IsReady, LeadsToUnreleased, released_among}
+use Rattle.rec_trial.specs.Rules.{IsReady, LeadsToVisible, released_among}
 use Rattle.rec_trial.specs.Tried.{IsOver, members}
 use Rattle.rec_trial.specs.Trial.{Machine as Trial, Work, next_of, started_of, took_of}
 use Rattle.rec_trial.proofs.AtWork.{run_none, started_fields, took_at_work, took_before, took_fields, took_words}
@@ -45,7 +45,7 @@ use Rattle.rec_sigma.specs.Prepare as preps
 -- What a trial has left holds still where no more than cyclic counts change.
 others_tried : (s t : State) → KeepsOthers s t → AreTried s → AreTried t
 others_tried s t o k = record {
-  untried = untried_on s t o.marked (λ x f black purple h. ap (λ (u : Slot). f u.colour) (o.slots x) ∙ h) k.untried;
+  untried = untried_on s t o.marked (λ x f black purple green h. ap (λ (u : Slot). f u.colour) (o.slots x) ∙ h) k.untried;
   apart = apart_on s t o.sets o.zeros (λ x e. (sym (ap (λ (u : Slot). u.colour) (o.slots x)) ∙ e, ap (λ (u : Slot). u.released) (o.slots x))) k.apart;
   counted = λ x r. omega (arith, ap (λ (u : Slot). u.count) (o.slots x), k.counted x (sym (ap (λ (u : Slot). u.released) (o.slots x)) ∙ r));
   zeros = o.zeros ∙ k.zeros;
@@ -241,7 +241,7 @@ started_tried p w wide ready k listed none counted zeros fits turns told =
     }
 
 -- it has gone on
-pub took_tried : (p : Private) (m : Trial) (word : ℕ) → IsMachine p → p.phase ≡ Trying m → LeadsToUnreleased p.counts word → HasTried p (parts_of p) (took_of (record { machine = m; counts = p.counts }) word)
+pub took_tried : (p : Private) (m : Trial) (word : ℕ) → IsMachine p → p.phase ≡ Trying m → LeadsToVisible p.counts word → HasTried p (parts_of p) (took_of (record { machine = m; counts = p.counts }) word)
 took_tried p m word k e l =
     let v : Work = took_of (record { machine = m; counts = p.counts }) word in
     let a : IsTrying p m = now_at p (Trying m) k e in

@@ -6,6 +6,7 @@ use Rattle.rec_release.specs.Release as releases
 use Rattle.rec_walk.specs.declared.member.Member.{Member}
 use Rattle.rec_sigma.specs.Prepare as preps
 use Rattle.rec_sigma.specs.declared.at.At as loads
+use Rattle.rec_trial.specs.Rules.{visible}
 use Rattle.rec_trial.specs.Trial as trials
 use Rattle.rec_collector.specs.Offered.{offered_where}
 use Rattle.rec_collector.specs.Parts.{Parts, new_prep}
@@ -85,9 +86,9 @@ relieved w v = relieved_at (record w { counts = v.counts }) v.machine v.machine.
 abbrev pub with_freed : frees.Machine → Parts → (word : ℕ) → Begun
 with_freed m w word = relieved w (frees.took_of (record { machine = m; counts = w.counts }) word)
 
--- a field was loaded for the trial
+-- a field was loaded for the trial, which sees no leaf
 abbrev pub with_tried : trials.Machine → Parts → (word : ℕ) → Next
-with_tried m w word = tried w (trials.took_of (record { machine = m; counts = w.counts }) word)
+with_tried m w word = tried w (trials.took_of (record { machine = m; counts = w.counts }) (visible w.counts word))
 
 -- a field was loaded for the preparation
 abbrev pub with_loaded : preps.Machine → Parts → (word : ℕ) → Next

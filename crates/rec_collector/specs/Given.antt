@@ -3,7 +3,7 @@ use Rattle.std.specs.Prelude.{◌≡◌, ℕ, ◌+◌, ◌<◌, ◌≤◌, ◌^�
 use Rattle.rec_word.specs.Word.{target_of}
 use Rattle.rec_log.specs.declared.contents.Contents.{Contents}
 use Rattle.rec_counts.specs.Counts.{State, slot_at}
-use Rattle.rec_apply.specs.Targets.{added, taken}
+use Rattle.rec_apply.specs.Targets.{added, leaves, taken}
 use Rattle.rec_trial.specs.Rules.{LeadsToUnreleased}
 use Rattle.rec_collector.specs.Private.{Private}
 use Rattle.rec_collector.specs.declared.phase.Phase.{Phase}
@@ -12,6 +12,7 @@ use Rattle.rec_collector.specs.declared.phase.Phase.TheVariants.{Swapping, Retur
 -- these buffers name slots that are there, and no count passes the greatest or falls below zero
 pub record IsCovered (s : State) (newer older : List Contents) : Type 0 where
   pub in_range : (x : ℕ) → length s.slots ≤ x → added x newer + taken x older ≡ 0
+  pub born : (x : ℕ) → length s.slots ≤ x → leaves x newer ≡ 0
   pub fits : (x : ℕ) → (slot_at s x).count + added x newer < 2 ^ 64
   pub covered : (x : ℕ) → taken x older ≤ (slot_at s x).count + added x newer
 

@@ -28,6 +28,7 @@ use Rattle.rec_collector.specs.declared.phase.Phase.{Phase}
 use Rattle.rec_collector.specs.declared.phase.Phase.TheVariants.{Idle, Looking, Swapping, Returning, Releasing, Freeing, Trying, Preparing, Opening, Sweeping, Closing}
 use Rattle.rec_collector.specs.declared.turn.Turn.{Turn}
 use Rattle.rec_collector.specs.declared.turn.Turn.TheVariants.{Moved, Waiting, Collected, EpochsSpent}
+use Rattle.rec_trial.specs.Rules.{visible}
 
 -- The collection goes on from `r`, what the step made of its record beside: one turn more is counted, and this phase follows.
 pub record GoesOn (r q : Private) (turn : Turn) (next_phase : Phase) : Type 0 where
@@ -90,7 +91,7 @@ pub data Step (p : Private) (word : ℕ) (box : Contents) (op : Option Op) (q : 
       → ClearsOn p q turn (zeros_released false (record (parts_of p) { counts = batch p.counts p.newer p.older })) → Step p word box op q turn
   release : (m : releases.Machine) → p.phase ≡ Releasing m → op ≡ release_next m → ClearsOn p q turn (with_released m (parts_of p) word) → Step p word box op q turn
   freeing : (m : frees.Machine) → p.phase ≡ Freeing m → op ≡ freeing_next m → ClearsOn p q turn (with_freed m (parts_of p) word) → Step p word box op q turn
-  trial : (m : trials.Machine) → p.phase ≡ Trying m → op ≡ trial_next m → TriesOn p (parts_of p) (trials.took_of (record { machine = m; counts = p.counts }) word) q turn → Step p word box op q turn
+  trial : (m : trials.Machine) → p.phase ≡ Trying m → op ≡ trial_next m → TriesOn p (parts_of p) (trials.took_of (record { machine = m; counts = p.counts }) (visible p.counts word)) q turn → Step p word box op q turn
   preparation : (m : preps.Machine) → p.phase ≡ Preparing m → op ≡ prep_next m → PreparesOn p (parts_of p) (preps.took_of (record { machine = m; counts = p.counts }) word) q turn → Step p word box op q turn
   begin_sweep : p.phase ≡ Opening → op ≡ Some AddFreed
       → GoesOn (record p { counts = (sweeps.started_of p.counts).counts }) q turn (Sweeping (sweeps.started_of p.counts).due 0) → Step p word box op q turn

@@ -1,7 +1,7 @@
 -- What names a slot from one step to the next: a batch, and what is taken off afterwards.
 use Rattle.std.specs.Prelude.{◌≡◌, ℕ, ◌+◌, ◌-◌, ◌==◌, ◌&&◌, not, if◌then◌else◌, Bool, true, Option, Some, length}
 use Rattle.rec_word.specs.Word.{target_of, is_slot}
-use Rattle.rec_apply.specs.Targets.{added, taken}
+use Rattle.rec_apply.specs.Targets.{added, leaves, taken}
 use Rattle.rec_counts.specs.declared.colour.Colour.TheVariants.{Orange}
 use Rattle.rec_counts.specs.Counts.{State, slot_at}
 use Rattle.rec_counts.specs.Lists.{one}
@@ -25,9 +25,10 @@ tried_at requested _ = requested
 abbrev pub decrements : (lowers : Bool) → State → (target : Option ℕ) → (x : ℕ) → ℕ
 decrements lowers s target x = one (is_slot x target && not (is_lowered lowers (slot_at s x).colour))
 
--- how often a step names the slot, by phase: the increments, the decrements and the snapshots of a batch, or one decrement
+-- how often a step names the slot, by phase: the increments, the decrements, the snapshots and the births of leaves of a batch, or
+-- one decrement
 abbrev pub named_at : Private → (word x : ℕ) → Phase → ℕ
-named_at p word x (Returning t) = if t == length p.newer then added x p.newer + taken x p.older else 0
+named_at p word x (Returning t) = if t == length p.newer then added x p.newer + taken x p.older + leaves x p.newer else 0
 named_at p word x (Releasing release) = decrements release.lowers p.counts (target_of word) x
 named_at p word x (Freeing freeing) = decrements true p.counts (target_of word) x
 named_at p word x _ = 0

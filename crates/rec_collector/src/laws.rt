@@ -3,7 +3,7 @@
 ghost use Rattle.std.specs.Prelude.{◌≡◌, ◌↔◌, ◌+◌, ◌-◌, ℕ, false, true, List, [], IfSome, Some, length};
 ghost use Rattle.rec_log.specs.declared.contents.Contents.{Contents};
 ghost use Rattle.rec_apply.specs.Batch.{batch};
-ghost use Rattle.rec_apply.specs.Targets.{added, taken};
+ghost use Rattle.rec_apply.specs.Targets.{added, leaves, taken};
 ghost use Rattle.rec_counts.specs.declared.colour.Colour.TheVariants.{Orange};
 ghost use Rattle.rec_counts.specs.Counts.{slot_at, IsKept as IsKeptCounts, State};
 ghost use Rattle.rec_sigma.specs.Prepared.{seen};
@@ -58,13 +58,13 @@ pub fn orange_members_are_untouched()
 {}
 
 /// A slot that isn't released is Orange after a batch exactly where it was so before, and no entry and no snapshot of the batch names
-/// it.
+/// it, and none bears it as a leaf.
 pub fn batches_colour_what_they_name()
-    ensures { (s : State) (newer older : List Contents) (x : ℕ) → (slot_at s x).released ≡ false → ((slot_at (batch s newer older) x).colour ≡ Orange) ↔ (((slot_at s x).colour ≡ Orange) × (added x newer + taken x older ≡ 0)) }
+    ensures { (s : State) (newer older : List Contents) (x : ℕ) → (slot_at s x).released ≡ false → ((slot_at (batch s newer older) x).colour ≡ Orange) ↔ (((slot_at s x).colour ≡ Orange) × (added x newer + taken x older + leaves x newer ≡ 0)) }
 {}
 
-/// Where every slot is to be offered to a trial, each that isn't released is a candidate root of that trial, and Purple, while no true
-/// count and no other list changes. It is offered once: the next trial begins as ever, unless that is asked for again.
+/// Where every slot is to be offered to a trial, each that is neither released nor Green is a candidate root of that trial, and Purple,
+/// while no true count and no other list changes. It is offered once: the next trial begins as ever, unless that is asked for again.
 pub fn offers_are_whole()
     ensures { (w : Parts) → w.offers ≡ true → IsKeptCounts w.counts → w.counts.sets ≡ [] → AreOffered w.counts (with_offers w).counts × ((with_offers w).offers ≡ false) }
 {}

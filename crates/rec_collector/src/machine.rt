@@ -165,7 +165,8 @@ impl Machine {
         mem::replace(&mut self.newer[usize::from(mutator) - 1], buffer)
     }
 
-    /// Makes the next trial begin by offering every slot: each that isn't released is then a candidate root.
+    /// Makes the next trial begin by offering every slot: each that is neither released nor Green is then a candidate
+    /// root.
     pub fn offer_all(&mut self)
         ensures offered { self.new ≡ record self.old { offers = true } }
         ensures same { KeepsSizes self.old self.new }

@@ -6,6 +6,7 @@ ghost use Rattle.rec_trial.specs.Rules.{IsReady as IsReadyForTrial};
 ghost use Rattle.rec_collector.specs.Clearing.{IsClear, IsCleared, IsFewTold};
 ghost use Rattle.rec_collector.specs.Followed.{followed, prep_started, prepared, sweep_phase, trial_started, with_offers, worked};
 ghost use Rattle.rec_collector.specs.Kept.{NoneReleased};
+ghost use Rattle.rec_collector.specs.Zeros.{AreCounted};
 ghost use Rattle.rec_collector.specs.Given.{IsCovered};
 ghost use Rattle.rec_collector.specs.Parts.{new_freeing, new_parts};
 ghost use Rattle.rec_collector.specs.Works.{MayWork};
@@ -68,6 +69,7 @@ impl Parts {
         requires covered { IsCovered self.old.counts newer.now older.now }
         requires cleared { IsCleared self.old }
         requires unreleased { NoneReleased self.old.counts }
+        requires counted { AreCounted self.old.counts }
         requires told { IsFewTold self.old }
         ensures { record { parts = self.new; phase = result } ≡ followed (zeros_released false (record self.old { counts = batch self.old.counts newer.now older.now })) }
     {

@@ -7,7 +7,7 @@ use Rattle.std.proofs.lemmas.List.{get_or_past, get_or_default}
 use Rattle.std.proofs.lemmas.List.Concat.{length-flat_map}
 use Rattle.std.proofs.lemmas.List.Sums.{sum_by-cons, sum_by-append}
 use Rattle.rec_word.specs.declared.mailbox.Mailbox.TheVariants.{Spare, WithCollector}
-use Rattle.rec_model.specs.Accounted.{is_dead}
+use Rattle.rec_model.specs.Accounted.{is_dead, is_leaf_from}
 use Rattle.rec_model.specs.Moves.{Applies, is_up_to, puts_in, replaces_in, added, taken}
 use Rattle.rec_model.specs.Pending.{Write, Dated, dated, is_at}
 use Rattle.rec_model.proofs.Sums.{sum_by-flat_map, sum_by-map}
@@ -25,7 +25,7 @@ use Rattle.rec_counts.specs.declared.slot.Slot.{Slot}
 use Rattle.rec_apply.specs.Batch.{batch, up_targets, down_targets, all_up, CanRise, CanFall}
 use Rattle.rec_apply.specs.Targets as targets
 use Rattle.rec_apply.proofs.Falling.{fall_zeros_all}
-use Rattle.rec_apply.proofs.Whole.{batch_rises, batch_falls, batch_counts, batch_rests}
+use Rattle.rec_apply.proofs.Whole.{batch_rises, batch_falls, batch_counts, batch_rests, marked_by}
 use Rattle.rec_mutator.specs.Private.{Private}
 use Rattle.rec_collector.specs.Given.{IsCovered}
 use Rattle.rec_collector.specs.Private as collectors
@@ -37,11 +37,13 @@ use Rattle.rec_core.specs.Kept.{IsBufferOf, Stand, stand_at, HasCrossed, IsHands
 use Rattle.rec_core.specs.Pending.{Filed, filed, code, writes_in, births_in, dated_names, dated_all, older_at, applied_at, epoch_at, buffers, writes_of, births_of, snapshots_of, registers_of, pending}
 use Rattle.rec_core.specs.declared.config.Config.{Config}
 use Rattle.rec_core.proofs.Actors.{epoch_here, settled_here}
-use Rattle.rec_core.proofs.Batches.{buffer_there, gain, loss, gain_named, gain_none, loss_named, loss_none, same_at, none_of, sum_parts}
+use Rattle.rec_core.proofs.Batches.{buffer_there, gain, loss, gain_named, gain_none, loss_named, loss_none, same_at, none_of, sum_parts, leaves_named}
 use Rattle.rec_core.proofs.Counts.{slot_in, accounts_with}
 use Rattle.rec_core.proofs.Moves.{spare_names}
 use Rattle.rec_core.proofs.Sums.{share, log_share, buffers_sum}
 use Rattle.rec_core.proofs.Turns.{now_at, returned_home}
+use Rattle.rec_word.specs.Header.{is_leaf}
+use Rattle.rec_core.proofs.Steps.{leaf_some}
 
 -- a spare adds nothing, and takes nothing
 gain_spare : (config : Config) (epoch node of : ℕ) → gain epoch node of (spare_of config) ≡ 0
@@ -54,7 +56,7 @@ loss_spare config epoch node of = omega (arith, ap (sum_by (is_at epoch node)) (
 fewer_writes : (es : List Entry) → length (writes_in es) ≤ length es
 fewer_writes [] = omega arith
 fewer_writes (entries.Put place new old ∷ es) = omega (arith, fewer_writes es)
-fewer_writes (entries.Born slot ∷ es) = omega (arith, fewer_writes es)
+fewer_writes (entries.Born slot leaf ∷ es) = omega (arith, fewer_writes es)
 
 fewer_names : (epoch : ℕ) (xs : List (Option ℕ)) → length (dated_names epoch xs) ≤ length xs
 fewer_names epoch [] = omega arith
@@ -244,6 +246,26 @@ module _ (w : Core) (t : ℕ) (kept : IsKept w) (phase : w.collector.phase ≡ R
       let none = unnamed_uncounted (pending w) (x + 1) (kept.accounted.unnamed (x + 1) (omega arith) dead) in
       (sym (added_is x) ∙ none.0, sym (taken_is x) ∙ none.1)
 
+  -- a leaf that the newer buffers bear has a leaf's header
+  pub leaves_are : (x : ℕ) → 0 < targets.leaves x c.newer → is_leaf (slice_index_or w.headers x 0) ≡ true
+  leaves_are x some =
+      let a : ℕ = applied_at w.epoch c.phase in
+      let at : x + 1 - 1 ≡ x = omega arith in
+      let borne : sum_by (λ (b : Contents). sum_by (is_leaf_from a (x + 1)) (births_in (w.epoch - 1) b.entries)) c.newer ≡ targets.leaves x c.newer =
+      same_at (λ (b : Contents). sum_by (is_leaf_from a (x + 1)) (births_in (w.epoch - 1) b.entries)) (λ (b : Contents). targets.named x (map targets.leaf_born b.entries)) c.newer (collectors.blank 0 0)
+      (λ i below. leaves_named a (w.epoch - 1) x (slice_index_or c.newer i (collectors.blank 0 0)).entries (omega (arith, applied_is, some_epochs))) in
+      subst (λ n. is_leaf (slice_index_or w.headers n 0) ≡ true) at
+      (kept.accounted.leaves (x + 1) (omega arith) (omega (arith, some, borne, buffers_sum (is_leaf_from a (x + 1)) (λ (b : Filed). births_in b.epoch b.buffer.entries) w)))
+
+  -- so it is there
+  no_leaf_past : (x : ℕ) → w.config.slots ≤ x → targets.leaves x c.newer ≡ 0
+  no_leaf_past x past = elim (cases_lt 0 (targets.leaves x c.newer)) [
+    | inr none ↦ omega (arith, none)
+    | inl some ↦
+        let headers : length w.headers ≡ w.config.slots = kept.headers in
+        absurd (omega (arith, leaf_some (slice_index_or w.headers x 0) (leaves_are x some), get_or_past w.headers x 0 (omega (arith, past, headers))))
+  ]
+
   -- the count of a slot, by its node
   count_of : (x : ℕ) → x < w.config.slots → (pending w).count (x + 1) ≡ (slot_at c.counts x).count
   count_of x below =
@@ -314,6 +336,7 @@ module _ (w : Core) (t : ℕ) (kept : IsKept w) (phase : w.collector.phase ≡ R
   pub covered : IsCovered c.counts c.newer c.older
   covered = record {
     in_range = λ x past. let none = none_past x (omega (arith, past, slots_are)) in omega (arith, none.0, none.1);
+    born = λ x past. no_leaf_past x (omega (arith, past, slots_are));
     fits = λ x. elim (cases_lt x w.config.slots) [
       | inl below ↦ omega (arith, counts_bounded (pending w) kept.accounted (x + 1) (omega arith), count_of x below, added_is x, few_writes, few_names, few_words)
       | inr past ↦
@@ -331,20 +354,20 @@ module _ (w : Core) (t : ℕ) (kept : IsKept w) (phase : w.collector.phase ≡ R
   abbrev pub counted : State
   counted = batch c.counts c.newer c.older
 
-  rises : CanRise c.counts (flat_map up_targets c.newer)
+  rises : CanRise (marked_by c.counts c.newer) (flat_map up_targets c.newer)
   rises = batch_rises c.counts c.newer c.older covered.in_range covered.fits
 
   zeros_before : c.counts.zeros ≡ []
   zeros_before = (now_at w (Returning t) kept phase).rest.zeros
 
-  pub falls : CanFall (all_up c.counts (flat_map up_targets c.newer)) (flat_map down_targets c.older)
+  pub falls : CanFall (all_up (marked_by c.counts c.newer) (flat_map up_targets c.newer)) (flat_map down_targets c.older)
   falls = batch_falls c.counts c.newer c.older zeros_before rises covered.covered
 
   pub counted_rest : KeepsRest c.counts counted
   counted_rest = batch_rests c.counts c.newer c.older
 
   pub counted_zeros : AreZeros counted
-  counted_zeros = fall_zeros_all (all_up c.counts (flat_map up_targets c.newer)) (flat_map down_targets c.older) falls.zeros
+  counted_zeros = fall_zeros_all (all_up (marked_by c.counts c.newer) (flat_map up_targets c.newer)) (flat_map down_targets c.older) falls.zeros
 
   -- no register is of an epoch that is applied
   all_crossed : sum_by (is_up_to (applied_at w.epoch c.phase + 1)) (registers_of w) ≡ 0
@@ -381,6 +404,7 @@ module _ (w : Core) (t : ℕ) (kept : IsKept w) (phase : w.collector.phase ≡ R
           let new : slot_in counted x ≡ fresh = get_or_past counted.slots (x - 1) fresh (omega (arith, past, slots_are, counted_rest.slots)) in
           ap (λ (v : Slot). v.released) (new ∙ sym old)
     ];
+    leaf = λ x _. refl;
   }
     where
       counts_move : (node : ℕ) → 0 < node → (slot_in counted node).count + taken (pending w) node ≡ (slot_in c.counts node).count + added (pending w) node

@@ -1,19 +1,19 @@
 -- What a batch adds and takes, read off the collector's buffers, is what the accounts say that it adds and takes.
-use Rattle.std.proofs.Common.{◌≡◌, ◌≢◌, inl, inr, ℕ, ◌+◌, ◌-◌, ◌<◌, ◌==◌, List, [], ◌∷◌, suc, Option, None, Some, length, map, slice_index_or, refl, sym, ap, subst, ◌∙◌, arith}
+use Rattle.std.proofs.Common.{◌≡◌, ◌≢◌, inl, inr, ℕ, ◌+◌, ◌-◌, ◌<◌, ◌==◌, List, [], ◌∷◌, suc, Option, None, Some, length, map, slice_index_or, refl, sym, ap, subst, ◌∙◌, arith, true, false, ◌≤◌}
 use Rattle.std.specs.List.{All, sum_by}
 use Rattle.std.proofs.lemmas.Bool.{cases_eq, eq-eqb, ne_eqb}
 use Rattle.std.proofs.lemmas.List.Elements.{All-head, All-tail}
 use Rattle.std.proofs.lemmas.List.Sums.{sum_by-cons}
 use Rattle.rec_word.specs.Word.{target_of, is_slot}
 use Rattle.rec_model.specs.Moves.{puts_in, replaces_in}
-use Rattle.rec_model.specs.Pending.{node_of, epoch_of, dated, is_at}
+use Rattle.rec_model.specs.Pending.{node_of, epoch_of, dated, is_at, dated_birth}
 use Rattle.rec_model.specs.Sums.{only_if, one_if_same}
-use Rattle.rec_model.proofs.Weights.{one_if_self, none_if_differs, only_if_self, none_if_other}
+use Rattle.rec_model.proofs.Weights.{one_if_self, none_if_differs, only_if_self, none_if_other, only_if_le}
 use Rattle.rec_log.specs.declared.contents.Contents.{Contents}
 use Rattle.rec_log.specs.declared.entry.Entry.{Entry}
 use Rattle.rec_log.specs.declared.entry.Entry.TheVariants as entries
 use Rattle.rec_counts.specs.Lists.{one}
-use Rattle.rec_apply.specs.Targets.{new_target, old_target, named}
+use Rattle.rec_apply.specs.Targets.{new_target, old_target, named, leaf_born}
 use Rattle.rec_apply.proofs.Naming.{named-nil, named-cons}
 use Rattle.rec_collector.specs.Private as collectors
 use Rattle.rec_core.specs.Config.{IsMutator}
@@ -21,6 +21,7 @@ use Rattle.rec_core.specs.Kept.{IsMadeIn, IsBufferOf}
 use Rattle.rec_core.specs.Pending.{code, writes_in, births_in, dated_names}
 use Rattle.rec_core.specs.declared.config.Config.{Config}
 use Rattle.rec_core.proofs.Moves.{code_target}
+use Rattle.rec_model.specs.Accounted.{is_leaf_from}
 
 -- what is known of each mutator's buffer is known at each place of their row
 pub buffer_there : (config : Config) (epoch : ℕ) (row : List Contents) → length row ≡ config.mutators → ((t : ℕ) → IsMutator config t → IsBufferOf config epoch (collectors.buffer_at row (t - 1))) → (i : ℕ) → i < length row → IsBufferOf config epoch (slice_index_or row i (collectors.blank 0 0))
@@ -48,8 +49,8 @@ puts_named epoch x (entries.Put place new old ∷ es) made =
     let first : puts_in epoch (x + 1) (record { place = place; new = new; old = old }) ≡ one (is_slot x (target_of new))
     = ap (λ n. only_if (epoch == n) (one_if_same (x + 1) (node_of new))) at ∙ only_if_self epoch (one_if_same (x + 1) (node_of new)) ∙ same_word x new in
     omega (arith, sum_by-cons (puts_in epoch (x + 1)) (record { place = place; new = new; old = old }) (writes_in es), named-cons x (target_of new) (map new_target es), first, puts_named epoch x es (All-tail (IsMadeIn epoch) (entries.Put place new old) es made))
-puts_named epoch x (entries.Born slot ∷ es) made =
-    omega (arith, named-cons x None (map new_target es), puts_named epoch x es (All-tail (IsMadeIn epoch) (entries.Born slot) es made))
+puts_named epoch x (entries.Born slot leaf ∷ es) made =
+    omega (arith, named-cons x None (map new_target es), puts_named epoch x es (All-tail (IsMadeIn epoch) (entries.Born slot leaf) es made))
 
 -- none of another epoch
 puts_none : (epoch other node : ℕ) (es : List Entry) → epoch ≢ other → All (IsMadeIn other) es → sum_by (puts_in epoch node) (writes_in es) ≡ 0
@@ -59,7 +60,7 @@ puts_none epoch other node (entries.Put place new old ∷ es) apart made =
     let first : puts_in epoch node (record { place = place; new = new; old = old }) ≡ 0
     = ap (λ n. only_if (epoch == n) (one_if_same node (node_of new))) at ∙ none_if_other epoch other (one_if_same node (node_of new)) apart in
     omega (arith, sum_by-cons (puts_in epoch node) (record { place = place; new = new; old = old }) (writes_in es), first, puts_none epoch other node es apart (All-tail (IsMadeIn other) (entries.Put place new old) es made))
-puts_none epoch other node (entries.Born slot ∷ es) apart made = puts_none epoch other node es apart (All-tail (IsMadeIn other) (entries.Born slot) es made)
+puts_none epoch other node (entries.Born slot leaf ∷ es) apart made = puts_none epoch other node es apart (All-tail (IsMadeIn other) (entries.Born slot leaf) es made)
 
 -- the replaced targets and the births of a log of this epoch
 olds_named : (epoch x : ℕ) (es : List Entry) → All (IsMadeIn epoch) es → sum_by (replaces_in epoch (x + 1)) (writes_in es) + sum_by (is_at epoch (x + 1)) (births_in epoch es) ≡ named x (map old_target es)
@@ -69,9 +70,9 @@ olds_named epoch x (entries.Put place new old ∷ es) made =
     let first : replaces_in epoch (x + 1) (record { place = place; new = new; old = old }) ≡ one (is_slot x (target_of old))
     = ap (λ n. only_if (epoch == n) (one_if_same (x + 1) (node_of old))) at ∙ only_if_self epoch (one_if_same (x + 1) (node_of old)) ∙ same_word x old in
     omega (arith, sum_by-cons (replaces_in epoch (x + 1)) (record { place = place; new = new; old = old }) (writes_in es), named-cons x (target_of old) (map old_target es), first, olds_named epoch x es (All-tail (IsMadeIn epoch) (entries.Put place new old) es made))
-olds_named epoch x (entries.Born slot ∷ es) made =
+olds_named epoch x (entries.Born slot leaf ∷ es) made =
     let first : is_at epoch (x + 1) (dated epoch (slot + 1)) ≡ one (is_slot x (Some slot)) = only_if_self epoch (one_if_same (x + 1) (slot + 1)) ∙ same_name x (Some slot) in
-    omega (arith, sum_by-cons (is_at epoch (x + 1)) (dated epoch (slot + 1)) (births_in epoch es), named-cons x (Some slot) (map old_target es), first, olds_named epoch x es (All-tail (IsMadeIn epoch) (entries.Born slot) es made))
+    omega (arith, sum_by-cons (is_at epoch (x + 1)) (dated_birth epoch (slot + 1) leaf) (births_in epoch es), named-cons x (Some slot) (map old_target es), first, olds_named epoch x es (All-tail (IsMadeIn epoch) (entries.Born slot leaf) es made))
 
 olds_none : (epoch other node : ℕ) (es : List Entry) → epoch ≢ other → All (IsMadeIn other) es → sum_by (replaces_in epoch node) (writes_in es) + sum_by (is_at epoch node) (births_in other es) ≡ 0
 olds_none epoch other node [] apart made = refl
@@ -80,9 +81,19 @@ olds_none epoch other node (entries.Put place new old ∷ es) apart made =
     let first : replaces_in epoch node (record { place = place; new = new; old = old }) ≡ 0
     = ap (λ n. only_if (epoch == n) (one_if_same node (node_of old))) at ∙ none_if_other epoch other (one_if_same node (node_of old)) apart in
     omega (arith, sum_by-cons (replaces_in epoch node) (record { place = place; new = new; old = old }) (writes_in es), first, olds_none epoch other node es apart (All-tail (IsMadeIn other) (entries.Put place new old) es made))
-olds_none epoch other node (entries.Born slot ∷ es) apart made =
+olds_none epoch other node (entries.Born slot leaf ∷ es) apart made =
     let first : is_at epoch node (dated other (slot + 1)) ≡ 0 = none_if_other epoch other (one_if_same node (slot + 1)) apart in
-    omega (arith, sum_by-cons (is_at epoch node) (dated other (slot + 1)) (births_in other es), first, olds_none epoch other node es apart (All-tail (IsMadeIn other) (entries.Born slot) es made))
+    omega (arith, sum_by-cons (is_at epoch node) (dated_birth other (slot + 1) leaf) (births_in other es), first, olds_none epoch other node es apart (All-tail (IsMadeIn other) (entries.Born slot leaf) es made))
+
+-- the leaves that a log bears, of this epoch or a later one
+pub leaves_named : (since epoch x : ℕ) (es : List Entry) → since ≤ epoch → sum_by (is_leaf_from since (x + 1)) (births_in epoch es) ≡ named x (map leaf_born es)
+leaves_named since epoch x [] from = sym (named-nil x)
+leaves_named since epoch x (entries.Put place new old ∷ es) from = omega (arith, named-cons x None (map leaf_born es), leaves_named since epoch x es from)
+leaves_named since epoch x (entries.Born slot true ∷ es) from =
+    let first : is_leaf_from since (x + 1) (dated_birth epoch (slot + 1) true) ≡ one (is_slot x (Some slot)) = only_if_le since epoch (one_if_same (x + 1) (slot + 1)) from ∙ same_name x (Some slot) in
+    omega (arith, sum_by-cons (is_leaf_from since (x + 1)) (dated_birth epoch (slot + 1) true) (births_in epoch es), named-cons x (Some slot) (map leaf_born es), first, leaves_named since epoch x es from)
+leaves_named since epoch x (entries.Born slot false ∷ es) from =
+    omega (arith, sum_by-cons (is_leaf_from since (x + 1)) (dated_birth epoch (slot + 1) false) (births_in epoch es), named-cons x None (map leaf_born es), leaves_named since epoch x es from)
 
 -- what a snapshot names
 snapshot_named : (epoch x : ℕ) (xs : List (Option ℕ)) → sum_by (is_at epoch (x + 1)) (dated_names epoch xs) ≡ named x xs

@@ -30,12 +30,13 @@ use Rattle.rec_core.specs.Core.{Core}
 use Rattle.rec_core.specs.CyclesAt.{HasCyclesAt}
 use Rattle.rec_core.specs.Kept.{freeing_due, Stand, stand_at, one_if_sweeping, IsKept}
 use Rattle.rec_core.specs.Pending.{older_at, pending}
-use Rattle.rec_core.proofs.Applying.{last_is, counted, counted_rest, counted_zeros, falls, added_is, applies}
+use Rattle.rec_core.proofs.Applying.{last_is, counted, counted_rest, counted_zeros, falls, added_is, applies, leaves_are}
 use Rattle.rec_core.proofs.Counts.{counted_slot}
 use Rattle.rec_core.proofs.CyclesBatch.{is_batch_of, sets_test_begun}
 use Rattle.rec_core.proofs.Landed.{landed_pending, HasCleared}
 use Rattle.rec_core.proofs.Turns.{now_at, returned_mutators}
 use Rattle.rec_core.proofs.Zeros.{HasCome, cleared, zeros_come}
+use Rattle.rec_collector.proofs.Greens.{batch_greens}
 
 -- a member of a set is a slot that is there
 member_there : (s : State) (x : ℕ) → IsKeptCounts s → 0 < times x (concat s.sets) → x < length s.slots
@@ -87,6 +88,7 @@ module _ (w : Core) (t : ℕ) (kept : IsKept w) (phase : w.collector.phase ≡ R
           accounted = move_accounted move kept.accounted;
           uncounted = λ _. move_uncounted move kept.accounted (kept.uncounted (ap freeing_due phase));
           sound = kept.sound;
+          greens = λ x green. elim (batch_greens c.counts c.newer c.older x green) [ inl old ↦ kept.greens x old | inr born ↦ leaves_are w t kept phase last x born ];
           many_words = refl;
           slots = (counted_rest w t kept phase last).slots ∙ slots;
           fields = kept.collector.fields;
@@ -102,7 +104,7 @@ module _ (w : Core) (t : ℕ) (kept : IsKept w) (phase : w.collector.phase ≡ R
   batch_clears : Clears (zeros_released false batched) 0
   batch_clears =
       let before : IsCleared (parts_of c) = resting_cleared (parts_of c) rest in
-      let tidy = batched_clear c.fields c.counts c.newer c.older (falls w t kept phase last) before.tidy before.ready before.work in
+      let tidy = batched_clear c.fields c.counts c.newer c.older (falls w t kept phase last) before.tidy rest.counted before.ready before.work in
       zeros_clear false batched 0 kept.collector.machine.some_fields (batch_kept c.counts c.newer c.older (falls w t kept phase last) kept.collector.machine.counts) tidy.0 tidy.1 ((counted_rest w t kept phase last).work ∙ before.work)
       (none_exchanged batched (λ x l. (counted_rest w t kept phase last).released x ∙ none_released rest x (omega (arith, l, (counted_rest w t kept phase last).slots))))
 

@@ -134,6 +134,7 @@ clears lowers p s place done inside released counted =
       epochs = record { fields = refl; applied = refl; requested = refl };
       free = λ x _. refl;
       released = λ x _. released_same s (taken_off lowers s (target_of word)) rest.slots rest.released x;
+      leaf = λ x _. refl;
     }
 
 -- with its flag set, a slot is released, and every other is as it was
@@ -175,6 +176,7 @@ releases p words s z zs done there none =
       count = λ x pos. (flagged s z there x pos).1;
       free = λ x _. refl;
       released = λ x pos. (flagged s z there x pos).0;
+      leaf = λ x _. refl;
     }
 
 -- The members of the last set are given up.
@@ -187,6 +189,7 @@ set_release p words s = record {
   count = λ x _. (member_slot x).0;
   free = λ x _. refl;
   released = λ x _. (member_slot x).1;
+  leaf = λ x _. refl;
 }
   where
     number : ℕ
@@ -225,6 +228,7 @@ none_release p words s t same = record {
   count = λ x _. (same x).0;
   free = λ x _. refl;
   released = λ x _. (same x).1;
+  leaf = λ x _. refl;
 }
 
 -- counts with the same slots give the same accounts

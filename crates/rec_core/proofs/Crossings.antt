@@ -37,7 +37,7 @@ use Rattle.rec_core.specs.Cells.{cell}
 use Rattle.rec_core.specs.Config.{IsMutator, HasLabel}
 use Rattle.rec_core.specs.Core.{Core, cells_of, sight, mutator, box, crossing_of, spare_of, with_mutator}
 use Rattle.rec_core.specs.CyclesAt.{HasCyclesAt}
-use Rattle.rec_core.specs.Kept.{IsSettledIn, HasLabelAt, IsOwn, IsBufferOf, Stand, stand_at, IsBehind, IsCrossing, IsHandshake, IsActor, IsScanning, entries_made, IsKept, HasMutators, IsMadeIn, freeing_due}
+use Rattle.rec_core.specs.Kept.{IsSettledIn, HasLabelAt, IsOwn, IsBufferOf, Stand, stand_at, IsBehind, IsCrossing, IsHandshake, IsActor, IsScanning, entries_made, IsKept, HasMutators, IsMadeIn, freeing_due, IsHeader}
 use Rattle.rec_core.specs.Moves.{performed, found_by, stepped, begun}
 use Rattle.rec_core.specs.Pending.{epoch_at, applied_at, pending}
 use Rattle.rec_core.proofs.Actors.{own_stepped, epoch_here, handshake_stays, unsettled_due, spare_buffer, others_stay}
@@ -156,9 +156,10 @@ taken_kept w t kept is busy may phase =
           (others_stay t q (crossing_word (p.epoch + 1) WithMutator) b kept.mutators is q_actor);
       collector = kept.collector;
       sweeps = kept.sweeps;
-      scans = scans_stay w t q w.headers kept is (subst (IsScanning w.config.slots w.headers w.freed) (sym q_phase) tt) (λ s taken. taken);
+      scans = scans_stay w t q w.headers kept is (subst (IsScanning w.config.slots w.headers w.freed) (sym q_phase) tt) (λ s taken. refl);
       made = subst (λ (n : ℕ). n ≤ 1 + sum_by (entries_made w.config) (slice_set w.mutators (t - 1) q)) (add-zero w.made) (entries_stay w t 0 q kept is more);
       sound = subst (λ (rss : List (List (Option ℕ))). IsSound (record (sight w) { registers = rss })) (sym (registers_stay w t q q_registers)) kept.sound;
+      greens = kept.greens;
       accounted = move_accounted (Move.dropping drops) half;
       uncounted = λ unfreed. move_uncounted (Move.dropping drops) half (move_uncounted (Move.crossing amid) kept.accounted (kept.uncounted unfreed));
       cycles = cycles_moved w.collector w.collector.phase (Move.dropping drops) tt (λ done. absurd (omega (arith, unapplied, epoch, done))) half alive
@@ -215,9 +216,10 @@ given_kept w t kept is busy may phase same =
           (others_stay t q (crossing_word (p.epoch + 1) Retired) (box w t) kept.mutators is q_actor));
       collector = kept.collector;
       sweeps = kept.sweeps;
-      scans = scans_stay w t q w.headers kept is (subst (IsScanning w.config.slots w.headers w.freed) (sym q_phase) tt) (λ s taken. taken);
+      scans = scans_stay w t q w.headers kept is (subst (IsScanning w.config.slots w.headers w.freed) (sym q_phase) tt) (λ s taken. refl);
       made = subst (λ (n : ℕ). n ≤ 1 + sum_by (entries_made w.config) (slice_set w.mutators (t - 1) q)) (add-zero w.made) (entries_stay w t 0 q kept is (omega (arith, entries)));
       sound = subst (λ (rss : List (List (Option ℕ))). IsSound (record (sight w) { registers = rss })) (sym (registers_stay w t q q_registers)) kept.sound;
+      greens = kept.greens;
       accounted = subst IsAccounted (sym quiet) kept.accounted;
       uncounted = subst (λ (x : Pending). freeing_due w.collector.phase ≡ None → HasUncountedReleased x) (sym quiet) kept.uncounted;
       cycles = subst (λ (x : Pending). HasCyclesAt x w.collector w.collector.phase) (sym quiet) kept.cycles;
@@ -267,8 +269,9 @@ begun_kept w t work kept is idle valid label =
     idle_here : (phase : phases.Phase) → is_busy_at phase ≡ false → is_giving phase ≡ false
     idle_here at.Idle is = refl
     idle_here (at.Begun work) is = refl
-    idle_here (at.Scanning reg label before slot) is = refl
-    idle_here (at.Scanned reg label before) is = refl
+    idle_here (at.Scanning reg label leaf before slot) is = refl
+    idle_here (at.Scanned reg label leaf before) is = refl
+    idle_here (at.Storing src f val slot) is = refl
     idle_here at.Crossing is = refl
     idle_here at.Swapping is = refl
     idle_here at.Giving is = absurd (false≢true (sym is))
@@ -283,7 +286,7 @@ fitting w t kept is =
       headers = λ r slot names.
           let taken : IsTaken (sight w) slot = register_taken w kept t r slot names in
           let below : slot < w.config.slots = taken_slot w kept slot taken in
-          (taken, All-get_or (λ header. header ≤ 2 ^ 32) w.headers slot 0 (omega arith) kept.labels);
+          All-get_or IsHeader w.headers slot 0 (omega arith) kept.labels taken;
       epoch = requested (stand_at w.collector.phase t) actor.handshake;
       home = λ phase.
           let unsettled : IsSettledIn (mutator w t).phase → ⊥ = λ s. subst IsSettledIn phase s in
@@ -325,8 +328,9 @@ step_at w t phase kept is busy at_phase none =
     giving : (x : phases.Phase) → is_giving x ≡ true → x ≡ at.Giving
     giving at.Idle gives = absurd (false≢true gives)
     giving (at.Begun work) gives = absurd (false≢true gives)
-    giving (at.Scanning reg label before slot) gives = absurd (false≢true gives)
-    giving (at.Scanned reg label before) gives = absurd (false≢true gives)
+    giving (at.Scanning reg label leaf before slot) gives = absurd (false≢true gives)
+    giving (at.Scanned reg label leaf before) gives = absurd (false≢true gives)
+    giving (at.Storing src f val slot) gives = absurd (false≢true gives)
     giving at.Crossing gives = absurd (false≢true gives)
     giving at.Swapping gives = absurd (false≢true gives)
     giving at.Giving gives = refl
@@ -339,8 +343,9 @@ step_kept w t kept is busy = go (mutator w t).phase refl (actor_of w t kept is).
     go : (phase : phases.Phase) → (mutator w t).phase ≡ phase → IsBetween phase → IsKept (stepped w t)
     go at.Idle at_phase between = step_at w t at.Idle kept is busy at_phase tt
     go (at.Begun work) at_phase between = step_at w t (at.Begun work) kept is busy at_phase tt
-    go (at.Scanning reg label before slot) at_phase between = step_at w t (at.Scanning reg label before slot) kept is busy at_phase tt
-    go (at.Scanned reg label before) at_phase between = step_at w t (at.Scanned reg label before) kept is busy at_phase tt
+    go (at.Scanning reg label leaf before slot) at_phase between = step_at w t (at.Scanning reg label leaf before slot) kept is busy at_phase tt
+    go (at.Scanned reg label leaf before) at_phase between = step_at w t (at.Scanned reg label leaf before) kept is busy at_phase tt
+    go (at.Storing src f val slot) at_phase between = step_at w t (at.Storing src f val slot) kept is busy at_phase tt
     go at.Crossing at_phase between = taken_kept w t kept is busy (next_found w t kept is) at_phase
     go at.Swapping at_phase between = absurd between
     go at.Giving at_phase between = step_at w t at.Giving kept is busy at_phase tt

@@ -1,17 +1,17 @@
 -- From one state of the counts to another: where less is left to be tested of the sets.
-use Rattle.std.proofs.Common.{◌≡◌, ℕ, suc, zero, ◌-◌, ◌<◌, ◌≤◌, Bool, true, false, eqb, Option, None, Some, List, [], ◌∷◌, length, take, get_or, refl, sym, ◌∙◌, ap, subst, arith, inl, inr, slice_get}
+use Rattle.std.proofs.Common.{◌≡◌, ℕ, suc, zero, ◌-◌, ◌<◌, ◌≤◌, Bool, true, false, eqb, Option, None, Some, List, [], ◌∷◌, length, take, get_or, refl, sym, ◌∙◌, ap, subst, arith, inl, inr, slice_get, ◌||◌}
 use Rattle.std.specs.List.{concat}
 use Rattle.std.proofs.lemmas.List.{get_or-set_same, get_or-set_other, set_past}
 use Rattle.std.proofs.lemmas.Bool.{cases_lt, eq-eqb, ne_eqb, false≢true, cases_Bool}
 use Rattle.std.proofs.lemmas.Bool.Decides.{eqb_tells}
-use Rattle.rec_counts.specs.declared.colour.Colour.TheVariants.{Orange}
+use Rattle.rec_counts.specs.declared.colour.Colour.TheVariants.{Orange, Green}
 use Rattle.rec_counts.specs.declared.slot.Slot.{Slot}
 use Rattle.rec_counts.specs.declared.slot.Due.{Due}
 use Rattle.rec_counts.specs.declared.slot.Due.TheVariants.{Nothing, Zero, Root}
 use Rattle.rec_counts.specs.Counts.{State, IsKept, slot_at, with_slot, sent, decremented}
 use Rattle.rec_counts.specs.Groups.{last_set}
 use Rattle.rec_counts.specs.Lists.{one, times}
-use Rattle.rec_counts.specs.Slot.{absent, is_in, lessened, lessened_if, lowered, due_of}
+use Rattle.rec_counts.specs.Slot.{absent, is_in, lessened, lessened_if, lowered, due_of, stays}
 use Rattle.rec_counts.proofs.Keeping.{field_kept, map_at}
 use Rattle.rec_counts.proofs.Times.{times-nil, times-append}
 use Rattle.rec_sigma.specs.declared.fate.Fate.{Fate}
@@ -21,6 +21,8 @@ use Rattle.rec_sigma.proofs.Cyclics.{in_set, own_set}
 use Rattle.rec_release.specs.CycleFree.{given_up, given_up_slot}
 use Rattle.rec_release.specs.TakenOff.{down_if, is_lowered, taken_off}
 use Rattle.rec_release.specs.Release.{without_first}
+use Rattle.rec_counts.specs.Colour.{is_green, in_use}
+use Rattle.rec_counts.specs.declared.colour.Colour.{Colour}
 
 -- it was not released, and if its cyclic count was its true count less so many, so it is still
 abbrev pub StaysExact : (u v : Slot) → Type 0
@@ -91,8 +93,12 @@ less_released s x = less_slot s x (record (slot_at s x) { released = true }) (re
 less_lowered : (s : State) (x : ℕ) → TestsLess s (with_slot s x (lowered (slot_at s x)))
 less_lowered s x = less_slot s x (lowered (slot_at s x)) (record { set = refl; orange = λ o. o; exact = λ o r. (r, λ k e. omega (arith, e)) })
 
-lessened_eases : (r l : Bool) (v : Slot) → v.released ≡ r → EasesSlot v (lessened_if r l v)
-lessened_eases true l v e = record { set = refl; orange = λ o. o; exact = λ o r. absurd (false≢true (sym r ∙ e)) }
+-- what keeps its colour as it is lessened is released or Green
+stays_eases : (v : Slot) → stays v ≡ true → v.colour ≡ Orange → v.released ≡ false → ⊥
+stays_eases v e o r = false≢true (sym (ap (λ b. b || is_green v.colour) r ∙ ap is_green o) ∙ e)
+
+lessened_eases : (r l : Bool) (v : Slot) → stays v ≡ r → EasesSlot v (lessened_if r l v)
+lessened_eases true l v e = record { set = refl; orange = λ o. o; exact = λ o r. absurd (stays_eases v e o r) }
 lessened_eases false true v e = record { set = refl; orange = λ o. cc; exact = λ o r. cc }
 lessened_eases false false v e = record { set = refl; orange = λ o. cc; exact = λ o r. cc }
 
@@ -105,7 +111,7 @@ less_sent Root s t x l = record { among = l.among; members = l.members; orange =
 pub less_decremented : (s : State) (x : ℕ) → TestsLess s (decremented s x)
 less_decremented s x =
     let v : Slot = slot_at s x in
-    less_sent (due_of v) s (with_slot s x (lessened v)) x (less_slot s x (lessened v) (lessened_eases v.released (eqb v.count 1) v refl))
+    less_sent (due_of v) s (with_slot s x (lessened v)) x (less_slot s x (lessened v) (lessened_eases (stays v) (eqb v.count 1) v refl))
 
 -- what the earlier sets have, all of them have
 times_taken : (x n : ℕ) (xss : List (List ℕ)) → times x (concat (take n xss)) ≤ times x (concat xss)
@@ -149,10 +155,16 @@ less_given_up s =
       exact = λ x o r. subst (λ (v : Slot). StaysExact (slot_at s x) v) (sym (at x)) ((given_eases n (slot_at s x) _ refl).1 (ap (λ (v : Slot). v.colour) (sym (at x)) ∙ o) (ap (λ (v : Slot). v.released) (sym (at x)) ∙ r));
     }
 
+-- what is in use is not Orange
+pub in_use_other : (c : Colour) → in_use c ≡ Orange → ⊥
+in_use_other Green o = cc
+in_use_other _ o = cc
+
 -- a member that is refurbished is in no set, and Orange only where it was
 refurbished_eases : (f : Fate) (v : Slot) → ((refurbished f v).set ≡ None) × ((refurbished f v).colour ≡ Orange → v.colour ≡ Orange) × ((refurbished f v).colour ≡ Orange → (refurbished f v).released ≡ false → StaysExact v (refurbished f v))
 refurbished_eases fates.Free v = (refl, (λ o. o), (λ o r. (r, λ k q. q)))
-refurbished_eases _ v = (refl, (λ o. cc), (λ o r. cc))
+refurbished_eases fates.Root v = (refl, (λ o. cc), (λ o r. cc))
+refurbished_eases _ v = (refl, (λ o. absurd (in_use_other v.colour o)), (λ o r. absurd (in_use_other v.colour o)))
 
 -- the members of the last set are refurbished
 pub less_refurbished : (s t : State) → IsKept s → LastRefurbished s t → TestsLess s t

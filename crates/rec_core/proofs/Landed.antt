@@ -15,7 +15,7 @@ use Rattle.rec_collector.proofs.Clearing.{Clears}
 use Rattle.rec_collector.specs.declared.phase.Phase.TheVariants.{Opening}
 use Rattle.rec_core.specs.Core.{Core, sight}
 use Rattle.rec_core.specs.Cycles.{SetsTest}
-use Rattle.rec_core.specs.Kept.{HasMutators, IsLeft, IsLeftOf, freeing_due, one_if_sweeping, release_due, IsKept}
+use Rattle.rec_core.specs.Kept.{HasMutators, IsLeft, IsLeftOf, freeing_due, one_if_sweeping, release_due, IsKept, HasGreens}
 use Rattle.rec_core.specs.Pending.{older_at, pending}
 use Rattle.rec_core.proofs.Counts.{accounts_with}
 
@@ -50,6 +50,7 @@ pub record HasLanded (w : Core) (crossing words : List ℕ) (b : Begun) : Type 0
   pub accounted : IsAccounted (landed_pending w words b.parts.counts)
   pub uncounted : begun_freeing b.phase ≡ None → HasUncountedReleased (landed_pending w words b.parts.counts)
   pub sound : IsSound (sight (record w { words = words }))
+  pub greens : HasGreens w.headers b.parts.counts
   pub many_words : length words ≡ length w.words
   pub slots : length b.parts.counts.slots ≡ w.config.slots
   pub fields : b.parts.fields ≡ w.config.fields

@@ -9,7 +9,7 @@ use Rattle.std.proofs.lemmas.List.Elements.{All-head, All-tail, All-nil}
 use Rattle.std.proofs.lemmas.List.Sums.{sum_by-cons}
 use Rattle.rec_model.specs.Accounted.{IsAccounted, HasUncountedReleased}
 use Rattle.rec_model.specs.Moves.{Move, Drops}
-use Rattle.rec_model.specs.Pending.{epoch_of, Write, Dated, dated, Pending}
+use Rattle.rec_model.specs.Pending.{epoch_of, Write, Dated, dated, Pending, dated_birth}
 use Rattle.rec_model.specs.Sets.{IsMarked}
 use Rattle.rec_model.proofs.Consequences.{move_uncounted}
 use Rattle.rec_model.proofs.Moving.{move_accounted}
@@ -48,7 +48,7 @@ use Rattle.rec_collector.specs.declared.phase.Phase.TheVariants.{Idle, Trying, P
 use Rattle.rec_collector.specs.declared.turn.Turn.{Turn}
 use Rattle.rec_collector.proofs.Following.{none_released}
 use Rattle.rec_collector.proofs.Goings.{still}
-use Rattle.rec_collector.proofs.Offering.{where_keeps, where_kept, where_ready}
+use Rattle.rec_collector.proofs.Offering.{where_keeps, where_kept, where_ready, where_green}
 use Rattle.rec_core.specs.Config.{IsMutator}
 use Rattle.rec_core.specs.Core.{Core}
 use Rattle.rec_core.specs.Cycles.{is_member, word_loaded, SetsWait}
@@ -68,6 +68,7 @@ use Rattle.rec_core.proofs.Zeros.{landed_empty}
 use Rattle.rec_core.proofs.Steps.{fields_many}
 use Rattle.rec_core.proofs.Sums.{share, buffers_sum}
 use Rattle.rec_core.proofs.Turns.{phase_moves}
+use Rattle.rec_collector.proofs.Greens.{KeepsGreens, others_greens}
 
 -- writes of an early epoch weigh nothing, if nothing early does
 pub early_writes : (weight : Write → ℕ) (epoch bound : ℕ) (es : List Entry) → epoch < bound → ((e : Write) → epoch_of e.new < bound → weight e ≡ 0) → All (IsMadeIn epoch) es → sum_by weight (writes_in es) ≡ 0
@@ -76,13 +77,13 @@ early_writes weight epoch bound (entries.Put place new old ∷ es) early none ma
     let at : epoch_of new ≡ epoch = All-head (IsMadeIn epoch) (entries.Put place new old) es made in
     let first : weight (record { place = place; new = new; old = old }) ≡ 0 = none (record { place = place; new = new; old = old }) (omega arith) in
     omega (arith, sum_by-cons weight (record { place = place; new = new; old = old }) (writes_in es), first, early_writes weight epoch bound es early none (All-tail (IsMadeIn epoch) (entries.Put place new old) es made))
-early_writes weight epoch bound (entries.Born slot ∷ es) early none made = early_writes weight epoch bound es early none (All-tail (IsMadeIn epoch) (entries.Born slot) es made)
+early_writes weight epoch bound (entries.Born slot leaf ∷ es) early none made = early_writes weight epoch bound es early none (All-tail (IsMadeIn epoch) (entries.Born slot leaf) es made)
 
 early_births : (weight : Dated → ℕ) (epoch bound : ℕ) (es : List Entry) → epoch < bound → ((d : Dated) → d.epoch < bound → weight d ≡ 0) → sum_by weight (births_in epoch es) ≡ 0
 early_births weight epoch bound [] early none = refl
 early_births weight epoch bound (entries.Put place new old ∷ es) early none = early_births weight epoch bound es early none
-early_births weight epoch bound (entries.Born slot ∷ es) early none =
-    omega (arith, sum_by-cons weight (dated epoch (slot + 1)) (births_in epoch es), none (dated epoch (slot + 1)) early, early_births weight epoch bound es early none)
+early_births weight epoch bound (entries.Born slot leaf ∷ es) early none =
+    omega (arith, sum_by-cons weight (dated_birth epoch (slot + 1) leaf) (births_in epoch es), none (dated_birth epoch (slot + 1) leaf) early, early_births weight epoch bound es early none)
 
 early_names : (weight : Dated → ℕ) (epoch bound : ℕ) (xs : List (Option ℕ)) → epoch < bound → ((d : Dated) → d.epoch < bound → weight d ≡ 0) → sum_by weight (dated_names epoch xs) ≡ 0
 early_names weight epoch bound [] early none = refl
@@ -152,7 +153,7 @@ module _ (w : Core) (c : collectors.Private) (before : Phase) (some : 2 ≤ w.ep
     words = λ weight. refl;
     registers = λ weight. refl;
     epochs = record { fields = refl; applied = refl; requested = refl };
-    slots = record { count = λ x _. refl; free = λ x _. refl; released = λ x _. refl };
+    slots = record { count = λ x _. refl; free = λ x _. refl; released = λ x _. refl; leaf = λ x _. refl };
   }
 
 -- counts that count and release alike give the same accounts
@@ -164,7 +165,7 @@ alike_drops p words s t same = record {
   words = λ weight. refl;
   registers = λ weight. refl;
   epochs = record { fields = refl; applied = refl; requested = refl };
-  slots = record { count = λ x _. (same x).0; free = λ x _. refl; released = λ x _. (same x).1 };
+  slots = record { count = λ x _. (same x).0; free = λ x _. refl; released = λ x _. (same x).1; leaf = λ x _. refl };
 }
 
 -- a row of cleared buffers is one of spares of this size
@@ -177,11 +178,14 @@ pub record IsAlike (s t : State) : Type 0 where
   pub count : (x : ℕ) → (slot_at t x).count ≡ (slot_at s x).count
   pub released : (x : ℕ) → (slot_at t x).released ≡ (slot_at s x).released
   pub free : (x : ℕ) → 0 < times x t.free → (0 < times x s.free) ⊎ ((slot_at s x).released ≡ true)
+  -- and no slot becomes Green
+  pub greens : KeepsGreens s t
 
 -- a trial leaves such counts,
 pub tried_alike : (s t : State) → KeepsCounts s t → IsAlike s t
 tried_alike s t k = record {
   slots = k.slots;
+  greens = λ x green. sym (k.green x) ∙ green;
   count = k.counts;
   released = k.released;
   free = λ x some. elim (cases_Bool (slot_at s x).released) [
@@ -196,6 +200,7 @@ tried_alike s t k = record {
 pub prepared_alike : (s t : State) → KeepsOthers s t → IsAlike s t
 prepared_alike s t k = record {
   slots = k.many;
+  greens = others_greens s t k;
   count = λ x. ap (λ (v : Slot). v.count) (k.slots x);
   released = λ x. ap (λ (v : Slot). v.released) (k.slots x);
   free = λ x some. inl (subst (λ xs. 0 < times x xs) k.free some);
@@ -205,9 +210,10 @@ pub landed_drops : (w : Core) (words : List ℕ) (s t : State) → IsAlike s t �
 landed_drops w words s t same = alike_drops (record (pending w) { applied = w.epoch - 1 }) words s t (alike_slots s t same.slots same.count same.released)
 
 -- and so does offering every slot to a trial
-offered_alike : (s t : State) → KeepsOffered s t → IsAlike s t
-offered_alike s t k = record {
+offered_alike : (s t : State) → KeepsOffered s t → KeepsGreens s t → IsAlike s t
+offered_alike s t k greens = record {
   slots = k.rest.slots;
+  greens = greens;
   count = k.counts;
   released = k.rest.released;
   free = λ x some. inl (subst (λ xs. 0 < times x xs) k.rest.free some);
@@ -226,6 +232,7 @@ landed_alike {w} {crossing} {words} {v} l t same counts =
       accounted = move_accounted move l.accounted;
       uncounted = λ none. move_uncounted move l.accounted (l.uncounted refl);
       sound = l.sound;
+      greens = λ x green. l.greens x (same.greens x green);
       many_words = l.many_words;
       slots = same.slots ∙ l.slots;
       fields = l.fields;
@@ -245,6 +252,7 @@ landed_in {w} {crossing} {words} v phase unreleased unfreed l = record {
   accounted = l.accounted;
   uncounted = λ none. l.uncounted refl;
   sound = l.sound;
+  greens = l.greens;
   many_words = l.many_words;
   slots = l.slots;
   fields = l.fields;
@@ -263,6 +271,7 @@ landed_still {w} {crossing} {words} v phase unreleased unfreed l = record {
   accounted = l.accounted;
   uncounted = λ none. l.uncounted unfreed;
   sound = l.sound;
+  greens = l.greens;
   many_words = l.many_words;
   slots = l.slots;
   fields = l.fields;
@@ -285,6 +294,7 @@ landed_asked l offers = record {
   accounted = l.accounted;
   uncounted = l.uncounted;
   sound = l.sound;
+  greens = l.greens;
   many_words = l.many_words;
   slots = l.slots;
   fields = l.fields;
@@ -297,7 +307,7 @@ landed_asked l offers = record {
 pub landed_offered : {w : Core} {crossing words : List ℕ} {v : Parts} → HasLanded w crossing words (still v) → HasLanded w crossing words (still (with_offers v))
 landed_offered {w} {crossing} {words} {v} l =
     let s : State = (with_offers v).counts in
-    landed_asked (landed_alike l s (offered_alike v.counts s (where_keeps v.offers v.counts)) (where_kept v.offers v.counts l.counts)) false
+    landed_asked (landed_alike l s (offered_alike v.counts s (where_keeps v.offers v.counts) (λ x green. sym (where_green v.offers v.counts x) ∙ green)) (where_kept v.offers v.counts l.counts)) false
 
 -- one turn more, and another phase, change nothing of what is known of the sets in that phase
 came_cycles : (p : Pending) (c : collectors.Private) (phase : Phase) → HasCyclesAt p c phase → HasCyclesAt p (moved c phase) phase
@@ -338,6 +348,7 @@ lands_here w phase kept is on =
       accounted = subst IsAccounted same kept.accounted;
       uncounted = λ unfreed. subst HasUncountedReleased same (kept.uncounted unfreed);
       sound = kept.sound;
+      greens = kept.greens;
       many_words = refl;
       slots = k.slots;
       fields = k.fields;
@@ -380,6 +391,7 @@ module _ (w : Core) (crossing words : List ℕ) (q : collectors.Private) (machin
         scans = l.kept.scans;
         made = l.kept.made;
         sound = l.sound;
+        greens = l.greens;
         accounted = subst IsAccounted (sym same) l.accounted;
         uncounted = λ none. subst HasUncountedReleased (sym same) (l.uncounted none);
         cycles = subst (λ p. HasCyclesAt p c next) (sym same) (came_cycles (landed_pending w words v.counts) (with_parts w.collector v) next cycles);
@@ -424,6 +436,7 @@ module _ (w : Core) (crossing words : List ℕ) (q : collectors.Private) (machin
         scans = l.kept.scans;
         made = l.kept.made;
         sound = l.sound;
+        greens = l.greens;
         accounted = move_accounted (Move.dropping drops) l.accounted;
         uncounted = λ none. move_uncounted (Move.dropping drops) l.accounted (l.uncounted refl);
         cycles = sets_wait_moved v.counts (Move.dropping drops) tt l.accounted (none_alive v.counts (none_released its.now.0)) waits;
@@ -475,7 +488,7 @@ module _ (w : Core) (crossing words : List ℕ) (q : collectors.Private) (machin
       let marked : IsMarked p (is_member loading.run.work.counts) (word_loaded w.config.fields loading.run.marking)
       = trial_leaves_marked p w.config.fields loading.before loading.words loading.run loading.trial done refl (places_landed l (length loading.before.slots) many)
       (λ x below. slot_counted u.counts x (omega (arith, below, many, others.many)) ∙ ap (λ (y : Slot). y.count) (others.slots x) ∙ ap (λ (y : State). (slot_at y x).count) (sym counts) ∙ loading.trial.careful.counts x)
-      (record { marks = loading.stands.marks; blacks = loading.stands.blacks }) in
+      (record { marks = loading.stands.marks; blacks = loading.stands.blacks; unmarked = loading.stands.unmarked }) in
       record {
         before = v.counts;
         before_kept = l.counts;

@@ -16,17 +16,15 @@ use Rattle.rec_model.specs.Sums.{only_if}
 use Rattle.rec_model.specs.Pending.{epoch_of, Write}
 use Rattle.rec_model.specs.Sets.{Cleared}
 use Rattle.rec_model.specs.declared.command.Cmd.{Cmd}
-use Rattle.rec_model.specs.declared.command.Cmd.TheVariants as commands
 use Rattle.rec_model.specs.declared.told.Told.{Told}
 use Rattle.rec_log.specs.declared.contents.Contents.{Contents}
-use Rattle.rec_mutator.specs.Private.{Private, is_busy, IsMachine, next_stamp, word_for}
+use Rattle.rec_mutator.specs.Private.{Private, is_busy, IsMachine, next_stamp, word_for, IsStore}
 use Rattle.rec_mutator.specs.Next.{next_of}
-use Rattle.rec_mutator.specs.Step.{Step, Decides, GoesOn, LeavesBox}
+use Rattle.rec_mutator.specs.Step.{Step, Decides, GoesOn, LeavesBox, HasRoom}
 use Rattle.rec_mutator.specs.Took.{begun_of, left_of, step_of, took_of}
 use Rattle.rec_mutator.specs.declared.phase.Phase as phases
 use Rattle.rec_mutator.specs.declared.phase.Phase.TheVariants as at
 use Rattle.rec_mutator.specs.declared.work.Work.{Work}
-use Rattle.rec_mutator.specs.declared.work.Work.TheVariants as works
 use Rattle.rec_mutator.proofs.Steps.{whole_made}
 use Rattle.rec_sigma.specs.Prepare as preps
 use Rattle.rec_trial.specs.Trial as trials
@@ -62,6 +60,8 @@ use Rattle.rec_core.proofs.Steps.{actor_of, in_list}
 use Rattle.rec_core.proofs.Sums.{buffers_sum, writes_more, writes_same}
 use Rattle.rec_core.proofs.Turns.{now_at}
 use Rattle.rec_core.proofs.Shapes.{same_boxes}
+use Rattle.rec_word.specs.Header.{header_word}
+use Rattle.rec_mutator.proofs.Refusals.{at_phase}
 
 -- what the writes in a buffer weigh
 abbrev wrote : (Write → ℕ) → Contents → ℕ
@@ -181,9 +181,13 @@ step_logs m (Step.get_of_null dst src f none d) b = inl (plain_decides b d (λ c
 step_logs {word = word} m (Step.get dst src f slot is d) b = inl (plain_decides b d (load_leaves _ word) (λ e. cc))
 step_logs m (Step.put_of_null src f val none d) b = inl (plain_decides b d (λ cells e. refl) (λ e. cc))
 step_logs m (Step.put_refused src f val slot is full d) b = inl (plain_decides b d (λ cells e. refl) (λ e. cc))
-step_logs {p} {q} {word} {box} {left} m (Step.put src f val slot is room d) b =
-    let other : p.phase ≢ at.Crossing = λ e. let x : at.Begun (works.Command (commands.Put src f val)) ≡ at.Crossing = sym d.phase ∙ e in cc in
-    let settled : p.phase ≢ at.Giving = λ e. let x : at.Begun (works.Command (commands.Put src f val)) ≡ at.Giving = sym d.phase ∙ e in cc in
+step_logs m (Step.put_into_leaf src f val slot is room leaf d) b = inl (plain_decides b d (λ cells e. refl) (λ e. cc))
+step_logs m (Step.put_begins src f val slot is room unmarked d) b = inl (plain_goes b d (λ cells e. refl) (λ e. cc))
+step_logs {p} {q} {word} {box} {left} m (Step.put src f val slot d) b =
+    let store : IsStore p src f val slot = (at_phase p (at.Storing src f val slot) m d.phase).0 in
+    let room : HasRoom p = λ full. omega (arith, store.room, full) in
+    let other : p.phase ≢ at.Crossing = λ e. let x : at.Storing src f val slot ≡ at.Crossing = sym d.phase ∙ e in cc in
+    let settled : p.phase ≢ at.Giving = λ e. let x : at.Storing src f val slot ≡ at.Giving = sym d.phase ∙ e in cc in
     inr (record {
       place = place_of slot f p.fields;
       new = word_for p val;
@@ -195,15 +199,15 @@ step_logs {p} {q} {word} {box} {left} m (Step.put src f val slot is room d) b =
     })
 step_logs m (Step.value_of_null reg none d) b = inl (plain_decides b d (λ cells e. refl) (λ e. cc))
 step_logs m (Step.value reg slot is d) b = inl (plain_decides b d (λ cells e. refl) (λ e. cc))
-step_logs m (Step.new_refused reg label full d) b = inl (plain_decides b d (λ cells e. refl) (λ e. cc))
-step_logs m (Step.new_begins reg label room d) b = inl (plain_goes b d (λ cells e. refl) (λ e. cc))
-step_logs {p} {q} m (Step.new_wins reg label before slot free d) b =
-    let other : p.phase ≢ at.Crossing = λ e. let x : at.Scanning reg label before slot ≡ at.Crossing = sym d.phase ∙ e in cc in
-    inl (plain_as b (ops.ClaimHeader slot label) d.operation (λ cells e. refl) other (λ g. ap (λ (x : Private). wrote g x.log) d.after ∙ writes_same g p.log.entries slot))
-step_logs m (Step.new_goes_on reg label before slot taken next d) b = inl (plain_goes b d (λ cells e. refl) (λ e. cc))
-step_logs m (Step.new_finds_none reg label before slot taken last d) b = inl (plain_goes b d (λ cells e. refl) (λ e. cc))
-step_logs m (Step.new_is_full reg label before still d) b = inl (plain_decides b d (λ cells e. refl) (λ e. cc))
-step_logs m (Step.new_is_busy reg label before swept d) b = inl (plain_decides b d (λ cells e. refl) (λ e. cc))
+step_logs m (Step.new_refused reg label leaf full d) b = inl (plain_decides b d (λ cells e. refl) (λ e. cc))
+step_logs m (Step.new_begins reg label leaf room d) b = inl (plain_goes b d (λ cells e. refl) (λ e. cc))
+step_logs {p} {q} m (Step.new_wins reg label leaf before slot free d) b =
+    let other : p.phase ≢ at.Crossing = λ e. let x : at.Scanning reg label leaf before slot ≡ at.Crossing = sym d.phase ∙ e in cc in
+    inl (plain_as b (ops.ClaimHeader slot (header_word leaf label)) d.operation (λ cells e. refl) other (λ g. ap (λ (x : Private). wrote g x.log) d.after ∙ writes_same g p.log.entries slot leaf))
+step_logs m (Step.new_goes_on reg label leaf before slot taken next d) b = inl (plain_goes b d (λ cells e. refl) (λ e. cc))
+step_logs m (Step.new_finds_none reg label leaf before slot taken last d) b = inl (plain_goes b d (λ cells e. refl) (λ e. cc))
+step_logs m (Step.new_is_full reg label leaf before still d) b = inl (plain_decides b d (λ cells e. refl) (λ e. cc))
+step_logs m (Step.new_is_busy reg label leaf before swept d) b = inl (plain_decides b d (λ cells e. refl) (λ e. cc))
 step_logs m (Step.poll_stays own d) b = inl (plain_goes b d (λ cells e. refl) (λ e. cc))
 step_logs m (Step.poll_crosses other d) b = inl (plain_goes b d (λ cells e. refl) (λ e. cc))
 step_logs {p} {q} {word} {box} {left} m (Step.take_box d) b = inl (record {

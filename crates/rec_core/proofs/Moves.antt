@@ -22,6 +22,7 @@ use Rattle.rec_core.specs.Core.{Core, mutator, box, spare_of, nobody, with_mutat
 use Rattle.rec_core.specs.Pending.{Filed, filed, code, writes_in, births_in, dated_names, dated_all, epoch_at, buffers, snapshots_of, registers_of, older_at, pending}
 use Rattle.rec_core.specs.declared.config.Config.{Config}
 use Rattle.rec_core.proofs.Sums.{share, buffers_sum, own_sum, registers_sum, register_sum, writes_more, writes_same, births_more, births_same, names_most, names_all}
+use Rattle.rec_word.specs.Header.{header_word, is_leaf, IsHeaderOf}
 
 -- the node of a word is that of its target
 pub code_target : (word : ℕ) → code (target_of word) ≡ node_of word
@@ -70,7 +71,7 @@ same_pending w t q log registers epoch =
 
 -- the numbers of a heap stay
 stays : (w : Core) (t : ℕ) (q : Private) → KeepsEpochs (pending w) (pending (with_mutator w t q)) × KeepsSlots (pending w) (pending (with_mutator w t q))
-stays w t q = (record { fields = refl; applied = refl; requested = refl }, record { count = λ x _. refl; free = λ x _. refl; released = λ x _. refl })
+stays w t q = (record { fields = refl; applied = refl; requested = refl }, record { count = λ x _. refl; free = λ x _. refl; released = λ x _. refl; leaf = λ x _. refl })
 
 -- A register of mutator t changes: to null, to what it holds, or to what it finds in a field.
 pub register_moves : (w : Core) (t r : ℕ) (x : Option ℕ) (q : Private) → t - 1 < length w.mutators → r < length (mutator w t).registers → q.registers ≡ slice_set (mutator w t).registers r x → q.log ≡ (mutator w t).log
@@ -126,48 +127,50 @@ put_moves w t place new slot val q there inside at source target stamp registers
       snapshots = λ weight. omega (arith, log_sum weight (λ (b : Filed). dated_names b.epoch b.buffer.snapshot) w t q there, ap (λ (b : Filed). sum_by weight (dated_names b.epoch b.buffer.snapshot)) own);
       registers = same_registers w t q there registers epoch;
       epochs = record { fields = refl; applied = refl; requested = refl };
-      slots = record { count = λ x _. refl; free = λ x _. refl; released = λ x _. refl };
+      slots = record { count = λ x _. refl; free = λ x _. refl; released = λ x _. refl; leaf = λ x _. refl };
     }
 
--- a header that was set tells whether its slot is free, and each other is as it was
-header_set : (headers : List ℕ) (slot header : ℕ) → slot < length headers → (node : ℕ) → 0 < node
-    → (slice_index_or (slice_set headers slot (header + 1)) (node - 1) 0 == 0) ≡ with_answer (λ (n : ℕ). slice_index_or headers (n - 1) 0 == 0) (slot + 1) false node
-header_set headers slot header there node pos =
-    let test : ℕ → Bool = λ n. slice_index_or headers (n - 1) 0 == 0 in
-    let found : ℕ → Bool = λ n. slice_index_or (slice_set headers slot (header + 1)) n 0 == 0 in
+-- a header that was set tells of its slot, and each other is as it was
+header_set : (headers : List ℕ) (slot header : ℕ) (tells : ℕ → Bool) (answer : Bool) → slot < length headers → tells header ≡ answer → (node : ℕ) → 0 < node
+    → tells (slice_index_or (slice_set headers slot header) (node - 1) 0) ≡ with_answer (λ (n : ℕ). tells (slice_index_or headers (n - 1) 0)) (slot + 1) answer node
+header_set headers slot header tells answer there told node pos =
+    let test : ℕ → Bool = λ n. tells (slice_index_or headers (n - 1) 0) in
+    let found : ℕ → Bool = λ n. tells (slice_index_or (slice_set headers slot header) n 0) in
     elim (cases_eq node (slot + 1)) [
       | inl is ↦
           let at : node - 1 ≡ slot = omega arith in
-          let taken : found slot ≡ false = ap (λ (n : ℕ). n == 0) (get_or-set_same headers slot (header + 1) 0 there) ∙ ne_eqb (header + 1) 0 (λ e. omega arith) in
-          ap found at ∙ taken ∙ sym (cond-true (node == slot + 1) false (test node) (eq-eqb node (slot + 1) is))
+          let set : found slot ≡ answer = ap tells (get_or-set_same headers slot header 0 there) ∙ told in
+          ap found at ∙ set ∙ sym (cond-true (node == slot + 1) answer (test node) (eq-eqb node (slot + 1) is))
       | inr other ↦
           let apart : (node - 1) ≢ slot = λ is. other (omega arith) in
-          ap (λ (n : ℕ). n == 0) (get_or-set_other headers slot (node - 1) (header + 1) 0 apart) ∙ sym (cond-false (node == slot + 1) false (test node) (ne_eqb node (slot + 1) other))
+          ap tells (get_or-set_other headers slot (node - 1) header 0 apart) ∙ sym (cond-false (node == slot + 1) answer (test node) (ne_eqb node (slot + 1) other))
     ]
 
 -- Mutator t takes a free slot for a new object, lets a register name it, and logs it.
-pub birth_moves : (w : Core) (t r slot label : ℕ) (q : Private) → t - 1 < length w.mutators → r < length (mutator w t).registers → slot < length w.headers → slice_index_or w.headers slot 0 ≡ 0
-    → q.registers ≡ slice_set (mutator w t).registers r (Some slot) → epoch_at q ≡ epoch_at (mutator w t) → q.log ≡ record (mutator w t).log { entries = (mutator w t).log.entries ++ entries.Born slot ∷ [] }
-    → Bears (pending w) (pending (record (with_mutator w t q) { headers = slice_set w.headers slot (label + 1); made = w.made + 1 })) (epoch_at (mutator w t)) (code (register (mutator w t) r)) (slot + 1)
-birth_moves w t r slot label q there within inside free registers epoch log =
+pub birth_moves : (w : Core) (t r slot label : ℕ) (leaf : Bool) (q : Private) → IsHeaderOf leaf label (header_word leaf label) → t - 1 < length w.mutators → r < length (mutator w t).registers → slot < length w.headers → slice_index_or w.headers slot 0 ≡ 0
+    → q.registers ≡ slice_set (mutator w t).registers r (Some slot) → epoch_at q ≡ epoch_at (mutator w t) → q.log ≡ record (mutator w t).log { entries = (mutator w t).log.entries ++ entries.Born slot leaf ∷ [] }
+    → Bears (pending w) (pending (record (with_mutator w t q) { headers = slice_set w.headers slot (header_word leaf label); made = w.made + 1 })) (epoch_at (mutator w t)) (code (register (mutator w t) r)) (slot + 1)
+birth_moves w t r slot label leaf q header there within inside free registers epoch log =
     let p : Private = mutator w t in
     let e : ℕ = epoch_at p in
     let file : Filed = filed (epoch_at q) q.log in
-    let own : file ≡ filed e (record p.log { entries = p.log.entries ++ entries.Born slot ∷ [] }) = ap (λ (n : ℕ). filed n q.log) epoch ∙ ap (filed e) log in
+    let own : file ≡ filed e (record p.log { entries = p.log.entries ++ entries.Born slot leaf ∷ [] }) = ap (λ (n : ℕ). filed n q.log) epoch ∙ ap (filed e) log in
     let dates : dated_all (epoch_at q) q.registers ≡ dated_all e (slice_set p.registers r (Some slot)) = ap (λ (n : ℕ). dated_all n q.registers) epoch ∙ ap (dated_all e) registers in
     record {
       had = has_register w t r there within;
       is_node = omega arith;
       was_free = (let at : slot + 1 - 1 ≡ slot = omega arith in ap (λ (n : ℕ). slice_index_or w.headers n 0 == 0) at ∙ eq-eqb (slice_index_or w.headers slot 0) 0 free);
-      births = λ weight. omega (arith, log_sum weight (λ (b : Filed). births_in b.epoch b.buffer.entries) w t q there, births_more weight e p.log.entries slot, ap (λ (b : Filed). sum_by weight (births_in b.epoch b.buffer.entries)) own);
+      leaf = leaf;
+      births = λ weight. omega (arith, log_sum weight (λ (b : Filed). births_in b.epoch b.buffer.entries) w t q there, births_more weight e p.log.entries slot leaf, ap (λ (b : Filed). sum_by weight (births_in b.epoch b.buffer.entries)) own);
       registers = λ weight. omega (arith, registers_sum weight w.mutators (t - 1) q there, register_sum weight e p.registers r (Some slot) within, ap (sum_by weight) dates);
       words = λ weight. refl;
-      writes = λ weight. omega (arith, log_sum weight (λ (b : Filed). writes_in b.buffer.entries) w t q there, writes_same weight p.log.entries slot, ap (λ (b : Filed). sum_by weight (writes_in b.buffer.entries)) own);
+      writes = λ weight. omega (arith, log_sum weight (λ (b : Filed). writes_in b.buffer.entries) w t q there, writes_same weight p.log.entries slot leaf, ap (λ (b : Filed). sum_by weight (writes_in b.buffer.entries)) own);
       snapshots = λ weight. omega (arith, log_sum weight (λ (b : Filed). dated_names b.epoch b.buffer.snapshot) w t q there, ap (λ (b : Filed). sum_by weight (dated_names b.epoch b.buffer.snapshot)) own);
       epochs = record { fields = refl; applied = refl; requested = refl };
       count = λ x _. refl;
-      free = header_set w.headers slot label inside;
+      free = header_set w.headers slot (header_word leaf label) (λ n. n == 0) false inside (ne_eqb (header_word leaf label) 0 (λ e. omega (arith, e)));
       released = λ x _. refl;
+      leaves = header_set w.headers slot (header_word leaf label) is_leaf leaf inside header.leaf;
     }
 
 -- the spare buffer names nothing
@@ -238,7 +241,7 @@ module _ (w : Core) (t : ℕ) (q : Private) (b : Contents) (crossing : List ℕ)
           ap (λ (e : ℕ). sum_by weight (births_in e before_crossing.log.entries)) is,
         );
         epochs = record { fields = refl; applied = refl; requested = refl };
-        slots = record { count = λ x _. refl; free = λ x _. refl; released = λ x _. refl };
+        slots = record { count = λ x _. refl; free = λ x _. refl; released = λ x _. refl; leaf = λ x _. refl };
       }
 
   pub crossing_drops : (epoch : ℕ) → w.epoch - 1 ≡ epoch → named before_crossing.log.snapshot ≡ [] → box w t ≡ spare_of w.config → q.log ≡ spare_of w.config → b ≡ record before_crossing.log { snapshot = before_crossing.registers }
@@ -264,5 +267,5 @@ module _ (w : Core) (t : ℕ) (q : Private) (b : Contents) (crossing : List ℕ)
         words = λ weight. refl;
         registers = λ weight. refl;
         epochs = record { fields = refl; applied = refl; requested = refl };
-        slots = record { count = λ x _. refl; free = λ x _. refl; released = λ x _. refl };
+        slots = record { count = λ x _. refl; free = λ x _. refl; released = λ x _. refl; leaf = λ x _. refl };
       }

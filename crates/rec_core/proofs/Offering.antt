@@ -42,6 +42,7 @@ offering_kept w k = record {
   scans = k.scans;
   made = k.made;
   sound = k.sound;
+  greens = k.greens;
   accounted = k.accounted;
   uncounted = k.uncounted;
   cycles = cycles_on (pending w) w.collector w.collector.phase k.cycles;

@@ -1,5 +1,5 @@
 -- What every heap keeps holds as it is opened.
-use Rattle.std.proofs.Common.{◌≡◌, inl, inr, ℕ, ◌+◌, ◌-◌, ◌^◌, ◌<◌, ◌≤◌, zero, suc, List, [], ◌∷◌, ◌++◌, Option, None, Some, slice_index_or, length, map, replicate, refl, sym, ap, subst, ◌∙◌, arith, lit≤, add-one}
+use Rattle.std.proofs.Common.{◌≡◌, inl, inr, ℕ, ◌+◌, ◌-◌, ◌<◌, ◌≤◌, zero, suc, List, [], ◌∷◌, ◌++◌, Option, None, Some, slice_index_or, length, map, replicate, refl, sym, ap, subst, ◌∙◌, arith, lit≤, add-one, lit<, false, slice_set}
 use Rattle.std.proofs.lemmas.Bool.{cases_lt}
 use Rattle.std.proofs.lemmas.List.{get_or_append_left, get_or-append_right, length-replicate, length_push, map_push}
 use Rattle.std.proofs.lemmas.List.Elements.{All-cons, All-replicate}
@@ -11,11 +11,29 @@ use Rattle.rec_mutator.specs.Private.{Private, IsMachine}
 use Rattle.rec_core.specs.Config.{IsConfig, IsMutator}
 use Rattle.rec_core.specs.Core.{sight, mutator, nobody, opened, opened_mutator, opened_mutators}
 use Rattle.rec_core.specs.declared.config.Config.{Config}
+use Rattle.rec_core.specs.Kept.{IsHeader}
+use Rattle.rec_counts.specs.Colour.{is_green}
+use Rattle.rec_counts.specs.Slot.{absent, fresh}
+use Rattle.rec_counts.specs.Counts.{slot_at}
 
 -- a header at opening
-pub small_header : (slots s : ℕ) → slice_index_or {A = ℕ} (1 ∷ replicate (slots - 1) 0) s 0 ≤ 2 ^ 32
-small_header slots zero = lit≤ tt
-small_header slots (suc s) = let free : slice_index_or {A = ℕ} (replicate (slots - 1) 0) s 0 ≡ 0 = nulls_at (slots - 1) s in omega arith
+pub small_header : (slots s : ℕ) → IsHeader (slice_index_or {A = ℕ} (1 ∷ replicate (slots - 1) 0) s 0)
+small_header slots zero = λ some. record { some = lit< tt; few = lit≤ tt; small = lit< tt }
+small_header slots (suc s) = λ some. let free : slice_index_or {A = ℕ} (replicate (slots - 1) 0) s 0 ≡ 0 = nulls_at (slots - 1) s in absurd (omega (arith, some, free))
+
+-- no slot is Green as a heap is opened
+blacks_at : (n x : ℕ) → is_green (slice_index_or (replicate n fresh) x absent).colour ≡ false
+blacks_at zero x = refl
+blacks_at (suc n) zero = refl
+blacks_at (suc n) (suc x) = blacks_at n x
+
+pub opened_black : (config : Config) (x : ℕ) → is_green (slot_at (opened config).collector.counts x).colour ≡ false
+opened_black config x = go config.slots x
+  where
+    go : (n y : ℕ) → is_green (slice_index_or (slice_set (replicate n fresh) 0 (record fresh { count = config.mutators })) y absent).colour ≡ false
+    go zero y = refl
+    go (suc n) zero = refl
+    go (suc n) (suc y) = blacks_at n y
 
 -- the registers of a mutator at opening
 abbrev own_opened : Config → List (Option ℕ)

@@ -1,5 +1,5 @@
 -- What every heap with its collector keeps holds as it is opened.
-use Rattle.std.proofs.Common.{◌≡◌, inl, inr, ℕ, ◌+◌, ◌-◌, ◌*◌, ◌^◌, ◌<◌, ◌≤◌, ◌==◌, zero, suc, false, List, [], ◌∷◌, Option, None, Some, slice_index_or, length, map, flat_map, replicate, refl, sym, ap, subst, ◌∙◌, arith}
+use Rattle.std.proofs.Common.{◌≡◌, inl, inr, ℕ, ◌+◌, ◌-◌, ◌*◌, ◌<◌, ◌≤◌, ◌==◌, zero, suc, false, List, [], ◌∷◌, Option, None, Some, slice_index_or, length, map, flat_map, replicate, refl, sym, ap, subst, ◌∙◌, arith}
 use Rattle.std.specs.List.{sum_by}
 use Rattle.std.proofs.lemmas.Bool.{cases_lt, false≢true}
 use Rattle.std.proofs.lemmas.Bool.Decides.{nat_tests}
@@ -31,13 +31,13 @@ use Rattle.rec_collector.proofs.Opening.{opened_keeps}
 use Rattle.rec_collector.proofs.Following.{none_released}
 use Rattle.rec_core.specs.Config.{IsConfig, IsMutator}
 use Rattle.rec_core.specs.Core.{Core, spare_of, opened, nobody, opened_mutator, opened_mutators}
-use Rattle.rec_core.specs.Kept.{IsOwn, IsBufferOf, IsMadeIn, IsActor, HasCollector, IsScanning, IsKept}
+use Rattle.rec_core.specs.Kept.{IsOwn, IsBufferOf, IsMadeIn, IsActor, HasCollector, IsScanning, IsKept, IsHeader}
 use Rattle.rec_core.specs.Pending.{Filed, buffers, writes_in, births_in, dated_names, dated_all, epoch_at, pending}
 use Rattle.rec_core.specs.declared.config.Config.{Config}
 use Rattle.rec_core.proofs.Actors.{spare_buffer}
 use Rattle.rec_core.proofs.Batches.{none_of}
 use Rattle.rec_core.proofs.CyclesWait.{sets_wait_none}
-use Rattle.rec_core.proofs.OpenedMutators.{small_header, registers_opened, length-opened, opened_at, registers_many, machine_opened as mutator_opened}
+use Rattle.rec_core.proofs.OpenedMutators.{small_header, registers_opened, length-opened, opened_at, registers_many, machine_opened as mutator_opened, opened_black}
 use Rattle.rec_core.proofs.Sums.{share, log_share, buffers_sum}
 use Rattle.rec_core.proofs.Turns.{AddsNothing, writes_nothing, births_nothing, snapshots_nothing}
 
@@ -274,7 +274,7 @@ opened_kept config is =
     record {
       config = is;
       headers = omega arith;
-      labels = All-from_get_or (λ header. header ≤ 2 ^ 32) (1 ∷ replicate (config.slots - 1) 0) 0 (λ i there. small_header config.slots i);
+      labels = All-from_get_or IsHeader (1 ∷ replicate (config.slots - 1) 0) 0 (λ i there. small_header config.slots i);
       mutators = record {
         many = length-opened config config.mutators;
         words = length-replicate config.mutators (crossing_word config.first_epoch Spare);
@@ -285,6 +285,7 @@ opened_kept config is =
       sweeps = record { odd = refl; few = omega arith; some = tt };
       scans = λ t there. subst (λ (p : Private). IsScanning config.slots (opened config).headers 0 p.phase) (sym (one_of config t there)) tt;
       made = omega arith;
+      greens = λ x green. absurd (false≢true (sym (opened_black config x) ∙ green));
       sound = rw (registers_opened config config.mutators) (opening_sound config.slots config.fields config.registers config.mutators slots);
       accounted = opening_accounted (pending (opened config)) config.first_epoch config.mutators (pending_opens config is);
       uncounted = λ unfreed. opening_uncounted (pending (opened config)) config.first_epoch config.mutators (pending_opens config is);

@@ -54,6 +54,7 @@ use Rattle.rec_core.proofs.Preparing.{loads_due}
 use Rattle.rec_core.proofs.Runs.{given_is, move_kept, move_stays, moves_kept}
 use Rattle.rec_core.proofs.Trying.{loads_child, trying_lands}
 use Rattle.rec_core.proofs.Turns.{now_at}
+use Rattle.rec_trial.specs.Rules.{visible}
 
 -- a turn with an operation, up to the next trial
 module _ (w : Core) (op : Op) (kept : IsKept w) (later : IsKept (turned_by w op (cell (cells_of w) op))) (named : ◌≡◌ {A = Option Op} (next_of w.collector) (Some op)) where
@@ -293,7 +294,7 @@ begun_stage w kept later begins =
         let c : collectors.Private = w.collector in
         let word : ℕ = cell (cells_of w) op in
         let fields : ℕ = w.config.fields in
-        let tried : ℕ → State = λ n. (trials.took_of (record { machine = m; counts = c.counts }) n).counts in
+        let tried : ℕ → State = λ n. (trials.took_of (record { machine = m; counts = c.counts }) (visible c.counts n)).counts in
         let s : State = tried word in
         let u : preps.Work = prep_started (record (parts_of c) { counts = s }) in
         let q : collectors.Private = step_of c word (box w (looked_at c.phase)) in

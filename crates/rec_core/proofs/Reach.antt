@@ -10,7 +10,7 @@ use Rattle.rec_word.specs.Word.{target_of}
 use Rattle.rec_word.specs.declared.op.Op.{Op}
 use Rattle.rec_word.specs.declared.op.Op.TheVariants as ops
 use Rattle.rec_model.specs.Accounted.{is_dead, is_node}
-use Rattle.rec_model.specs.Heap.{Heap, roots}
+use Rattle.rec_model.specs.Heap.{Heap, roots, object}
 use Rattle.rec_model.specs.Pending.{Dated, is_at}
 use Rattle.rec_model.specs.Reach.{is_in, named}
 use Rattle.rec_model.specs.References.{count_formula}
@@ -51,6 +51,7 @@ use Rattle.rec_core.proofs.Trying.{loads_child}
 use Rattle.rec_core.proofs.Turns.{now_at}
 use Rattle.rec_core.proofs.Turning.{some_op}
 use Rattle.rec_core.proofs.Words.{IsOwnOp, own_next}
+use Rattle.rec_word.specs.Header.{IsHeaderOf}
 
 -- what is named is named in some epoch
 some_epoch : (n : ℕ) (ds : List Dated) → 0 < sum_by (is_node n) ds → (epoch : ℕ) × (0 < sum_by (is_at epoch n) ds)
@@ -191,19 +192,19 @@ keeps_stands_by heap before after number keeps by =
     record {
       one_to_one = λ s t s_taken t_taken same. by.one_to_one s t (was s s_taken) (was t t_taken) same;
       there = λ s taken. by.there s (was s taken);
-      label = λ s taken. header s taken ∙ by.label s (was s taken);
+      header = λ s taken. subst (IsHeaderOf (object heap (number s)).leaf (object heap (number s)).label) (sym (header s taken)) (by.header s (was s taken));
       registers = by.registers ∙ ap (map (map (option_map number))) (sym keeps.registers);
       fields = λ s later. let from = reached_before after before keeps s later in by.fields s from ∙ ap (map (field_of number)) (sym (keeps.reached s from).1);
     }
 
 -- after an operation of a mutator a taken slot has the header that it had: a claim of it fails
 taken_keeps : (w : Core) (p : Private) (op : Op) (slot : ℕ) → IsOwnOp p op → IsTaken (sight w) slot → slice_index_or (with_cell (cells_of w) op (written op (cell (cells_of w) op))).headers slot 0 ≡ slice_index_or w.headers slot 0
-taken_keeps w p (ops.ClaimHeader s label) slot f taken = elim (cases_eq slot s) [
+taken_keeps w p (ops.ClaimHeader s claimed) slot f taken = elim (cases_eq slot s) [
   | inl same ↦
       let found : slice_index_or w.headers s 0 ≢ 0 = λ none. omega (arith, taken, ap (λ i. slice_index_or w.headers i 0) same, none) in
-      let stays : written (ops.ClaimHeader s label) (slice_index_or w.headers s 0) ≡ slice_index_or w.headers s 0 = cond-false (slice_index_or w.headers s 0 == 0) (label + 1) (slice_index_or w.headers s 0) (ne_eqb (slice_index_or w.headers s 0) 0 found) in
+      let stays : written (ops.ClaimHeader s claimed) (slice_index_or w.headers s 0) ≡ slice_index_or w.headers s 0 = cond-false (slice_index_or w.headers s 0 == 0) claimed (slice_index_or w.headers s 0) (ne_eqb (slice_index_or w.headers s 0) 0 found) in
       ap (λ xs. slice_index_or xs slot 0) (ap (slice_set w.headers s) stays ∙ set-get_or w.headers s 0)
-  | inr other ↦ get_or-set_other w.headers s slot (written (ops.ClaimHeader s label) (slice_index_or w.headers s 0)) 0 other
+  | inr other ↦ get_or-set_other w.headers s slot (written (ops.ClaimHeader s claimed) (slice_index_or w.headers s 0)) 0 other
 ]
 taken_keeps w p (ops.LoadHeader s) slot f taken = ap (λ xs. slice_index_or xs slot 0) (set-get_or w.headers s 0)
 taken_keeps w p (ops.FreeHeader s) slot f taken = absurd f

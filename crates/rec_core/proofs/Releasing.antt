@@ -1,6 +1,6 @@
 -- A word came out of a field of the slot that is released: its target is lowered or decremented, and the next field follows, or the next
 -- of the zeros is released.
-use Rattle.std.proofs.Common.{◌≡◌, ◌⊎◌, inl, inr, ℕ, ◌+◌, ◌<◌, ◌≤◌, Bool, true, Option, None, Some, length, slice_index_or, refl, sym, ap, subst, ◌∙◌, arith}
+use Rattle.std.proofs.Common.{◌≡◌, ◌⊎◌, inl, inr, ℕ, ◌+◌, ◌<◌, ◌≤◌, true, Option, None, Some, length, slice_index_or, refl, sym, ap, subst, ◌∙◌, arith}
 use Rattle.std.proofs.lemmas.Bool.{cases_eq}
 use Rattle.rec_word.specs.Place.{place_of}
 use Rattle.rec_word.specs.Word.{target_of}
@@ -92,7 +92,7 @@ module _ (w : Core) (m : Machine) (a : At) (kept : IsKept w) (phase : w.collecto
       let h = came None refl (λ x f there in_range is. elim (left x f there in_range is) [ inl due ↦ absurd (omega (arith, due.1, in_range, last, fields)) | inr e ↦ inr e ]) in
       let ready : IsReady (emptied off a.slot) = ready_emptied off a.slot (still_released a.slot ∙ at_work.held.released) (ready_off m.lowers c.counts (target_of word) clearing.release.ready) in
       let many : length off.slots ≡ w.config.slots = still_slots ∙ kept.collector.slots in
-      next_come m.fields m.lowers fields (listed_come (emptied off a.slot) h (emptied_alike off a.slot) (emptied_sets off a.slot) ready.free (emptied_kept off a.slot (omega (arith, may_empty.below, many)) (ap (times a.slot) still_free ∙ at_work.held.unlisted) h.landed.counts)) ready
+      next_come m.fields m.lowers (listed_come (emptied off a.slot) h (emptied_alike off a.slot) (emptied_sets off a.slot) ready.free (emptied_kept off a.slot (omega (arith, may_empty.below, many)) (ap (times a.slot) still_free ∙ at_work.held.unlisted) h.landed.counts)) ready
 
   released_comes : HasCome w w.crossing words (with_released m (parts_of c) word)
   released_comes = released_by (HasCome w w.crossing words) m (parts_of c) word clearing.busy

@@ -1,5 +1,5 @@
 -- Each step of a mutator keeps what every heap with its collector keeps.
-use Rattle.std.proofs.Common.{◌≡◌, inl, inr, ℕ, ◌+◌, ◌-◌, ◌*◌, ◌^◌, ◌<◌, ◌≤◌, false, List, [], ◌∷◌, ◌++◌, Option, None, Some, length, slice_index_or, slice_set, refl, sym, ap, subst, ◌∙◌, arith, length-append, add-zero}
+use Rattle.std.proofs.Common.{◌≡◌, inl, inr, ℕ, ◌+◌, ◌-◌, ◌*◌, ◌^◌, ◌<◌, ◌≤◌, false, List, [], ◌∷◌, ◌++◌, Option, None, Some, length, slice_index_or, slice_set, refl, sym, ap, subst, ◌∙◌, arith, length-append, add-zero, Bool, true}
 use Rattle.std.proofs.lemmas.Bool.{false≢true, cases_eq}
 use Rattle.std.proofs.lemmas.List.{length-set, get_or-set_same, get_or-set_other}
 use Rattle.std.proofs.lemmas.List.Elements.{All-set}
@@ -18,9 +18,9 @@ use Rattle.rec_model.proofs.Standing.{register_sound, birth_sound, write_sound}
 use Rattle.rec_log.specs.declared.contents.Contents.{Contents}
 use Rattle.rec_log.specs.declared.entry.Entry.{Entry}
 use Rattle.rec_log.specs.declared.entry.Entry.TheVariants as entries
-use Rattle.rec_model.specs.Asking.{plain}
+use Rattle.rec_model.specs.Asking.{plain, allocation}
 use Rattle.rec_mutator.specs.Causes.{is_giving}
-use Rattle.rec_mutator.specs.Private.{Private, register, word_for, next_stamp}
+use Rattle.rec_mutator.specs.Private.{Private, register, word_for, next_stamp, IsStore}
 use Rattle.rec_mutator.specs.Step.{Step, Decides, HasRoom}
 use Rattle.rec_mutator.specs.declared.phase.Phase as phases
 use Rattle.rec_mutator.specs.declared.phase.Phase.TheVariants as at
@@ -28,9 +28,9 @@ use Rattle.rec_mutator.specs.declared.work.Work.TheVariants as works
 use Rattle.rec_mutator.proofs.Steps.{TakesNone}
 use Rattle.rec_mutator.proofs.Refusals.{at_phase}
 use Rattle.rec_core.specs.Cells.{cell}
-use Rattle.rec_core.specs.Config.{IsMutator}
+use Rattle.rec_core.specs.Config.{IsMutator, HasLabel}
 use Rattle.rec_core.specs.Core.{Core, cells_of, sight, mutator, box, crossing_of, with_mutator}
-use Rattle.rec_core.specs.Kept.{HasLabelAt, HasPassed, IsScanning, entries_made, IsKept, IsActor}
+use Rattle.rec_core.specs.Kept.{HasLabelAt, HasPassed, IsScanning, entries_made, IsKept, IsActor, IsHeader}
 use Rattle.rec_core.specs.Moves.{performed}
 use Rattle.rec_core.specs.Pending.{code, epoch_at, pending}
 use Rattle.rec_core.proofs.Actors.{one_entry, epoch_here}
@@ -41,6 +41,8 @@ use Rattle.rec_core.proofs.Places.{place_within}
 use Rattle.rec_core.proofs.Shapes.{after_cross, after_field, after_header, after_epoch, after_freed, after_probe, after_swap, after_claim}
 use Rattle.rec_word.proofs.Packing.{target_of-packed}
 use Rattle.rec_core.proofs.Steps.{Makes, actor_of, in_list, register_taken, target_taken, taken_slot, held_stays, emptied_stays, changed_kept, moved_accounts, answers, answered_actor, unchanged, sets, goes_on, about_to_cross, registers_stay, registers_set, Answers}
+use Rattle.rec_word.specs.Header.{header_word, is_leaf}
+use Rattle.rec_core.proofs.Headers.{header_is, header_taken}
 
 -- the epoch of a word is that of its stamp
 pub epoch_of_stamp : (x : ℕ) (s : Stamp) → stamp_of x ≡ s → epoch_of x ≡ s.epoch
@@ -86,13 +88,15 @@ module _ {w : Core} {t word : ℕ} {op : Op} {q : Private} (m : Makes w t word o
       omega (arith, same, length-append p.log.entries more)
 
   -- a write of a field
-  puts : (src f val slot : ℕ) → register p src ≡ Some slot → HasRoom p
-      → Decides p op q (commands.Put src f val) (at.Begun (works.Command (commands.Put src f val))) (ops.SwapField (place_of slot f p.fields) (word_for p val)) p.registers
+  puts : (src f val slot : ℕ) → is_leaf (slice_index_or w.headers slot 0) ≡ false
+      → Decides p op q (commands.Put src f val) (at.Storing src f val slot) (ops.SwapField (place_of slot f p.fields) (word_for p val)) p.registers
       (p.log.entries ++ entries.Put (place_of slot f p.fields) (word_for p val) word ∷ []) (record { answer = answers_.Done; saw = word; left = word_for p val })
       → IsKept (record (with_mutator w t q) { words = slice_set w.words (place_of slot f w.config.fields) (word_for p val) })
-  puts src f val slot names room d =
+  puts src f val slot unmarked d =
       let fields : p.fields ≡ w.config.fields = actor.own.fields in
-      let operands = (at_phase p (at.Begun (works.Command (commands.Put src f val))) actor.own.machine d.phase).0 in
+      let store : IsStore p src f val slot = (at_phase p (at.Storing src f val slot) actor.own.machine d.phase).0 in
+      let names : register p src ≡ Some slot = store.source in
+      let operands = store.operands in
       let from : src < length p.registers = operands.0 in
       let own_range : f < p.fields = operands.1 in
       let of : val < length p.registers = operands.2 in
@@ -103,7 +107,8 @@ module _ {w : Core} {t word : ℕ} {op : Op} {q : Private} (m : Makes w t word o
       let left : ℕ = word_for p val in
       let is_word : word ≡ slice_index_or w.words place 0 = m.found ∙ ap (cell (cells_of w)) d.operation ∙ ap (λ n. slice_index_or w.words (place_of slot f n) 0) fields in
       let a = answers refl m (decided_at fields is_word d) in
-      let free : length p.log.entries < p.log.capacity = has_room p actor.own.machine room in
+      let free : length p.log.entries < p.log.capacity = store.room in
+      let room : HasRoom p = λ full. omega (arith, free, full) in
       let stamp : stamp_of left ≡ next_stamp p = word_stamp p val actor.own.machine room in
       let here : epoch_at p ≡ p.epoch = epoch_here p a.here in
       let in_epoch : epoch_of left ≡ epoch_at p = epoch_of_stamp left (next_stamp p) stamp ∙ sym here in
@@ -113,59 +118,56 @@ module _ {w : Core} {t word : ℕ} {op : Op} {q : Private} (m : Makes w t word o
       let holds : Holds (pending w) (epoch_at p) (slot + 1) = names_held w t src slot m.kept m.is from names in
       subst (λ (n : ℕ). IsKept (record (with_mutator w t q) { words = slice_set w.words place left; made = n })) (add-zero w.made)
       (changed_kept w t q w.headers (slice_set w.words place left) 0 m.kept m.is (answered_actor a (one_entry w.config (epoch_at p) p.log _ actor.log free in_epoch)) refl m.kept.labels
-      (emptied_stays w slot f left m.kept in_range (held_stays w t slot m.kept below holds)) (a.scans w.config.slots w.freed w.headers) (λ s is. is)
+      (emptied_stays w slot f left m.kept in_range (held_stays w t slot m.kept below holds)) (a.scans w.config.slots w.freed w.headers) (λ s is. refl)
       (let more = entries_grow p.registers _ a in omega (arith, more))
       (subst (λ (rss : List (List (Option ℕ))). IsSound (record (sight_with_word (sight w) slot f left) { registers = rss })) (sym (registers_stay w t q a.registers_are))
-      (write_sound (sight w) slot f left in_range taken (λ n is. register_taken w m.kept t val n (sym leads ∙ is)) m.kept.sound))
+      (write_sound (sight w) slot f left in_range taken unmarked (λ n is. register_taken w m.kept t val n (sym leads ∙ is)) m.kept.sound))
       (moved_accounts w _ m.kept (Move.put (put_moves w t place left slot val q there (place_there w slot f m.kept below in_range) (home_of slot f w.config.fields in_range) holds
       (λ some. subst (Holds (pending w) (epoch_at p)) (sym node) (has_register w t val there of)) in_epoch a.registers_are a.same a.log)) tt tt))
     where
       decided_at : p.fields ≡ w.config.fields → word ≡ slice_index_or w.words (place_of slot f w.config.fields) 0
-          → Decides p op q (commands.Put src f val) (at.Begun (works.Command (commands.Put src f val))) (ops.SwapField (place_of slot f p.fields) (word_for p val)) p.registers
+          → Decides p op q (commands.Put src f val) (at.Storing src f val slot) (ops.SwapField (place_of slot f p.fields) (word_for p val)) p.registers
           (p.log.entries ++ entries.Put (place_of slot f p.fields) (word_for p val) word ∷ []) (record { answer = answers_.Done; saw = word; left = word_for p val })
-          → Decides p op q (commands.Put src f val) (at.Begun (works.Command (commands.Put src f val))) (ops.SwapField (place_of slot f p.fields) (word_for p val)) p.registers
+          → Decides p op q (commands.Put src f val) (at.Storing src f val slot) (ops.SwapField (place_of slot f p.fields) (word_for p val)) p.registers
           (p.log.entries ++ entries.Put (place_of slot f w.config.fields) (word_for p val) (slice_index_or w.words (place_of slot f w.config.fields) 0) ∷ []) (record { answer = answers_.Done; saw = word; left = word_for p val })
       decided_at fields found is =
-          let P : ℕ → ℕ → Type 0 = λ n x. Decides p op q (commands.Put src f val) (at.Begun (works.Command (commands.Put src f val))) (ops.SwapField (place_of slot f p.fields) (word_for p val)) p.registers
+          let P : ℕ → ℕ → Type 0 = λ n x. Decides p op q (commands.Put src f val) (at.Storing src f val slot) (ops.SwapField (place_of slot f p.fields) (word_for p val)) p.registers
           (p.log.entries ++ entries.Put (place_of slot f n) (word_for p val) x ∷ []) (record { answer = answers_.Done; saw = word; left = word_for p val }) in
           subst (P w.config.fields) found (subst (λ n. P n word) fields is)
 
   -- a birth in a free slot
-  births : (reg label before slot : ℕ) → word ≡ 0 → slice_index_or w.headers slot 0 ≡ 0 → slot < w.config.slots → label < 2 ^ 32
-      → Decides p op q (commands.New reg label) (at.Scanning reg label before slot) (ops.ClaimHeader slot label) (slice_set p.registers reg (Some slot)) (p.log.entries ++ entries.Born slot ∷ []) (plain answers_.Done)
-      → IsKept (record (with_mutator w t q) { headers = slice_set w.headers slot (label + 1); made = w.made + 1 })
-  births reg label before slot free empty below fits d =
-      let scan = (at_phase p (at.Scanning reg label before slot) actor.own.machine d.phase).0 in
+  births : (reg label : ℕ) (leaf : Bool) (before slot : ℕ) → word ≡ 0 → slice_index_or w.headers slot 0 ≡ 0 → slot < w.config.slots → label < 2 ^ 32
+      → Decides p op q (allocation leaf reg label) (at.Scanning reg label leaf before slot) (ops.ClaimHeader slot (header_word leaf label)) (slice_set p.registers reg (Some slot)) (p.log.entries ++ entries.Born slot leaf ∷ []) (plain answers_.Done)
+      → IsKept (record (with_mutator w t q) { headers = slice_set w.headers slot (header_word leaf label); made = w.made + 1 })
+  births reg label leaf before slot free empty below fits d =
+      let scan = (at_phase p (at.Scanning reg label leaf before slot) actor.own.machine d.phase).0 in
       let within : reg < length p.registers = scan.register in
       let room : length p.log.entries < p.log.capacity = scan.room in
       let headers : length w.headers ≡ w.config.slots = kept_headers in
       let inside : slot < length w.headers = omega arith in
       let a = answers refl m d in
-      let seen : Sight = sight_with_header (sight w) slot (label + 1) in
-      let taken : IsTaken seen slot = (let is : slice_index_or (slice_set w.headers slot (label + 1)) slot 0 ≡ label + 1 = get_or-set_same w.headers slot (label + 1) 0 inside in omega arith) in
-      changed_kept w t q (slice_set w.headers slot (label + 1)) w.words 1 m.kept m.is (answered_actor a (one_entry w.config (epoch_at p) p.log _ actor.log room tt)) (length-set w.headers slot (label + 1))
-      (All-set (λ header. header ≤ 2 ^ 32) w.headers slot (label + 1) (omega arith) m.kept.labels) m.kept.collector (a.scans w.config.slots w.freed (slice_set w.headers slot (label + 1))) (more slot label inside)
-      (entries_grow (slice_set p.registers reg (Some slot)) (entries.Born slot ∷ []) a)
+      let seen : Sight = sight_with_header (sight w) slot (header_word leaf label) in
+      let taken : IsTaken seen slot = (let is : slice_index_or (slice_set w.headers slot (header_word leaf label)) slot 0 ≡ header_word leaf label = get_or-set_same w.headers slot (header_word leaf label) 0 inside in omega (arith, is)) in
+      changed_kept w t q (slice_set w.headers slot (header_word leaf label)) w.words 1 m.kept m.is (answered_actor a (one_entry w.config (epoch_at p) p.log _ actor.log room tt)) (length-set w.headers slot (header_word leaf label))
+      (All-set IsHeader w.headers slot (header_word leaf label) (λ _. header_taken leaf label fits) m.kept.labels) m.kept.collector (a.scans w.config.slots w.freed (slice_set w.headers slot (header_word leaf label))) (still slot (header_word leaf label) empty)
+      (entries_grow (slice_set p.registers reg (Some slot)) (entries.Born slot leaf ∷ []) a)
       (subst (λ (rss : List (List (Option ℕ))). IsSound (record seen { registers = rss })) (sym (registers_set w t reg (Some slot) q a.registers_are))
-      (register_sound seen t reg (Some slot) (λ n is. subst (IsTaken seen) (same_Some slot n is) taken) (birth_sound (sight w) slot (label + 1) inside empty m.kept.sound)))
-      (moved_accounts w _ m.kept (Move.birth (birth_moves w t reg slot label q (in_list w t m.kept m.is) within inside empty a.registers_are a.same a.log)) tt tt)
+      (register_sound seen t reg (Some slot) (λ n is. subst (IsTaken seen) (same_Some slot n is) taken) (birth_sound (sight w) slot (header_word leaf label) inside empty m.kept.sound)))
+      (moved_accounts w _ m.kept (Move.birth (birth_moves w t reg slot label leaf q (header_is leaf label fits) (in_list w t m.kept m.is) within inside empty a.registers_are a.same a.log)) tt tt)
     where
       kept_headers : length w.headers ≡ w.config.slots
       kept_headers = m.kept.headers
 
-      more : (x header : ℕ) → x < length w.headers → (s : ℕ) → 0 < slice_index_or w.headers s 0 → 0 < slice_index_or (slice_set w.headers x (header + 1)) s 0
-      more x header inside s some = elim (cases_eq s x) [
-        | inl same ↦ let is : slice_index_or (slice_set w.headers x (header + 1)) s 0 ≡ header + 1 = ap (λ n. slice_index_or (slice_set w.headers x (header + 1)) n 0) same ∙ get_or-set_same w.headers x (header + 1) 0 inside in omega arith
-        | inr other ↦ let is : slice_index_or (slice_set w.headers x (header + 1)) s 0 ≡ slice_index_or w.headers s 0 = get_or-set_other w.headers x s (header + 1) 0 other in omega arith
-      ]
+      still : (x header : ℕ) → slice_index_or w.headers x 0 ≡ 0 → (s : ℕ) → 0 < slice_index_or w.headers s 0 → slice_index_or (slice_set w.headers x header) s 0 ≡ slice_index_or w.headers s 0
+      still x header free s some = get_or-set_other w.headers x s header 0 (λ same. omega (arith, some, free, ap (λ n. slice_index_or w.headers n 0) same))
 
 -- what is known of a scan's slot
 pub scanned : (w : Core) (t : ℕ) (phase : phases.Phase) → IsKept w → IsMutator w.config t → (mutator w t).phase ≡ phase → IsScanning w.config.slots w.headers w.freed phase
 scanned w t phase kept is at = subst (IsScanning w.config.slots w.headers w.freed) at (kept.scans t is)
 
 -- a probe's word
-pub probe_found : (w : Core) (word slot label : ℕ) (op : Op) → word ≡ cell (cells_of w) op → op ≡ ops.ClaimHeader slot label → word ≡ slice_index_or w.headers slot 0
-probe_found w word slot label op found at = found ∙ ap (cell (cells_of w)) at
+pub probe_found : (w : Core) (word slot header : ℕ) (op : Op) → word ≡ cell (cells_of w) op → op ≡ ops.ClaimHeader slot header → word ≡ slice_index_or w.headers slot 0
+probe_found w word slot header op found at = found ∙ ap (cell (cells_of w)) at
 
 -- a scan that passes a taken slot has passed it
 passes : (w : Core) (before slot : ℕ) → HasPassed w.headers w.freed before slot → 0 < slice_index_or w.headers slot 0 → HasPassed w.headers w.freed before (slot + 1)
@@ -178,8 +180,12 @@ passes w before slot is taken = (
 )
 
 -- the label of a scan
-label_at : (w : Core) (t : ℕ) (phase : phases.Phase) → IsKept w → IsMutator w.config t → (mutator w t).phase ≡ phase → HasLabelAt phase
+pub label_at : (w : Core) (t : ℕ) (phase : phases.Phase) → IsKept w → IsMutator w.config t → (mutator w t).phase ≡ phase → HasLabelAt phase
 label_at w t phase kept is at = subst HasLabelAt at (actor_of w t kept is).own.label
+
+begun_label : (reg label : ℕ) (leaf : Bool) → HasLabel (works.Command (allocation leaf reg label)) → label < 2 ^ 32
+begun_label reg label true fits = fits
+begun_label reg label false fits = fits
 
 -- every step that takes no mailbox and gives none back
 pub performed_kept : {w : Core} {t word : ℕ} {op : Op} {q : Private} → is_giving (mutator w t).phase ≡ false → Makes w t word op q → Step (mutator w t) word (box w t) op q → IsKept (performed w t op word q (box w t))
@@ -211,34 +217,38 @@ performed_kept {w = w} {t = t} {word = word} {op = op} {q = q} here m (Step.get 
     (sets dst (target_of word) refl m operands.0 (λ n e. target_taken w m.kept slot f n in_range taken (ap target_of (sym is_word) ∙ e)) (λ some. inr loads) d)
 performed_kept {w = w} {t = t} {word = word} {op = op} {q = q} here m (Step.put_of_null src f val names d) = after_cross IsKept w t _ word q op d.operation m.found (unchanged refl m d)
 performed_kept {w = w} {t = t} {word = word} {op = op} {q = q} here m (Step.put_refused src f val slot names full d) = after_cross IsKept w t _ word q op d.operation m.found (unchanged refl m d)
-performed_kept {w = w} {t = t} {word = word} {op = op} {q = q} here m (Step.put src f val slot names room d) =
+performed_kept {w = w} {t = t} {word = word} {op = op} {q = q} here m (Step.put_into_leaf src f val slot names room leaf d) = after_header IsKept w t _ word q op d.operation m.found (unchanged refl m d)
+performed_kept {w = w} {t = t} {word = word} {op = op} {q = q} here m (Step.put_begins src f val slot names room unmarked g) =
+    let header : word ≡ slice_index_or w.headers slot 0 = m.found ∙ ap (cell (cells_of w)) g.operation in
+    after_header IsKept w t _ word q op g.operation m.found (goes_on refl m tt tt (sym (ap is_leaf header) ∙ unmarked) g)
+performed_kept {w = w} {t = t} {word = word} {op = op} {q = q} here m (Step.put src f val slot d) =
     let fields : (mutator w t).fields ≡ w.config.fields = (actor m).own.fields in
     after_swap IsKept w t _ _ word q op d.operation
-    (subst (λ n. IsKept (record (with_mutator w t q) { words = slice_set w.words (place_of slot f n) (word_for (mutator w t) val) })) (sym fields) (puts m src f val slot names room d))
+    (subst (λ n. IsKept (record (with_mutator w t q) { words = slice_set w.words (place_of slot f n) (word_for (mutator w t) val) })) (sym fields) (puts m src f val slot (scanned w t (at.Storing src f val slot) m.kept m.is d.phase) d))
 performed_kept {w = w} {t = t} {word = word} {op = op} {q = q} here m (Step.value_of_null reg names d) = after_cross IsKept w t _ word q op d.operation m.found (unchanged refl m d)
 performed_kept {w = w} {t = t} {word = word} {op = op} {q = q} here m (Step.value reg slot names d) = after_header IsKept w t _ word q op d.operation m.found (unchanged refl m d)
-performed_kept {w = w} {t = t} {word = word} {op = op} {q = q} here m (Step.new_refused reg label full d) = after_cross IsKept w t _ word q op d.operation m.found (unchanged refl m d)
-performed_kept {w = w} {t = t} {word = word} {op = op} {q = q} here m (Step.new_begins reg label room g) =
+performed_kept {w = w} {t = t} {word = word} {op = op} {q = q} here m (Step.new_refused reg label leaf full d) = after_cross IsKept w t _ word q op d.operation m.found (unchanged refl m d)
+performed_kept {w = w} {t = t} {word = word} {op = op} {q = q} here m (Step.new_begins reg label leaf room g) =
     let freed : word ≡ w.freed = m.found ∙ ap (cell (cells_of w)) g.operation in
-    after_freed IsKept w t word q op g.operation m.found (goes_on refl m tt (label_at w t _ m.kept m.is g.phase) (omega (arith, freed), λ _ _ s below. absurd (omega arith)) g)
-performed_kept {w = w} {t = t} {word = word} {op = op} {q = q} here m (Step.new_wins reg label before slot free d) =
+    after_freed IsKept w t word q op g.operation m.found (goes_on refl m tt (begun_label reg label leaf (label_at w t _ m.kept m.is g.phase)) (omega (arith, freed), λ _ _ s below. absurd (omega arith)) g)
+performed_kept {w = w} {t = t} {word = word} {op = op} {q = q} here m (Step.new_wins reg label leaf before slot free d) =
     let p : Private = mutator w t in
     let slots : p.slots ≡ w.config.slots = (actor m).own.slots in
-    let there : slot < p.slots = (at_phase p (at.Scanning reg label before slot) (actor m).own.machine d.phase).1 in
-    let header : slice_index_or w.headers slot 0 ≡ 0 = sym (probe_found w word slot label op m.found d.operation) ∙ free in
-    after_claim IsKept w t slot label word q op d.operation free (births m reg label before slot free header (omega arith) (label_at w t (at.Scanning reg label before slot) m.kept m.is d.phase) d)
-performed_kept {w = w} {t = t} {word = word} {op = op} {q = q} here m (Step.new_goes_on reg label before slot taken more g) =
-    let header : word ≡ slice_index_or w.headers slot 0 = probe_found w word slot label op m.found g.operation in
-    after_probe IsKept w t slot label word q op g.operation m.found taken
-    (goes_on refl m tt (label_at w t (at.Scanning reg label before slot) m.kept m.is g.phase) (passes w before slot (scanned w t (at.Scanning reg label before slot) m.kept m.is g.phase) (omega arith)) g)
-performed_kept {w = w} {t = t} {word = word} {op = op} {q = q} here m (Step.new_finds_none reg label before slot taken last g) =
-    let header : word ≡ slice_index_or w.headers slot 0 = probe_found w word slot label op m.found g.operation in
+    let there : slot < p.slots = (at_phase p (at.Scanning reg label leaf before slot) (actor m).own.machine d.phase).1 in
+    let header : slice_index_or w.headers slot 0 ≡ 0 = sym (probe_found w word slot (header_word leaf label) op m.found d.operation) ∙ free in
+    after_claim IsKept w t slot (header_word leaf label) word q op d.operation free (births m reg label leaf before slot free header (omega arith) (label_at w t (at.Scanning reg label leaf before slot) m.kept m.is d.phase) d)
+performed_kept {w = w} {t = t} {word = word} {op = op} {q = q} here m (Step.new_goes_on reg label leaf before slot taken more g) =
+    let header : word ≡ slice_index_or w.headers slot 0 = probe_found w word slot (header_word leaf label) op m.found g.operation in
+    after_probe IsKept w t slot (header_word leaf label) word q op g.operation m.found taken
+    (goes_on refl m tt (label_at w t (at.Scanning reg label leaf before slot) m.kept m.is g.phase) (passes w before slot (scanned w t (at.Scanning reg label leaf before slot) m.kept m.is g.phase) (omega arith)) g)
+performed_kept {w = w} {t = t} {word = word} {op = op} {q = q} here m (Step.new_finds_none reg label leaf before slot taken last g) =
+    let header : word ≡ slice_index_or w.headers slot 0 = probe_found w word slot (header_word leaf label) op m.found g.operation in
     let slots : (mutator w t).slots ≡ w.config.slots = (actor m).own.slots in
     let all : slot + 1 ≡ w.config.slots = last ∙ slots in
-    after_probe IsKept w t slot label word q op g.operation m.found taken
-    (goes_on refl m tt tt (subst (HasPassed w.headers w.freed before) all (passes w before slot (scanned w t (at.Scanning reg label before slot) m.kept m.is g.phase) (omega arith))) g)
-performed_kept {w = w} {t = t} {word = word} {op = op} {q = q} here m (Step.new_is_full reg label before still d) = after_freed IsKept w t word q op d.operation m.found (unchanged refl m d)
-performed_kept {w = w} {t = t} {word = word} {op = op} {q = q} here m (Step.new_is_busy reg label before moves d) = after_freed IsKept w t word q op d.operation m.found (unchanged refl m d)
+    after_probe IsKept w t slot (header_word leaf label) word q op g.operation m.found taken
+    (goes_on refl m tt tt (subst (HasPassed w.headers w.freed before) all (passes w before slot (scanned w t (at.Scanning reg label leaf before slot) m.kept m.is g.phase) (omega arith))) g)
+performed_kept {w = w} {t = t} {word = word} {op = op} {q = q} here m (Step.new_is_full reg label leaf before still d) = after_freed IsKept w t word q op d.operation m.found (unchanged refl m d)
+performed_kept {w = w} {t = t} {word = word} {op = op} {q = q} here m (Step.new_is_busy reg label leaf before moves d) = after_freed IsKept w t word q op d.operation m.found (unchanged refl m d)
 performed_kept {w = w} {t = t} {word = word} {op = op} {q = q} here m (Step.poll_stays own g) = after_epoch IsKept w t word q op g.operation m.found (goes_on refl m tt tt tt g)
 performed_kept {w = w} {t = t} {word = word} {op = op} {q = q} here m (Step.poll_crosses other g) = after_epoch IsKept w t word q op g.operation m.found (about_to_cross m other g)
 performed_kept here m (Step.take_box c) = absurd (subst TakesNone c.phase m.none)

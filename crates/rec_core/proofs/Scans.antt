@@ -1,9 +1,9 @@
 -- An allocation that is answered Full or Busy has claimed each header, and found each taken.
-use Rattle.std.proofs.Common.{◌≡◌, ◌≢◌, inl, inr, ℕ, ◌-◌, ◌==◌, true, Option, None, Some, List, [], ◌∷◌, ◌++◌, fold, slice_index_or, slice_set, refl, arith, sym, ◌∙◌, ap, subst}
+use Rattle.std.proofs.Common.{◌≡◌, ◌≢◌, inl, inr, ℕ, ◌-◌, ◌==◌, true, Option, None, Some, List, [], ◌∷◌, ◌++◌, fold, slice_index_or, slice_set, refl, arith, sym, ◌∙◌, ap, subst, Bool}
 use Rattle.std.proofs.lemmas.Bool.{cases_eq, cond-true, cond-false, eq-eqb, ne_eqb}
 use Rattle.std.proofs.lemmas.List.{get_or-set_other}
 use Rattle.rec_word.specs.declared.op.Op.{Op}
-use Rattle.rec_model.specs.declared.command.Cmd.TheVariants as commands
+use Rattle.rec_model.specs.Asking.{allocation}
 use Rattle.rec_model.specs.declared.told.Told.{Told}
 use Rattle.rec_mutator.specs.Causes.{FoundNone, HasCause}
 use Rattle.rec_mutator.specs.Next.{next_of}
@@ -26,12 +26,13 @@ use Rattle.rec_core.proofs.Runs.{move_kept}
 use Rattle.rec_core.proofs.Showing.{step_caused, stepped_mutator}
 use Rattle.rec_core.proofs.Steps.{actor_of}
 use Rattle.rec_core.proofs.Unfinished.{work_stays}
+use Rattle.rec_word.specs.Header.{header_word}
 
 -- a command in work takes no mailbox
-command_none : (reg label : ℕ) (phase : Phase) → work_at phase ≡ Some (works.Command (commands.New reg label)) → TakesNone phase
-command_none reg label Crossing e = cc
-command_none reg label Swapping e = cc
-command_none reg label _ e = tt
+command_none : (reg label : ℕ) (leaf : Bool) (phase : Phase) → work_at phase ≡ Some (works.Command (allocation leaf reg label)) → TakesNone phase
+command_none reg label leaf Crossing e = cc
+command_none reg label leaf Swapping e = cc
+command_none reg label leaf _ e = tt
 
 -- another mutator stays
 other_stays : (w : Core) (s t : ℕ) (p : Private) → IsMutator w.config s → IsMutator w.config t → s ≢ t → mutator (record w { mutators = slice_set w.mutators (s - 1) p }) t ≡ mutator w t
@@ -46,41 +47,41 @@ turn_leaves w = go (collector_next w.collector)
     go (Some op) = (refl, refl)
 
 -- what a mutator that works on an allocation has become over some moves: its steps alone have changed it
-record HasCome (w v : Core) (t reg label : ℕ) (made : List Op) (words : List ℕ) : Type 0 where
+record HasCome (w v : Core) (t reg label : ℕ) (leaf : Bool) (made : List Op) (words : List ℕ) : Type 0 where
   pub kept : IsKept v
   pub config : v.config ≡ w.config
   pub came : mutator v t ≡ fold took_of (mutator w t) words
   pub along : made ≡ ops_along (mutator w t) words
-  pub work : work_of (mutator v t) ≡ Some (works.Command (commands.New reg label))
+  pub work : work_of (mutator v t) ≡ Some (works.Command (allocation leaf reg label))
 
 -- it has not changed yet
-same_come : (w v z : Core) (t reg label : ℕ) (made : List Op) (words : List ℕ) → mutator v t ≡ mutator w t → v.config ≡ w.config → HasCome v z t reg label made words → HasCome w z t reg label made words
-same_come w v z t reg label made words e c h =
+same_come : (w v z : Core) (t reg label : ℕ) (leaf : Bool) (made : List Op) (words : List ℕ) → mutator v t ≡ mutator w t → v.config ≡ w.config → HasCome v z t reg label leaf made words → HasCome w z t reg label leaf made words
+same_come w v z t reg label leaf made words e c h =
     record { kept = h.kept; config = h.config ∙ c; came = h.came ∙ ap (λ p. fold took_of p words) e; along = h.along ∙ ap (λ p. ops_along p words) e; work = h.work }
 
 -- by equal operations and words
-come_by : (w v : Core) (t reg label : ℕ) {made its : List Op} {words found : List ℕ} → made ≡ its → words ≡ found → HasCome w v t reg label made words → HasCome w v t reg label its found
-come_by w v t reg label {made = made} {its = its} {words = words} ops are h = subst (HasCome w v t reg label its) are (subst (λ xs. HasCome w v t reg label xs words) ops h)
+come_by : (w v : Core) (t reg label : ℕ) (leaf : Bool) {made its : List Op} {words found : List ℕ} → made ≡ its → words ≡ found → HasCome w v t reg label leaf made words → HasCome w v t reg label leaf its found
+come_by w v t reg label leaf {made = made} {its = its} {words = words} ops are h = subst (HasCome w v t reg label leaf its) are (subst (λ xs. HasCome w v t reg label leaf xs words) ops h)
 
-come : (ms : List Move) (w : Core) (t reg label : ℕ) → IsKept w → IsMutator w.config t → work_of (mutator w t) ≡ Some (works.Command (commands.New reg label)) → AllFit w ms → BeginsNone t ms
-    → HasCome w (after_moves w ms) t reg label (ops_over w t ms) (words_over w t ms)
-come [] w t reg label kept is work fit none = record { kept = kept; config = refl; came = refl; along = refl; work = work }
-come (Move.Begins s its ∷ ms) w t reg label kept is work fit none =
+come : (ms : List Move) (w : Core) (t reg label : ℕ) (leaf : Bool) → IsKept w → IsMutator w.config t → work_of (mutator w t) ≡ Some (works.Command (allocation leaf reg label)) → AllFit w ms → BeginsNone t ms
+    → HasCome w (after_moves w ms) t reg label leaf (ops_over w t ms) (words_over w t ms)
+come [] w t reg label leaf kept is work fit none = record { kept = kept; config = refl; came = refl; along = refl; work = work }
+come (Move.Begins s its ∷ ms) w t reg label leaf kept is work fit none =
     let v : Core = begun w s its in
     let same : mutator v t ≡ mutator w t = other_stays w s t (begun_of (mutator w s) its) fit.0.0 is none.0 in
-    same_come w v (after_moves v ms) t reg label (ops_over v t ms) (words_over v t ms) same refl (come ms v t reg label (move_kept w (Move.Begins s its) kept fit.0) is (ap work_of same ∙ work) fit.1 none.1)
-come (Move.Steps s ∷ ms) w t reg label kept is work fit none = elim (cases_eq s t) [
+    same_come w v (after_moves v ms) t reg label leaf (ops_over v t ms) (words_over v t ms) same refl (come ms v t reg label leaf (move_kept w (Move.Begins s its) kept fit.0) is (ap work_of same ∙ work) fit.1 none.1)
+come (Move.Steps s ∷ ms) w t reg label leaf kept is work fit none = elim (cases_eq s t) [
   | inl e ↦
       let v : Core = stepped w s in
       let busy : is_busy (mutator w t) ≡ true = subst (λ u. is_busy (mutator w u) ≡ true) e fit.0.1 in
-      let takes : TakesNone (mutator w t).phase = command_none reg label (mutator w t).phase work in
+      let takes : TakesNone (mutator w t).phase = command_none reg label leaf (mutator w t).phase work in
       let here : mutator v t ≡ took_of (mutator w t) (found_by w t) =
       subst (λ u. mutator (stepped w u) t ≡ took_of (mutator w t) (found_by w t)) (sym e) (stepped_mutator w t kept is ∙ here_same (mutator w t) (found_by w t) (box w t) busy takes) in
       let stays : work_of (mutator v t) ≡ work_of (mutator w t) = subst (λ u. work_of (mutator (stepped w u) t) ≡ work_of (mutator w t)) (sym e) (work_stays w t kept is busy) in
-      let rest : HasCome v (after_moves v ms) t reg label (ops_over v t ms) (words_over v t ms) = come ms v t reg label (move_kept w (Move.Steps s) kept fit.0) is (stays ∙ work) fit.1 none in
+      let rest : HasCome v (after_moves v ms) t reg label leaf (ops_over v t ms) (words_over v t ms) = come ms v t reg label leaf (move_kept w (Move.Steps s) kept fit.0) is (stays ∙ work) fit.1 none in
       let words : words_over w t (Move.Steps s ∷ ms) ≡ found_by w t ∷ words_over v t ms = ap (λ xs. xs ++ words_over v t ms) (cond-true (s == t) (found_by w t ∷ []) [] (eq-eqb s t e)) in
       let ops : ops_over w t (Move.Steps s ∷ ms) ≡ next_of (mutator w t) ∷ ops_over v t ms = ap (λ xs. xs ++ ops_over v t ms) (cond-true (s == t) (next_of (mutator w t) ∷ []) [] (eq-eqb s t e)) in
-      come_by w (after_moves v ms) t reg label (sym ops) (sym words)
+      come_by w (after_moves v ms) t reg label leaf (sym ops) (sym words)
       (record {
         kept = rest.kept;
         config = rest.config;
@@ -93,30 +94,30 @@ come (Move.Steps s ∷ ms) w t reg label kept is work fit none = elim (cases_eq 
       let same : mutator v t ≡ mutator w t = other_stays w s t (step_of (mutator w s) (found_by w s) (box w s)) fit.0.0 is e in
       let words : words_over w t (Move.Steps s ∷ ms) ≡ words_over v t ms = ap (λ xs. xs ++ words_over v t ms) (cond-false (s == t) (found_by w t ∷ []) [] (ne_eqb s t e)) in
       let ops : ops_over w t (Move.Steps s ∷ ms) ≡ ops_over v t ms = ap (λ xs. xs ++ ops_over v t ms) (cond-false (s == t) (next_of (mutator w t) ∷ []) [] (ne_eqb s t e)) in
-      come_by w (after_moves v ms) t reg label (sym ops) (sym words)
-      (same_come w v (after_moves v ms) t reg label (ops_over v t ms) (words_over v t ms) same refl (come ms v t reg label (move_kept w (Move.Steps s) kept fit.0) is (ap work_of same ∙ work) fit.1 none))
+      come_by w (after_moves v ms) t reg label leaf (sym ops) (sym words)
+      (same_come w v (after_moves v ms) t reg label leaf (ops_over v t ms) (words_over v t ms) same refl (come ms v t reg label leaf (move_kept w (Move.Steps s) kept fit.0) is (ap work_of same ∙ work) fit.1 none))
 ]
-come (Move.Turns ∷ ms) w t reg label kept is work fit none =
+come (Move.Turns ∷ ms) w t reg label leaf kept is work fit none =
     let v : Core = turned w in
     let same : mutator v t ≡ mutator w t = ap (λ ps. slice_index_or ps (t - 1) nobody) (turn_leaves w).0 in
-    same_come w v (after_moves v ms) t reg label (ops_over v t ms) (words_over v t ms) same (turn_leaves w).1
-    (come ms v t reg label (move_kept w Move.Turns kept fit.0) (subst (λ c. IsMutator c t) (sym (turn_leaves w).1) is) (ap work_of same ∙ work) fit.1 none)
-come (Move.Offers ∷ ms) w t reg label kept is work fit none =
+    same_come w v (after_moves v ms) t reg label leaf (ops_over v t ms) (words_over v t ms) same (turn_leaves w).1
+    (come ms v t reg label leaf (move_kept w Move.Turns kept fit.0) (subst (λ c. IsMutator c t) (sym (turn_leaves w).1) is) (ap work_of same ∙ work) fit.1 none)
+come (Move.Offers ∷ ms) w t reg label leaf kept is work fit none =
     let v : Core = after_move w Move.Offers in
-    same_come w v (after_moves v ms) t reg label (ops_over v t ms) (words_over v t ms) refl refl (come ms v t reg label (move_kept w Move.Offers kept fit.0) is work fit.1 none)
+    same_come w v (after_moves v ms) t reg label leaf (ops_over v t ms) (words_over v t ms) refl refl (come ms v t reg label leaf (move_kept w Move.Offers kept fit.0) is work fit.1 none)
 
-pub fails_by_probes : (w : Core) (moves : List Move) (t reg label : ℕ) (told : Told) → IsKept w → IsMutator w.config t → (mutator w t).phase ≡ Begun (works.Command (commands.New reg label)) → AllFit w moves → BeginsNone t moves
-    → is_busy (mutator (after_moves w moves) t) ≡ true → answer_of (mutator (stepped (after_moves w moves) t) t) ≡ Some (makes.Answered told) → FailsByProbes w t label moves (after_moves w moves) told.answer
-fails_by_probes w moves t reg label told kept is begin fit none busy answer =
+pub fails_by_probes : (w : Core) (moves : List Move) (t reg label : ℕ) (leaf : Bool) (told : Told) → IsKept w → IsMutator w.config t → (mutator w t).phase ≡ Begun (works.Command (allocation leaf reg label)) → AllFit w moves → BeginsNone t moves
+    → is_busy (mutator (after_moves w moves) t) ≡ true → answer_of (mutator (stepped (after_moves w moves) t) t) ≡ Some (makes.Answered told) → FailsByProbes w t (header_word leaf label) moves (after_moves w moves) told.answer
+fails_by_probes w moves t reg label leaf told kept is begin fit none busy answer =
     let v : Core = after_moves w moves in
-    let h : HasCome w v t reg label (ops_over w t moves) (words_over w t moves) = come moves w t reg label kept is (ap work_at begin) fit none in
+    let h : HasCome w v t reg label leaf (ops_over w t moves) (words_over w t moves) = come moves w t reg label leaf kept is (ap work_at begin) fit none in
     let there : IsMutator v.config t = subst (λ c. IsMutator c t) (sym h.config) is in
-    let cause : HasCause (mutator v t) (mutator (stepped v t) t) (commands.New reg label) (found_by v t) told.answer = step_caused v t (commands.New reg label) told h.kept there busy h.work answer in
+    let cause : HasCause (mutator v t) (mutator (stepped v t) t) (allocation leaf reg label) (found_by v t) told.answer = step_caused v t (allocation leaf reg label) told h.kept there busy h.work answer in
     let slots : (mutator v t).slots ≡ w.config.slots = (actor_of v t h.kept there).own.slots ∙ ap (λ c. c.slots) h.config in
     let words : List ℕ = words_over w t moves in
-    let probed : (before : ℕ) → FoundNone (mutator v t) before → FailsScan label w.config.slots before (ops_over w t moves) words = λ before found.
-    subst (λ xs. FailsScan label w.config.slots before xs words) (sym h.along)
-    (subst (λ n. FailsScan label n before (ops_along (mutator w t) words) words) slots (found.every (mutator w t) words (record { reg = reg; label = label; begun = begin; came = h.came }))) in
+    let probed : (before : ℕ) → FoundNone (mutator v t) before → FailsScan (header_word leaf label) w.config.slots before (ops_over w t moves) words = λ before found.
+    subst (λ xs. FailsScan (header_word leaf label) w.config.slots before xs words) (sym h.along)
+    (subst (λ n. FailsScan (header_word leaf label) n before (ops_along (mutator w t) words) words) slots (found.every (mutator w t) words (record { reg = reg; label = label; leaf = leaf; begun = begin; came = h.came }))) in
     record {
       full = λ e. let f = cause.full.0 e in (f.0, probed f.0 f.1, f.2);
       busy = λ before after e. let f = (cause.busy before after).0 e in (probed before f.0, f.1, λ still. f.2 (subst (λ n. IsStill before n) f.1 still));

@@ -45,6 +45,7 @@ use Rattle.rec_core.proofs.CyclesTest.{IsJudged, set_given_up, sets_test_alike, 
 use Rattle.rec_core.proofs.Landed.{landed_pending, HasLanded, HasCleared, applied_pending, begun_freeing}
 use Rattle.rec_core.proofs.Landings.{IsUnswept, goes_on, trial_begins}
 use Rattle.rec_core.proofs.Zeros.{HasCome, AreEmpty, cleared, empty_uncounted, landed_empty, some_fields, zeros_come}
+use Rattle.rec_collector.proofs.Greens.{given_greens, refurbished_greens}
 
 -- what stands in a list stands at a place of it
 record StandsAt (x : ℕ) (xs : List ℕ) : Type 0 where
@@ -122,6 +123,7 @@ module _ (w : Core) (crossing words : List ℕ) (v : Parts) (h : HasCleared w cr
           older = l.older;
           mutators = l.mutators;
           accounted = given.0;
+          greens = λ x green. l.greens x (given_greens s x green);
           uncounted = λ unstarted.
               let no_members : last_set s.sets ≡ [] = nothing_first (last_set s.sets) (first_none (slice_get (last_set s.sets) 0) (sym due ∙ unstarted)) in
               empty_uncounted (applied_pending w) words w.config.slots (given_up s) (some_fields l) many places (λ x f below within is. elim (before x is) [
@@ -162,6 +164,7 @@ module _ (w : Core) (crossing words : List ℕ) (v : Parts) (h : HasCleared w cr
           older = l.older;
           mutators = l.mutators;
           accounted = alike.0;
+          greens = λ x green. l.greens x (refurbished_greens s t r x green);
           uncounted = λ none node pos is. (same node).0 ∙ l.uncounted refl node pos (sym (same node).1 ∙ is);
           sound = l.sound;
           many_words = l.many_words;

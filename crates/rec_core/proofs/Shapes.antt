@@ -51,9 +51,9 @@ after_freed P w t word q op is found p =
     subst (λ o. P (performed w t o word q (box w t))) (sym is) (rw (at, same_boxes w t, add-zero w.made) p)
 
 -- after a claim that found a taken slot
-pub after_probe : (P : Core → Type 0) (w : Core) (t slot label word : ℕ) (q : Private) (op : Op) → op ≡ ops.ClaimHeader slot label → word ≡ cell (cells_of w) op → word ≢ 0 → P (with_mutator w t q) → P (performed w t op word q (box w t))
-after_probe P w t slot label word q op is found taken p =
-    let at : word ≡ cell (cells_of w) (ops.ClaimHeader slot label) = found ∙ ap (cell (cells_of w)) is in
+pub after_probe : (P : Core → Type 0) (w : Core) (t slot header word : ℕ) (q : Private) (op : Op) → op ≡ ops.ClaimHeader slot header → word ≡ cell (cells_of w) op → word ≢ 0 → P (with_mutator w t q) → P (performed w t op word q (box w t))
+after_probe P w t slot header word q op is found taken p =
+    let at : word ≡ cell (cells_of w) (ops.ClaimHeader slot header) = found ∙ ap (cell (cells_of w)) is in
     let same : slice_set w.headers slot word ≡ w.headers = ap (slice_set w.headers slot) at ∙ set-get_or w.headers slot 0 in
     subst (λ o. P (performed w t o word q (box w t))) (sym is) (rw (ne_eqb word 0 taken, same, same_boxes w t, add-zero w.made) p)
 
@@ -62,8 +62,8 @@ pub after_swap : (P : Core → Type 0) (w : Core) (t place new word : ℕ) (q : 
 after_swap P w t place new word q op is p = subst (λ o. P (performed w t o word q (box w t))) (sym is) (rw (same_boxes w t, add-zero w.made) p)
 
 -- after a claim that found a free slot
-pub after_claim : (P : Core → Type 0) (w : Core) (t slot label word : ℕ) (q : Private) (op : Op) → op ≡ ops.ClaimHeader slot label → word ≡ 0 → P (record (with_mutator w t q) { headers = slice_set w.headers slot (label + 1); made = w.made + 1 }) → P (performed w t op word q (box w t))
-after_claim P w t slot label word q op is free p = subst (λ o. P (performed w t o word q (box w t))) (sym is) (rw (eq-eqb word 0 free, same_boxes w t) p)
+pub after_claim : (P : Core → Type 0) (w : Core) (t slot header word : ℕ) (q : Private) (op : Op) → op ≡ ops.ClaimHeader slot header → word ≡ 0 → P (record (with_mutator w t q) { headers = slice_set w.headers slot header; made = w.made + 1 }) → P (performed w t op word q (box w t))
+after_claim P w t slot header word q op is free p = subst (λ o. P (performed w t o word q (box w t))) (sym is) (rw (eq-eqb word 0 free, same_boxes w t) p)
 
 -- what holds with crossing word, mutator and mailbox replaced holds after the mailbox was taken
 pub after_take : (P : Core → Type 0) (w : Core) (t n epoch word : ℕ) (q : Private) (b : Contents) (op : Op) → op ≡ ops.TakeBox n epoch

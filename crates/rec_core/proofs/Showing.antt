@@ -15,13 +15,13 @@ use Rattle.rec_model.specs.declared.answer.Answer.TheVariants as answers
 use Rattle.rec_model.specs.declared.command.Cmd.{Cmd}
 use Rattle.rec_model.specs.declared.command.Cmd.TheVariants as commands
 use Rattle.rec_model.specs.declared.told.Told.{Told}
-use Rattle.rec_model.proofs.Answered.{null_explained, copy_explained, same_explained, get_of_null, get_explained, put_of_null, put_refused, put_explained, new_explained, new_refused, value_of_null, value_explained}
+use Rattle.rec_model.proofs.Answered.{null_explained, copy_explained, same_explained, get_of_null, get_explained, put_of_null, put_refused, put_into_leaf, put_explained, birth_explained, birth_refused, value_of_null, value_explained}
 use Rattle.rec_log.specs.declared.contents.Contents.{Contents}
 use Rattle.rec_log.specs.declared.entry.Entry.{Entry}
 use Rattle.rec_log.specs.declared.entry.Entry.TheVariants as entries_
 use Rattle.rec_mutator.specs.Causes.{HasCause, is_refusal, is_giving}
-use Rattle.rec_mutator.specs.Private.{Private, register as register_of, word_for, is_busy, work_of, work_at, answer_of, answer_at}
-use Rattle.rec_mutator.specs.Step.{Step, Decides, GoesOn}
+use Rattle.rec_mutator.specs.Private.{Private, register as register_of, word_for, is_busy, work_of, work_at, answer_of, answer_at, IsStore}
+use Rattle.rec_mutator.specs.Step.{Step, Decides, GoesOn, HasRoom}
 use Rattle.rec_mutator.specs.Next.{next_of}
 use Rattle.rec_mutator.specs.Took.{moved, took_of, step_of, left_of, IsBetween}
 use Rattle.rec_mutator.specs.declared.made.Made.{Made}
@@ -40,9 +40,11 @@ use Rattle.rec_core.specs.Shown.{IsFilled, may_answer, entries_of, sight_told, s
 use Rattle.rec_core.specs.Unfinished.{OnlyWorks, IsQuiet, HasFound}
 use Rattle.rec_core.proofs.Crossings.{takes, left_same}
 use Rattle.rec_mutator.proofs.LogStamps.{word_stamp}
-use Rattle.rec_core.proofs.Rules.{word_found, probe_found, scanned, leads_to}
+use Rattle.rec_core.proofs.Rules.{word_found, probe_found, scanned, leads_to, label_at}
 use Rattle.rec_core.proofs.Shapes.{after_cross, after_field, after_header, after_epoch, after_freed, after_probe, after_swap, after_claim, after_take, after_give}
 use Rattle.rec_core.proofs.Steps.{actor_of, in_list, own_register, registers_stay, registers_set}
+use Rattle.rec_word.specs.Header.{header_word, is_leaf, label_of}
+use Rattle.rec_core.proofs.Headers.{header_is}
 
 -- What is said of a step after which mutator `t` is `q`: it decides a command, and a refusal changes nothing but the work; or the
 -- work goes on; or the mutator holds its mailbox now; or a poll finishes, in the same epoch or in the next one.
@@ -228,11 +230,22 @@ says {w = w} {t = t} {word = word} {op = op} {q = q} m (Step.put_refused src f v
     let there : register (sight w).registers t src ≡ Some slot = own_register w t src ∙ names in
     after_cross (Says w t q) w t _ word q op d.operation m.found
     (refuses refl m d (tells (put_refused (sight w) t src f val slot there) (ap (λ (x : Option ℕ). sight_after_put (sight w) f x false 0) (sym there)) refl (λ is. cc) refl refl refl))
-says {w = w} {t = t} {word = word} {op = op} {q = q} m (Step.put src f val slot names room d) =
+says {w = w} {t = t} {word = word} {op = op} {q = q} m (Step.put_into_leaf src f val slot names room leaf d) =
+    let there : register (sight w).registers t src ≡ Some slot = own_register w t src ∙ names in
+    let is_word : word ≡ slice_index_or w.headers slot 0 = m.found ∙ ap (cell (cells_of w)) d.operation in
+    after_header (Says w t q) w t _ word q op d.operation m.found
+    (refuses refl m d (tells (put_into_leaf (sight w) t src f val slot m.kept.sound there (sym (ap is_leaf is_word) ∙ leaf)) (ap (λ (x : Option ℕ). sight_after_put (sight w) f x false 0) (sym there)) refl (λ is. cc) refl refl refl))
+says {w = w} {t = t} {word = word} {op = op} {q = q} m (Step.put_begins src f val slot names room unmarked g) =
+    after_header (Says w t q) w t _ word q op g.operation m.found (going_on m refl (λ _. tt) g)
+says {w = w} {t = t} {word = word} {op = op} {q = q} m (Step.put src f val slot d) =
     let p : Private = mutator w t in
     let own = (actor_of w t m.kept m.is).own in
+    let store : IsStore p src f val slot = (at_phase p (at.Storing src f val slot) own.machine d.phase).0 in
+    let names : register_of p src ≡ Some slot = store.source in
+    let room : HasRoom p = λ full. omega (arith, store.room, full) in
+    let unmarked = scanned w t (at.Storing src f val slot) m.kept m.is d.phase in
     let fields : p.fields ≡ w.config.fields = own.fields in
-    let own_range : f < p.fields = (at_phase p (at.Begun (works.Command (commands.Put src f val))) own.machine d.phase).0.1 in
+    let own_range : f < p.fields = store.operands.1 in
     let in_range : f < w.config.fields = omega arith in
     let left : ℕ = word_for p val in
     let is_word : word ≡ word_at (sight w) slot f = m.found ∙ ap (cell (cells_of w)) d.operation ∙ ap (λ n. slice_index_or w.words (place_of slot f n) 0) fields in
@@ -245,7 +258,7 @@ says {w = w} {t = t} {word = word} {op = op} {q = q} m (Step.put src f val slot 
     let stamped : stamp_of left ≡ record { writer = t; epoch = p.epoch; index = log_length w t } = word_stamp p val own.machine room ∙ ap (λ n. let s : Stamp = record { writer = n; epoch = p.epoch; index = length p.log.entries } in s) own.number in
     let telling : IsTelling w t (commands.Put src f val) (told word) (p.log.entries ++ entries_.Put (place_of slot f p.fields) left word ∷ []) w.made 0 after
     = record {
-      explained = subst (λ n. IsExplained (sight w) t (commands.Put src f val) (told n) after) (sym is_word) (put_explained (sight w) t src f val slot left m.kept.sound in_range there leads);
+      explained = subst (λ n. IsExplained (sight w) t (commands.Put src f val) (told n) after) (sym is_word) (put_explained (sight w) t src f val slot left m.kept.sound in_range there unmarked leads);
       leaves = record { seen = ap (λ (x : Option ℕ). sight_after_put (sight w) f x true left) (sym there); birth = λ is. absurd (false≢true is) };
       kind = refl;
       full = λ is. cc;
@@ -263,26 +276,28 @@ says {w = w} {t = t} {word = word} {op = op} {q = q} m (Step.value reg slot name
     let is_word : word ≡ slice_index_or w.headers slot 0 = m.found ∙ ap (cell (cells_of w)) d.operation in
     after_header (Says w t q) w t _ word q op d.operation m.found
     (done refl d refl (decides_here m d (saw_same w t q (registers_left d))
-    (tells (subst (λ n. IsExplained (sight w) t (commands.Value reg) (plain (answers.Value (n - 1))) (sight w)) (sym is_word) (value_explained (sight w) t reg slot m.kept.sound there)) refl refl (λ is. cc) refl refl refl)))
-says {w = w} {t = t} {word = word} {op = op} {q = q} m (Step.new_refused reg label full d) =
-    after_cross (Says w t q) w t _ word q op d.operation m.found (refuses refl m d (tells (new_refused (sight w) t reg label answers.LogFull refl refl) refl refl (λ is. cc) refl refl refl))
-says {w = w} {t = t} {word = word} {op = op} {q = q} m (Step.new_begins reg label room g) =
+    (tells (subst (λ n. IsExplained (sight w) t (commands.Value reg) (plain (answers.Value (label_of n))) (sight w)) (sym is_word) (value_explained (sight w) t reg slot m.kept.sound there)) refl refl (λ is. cc) refl refl refl)))
+says {w = w} {t = t} {word = word} {op = op} {q = q} m (Step.new_refused reg label true full d) =
+    after_cross (Says w t q) w t _ word q op d.operation m.found (refuses refl m d (tells (birth_refused (sight w) t reg label true answers.LogFull refl refl) refl refl (λ is. cc) refl refl refl))
+says {w = w} {t = t} {word = word} {op = op} {q = q} m (Step.new_refused reg label false full d) =
+    after_cross (Says w t q) w t _ word q op d.operation m.found (refuses refl m d (tells (birth_refused (sight w) t reg label false answers.LogFull refl refl) refl refl (λ is. cc) refl refl refl))
+says {w = w} {t = t} {word = word} {op = op} {q = q} m (Step.new_begins reg label leaf room g) =
     let freed : word ≡ w.freed = m.found ∙ ap (cell (cells_of w)) g.operation in
     after_freed (Says w t q) w t word q op g.operation m.found (going_on m refl (λ _. (freed, λ s below. absurd (omega (arith, below)))) g)
-says {w = w} {t = t} {word = word} {op = op} {q = q} m (Step.new_wins reg label before slot free d) =
+says {w = w} {t = t} {word = word} {op = op} {q = q} m (Step.new_wins reg label true before slot free d) =
     let p : Private = mutator w t in
     let own = (actor_of w t m.kept m.is).own in
     let slots : p.slots ≡ w.config.slots = own.slots in
     let headers : length w.headers ≡ w.config.slots = m.kept.headers in
-    let there : slot < p.slots = (at_phase p (at.Scanning reg label before slot) own.machine d.phase).1 in
-    let header : slice_index_or w.headers slot 0 ≡ 0 = sym (probe_found w word slot label op m.found d.operation) ∙ free in
-    let grown : Sight = sight_with_header (sight w) slot (label + 1) in
-    let v : Core = record (with_mutator w t q) { headers = slice_set w.headers slot (label + 1); made = w.made + 1 } in
+    let there : slot < p.slots = (at_phase p (at.Scanning reg label true before slot) own.machine d.phase).1 in
+    let header : slice_index_or w.headers slot 0 ≡ 0 = sym (probe_found w word slot (header_word true label) op m.found d.operation) ∙ free in
+    let grown : Sight = sight_with_header (sight w) slot (header_word true label) in
+    let v : Core = record (with_mutator w t q) { headers = slice_set w.headers slot (header_word true label); made = w.made + 1 } in
     let after : Sight = sight_with_register grown t reg (Some slot) in
     let saw : sight v ≡ after = ap (λ (rss : List (List (Option ℕ))). let s : Sight = record grown { registers = rss } in s) (registers_set w t reg (Some slot) q (registers_left d)) in
-    let telling : IsTelling w t (commands.New reg label) (plain answers.Done) (p.log.entries ++ entries_.Born slot ∷ []) (w.made + 1) slot after
+    let telling : IsTelling w t (commands.Leaf reg label) (plain answers.Done) (p.log.entries ++ entries_.Born slot true ∷ []) (w.made + 1) slot after
     = record {
-      explained = new_explained (sight w) t reg label slot m.kept.sound (omega arith) header;
+      explained = birth_explained (sight w) t reg label slot (header_word true label) true m.kept.sound (omega arith) header (header_is true label (label_at w t (at.Scanning reg label true before slot) m.kept m.is d.phase));
       leaves = record { seen = refl; birth = λ _. record { there = omega arith; free = header; probed = ap probed_at d.phase } };
       kind = refl;
       full = λ is. cc;
@@ -290,24 +305,54 @@ says {w = w} {t = t} {word = word} {op = op} {q = q} m (Step.new_wins reg label 
       entered = length_push p.log.entries _;
       stamp = tt;
     } in
-    after_claim (Says w t q) w t slot label word q op d.operation free (done refl d refl (decides v m (left_by v d refl refl refl) saw telling))
-says {w = w} {t = t} {word = word} {op = op} {q = q} m (Step.new_goes_on reg label before slot taken more g) =
-    let its : word ≡ slice_index_or w.headers slot 0 = probe_found w word slot label op m.found g.operation in
-    after_probe (Says w t q) w t slot label word q op g.operation m.found taken (going_on m refl (λ found. (found.0, one_more w slot (λ is. taken (its ∙ is)) found.1)) g)
-says {w = w} {t = t} {word = word} {op = op} {q = q} m (Step.new_finds_none reg label before slot taken last g) =
+    after_claim (Says w t q) w t slot (header_word true label) word q op d.operation free (done refl d refl (decides v m (left_by v d refl refl refl) saw telling))
+says {w = w} {t = t} {word = word} {op = op} {q = q} m (Step.new_wins reg label false before slot free d) =
+    let p : Private = mutator w t in
     let own = (actor_of w t m.kept m.is).own in
-    let its : word ≡ slice_index_or w.headers slot 0 = probe_found w word slot label op m.found g.operation in
+    let slots : p.slots ≡ w.config.slots = own.slots in
+    let headers : length w.headers ≡ w.config.slots = m.kept.headers in
+    let there : slot < p.slots = (at_phase p (at.Scanning reg label false before slot) own.machine d.phase).1 in
+    let header : slice_index_or w.headers slot 0 ≡ 0 = sym (probe_found w word slot (header_word false label) op m.found d.operation) ∙ free in
+    let grown : Sight = sight_with_header (sight w) slot (header_word false label) in
+    let v : Core = record (with_mutator w t q) { headers = slice_set w.headers slot (header_word false label); made = w.made + 1 } in
+    let after : Sight = sight_with_register grown t reg (Some slot) in
+    let saw : sight v ≡ after = ap (λ (rss : List (List (Option ℕ))). let s : Sight = record grown { registers = rss } in s) (registers_set w t reg (Some slot) q (registers_left d)) in
+    let telling : IsTelling w t (commands.New reg label) (plain answers.Done) (p.log.entries ++ entries_.Born slot false ∷ []) (w.made + 1) slot after
+    = record {
+      explained = birth_explained (sight w) t reg label slot (header_word false label) false m.kept.sound (omega arith) header (header_is false label (label_at w t (at.Scanning reg label false before slot) m.kept m.is d.phase));
+      leaves = record { seen = refl; birth = λ _. record { there = omega arith; free = header; probed = ap probed_at d.phase } };
+      kind = refl;
+      full = λ is. cc;
+      births = refl;
+      entered = length_push p.log.entries _;
+      stamp = tt;
+    } in
+    after_claim (Says w t q) w t slot (header_word false label) word q op d.operation free (done refl d refl (decides v m (left_by v d refl refl refl) saw telling))
+says {w = w} {t = t} {word = word} {op = op} {q = q} m (Step.new_goes_on reg label leaf before slot taken more g) =
+    let its : word ≡ slice_index_or w.headers slot 0 = probe_found w word slot (header_word leaf label) op m.found g.operation in
+    after_probe (Says w t q) w t slot (header_word leaf label) word q op g.operation m.found taken (going_on m refl (λ found. (found.0, one_more w slot (λ is. taken (its ∙ is)) found.1)) g)
+says {w = w} {t = t} {word = word} {op = op} {q = q} m (Step.new_finds_none reg label leaf before slot taken last g) =
+    let own = (actor_of w t m.kept m.is).own in
+    let its : word ≡ slice_index_or w.headers slot 0 = probe_found w word slot (header_word leaf label) op m.found g.operation in
     let all : slot + 1 ≡ w.config.slots = last ∙ own.slots in
-    after_probe (Says w t q) w t slot label word q op g.operation m.found taken
+    after_probe (Says w t q) w t slot (header_word leaf label) word q op g.operation m.found taken
     (going_on m refl (λ found. (found.0, λ s below. one_more w slot (λ is. taken (its ∙ is)) found.1 s (omega (arith, below)))) g)
-says {w = w} {t = t} {word = word} {op = op} {q = q} m (Step.new_is_full reg label before still d) =
+says {w = w} {t = t} {word = word} {op = op} {q = q} m (Step.new_is_full reg label true before still d) =
     let freed : word ≡ w.freed = m.found ∙ ap (cell (cells_of w)) d.operation in
-    let passed = scanned w t (at.Scanned reg label before) m.kept m.is d.phase in
+    let passed = scanned w t (at.Scanned reg label true before) m.kept m.is d.phase in
     after_freed (Says w t q) w t word q op d.operation m.found
-    (refuses refl m d (tells (new_refused (sight w) t reg label answers.Full refl refl) refl refl (λ is. passed.1 (still.1 ∙ freed) still.0) refl refl refl))
-says {w = w} {t = t} {word = word} {op = op} {q = q} m (Step.new_is_busy reg label before moves d) =
+    (refuses refl m d (tells (birth_refused (sight w) t reg label true answers.Full refl refl) refl refl (λ is. passed.1 (still.1 ∙ freed) still.0) refl refl refl))
+says {w = w} {t = t} {word = word} {op = op} {q = q} m (Step.new_is_full reg label false before still d) =
+    let freed : word ≡ w.freed = m.found ∙ ap (cell (cells_of w)) d.operation in
+    let passed = scanned w t (at.Scanned reg label false before) m.kept m.is d.phase in
     after_freed (Says w t q) w t word q op d.operation m.found
-    (refuses refl m d (tells (new_refused (sight w) t reg label (answers.Busy before word) refl refl) refl refl (λ is. cc) refl refl refl))
+    (refuses refl m d (tells (birth_refused (sight w) t reg label false answers.Full refl refl) refl refl (λ is. passed.1 (still.1 ∙ freed) still.0) refl refl refl))
+says {w = w} {t = t} {word = word} {op = op} {q = q} m (Step.new_is_busy reg label true before moves d) =
+    after_freed (Says w t q) w t word q op d.operation m.found
+    (refuses refl m d (tells (birth_refused (sight w) t reg label true (answers.Busy before word) refl refl) refl refl (λ is. cc) refl refl refl))
+says {w = w} {t = t} {word = word} {op = op} {q = q} m (Step.new_is_busy reg label false before moves d) =
+    after_freed (Says w t q) w t word q op d.operation m.found
+    (refuses refl m d (tells (birth_refused (sight w) t reg label false (answers.Busy before word) refl refl) refl refl (λ is. cc) refl refl refl))
 says {w = w} {t = t} {word = word} {op = op} {q = q} m (Step.poll_stays own g) =
     after_epoch (Says w t q) w t word q op g.operation m.found (Says.stayed (ap answer_of g.after) (ap work_at g.phase) (ap is_giving g.phase) (only_works w t q _ m.kept m.is g.after))
 says {w = w} {t = t} {word = word} {op = op} {q = q} m (Step.poll_crosses other g) =
@@ -352,8 +397,9 @@ step_says w t kept is busy =
     go : (phase : phases.Phase) → (mutator w t).phase ≡ phase → IsBetween phase → Says w t (step_of (mutator w t) (found_by w t) (box w t)) (stepped w t)
     go at.Idle its between = here at.Idle its tt
     go (at.Begun work) its between = here (at.Begun work) its tt
-    go (at.Scanning reg label before slot) its between = here (at.Scanning reg label before slot) its tt
-    go (at.Scanned reg label before) its between = here (at.Scanned reg label before) its tt
+    go (at.Scanning reg label leaf before slot) its between = here (at.Scanning reg label leaf before slot) its tt
+    go (at.Scanned reg label leaf before) its between = here (at.Scanned reg label leaf before) its tt
+    go (at.Storing src f val slot) its between = here (at.Storing src f val slot) its tt
     go at.Crossing its between = takes_says w t kept is its
     go at.Swapping its between = absurd between
     go at.Giving its between = here at.Giving its tt

@@ -1,5 +1,5 @@
 -- A step of a mutator keeps what every heap with its collector keeps, rule by rule.
-use Rattle.std.proofs.Common.{◌≡◌, ◌≢◌, ◌⊎◌, inl, inr, ℕ, ◌+◌, ◌-◌, ◌*◌, ◌^◌, ◌<◌, ◌≤◌, if◌then◌else◌, Bool, true, false, List, [], Option, None, Some, length, map, slice_index_or, slice_set, refl, sym, ap, subst, ◌∙◌, arith, add-zero}
+use Rattle.std.proofs.Common.{◌≡◌, ◌≢◌, ◌⊎◌, inl, inr, ℕ, ◌+◌, ◌-◌, ◌*◌, ◌<◌, ◌≤◌, if◌then◌else◌, Bool, true, false, List, [], Option, None, Some, length, map, slice_index_or, slice_set, refl, sym, ap, subst, ◌∙◌, arith, add-zero}
 use Rattle.std.specs.List.{All, sum_by}
 use Rattle.std.proofs.Math.ListN.{get_or-map}
 use Rattle.std.proofs.Math.Seq.{map-set_same}
@@ -32,7 +32,7 @@ use Rattle.rec_counts.specs.Counts.{slot_at}
 use Rattle.rec_counts.specs.Slot.{absent, fresh}
 use Rattle.rec_counts.specs.declared.slot.Slot.{Slot}
 use Rattle.rec_mutator.specs.Causes.{is_giving}
-use Rattle.rec_mutator.specs.Private.{Private, register}
+use Rattle.rec_mutator.specs.Private.{Private, register, IsStore}
 use Rattle.rec_mutator.specs.Step.{Step, Decides, GoesOn}
 use Rattle.rec_mutator.specs.Took.{IsFound}
 use Rattle.rec_mutator.specs.declared.phase.Phase as phases
@@ -43,13 +43,16 @@ use Rattle.rec_core.specs.Cells.{cell}
 use Rattle.rec_core.specs.Config.{IsMutator}
 use Rattle.rec_core.specs.Core.{Core, cells_of, sight, mutator, box, crossing_of, nobody, with_mutator}
 use Rattle.rec_core.specs.CyclesAt.{HasCyclesAt}
-use Rattle.rec_core.specs.Kept.{IsSettledIn, HasLabelAt, IsHandshake, stand_at, IsOwn, IsBufferOf, IsActor, HasCollector, IsScanning, HasScans, entries_made, freeing_due, IsKept}
+use Rattle.rec_core.specs.Kept.{IsSettledIn, HasLabelAt, IsHandshake, stand_at, IsOwn, IsBufferOf, IsActor, HasCollector, IsScanning, HasScans, entries_made, freeing_due, IsKept, IsHeader}
 use Rattle.rec_core.specs.Pending.{code, epoch_at, slot_of, pending}
 use Rattle.rec_core.specs.declared.config.Config.{Config}
 use Rattle.rec_core.proofs.Actors.{own_stepped, settled_here, epoch_here, behind_due, actor_stays, mutator_changes}
 use Rattle.rec_core.proofs.Cycling.{cycles_moved, machine_alive}
 use Rattle.rec_mutator.proofs.Machines.{IsBox}
 use Rattle.rec_core.proofs.Moves.{same_pending, register_moves}
+use Rattle.rec_word.specs.Header.{is_leaf}
+use Rattle.std.proofs.lemmas.Bool.Decides.{nat_tests}
+use Rattle.rec_mutator.proofs.Refusals.{at_phase}
 
 -- A step of mutator `t` that takes no mailbox, of a heap with its collector.
 pub record Makes (w : Core) (t : ℕ) (word : ℕ) (op : Op) (q : Private) : Type 0 where
@@ -151,26 +154,32 @@ emptied_stays w slot f new kept in_range unreleased =
 
 -- the scans of all mutators, where one goes on
 pub scans_stay : (w : Core) (t : ℕ) (q : Private) (headers : List ℕ) → IsKept w → IsMutator w.config t → IsScanning w.config.slots headers w.freed q.phase
-    → ((s : ℕ) → 0 < slice_index_or w.headers s 0 → 0 < slice_index_or headers s 0) → HasScans w.config headers w.freed (slice_set w.mutators (t - 1) q)
-scans_stay w t q headers kept is scans more s there = elim (cases_eq s t) [
+    → ((s : ℕ) → 0 < slice_index_or w.headers s 0 → slice_index_or headers s 0 ≡ slice_index_or w.headers s 0) → HasScans w.config headers w.freed (slice_set w.mutators (t - 1) q)
+scans_stay w t q headers kept is scans still s there = elim (cases_eq s t) [
   | inl same ↦
       let here : slice_index_or (slice_set w.mutators (t - 1) q) (s - 1) nobody ≡ q
       = ap (λ n. slice_index_or (slice_set w.mutators (t - 1) q) (n - 1) nobody) same ∙ get_or-set_same w.mutators (t - 1) q nobody (in_list w t kept is) in
       subst (λ (p : Private). IsScanning w.config.slots headers w.freed p.phase) (sym here) scans
   | inr other ↦
       let apart : (s - 1) ≢ (t - 1) = λ e. other (omega (arith, is.0, there.0)) in
-      subst (λ (p : Private). IsScanning w.config.slots headers w.freed p.phase) (sym (get_or-set_other w.mutators (t - 1) (s - 1) q nobody apart)) (grown (mutator w s).phase (kept.scans s there))
+      subst (λ (p : Private). IsScanning w.config.slots headers w.freed p.phase) (sym (get_or-set_other w.mutators (t - 1) (s - 1) q nobody apart)) (grown (mutator w s).phase refl (kept.scans s there))
 ]
   where
-    grown : (phase : phases.Phase) → IsScanning w.config.slots w.headers w.freed phase → IsScanning w.config.slots headers w.freed phase
-    grown at.Idle is = tt
-    grown (at.Begun work) is = tt
-    grown (at.Scanning reg label before slot) is = (is.0, λ same even z below. more z (is.1 same even z below))
-    grown (at.Scanned reg label before) is = (is.0, λ same even z below. more z (is.1 same even z below))
-    grown at.Crossing is = tt
-    grown at.Swapping is = tt
-    grown at.Giving is = tt
-    grown (at.Finished work made) is = tt
+    more : (z : ℕ) → 0 < slice_index_or w.headers z 0 → 0 < slice_index_or headers z 0
+    more z some = omega (arith, some, still z some)
+
+    grown : (phase : phases.Phase) → (mutator w s).phase ≡ phase → IsScanning w.config.slots w.headers w.freed phase → IsScanning w.config.slots headers w.freed phase
+    grown at.Idle here is = tt
+    grown (at.Begun work) here is = tt
+    grown (at.Scanning reg label leaf before slot) here is = (is.0, λ same even z below. more z (is.1 same even z below))
+    grown (at.Scanned reg label leaf before) here is = (is.0, λ same even z below. more z (is.1 same even z below))
+    grown (at.Storing src f val slot) here is =
+        let store : IsStore (mutator w s) src f val slot = (at_phase (mutator w s) (at.Storing src f val slot) (actor_of w s kept there).own.machine here).0 in
+        ap is_leaf (still slot (register_taken w kept s src slot store.source)) ∙ is
+    grown at.Crossing here is = tt
+    grown at.Swapping here is = tt
+    grown at.Giving here is = tt
+    grown (at.Finished work made) here is = tt
 
 -- what the entries that were made come to, where one mutator goes on
 pub entries_stay : (w : Core) (t births : ℕ) (q : Private) → IsKept w → IsMutator w.config t → entries_made w.config (mutator w t) + births ≤ entries_made w.config q → w.made + births ≤ 1 + sum_by (entries_made w.config) (slice_set w.mutators (t - 1) q)
@@ -182,15 +191,19 @@ pub record HasAccounts (w : Core) (v : Pending) : Type 0 where
   pub uncounted : freeing_due w.collector.phase ≡ None → HasUncountedReleased v
   pub cycles : HasCyclesAt v w.collector w.collector.phase
 
+-- a leaf's header is one of a taken slot
+pub leaf_some : (header : ℕ) → is_leaf header ≡ true → 0 < header
+leaf_some header leaf = grind (arith, nat_tests, leaf)
+
 -- A heap in which a mutator has moved, with headers, words and births, is kept where each part of it is.
 pub changed_kept : (w : Core) (t : ℕ) (q : Private) (headers words : List ℕ) (births : ℕ) → IsKept w → IsMutator w.config t → IsActor w.config w.epoch w.collector.phase t q (crossing_of w t) (box w t)
-    → length headers ≡ length w.headers → All (λ header. header ≤ 2 ^ 32) headers → HasCollector w.config w.epoch words w.collector
-    → IsScanning w.config.slots headers w.freed q.phase → ((s : ℕ) → 0 < slice_index_or w.headers s 0 → 0 < slice_index_or headers s 0)
+    → length headers ≡ length w.headers → All IsHeader headers → HasCollector w.config w.epoch words w.collector
+    → IsScanning w.config.slots headers w.freed q.phase → ((s : ℕ) → 0 < slice_index_or w.headers s 0 → slice_index_or headers s 0 ≡ slice_index_or w.headers s 0)
     → entries_made w.config (mutator w t) + births ≤ entries_made w.config q
     → IsSound (sight (record (with_mutator w t q) { headers = headers; words = words }))
     → HasAccounts w (pending (record (with_mutator w t q) { headers = headers; words = words; made = w.made + births }))
     → IsKept (record (with_mutator w t q) { headers = headers; words = words; made = w.made + births })
-changed_kept w t q headers words births kept is actor same labels collector scans more entries sound accounts =
+changed_kept w t q headers words births kept is actor same labels collector scans still entries sound accounts =
     record {
       config = kept.config;
       headers = same ∙ kept.headers;
@@ -198,9 +211,10 @@ changed_kept w t q headers words births kept is actor same labels collector scan
       mutators = mutator_changes t q kept.mutators is actor;
       collector = collector;
       sweeps = kept.sweeps;
-      scans = scans_stay w t q headers kept is scans more;
+      scans = scans_stay w t q headers kept is scans still;
       made = entries_stay w t births q kept is entries;
       sound = sound;
+      greens = λ x green. ap is_leaf (still x (leaf_some (slice_index_or w.headers x 0) (kept.greens x green))) ∙ kept.greens x green;
       accounted = accounts.accounted;
       uncounted = accounts.uncounted;
       cycles = accounts.cycles;
@@ -243,7 +257,7 @@ pub quiet_kept : (w : Core) (t : ℕ) (q : Private) → IsKept w → IsMutator w
 quiet_kept w t q kept is own here stays epoch actor log registers scans =
     let same : epoch_at q ≡ epoch_at (mutator w t) = epoch_here q stays ∙ epoch ∙ sym (epoch_here (mutator w t) here) in
     subst (λ (n : ℕ). IsKept (record (with_mutator w t q) { made = n })) (add-zero w.made)
-    (changed_kept w t q w.headers w.words 0 kept is actor refl kept.labels kept.collector scans (λ s taken. taken) (same_entries w.config (mutator w t) q same log)
+    (changed_kept w t q w.headers w.words 0 kept is actor refl kept.labels kept.collector scans (λ s taken. refl) (same_entries w.config (mutator w t) q same log)
     (subst (λ (rss : List (List (Option ℕ))). IsSound (record (sight w) { registers = rss })) (sym (registers_stay w t q registers)) kept.sound)
     (stayed_accounts w _ kept (same_pending w t q log registers same)))
 
@@ -309,7 +323,7 @@ sets {w = w} {t = t} {q = q} r x gives m within may value d =
     let a = answers gives m d in
     let actor = actor_of w t m.kept m.is in
     subst (λ (n : ℕ). IsKept (record (with_mutator w t q) { made = n })) (add-zero w.made)
-    (changed_kept w t q w.headers w.words 0 m.kept m.is (answered_actor a actor.log) refl m.kept.labels m.kept.collector (a.scans w.config.slots w.freed w.headers) (λ s taken. taken) (same_entries w.config (mutator w t) q a.same a.log)
+    (changed_kept w t q w.headers w.words 0 m.kept m.is (answered_actor a actor.log) refl m.kept.labels m.kept.collector (a.scans w.config.slots w.freed w.headers) (λ s taken. refl) (same_entries w.config (mutator w t) q a.same a.log)
     (subst (λ (rss : List (List (Option ℕ))). IsSound (record (sight w) { registers = rss })) (sym (registers_set w t r x q a.registers_are)) (register_sound (sight w) t r x may m.kept.sound))
     (moved_accounts w _ m.kept (Move.register (register_moves w t r x q (in_list w t m.kept m.is) within a.registers_are a.log a.same value)) tt tt))
 

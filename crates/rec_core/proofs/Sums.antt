@@ -1,8 +1,8 @@
 -- Sums over the buffers and the registers of a heap, where one mutator and its mailbox change.
-use Rattle.std.proofs.Common.{◌≡◌, ℕ, ◌+◌, ◌-◌, ◌<◌, ◌≤◌, List, [], ◌∷◌, ◌++◌, Option, None, Some, length, map, slice_index_or, slice_set, refl, ◌∙◌, arith}
+use Rattle.std.proofs.Common.{◌≡◌, ℕ, ◌+◌, ◌-◌, ◌<◌, ◌≤◌, List, [], ◌∷◌, ◌++◌, Option, None, Some, length, map, slice_index_or, slice_set, refl, ◌∙◌, arith, Bool}
 use Rattle.std.specs.List.{sum_by, flat_map}
 use Rattle.std.proofs.lemmas.List.Sums.{sum_by-append, sum_by-cons, sum_by-set}
-use Rattle.rec_model.specs.Pending.{Write, Dated, dated}
+use Rattle.rec_model.specs.Pending.{Write, Dated, dated, dated_birth}
 use Rattle.rec_model.proofs.Sums.{sum_by-flat_map, sum_by-map}
 use Rattle.rec_log.specs.declared.contents.Contents.{Contents}
 use Rattle.rec_log.specs.declared.entry.Entry.{Entry}
@@ -91,27 +91,27 @@ writes_more g [] place new old = omega (arith, sum_by-cons g (record { place = p
 writes_more g (entries.Put p n o ∷ es) place new old =
     let first : Write = record { place = p; new = n; old = o } in
     omega (arith, sum_by-cons g first (writes_in (es ++ entries.Put place new old ∷ [])), sum_by-cons g first (writes_in es), writes_more g es place new old)
-writes_more g (entries.Born slot ∷ es) place new old = writes_more g es place new old
+writes_more g (entries.Born slot leaf ∷ es) place new old = writes_more g es place new old
 
 pub births_same : (g : Dated → ℕ) (epoch : ℕ) (es : List Entry) (place new old : ℕ) → sum_by g (births_in epoch (es ++ entries.Put place new old ∷ [])) ≡ sum_by g (births_in epoch es)
 births_same g epoch [] place new old = refl
 births_same g epoch (entries.Put p n o ∷ es) place new old = births_same g epoch es place new old
-births_same g epoch (entries.Born slot ∷ es) place new old =
-    omega (arith, sum_by-cons g (dated epoch (slot + 1)) (births_in epoch (es ++ entries.Put place new old ∷ [])), sum_by-cons g (dated epoch (slot + 1)) (births_in epoch es), births_same g epoch es place new old)
+births_same g epoch (entries.Born slot leaf ∷ es) place new old =
+    omega (arith, sum_by-cons g (dated_birth epoch (slot + 1) leaf) (births_in epoch (es ++ entries.Put place new old ∷ [])), sum_by-cons g (dated_birth epoch (slot + 1) leaf) (births_in epoch es), births_same g epoch es place new old)
 
 -- one birth more in a log
-pub births_more : (g : Dated → ℕ) (epoch : ℕ) (es : List Entry) (slot : ℕ) → sum_by g (births_in epoch (es ++ entries.Born slot ∷ [])) ≡ sum_by g (births_in epoch es) + g (dated epoch (slot + 1))
-births_more g epoch [] slot = omega (arith, sum_by-cons g (dated epoch (slot + 1)) [])
-births_more g epoch (entries.Put p n o ∷ es) slot = births_more g epoch es slot
-births_more g epoch (entries.Born s ∷ es) slot =
-    omega (arith, sum_by-cons g (dated epoch (s + 1)) (births_in epoch (es ++ entries.Born slot ∷ [])), sum_by-cons g (dated epoch (s + 1)) (births_in epoch es), births_more g epoch es slot)
+pub births_more : (g : Dated → ℕ) (epoch : ℕ) (es : List Entry) (slot : ℕ) (leaf : Bool) → sum_by g (births_in epoch (es ++ entries.Born slot leaf ∷ [])) ≡ sum_by g (births_in epoch es) + g (dated_birth epoch (slot + 1) leaf)
+births_more g epoch [] slot leaf = omega (arith, sum_by-cons g (dated_birth epoch (slot + 1) leaf) [])
+births_more g epoch (entries.Put p n o ∷ es) slot leaf = births_more g epoch es slot leaf
+births_more g epoch (entries.Born s l ∷ es) slot leaf =
+    omega (arith, sum_by-cons g (dated_birth epoch (s + 1) l) (births_in epoch (es ++ entries.Born slot leaf ∷ [])), sum_by-cons g (dated_birth epoch (s + 1) l) (births_in epoch es), births_more g epoch es slot leaf)
 
-pub writes_same : (g : Write → ℕ) (es : List Entry) (slot : ℕ) → sum_by g (writes_in (es ++ entries.Born slot ∷ [])) ≡ sum_by g (writes_in es)
-writes_same g [] slot = refl
-writes_same g (entries.Put p n o ∷ es) slot =
+pub writes_same : (g : Write → ℕ) (es : List Entry) (slot : ℕ) (leaf : Bool) → sum_by g (writes_in (es ++ entries.Born slot leaf ∷ [])) ≡ sum_by g (writes_in es)
+writes_same g [] slot leaf = refl
+writes_same g (entries.Put p n o ∷ es) slot leaf =
     let first : Write = record { place = p; new = n; old = o } in
-    omega (arith, sum_by-cons g first (writes_in (es ++ entries.Born slot ∷ [])), sum_by-cons g first (writes_in es), writes_same g es slot)
-writes_same g (entries.Born s ∷ es) slot = writes_same g es slot
+    omega (arith, sum_by-cons g first (writes_in (es ++ entries.Born slot leaf ∷ [])), sum_by-cons g first (writes_in es), writes_same g es slot leaf)
+writes_same g (entries.Born s l ∷ es) slot leaf = writes_same g es slot leaf
 
 -- what is named weighs no more than all, and as much where null weighs nothing
 pub names_most : (g : Dated → ℕ) (epoch : ℕ) (xs : List (Option ℕ)) → sum_by g (dated_names epoch xs) ≤ sum_by g (dated_all epoch xs)

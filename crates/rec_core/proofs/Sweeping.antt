@@ -1,5 +1,5 @@
 -- The turns of a sweep keep what every heap with its collector keeps.
-use Rattle.std.proofs.Common.{◌≡◌, ◌≢◌, inl, inr, ℕ, ◌+◌, ◌-◌, ◌*◌, ◌%◌, ◌^◌, ◌<◌, ◌≤◌, ◌==◌, nat_lt, if◌then◌else◌, Bool, true, false, List, [], ◌∷◌, Option, None, Some, length, map, replicate, drop, slice_index_or, slice_set, refl, sym, ap, subst, ◌∙◌, arith}
+use Rattle.std.proofs.Common.{◌≡◌, ◌≢◌, inl, inr, ℕ, ◌+◌, ◌-◌, ◌*◌, ◌%◌, ◌<◌, ◌≤◌, ◌==◌, nat_lt, if◌then◌else◌, Bool, true, false, List, [], ◌∷◌, Option, None, Some, length, map, replicate, drop, slice_index_or, slice_set, refl, sym, ap, subst, ◌∙◌, arith}
 use Rattle.std.specs.List.{sum_by, flat_map, slice_get}
 use Rattle.std.proofs.Math.ListN.{get_or-map}
 use Rattle.std.proofs.Math.Nat.{mul-le-mul, add-mul}
@@ -44,7 +44,7 @@ use Rattle.rec_core.specs.Config.{IsMutator}
 use Rattle.rec_core.specs.Core.{Core, sight, nobody}
 use Rattle.rec_core.specs.Cycles.{SetsWait}
 use Rattle.rec_core.specs.CyclesAt.{HasCyclesAt}
-use Rattle.rec_core.specs.Kept.{freeing_due, IsBufferOf, Stand, stand_at, HasPassed, IsScanning, HasScans, one_if_sweeping, IsSomeSwept, IsKept}
+use Rattle.rec_core.specs.Kept.{freeing_due, IsBufferOf, Stand, stand_at, HasPassed, IsScanning, HasScans, one_if_sweeping, IsSomeSwept, IsKept, IsHeader}
 use Rattle.rec_core.specs.Pending.{dated_all, epoch_at, older_at, applied_at, pending}
 use Rattle.rec_core.specs.declared.config.Config.{Config}
 use Rattle.rec_core.proofs.Counts.{slot_in, accounts_with, emptied_leads}
@@ -52,20 +52,30 @@ use Rattle.rec_core.proofs.CyclesWait.{KeepsMembers, sets_wait_moved, sets_wait_
 use Rattle.rec_core.proofs.Landings.{complete_drops, cleared_buffer}
 use Rattle.rec_core.proofs.Places.{place_within}
 use Rattle.rec_core.proofs.Turns.{alive_in, cycles_in, emptied_in, now_at, phase_moves}
+use Rattle.rec_word.specs.Header.{is_leaf}
+use Rattle.rec_counts.specs.Colour.{is_green}
 
 -- as a sweep begins or ends, a scan that has begun before knows nothing more
-scans_change : (config : Config) (headers later : List ℕ) (freed next : ℕ) (mutators : List Private) → ((before slot : ℕ) → HasPassed headers freed before slot → HasPassed later next before slot) → HasScans config headers freed mutators → HasScans config later next mutators
-scans_change config headers later freed next mutators change scans t is = go (slice_index_or mutators (t - 1) nobody).phase (scans t is)
+scans_change : (config : Config) (headers later : List ℕ) (freed next : ℕ) (mutators : List Private) → ((before slot : ℕ) → HasPassed headers freed before slot → HasPassed later next before slot) → ((slot : ℕ) → is_leaf (slice_index_or headers slot 0) ≡ false → is_leaf (slice_index_or later slot 0) ≡ false) → HasScans config headers freed mutators → HasScans config later next mutators
+scans_change config headers later freed next mutators change unmarked scans t is = go (slice_index_or mutators (t - 1) nobody).phase (scans t is)
   where
     go : (phase : phases.Phase) → IsScanning config.slots headers freed phase → IsScanning config.slots later next phase
     go at.Idle s = tt
     go (at.Begun work) s = tt
-    go (at.Scanning reg label before slot) s = change before slot s
-    go (at.Scanned reg label before) s = change before config.slots s
+    go (at.Scanning reg label leaf before slot) s = change before slot s
+    go (at.Scanned reg label leaf before) s = change before config.slots s
+    go (at.Storing src f val slot) s = unmarked slot s
     go at.Crossing s = tt
     go at.Swapping s = tt
     go at.Giving s = tt
     go (at.Finished work made) s = tt
+
+-- a swept header is that of no leaf
+pub swept_unmarked : (headers : List ℕ) (x : ℕ) → x < length headers → (slot : ℕ) → is_leaf (slice_index_or headers slot 0) ≡ false → is_leaf (slice_index_or (slice_set headers x 0) slot 0) ≡ false
+swept_unmarked headers x there slot unmarked = elim (cases_eq slot x) [
+  | inl same ↦ ap (λ n. is_leaf (slice_index_or (slice_set headers x 0) n 0)) same ∙ ap is_leaf (get_or-set_same headers x 0 0 there)
+  | inr other ↦ ap is_leaf (get_or-set_other headers x slot 0 0 other) ∙ unmarked
+]
 
 passed_more : (headers : List ℕ) (freed before slot : ℕ) → HasPassed headers freed before slot → HasPassed headers (freed + 1) before slot
 passed_more headers freed before slot is = let up : before ≤ freed = is.0 in (omega arith, λ same. absurd (omega arith))
@@ -103,9 +113,10 @@ module _ (w : Core) (due : Option ℕ) (kept : IsKept w) (phase : w.collector.ph
           emptied = emptied_in w Opening kept phase;
         };
         sweeps = record { odd = odd_next w.freed (kept.sweeps.odd ∙ still); few = omega (arith, kept.sweeps.few, still); some = tt };
-        scans = scans_change w.config w.headers w.headers w.freed (w.freed + 1) w.mutators (passed_more w.headers w.freed) kept.scans;
+        scans = scans_change w.config w.headers w.headers w.freed (w.freed + 1) w.mutators (passed_more w.headers w.freed) (λ slot unmarked. unmarked) kept.scans;
         made = kept.made;
         sound = kept.sound;
+        greens = kept.greens;
         accounted = subst IsAccounted (sym same) kept.accounted;
         uncounted = λ _. subst HasUncountedReleased (sym same) (kept.uncounted (ap freeing_due phase));
         cycles = subst (λ (p : Pending). SetsWait p w.collector.counts) (sym same) (cycles_in w Opening kept phase);
@@ -156,9 +167,10 @@ module _ (w : Core) (swept_ : ℕ) (kept : IsKept w) (phase : w.collector.phase 
           emptied = emptied_in w (Closing swept_) kept phase;
         };
         sweeps = record { odd = even_next w.freed (kept.sweeps.odd ∙ odd); few = omega (arith, kept.sweeps.few, odd); some = tt };
-        scans = scans_change w.config w.headers w.headers w.freed (w.freed + 1) w.mutators (passed_more w.headers w.freed) kept.scans;
+        scans = scans_change w.config w.headers w.headers w.freed (w.freed + 1) w.mutators (passed_more w.headers w.freed) (λ slot unmarked. unmarked) kept.scans;
         made = kept.made;
         sound = kept.sound;
+        greens = kept.greens;
         accounted = move_accounted (Move.dropping drops) accounted;
         uncounted = λ _. move_uncounted (Move.dropping drops) accounted (subst HasUncountedReleased (sym same) (kept.uncounted (ap freeing_due phase)));
         cycles = sets_wait_moved w.collector.counts (Move.dropping drops) tt accounted (alive_in w (Closing swept_) kept phase) (subst (λ (p : Pending). SetsWait p w.collector.counts) (sym same) (cycles_in w (Closing swept_) kept phase));
@@ -189,8 +201,8 @@ root_named n (p ∷ ps) there =
 -- The slot of a node that was given up and emptied, and that has no count, is freed.
 slot_freed : (p : Pending) (headers : List ℕ) (s : State) (x : ℕ) → x < length s.slots → x < length headers → (slot_at s x).released ≡ true → (slot_at s x).count ≡ 0
     → sum_at (leads_out_of p.fields (x + 1)) p.words ≡ 0
-    → Frees (record (accounts_with p p.words s) { free = λ node. slice_index_or headers (node - 1) 0 == 0 })
-    (record (accounts_with p p.words (swept s x)) { free = λ node. slice_index_or (slice_set headers x 0) (node - 1) 0 == 0 }) (x + 1)
+    → Frees (record (accounts_with p p.words s) { free = λ node. slice_index_or headers (node - 1) 0 == 0; leaf = λ node. is_leaf (slice_index_or headers (node - 1) 0) })
+    (record (accounts_with p p.words (swept s x)) { free = λ node. slice_index_or (slice_set headers x 0) (node - 1) 0 == 0; leaf = λ node. is_leaf (slice_index_or (slice_set headers x 0) (node - 1) 0) }) (x + 1)
 slot_freed p headers s x there header released none empty =
     let v : Slot = swept_clean (slot_at s x) in
     let old : slot_in s (x + 1) ≡ slot_at s x = (let at : x + 1 - 1 ≡ x = omega arith in ap (λ (n : ℕ). slice_index_or s.slots n fresh) at ∙ get_or_default s.slots x fresh absent there) in
@@ -232,6 +244,7 @@ slot_freed p headers s x there header released none empty =
             let apart : (node - 1) ≢ x = λ e. other (omega arith) in
             ap (λ (y : Slot). y.released) (get_or-set_other s.slots x (node - 1) v fresh apart) ∙ sym (cond-false (node == x + 1) false (slot_in s node).released (ne_eqb node (x + 1) other))
       ];
+      leaf = λ node pos other. ap is_leaf (get_or-set_other headers x (node - 1) 0 0 (λ e. other (omega (arith, e, pos))));
     }
 
 -- A slot of the free list is swept: its header is 0 and its count one.
@@ -321,6 +334,10 @@ module _ (w : Core) (done : ℕ) (x : ℕ) (kept : IsKept w) (phase : w.collecto
       | inl same ↦ ap (words_of (sight w)) same ∙ null_words
       | inr other ↦ kept.sound.free s (subst (λ n. s < n) (length-set w.headers x 0) there) (λ taken. open_slot (still_taken s other taken))
     ];
+    leaves = λ s leaf. elim (cases_eq s x) [
+      | inl same ↦ ap (words_of (sight w)) same ∙ null_words
+      | inr other ↦ kept.sound.leaves s (ap is_leaf (sym (get_or-set_other w.headers x s 0 0 other)) ∙ leaf)
+    ];
   }
     where
       inside : (f : ℕ) → f < w.config.fields → place_of x f w.config.fields < length w.words
@@ -369,6 +386,9 @@ module _ (w : Core) (done : ℕ) (x : ℕ) (kept : IsKept w) (phase : w.collecto
   swept_unreleased : (slot_at (swept c.counts x) x).released ≡ false
   swept_unreleased = ap (λ (v : Slot). v.released) (get_or-set_same c.counts.slots x (swept_clean (slot_at c.counts x)) absent (omega (arith, swept_below, slots)))
 
+  swept_black : is_green (slot_at (swept c.counts x) x).colour ≡ false
+  swept_black = ap (λ (v : Slot). is_green v.colour) (get_or-set_same c.counts.slots x (swept_clean (slot_at c.counts x)) absent (omega (arith, swept_below, slots)))
+
   -- the first of the list is nowhere else in it
   gone : (y : ℕ) → 0 < times y (drop 1 c.counts.free) → y ≢ x
   gone y there = go c.counts.free (sym sweeping.2) (kept.collector.machine.counts.free_once y) there
@@ -405,11 +425,11 @@ module _ (w : Core) (done : ℕ) (x : ℕ) (kept : IsKept w) (phase : w.collecto
       let applied : applied_at w.epoch c.phase ≡ applied_at w.epoch next = ap (applied_at w.epoch) phase ∙ sym (on.applied w.epoch) in
       let leads = emptied_leads w.words w.config.fields x (let some : 1 ≤ w.config.fields = kept.config.some_fields in some) empty in
       let freed = slot_freed (pending w) w.headers c.counts x (omega (arith, swept_below, slots)) (omega (arith, swept_below, headers)) due_released uncounted leads in
-      let same : pending (after_sweep next) ≡ record (accounts_with (pending w) w.words (swept c.counts x)) { free = λ node. slice_index_or (slice_set w.headers x 0) (node - 1) 0 == 0 } = rw (sym applied, sym older) refl in
+      let same : pending (after_sweep next) ≡ record (accounts_with (pending w) w.words (swept c.counts x)) { free = λ node. slice_index_or (slice_set w.headers x 0) (node - 1) 0 == 0; leaf = λ node. is_leaf (slice_index_or (slice_set w.headers x 0) (node - 1) 0) } = rw (sym applied, sym older) refl in
       record {
         config = kept.config;
         headers = length-set w.headers x 0 ∙ headers;
-        labels = All-set (λ header. header ≤ 2 ^ 32) w.headers x 0 (omega arith) kept.labels;
+        labels = All-set IsHeader w.headers x 0 (λ some. absurd (omega (arith, some))) kept.labels;
         mutators = phase_moves kept.mutators (λ s there. on.stands s ∙ sym (ap (λ p. stand_at p s) phase));
         collector = record {
           machine = machine;
@@ -430,9 +450,13 @@ module _ (w : Core) (done : ℕ) (x : ℕ) (kept : IsKept w) (phase : w.collecto
           ];
         };
         sweeps = record { odd = kept.sweeps.odd ∙ odd ∙ sym on.sweeping; few = omega (arith, kept.sweeps.few, odd, on.sweeping); some = on.some };
-        scans = scans_change w.config w.headers (slice_set w.headers x 0) w.freed w.freed w.mutators (λ before slot is. (is.0, λ now even. absurd (omega (arith, odd, kept.sweeps.odd, ap (λ n. n % 2) now, even)))) kept.scans;
+        scans = scans_change w.config w.headers (slice_set w.headers x 0) w.freed w.freed w.mutators (λ before slot is. (is.0, λ now even. absurd (omega (arith, odd, kept.sweeps.odd, ap (λ n. n % 2) now, even)))) (swept_unmarked w.headers x (omega (arith, swept_below, headers))) kept.scans;
         made = kept.made;
         sound = sound;
+        greens = λ y green. elim (cases_eq y x) [
+          | inl same_ ↦ absurd (false≢true (sym swept_black ∙ ap (λ n. is_green (slot_at (swept c.counts x) n).colour) (sym same_) ∙ green))
+          | inr other ↦ ap is_leaf (get_or-set_other w.headers x y 0 0 other) ∙ kept.greens y (ap (λ (v : Slot). is_green v.colour) (sym (released_else y other)) ∙ green)
+        ];
         accounted = subst IsAccounted (sym same) (move_accounted (Move.freeing freed) kept.accounted);
         uncounted = λ _. subst HasUncountedReleased (sym same) (move_uncounted (Move.freeing freed) kept.accounted (kept.uncounted (ap freeing_due phase)));
         cycles = on.waits (pending (after_sweep next)) (swept_by next) (subst (λ (p : Pending). SetsWait p (swept c.counts x)) (sym same)

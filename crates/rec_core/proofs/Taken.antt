@@ -1,7 +1,7 @@
 -- A field of a slot that was given up is emptied: its word came out, and its target is lowered or decremented.
-use Rattle.std.proofs.Common.{◌≡◌, ◌⊎◌, inl, inr, ℕ, ◌+◌, ◌-◌, ◌<◌, ◌==◌, Bool, true, Option, None, Some, IfSome, List, length, slice_index_or, refl, sym, ap, subst, ◌∙◌, arith}
-use Rattle.std.proofs.lemmas.Bool.{false≢true, cases_eq, cases_lt, eq-eqb}
-use Rattle.std.proofs.lemmas.List.{get_or-set_same, get_or-set_other, get_or_past, length-set}
+use Rattle.std.proofs.Common.{◌≡◌, ◌⊎◌, inl, inr, ℕ, ◌+◌, ◌-◌, ◌<◌, ◌==◌, Bool, true, Option, None, Some, IfSome, List, length, slice_index_or, refl, sym, ap, subst, ◌∙◌, arith, slice_set}
+use Rattle.std.proofs.lemmas.Bool.{false≢true, cases_eq, cases_lt, eq-eqb, cases_Bool}
+use Rattle.std.proofs.lemmas.List.{get_or-set_same, get_or-set_other, get_or_past, length-set, get_or-replicate, set-get_or}
 use Rattle.rec_word.specs.Place.{place_of}
 use Rattle.rec_word.specs.Word.{target_of}
 use Rattle.rec_model.specs.Accounted.{IsAccounted, HasUncountedReleased, names}
@@ -12,7 +12,7 @@ use Rattle.rec_model.specs.Sums.{one_if_same}
 use Rattle.rec_model.proofs.Consequences.{clearing_covered, move_uncounted}
 use Rattle.rec_model.proofs.CollectorMoves.{free_unnamed}
 use Rattle.rec_model.proofs.Moving.{move_accounted}
-use Rattle.rec_model.proofs.Standing.{write_sound}
+use Rattle.rec_model.proofs.Standing.{write_sound, word_in}
 use Rattle.rec_model.proofs.Sums.{get_or-le-sum_at}
 use Rattle.rec_model.proofs.Weights.{one_if_self}
 use Rattle.rec_counts.specs.Counts.{State, slot_at}
@@ -38,6 +38,7 @@ use Rattle.rec_core.proofs.Moves.{code_target, home_of}
 use Rattle.rec_core.proofs.Places.{place_within}
 use Rattle.rec_core.proofs.Turns.{phase_moves}
 use Rattle.rec_core.proofs.Zeros.{HasCome}
+use Rattle.rec_word.specs.Header.{is_leaf}
 
 -- the place of a field that the collector empties, the word there, and the words without it
 pub record Emptied : Type 0 where
@@ -101,8 +102,17 @@ module _ (w : Core) (slot field : ℕ) (may : MayEmpty w slot field) where
   ]
 
   sound : IsSound (sight (record w { words = words }))
-  sound = write_sound (sight w) slot field 0 within taken (λ n is. null_leads n is) kept.sound
+  sound = elim (cases_Bool (is_leaf (slice_index_or w.headers slot 0))) [
+    | inl leaf ↦ subst (λ ws. IsSound (record (sight w) { words = ws })) (sym (same_words leaf)) kept.sound
+    | inr unmarked ↦ write_sound (sight w) slot field 0 within taken unmarked (λ n is. null_leads n is) kept.sound
+  ]
     where
+      -- a leaf has nothing to lose
+      same_words : is_leaf (slice_index_or w.headers slot 0) ≡ true → words ≡ w.words
+      same_words leaf =
+          let none : slice_index_or w.words place 0 ≡ 0 = sym (word_in (sight w) slot field within) ∙ ap (λ ws. slice_index_or ws field 0) (kept.sound.leaves slot leaf) ∙ get_or-replicate w.config.fields field 0 0 within in
+          ap (slice_set w.words place) (sym none) ∙ set-get_or w.words place 0
+
       null_leads : (n : ℕ) → target_of 0 ≡ Some n → IsTaken (sight w) n
       null_leads n is = let none : target_of 0 ≡ None = refl in let not_so : ◌≡◌ {A = Option ℕ} None (Some n) = sym none ∙ is in absurd (cc)
 
@@ -159,6 +169,7 @@ module _ (w : Core) (slot field : ℕ) (may : MayEmpty w slot field) where
           accounted = off_accounted lowers;
           uncounted = uncounted;
           sound = sound;
+          greens = λ x green. kept.greens x (sym ((most lowers).green x) ∙ green);
           many_words = length-set w.words place 0;
           slots = (most lowers).slots ∙ slots;
           fields = kept.collector.fields;

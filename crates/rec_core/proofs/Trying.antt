@@ -9,7 +9,7 @@ use Rattle.rec_word.specs.Word.{target_of}
 use Rattle.rec_word.specs.declared.op.Op.{Op}
 use Rattle.rec_word.specs.declared.op.Op.TheVariants.{LoadChild}
 use Rattle.rec_model.specs.Accounted.{is_dead}
-use Rattle.rec_model.specs.Pending.{node_of, home, Pending, word_in}
+use Rattle.rec_model.specs.Pending.{node_of, home, Pending}
 use Rattle.rec_model.proofs.Consequences.{fields_name_the_taken}
 use Rattle.rec_counts.specs.Counts.{slot_at}
 use Rattle.rec_counts.specs.Slot.{fresh}
@@ -19,7 +19,7 @@ use Rattle.rec_walk.specs.declared.member.Member.{Member}
 use Rattle.rec_trial.specs.declared.phase.Phase as trial_phases
 use Rattle.rec_trial.specs.declared.phase.Phase.TheVariants as trial_at
 use Rattle.rec_trial.specs.Loaded.{noted}
-use Rattle.rec_trial.specs.Rules.{LeadsToUnreleased}
+use Rattle.rec_trial.specs.Rules.{LeadsToUnreleased, LeadsToVisible, visible}
 use Rattle.rec_trial.specs.Trial.{Machine, Work, next_of, op_at, took_of}
 use Rattle.rec_trial.proofs.AtWork.{at_work_place}
 use Rattle.rec_trial.proofs.Counted.{took_counted}
@@ -42,6 +42,8 @@ use Rattle.rec_core.proofs.Landings.{IsUnswept, here_done, here_pending, landed_
 use Rattle.rec_core.proofs.Moves.{code_target}
 use Rattle.rec_core.proofs.Steps.{slot_there, fields_many}
 use Rattle.rec_core.proofs.Turns.{cycles_in, now_at}
+use Rattle.rec_trial.proofs.Visible.{visible_leads}
+use Rattle.rec_counts.specs.Colour.{is_green}
 
 -- the operation of a trial loads a field
 pub loads_child : (m : Machine) (op : Op) → ◌≡◌ {A = Option Op} (Some op) (next_of m) → (place : ℕ) × (op ≡ LoadChild place)
@@ -151,13 +153,13 @@ module _ (w : Core) (m : Machine) (kept : IsKept w) (phase : w.collector.phase �
     found = slice_index_or w.words place 0
 
     abbrev after : Work
-    after = took_of (record { machine = m; counts = c.counts }) found
+    after = took_of (record { machine = m; counts = c.counts }) (visible c.counts found)
 
     pub trying_lands : HasLanded w w.crossing w.words (still (record (parts_of c) { counts = after.counts }))
     trying_lands =
-        let leads = loaded_leads place named in
+        let leads = visible_leads c.counts found (loaded_leads place named) in
         landed_alike (landed_still (parts_of c) c.phase (ap release_due phase) (ap freeing_due phase) (lands_here w (Trying m) kept phase unswept)) after.counts
-        (tried_alike c.counts after.counts (took_keeps m c.counts now.kept found leads)) (took_counted m c.counts now.kept now.busy found leads kept.collector.machine.counts)
+        (tried_alike c.counts after.counts (took_keeps m c.counts now.kept (visible c.counts found) leads)) (took_counted m c.counts now.kept now.busy (visible c.counts found) leads kept.collector.machine.counts)
 
     -- and its record goes with it
     pub trying_loads : IsLoading (landed_pending w w.words after.counts) after.counts after.machine
@@ -165,16 +167,21 @@ module _ (w : Core) (m : Machine) (kept : IsKept w) (phase : w.collector.phase �
         let loading : IsLoading (pending w) c.counts m = cycles_in w (Trying m) kept phase in
         let p : Pending = landed_pending w w.words c.counts in
         let named_there : next_of loading.run.work.machine ≡ Some (LoadChild place) = ap (λ (x : Work). next_of x.machine) loading.at ∙ named in
-        let stands : TrialStands p (noted loading.run (word_in p place))
-        = trial_stands_noted p w.config.fields loading.before loading.words loading.run place (lands_here w (Trying m) kept phase unswept).accounted (here_done w kept) refl loading.trial named_there (loaded_inside place named)
+        let same_counts : loading.run.work.counts ≡ c.counts = ap (λ (x : Work). x.counts) loading.at in
+        let leads : LeadsToVisible c.counts (visible c.counts found) = visible_leads c.counts found (loaded_leads place named) in
+        let greens : (x : ℕ) → is_green (slot_at (took_of loading.run.work (visible loading.run.work.counts found)).counts x).colour ≡ is_green (slot_at loading.run.work.counts x).colour
+        = subst (λ (v : Work). (x : ℕ) → is_green (slot_at (took_of v (visible v.counts found)).counts x).colour ≡ is_green (slot_at v.counts x).colour) (sym loading.at) (took_keeps m c.counts now.kept (visible c.counts found) leads).green in
+        let stands : TrialStands p (noted loading.run (visible loading.run.work.counts found))
+        = trial_stands_noted p w.config.fields loading.before loading.words loading.run place (lands_here w (Trying m) kept phase unswept).accounted (here_done w kept) refl loading.trial named_there (loaded_inside place named) greens
         (subst (λ (x : Pending). TrialStands x loading.run) (here_pending w (Trying m) phase unswept) loading.stands) in
+        let seen : TrialStands p (noted loading.run (visible c.counts found)) = subst (λ s. TrialStands p (noted loading.run (visible s found))) same_counts stands in
         record {
           before = loading.before;
-          words = loading.words ++ found ∷ [];
-          run = noted loading.run found;
-          trial = took_promised w.config.fields loading.before loading.words loading.run m c.counts found (loaded_leads place named) loading.at loading.trial;
-          at = took_recorded loading.run m c.counts found after.machine after.counts loading.at refl;
-          stands = record { marks = stands.marks; blacks = stands.blacks };
+          words = loading.words ++ visible c.counts found ∷ [];
+          run = noted loading.run (visible c.counts found);
+          trial = took_promised w.config.fields loading.before loading.words loading.run m c.counts (visible c.counts found) leads loading.at loading.trial;
+          at = took_recorded loading.run m c.counts (visible c.counts found) after.machine after.counts loading.at refl;
+          stands = record { marks = seen.marks; blacks = seen.blacks; unmarked = seen.unmarked };
         }
 
     -- whatever follows

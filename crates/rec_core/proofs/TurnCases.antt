@@ -25,6 +25,7 @@ use Rattle.rec_collector.specs.declared.phase.Phase.TheVariants.{Idle, Looking, 
 use Rattle.rec_collector.specs.declared.turn.Turn.{Turn}
 use Rattle.rec_core.specs.Config.{IsMutator}
 use Rattle.rec_core.specs.Core.{Core, box, crossing_of}
+use Rattle.rec_trial.specs.Rules.{visible}
 
 -- the word of a slot's field
 abbrev pub word_at : Core → (slot field : ℕ) → ℕ
@@ -61,7 +62,7 @@ pub data IsTurn (w v : Core) : Type 0 where
   frees : (m : SetFreeing) (a : Member) (q : Private) (turn : Turn) → w.collector.phase ≡ Freeing m → m.at ≡ Some a
       → ClearsOn w.collector q turn (with_freed m (parts_of w.collector) (word_at w a.slot a.field)) → v ≡ record w { words = words_without w a.slot a.field; collector = q } → IsTurn w v
   tries : (m : Trial) (place : ℕ) (q : Private) (turn : Turn) → w.collector.phase ≡ Trying m → ◌≡◌ {A = Option Op} (trial_next m) (Some (LoadChild place))
-      → TriesOn w.collector (parts_of w.collector) (tried_of (record { machine = m; counts = w.collector.counts }) (slice_index_or w.words place 0)) q turn → v ≡ record w { collector = q } → IsTurn w v
+      → TriesOn w.collector (parts_of w.collector) (tried_of (record { machine = m; counts = w.collector.counts }) (visible w.collector.counts (slice_index_or w.words place 0))) q turn → v ≡ record w { collector = q } → IsTurn w v
   prepares : (m : Preparation) (a : loads.At) (q : Private) (turn : Turn) → w.collector.phase ≡ Preparing m → m.at ≡ Some a
       → PreparesOn w.collector (parts_of w.collector) (loaded_of (record { machine = m; counts = w.collector.counts }) (word_at w a.member.slot a.member.field)) q turn → v ≡ record w { collector = q } → IsTurn w v
   begins_sweep : w.collector.phase ≡ Opening → v ≡ record w { freed = w.freed + 1; collector = moved w.collector (Sweeping (slice_get w.collector.counts.free 0) 0) } → IsTurn w v

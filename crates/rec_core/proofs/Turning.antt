@@ -39,6 +39,7 @@ use Rattle.rec_core.proofs.Sweeping.{began_kept, ended_kept, swept_kept, IsStill
 use Rattle.rec_core.proofs.Trying.{loads_child, trying_kept}
 use Rattle.rec_core.proofs.Turns.{now_at, requested_kept, gathered_kept, returned_kept}
 use Rattle.rec_core.proofs.Shapes.{same_boxes}
+use Rattle.rec_trial.specs.Rules.{visible}
 
 -- one operation in two options
 pub some_op : (x y : Op) → ◌≡◌ {A = Option Op} (Some x) (Some y) → x ≡ y
@@ -161,7 +162,7 @@ rule_kept w op word q turn m (Step.trial trial trying named on) =
     let (place, its) = loads_child trial op named in
     let found : word ≡ slice_index_or w.words place 0 = m.found ∙ ap (cell (cells_of w)) its in
     let stays : slice_set w.words place word ≡ w.words = ap (slice_set w.words place) found ∙ set-get_or w.words place 0 in
-    let whole = trying_kept w trial m.kept trying place (sym named ∙ ap (λ o. Some o) its) q turn m.machine (subst (λ n. TriesOn w.collector (parts_of w.collector) (tried_of (record { machine = trial; counts = w.collector.counts }) n) q turn) found on) in
+    let whole = trying_kept w trial m.kept trying place (sym named ∙ ap (λ o. Some o) its) q turn m.machine (subst (λ n. TriesOn w.collector (parts_of w.collector) (tried_of (record { machine = trial; counts = w.collector.counts }) (visible w.collector.counts n)) q turn) found on) in
     subst IsKept (sym (plain_left w op word q (Trying trial) trying refl))
     (subst (λ o. IsKept (record (collected w o word q (box w 1)) { boxes = w.boxes })) (sym its) (subst (λ ws. IsKept (record w { words = ws; collector = q })) (sym stays) whole))
 rule_kept w op word q turn m (Step.preparation prep preparing named on) =

@@ -136,7 +136,7 @@ module _ (w : Core) (c : collectors.Private) (kept : IsKept w) (idle : w.collect
           snapshots = λ weight. request_sums weight (λ (b : Filed). dated_names b.epoch b.buffer.snapshot) (snapshots_nothing w.config weight);
         };
         registers = λ weight. refl;
-        slots = record { count = λ x _. refl; free = λ x _. refl; released = λ x _. refl };
+        slots = record { count = λ x _. refl; free = λ x _. refl; released = λ x _. refl; leaf = λ x _. refl };
       }
 
   pub requested_kept : IsKept requested
@@ -191,6 +191,7 @@ module _ (w : Core) (c : collectors.Private) (kept : IsKept w) (idle : w.collect
         scans = kept.scans;
         made = kept.made;
         sound = kept.sound;
+        greens = kept.greens;
         accounted = move_accounted (Move.request requests) kept.accounted;
         uncounted = λ _. move_uncounted (Move.request requests) kept.accounted (kept.uncounted (ap freeing_due idle));
         cycles = sets_wait_moved w.collector.counts (Move.request requests) tt kept.accounted (alive_in w Idle kept idle) (cycles_in w Idle kept idle);
@@ -206,7 +207,7 @@ same_drops p q writes births snapshots = record {
   words = λ weight. refl;
   registers = λ weight. refl;
   epochs = record { fields = refl; applied = refl; requested = refl };
-  slots = record { count = λ x _. refl; free = λ x _. refl; released = λ x _. refl };
+  slots = record { count = λ x _. refl; free = λ x _. refl; released = λ x _. refl; leaf = λ x _. refl };
 }
 
 -- in a gathering, each other mutator stands where it stood as the mailbox of one is taken, and where it is given back
@@ -385,6 +386,7 @@ module _ (w : Core) (t : ℕ) (kept : IsKept w) (phase : w.collector.phase ≡ L
         scans = kept.scans;
         made = kept.made;
         sound = kept.sound;
+        greens = kept.greens;
         accounted = subst (λ n. IsAccounted (record (pending gathered) { applied = n })) applied (move_accounted (Move.dropping drops) kept.accounted);
         uncounted = λ _. move_uncounted (Move.dropping drops) kept.accounted (kept.uncounted (ap freeing_due phase));
         cycles = subst (λ n. SetsWait (record (pending gathered) { applied = n }) w.collector.counts) applied
@@ -452,6 +454,7 @@ module _ (w : Core) (t : ℕ) (kept : IsKept w) (phase : w.collector.phase ≡ R
         scans = kept.scans;
         made = kept.made;
         sound = kept.sound;
+        greens = kept.greens;
         accounted = subst IsAccounted (sym same) kept.accounted;
         uncounted = λ _. subst HasUncountedReleased (sym same) (kept.uncounted (ap freeing_due phase));
         cycles = subst (λ x. SetsWait x w.collector.counts) (sym same) (cycles_in w (Returning t) kept phase);

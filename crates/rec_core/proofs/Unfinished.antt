@@ -1,5 +1,5 @@
 -- Steps of a mutator that finish nothing: what they leave, how many they are, and that each comes nearer to the end.
-use Rattle.std.proofs.Common.{◌≡◌, ℕ, ◌+◌, ◌-◌, ◌<◌, ◌≤◌, Option, None, Some, IfSome, true, false, refl, sym, ap, subst, ◌∙◌, arith}
+use Rattle.std.proofs.Common.{◌≡◌, ℕ, ◌+◌, ◌-◌, ◌<◌, ◌≤◌, Option, None, Some, IfSome, true, false, refl, sym, ap, subst, ◌∙◌, arith, Bool}
 use Rattle.std.specs.Option.{is_none}
 use Rattle.std.proofs.lemmas.Bool.{false≢true}
 use Rattle.std.proofs.lemmas.List.{set-set, set-get_or}
@@ -11,7 +11,7 @@ use Rattle.rec_mutator.specs.Took.{begun_of, step_of}
 use Rattle.rec_mutator.specs.declared.made.Made.{Made}
 use Rattle.rec_mutator.specs.declared.made.Made.TheVariants as makes
 use Rattle.rec_mutator.specs.declared.phase.Phase.{Phase}
-use Rattle.rec_mutator.specs.declared.phase.Phase.TheVariants.{Idle, Begun, Scanning, Scanned, Crossing, Swapping, Giving, Finished}
+use Rattle.rec_mutator.specs.declared.phase.Phase.TheVariants.{Idle, Begun, Scanning, Scanned, Storing, Crossing, Swapping, Giving, Finished}
 use Rattle.rec_mutator.specs.declared.work.Work.{Work}
 use Rattle.rec_mutator.specs.declared.work.Work.TheVariants as works
 use Rattle.rec_mutator.proofs.Polls.{poll_has_cause}
@@ -25,6 +25,7 @@ use Rattle.rec_core.specs.Unfinished.{OnlyWorks, IsQuiet, HasFound, Waits}
 use Rattle.rec_core.specs.declared.config.Config.{Config}
 use Rattle.rec_core.proofs.Showing.{Says, mutator_left, mutator_other, stepped_mutator, step_says, works_sight}
 use Rattle.rec_core.proofs.Steps.{actor_of, its_box}
+use Rattle.rec_model.specs.Asking.{allocation}
 
 -- nothing changed
 works_none : (w : Core) (t : ℕ) → OnlyWorks w w t
@@ -67,8 +68,8 @@ quiet_both w v u t first second =
 
 -- what a scan has found is said of headers and the freed word alone
 found_same : (w : Core) (t : ℕ) (q : Private) (phase : Phase) → HasFound w phase → HasFound (with_mutator w t q) phase
-found_same w t q (Scanning reg label before slot) is = is
-found_same w t q (Scanned reg label before) is = is
+found_same w t q (Scanning reg label leaf before slot) is = is
+found_same w t q (Scanned reg label leaf before) is = is
 found_same w t q _ is = tt
 
 works_found : (w v : Core) (t : ℕ) (phase : Phase) → OnlyWorks w v t → HasFound w phase → HasFound v phase
@@ -114,8 +115,9 @@ busy_told _ work is = refl
 busy_work : (at : Phase) → is_busy_at at ≡ true → (work : Work) × (work_at at ≡ Some work)
 busy_work Idle busy = absurd (false≢true busy)
 busy_work (Begun work) busy = (work, refl)
-busy_work (Scanning reg label before slot) busy = (works.Command (commands.New reg label), refl)
-busy_work (Scanned reg label before) busy = (works.Command (commands.New reg label), refl)
+busy_work (Scanning reg label leaf before slot) busy = (works.Command (allocation leaf reg label), refl)
+busy_work (Scanned reg label leaf before) busy = (works.Command (allocation leaf reg label), refl)
+busy_work (Storing src f val slot) busy = (works.Command (commands.Put src f val), refl)
 busy_work (Finished work made) busy = absurd (false≢true busy)
 busy_work _ busy = (works.Poll, refl)
 
@@ -143,12 +145,18 @@ step_busy w t kept is busy =
 pub steps_counted : (w : Core) (t : ℕ) → IsKept w → IsMutator w.config t → is_busy (mutator w t) ≡ true → (mutator (stepped w t) t).steps ≡ (mutator w t).steps + 1
 steps_counted w t kept is busy = ap (λ (p : Private). p.steps) (stepped_mutator w t kept is) ∙ step_counts (its_step w t kept is busy)
 
+-- an allocation probes each slot, and looks at the freed word twice
+allocation_limit : (slots reg label : ℕ) (leaf : Bool) → limit_of slots (works.Command (allocation leaf reg label)) ≡ slots + 2
+allocation_limit slots reg label true = refl
+allocation_limit slots reg label false = refl
+
 -- the steps of a work are within its limit
 limit_at : (p : Private) (at : Phase) → IsAt p at → IfSome (work_at at) (λ work. p.steps ≤ limit_of p.slots work)
 limit_at p Idle is = tt
 limit_at p (Begun work) is = let none : p.steps ≡ 0 = is.1 in omega arith
-limit_at p (Scanning reg label before slot) is = let there : slot < p.slots = is.1 in let steps : p.steps ≡ slot + 1 = is.2 in omega arith
-limit_at p (Scanned reg label before) is = let steps : p.steps ≡ p.slots + 1 = is.1 in omega arith
+limit_at p (Scanning reg label leaf before slot) is = let there : slot < p.slots = is.1 in let steps : p.steps ≡ slot + 1 = is.2 in omega (arith, allocation_limit p.slots reg label leaf)
+limit_at p (Scanned reg label leaf before) is = let steps : p.steps ≡ p.slots + 1 = is.1 in omega (arith, allocation_limit p.slots reg label leaf)
+limit_at p (Storing src f val slot) is = let one : p.steps ≡ 1 = is.1 in omega arith
 limit_at p Crossing is = let one : p.steps ≡ 1 = is.0 in omega arith
 limit_at p Swapping is = let two : p.steps ≡ 2 = is.0 in omega arith
 limit_at p Giving is = let two : p.steps ≡ 2 = is.0 in omega arith
@@ -164,6 +172,8 @@ steps_limited w t kept is =
 most_at : (slots steps : ℕ) (x : Option Work) (work : Work) → 0 < slots → x ≡ Some work → IfSome x (λ one. steps ≤ limit_of slots one) → steps ≤ slots + 2
 most_at slots steps None work some is few = let not_so : ◌≡◌ {A = Option Work} None (Some work) = is in (cc)
 most_at slots steps (Some (works.Command (commands.New reg label))) work some is few = few
+most_at slots steps (Some (works.Command (commands.Leaf reg label))) work some is few = few
+most_at slots steps (Some (works.Command (commands.Put src f val))) work some is few = let two : steps ≤ 2 = few in omega arith
 most_at slots steps (Some works.Poll) work some is few = let three : steps ≤ 3 = few in omega arith
 most_at slots steps _ work some is few = let one : steps ≤ 1 = few in omega arith
 

@@ -51,10 +51,10 @@ own_next p = by p.phase
     read f None = refl
     read f (Some slot) = tt
 
-    wrote : (f val : ℕ) (x : Option ℕ) (full : Bool) → IsOwnOp p (write_op p f val x full)
-    wrote f val None full = refl
-    wrote f val (Some slot) true = refl
-    wrote f val (Some slot) false = tt
+    wrote : (x : Option ℕ) (full : Bool) → IsOwnOp p (write_op p x full)
+    wrote None full = refl
+    wrote (Some slot) true = refl
+    wrote (Some slot) false = tt
 
     labelled : (x : Option ℕ) → IsOwnOp p (label_op p x)
     labelled None = refl
@@ -66,8 +66,9 @@ own_next p = by p.phase
 
     first : (cmd : Cmd) → IsOwnOp p (first_op p cmd)
     first (commands.New reg label) = born (is_full p)
+    first (commands.Leaf reg label) = born (is_full p)
     first (commands.Get dst src f) = read f (register p src)
-    first (commands.Put src f val) = wrote f val (register p src) (is_full p)
+    first (commands.Put src f val) = wrote (register p src) (is_full p)
     first (commands.Value reg) = labelled (register p reg)
     first _ = refl
 
@@ -77,8 +78,9 @@ own_next p = by p.phase
 
     by : (phase : phases.Phase) → IsOwnOp p (next_at p phase)
     by (at.Begun work) = worked work
-    by (at.Scanning reg label before slot) = tt
-    by (at.Scanned reg label before) = tt
+    by (at.Scanning reg label leaf before slot) = tt
+    by (at.Scanned reg label leaf before) = tt
+    by (at.Storing src f val slot) = tt
     by _ = refl
 
 -- the own crossing word
@@ -90,7 +92,7 @@ pub own_within : (w : Core) (t : ℕ) (op : Op) → IsKept w → IsMutator w.con
 own_within w t (ops.LoadField place) kept is own names = let o = (actor_of w t kept is).own in subst (λ n. place < n) (fields_many w (mutator w t).slots (mutator w t).fields kept o.slots o.fields) names
 own_within w t (ops.SwapField place word) kept is own names = let o = (actor_of w t kept is).own in subst (λ n. place < n) (fields_many w (mutator w t).slots (mutator w t).fields kept o.slots o.fields) names
 own_within w t (ops.LoadHeader slot) kept is own names = subst (λ n. slot < n) ((actor_of w t kept is).own.slots ∙ sym kept.headers) names
-own_within w t (ops.ClaimHeader slot label) kept is own names = subst (λ n. slot < n) ((actor_of w t kept is).own.slots ∙ sym kept.headers) names
+own_within w t (ops.ClaimHeader slot header) kept is own names = subst (λ n. slot < n) ((actor_of w t kept is).own.slots ∙ sym kept.headers) names
 own_within w t (ops.LoadCross n) kept is own names = crossing_within w t n kept is (own ∙ (actor_of w t kept is).own.number)
 own_within w t (ops.TakeBox n e) kept is own names = crossing_within w t n kept is (own ∙ (actor_of w t kept is).own.number)
 own_within w t (ops.GiveBox n e) kept is own names = crossing_within w t n kept is (own ∙ (actor_of w t kept is).own.number)

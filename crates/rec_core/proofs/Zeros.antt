@@ -1,5 +1,5 @@
 -- Where nothing is at work any more, the first of the zeros is released, and the tests go on.
-use Rattle.std.proofs.Common.{◌≡◌, ◌⊎◌, inl, inr, ℕ, ◌+◌, ◌-◌, ◌*◌, ◌/◌, ◌%◌, ◌<◌, Bool, true, List, [], ◌∷◌, length, slice_index_or, refl, sym, ap, subst, ◌∙◌, arith}
+use Rattle.std.proofs.Common.{◌≡◌, ◌⊎◌, inl, inr, Option, None, Some, ℕ, ◌+◌, ◌-◌, ◌*◌, ◌/◌, ◌%◌, ◌<◌, Bool, true, List, [], ◌∷◌, length, slice_index_or, refl, sym, ap, subst, ◌∙◌, arith}
 use Rattle.std.proofs.Math.Nat.{mod-lt, div-add-mod, mul_comm}
 use Rattle.std.proofs.lemmas.Nat.{div_below}
 use Rattle.std.proofs.lemmas.Bool.{cases_eq}
@@ -10,27 +10,34 @@ use Rattle.rec_model.specs.Pending.{node_of, Pending}
 use Rattle.rec_model.proofs.Consequences.{emptied_uncounted, move_uncounted}
 use Rattle.rec_model.proofs.Ledgers.{node_of_null}
 use Rattle.rec_model.proofs.Moving.{move_accounted}
+use Rattle.rec_model.specs.Sight.{Sight}
+use Rattle.rec_model.proofs.Standing.{word_in}
+use Rattle.rec_counts.specs.Colour.{is_green}
 use Rattle.rec_counts.specs.Counts.{State, slot_at, IsKept as IsKeptCounts}
 use Rattle.rec_counts.specs.Lists.{times}
 use Rattle.rec_counts.specs.Slot.{absent}
 use Rattle.rec_counts.specs.declared.slot.Slot.{Slot}
 use Rattle.rec_counts.proofs.Times.{times-cons, one-same}
 use Rattle.rec_counts.proofs.Keeping.{unreleased_within}
-use Rattle.rec_release.specs.Release.{IsReady, first_of, started_of, without_first}
-use Rattle.rec_release.proofs.Keeping.{released_same, work_next, next_length}
+use Rattle.rec_release.specs.declared.at.At.{At}
+use Rattle.rec_release.specs.Release.{IsReady, emptied, started_of, without_first}
+use Rattle.rec_release.proofs.Keeping.{each_next, emptied_sets, first_length, first_zero, ready_first, ready_gone, released_same, FirstZero}
 use Rattle.rec_collector.specs.Parts.{Parts}
-use Rattle.rec_collector.specs.Testing.{Begun, zeros_released}
+use Rattle.rec_collector.specs.Testing.{Begun, releasing_at, zeros_released}
+use Rattle.rec_collector.specs.declared.phase.Phase.{Phase}
+use Rattle.rec_collector.proofs.Greens.{first_greens}
 use Rattle.rec_collector.proofs.Clearing.{Clears}
-use Rattle.rec_collector.proofs.Goings.{first_begun, next_begun, still}
-use Rattle.rec_release.proofs.Kept.{first_kept}
-use Rattle.rec_core.specs.Core.{Core}
+use Rattle.rec_collector.proofs.Goings.{next_begun, still, with_counts}
+use Rattle.rec_release.proofs.Kept.{emptied_kept, first_kept}
+use Rattle.rec_core.specs.Core.{Core, sight}
 use Rattle.rec_core.specs.Cycles.{SetsTest}
 use Rattle.rec_core.specs.Kept.{IsLeft}
 use Rattle.rec_core.specs.Pending.{pending}
-use Rattle.rec_core.proofs.Counts.{accounts_with, counted_slot, releases, slots_accounts}
+use Rattle.rec_core.proofs.Counts.{accounts_with, counted_slot, emptied_alike, releases, slots_accounts}
 use Rattle.rec_core.proofs.CyclesLess.{less_listed, less_without_first}
 use Rattle.rec_core.proofs.CyclesTest.{sets_test_less, sets_test_stepped}
-use Rattle.rec_core.proofs.Landed.{landed_pending, HasLanded, HasCleared}
+use Rattle.rec_core.proofs.Landed.{landed_pending, begun_freeing, begun_release, HasLanded, HasCleared}
+use Rattle.std.proofs.lemmas.List.{get_or-replicate}
 
 -- Where a collection has come to while slots are released and sets tested, but for what its machines know of the counts.
 pub record HasCome (w : Core) (crossing words : List ℕ) (b : Begun) : Type 0 where
@@ -51,13 +58,11 @@ landed_empty l x f below within released = elim (l.emptied x f below within rele
   | inr rest ↦ elim rest [ inl left ↦ absurd left | inr none ↦ none ]
 ]
 
--- they are empty where the next zero is released, but for its own, which are still to be emptied
-next_left : (slots fields : ℕ) (words : List ℕ) (s : State) (zs : List ℕ) → AreEmpty slots fields words s → (x f : ℕ) → x < slots → f < fields → (slot_at (without_first zs s) x).released ≡ true → IsLeft (first_of zs) x f ⊎ (slice_index_or words (place_of x f fields) 0 ≡ 0)
-next_left slots fields words s [] empty x f below within released = inr (empty x f below within released)
-next_left slots fields words s (z ∷ zs) empty x f below within released = elim (cases_eq x z) [
-  | inl same ↦ inl (same, omega arith)
-  | inr other ↦ inr (empty x f below within (sym (released_same s z x other) ∙ released))
-]
+-- the fields of a leaf are empty
+pub leaf_empty : {w : Core} {crossing words : List ℕ} {b : Begun} → HasLanded w crossing words b → (x f : ℕ) → f < w.config.fields → is_green (slot_at b.parts.counts x).colour ≡ true → slice_index_or words (place_of x f w.config.fields) 0 ≡ 0
+leaf_empty {w} {crossing} {words} l x f within green =
+    let seen : Sight = sight (record w { words = words }) in
+    sym (word_in seen x f within) ∙ ap (λ ws. slice_index_or ws f 0) (l.sound.leaves x (l.greens x green)) ∙ get_or-replicate w.config.fields f 0 0 within
 
 -- where all fields of released slots are empty, none of these slots is counted
 pub empty_uncounted : (p : Pending) (words : List ℕ) (slots : ℕ) (s : State) → 0 < p.fields → length s.slots ≡ slots → length words ≡ slots * p.fields → AreEmpty slots p.fields words s
@@ -96,50 +101,38 @@ some_fields l = omega (arith, l.kept.collector.machine.some_fields, l.kept.colle
 some_epochs : {w : Core} {crossing words : List ℕ} {b : Begun} → HasLanded w crossing words b → w.epoch - 1 + 1 ≡ w.epoch
 some_epochs l = omega (arith, l.kept.config.some_epoch, l.kept.collector.begun, l.way)
 
--- The next of the zeros is released.
-pub next_come : {w : Core} {crossing words : List ℕ} {v : Parts} (fields : ℕ) (lowers : Bool) → fields ≡ w.config.fields → HasCome w crossing words (still v) → IsReady v.counts → HasCome w crossing words (next_begun fields lowers v)
-next_come {w} {crossing} {words} {v} fields lowers same h ready = go s.zeros refl
-  where
-    s : State
-    s = v.counts
-
-    l : HasLanded w crossing words (still v)
-    l = h.landed
-
-    empty : AreEmpty w.config.slots w.config.fields words s
-    empty = landed_empty l
-
-    go : (zs : List ℕ) → s.zeros ≡ zs → HasCome w crossing words (first_begun fields lowers zs v)
-    go zs is = by zs is (next_released (record (pending w) { applied = w.epoch - 1 }) words s zs is (some_epochs l) ready l.accounted (l.uncounted refl))
-        (subst (λ ys. IsKeptCounts (without_first ys s)) is (first_kept s.zeros s refl l.counts))
-        (subst (λ ys. (x : ℕ) → 0 < times x (without_first ys s).free → (slot_at (without_first ys s) x).released ≡ true) is (work_next fields lowers s (omega (arith, some_fields l, same)) ready).ready.free)
-      where
-        by : (zs : List ℕ) → s.zeros ≡ zs → IsReleased (record (pending w) { applied = w.epoch - 1 }) words s (without_first zs s) → IsKeptCounts (without_first zs s)
-            → ((x : ℕ) → 0 < times x (without_first zs s).free → (slot_at (without_first zs s) x).released ≡ true) → HasCome w crossing words (first_begun fields lowers zs v)
-        by [] is next counts free = h
-        by (z ∷ zs) is next counts free = record {
-          landed = record {
-            kept = l.kept;
-            way = l.way;
-            still = l.still;
-            older = l.older;
-            mutators = l.mutators;
-            accounted = next.accounted;
-            uncounted = λ _. next.uncounted;
-            sound = l.sound;
-            many_words = l.many_words;
-            slots = next_length (z ∷ zs) s ∙ l.slots;
-            fields = l.fields;
-            counts = counts;
-            listed = free;
-            emptied = λ x f below within released. elim (next_left w.config.slots w.config.fields words s (z ∷ zs) empty x f below within released) [ inl left ↦ inl left | inr none ↦ inr (inr none) ];
-          };
-          tests = next.tests h.tests;
-        }
-
-pub zeros_come : {w : Core} {crossing words : List ℕ} {v : Parts} (lowers : Bool) → HasCome w crossing words (still v) → IsReady v.counts → HasCome w crossing words (zeros_released lowers v)
-unfolding started_of
-zeros_come {v = v} lowers h ready = next_come v.fields lowers h.landed.fields h ready
+-- The first of the zeros is released, and this is begun: its fields are to be emptied, or are empty.
+first_come : {w : Core} {crossing words : List ℕ} {v : Parts} (z : ℕ) (zs : List ℕ) (begun : Option Phase) → v.counts.zeros ≡ z ∷ zs → HasCome w crossing words (still v) → IsReady v.counts → begun_freeing begun ≡ None
+    → ((f : ℕ) → f < w.config.fields → IsLeft (begun_release begun) z f ⊎ (slice_index_or words (place_of z f w.config.fields) 0 ≡ 0))
+    → HasCome w crossing words (record { parts = with_counts v (without_first (z ∷ zs) v.counts); phase = begun })
+first_come {w} {crossing} {words} {v} z zs begun is h ready unfreed left =
+    let s : State = v.counts in
+    let t : State = without_first (z ∷ zs) s in
+    let l = h.landed in
+    let next = next_released (record (pending w) { applied = w.epoch - 1 }) words s (z ∷ zs) is (some_epochs l) ready l.accounted (l.uncounted refl) in
+    record {
+      landed = record {
+        kept = l.kept;
+        way = l.way;
+        still = l.still;
+        older = l.older;
+        mutators = l.mutators;
+        accounted = next.accounted;
+        uncounted = λ _. next.uncounted;
+        sound = l.sound;
+        greens = λ x green. l.greens x (first_greens s z zs x green);
+        many_words = l.many_words;
+        slots = first_length (z ∷ zs) s ∙ l.slots;
+        fields = l.fields;
+        counts = first_kept (z ∷ zs) s is l.counts;
+        listed = (ready_first s z zs is ready).free;
+        emptied = λ x f below within released. elim (cases_eq x z) [
+          | inl same ↦ elim (subst (λ n. IsLeft (begun_release begun) n f ⊎ (slice_index_or words (place_of n f w.config.fields) 0 ≡ 0)) (sym same) (left f within)) [ inl due ↦ inl due | inr none ↦ inr (inr none) ]
+          | inr other ↦ inr (inr (landed_empty l x f below within (sym (released_same s z x other) ∙ released)))
+        ];
+      };
+      tests = next.tests h.tests;
+    }
 
 -- Slots that are released went to the free list.
 pub listed_come : {w : Core} {crossing words : List ℕ} {v : Parts} (t : State) → HasCome w crossing words (still v) → t.slots ≡ v.counts.slots → t.sets ≡ v.counts.sets
@@ -158,6 +151,7 @@ listed_come {w} {crossing} {words} {v} t h slots sets listed kept =
         accounted = subst IsAccounted (sym same) l.accounted;
         uncounted = λ none. subst HasUncountedReleased (sym same) (l.uncounted refl);
         sound = l.sound;
+        greens = λ x green. l.greens x (ap (λ (vs : List Slot). is_green (slice_index_or vs x absent).colour) (sym slots) ∙ green);
         many_words = l.many_words;
         slots = ap length slots ∙ l.slots;
         fields = l.fields;
@@ -167,3 +161,26 @@ listed_come {w} {crossing} {words} {v} t h slots sets listed kept =
       };
       tests = sets_test_less (landed_pending w words t) s t (less_listed s t slots sets) (subst (λ q. SetsTest q s) (sym same) h.tests);
     }
+
+-- what a release begins with this field
+abbrev begun_at : (fields : ℕ) (lowers : Bool) → Option At → Option Phase
+begun_at fields lowers at = releasing_at (record { fields = fields; at = at; lowers = lowers }) at
+
+-- The zeros are released up to the first that isn't Green: each Green one is empty at once.
+pub next_come : {w : Core} {crossing words : List ℕ} {v : Parts} (fields : ℕ) (lowers : Bool) → HasCome w crossing words (still v) → IsReady v.counts → HasCome w crossing words (next_begun fields lowers v)
+next_come {w} {crossing} {words} {v} fields lowers h ready =
+    each_next (λ at u. HasCome w crossing words (record { parts = with_counts v u; phase = begun_at fields lowers at }))
+    (λ u z zs is r green c.
+        let first : FirstZero u z zs = first_zero u z zs is r in
+        let t : State = without_first (z ∷ zs) u in
+        let came : HasCome w crossing words (still (with_counts v t)) = first_come z zs None is c r refl (λ f within. inr (leaf_empty c.landed z f within green)) in
+        let gone : IsReady (emptied t z) = ready_gone u z zs is r in
+        let many : length t.slots ≡ length u.slots = first_length (z ∷ zs) u in
+        listed_come (emptied t z) came (emptied_alike t z) (emptied_sets t z) gone.free (emptied_kept t z (omega (arith, first.in_range, many)) first.unlisted came.landed.counts))
+    (λ u z zs is r other c. first_come z zs (begun_at fields lowers (Some (record { slot = z; field = 0 }))) is c r refl (λ f within. inl (refl, omega arith)))
+    v.counts.zeros v.counts refl ready h
+
+pub zeros_come : {w : Core} {crossing words : List ℕ} {v : Parts} (lowers : Bool) → HasCome w crossing words (still v) → IsReady v.counts → HasCome w crossing words (zeros_released lowers v)
+unfolding started_of
+zeros_come {v = v} lowers h ready = next_come v.fields lowers h ready
+

@@ -52,5 +52,5 @@ with_cell cells op x = with_word cells (cell_of op) x
 
 -- the births of an operation that found this word: one where it claimed a free slot
 abbrev pub births_of : Op → ℕ → ℕ
-births_of (ClaimHeader slot label) found = if found == 0 then 1 else 0
+births_of (ClaimHeader slot header) found = if found == 0 then 1 else 0
 births_of _ found = 0

@@ -49,6 +49,7 @@ pub record IsFirstWrong (config : Config) (part : Part) : Type 0 where
 -- the registers and the field that a command names are there
 abbrev pub HasOperands : Config → Cmd → Type 0
 HasOperands config (commands.New reg label) = reg < config.registers
+HasOperands config (commands.Leaf reg label) = reg < config.registers
 HasOperands config (commands.Null reg) = reg < config.registers
 HasOperands config (commands.Copy dst src) = (dst < config.registers) × (src < config.registers)
 HasOperands config (commands.Get dst src f) = (dst < config.registers) × (src < config.registers) × (f < config.fields)
@@ -72,4 +73,5 @@ IsWork config works.Poll = Unit {0}
 -- the label of an allocation fits a header
 abbrev pub HasLabel : Work → Type 0
 HasLabel (works.Command (commands.New reg label)) = label < 2 ^ 32
+HasLabel (works.Command (commands.Leaf reg label)) = label < 2 ^ 32
 HasLabel _ = Unit {0}

@@ -7,6 +7,7 @@ use Rattle.rec_model.specs.References.{closed_at}
 use Rattle.rec_model.specs.Moves.{puts_in}
 use Rattle.rec_model.specs.Sets.{HasLoaded, IsMarked, IsTesting, seen_in}
 use Rattle.rec_counts.specs.declared.colour.Colour.TheVariants.{Orange}
+use Rattle.rec_counts.specs.Colour.{is_green}
 use Rattle.rec_counts.specs.Counts.{State, slot_at}
 use Rattle.rec_counts.specs.Lists.{times}
 use Rattle.rec_counts.specs.Slot.{is_in}
@@ -36,12 +37,14 @@ word_seen fields (l ∷ loads) place = if place == place_loaded fields l then l.
 abbrev pub AreFields : (fields : ℕ) → List Load → Type 0
 AreFields fields loads = All (λ (l : Load). l.field < fields) loads
 
--- A trial is at work. Each word that marking loaded is a reference of the next batch's epoch. Where blackening loaded a field that
+-- A trial is at work. It sees a word that leads to a Green slot as null. Each word that marking saw is a reference of the next batch's epoch. Where blackening loaded a field that
 -- had another target by then, the word that marking loaded there was replaced.
 pub record TrialStands (w : Pending) (r : Run) : Type 0 where
   pub marks : HasLoaded w (word_loaded w.fields r.marking)
   pub blacks : (place node : ℕ) → place < length w.words → 0 < node → 0 < loaded (place / w.fields) (place % w.fields) r.blackening
       → one_if_same node (node_of (word_loaded w.fields r.marking place)) ≤ closed_at w (w.applied + 1) place node + one_if_same node (node_of (word_loaded w.fields r.blackening place))
+  -- no word that marking saw leads to a Green slot
+  pub unmarked : (place node : ℕ) → 0 < node → node_of (word_loaded w.fields r.marking place) ≡ node → is_green (slot_at r.work.counts (node - 1)).colour ≡ false
 
 -- Sets are prepared, and these fields were loaded for it: the trial's members are what a trial leaves that marked with such loads, and
 -- each word that was loaded for the preparation is a reference of the next batch's epoch.

@@ -1,6 +1,7 @@
 -- What every heap with its collector keeps.
 use Rattle.std.specs.Prelude.{◌≡◌, ◌⊎◌, ℕ, ◌+◌, ◌-◌, ◌*◌, ◌%◌, ◌^◌, ◌<◌, ◌≤◌, ◌==◌, nat_lt, if◌then◌else◌, Bool, true, false, Option, None, Some, List, [], All, length, slice_index_or}
 use Rattle.std.specs.List.{sum_by}
+use Rattle.rec_word.specs.Header.{is_leaf, IsTakenHeader}
 use Rattle.rec_word.specs.Mailbox.{crossing_word}
 use Rattle.rec_word.specs.declared.mailbox.Mailbox.{Mailbox}
 use Rattle.rec_word.specs.declared.mailbox.Mailbox.TheVariants.{Retired, Spare, WithCollector, WithMutator}
@@ -12,7 +13,8 @@ use Rattle.rec_model.specs.Sight.{IsSound}
 use Rattle.rec_log.specs.declared.contents.Contents.{Contents}
 use Rattle.rec_log.specs.declared.entry.Entry.{Entry}
 use Rattle.rec_log.specs.declared.entry.Entry.TheVariants as entries
-use Rattle.rec_counts.specs.Counts.{slot_at}
+use Rattle.rec_counts.specs.Colour.{is_green}
+use Rattle.rec_counts.specs.Counts.{State, slot_at}
 use Rattle.rec_counts.specs.Lists.{times}
 use Rattle.rec_release.specs.declared.at.At.{At}
 use Rattle.rec_walk.specs.declared.member.Member.{Member}
@@ -42,7 +44,7 @@ IsSettledIn _ = Unit {0}
 -- the label of an allocation that goes on fits a header
 abbrev pub HasLabelAt : phases.Phase → Type 0
 HasLabelAt (at.Begun work) = HasLabel work
-HasLabelAt (at.Scanning reg label before slot) = label < 2 ^ 32
+HasLabelAt (at.Scanning reg label leaf before slot) = label < 2 ^ 32
 HasLabelAt _ = Unit {0}
 
 -- what is known of a mutator of a heap with these numbers
@@ -59,7 +61,7 @@ pub record IsOwn (config : Config) (t : ℕ) (p : Private) : Type 0 where
 -- A write was made in this epoch. A birth bears no stamp.
 abbrev pub IsMadeIn : (epoch : ℕ) → Entry → Type 0
 IsMadeIn epoch (entries.Put place new old) = epoch_of new ≡ epoch
-IsMadeIn epoch (entries.Born slot) = Unit {0}
+IsMadeIn epoch (entries.Born slot leaf) = Unit {0}
 
 -- a buffer of this heap: of its size, within its capacity, with the entries of one epoch
 pub record IsBufferOf (config : Config) (epoch : ℕ) (b : Contents) : Type 0 where
@@ -184,10 +186,11 @@ pub record HasSweeps (freed : ℕ) (collections : ℕ) (phase : Phase) : Type 0 
 abbrev pub HasPassed : (headers : List ℕ) → (freed before slot : ℕ) → Type 0
 HasPassed headers freed before slot = (before ≤ freed) × (before ≡ freed → before % 2 ≡ 0 → (s : ℕ) → s < slot → 0 < slice_index_or headers s 0)
 
--- what is known of an allocation's scan, by phase
+-- what is known of an allocation's scan, by phase; and of a write that goes on, that its object is no leaf
 abbrev pub IsScanning : (slots : ℕ) → (headers : List ℕ) → (freed : ℕ) → phases.Phase → Type 0
-IsScanning slots headers freed (at.Scanning reg label before slot) = HasPassed headers freed before slot
-IsScanning slots headers freed (at.Scanned reg label before) = HasPassed headers freed before slots
+IsScanning slots headers freed (at.Scanning reg label leaf before slot) = HasPassed headers freed before slot
+IsScanning slots headers freed (at.Scanned reg label leaf before) = HasPassed headers freed before slots
+IsScanning slots headers freed (at.Storing src f val slot) = is_leaf (slice_index_or headers slot 0) ≡ false
 IsScanning slots headers freed _ = Unit {0}
 
 -- what is known of all scans
@@ -198,17 +201,26 @@ HasScans config headers freed mutators = (t : ℕ) → IsMutator config t → Is
 abbrev pub entries_made : Config → Private → ℕ
 entries_made config p = (epoch_at p - config.first_epoch) * config.log_entries + length p.log.entries
 
+-- a header is 0, or that of a taken slot
+abbrev pub IsHeader : (header : ℕ) → Type 0
+IsHeader header = 0 < header → IsTakenHeader header
+
+-- each Green slot has a leaf
+abbrev pub HasGreens : (headers : List ℕ) → State → Type 0
+HasGreens headers s = (x : ℕ) → is_green (slot_at s x).colour ≡ true → is_leaf (slice_index_or headers x 0) ≡ true
+
 -- What every heap with its collector keeps.
 pub record IsKept (w : Core) : Type 0 where
   pub config : IsConfig w.config
   pub headers : length w.headers ≡ w.config.slots
-  pub labels : All (λ header. header ≤ 2 ^ 32) w.headers
+  pub labels : All IsHeader w.headers
   pub mutators : HasMutators w.config w.epoch w.collector.phase w.mutators w.crossing w.boxes
   pub collector : HasCollector w.config w.epoch w.words w.collector
   pub sweeps : HasSweeps w.freed w.collector.collections w.collector.phase
   pub scans : HasScans w.config w.headers w.freed w.mutators
   pub made : w.made ≤ 1 + sum_by (entries_made w.config) w.mutators
   pub sound : IsSound (sight w)
+  pub greens : HasGreens w.headers w.collector.counts
   pub accounted : IsAccounted (pending w)
   -- what was given up has no count, but while a set is freed
   pub uncounted : freeing_due w.collector.phase ≡ None → HasUncountedReleased (pending w)

@@ -1,8 +1,9 @@
 -- What a heap with its collector has to account for: its words and registers, and what all its buffers hold.
 use Rattle.std.specs.Prelude.{ℕ, ◌+◌, ◌-◌, ◌==◌, if◌then◌else◌, Option, List, [], ◌∷◌, ◌++◌, map, flat_map, slice_index_or}
+use Rattle.rec_word.specs.Header.{is_leaf}
 use Rattle.rec_word.specs.Word.{low_bits}
 use Rattle.rec_model.specs.Reach.{named}
-use Rattle.rec_model.specs.Pending.{Write, Dated, dated, Pending}
+use Rattle.rec_model.specs.Pending.{Write, Dated, dated, dated_birth, Pending}
 use Rattle.rec_log.specs.declared.contents.Contents.{Contents}
 use Rattle.rec_log.specs.declared.entry.Entry.{Entry}
 use Rattle.rec_log.specs.declared.entry.Entry.TheVariants as entries
@@ -30,13 +31,13 @@ filed epoch buffer = record { epoch = epoch; buffer = buffer }
 abbrev pub writes_in : List Entry → List Write
 writes_in [] = []
 writes_in (entries.Put place new old ∷ es) = record { place = place; new = new; old = old } ∷ writes_in es
-writes_in (entries.Born slot ∷ es) = writes_in es
+writes_in (entries.Born slot leaf ∷ es) = writes_in es
 
 -- the births in a log of this epoch, in order
 abbrev pub births_in : (epoch : ℕ) → List Entry → List Dated
 births_in epoch [] = []
 births_in epoch (entries.Put place new old ∷ es) = births_in epoch es
-births_in epoch (entries.Born slot ∷ es) = dated epoch (slot + 1) ∷ births_in epoch es
+births_in epoch (entries.Born slot leaf ∷ es) = dated_birth epoch (slot + 1) leaf ∷ births_in epoch es
 
 -- what is named, each with this epoch
 abbrev pub dated_names : (epoch : ℕ) → List (Option ℕ) → List Dated
@@ -99,4 +100,5 @@ pending w =
       count = λ node. (slot_of w node).count;
       free = λ node. slice_index_or w.headers (node - 1) 0 == 0;
       released = λ node. (slot_of w node).released;
+      leaf = λ node. is_leaf (slice_index_or w.headers (node - 1) 0);
     }

@@ -1,6 +1,6 @@
 -- What is known of the collector in a heap at rest, from when every slot is to be offered to a trial until that trial's sets are freed.
 -- `words` are the words of the fields, and `w` the heap, whose headers and registers stay meanwhile.
-use Rattle.std.specs.Prelude.{◌≡◌, ℕ, ◌+◌, ◌<◌, ◌==◌, true, false, None, Some, List, [], sum_by, slice_index_or}
+use Rattle.std.specs.Prelude.{◌≡◌, ℕ, ◌+◌, ◌<◌, ◌==◌, true, false, None, Some, List, [], sum_by, slice_index_or, ◌/◌, length}
 use Rattle.rec_model.specs.Sight.{Sight}
 use Rattle.rec_counts.specs.Counts.{State, slot_at, IsKept}
 use Rattle.rec_counts.specs.Lists.{one}
@@ -18,7 +18,9 @@ use Rattle.rec_collector.specs.Private.{Private}
 use Rattle.rec_collector.specs.declared.phase.Phase.{Phase}
 use Rattle.rec_collector.specs.declared.phase.Phase.TheVariants.{Idle, Looking, Swapping, Returning, Releasing, Freeing, Trying, Preparing, Opening, Sweeping, Closing}
 use Rattle.rec_core.specs.Core.{Core, sight}
-use Rattle.rec_core.specs.Settling.{word_in, heap_sum, IsReachable, IsOffered, AreEmptied, AreLoadsOf, LeadBack, AreUnheld}
+use Rattle.rec_core.specs.Settling.{word_in, heap_sum, IsReachable, IsOffered, AreEmptied, AreLoadsOf, LeadBack, AreUnheld, seen_in}
+use Rattle.rec_word.specs.Word.{target_of}
+use Rattle.rec_counts.specs.Colour.{is_green}
 
 -- how many registers name the slot, and one if it is there and free
 abbrev pub holds : Sight → (slot : ℕ) → ℕ
@@ -33,9 +35,13 @@ IsHeldIn w words = IsReachable w.config.fields (word_in w.config.fields words) (
 abbrev pub AreCounted : Core → (words : List ℕ) → State → Type 0
 AreCounted w words s = (x : ℕ) → x < w.config.slots → (slot_at s x).count ≡ heap_sum words x + holds (sight w) x
 
--- what isn't released is within reach, but for the members of sets
+-- what is neither released nor Green is within reach, but for the members of sets
 abbrev pub AreFound : Core → (words : List ℕ) → State → Type 0
-AreFound w words s = (x : ℕ) → (slot_at s x).released ≡ false → (slot_at s x).set ≡ None → (IsHeldIn w words x → ⊥) → ⊥
+AreFound w words s = (x : ℕ) → (slot_at s x).released ≡ false → is_green (slot_at s x).colour ≡ false → (slot_at s x).set ≡ None → (IsHeldIn w words x → ⊥) → ⊥
+
+-- no field of a Green slot leads anywhere
+abbrev pub AreLeaves : (fields : ℕ) → (words : List ℕ) → State → Type 0
+AreLeaves fields words s = (place : ℕ) → place < length words → is_green (slot_at s (place / fields)).colour ≡ true → target_of (slice_index_or words place 0) ≡ None
 
 -- what isn't released is within reach
 abbrev pub AreWithinReach : Core → (words : List ℕ) → State → Type 0
@@ -45,18 +51,19 @@ AreWithinReach w words s = (x : ℕ) → (slot_at s x).released ≡ false → (I
 abbrev pub AreUnnamed : Core → State → Type 0
 AreUnnamed w s = (x i : ℕ) → (slot_at s x).set ≡ Some i → holds (sight w) x ≡ 0
 
--- A trial to which every slot was offered is at work, and each word that it loaded stands.
+-- A trial to which every slot was offered is at work, and each word that it saw stands.
 pub record TrialRests (w : Core) (words : List ℕ) (v : Work) : Type 0 where
   pub before : State
   pub loaded : List ℕ
   pub run : Run
   pub trial : IsTrial w.config.fields before loaded run
   pub at : ◌≡◌ {A = Work} run.work v
-  pub marks : AreStill (word_in w.config.fields words) run.marking
-  pub blacks : AreStill (word_in w.config.fields words) run.blackening
-  pub finds : AreStill (word_in w.config.fields words) run.collecting
-  pub offered : IsOffered w.config.fields (word_in w.config.fields words) (holds (sight w)) before
+  pub marks : AreStill (seen_in w.config.fields words before) run.marking
+  pub blacks : AreStill (seen_in w.config.fields words before) run.blackening
+  pub finds : AreStill (seen_in w.config.fields words before) run.collecting
+  pub offered : IsOffered w.config.fields (seen_in w.config.fields words before) (holds (sight w)) before
   pub emptied : AreEmptied w.config.fields words [] before
+  pub leaves : AreLeaves w.config.fields words before
 
 -- The sets that it found are prepared: its members are just what is not within reach.
 pub record PrepRests (w : Core) (words : List ℕ) (v : preps.Work) : Type 0 where

@@ -37,8 +37,8 @@ BeginsNone t (Move.Steps s ∷ ms) = BeginsNone t ms
 BeginsNone t (Move.Turns ∷ ms) = BeginsNone t ms
 BeginsNone t (Move.Offers ∷ ms) = BeginsNone t ms
 
--- Where the steps of an allocation of this label were made over these moves, and one more at their end `v` answers it this: every probe
+-- Where the steps of an allocation with this header were made over these moves, and one more at their end `v` answers it this: every probe
 -- failed. Full comes where the freed word was even and the same before and after the probes, and Busy tells the two where it was not.
-pub record FailsByProbes (w : Core) (t label : ℕ) (moves : List Move) (v : Core) (answer : Answer) : Type 0 where
-  pub full : answer ≡ answers.Full → (before : ℕ) × FailsScan label w.config.slots before (ops_over w t moves) (words_over w t moves) × IsStill before (found_by v t)
-  pub busy : (before after : ℕ) → answer ≡ answers.Busy before after → FailsScan label w.config.slots before (ops_over w t moves) (words_over w t moves) × (after ≡ found_by v t) × (IsStill before after → ⊥)
+pub record FailsByProbes (w : Core) (t header : ℕ) (moves : List Move) (v : Core) (answer : Answer) : Type 0 where
+  pub full : answer ≡ answers.Full → (before : ℕ) × FailsScan header w.config.slots before (ops_over w t moves) (words_over w t moves) × IsStill before (found_by v t)
+  pub busy : (before after : ℕ) → answer ≡ answers.Busy before after → FailsScan header w.config.slots before (ops_over w t moves) (words_over w t moves) × (after ≡ found_by v t) × (IsStill before after → ⊥)

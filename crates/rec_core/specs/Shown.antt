@@ -1,6 +1,7 @@
 -- What a step of a mutator shows, in a heap with its collector.
-use Rattle.std.specs.Prelude.{◌≡◌, ℕ, ◌+◌, ◌<◌, if◌then◌else◌, Bool, true, Option, None, Some, slice_index_or}
+use Rattle.std.specs.Prelude.{◌≡◌, ℕ, ◌+◌, ◌<◌, if◌then◌else◌, Bool, true, false, Option, None, Some, slice_index_or}
 use Rattle.std.specs.Option.{IfSome}
+use Rattle.rec_word.specs.Header.{header_word}
 use Rattle.rec_word.specs.Word.{target_of, stamp_of}
 use Rattle.rec_model.specs.Asking.{is_done, refuses_new}
 use Rattle.rec_model.specs.Explained.{IsExplained}
@@ -29,17 +30,19 @@ IsFilled w = (slot : ℕ) → slot < w.config.slots → IsTaken (sight w) slot
 -- an answer that the command can have: an allocation is done or refused
 abbrev pub may_answer : Cmd → Answer → Bool
 may_answer (commands.New reg label) answer = if is_done answer then true else refuses_new answer
+may_answer (commands.Leaf reg label) answer = if is_done answer then true else refuses_new answer
 may_answer _ answer = true
 
 -- the log entries that a command made: one for a birth and one for a write
 abbrev pub entries_of : Cmd → Answer → ℕ
 entries_of (commands.New reg label) answers.Done = 1
+entries_of (commands.Leaf reg label) answers.Done = 1
 entries_of (commands.Put src f val) answers.Done = 1
 entries_of _ _ = 0
 
--- what is seen after a birth in a slot
+-- what is seen after a birth in a slot, with this header
 abbrev pub sight_with_birth : Sight → ℕ → ℕ → ℕ → ℕ → Sight
-sight_with_birth w t reg slot label = sight_with_register (sight_with_header w slot (label + 1)) t reg (Some slot)
+sight_with_birth w t reg slot header = sight_with_register (sight_with_header w slot header) t reg (Some slot)
 
 -- what is seen after a read of a field, if there was an object
 abbrev pub sight_after_get : Sight → ℕ → ℕ → Option ℕ → Option ℕ → Sight
@@ -54,7 +57,8 @@ sight_after_put w f _ _ word = w
 -- What is seen after a command that was told this, where an object that is born has this slot: a birth takes the slot and a
 -- register, a write one field's word, a read, a copy or a null one register, and all else stays.
 abbrev pub sight_told : Sight → (slot t : ℕ) → Cmd → Told → Sight
-sight_told w slot t (commands.New reg label) told = if is_done told.answer then sight_with_birth w t reg slot label else w
+sight_told w slot t (commands.New reg label) told = if is_done told.answer then sight_with_birth w t reg slot (header_word false label) else w
+sight_told w slot t (commands.Leaf reg label) told = if is_done told.answer then sight_with_birth w t reg slot (header_word true label) else w
 sight_told w slot t (commands.Null reg) told = sight_with_register w t reg None
 sight_told w slot t (commands.Copy dst src) told = sight_with_register w t dst (register w.registers t src)
 sight_told w slot t (commands.Get dst src f) told = sight_after_get w t dst (register w.registers t src) (target_of told.saw)
@@ -64,7 +68,7 @@ sight_told w slot t (commands.Same a b) told = w
 
 -- the slot that a scan has come to
 abbrev pub probed_at : Phase → Option ℕ
-probed_at (Scanning reg label before slot) = Some slot
+probed_at (Scanning reg label leaf before slot) = Some slot
 probed_at _ = None
 
 -- a free slot that a mutator's scan has come to

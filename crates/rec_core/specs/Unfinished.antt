@@ -24,8 +24,8 @@ pub record IsQuiet (before after : Core) (t : ℕ) : Type 0 where
 
 -- what a scan has found since it began, where nothing else moved: each slot that it has passed holds an object
 abbrev pub HasFound : Core → Phase → Type 0
-HasFound w (Scanning reg label before slot) = (before ≡ w.freed) × ((s : ℕ) → s < slot → IsTaken (sight w) s)
-HasFound w (Scanned reg label before) = (before ≡ w.freed) × IsFilled w
+HasFound w (Scanning reg label leaf before slot) = (before ≡ w.freed) × ((s : ℕ) → s < slot → IsTaken (sight w) s)
+HasFound w (Scanned reg label leaf before) = (before ≡ w.freed) × IsFilled w
 HasFound w _ = Unit {0}
 
 -- Steps of a mutator that finished nothing: only its work went on, or it holds its mailbox.

@@ -1,13 +1,13 @@
 //! What holds of every run, each law as the contract of a function that does nothing.
 
-ghost use Rattle.std.specs.Prelude.{◌≡◌, ℕ, ◌+◌, ◌<◌, ◌≤◌, List, Some, IfSome, false, true, map, slice_index_or};
+ghost use Rattle.std.specs.Prelude.{◌≡◌, ℕ, ◌+◌, ◌<◌, ◌≤◌, Bool, List, Some, IfSome, false, true, map, slice_index_or};
 ghost use Rattle.std.specs.List.{concat, Contains};
+ghost use Rattle.rec_model.specs.Asking.{allocation};
 ghost use Rattle.rec_model.specs.Heap.{Heap};
 ghost use Rattle.rec_model.specs.References.{count_formula};
 ghost use Rattle.rec_model.specs.Sight.{IsTaken, Reaches, StandsBy};
 ghost use Rattle.rec_counts.specs.Counts.{slot_at};
 ghost use Rattle.rec_core.specs.declared.config.Config.{Config as Numbers};
-ghost use Rattle.rec_model.specs.declared.command.Cmd.TheVariants as commands;
 ghost use Rattle.rec_model.specs.declared.told.Told.{Told};
 ghost use Rattle.rec_mutator.specs.Private.{is_busy, answer_of};
 ghost use Rattle.rec_mutator.specs.declared.made.Made.TheVariants as makes;
@@ -21,6 +21,7 @@ ghost use Rattle.rec_sigma.specs.Prepared.{seen};
 ghost use Rattle.rec_core.specs.Config.{IsConfig, IsMutator};
 ghost use Rattle.rec_core.specs.Core.{Core, sight, mutator};
 ghost use Rattle.rec_word.specs.declared.op.Op.TheVariants.{FreeHeader};
+ghost use Rattle.rec_word.specs.Header.{header_word};
 ghost use Rattle.rec_word.specs.Place.{places_of};
 ghost use Rattle.rec_core.specs.Freed.{AreGone, IsForgotten, IsProvenGarbage, Passes, TestsSets};
 ghost use Rattle.rec_core.specs.Kept.{IsKept};
@@ -78,7 +79,7 @@ pub fn true_counts_are_the_formula()
 /// freed word that is told; then each header was claimed, from the first to the last, and each was found taken. Full comes where
 /// that word was even and its last step found the same, and Busy tells both where that is not so.
 pub fn failed_allocations_probed_every_slot()
-    ensures { (w : Core) (moves : List Move) (t reg label : ℕ) (told : Told) → IsConfig w.config → EndsRun w → IsMutator w.config t → (mutator w t).phase ≡ Begun (works.Command (commands.New reg label)) → AllFit w moves → BeginsNone t moves → is_busy (mutator (after_moves w moves) t) ≡ true → answer_of (mutator (stepped (after_moves w moves) t) t) ≡ Some (makes.Answered told) → FailsByProbes w t label moves (after_moves w moves) told.answer }
+    ensures { (w : Core) (moves : List Move) (t reg label : ℕ) (leaf : Bool) (told : Told) → IsConfig w.config → EndsRun w → IsMutator w.config t → (mutator w t).phase ≡ Begun (works.Command (allocation leaf reg label)) → AllFit w moves → BeginsNone t moves → is_busy (mutator (after_moves w moves) t) ≡ true → answer_of (mutator (stepped (after_moves w moves) t) t) ≡ Some (makes.Answered told) → FailsByProbes w t (header_word leaf label) moves (after_moves w moves) told.answer }
 {}
 
 /// What the collector loads from fields stays what it is, whether marking, blackening, collecting or preparation loads it, until the

@@ -1,15 +1,17 @@
 -- One decrement: what it leaves, what it counts, and which slots stand in the zeros afterwards.
-use Rattle.std.proofs.Common.{◌≡◌, ℕ, ◌+◌, ◌-◌, ◌<◌, ◌≤◌, Bool, true, false, eqb, List, [], ◌∷◌, ◌++◌, length, get_or, refl, arith, sym, ◌∙◌, ap, subst, inl, inr}
+use Rattle.std.proofs.Common.{◌||◌, ◌≡◌, ℕ, ◌+◌, ◌-◌, ◌<◌, ◌≤◌, Bool, true, false, eqb, List, [], ◌∷◌, ◌++◌, length, get_or, refl, arith, sym, ◌∙◌, ap, subst, inl, inr}
 use Rattle.std.proofs.lemmas.List.{append-nil, length-set, get_or-set_same, get_or-set_other, get_or_past}
 use Rattle.std.proofs.lemmas.Bool.{cases_lt, eq-eqb, false≢true}
 use Rattle.std.proofs.lemmas.Bool.Decides.{eqb_tells}
+use Rattle.rec_counts.specs.declared.colour.Colour.TheVariants.{Orange}
 use Rattle.rec_counts.specs.declared.slot.Slot.{Slot}
 use Rattle.rec_counts.specs.declared.slot.Due.{Due}
 use Rattle.rec_counts.specs.declared.slot.Due.TheVariants.{Nothing, Zero, Root}
+use Rattle.rec_counts.specs.Colour.{is_green}
 use Rattle.rec_counts.specs.Counts.{State, slot_at, with_slot, sent, decremented, IsKept}
 use Rattle.rec_counts.specs.Lists.{one, times}
 use Rattle.rec_counts.specs.Rest.{KeepsRest, AreZeros, AllZeros}
-use Rattle.rec_counts.specs.Slot.{absent, lessened, lessened_if, due_of, due_if}
+use Rattle.rec_counts.specs.Slot.{absent, lessened, lessened_if, due_of, due_if, stays}
 use Rattle.rec_counts.proofs.Keeping.{field_kept, keep_slot, less_at}
 use Rattle.rec_counts.proofs.Lessening.{to_zeros, to_roots, keep_zero, keep_root, ToNothing, to_nothing}
 use Rattle.rec_counts.proofs.Times.{times-nil, times-cons, times-append, times_push, one-le, one-same}
@@ -57,7 +59,7 @@ lessened_keeps false false v = (refl, refl, refl, refl)
 pub rest_decremented : (s : State) (x : ℕ) → KeepsRest s (decremented s x)
 rest_decremented s x =
     let v : Slot = slot_at s x in
-    let k = lessened_keeps v.released (eqb v.count 1) v in
+    let k = lessened_keeps (stays v) (eqb v.count 1) v in
     rest_on (rest_slot s x (lessened v) k.0 k.1 k.2) (rest_sent (due_of v) (with_slot s x (lessened v)) x)
 
 sent_slots : (d : Due) (s : State) (x : ℕ) → (sent d s x).slots ≡ s.slots
@@ -72,7 +74,7 @@ same_slot s x y = ap (λ ss. get_or ss y absent) (sent_slots (due_of (slot_at s 
 pub decremented_less : (s : State) (x y : ℕ) → (slot_at (decremented s x) y).count ≡ (slot_at s y).count - one (eqb y x)
 decremented_less s x y =
     let v : Slot = slot_at s x in
-    ap (λ (w : Slot). w.count) (same_slot s x y) ∙ less_at (λ (w : Slot). w.count) s.slots x (lessened v) refl (lessened_keeps v.released (eqb v.count 1) v).3 y
+    ap (λ (w : Slot). w.count) (same_slot s x y) ∙ less_at (λ (w : Slot). w.count) s.slots x (lessened v) refl (lessened_keeps (stays v) (eqb v.count 1) v).3 y
 
 -- a slot with a count is there
 pub in_range_counted : (s : State) (x : ℕ) → 0 < (slot_at s x).count → x < length s.slots
@@ -155,7 +157,7 @@ buffered_kept s x y r =
     let v : Slot = slot_at s x in
     elim (eqb_tells y x) [
       | inl q ↦ let t : v.released ≡ true = ap (λ z. (slot_at s z).released) (sym q.1) ∙ r in
-          let b : (lessened v).buffered ≡ v.buffered = ap (λ c. (lessened_if c (eqb v.count 1) v).buffered) t in
+          let b : (lessened v).buffered ≡ v.buffered = ap (λ c. (lessened_if (c || is_green v.colour) (eqb v.count 1) v).buffered) t in
           ap (λ (w : Slot). w.buffered) (same_slot s x y) ∙ field_kept (λ (w : Slot). w.buffered) s.slots x (lessened v) b y
       | inr q ↦ ap (λ (w : Slot). w.buffered) (same_slot s x y) ∙ ap (λ (w : Slot). w.buffered) (get_or-set_other s.slots x y (lessened v) absent q.1)
     ]
@@ -172,7 +174,7 @@ unbuffered_before s x y b =
     let b' : (slot_at (with_slot s x (lessened v)) y).buffered ≡ false = ap (λ (w : Slot). w.buffered) (sym (same_slot s x y)) ∙ b in
     elim (eqb_tells y x) [
       | inl q ↦ ap (λ z. (slot_at s z).buffered) q.1 ∙ elim (cases_lt x (length s.slots)) [
-        | inl l ↦ lessened_buffered v.released (eqb v.count 1) v (ap (λ (w : Slot). w.buffered) (sym (get_or-set_same s.slots x (lessened v) absent l)) ∙ ap (λ z. (slot_at (with_slot s x (lessened v)) z).buffered) (sym q.1) ∙ b')
+        | inl l ↦ lessened_buffered (stays v) (eqb v.count 1) v (ap (λ (w : Slot). w.buffered) (sym (get_or-set_same s.slots x (lessened v) absent l)) ∙ ap (λ z. (slot_at (with_slot s x (lessened v)) z).buffered) (sym q.1) ∙ b')
         | inr l ↦ ap (λ (w : Slot). w.buffered) (get_or_past s.slots x absent l)
       ]
       | inr q ↦ ap (λ (w : Slot). w.buffered) (sym (get_or-set_other s.slots x y (lessened v) absent q.1)) ∙ b'
@@ -181,7 +183,7 @@ unbuffered_before s x y b =
 -- a slot whose last reference goes stands in the zeros
 pub zero_found : (s : State) (x : ℕ) → (slot_at s x).released ≡ false → (slot_at s x).count ≡ 1 → 0 < times x (decremented s x).zeros
 zero_found s x r o =
-    let due : due_of (slot_at s x) ≡ Zero = ap (λ c. due_if c (eqb (slot_at s x).count 1) (slot_at s x).buffered) r ∙ ap (λ c. due_if false c (slot_at s x).buffered) (eq-eqb (slot_at s x).count 1 o) in
+    let due : due_of (slot_at s x) ≡ Zero = ap (λ c. due_if c (eqb (slot_at s x).count 1) ((slot_at s x).buffered || is_green (slot_at s x).colour)) r ∙ ap (λ c. due_if false c ((slot_at s x).buffered || is_green (slot_at s x).colour)) (eq-eqb (slot_at s x).count 1 o) in
     let z : (decremented s x).zeros ≡ s.zeros ++ x ∷ [] = ap (λ d. (sent d (with_slot s x (lessened (slot_at s x))) x).zeros) due in
     omega (arith, ap (times x) z, times_push x s.zeros x, one-same x)
 
@@ -212,3 +214,27 @@ decremented_kept s x h z k = go (due_of (slot_at s x)) refl
     go Nothing e = let n : ToNothing (slot_at s x) = to_nothing (slot_at s x) e in keep_slot k x (lessened (slot_at s x)) n.buffered n.set
     go Zero e = keep_zero k x (slot_at s x) (in_range_counted s x h) (to_zeros (slot_at s x) e) refl new
     go Root e = keep_root k x (slot_at s x) (in_range_counted s x h) (to_roots (slot_at s x) e) refl
+
+-- a slot that does not keep its colour isn't Green
+stays_green : (r : Bool) (v : Slot) → (r || is_green v.colour) ≡ false → is_green v.colour ≡ false
+stays_green true v e = absurd (false≢true (sym e))
+stays_green false v e = e
+
+lessened_green : (b l : Bool) (v : Slot) → (b ≡ false → is_green v.colour ≡ false) → is_green (lessened_if b l v).colour ≡ is_green v.colour
+lessened_green true l v h = refl
+lessened_green false true v h = sym (h refl)
+lessened_green false false v h = sym (h refl)
+
+-- no slot becomes Green by a decrement, and each that is stays so
+pub green_kept : (s : State) (x y : ℕ) → is_green (slot_at (decremented s x) y).colour ≡ is_green (slot_at s y).colour
+green_kept s x y =
+    let v : Slot = slot_at s x in
+    ap (λ (w : Slot). is_green w.colour) (same_slot s x y) ∙ field_kept (λ (w : Slot). is_green w.colour) s.slots x (lessened v) (lessened_green (stays v) (eqb v.count 1) v (stays_green v.released v)) y
+
+-- an orange slot that keeps its colour is released
+pub stays_released : (v : Slot) → stays v ≡ true → v.colour ≡ Orange → v.released ≡ true
+stays_released v e o = go v.released refl
+  where
+    go : (r : Bool) → v.released ≡ r → v.released ≡ true
+    go true t = t
+    go false t = absurd (false≢true (sym (ap (λ b. b || is_green v.colour) t ∙ ap is_green o) ∙ e))

@@ -1,11 +1,12 @@
 -- A slot that has one reference less goes where it is due.
-use Rattle.std.proofs.Common.{◌≡◌, ℕ, ◌*◌, ◌<◌, Bool, true, false, eqb, List, [], ◌∷◌, ◌++◌, length, get_or, refl, arith, sym, ◌∙◌, ap}
+use Rattle.std.proofs.Common.{◌≡◌, ℕ, ◌*◌, ◌<◌, ◌||◌, Bool, true, false, eqb, List, [], ◌∷◌, ◌++◌, length, get_or, refl, arith, sym, ◌∙◌, ap}
 use Rattle.std.proofs.Math.ListN.{set}
 use Rattle.std.proofs.lemmas.List.{length-set}
 use Rattle.std.proofs.lemmas.Bool.{eqb-true}
 use Rattle.rec_counts.specs.declared.slot.Slot.{Slot}
 use Rattle.rec_counts.specs.declared.slot.Due.TheVariants.{Zero, Root, Nothing}
 use Rattle.rec_counts.specs.Slot.{absent, lessened, due_of, due_if}
+use Rattle.rec_counts.specs.Colour.{is_green}
 use Rattle.rec_counts.specs.Lists.{times}
 use Rattle.rec_counts.specs.Kept.{Kept, HasRoom}
 use Rattle.rec_counts.proofs.Keeping.{keep_slot, keep_push_root, relisted}
@@ -25,22 +26,24 @@ pub record ToRoots (v : Slot) : Type 0 where
   pub set : (lessened v).set ≡ v.set
 
 pub to_zeros : (v : Slot) → due_of v ≡ Zero → ToZeros v
-to_zeros v d = go v.released (eqb v.count 1) v.buffered refl refl d
+to_zeros v d = go v.released (is_green v.colour) (eqb v.count 1) (v.buffered || is_green v.colour) refl refl refl d
   where
-    go : (r l b : Bool) → v.released ≡ r → eqb v.count 1 ≡ l → due_if r l b ≡ Zero → ToZeros v
-    go true l b e f d = cc
-    go false true b e f d = record { unreleased = e; last = eqb-true v.count 1 f; buffered = rw (e, f) refl; set = rw (e, f) refl }
-    go false false true e f d = cc
-    go false false false e f d = cc
+    go : (r g l b : Bool) → v.released ≡ r → is_green v.colour ≡ g → eqb v.count 1 ≡ l → due_if r l b ≡ Zero → ToZeros v
+    go true g l b e h f d = cc
+    go false true true b e h f d = record { unreleased = e; last = eqb-true v.count 1 f; buffered = rw (e, h) refl; set = rw (e, h) refl }
+    go false false true b e h f d = record { unreleased = e; last = eqb-true v.count 1 f; buffered = rw (e, h, f) refl; set = rw (e, h, f) refl }
+    go false g false true e h f d = cc
+    go false g false false e h f d = cc
 
 pub to_roots : (v : Slot) → due_of v ≡ Root → ToRoots v
-to_roots v d = go v.released (eqb v.count 1) v.buffered refl refl refl d
+to_roots v d = go v.released (is_green v.colour) (eqb v.count 1) v.buffered refl refl refl refl d
   where
-    go : (r l b : Bool) → v.released ≡ r → eqb v.count 1 ≡ l → v.buffered ≡ b → due_if r l b ≡ Root → ToRoots v
-    go true l b e f g d = cc
-    go false true b e f g d = cc
-    go false false true e f g d = cc
-    go false false false e f g d = record { unbuffered = g; buffered = rw (e, f) refl; set = rw (e, f) refl }
+    go : (r g l b : Bool) → v.released ≡ r → is_green v.colour ≡ g → eqb v.count 1 ≡ l → v.buffered ≡ b → due_if r l (b || g) ≡ Root → ToRoots v
+    go true g l b e h f i d = cc
+    go false g true b e h f i d = cc
+    go false g false true e h f i d = cc
+    go false true false false e h f i d = cc
+    go false false false false e h f i d = record { unbuffered = i; buffered = rw (e, h, f) refl; set = rw (e, h, f) refl }
 
 -- it goes to the zeros
 pub keep_zero : {slots : List Slot} {roots : List ℕ} {sets : List (List ℕ)} {marked work zeros free : List ℕ} → Kept slots roots sets marked work zeros free →
@@ -74,10 +77,11 @@ pub record ToNothing (v : Slot) : Type 0 where
   pub set : (lessened v).set ≡ v.set
 
 pub to_nothing : (v : Slot) → due_of v ≡ Nothing → ToNothing v
-to_nothing v d = go v.released (eqb v.count 1) v.buffered refl refl refl d
+to_nothing v d = go v.released (is_green v.colour) (eqb v.count 1) v.buffered refl refl refl refl d
   where
-    go : (r l b : Bool) → v.released ≡ r → eqb v.count 1 ≡ l → v.buffered ≡ b → due_if r l b ≡ Nothing → ToNothing v
-    go true l b e f g d = record { buffered = rw e refl; set = rw e refl }
-    go false true b e f g d = cc
-    go false false true e f g d = record { buffered = rw (e, f) (sym g); set = rw (e, f) refl }
-    go false false false e f g d = cc
+    go : (r g l b : Bool) → v.released ≡ r → is_green v.colour ≡ g → eqb v.count 1 ≡ l → v.buffered ≡ b → due_if r l (b || g) ≡ Nothing → ToNothing v
+    go true g l b e h f i d = record { buffered = rw e refl; set = rw e refl }
+    go false g true b e h f i d = cc
+    go false true false b e h f i d = record { buffered = rw (e, h) refl; set = rw (e, h) refl }
+    go false false false true e h f i d = record { buffered = rw (e, h, f) (sym i); set = rw (e, h, f) refl }
+    go false false false false e h f i d = cc

@@ -1,5 +1,6 @@
 -- What is kept of one slot, and how the calls change it.
-use Rattle.std.specs.Prelude.{ℕ, ◌+◌, ◌-◌, ◌==◌, Bool, true, false, Option, Some, None}
+use Rattle.std.specs.Prelude.{ℕ, ◌+◌, ◌-◌, ◌==◌, ◌||◌, Bool, true, false, Option, Some, None}
+use Rattle.rec_counts.specs.Colour.{in_use, is_green}
 use Rattle.rec_counts.specs.declared.slot.Slot.{Slot}
 use Rattle.rec_counts.specs.declared.slot.Due.{Due}
 use Rattle.rec_counts.specs.declared.slot.Due.TheVariants.{Nothing, Zero, Root}
@@ -15,29 +16,34 @@ absent = record { count = 0; cyclic = 0; colour = Black; buffered = false; relea
 
 -- one reference more: the slot is in use
 abbrev pub raised : Slot → Slot
-raised v = record v { count = v.count + 1; colour = Black }
+raised v = record v { count = v.count + 1; colour = in_use v.colour }
 
--- one reference less, of a slot that is (or is not) released, had one reference (or more), and is buffered (or not)
+-- whether a slot keeps its colour where its count falls: a released one does, and a Green one
+abbrev pub stays : Slot → Bool
+stays v = v.released || is_green v.colour
+
+-- one reference less, of a slot that keeps its colour (or does not), and had one reference (or more)
 abbrev pub lessened_if : Bool → Bool → Slot → Slot
 lessened_if true last v = record v { count = v.count - 1 }
 lessened_if false true v = record v { count = v.count - 1; colour = Black }
 lessened_if false false v = record v { count = v.count - 1; colour = Purple; buffered = true }
 
--- one reference less: a released slot stays as it was but for its count; else the slot is Black where that was the last
--- reference, and where others are left it is Purple and buffered
+-- one reference less: a released slot, and a Green one, stay as they were but for the count; else the slot is Black where that
+-- was the last reference, and where others are left it is Purple and buffered
 abbrev pub lessened : Slot → Slot
-lessened v = lessened_if v.released (v.count == 1) v
+lessened v = lessened_if (stays v) (v.count == 1) v
 
+-- of a slot that is (or is not) released, had one reference (or more), and is in a buffer or Green (or neither)
 abbrev pub due_if : Bool → Bool → Bool → Due
-due_if true last buffered = Nothing
-due_if false true buffered = Zero
+due_if true last kept_out = Nothing
+due_if false true kept_out = Zero
 due_if false false true = Nothing
 due_if false false false = Root
 
 -- where a slot goes that has one reference less: to the zeros where that was the last one, else to the root buffer
--- where it is in no buffer; a released slot goes nowhere
+-- where it is in no buffer and isn't Green; a released slot goes nowhere
 abbrev pub due_of : Slot → Due
-due_of v = due_if v.released (v.count == 1) v.buffered
+due_of v = due_if v.released (v.count == 1) (v.buffered || is_green v.colour)
 
 -- one reference less, also in the cyclic count, which does not fall below zero
 abbrev pub lowered : Slot → Slot

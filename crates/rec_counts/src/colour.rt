@@ -1,4 +1,6 @@
-//! The five colours.
+//! The six colours.
+ghost use Rattle.std.specs.Prelude.{◌≡◌};
+ghost use Rattle.rec_counts.specs.Colour.{in_use, is_green};
 
 /// The colour of a slot, which says what the collector knows of it.
 #[derive(Clone, Copy, PartialEq, Eq, Debug, Drop)]
@@ -13,4 +15,27 @@ pub enum Colour {
     White,
     /// A member of a set of the cycle buffer.
     Orange,
+    /// A leaf: it has no fields, so no garbage cycle goes through it.
+    Green,
+}
+
+impl Colour {
+    /// The colour of a slot of this colour once something holds it: Green stays, any other is Black.
+    #[inline(always)]
+    pub fn in_use(self) -> Colour
+        ensures { result ≡ in_use self }
+    {
+        match self {
+            Colour::Green => Colour::Green,
+            _ => Colour::Black,
+        }
+    }
+
+    /// Whether it is Green.
+    #[inline(always)]
+    pub fn is_green(self) -> bool
+        ensures { result ≡ is_green self }
+    {
+        matches!(self, Colour::Green)
+    }
 }

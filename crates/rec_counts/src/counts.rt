@@ -189,7 +189,7 @@ impl Counts {
         let _slots = &self.slots;
     }
 
-    /// Counts one reference to `slot` more, which is then Black.
+    /// Counts one reference to `slot` more, which is then Black, or stays Green.
     pub fn increment(&mut self, slot: u16)
         requires in_range { slot < length self.old.slots }
         requires fits { (slot_at self.old slot).count + 1 < 2 ^ 64 }
@@ -199,7 +199,8 @@ impl Counts {
     }
 
     /// Counts one reference to `slot` less. Where it was the last one, the slot is Black and goes to the zeros; else it is
-    /// Purple, and goes into the root buffer where it is in no buffer. A released slot changes in nothing but its count.
+    /// Purple, and goes into the root buffer where it is in no buffer. A released slot changes in nothing but its count. A
+    /// Green one stays Green, and goes nowhere but to the zeros.
     pub fn decrement(&mut self, slot: u16)
         requires in_range { slot < length self.old.slots }
         requires counted { 0 < (slot_at self.old slot).count }

@@ -53,7 +53,7 @@ impl Slot {
         ensures { self.new ≡ raised self.old }
     {
         self.count += 1;
-        self.colour = Colour::Black;
+        self.colour = self.colour.in_use();
     }
 
     /// Counts one reference less, and answers where the slot goes. A slot that goes to the root buffer is marked as
@@ -66,6 +66,13 @@ impl Slot {
         self.count -= 1;
         if self.released {
             return Due::Nothing;
+        }
+        if self.colour.is_green() {
+            return if self.count == 0 {
+                Due::Zero
+            } else {
+                Due::Nothing
+            };
         }
         if self.count == 0 {
             self.colour = Colour::Black;

@@ -32,6 +32,21 @@ fn counts_up_and_down(rt: HostRuntime) -> Result<(), Fail> {
 }
 
 #[test]
+fn green_stays(rt: HostRuntime) -> Result<(), Fail> {
+    let mut counts = three_slots(rt.alloc())?;
+    write(&mut counts, 1, 0, Colour::Green);
+    up(&mut counts, 1);
+    assert!(rt; is(&counts, 1, 2, 0, Colour::Green));
+    down(&mut counts, 1);
+    assert!(rt; is(&counts, 1, 1, 0, Colour::Green));
+    assert!(rt; counts.roots().is_empty());
+    down(&mut counts, 1);
+    assert!(rt; is(&counts, 1, 0, 0, Colour::Green));
+    assert!(rt; has(counts.zeros(), &[1]));
+    Ok(())
+}
+
+#[test]
 fn lowers_both_counts(rt: HostRuntime) -> Result<(), Fail> {
     let mut counts = three_slots(rt.alloc())?;
     write(&mut counts, 0, 1, Colour::Orange);

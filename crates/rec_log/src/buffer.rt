@@ -102,7 +102,10 @@ mod tests {
             new: 2,
             old: 1,
         };
-        let born = Entry::Born { slot: 3 };
+        let born = Entry::Born {
+            slot: 3,
+            leaf: false,
+        };
         let mut buffer = Buffer::open(rt.alloc(), 2, 1)?;
         assert!(rt; !buffer.is_full());
         assert_eq!(rt; buffer.push(put), Ok(()));
@@ -116,7 +119,10 @@ mod tests {
 
     #[test]
     fn is_retired_and_cleared(rt: HostRuntime) -> Result<(), Fail> {
-        let born = Entry::Born { slot: 3 };
+        let born = Entry::Born {
+            slot: 3,
+            leaf: false,
+        };
         let mut frame = Frame::open(rt.alloc(), 2)?;
         frame.set(1, 3);
         let mut buffer = Buffer::open(rt.alloc(), 1, 2)?;

@@ -3,6 +3,6 @@
 pub enum Entry {
     /// The field with this place became the word `new`, where the word `old` stood.
     Put { place: u32, new: u64, old: u64 },
-    /// An object was born in this slot.
-    Born { slot: u16 },
+    /// An object was born in this slot, which is (or is not) a leaf.
+    Born { slot: u16, leaf: bool },
 }

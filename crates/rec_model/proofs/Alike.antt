@@ -4,7 +4,7 @@ use Rattle.std.proofs.lemmas.Bool.Decides.{nat_tests}
 use Rattle.rec_model.specs.Sums.{only_if, one_if_same, sum_at, HasSameSums, HasSameSumsAt}
 use Rattle.rec_model.specs.Pending.{node_of, epoch_of, home, Write, Dated, dated, Pending, is_at}
 use Rattle.rec_model.specs.Moves.{KeepsEpochs, KeepsSlots, KeepsLogs, Drops}
-use Rattle.rec_model.specs.Accounted.{is_late_word, is_wrong_write, is_wrong_register, is_late_snapshot, names, puts_after, replaces_from, is_from, is_after, is_node, late, put_late, replaced_late, touches, is_dead, names_unreleased, IsAccounted}
+use Rattle.rec_model.specs.Accounted.{is_late_word, is_wrong_write, is_wrong_register, is_late_snapshot, names, puts_after, replaces_from, is_from, is_leaf_from, is_after, is_node, late, put_late, replaced_late, touches, is_dead, names_unreleased, IsAccounted}
 use Rattle.rec_model.proofs.Sums.{sum_at_same}
 use Rattle.rec_model.proofs.Counted.{opened_from, closed_out_of}
 use Rattle.rec_model.proofs.Reaching.{reach_stays}
@@ -56,6 +56,7 @@ module _ (w v : Pending) (s : IsAlike w v) where
         apart = λ x pos e. s.slots.released x pos ∙ i.apart x pos (sym (s.slots.free x pos) ∙ e);
         single = λ x pos e. s.slots.count x pos ∙ i.single x pos (sym (s.slots.free x pos) ∙ e);
         born = λ x pos. omega (arith, i.born x pos, s.logs.births (is_from a x));
+        leaves = λ x pos some. s.slots.leaf x pos ∙ i.leaves x pos (omega (arith, some, s.logs.births (is_leaf_from a x)));
       }
 
   pub alike_accounted : IsAccounted w → IsAccounted v
@@ -122,4 +123,5 @@ dropping_accounted w v s i =
       apart = i.apart;
       single = i.single;
       born = λ x pos. omega (arith, i.born x pos, s.births.1 (is_from a x) (early_from a x) (λ e. null_from a x e pos));
+      leaves = λ x pos some. i.leaves x pos (omega (arith, some, s.births.0 (is_leaf_from a x)));
     }

@@ -6,7 +6,7 @@ use Rattle.std.proofs.lemmas.List.Sums.{sum_by-append}
 use Rattle.std.proofs.lemmas.Bool.{cases_eq, true≢false}
 use Rattle.rec_model.specs.Sums.{only_if, one_if_same, sum_at}
 use Rattle.rec_model.specs.Pending.{node_of, epoch_of, home, dated, Pending, is_at, Dated}
-use Rattle.rec_model.specs.Accounted.{is_late_word, is_wrong_write, is_wrong_register, is_late_snapshot, HasEpochs, names, puts_after, replaces_from, is_from, is_after, is_node, HasLedger, late, put_late, replaced_late, touches, IsHeld, is_dead, names_unreleased, IsUnnamed, IsAccounted}
+use Rattle.rec_model.specs.Accounted.{is_late_word, is_wrong_write, is_wrong_register, is_late_snapshot, HasEpochs, names, puts_after, replaces_from, is_from, is_leaf_from, is_after, is_node, HasLedger, late, put_late, replaced_late, touches, IsHeld, is_dead, names_unreleased, IsUnnamed, IsAccounted}
 use Rattle.rec_model.specs.Opened.{IsOpening, opening}
 use Rattle.rec_model.proofs.Sums.{sum_at-replicate_none}
 use Rattle.rec_model.proofs.Weights.{only_if-le, none_if_not_lt, none_if_differs}
@@ -100,6 +100,7 @@ module _ (w : Pending) (epoch mutators : ℕ) (s : IsOpening w epoch mutators) w
     apart = λ x pos e. s.released x pos;
     single = λ x pos e. s.counts x (omega (arith, pos, dead_other x pos (grind (arith, e))));
     born = λ x pos. omega (arith, s.births (is_from w.applied x));
+    leaves = λ x pos some. absurd (omega (arith, some, s.births (is_leaf_from w.applied x)));
   }
 
 -- there is such a heap

@@ -1,5 +1,5 @@
 -- Each move of the collector keeps what every heap that counts late keeps.
-use Rattle.std.proofs.Common.{◌≡◌, ◌≢◌, inl, inr, ℕ, ◌+◌, ◌<◌, Bool, true, false, sym, ap, subst, arith}
+use Rattle.std.proofs.Common.{◌≡◌, ◌≢◌, inl, inr, ℕ, ◌+◌, ◌<◌, Bool, true, false, sym, ap, subst, arith, ◌∙◌, sum_by}
 use Rattle.std.proofs.lemmas.Bool.Decides.{nat_tests}
 use Rattle.std.proofs.lemmas.Bool.{cases_eq}
 use Rattle.std.proofs.lemmas.List.Sums.{sum_by-le-sum_by}
@@ -7,9 +7,9 @@ use Rattle.rec_model.specs.Sums.{only_if, one_if_same, sum_at}
 use Rattle.rec_model.specs.Pending.{home, Pending, is_at}
 use Rattle.rec_model.specs.References.{IsInReach}
 use Rattle.rec_model.specs.Moves.{Requests, Applies, Releases, Clears, Frees, Drops, puts_in, replaces_in, added, taken, with_answer}
-use Rattle.rec_model.specs.Accounted.{names, puts_after, replaces_from, is_from, IsHeldAt, IsHeld, is_dead, named, IsUnnamed, IsAccounted}
+use Rattle.rec_model.specs.Accounted.{names, puts_after, replaces_from, is_from, is_leaf_from, IsHeldAt, IsHeld, is_dead, named, IsUnnamed, IsAccounted}
 use Rattle.rec_model.proofs.Sums.{get_or-le-sum_at}
-use Rattle.rec_model.proofs.Weights.{none_if_differs}
+use Rattle.rec_model.proofs.Weights.{none_if_differs, only_if-le}
 use Rattle.rec_model.proofs.Ledgers.{batch_ledger, batch_stands, clearing_ledger, uncounted_taken, freeing_ledger}
 use Rattle.rec_model.proofs.Epochs.{request_epochs, batch_epochs, clearing_epochs}
 use Rattle.rec_model.proofs.Holding.{request_held, clearing_held, clearing_stands}
@@ -50,6 +50,7 @@ request_accounted w v s i =
       apart = i.apart;
       single = i.single;
       born = i.born;
+      leaves = i.leaves;
     } in
     alike_accounted u v (request_alike w v s) accounted
 
@@ -72,6 +73,7 @@ batch_accounted w v s i =
       apart = i.apart;
       single = batch_single w v s i;
       born = λ x pos. omega (arith, i.born x pos, sum_by-le-sum_by (is_from (w.applied + 1) x) (is_from w.applied x) w.births (λ d. grind (arith, nat_tests)));
+      leaves = λ x pos some. i.leaves x pos (omega (arith, some, sum_by-le-sum_by (is_leaf_from (w.applied + 1) x) (is_leaf_from w.applied x) w.births (λ d. grind (arith, nat_tests))));
     } in
     alike_accounted u v (batch_alike w v s) accounted
 
@@ -97,6 +99,7 @@ release_accounted w v x s i =
       apart = λ y pos e. apart_after_release w.free w.released x y (uncounted_taken w x i.ledger i.late s.is_node s.unnamed) (i.apart y pos) e;
       single = i.single;
       born = i.born;
+      leaves = i.leaves;
     } in
     alike_accounted u v (release_alike w v x s) accounted
 
@@ -127,6 +130,7 @@ clearing_accounted w v place s i =
       apart = i.apart;
       single = clearing_single w v place s i;
       born = i.born;
+      leaves = i.leaves;
     } in
     alike_accounted u v (clearing_alike w v place s) accounted
 
@@ -144,6 +148,17 @@ freeing_single w v x s i y pos free =
     elim (cases_eq y x) [
       | inl same ↦ let none : w.count y ≡ 0 = subst (λ k. w.count k ≡ 0) (sym same) s.uncounted in omega (arith, none, s.counts y pos, one_if_equal y x same)
       | inr other ↦ omega (arith, s.counts y pos, none_if_differs y x other, i.single y pos (free_before_freeing w.free x y other free))
+    ]
+
+-- a birth of a node that was given up isn't to be counted
+freeing_leaves : (w v : Pending) (x : ℕ) → Frees w v x → IsAccounted w → (y : ℕ) → 0 < y → 0 < sum_by (is_leaf_from w.applied y) w.births → v.leaf y ≡ true
+freeing_leaves w v x s i y pos some =
+    elim (cases_eq y x) [
+      | inr other ↦ s.leaf y pos other ∙ i.leaves y pos some
+      | inl same ↦
+          let dead : is_dead w x ≡ true = (grind (arith, s.was_released)) in
+          let none : named w y ≡ 0 = subst (λ k. named w k ≡ 0) (sym same) (i.unnamed x s.is_node dead) in
+          absurd (omega (arith, some, none, sum_by-le-sum_by (is_leaf_from w.applied y) (is_from w.applied y) w.births (λ d. only_if-le d.leaf (is_from w.applied y d))))
     ]
 
 pub freeing_accounted : (w v : Pending) (x : ℕ) → Frees w v x → IsAccounted w → IsAccounted v
@@ -165,6 +180,7 @@ freeing_accounted w v x s i =
       apart = λ y pos e. apart_after_freeing w.free w.released x y (i.apart y pos) e;
       single = freeing_single w v x s i;
       born = i.born;
+      leaves = freeing_leaves w v x s i;
     } in
     alike_accounted u v (freeing_alike w v x s) accounted
 

@@ -36,7 +36,7 @@ register_epochs w v epoch old new s ep =
       snapshots = ep.snapshots;
     }
 
-pub birth_epochs : (w v : Pending) (epoch old x : ℕ) → Bears w v epoch old x → HasEpochs w → HasEpochs (record w { births = v.births; registers = v.registers; free = with_answer w.free x false })
+pub birth_epochs : (w v : Pending) (epoch old x : ℕ) → Bears w v epoch old x → HasEpochs w → HasEpochs (record w { births = v.births; registers = v.registers; free = with_answer w.free x false; leaf = v.leaf })
 birth_epochs w v epoch old x s ep =
     record {
       behind = ep.behind;

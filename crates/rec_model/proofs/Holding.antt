@@ -110,9 +110,9 @@ register_held w v epoch old new s o j from h x pos q =
     ]
 
 -- a birth
-pub birth_held : (w v : Pending) (epoch old x : ℕ) → Bears w v epoch old x → (j : ℕ) → IsHeldAt w j → IsHeldAt (record w { births = v.births; registers = v.registers; free = with_answer w.free x false }) j
+pub birth_held : (w v : Pending) (epoch old x : ℕ) → Bears w v epoch old x → (j : ℕ) → IsHeldAt w j → IsHeldAt (record w { births = v.births; registers = v.registers; free = with_answer w.free x false; leaf = v.leaf }) j
 birth_held w v epoch old x s j h y pos q =
-    let u : Pending = record w { births = v.births; registers = v.registers; free = with_answer w.free x false } in
+    let u : Pending = record w { births = v.births; registers = v.registers; free = with_answer w.free x false; leaf = v.leaf } in
     elim (cases_lt 0 (held_sum w j y)) [
       | inl l ↦ reach_stays w u j (λ z _ r. omega (arith, r, s.births (is_from j z))) (λ a b _ _ _ r. r) y (h y pos l)
       | inr l ↦ root_in_reach u j y pos (omega (arith, q, l, s.registers (is_after j y), s.births (is_from j y), more (dated epoch x)))

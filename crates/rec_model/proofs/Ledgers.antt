@@ -45,7 +45,7 @@ module _ (w v : Pending) (epoch place new : ℕ) (s : Puts w v epoch place new) 
   put_stands o q =
       omega (arith, o q, s.words (late w.applied q), s.writes (put_late w.applied q), s.writes (replaced_late w.applied q), only_if_le w.applied (epoch_of new) (late w.applied q place (word_in w place)) (omega (arith, s.stamp, put_after)))
 
-pub birth_ledger : (w v : Pending) (epoch old x : ℕ) → Bears w v epoch old x → HasEpochs w → HasLedger w → HasLedger (record w { births = v.births; registers = v.registers; free = with_answer w.free x false })
+pub birth_ledger : (w v : Pending) (epoch old x : ℕ) → Bears w v epoch old x → HasEpochs w → HasLedger w → HasLedger (record w { births = v.births; registers = v.registers; free = with_answer w.free x false; leaf = v.leaf })
 birth_ledger w v epoch old x s ep l y pos =
     let after : w.applied < epoch = epoch_after w epoch old ep s.had in
     omega (arith, l y pos, s.births (is_from w.applied y), only_if_le w.applied epoch (one_if_same y x) (omega (arith, after)), answered_no w.free x y s.was_free)
@@ -96,7 +96,7 @@ uncounted_taken w x l o pos z =
     (w.free x)
     (omega (arith, z, l x pos, o (names x), sum_at-le-sum_at (late a (names x)) (names x) w.words (λ i v. grind (arith, nat_tests)), sum_by-le-sum_by (replaced_late a (names x)) (replaces_from a x) w.writes (λ e. grind (arith, nat_tests))))
 
-pub freeing_ledger : (w v : Pending) (x : ℕ) → Frees w v x → StandsOnce w → HasLedger w → HasLedger (record w { count = v.count; free = with_answer w.free x true; released = with_answer w.released x false })
+pub freeing_ledger : (w v : Pending) (x : ℕ) → Frees w v x → StandsOnce w → HasLedger w → HasLedger (record w { count = v.count; free = with_answer w.free x true; released = with_answer w.released x false; leaf = v.leaf })
 freeing_ledger w v x s o l y pos = omega (arith, l y pos, s.counts y pos, answered_yes w.free x y (uncounted_taken w x l o s.is_node s.uncounted))
 
 -- a batch takes off no more than is there

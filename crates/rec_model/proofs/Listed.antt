@@ -1,10 +1,11 @@
 -- The listing that is read off the slots is that of every heap that stands for them; and a heap has one listing.
-use Rattle.std.proofs.Common.{◌≡◌, inl, inr, ℕ, ◌+◌, ◌-◌, List, [], ◌∷◌, ◌++◌, Option, None, Some, map, refl, sym, ◌∙◌, ap, arith}
+use Rattle.std.proofs.Common.{◌≡◌, inl, inr, ℕ, ◌+◌, List, [], ◌∷◌, ◌++◌, Bool, Option, None, Some, map, refl, sym, ◌∙◌, ap, arith}
 use Rattle.std.specs.Prelude.{option_map, slice_index_or}
 use Rattle.std.specs.List.{flat_map}
 use Rattle.std.proofs.lemmas.Bool.{false≢true}
 use Rattle.std.proofs.lemmas.List.{map-append}
 use Rattle.std.proofs.lemmas.List.Elements.{All-map}
+use Rattle.rec_word.specs.Header.{is_leaf, label_of, IsHeaderOf}
 use Rattle.rec_word.specs.Word.{target_of}
 use Rattle.rec_model.specs.Reach.{named, IsReached}
 use Rattle.rec_model.specs.Reach.IsReached.{root, child}
@@ -22,9 +23,9 @@ pub one_listing : (heap : Heap) (xs ys : List Row) → IsListing heap xs → IsL
 one_listing heap xs ys (ns, lists, e) (ms, also, f) =
     e ∙ ap (λ ks. map (row heap ks) ks) (one_numbering (roots heap.registers) (children heap) ns ms lists also) ∙ sym f
 
--- a row with this label, count and fields
-abbrev pub row_of : ℕ → ℕ → List (Option ℕ) → Row
-row_of label count fields = record { label = label; count = count; fields = fields }
+-- a row with this label, leaf mark, count and fields
+abbrev pub row_of : ℕ → Bool → ℕ → List (Option ℕ) → Row
+row_of label leaf count fields = record { label = label; leaf = leaf; count = count; fields = fields }
 
 module _ (heap : Heap) (w : Sight) (number : ℕ → ℕ) (stands : StandsBy heap w number) (collected : IsCollected w) where
   taken : (slot : ℕ) → Reaches w slot → IsTaken w slot
@@ -95,10 +96,13 @@ module _ (heap : Heap) (w : Sight) (number : ℕ → ℕ) (stands : StandsBy hea
 
   row_same : (slots : List ℕ) → Each (Reaches w) slots → (slot : ℕ) → Reaches w slot → row heap (map number slots) (number slot) ≡ slot_row w slots slot
   row_same slots each slot reached =
-      let label : (object heap (number slot)).label ≡ slice_index_or w.headers slot 0 - 1 = let e : slice_index_or w.headers slot 0 ≡ (object heap (number slot)).label + 1 = stands.label slot (taken slot reached) in omega arith in
-      ap (λ n. row_of n (count_of heap (map number slots) (number slot)) (row heap (map number slots) (number slot)).fields) label
-      ∙ ap (λ n. row_of (slice_index_or w.headers slot 0 - 1) n (row heap (map number slots) (number slot)).fields) (count_same slots each slot (taken slot reached))
-      ∙ ap (row_of (slice_index_or w.headers slot 0 - 1) (holders_of w slots slot)) (
+      let header : ℕ = slice_index_or w.headers slot 0 in
+      let its : IsHeaderOf (object heap (number slot)).leaf (object heap (number slot)).label header = stands.header slot (taken slot reached) in
+      let label : (object heap (number slot)).label ≡ label_of header = omega (arith, its.label) in
+      ap (λ n. row_of n (object heap (number slot)).leaf (count_of heap (map number slots) (number slot)) (row heap (map number slots) (number slot)).fields) label
+      ∙ ap (λ b. row_of (label_of header) b (count_of heap (map number slots) (number slot)) (row heap (map number slots) (number slot)).fields) (sym its.leaf)
+      ∙ ap (λ n. row_of (label_of header) (is_leaf header) n (row heap (map number slots) (number slot)).fields) (count_same slots each slot (taken slot reached))
+      ∙ ap (row_of (label_of header) (is_leaf header) (holders_of w slots slot)) (
       ap (map (λ x. option_map (number_in (map number slots)) x.target)) (stands.fields slot reached)
       ∙ fields_same slots (λ n h. taken n (each n h)) (words_of w slot) (λ n there. taken n (child slot n reached there)))
 

@@ -76,7 +76,7 @@ register_unnamed w v epoch old new s q y pos d =
 dead_before_birth : (free released : ℕ → Bool) (x y : ℕ) → released x ≡ false → cond (with_answer free x false y) true (released y) ≡ true → (cond (free y) true (released y) ≡ true) × (y ≢ x)
 dead_before_birth free released x y e d = grind (arith, nat_tests)
 
-pub birth_unnamed : (w v : Pending) (epoch old x : ℕ) → Bears w v epoch old x → w.released x ≡ false → IsUnnamed w → IsUnnamed (record w { births = v.births; registers = v.registers; free = with_answer w.free x false })
+pub birth_unnamed : (w v : Pending) (epoch old x : ℕ) → Bears w v epoch old x → w.released x ≡ false → IsUnnamed w → IsUnnamed (record w { births = v.births; registers = v.registers; free = with_answer w.free x false; leaf = v.leaf })
 birth_unnamed w v epoch old x s unreleased q y pos d =
     let b = dead_before_birth w.free w.released x y unreleased d in
     omega (arith, q y pos b.0, s.births (is_from w.applied y), s.registers (is_node y), none_if_differs y x b.1, only_if-le (leb w.applied epoch) (one_if_same y x))
@@ -187,7 +187,7 @@ release_unnamed w x ep l o h some done z q y pos d =
 dead_before_freeing : (free released : ℕ → Bool) (x y : ℕ) → released x ≡ true → cond (with_answer free x true y) true (with_answer released x false y) ≡ true → cond (free y) true (released y) ≡ true
 dead_before_freeing free released x y e d = grind (arith, nat_tests)
 
-pub freeing_unnamed : (w v : Pending) (x : ℕ) → Frees w v x → IsUnnamed w → IsUnnamed (record w { count = v.count; free = with_answer w.free x true; released = with_answer w.released x false })
+pub freeing_unnamed : (w v : Pending) (x : ℕ) → Frees w v x → IsUnnamed w → IsUnnamed (record w { count = v.count; free = with_answer w.free x true; released = with_answer w.released x false; leaf = v.leaf })
 freeing_unnamed w v x s q y pos d =
     omega (
       arith,

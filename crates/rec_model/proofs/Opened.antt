@@ -1,16 +1,17 @@
 -- The opening heap stands for what is seen at opening.
-use Rattle.std.proofs.Common.{◌≡◌, inl, inr, ℕ, ◌+◌, ◌-◌, ◌*◌, ◌<◌, ◌≤◌, zero, suc, List, [], ◌∷◌, Option, None, Some, true, ◌==◌, slice_index_or, length, map, take, replicate, refl, sym, ap, subst, ◌∙◌, arith, lit<}
+use Rattle.std.proofs.Common.{◌≡◌, inl, inr, ℕ, ◌+◌, ◌-◌, ◌*◌, ◌<◌, ◌≤◌, zero, suc, List, [], ◌∷◌, Option, None, Some, true, false, ◌==◌, slice_index_or, length, map, take, replicate, refl, sym, ap, subst, ◌∙◌, arith, lit<}
 use Rattle.std.proofs.Math.Nat.{mul-le-mul_left}
 use Rattle.std.proofs.lemmas.Bool.{eqb-true, or_cases, false≢true, cases_lt}
 use Rattle.std.proofs.lemmas.List.{get_or_past, get_or-replicate, length-replicate, drop-replicate, take-replicate}
 use Rattle.std.specs.Option.{option_map}
+use Rattle.rec_word.specs.Header.{is_leaf, IsHeaderOf}
 use Rattle.rec_word.specs.Word.{target_of}
 use Rattle.rec_model.specs.Reach.{named, is_in}
 use Rattle.rec_model.specs.Heap.{opening, roots}
 use Rattle.rec_model.specs.Sight.{Sight, IsTaken, words_of, targets_of, field_of, StandsBy, StandsFor, IsSound, opening_sight}
 use Rattle.rec_model.specs.Unfreed.{AreUnfreed}
 use Rattle.rec_model.proofs.Members.{is_in-head, is_in-cons, is_in-cases}
-use Rattle.rec_model.proofs.Standing.{reached_is_taken}
+use Rattle.rec_model.proofs.Standing.{reached_is_taken, leaf_taken}
 use Rattle.rec_model.proofs.Words.{named-nulls, null_fields}
 
 -- nulls name nothing
@@ -71,6 +72,11 @@ opening_sound slots fields registers mutators some =
           ∙ ap (λ ws. named (map target_of ws)) (null_words slots fields registers mutators 0 some) ∙ named-nulls fields in
           absurd (false≢true (sym (ap (is_in n) none) ∙ there));
       free = λ s there open_slot. null_words slots fields registers mutators s (subst (λ n. s < n) (length_headers slots some) there);
+      leaves = λ s leaf.
+          let P : ℕ → Type 0 = λ n. is_leaf (slice_index_or (opening_sight slots fields registers mutators).headers n 0) ≡ true in
+          let taken : IsTaken (opening_sight slots fields registers mutators) s = leaf_taken (slice_index_or (opening_sight slots fields registers mutators).headers s 0) leaf in
+          let no : false ≡ true = subst P (only_first slots fields registers mutators s taken) leaf in
+          absurd (false≢true no);
     }
 
 -- a list of one value, under a function
@@ -92,7 +98,7 @@ opening_stands_by slots fields registers mutators some =
     record {
       one_to_one = λ s t s_taken t_taken same. first s s_taken ∙ sym (first t t_taken);
       there = λ s taken. lit< tt;
-      label = λ s taken. ap (λ n. slice_index_or w.headers n 0) (first s taken);
+      header = λ s taken. let P : ℕ → Type 0 = λ n. IsHeaderOf false 0 (slice_index_or w.headers n 0) in subst P (sym (first s taken)) (record { leaf = refl; label = refl });
       registers = ap (replicate mutators) own ∙ sym (map-replicate (map (option_map opening_number)) mutators (Some 0 ∷ replicate (registers - 1) None));
       fields = λ s from.
           let is : s ≡ 0 = first s (reached_is_taken w (opening_sound slots fields registers mutators some) s from) in

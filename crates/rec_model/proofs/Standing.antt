@@ -1,7 +1,8 @@
 -- A heap goes on standing for what is seen: one lemma for each thing that a command does to registers, headers and words.
-use Rattle.std.proofs.Common.{◌≡◌, ◌≢◌, ◌⊎◌, inl, inr, ℕ, ◌+◌, ◌-◌, ◌*◌, ◌<◌, List, [], ◌∷◌, ◌++◌, Option, None, Some, true, ◌==◌, slice_index_or, slice_set, length, map, drop, replicate, refl, sym, ap, subst, ◌∙◌, arith}
+use Rattle.std.proofs.Common.{◌≡◌, ◌≢◌, ◌⊎◌, inl, inr, ℕ, ◌+◌, ◌-◌, ◌*◌, ◌<◌, List, [], ◌∷◌, ◌++◌, Option, None, Some, Bool, true, false, ◌==◌, slice_index_or, slice_set, length, map, drop, replicate, refl, sym, ap, subst, ◌∙◌, arith}
 use Rattle.std.proofs.lemmas.Bool.{false≢true, cond-true, cond-false, eq-eqb, ne_eqb, cases_eq}
 use Rattle.std.specs.Option.{option_map}
+use Rattle.rec_word.specs.Header.{is_leaf, IsHeaderOf}
 use Rattle.rec_word.specs.Word.{target_of}
 use Rattle.rec_word.specs.Place.{place_of}
 use Rattle.rec_model.specs.Reach.{named, is_in}
@@ -19,6 +20,10 @@ use Rattle.rec_model.proofs.Members.{is_in-left, is_in-right, is_in-head, is_in-
 -- what a register reaches is taken
 pub reached_is_taken : (w : Sight) → IsSound w → (slot : ℕ) → Reaches w slot → IsTaken w slot
 reached_is_taken w sound = all_reached (IsTaken w) (roots w.registers) (targets_of w) sound.registers (λ m n from taken there. sound.fields m n taken there)
+
+-- a leaf is taken
+pub leaf_taken : (header : ℕ) → is_leaf header ≡ true → 0 < header
+leaf_taken header leaf = grind arith
 
 -- what a register may be set to: null, what is reached, or a slot whose fields agree and are all null
 abbrev pub MayName : Heap → Sight → (ℕ → ℕ) → Option ℕ → Type 0
@@ -45,7 +50,7 @@ register_stands heap w number t r x may by =
     record {
       one_to_one = by.one_to_one;
       there = by.there;
-      label = by.label;
+      header = by.header;
       registers = ap (λ rss. set_register rss t r (option_map number x)) by.registers ∙ set_register-map number w.registers t r x;
       fields = λ s from. elim (reached_after_register heap w number t r x may s from) [
         | inl old ↦ by.fields s old
@@ -76,6 +81,7 @@ register_sound w t r x taken sound =
       registers = λ slot there. elim (set_register_roots w.registers t r slot x there) [ inl old ↦ sound.registers slot old | inr is ↦ taken slot is ];
       fields = sound.fields;
       free = sound.free;
+      leaves = sound.leaves;
     }
 
 -- no name changes where two numberings agree on all that is named
@@ -158,15 +164,23 @@ there_after heap x number slot s there =
           omega arith
     ]
 
+-- the header is that of this object
+abbrev pub IsHeaderFor : Object → (header : ℕ) → Type 0
+IsHeaderFor x header = IsHeaderOf x.leaf x.label header
+
+-- so is an equal one of an equal object
+header_of : {x y : Object} {header other : ℕ} → ◌≡◌ {A = Object} x y → header ≡ other → IsHeaderFor x header → IsHeaderFor y other
+header_of {x} {y} {header} {other} same also its = subst (λ (o : Object). IsHeaderFor o other) same (subst (IsHeaderFor x) also its)
+
 -- an object is born in a free slot, on both sides; nothing names it yet
-pub birth_stands : (heap : Heap) (w : Sight) (number : ℕ → ℕ) (slot label : ℕ) → IsSound w → slot < length w.headers → slice_index_or w.headers slot 0 ≡ 0
-    → StandsBy heap w number
-    → StandsBy (with_object heap (born w.fields label)) (sight_with_header w slot (label + 1)) (with_number number slot (length heap.objects))
-birth_stands heap w number slot label sound in_range free by =
+pub birth_stands : (heap : Heap) (w : Sight) (number : ℕ → ℕ) (leaf : Bool) (slot label header : ℕ) → IsSound w → slot < length w.headers → slice_index_or w.headers slot 0 ≡ 0
+    → IsHeaderOf leaf label header → StandsBy heap w number
+    → StandsBy (with_object heap (born leaf w.fields label)) (sight_with_header w slot header) (with_number number slot (length heap.objects))
+birth_stands heap w number leaf slot label header sound in_range free its by =
     let next : ℕ → ℕ = with_number number slot (length heap.objects) in
     let old : (s : ℕ) → s ≢ slot → next s ≡ number s = with_number-other number slot (length heap.objects) in
     let apart : (s : ℕ) → IsTaken w s → number s ≡ next s = λ s taken. sym (old s (taken_is_other w slot s free taken)) in
-    let before : (s : ℕ) → s ≢ slot → IsTaken (sight_with_header w slot (label + 1)) s → IsTaken w s = taken_before w slot (label + 1) in
+    let before : (s : ℕ) → s ≢ slot → IsTaken (sight_with_header w slot header) s → IsTaken w s = taken_before w slot header in
     record {
       one_to_one = λ s t s_taken t_taken same. elim (cases_eq s slot) [
         | inl s_is ↦ elim (cases_eq t slot) [
@@ -178,22 +192,23 @@ birth_stands heap w number slot label sound in_range free by =
           | inr t_other ↦ by.one_to_one s t (before s s_other s_taken) (before t t_other t_taken) (sym (old s s_other) ∙ same ∙ old t t_other)
         ]
       ];
-      there = λ s s_taken. there_after heap (born w.fields label) number slot s (λ other. by.there s (before s other s_taken));
-      label = λ s s_taken. elim (cases_eq s slot) [
+      there = λ s s_taken. there_after heap (born leaf w.fields label) number slot s (λ other. by.there s (before s other s_taken));
+      header = λ s s_taken. elim (cases_eq s slot) [
         | inl s_is ↦
-            let P : ℕ → Type 0 = λ n. slice_index_or (slice_set w.headers slot (label + 1)) n 0 ≡ (object (with_object heap (born w.fields label)) (next n)).label + 1 in
-            subst P (sym s_is)
-            (get_or-set_same w.headers slot (label + 1) 0 in_range
-            ∙ sym (ap (λ n. (object (with_object heap (born w.fields label)) n).label + 1) (with_number-same number slot (length heap.objects)) ∙ ap (λ (x : Object). x.label + 1) (object_born heap (born w.fields label))))
+            let P : ℕ → Type 0 = λ n. IsHeaderFor (object (with_object heap (born leaf w.fields label)) (next n)) (slice_index_or (slice_set w.headers slot header) n 0) in
+            let same : object (with_object heap (born leaf w.fields label)) (next slot) ≡ born leaf w.fields label
+            = ap (object (with_object heap (born leaf w.fields label))) (with_number-same number slot (length heap.objects)) ∙ object_born heap (born leaf w.fields label) in
+            subst P (sym s_is) (header_of (sym same) (sym (get_or-set_same w.headers slot header 0 in_range)) its)
         | inr s_other ↦
-            get_or-set_other w.headers slot s (label + 1) 0 s_other ∙ by.label s (before s s_other s_taken)
-            ∙ sym (ap (λ n. (object (with_object heap (born w.fields label)) n).label + 1) (old s s_other) ∙ ap (λ (x : Object). x.label + 1) (object_old heap (born w.fields label) (number s) (by.there s (before s s_other s_taken))))
+            let same : object (with_object heap (born leaf w.fields label)) (next s) ≡ object heap (number s)
+            = ap (object (with_object heap (born leaf w.fields label))) (old s s_other) ∙ object_old heap (born leaf w.fields label) (number s) (by.there s (before s s_other s_taken)) in
+            header_of (sym same) (sym (get_or-set_other w.headers slot s header 0 s_other)) (by.header s (before s s_other s_taken))
       ];
       registers = by.registers ∙ registers_agree number next w.registers (λ n there. apart n (sound.registers n there));
       fields = λ s from.
           let taken : IsTaken w s = reached_is_taken w sound s from in
-          ap (λ n. (object (with_object heap (born w.fields label)) n).fields) (sym (apart s taken))
-          ∙ ap (λ (x : Object). x.fields) (object_old heap (born w.fields label) (number s) (by.there s taken))
+          ap (λ n. (object (with_object heap (born leaf w.fields label)) n).fields) (sym (apart s taken))
+          ∙ ap (λ (x : Object). x.fields) (object_old heap (born leaf w.fields label) (number s) (by.there s taken))
           ∙ by.fields s from
           ∙ fields_agree number next (words_of w s) (λ n there. apart n (sound.fields s n taken there));
     }
@@ -231,6 +246,10 @@ birth_sound w slot header in_range free sound =
         | inr other ↦ stays n (sound.fields s n (taken_before w slot header s other taken) there)
       ];
       free = λ s there open_slot. sound.free s (subst (λ n. s < n) (length-set w.headers slot header) there) (λ taken. open_slot (stays s taken));
+      leaves = λ s leaf. elim (cases_eq s slot) [
+        | inl is ↦ ap (words_of w) is ∙ sound.free slot in_range (λ old. taken_is_other w slot slot free old refl)
+        | inr other ↦ sound.leaves s (sym (ap is_leaf (get_or-set_other w.headers slot s header 0 other)) ∙ leaf)
+      ];
     }
 
 -- what a slot names after a write was named before, or is named by the word
@@ -258,11 +277,13 @@ object_written heap n f x there = get_or-set_same heap.objects n (record (object
 object_unwritten : (heap : Heap) (n f m : ℕ) (x : Field) → m ≢ n → object (with_field heap n f x) m ≡ object heap m
 object_unwritten heap n f m x other = get_or-set_other heap.objects n m (record (object heap n) { fields = slice_set (object heap n).fields f x }) nothing other
 
--- a write keeps every label
-label_unwritten : (heap : Heap) (n f m : ℕ) (x : Field) → n < length heap.objects → (object (with_field heap n f x) m).label ≡ (object heap m).label
-label_unwritten heap n f m x there = elim (cases_eq m n) [
-  | inl is ↦ ap (λ k. (object (with_field heap n f x) k).label) is ∙ ap (λ (o : Object). o.label) (object_written heap n f x there) ∙ ap (λ k. (object heap k).label) (sym is)
-  | inr other ↦ ap (λ (o : Object). o.label) (object_unwritten heap n f m x other)
+-- a write keeps every header
+header_unwritten : (heap : Heap) (n f m header : ℕ) (x : Field) → n < length heap.objects → IsHeaderFor (object heap m) header → IsHeaderFor (object (with_field heap n f x) m) header
+header_unwritten heap n f m header x there its = elim (cases_eq m n) [
+  | inl is ↦
+      let P : ℕ → Type 0 = λ k. IsHeaderFor (object (with_field heap n f x) k) header in
+      subst P (sym is) (subst (λ (o : Object). IsHeaderFor o header) (sym (object_written heap n f x there)) (subst (λ k. IsHeaderFor (object heap k) header) is its))
+  | inr other ↦ subst (λ (o : Object). IsHeaderFor o header) (sym (object_unwritten heap n f m x other)) its
 ]
 
 -- a field of what is reached is written, on both sides
@@ -275,7 +296,7 @@ write_stands heap w number slot f word sound in_range from may by =
     record {
       one_to_one = by.one_to_one;
       there = λ s s_taken. subst (λ n. number s < n) (sym (length-set heap.objects (number slot) (record (object heap (number slot)) { fields = slice_set (object heap (number slot)).fields f x }))) (by.there s s_taken);
-      label = λ s s_taken. by.label s s_taken ∙ ap (λ n. n + 1) (sym (label_unwritten heap (number slot) f (number s) x there));
+      header = λ s s_taken. header_unwritten heap (number slot) f (number s) (slice_index_or w.headers s 0) x there (by.header s s_taken);
       registers = by.registers;
       fields = λ s after.
           let before : Reaches w s = reached_after_write w slot f word in_range may s after in
@@ -295,11 +316,12 @@ write_stands heap w number slot f word sound in_range from may by =
     }
 
 -- a write of a name of a taken slot keeps every name in a taken slot
-pub write_sound : (w : Sight) (slot f word : ℕ) → f < w.fields → IsTaken w slot → ((n : ℕ) → target_of word ≡ Some n → IsTaken w n) → IsSound w → IsSound (sight_with_word w slot f word)
-write_sound w slot f word in_range taken may sound =
+pub write_sound : (w : Sight) (slot f word : ℕ) → f < w.fields → IsTaken w slot → is_leaf (slice_index_or w.headers slot 0) ≡ false → ((n : ℕ) → target_of word ≡ Some n → IsTaken w n) → IsSound w → IsSound (sight_with_word w slot f word)
+write_sound w slot f word in_range taken unmarked may sound =
     record {
       places = length-set w.words (place_of slot f w.fields) word ∙ sound.places;
       registers = sound.registers;
       fields = λ s n s_taken there. elim (targets_after_write w slot f word s n in_range there) [ inl old ↦ sound.fields s n s_taken old | inr is ↦ may n is ];
       free = λ s there open_slot. words_of-set_other w slot f word s in_range (λ is. open_slot (subst (IsTaken w) (sym is) taken)) ∙ sound.free s there open_slot;
+      leaves = λ s leaf. words_of-set_other w slot f word s in_range (λ is. false≢true (sym unmarked ∙ sym (ap (λ n. is_leaf (slice_index_or w.headers n 0)) is) ∙ leaf)) ∙ sound.leaves s leaf;
     }

@@ -87,6 +87,7 @@ set_accounted w v u member chosen i t c s =
       apart = apart_after_set w chosen seen c.passes.1 i;
       single = i.single;
       born = i.born;
+      leaves = i.leaves;
     } in (
       alike_accounted x v (set_alike w v chosen s) accounted,
       record {

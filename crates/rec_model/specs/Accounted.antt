@@ -47,6 +47,10 @@ replaces_from epoch node write = only_if (nat_le epoch (epoch_of write.new)) (on
 abbrev pub is_from : (epoch node : ℕ) → Dated → ℕ
 is_from epoch node d = only_if (nat_le epoch d.epoch) (one_if_same node d.node)
 
+-- counted where it is a leaf, besides
+abbrev pub is_leaf_from : (epoch node : ℕ) → Dated → ℕ
+is_leaf_from epoch node d = only_if d.leaf (is_from epoch node d)
+
 -- counted where it is of a later epoch and names the node
 abbrev pub is_after : (epoch node : ℕ) → Dated → ℕ
 is_after epoch node d = only_if (nat_lt epoch d.epoch) (one_if_same node d.node)
@@ -139,6 +143,8 @@ pub record IsAccounted (w : Pending) : Type 0 where
   pub single : (node : ℕ) → 0 < node → w.free node ≡ true → w.count node ≡ 1
   -- a node is born once
   pub born : (node : ℕ) → 0 < node → sum_by (is_from w.applied node) w.births ≤ 1
+  -- a node that was born a leaf is one, as long as its birth is to be counted
+  pub leaves : (node : ℕ) → 0 < node → 0 < sum_by (is_leaf_from w.applied node) w.births → w.leaf node ≡ true
 
 -- Every node that was given up has no count, as long as none is given up but for its count.
 abbrev pub HasUncountedReleased : Pending → Type 0

@@ -1,5 +1,5 @@
 -- What a command gives on the heap that never frees.
-use Rattle.std.specs.Prelude.{◌≡◌, ◌==◌, ℕ, Bool, true, false, Option, None, Some, is_some, length, MatchBool}
+use Rattle.std.specs.Prelude.{◌≡◌, ◌==◌, ℕ, Bool, true, false, not, ◌&&◌, Option, None, Some, is_some, length, MatchBool}
 use Rattle.rec_word.specs.Word.{target_of}
 use Rattle.rec_model.specs.declared.command.Cmd.{Cmd}
 use Rattle.rec_model.specs.declared.command.Cmd.TheVariants as commands
@@ -32,11 +32,15 @@ abbrev pub got : Heap → ℕ → ℕ → ℕ → Option ℕ → Asked
 got heap t dst f None = answered heap answers.NoObject 0
 got heap t dst f (Some n) = answered (with_register heap t dst (field heap n f).target) (null_or_object (field heap n f).target) (field heap n f).word
 
--- a write of a field: where it is made it leaves a word, and the target beside it is the register's
+-- a write of a field of an object: where it is made it leaves a word, and the target beside it is the register's
+abbrev pub put_to : Heap → (n f : ℕ) → Option ℕ → (left : ℕ) → (made : Bool) → Asked
+put_to heap n f val left true = answered (with_field heap n f (record { target = val; word = left })) answers.Done (field heap n f).word
+put_to heap n f val left false = refused heap
+
+-- a write of a field of the object in a register, if there is one; into a leaf it is never made
 abbrev pub put : Heap → ℕ → Option ℕ → Bool → ℕ → Option ℕ → Asked
 put heap f val made left None = answered heap answers.NoObject 0
-put heap f val true left (Some n) = answered (with_field heap n f (record { target = val; word = left })) answers.Done (field heap n f).word
-put heap f val false left (Some n) = refused heap
+put heap f val made left (Some n) = put_to heap n f val left (made && not (object heap n).leaf)
 
 -- the label of the object in a register, if there is one
 abbrev pub value : Heap → Option ℕ → Answer
@@ -54,17 +58,27 @@ abbrev pub yes_or_no : Bool → Answer
 yes_or_no true = answers.Yes
 yes_or_no false = answers.No
 
--- What asking gives. Every object has this many fields; `made` bears on New, and on Put where its object is there;
+-- a birth: of an object that is (or is not) a leaf
+abbrev pub bear : (fields : ℕ) → Heap → (t reg label : ℕ) → (leaf made : Bool) → Asked
+bear fields heap t reg label leaf true = answered (with_register (with_object heap (born leaf fields label)) t reg (Some (length heap.objects))) answers.Done 0
+bear fields heap t reg label leaf false = refused heap
+
+-- What asking gives. Every object has this many fields; `made` bears on New and Leaf, and on Put where its object is there;
 -- `left` is the word that a Put leaves.
 abbrev pub asks : (fields : ℕ) → Heap → (t : ℕ) → Cmd → (made : Bool) → (left : ℕ) → Asked
-asks fields heap t (commands.New reg label) true left = answered (with_register (with_object heap (born fields label)) t reg (Some (length heap.objects))) answers.Done 0
-asks fields heap t (commands.New reg label) false left = refused heap
+asks fields heap t (commands.New reg label) made left = bear fields heap t reg label false made
+asks fields heap t (commands.Leaf reg label) made left = bear fields heap t reg label true made
 asks fields heap t (commands.Null reg) made left = answered (with_register heap t reg None) answers.Done 0
 asks fields heap t (commands.Copy dst src) made left = answered (with_register heap t dst (register heap.registers t src)) answers.Done 0
 asks fields heap t (commands.Get dst src f) made left = got heap t dst f (register heap.registers t src)
 asks fields heap t (commands.Put src f val) made left = put heap f (register heap.registers t val) made left (register heap.registers t src)
 asks fields heap t (commands.Value reg) made left = answered heap (value heap (register heap.registers t reg)) 0
 asks fields heap t (commands.Same a b) made left = answered heap (yes_or_no (same (register heap.registers t a) (register heap.registers t b))) 0
+
+-- the command that allocates: a leaf, or an object with fields
+abbrev pub allocation : (leaf : Bool) (reg label : ℕ) → Cmd
+allocation true reg label = commands.Leaf reg label
+allocation false reg label = commands.New reg label
 
 -- the refusals of an allocation
 abbrev pub refuses_new : Answer → Bool
@@ -73,14 +87,16 @@ refuses_new answers.Full = true
 refuses_new (answers.Busy before after) = true
 refuses_new _ = false
 
--- the refusal of a write
+-- the refusals of a write
 abbrev pub refuses_put : Answer → Bool
 refuses_put answers.LogFull = true
+refuses_put answers.NoField = true
 refuses_put _ = false
 
 -- the refusals that a command may have
 abbrev pub IsRefusalOf : Cmd → Answer → Type 0
 IsRefusalOf (commands.New reg label) answer = refuses_new answer ≡ true
+IsRefusalOf (commands.Leaf reg label) answer = refuses_new answer ≡ true
 IsRefusalOf (commands.Put src f val) answer = refuses_put answer ≡ true
 IsRefusalOf _ answer = ⊥
 
@@ -94,7 +110,7 @@ abbrev pub is_done : Answer → Bool
 is_done answers.Done = true
 is_done _ = false
 
--- what asking gives to a command that was told this: New and Put are made exactly where they are answered Done
+-- what asking gives to a command that was told this: New, Leaf and Put are made exactly where they are answered Done
 abbrev pub asked : (fields : ℕ) → Heap → (t : ℕ) → Cmd → Told → Asked
 asked fields heap t cmd told = asks fields heap t cmd (is_done told.answer) told.left
 
@@ -103,11 +119,17 @@ abbrev pub LeavesWord : Heap → (t : ℕ) → Cmd → Told → Type 0
 LeavesWord heap t (commands.Put src f val) told = MatchBool (is_done told.answer) (is_some (target_of told.left) ≡ is_some (register heap.registers t val)) (told.left ≡ 0)
 LeavesWord heap t _ told = told.left ≡ 0
 
--- what was told is what asking gives
+-- the command would write into a leaf
+abbrev pub WritesLeaf : Heap → (t : ℕ) → Cmd → Type 0
+WritesLeaf heap t (commands.Put src f val) = (n : ℕ) × (register heap.registers t src ≡ Some n) × ((object heap n).leaf ≡ true)
+WritesLeaf heap t _ = ⊥
+
+-- what was told is what asking gives; that there is no field is told only where a leaf would be written
 pub record IsTold (fields : ℕ) (heap : Heap) (t : ℕ) (cmd : Cmd) (told : Told) : Type 0 where
   pub answer : AnswersAs cmd (asked fields heap t cmd told).answer told.answer
   pub saw : told.saw ≡ (asked fields heap t cmd told).saw
   pub left : LeavesWord heap t cmd told
+  pub no_field : told.answer ≡ answers.NoField → WritesLeaf heap t cmd
 
 -- an answer that saw and left no word
 abbrev pub plain : Answer → Told

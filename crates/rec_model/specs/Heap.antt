@@ -1,5 +1,5 @@
 -- The heap that never frees: objects by number, and each mutator's registers.
-use Rattle.std.specs.Prelude.{ℕ, ◌-◌, List, [], ◌∷◌, ◌++◌, Option, None, Some, map, replicate, slice_index_or, slice_set}
+use Rattle.std.specs.Prelude.{ℕ, Bool, false, ◌-◌, List, [], ◌∷◌, ◌++◌, Option, None, Some, map, replicate, slice_index_or, slice_set}
 use Rattle.std.specs.List.{flat_map}
 use Rattle.rec_model.specs.Reach.{named, IsReached}
 use Rattle.rec_model.specs.Numbering.{IsNumbering, holders}
@@ -9,9 +9,10 @@ pub record Field : Type 0 where
   pub target : Option ℕ
   pub word : ℕ
 
--- a label, and the fields in order
+-- a label, a mark that tells leaves, and the fields in order
 pub record Object : Type 0 where
   pub label : ℕ
+  pub leaf : Bool
   pub fields : List Field
 
 -- objects are numbered from 0 in the order of their births; registers stand mutator by mutator
@@ -24,14 +25,14 @@ abbrev pub null_field : Field
 null_field = record { target = None; word = 0 }
 
 -- an object at its birth
-abbrev pub born : (fields label : ℕ) → Object
-born fields label = record { label = label; fields = replicate fields null_field }
+abbrev pub born : (leaf : Bool) (fields label : ℕ) → Object
+born leaf fields label = record { label = label; leaf = leaf; fields = replicate fields null_field }
 
 -- one object with label 0, in register 0 of every mutator
 abbrev pub opening : (fields registers mutators : ℕ) → Heap
 opening fields registers mutators =
     record {
-      objects = born fields 0 ∷ [];
+      objects = born false fields 0 ∷ [];
       registers = replicate mutators (Some 0 ∷ replicate (registers - 1) None);
     }
 
@@ -49,7 +50,7 @@ set_register registers t r target = slice_set registers (t - 1) (slice_set (regi
 
 -- an object with no field, which no number of an object names
 abbrev pub nothing : Object
-nothing = record { label = 0; fields = [] }
+nothing = record { label = 0; leaf = false; fields = [] }
 
 -- the object with this number
 abbrev pub object : Heap → ℕ → Object

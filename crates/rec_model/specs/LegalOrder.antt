@@ -43,6 +43,7 @@ pub record Moment : Type 0 where
 -- whether it is an allocation
 abbrev pub is_new : Cmd → Bool
 is_new (commands.New reg label) = true
+is_new (commands.Leaf reg label) = true
 is_new _ = false
 
 -- whether an object was born
@@ -88,6 +89,7 @@ NewFits limits w _ = Unit {0}
 -- what an allocation's answer needs of the moment at which it stands
 abbrev pub AllocationFits : Limits → Moment → Cmd → Answer → Type 0
 AllocationFits limits w (commands.New reg label) answer = NewFits limits w answer
+AllocationFits limits w (commands.Leaf reg label) answer = NewFits limits w answer
 AllocationFits limits w _ answer = Unit {0}
 
 -- an answer is that of asking; an allocation found a free slot, or none; a full log has its entries

@@ -15,5 +15,6 @@ pub mod Sets
 pub mod Sight
 pub mod Sums
 pub mod Unfreed
+pub use Rattle.rec_word.specs.Header
 pub use Rattle.rec_word.specs.Place
 pub use Rattle.rec_word.specs.Word

@@ -1,13 +1,15 @@
 -- The listing of a heap: a row for each live object, in the numbering's order.
-use Rattle.std.specs.Prelude.{◌≡◌, ℕ, ◌+◌, ◌-◌, ◌==◌, List, Option, option_map, map, slice_index_or}
+use Rattle.std.specs.Prelude.{◌≡◌, ℕ, Bool, ◌+◌, ◌==◌, List, Option, option_map, map, slice_index_or}
 use Rattle.std.specs.List.{position_or_len}
+use Rattle.rec_word.specs.Header.{is_leaf, label_of}
 use Rattle.rec_word.specs.Word.{target_of}
 use Rattle.rec_model.specs.Heap.{Heap, object, count_of, IsListed}
 use Rattle.rec_model.specs.Sight.{Sight, words_of, holders_of, NumbersSlots}
 
--- a live object's label, how many fields and registers hold it, and the number of what each of its fields leads to
+-- a live object's label and leaf mark, how many fields and registers hold it, and the number of what each of its fields leads to
 pub record Row : Type 0 where
   pub label : ℕ
+  pub leaf : Bool
   pub count : ℕ
   pub fields : List (Option ℕ)
 
@@ -20,6 +22,7 @@ abbrev pub row : Heap → List ℕ → ℕ → Row
 row heap ns n =
     record {
       label = (object heap n).label;
+      leaf = (object heap n).leaf;
       count = count_of heap ns n;
       fields = map (λ x. option_map (number_in ns) x.target) (object heap n).fields;
     }
@@ -32,7 +35,8 @@ IsListing heap rows = (ns : List ℕ) × IsListed heap ns × (rows ≡ map (row 
 abbrev pub slot_row : Sight → List ℕ → ℕ → Row
 slot_row w slots slot =
     record {
-      label = slice_index_or w.headers slot 0 - 1;
+      label = label_of (slice_index_or w.headers slot 0);
+      leaf = is_leaf (slice_index_or w.headers slot 0);
       count = holders_of w slots slot;
       fields = map (λ word. option_map (number_in slots) (target_of word)) (words_of w slot);
     }

@@ -1,9 +1,9 @@
 -- The moves of a heap that counts late, each by the laws of its sums. Each law speaks of every weight, so a move says which
 -- elements a list gains and loses, and not how they are laid out in logs, mailboxes and mutators.
-use Rattle.std.specs.Prelude.{◌≡◌, ◌⊎◌, ℕ, ◌+◌, ◌<◌, ◌≤◌, ◌==◌, nat_lt, nat_le, if◌then◌else◌, Bool, true, false, List, length}
+use Rattle.std.specs.Prelude.{◌≡◌, ◌≢◌, ◌⊎◌, ℕ, ◌+◌, ◌<◌, ◌≤◌, ◌==◌, nat_lt, nat_le, if◌then◌else◌, Bool, true, false, List, length}
 use Rattle.std.specs.List.{sum_by}
 use Rattle.rec_model.specs.Sums.{only_if, one_if_same, sum_at, HasSameSums, HasSameSumsAt}
-use Rattle.rec_model.specs.Pending.{node_of, epoch_of, home, Write, Dated, dated, Pending, word_in, is_at, Holds}
+use Rattle.rec_model.specs.Pending.{node_of, epoch_of, home, Write, Dated, dated, dated_birth, Pending, word_in, is_at, Holds}
 
 -- the list gains one element
 abbrev pub Gains : {X : Type 0} → (before : List X) → X → (after : List X) → Type 0
@@ -27,11 +27,12 @@ pub record KeepsEpochs (before after : Pending) : Type 0 where
   pub applied : after.applied ≡ before.applied
   pub requested : after.requested ≡ before.requested
 
--- the counts, what is free and what is released stay
+-- the counts, what is free, what is released and what is a leaf stay
 pub record KeepsSlots (before after : Pending) : Type 0 where
   pub count : (x : ℕ) → 0 < x → after.count x ≡ before.count x
   pub free : (x : ℕ) → 0 < x → after.free x ≡ before.free x
   pub released : (x : ℕ) → 0 < x → after.released x ≡ before.released x
+  pub leaf : (x : ℕ) → 0 < x → after.leaf x ≡ before.leaf x
 
 -- the logs stay
 pub record KeepsLogs (before after : Pending) : Type 0 where
@@ -71,12 +72,14 @@ pub record Registers (before after : Pending) (epoch old new : ℕ) : Type 0 whe
   pub epochs : KeepsEpochs before after
   pub slots : KeepsSlots before after
 
--- A mutator in this epoch takes a free slot for a new node, lets a register name it, and logs it.
+-- A mutator in this epoch takes a free slot for a new node, lets a register name it, and logs it: whether it is a leaf stands in its
+-- slot and in the log.
 pub record Bears (before after : Pending) (epoch old node : ℕ) : Type 0 where
   pub had : Holds before epoch old
   pub is_node : 0 < node
   pub was_free : before.free node ≡ true
-  pub births : Gains before.births (dated epoch node) after.births
+  pub leaf : Bool
+  pub births : Gains before.births (dated_birth epoch node leaf) after.births
   pub registers : Replaces before.registers (dated epoch old) (dated epoch node) after.registers
   pub words : HasSameSumsAt before.words after.words
   pub writes : HasSameSums before.writes after.writes
@@ -85,6 +88,7 @@ pub record Bears (before after : Pending) (epoch old node : ℕ) : Type 0 where
   pub count : (x : ℕ) → 0 < x → after.count x ≡ before.count x
   pub free : (x : ℕ) → 0 < x → after.free x ≡ with_answer before.free node false x
   pub released : (x : ℕ) → 0 < x → after.released x ≡ before.released x
+  pub leaves : (x : ℕ) → 0 < x → after.leaf x ≡ with_answer before.leaf node leaf x
 
 -- A mutator leaves this epoch for the requested one: what its registers name is written as a snapshot.
 pub record Crosses (before after : Pending) (epoch : ℕ) (names : List ℕ) : Type 0 where
@@ -142,6 +146,7 @@ pub record Applies (before after : Pending) : Type 0 where
   pub registers : HasSameSums before.registers after.registers
   pub free : (x : ℕ) → 0 < x → after.free x ≡ before.free x
   pub released : (x : ℕ) → 0 < x → after.released x ≡ before.released x
+  pub leaf : (x : ℕ) → 0 < x → after.leaf x ≡ before.leaf x
 
 -- The collector gives up a node of count zero.
 pub record Releases (before after : Pending) (node : ℕ) : Type 0 where
@@ -155,6 +160,7 @@ pub record Releases (before after : Pending) (node : ℕ) : Type 0 where
   pub count : (x : ℕ) → 0 < x → after.count x ≡ before.count x
   pub free : (x : ℕ) → 0 < x → after.free x ≡ before.free x
   pub released : (x : ℕ) → 0 < x → after.released x ≡ with_answer before.released node true x
+  pub leaf : (x : ℕ) → 0 < x → after.leaf x ≡ before.leaf x
 
 -- The collector takes the word out of a field of a node that it gave up, and takes one off the count of the target.
 pub record Clears (before after : Pending) (place : ℕ) : Type 0 where
@@ -168,6 +174,7 @@ pub record Clears (before after : Pending) (place : ℕ) : Type 0 where
   pub epochs : KeepsEpochs before after
   pub free : (x : ℕ) → 0 < x → after.free x ≡ before.free x
   pub released : (x : ℕ) → 0 < x → after.released x ≡ before.released x
+  pub leaf : (x : ℕ) → 0 < x → after.leaf x ≡ before.leaf x
 
 -- counted where the field is the node's own, and not null
 abbrev pub leads_out_of : (fields node place word : ℕ) → ℕ
@@ -186,6 +193,8 @@ pub record Frees (before after : Pending) (node : ℕ) : Type 0 where
   pub epochs : KeepsEpochs before after
   pub free : (x : ℕ) → 0 < x → after.free x ≡ with_answer before.free node true x
   pub released : (x : ℕ) → 0 < x → after.released x ≡ with_answer before.released node false x
+  -- a slot that is freed has no object to be a leaf
+  pub leaf : (x : ℕ) → 0 < x → x ≢ node → after.leaf x ≡ before.leaf x
 
 -- The list keeps all elements from this epoch on, and gains none.
 abbrev pub KeepsFrom : {X : Type 0} → (epoch_of : X → ℕ) → (epoch : ℕ) → (before after : List X) → Type 0

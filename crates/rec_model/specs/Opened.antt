@@ -39,4 +39,5 @@ opening fields places epoch mutators nulls =
       count = λ node. if node == 1 then mutators else 1;
       free = λ node. not (node == 1);
       released = λ node. false;
+      leaf = λ node. false;
     }

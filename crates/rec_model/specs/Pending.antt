@@ -1,5 +1,5 @@
 -- What a heap that counts late has to account for: its field words, its registers, and what is not counted yet.
-use Rattle.std.specs.Prelude.{ℕ, ◌+◌, ◌/◌, ◌<◌, ◌==◌, Bool, List, slice_index_or}
+use Rattle.std.specs.Prelude.{ℕ, ◌+◌, ◌/◌, ◌<◌, ◌==◌, Bool, false, List, slice_index_or}
 use Rattle.std.specs.List.{sum_by}
 use Rattle.rec_word.specs.Word.{stamp_of, target_bits}
 use Rattle.rec_model.specs.Sums.{only_if, one_if_same}
@@ -24,13 +24,17 @@ pub record Write : Type 0 where
   pub new : ℕ
   pub old : ℕ
 
--- a node, or null, with an epoch
+-- A node, or null, with an epoch. The birth of a leaf is marked.
 pub record Dated : Type 0 where
   pub epoch : ℕ
   pub node : ℕ
+  pub leaf : Bool
 
 abbrev pub dated : (epoch node : ℕ) → Dated
-dated epoch node = record { epoch = epoch; node = node }
+dated epoch node = record { epoch = epoch; node = node; leaf = false }
+
+abbrev pub dated_birth : (epoch node : ℕ) → (leaf : Bool) → Dated
+dated_birth epoch node leaf = record { epoch = epoch; node = node; leaf = leaf }
 
 -- The writes, births and snapshots are those of all logs that the collector isn't done with, wherever they are and in
 -- whatever order.
@@ -49,10 +53,11 @@ pub record Pending : Type 0 where
   -- the epoch of the last batch, and the epoch that was requested last
   pub applied : ℕ
   pub requested : ℕ
-  -- of each node: its true count, whether its slot is free, and whether the collector gave it up
+  -- of each node: its true count, whether its slot is free, whether the collector gave it up, and whether it is a leaf
   pub count : ℕ → ℕ
   pub free : ℕ → Bool
   pub released : ℕ → Bool
+  pub leaf : ℕ → Bool
 
 -- the word in a field
 abbrev pub word_in : Pending → (place : ℕ) → ℕ

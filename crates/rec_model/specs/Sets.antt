@@ -121,3 +121,4 @@ pub record ReleasesSet (before after : Pending) (chosen : ℕ → Bool) : Type 0
   pub count : (x : ℕ) → 0 < x → after.count x ≡ before.count x
   pub free : (x : ℕ) → 0 < x → after.free x ≡ before.free x
   pub released : (x : ℕ) → 0 < x → after.released x ≡ with_members before.released chosen x
+  pub leaf : (x : ℕ) → 0 < x → after.leaf x ≡ before.leaf x

@@ -1,12 +1,13 @@
 -- What is seen of a running heap, and when a heap that never frees stands for it.
 use Rattle.std.specs.Prelude.{◌≡◌, ℕ, ◌+◌, ◌-◌, ◌*◌, ◌<◌, ◌↔◌, true, List, ◌∷◌, Option, None, Some, option_map, map, length, replicate, slice_index_or, slice_set, slice_range}
+use Rattle.rec_word.specs.Header.{is_leaf, IsHeaderOf}
 use Rattle.rec_word.specs.Place.{place_of}
 use Rattle.rec_word.specs.Word.{target_of}
 use Rattle.rec_model.specs.Reach.{named, is_in, IsReached}
 use Rattle.rec_model.specs.Numbering.{IsNumbering, holders}
 use Rattle.rec_model.specs.Heap.{Heap, Field, object, set_register, roots}
 
--- the number of fields of an object; 0 or the label plus one for each slot; each field's word by its place; each mutator's registers
+-- the number of fields of an object; a header for each slot, 0 where it is free; each field's word by its place; each mutator's registers
 pub record Sight : Type 0 where
   pub fields : ℕ
   pub headers : List ℕ
@@ -16,6 +17,10 @@ pub record Sight : Type 0 where
 -- a slot holds an object
 abbrev pub IsTaken : Sight → ℕ → Type 0
 IsTaken w slot = 0 < slice_index_or w.headers slot 0
+
+-- a slot holds a leaf
+abbrev pub HoldsLeaf : Sight → ℕ → Type 0
+HoldsLeaf w slot = is_leaf (slice_index_or w.headers slot 0) ≡ true
 
 -- the words of a slot's fields, in order
 abbrev pub words_of : Sight → ℕ → List ℕ
@@ -45,11 +50,11 @@ field_of number word = record { target = option_map number (target_of word); wor
 pub record StandsBy (heap : Heap) (w : Sight) (number : ℕ → ℕ) : Type 0 where
   pub one_to_one : (s t : ℕ) → IsTaken w s → IsTaken w t → number s ≡ number t → s ≡ t
   pub there : (s : ℕ) → IsTaken w s → number s < length heap.objects
-  pub label : (s : ℕ) → IsTaken w s → slice_index_or w.headers s 0 ≡ (object heap (number s)).label + 1
+  pub header : (s : ℕ) → IsTaken w s → IsHeaderOf (object heap (number s)).leaf (object heap (number s)).label (slice_index_or w.headers s 0)
   pub registers : heap.registers ≡ map (map (option_map number)) w.registers
   pub fields : (s : ℕ) → Reaches w s → (object heap (number s)).fields ≡ map (field_of number) (words_of w s)
 
--- The heap stands for what is seen: its objects are one to one to the taken slots, with equal labels, and the registers,
+-- The heap stands for what is seen: its objects are one to one to the taken slots, with equal labels and leaf marks, and the registers,
 -- and the fields and field words of every slot that a register reaches, agree.
 abbrev pub StandsFor : Heap → Sight → Type 0
 StandsFor heap w = (number : ℕ → ℕ) × StandsBy heap w number
@@ -58,12 +63,14 @@ StandsFor heap w = (number : ℕ → ℕ) × StandsBy heap w number
 abbrev pub IsCollected : Sight → Type 0
 IsCollected w = (slot : ℕ) → IsTaken w slot ↔ Reaches w slot
 
--- What every running heap keeps: registers and the fields of taken slots name taken slots, and a free slot's fields are null.
+-- What every running heap keeps: registers and the fields of taken slots name taken slots, and the fields of a free slot and of a
+-- leaf are 0.
 pub record IsSound (w : Sight) : Type 0 where
   pub places : length w.words ≡ length w.headers * w.fields
   pub registers : (slot : ℕ) → is_in slot (roots w.registers) ≡ true → IsTaken w slot
   pub fields : (s slot : ℕ) → IsTaken w s → is_in slot (targets_of w s) ≡ true → IsTaken w slot
   pub free : (s : ℕ) → s < length w.headers → (IsTaken w s → ⊥) → words_of w s ≡ replicate w.fields 0
+  pub leaves : (s : ℕ) → HoldsLeaf w s → words_of w s ≡ replicate w.fields 0
 
 -- the word of a slot's field
 abbrev pub word_at : Sight → ℕ → ℕ → ℕ

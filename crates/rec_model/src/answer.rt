@@ -20,6 +20,8 @@ pub enum Answer {
     /// No free slot was found, but a sweep ran, began or ended meanwhile: the freed word before and after.
     /// Nothing changed.
     Busy { before: u64, after: u64 },
+    /// The object that was to be written is a leaf. Nothing changed.
+    NoField,
     /// The mutator's log has no room for another entry. Nothing changed.
     LogFull,
 }

@@ -3,6 +3,8 @@
 pub enum Cmd {
     /// Make an object with this label and null fields, named by `reg`.
     New { reg: u8, label: u32 },
+    /// Make a leaf with this label, an object whose fields are null for good, named by `reg`.
+    Leaf { reg: u8, label: u32 },
     /// Let `reg` be null.
     Null { reg: u8 },
     /// Let `dst` name what `src` names, null too.

@@ -1,5 +1,5 @@
 -- A step of a machine leaves a machine.
-use Rattle.std.proofs.Common.{◌≡◌, ◌≢◌, inl, inr, ℕ, ◌+◌, ◌^◌, ◌<◌, ◌≤◌, List, [], ◌∷◌, ◌++◌, Option, None, Some, length, refl, sym, subst, ◌∙◌, arith, length-append}
+use Rattle.std.proofs.Common.{◌≡◌, ◌≢◌, inl, inr, Bool, true, false, ℕ, ◌+◌, ◌^◌, ◌<◌, ◌≤◌, List, [], ◌∷◌, ◌++◌, Option, None, Some, length, refl, sym, subst, ◌∙◌, arith, length-append}
 use Rattle.std.specs.List.{All}
 use Rattle.std.proofs.lemmas.List.Elements.{All-set, All-get_or}
 use Rattle.std.proofs.lemmas.Bool.{cases_lt}
@@ -10,9 +10,10 @@ use Rattle.rec_word.specs.declared.op.Op.TheVariants as ops
 use Rattle.rec_model.specs.declared.command.Cmd.{Cmd}
 use Rattle.rec_model.specs.declared.command.Cmd.TheVariants as commands
 use Rattle.rec_model.specs.declared.told.Told.{Told}
+use Rattle.rec_model.specs.Asking.{allocation}
 use Rattle.rec_log.specs.declared.contents.Contents.{Contents}
 use Rattle.rec_log.specs.declared.entry.Entry.{Entry}
-use Rattle.rec_mutator.specs.Private.{Private, register, limit_of, HasNext, IsAt, IsMachine}
+use Rattle.rec_mutator.specs.Private.{Private, register, HasOperands, limit_of, HasNext, IsAt, IsMachine}
 use Rattle.rec_mutator.specs.Step.{Step, Decides, GoesOn, Crosses, HasRoom}
 use Rattle.rec_mutator.specs.Took.{IsFound}
 use Rattle.rec_mutator.specs.declared.phase.Phase.{Phase}
@@ -65,12 +66,27 @@ going_on_machine m now g =
 -- a command's first step is within its limit
 first_step : (p : Private) (cmd : Cmd) → p.steps ≡ 0 → p.steps + 1 ≤ limit_of p.slots (works.Command cmd)
 first_step p (commands.New reg label) none = omega arith
+first_step p (commands.Leaf reg label) none = omega arith
 first_step p (commands.Null reg) none = omega arith
 first_step p (commands.Copy dst src) none = omega arith
 first_step p (commands.Get dst src f) none = omega arith
 first_step p (commands.Put src f val) none = omega arith
 first_step p (commands.Value reg) none = omega arith
 first_step p (commands.Same a b) none = omega arith
+
+-- an allocation has as many steps as slots, and two
+allocation_limit : (slots reg label : ℕ) (leaf : Bool) → limit_of slots (works.Command (allocation leaf reg label)) ≡ slots + 2
+allocation_limit slots reg label true = refl
+allocation_limit slots reg label false = refl
+
+-- its register is there
+allocation_register : (p : Private) (reg label : ℕ) (leaf : Bool) → HasOperands p (allocation leaf reg label) → reg < length p.registers
+allocation_register p reg label true there = there
+allocation_register p reg label false there = there
+
+-- so many steps of it are within the limit
+within_scan : (p : Private) (reg label : ℕ) (leaf : Bool) → p.steps ≤ p.slots + 1 → p.steps + 1 ≤ limit_of p.slots (works.Command (allocation leaf reg label))
+within_scan p reg label leaf few = let limit : limit_of p.slots (works.Command (allocation leaf reg label)) ≡ p.slots + 2 = allocation_limit p.slots reg label leaf in omega (arith, few)
 
 -- one entry more fits
 one_more : (p : Private) (entry : Entry) → length p.log.entries < p.log.capacity → length (p.log.entries ++ entry ∷ []) ≤ p.log.capacity
@@ -128,36 +144,44 @@ step_machine {p = p} m sized found (Step.get_of_null dst src f names d) = decide
 step_machine {p = p} {word = word} m sized found (Step.get dst src f slot names d) = decided_machine m (All-set IsTarget p.registers dst (target_of word) (word_target word) m.registers) m.entries (length-set p.registers dst _) (first_step p (commands.Get dst src f) (at_phase p _ m d.phase).1) d
 step_machine {p = p} m sized found (Step.put_of_null src f val names d) = decided_machine m m.registers m.entries refl (first_step p (commands.Put src f val) (at_phase p _ m d.phase).1) d
 step_machine {p = p} m sized found (Step.put_refused src f val slot names full d) = decided_machine m m.registers m.entries refl (first_step p (commands.Put src f val) (at_phase p _ m d.phase).1) d
-step_machine {p = p} m sized found (Step.put src f val slot names room d) = decided_machine m m.registers (one_more p _ (has_room p m room)) refl (first_step p (commands.Put src f val) (at_phase p _ m d.phase).1) d
-step_machine {p = p} m sized found (Step.value_of_null reg names d) = decided_machine m m.registers m.entries refl (first_step p (commands.Value reg) (at_phase p _ m d.phase).1) d
-step_machine {p = p} m sized found (Step.value reg slot names d) = decided_machine m m.registers m.entries refl (first_step p (commands.Value reg) (at_phase p _ m d.phase).1) d
-step_machine {p = p} m sized found (Step.new_refused reg label full d) = decided_machine m m.registers m.entries refl (first_step p (commands.New reg label) (at_phase p _ m d.phase).1) d
-step_machine {p = p} m sized found (Step.new_begins reg label room g) =
+step_machine {p = p} m sized found (Step.put_into_leaf src f val slot names room leaf d) = decided_machine m m.registers m.entries refl (first_step p (commands.Put src f val) (at_phase p _ m d.phase).1) d
+step_machine {p = p} m sized found (Step.put_begins src f val slot names room leaf g) =
     let begun = at_phase p _ m g.phase in
     let none : p.steps ≡ 0 = begun.1 in
-    going_on_machine m (record { register = begun.0; room = has_room p m room }, m.first_slot, omega arith) g
-step_machine {p = p} m sized found (Step.new_wins reg label before slot free d) =
+    going_on_machine m (record { operands = begun.0; source = names; room = has_room p m room }, omega arith) g
+step_machine {p = p} m sized found (Step.put src f val slot d) =
+    let store = at_phase p _ m d.phase in
+    let one : p.steps ≡ 1 = store.1 in
+    decided_machine m m.registers (one_more p _ store.0.room) refl (omega arith) d
+step_machine {p = p} m sized found (Step.value_of_null reg names d) = decided_machine m m.registers m.entries refl (first_step p (commands.Value reg) (at_phase p _ m d.phase).1) d
+step_machine {p = p} m sized found (Step.value reg slot names d) = decided_machine m m.registers m.entries refl (first_step p (commands.Value reg) (at_phase p _ m d.phase).1) d
+step_machine {p = p} m sized found (Step.new_refused reg label leaf full d) = decided_machine m m.registers m.entries refl (first_step p (allocation leaf reg label) (at_phase p _ m d.phase).1) d
+step_machine {p = p} m sized found (Step.new_begins reg label leaf room g) =
+    let begun = at_phase p _ m g.phase in
+    let none : p.steps ≡ 0 = begun.1 in
+    going_on_machine m (record { register = allocation_register p reg label leaf begun.0; room = has_room p m room }, m.first_slot, omega arith) g
+step_machine {p = p} m sized found (Step.new_wins reg label leaf before slot free d) =
     let scan = at_phase p _ m d.phase in
     let there : slot < p.slots = scan.1 in
     let steps : p.steps ≡ slot + 1 = scan.2 in
-    decided_machine m (All-set IsTarget p.registers reg (Some slot) (slot_target p slot m there) m.registers) (one_more p _ scan.0.room) (length-set p.registers reg _) (omega arith) d
-step_machine {p = p} m sized found (Step.new_goes_on reg label before slot taken more g) =
+    decided_machine m (All-set IsTarget p.registers reg (Some slot) (slot_target p slot m there) m.registers) (one_more p _ scan.0.room) (length-set p.registers reg _) (within_scan p reg label leaf (omega arith)) d
+step_machine {p = p} m sized found (Step.new_goes_on reg label leaf before slot taken more g) =
     let scan = at_phase p _ m g.phase in
     let there : slot < p.slots = scan.1 in
     let steps : p.steps ≡ slot + 1 = scan.2 in
     going_on_machine m (record { register = scan.0.register; room = scan.0.room }, omega arith, omega arith) g
-step_machine {p = p} m sized found (Step.new_finds_none reg label before slot taken last g) =
+step_machine {p = p} m sized found (Step.new_finds_none reg label leaf before slot taken last g) =
     let scan = at_phase p _ m g.phase in
     let steps : p.steps ≡ slot + 1 = scan.2 in
     going_on_machine m (record { register = scan.0.register; room = scan.0.room }, omega arith) g
-step_machine {p = p} m sized found (Step.new_is_full reg label before still d) =
+step_machine {p = p} m sized found (Step.new_is_full reg label leaf before still d) =
     let scan = at_phase p _ m d.phase in
     let steps : p.steps ≡ p.slots + 1 = scan.1 in
-    decided_machine m m.registers m.entries refl (omega arith) d
-step_machine {p = p} m sized found (Step.new_is_busy reg label before moves d) =
+    decided_machine m m.registers m.entries refl (within_scan p reg label leaf (omega arith)) d
+step_machine {p = p} m sized found (Step.new_is_busy reg label leaf before moves d) =
     let scan = at_phase p _ m d.phase in
     let steps : p.steps ≡ p.slots + 1 = scan.1 in
-    decided_machine m m.registers m.entries refl (omega arith) d
+    decided_machine m m.registers m.entries refl (within_scan p reg label leaf (omega arith)) d
 step_machine {p = p} m sized found (Step.poll_stays own g) =
     let begun = at_phase p _ m g.phase in
     let none : p.steps ≡ 0 = begun.1 in

@@ -66,16 +66,18 @@ poll_cause {word = word} (Step.get_of_null dst src f names d) = decided word ref
 poll_cause {word = word} (Step.get dst src f slot names d) = decided word refl refl d
 poll_cause {word = word} (Step.put_of_null src f val names d) = decided word refl refl d
 poll_cause {word = word} (Step.put_refused src f val slot names full d) = decided word refl refl d
-poll_cause {word = word} (Step.put src f val slot names room d) = decided word refl refl d
+poll_cause {word = word} (Step.put_into_leaf src f val slot names room leaf d) = decided word refl refl d
+poll_cause {word = word} (Step.put_begins src f val slot names room leaf g) = going_on word refl refl refl g
+poll_cause {word = word} (Step.put src f val slot d) = decided word refl refl d
 poll_cause {word = word} (Step.value_of_null reg names d) = decided word refl refl d
 poll_cause {word = word} (Step.value reg slot names d) = decided word refl refl d
-poll_cause {word = word} (Step.new_refused reg label full d) = decided word refl refl d
-poll_cause {word = word} (Step.new_begins reg label room g) = going_on word refl refl refl g
-poll_cause {word = word} (Step.new_wins reg label before slot free d) = decided word refl refl d
-poll_cause {word = word} (Step.new_goes_on reg label before slot taken more g) = going_on word refl refl refl g
-poll_cause {word = word} (Step.new_finds_none reg label before slot taken last g) = going_on word refl refl refl g
-poll_cause {word = word} (Step.new_is_full reg label before still d) = decided word refl refl d
-poll_cause {word = word} (Step.new_is_busy reg label before moves d) = decided word refl refl d
+poll_cause {word = word} (Step.new_refused reg label leaf full d) = decided word refl refl d
+poll_cause {word = word} (Step.new_begins reg label leaf room g) = going_on word refl refl refl g
+poll_cause {word = word} (Step.new_wins reg label leaf before slot free d) = decided word refl refl d
+poll_cause {word = word} (Step.new_goes_on reg label leaf before slot taken more g) = going_on word refl refl refl g
+poll_cause {word = word} (Step.new_finds_none reg label leaf before slot taken last g) = going_on word refl refl refl g
+poll_cause {word = word} (Step.new_is_full reg label leaf before still d) = decided word refl refl d
+poll_cause {word = word} (Step.new_is_busy reg label leaf before moves d) = decided word refl refl d
 poll_cause {p = p} {word = word} {q = q} (Step.poll_stays own g) =
     let told : answer_of q ≡ Some (makes.Crossed None) = ap answer_of g.after in
     record {

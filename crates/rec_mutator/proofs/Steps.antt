@@ -1,7 +1,9 @@
 -- What comes next and what is learnt are a step: by the phase, and then by the registers and the log.
 use Rattle.std.proofs.Common.{◌≡◌, inl, inr, ℕ, ◌+◌, ◌%◌, ◌==◌, ◌&&◌, Bool, true, false, Option, None, Some, List, length, refl, sym, ap, subst, ◌∙◌}
 use Rattle.std.proofs.lemmas.Bool.{false≢true, eqb-true, cond-true, cond-false, eq-eqb, ne_eqb, cases_eq}
+use Rattle.rec_word.specs.Header.{is_leaf}
 use Rattle.rec_word.specs.declared.op.Op.{Op}
+use Rattle.rec_word.specs.declared.op.Op.TheVariants as ops
 use Rattle.rec_model.specs.declared.answer.Answer.{Answer}
 use Rattle.rec_model.specs.declared.answer.Answer.TheVariants as answers
 use Rattle.rec_model.specs.declared.command.Cmd.{Cmd}
@@ -9,30 +11,29 @@ use Rattle.rec_model.specs.declared.command.Cmd.TheVariants as commands
 use Rattle.rec_model.specs.declared.told.Told.{Told}
 use Rattle.rec_log.specs.declared.contents.Contents.{Contents}
 use Rattle.rec_log.specs.declared.entry.Entry.{Entry}
-use Rattle.rec_model.specs.Asking.{plain}
+use Rattle.rec_model.specs.Asking.{plain, allocation}
 use Rattle.rec_mutator.specs.Private.{Private, register, is_full, is_busy_at, is_busy}
-use Rattle.rec_mutator.specs.Next.{next_of, next_at, read_op, write_op, label_op}
-use Rattle.rec_mutator.specs.Took.{took_of, took_at, moved, answered, read_by, written_by, label_by, polled, swapped_at, swapped_of, step_of, left_at, left_of, IsBetween}
-use Rattle.rec_mutator.specs.Step.{Step, Decides, GoesOn, Crosses, IsStill, LeavesBox, WholeStep}
+use Rattle.rec_mutator.specs.Next.{next_of, next_at, read_op, write_op, label_op, new_op}
+use Rattle.rec_mutator.specs.Took.{took_of, took_at, moved, answered, read_by, allowed_by, written_by, label_by, new_by, polled, swapped_at, swapped_of, step_of, left_at, left_of, IsBetween}
+use Rattle.rec_mutator.specs.Step.{Step, Decides, GoesOn, Crosses, HasRoom, IsStill, LeavesBox, WholeStep}
 use Rattle.rec_mutator.specs.declared.phase.Phase.{Phase}
-use Rattle.rec_mutator.specs.declared.phase.Phase.TheVariants.{Idle, Begun, Scanning, Scanned, Crossing, Swapping, Giving, Finished}
+use Rattle.rec_mutator.specs.declared.phase.Phase.TheVariants.{Idle, Begun, Scanning, Scanned, Storing, Crossing, Swapping, Giving, Finished}
 use Rattle.rec_mutator.specs.declared.work.Work.{Work}
 use Rattle.rec_mutator.specs.declared.work.Work.TheVariants as works
 
 -- a step of an allocation that was begun
-new_step : (p : Private) (word reg label : ℕ) (box : Contents) → p.phase ≡ Begun (works.Command (commands.New reg label)) → Step p word box (next_at p (Begun (works.Command (commands.New reg label)))) (took_at p word (Begun (works.Command (commands.New reg label))))
-unfolding next_at took_at
-new_step p word reg label box is = elim (cases_eq (length p.log.entries) p.log.capacity) [
+new_step : (p : Private) (word reg label : ℕ) (leaf : Bool) (box : Contents) → p.phase ≡ Begun (works.Command (allocation leaf reg label)) → Step p word box (new_op p (is_full p)) (new_by p word reg label leaf (is_full p))
+new_step p word reg label leaf box is = elim (cases_eq (length p.log.entries) p.log.capacity) [
   | inl full ↦
       let t : is_full p ≡ true = eq-eqb (length p.log.entries) p.log.capacity full in
-      Step.new_refused reg label full (record {
+      Step.new_refused reg label leaf full (record {
         phase = is;
         operation = cond-true (is_full p) _ _ t;
         after = cond-true (is_full p) _ _ t;
       })
   | inr room ↦
       let t : is_full p ≡ false = ne_eqb (length p.log.entries) p.log.capacity room in
-      Step.new_begins reg label room (record {
+      Step.new_begins reg label leaf room (record {
         phase = is;
         operation = cond-false (is_full p) _ _ t;
         after = cond-false (is_full p) _ _ t;
@@ -45,13 +46,18 @@ get_step : (p : Private) (word dst src f : ℕ) (box : Contents) (x : Option ℕ
 get_step p word dst src f box None names is = Step.get_of_null dst src f names (record { phase = is; operation = refl; after = refl })
 get_step p word dst src f box (Some slot) names is = Step.get dst src f slot names (record { phase = is; operation = refl; after = refl })
 
+-- the header that a write looks at
+allowed_step : (p : Private) (word src f val slot : ℕ) (box : Contents) (leaf : Bool) → register p src ≡ Some slot → HasRoom p → is_leaf word ≡ leaf → p.phase ≡ Begun (works.Command (commands.Put src f val))
+    → Step p word box (ops.LoadHeader slot) (allowed_by p src f val slot leaf)
+allowed_step p word src f val slot box true names room its is = Step.put_into_leaf src f val slot names room its (record { phase = is; operation = refl; after = refl })
+allowed_step p word src f val slot box false names room its is = Step.put_begins src f val slot names room its (record { phase = is; operation = refl; after = refl })
+
 -- a step of a write
 put_step : (p : Private) (word src f val : ℕ) (box : Contents) (x : Option ℕ) (full : Bool) → register p src ≡ x → is_full p ≡ full → p.phase ≡ Begun (works.Command (commands.Put src f val))
-    → Step p word box (write_op p f val x full) (written_by p (commands.Put src f val) f val word x full)
+    → Step p word box (write_op p x full) (written_by p src f val word x full)
 put_step p word src f val box None full names room is = Step.put_of_null src f val names (record { phase = is; operation = refl; after = refl })
 put_step p word src f val box (Some slot) true names room is = Step.put_refused src f val slot names (eqb-true (length p.log.entries) p.log.capacity room) (record { phase = is; operation = refl; after = refl })
-put_step p word src f val box (Some slot) false names room is =
-    Step.put src f val slot names (λ full. false≢true (sym room ∙ eq-eqb (length p.log.entries) p.log.capacity full)) (record { phase = is; operation = refl; after = refl })
+put_step p word src f val box (Some slot) false names room is = allowed_step p word src f val slot box (is_leaf word) names (λ full. false≢true (sym room ∙ eq-eqb (length p.log.entries) p.log.capacity full)) refl is
 
 -- a step of a look at a label
 value_step : (p : Private) (word reg : ℕ) (box : Contents) (x : Option ℕ) → register p reg ≡ x → p.phase ≡ Begun (works.Command (commands.Value reg))
@@ -60,39 +66,39 @@ value_step p word reg box None names is = Step.value_of_null reg names (record {
 value_step p word reg box (Some slot) names is = Step.value reg slot names (record { phase = is; operation = refl; after = refl })
 
 -- a probe
-probe_step : (p : Private) (word reg label before slot : ℕ) (box : Contents) → p.phase ≡ Scanning reg label before slot → Step p word box (next_at p (Scanning reg label before slot)) (took_at p word (Scanning reg label before slot))
+probe_step : (p : Private) (word reg label : ℕ) (leaf : Bool) (before slot : ℕ) (box : Contents) → p.phase ≡ Scanning reg label leaf before slot → Step p word box (next_at p (Scanning reg label leaf before slot)) (took_at p word (Scanning reg label leaf before slot))
 unfolding next_at took_at
-probe_step p word reg label before slot box is = elim (cases_eq word 0) [
-  | inl free ↦ Step.new_wins reg label before slot free (record { phase = is; operation = refl; after = cond-true (word == 0) _ _ (eq-eqb word 0 free) })
+probe_step p word reg label leaf before slot box is = elim (cases_eq word 0) [
+  | inl free ↦ Step.new_wins reg label leaf before slot free (record { phase = is; operation = refl; after = cond-true (word == 0) _ _ (eq-eqb word 0 free) })
   | inr taken ↦ elim (cases_eq (slot + 1) p.slots) [
     | inl last ↦
-        Step.new_finds_none reg label before slot taken last (record {
+        Step.new_finds_none reg label leaf before slot taken last (record {
           phase = is;
           operation = refl;
-          after = cond-false (word == 0) _ _ (ne_eqb word 0 taken) ∙ ap (moved p) (cond-true (slot + 1 == p.slots) (Scanned reg label before) (Scanning reg label before (slot + 1)) (eq-eqb (slot + 1) p.slots last));
+          after = cond-false (word == 0) _ _ (ne_eqb word 0 taken) ∙ ap (moved p) (cond-true (slot + 1 == p.slots) (Scanned reg label leaf before) (Scanning reg label leaf before (slot + 1)) (eq-eqb (slot + 1) p.slots last));
         })
     | inr more ↦
-        Step.new_goes_on reg label before slot taken more (record {
+        Step.new_goes_on reg label leaf before slot taken more (record {
           phase = is;
           operation = refl;
-          after = cond-false (word == 0) _ _ (ne_eqb word 0 taken) ∙ ap (moved p) (cond-false (slot + 1 == p.slots) (Scanned reg label before) (Scanning reg label before (slot + 1)) (ne_eqb (slot + 1) p.slots more));
+          after = cond-false (word == 0) _ _ (ne_eqb word 0 taken) ∙ ap (moved p) (cond-false (slot + 1 == p.slots) (Scanned reg label leaf before) (Scanning reg label leaf before (slot + 1)) (ne_eqb (slot + 1) p.slots more));
         })
   ]
 ]
 
 -- the last step of an allocation that found no free slot
-last_step : (p : Private) (word reg label before : ℕ) (box : Contents) → p.phase ≡ Scanned reg label before → Step p word box (next_at p (Scanned reg label before)) (took_at p word (Scanned reg label before))
+last_step : (p : Private) (word reg label : ℕ) (leaf : Bool) (before : ℕ) (box : Contents) → p.phase ≡ Scanned reg label leaf before → Step p word box (next_at p (Scanned reg label leaf before)) (took_at p word (Scanned reg label leaf before))
 unfolding next_at took_at
-last_step p word reg label before box is =
-    let tells : Answer → Private = λ answer. answered p (commands.New reg label) (plain answer) in
+last_step p word reg label leaf before box is =
+    let tells : Answer → Private = λ answer. answered p (allocation leaf reg label) (plain answer) in
     let still : Bool = (before % 2 == 0) && (before == word) in
-    let busy : (IsStill before word → ⊥) → still ≡ false → Step p word box (next_at p (Scanned reg label before)) (took_at p word (Scanned reg label before))
-    = λ moves no. Step.new_is_busy reg label before moves (record { phase = is; operation = refl; after = ap tells (cond-false still answers.Full (answers.Busy before word) no) }) in
+    let busy : (IsStill before word → ⊥) → still ≡ false → Step p word box (next_at p (Scanned reg label leaf before)) (took_at p word (Scanned reg label leaf before))
+    = λ moves no. Step.new_is_busy reg label leaf before moves (record { phase = is; operation = refl; after = ap tells (cond-false still answers.Full (answers.Busy before word) no) }) in
     elim (cases_eq (before % 2) 0) [
       | inl even ↦ elim (cases_eq before word) [
         | inl same_word ↦
             let yes : still ≡ true = rw (eq-eqb (before % 2) 0 even, eq-eqb before word same_word) refl in
-            Step.new_is_full reg label before (even, same_word) (record { phase = is; operation = refl; after = ap tells (cond-true still answers.Full (answers.Busy before word) yes) })
+            Step.new_is_full reg label leaf before (even, same_word) (record { phase = is; operation = refl; after = ap tells (cond-true still answers.Full (answers.Busy before word) yes) })
         | inr other ↦ busy (λ s. other s.1) (rw (eq-eqb (before % 2) 0 even, ne_eqb before word other) refl)
       ]
       | inr odd ↦ busy (λ s. odd s.0) (rw (ne_eqb (before % 2) 0 odd) refl)
@@ -101,7 +107,8 @@ last_step p word reg label before box is =
 -- the first step of a command
 command_step : (p : Private) (word : ℕ) (box : Contents) (cmd : Cmd) → p.phase ≡ Begun (works.Command cmd) → Step p word box (next_at p (Begun (works.Command cmd))) (took_at p word (Begun (works.Command cmd)))
 unfolding next_at took_at
-command_step p word box (commands.New reg label) is = new_step p word reg label box is
+command_step p word box (commands.New reg label) is = new_step p word reg label false box is
+command_step p word box (commands.Leaf reg label) is = new_step p word reg label true box is
 command_step p word box (commands.Null reg) is = Step.null reg (record { phase = is; operation = refl; after = refl })
 command_step p word box (commands.Copy dst src) is = Step.copy dst src (record { phase = is; operation = refl; after = refl })
 command_step p word box (commands.Get dst src f) is = get_step p word dst src f box (register p src) refl is
@@ -134,8 +141,9 @@ learnt_at : (p : Private) (word : ℕ) (box : Contents) (phase : Phase) → p.ph
 unfolding next_at took_at
 learnt_at p word box Idle is busy none = absurd (false≢true busy)
 learnt_at p word box (Begun work) is busy none = begun_step p word box work is
-learnt_at p word box (Scanning reg label before slot) is busy none = probe_step p word reg label before slot box is
-learnt_at p word box (Scanned reg label before) is busy none = last_step p word reg label before box is
+learnt_at p word box (Scanning reg label leaf before slot) is busy none = probe_step p word reg label leaf before slot box is
+learnt_at p word box (Scanned reg label leaf before) is busy none = last_step p word reg label leaf before box is
+learnt_at p word box (Storing src f val slot) is busy none = Step.put src f val slot (record { phase = is; operation = refl; after = refl })
 learnt_at p word box Crossing is busy none = absurd none
 learnt_at p word box Swapping is busy none = absurd none
 learnt_at p word box Giving is busy none = Step.give_box (record { phase = is; operation = refl; after = refl })
@@ -169,16 +177,18 @@ step_between (Step.get_of_null dst src f names d) = decided_between d
 step_between (Step.get dst src f slot names d) = decided_between d
 step_between (Step.put_of_null src f val names d) = decided_between d
 step_between (Step.put_refused src f val slot names full d) = decided_between d
-step_between (Step.put src f val slot names room d) = decided_between d
+step_between (Step.put_into_leaf src f val slot names room leaf d) = decided_between d
+step_between (Step.put_begins src f val slot names room leaf g) = going_between tt g
+step_between (Step.put src f val slot d) = decided_between d
 step_between (Step.value_of_null reg names d) = decided_between d
 step_between (Step.value reg slot names d) = decided_between d
-step_between (Step.new_refused reg label full d) = decided_between d
-step_between (Step.new_begins reg label room g) = going_between tt g
-step_between (Step.new_wins reg label before slot free d) = decided_between d
-step_between (Step.new_goes_on reg label before slot taken more g) = going_between tt g
-step_between (Step.new_finds_none reg label before slot taken last g) = going_between tt g
-step_between (Step.new_is_full reg label before still d) = decided_between d
-step_between (Step.new_is_busy reg label before moves d) = decided_between d
+step_between (Step.new_refused reg label leaf full d) = decided_between d
+step_between (Step.new_begins reg label leaf room g) = going_between tt g
+step_between (Step.new_wins reg label leaf before slot free d) = decided_between d
+step_between (Step.new_goes_on reg label leaf before slot taken more g) = going_between tt g
+step_between (Step.new_finds_none reg label leaf before slot taken last g) = going_between tt g
+step_between (Step.new_is_full reg label leaf before still d) = decided_between d
+step_between (Step.new_is_busy reg label leaf before moves d) = decided_between d
 step_between (Step.poll_stays own g) = going_between tt g
 step_between (Step.poll_crosses other g) = going_between tt g
 step_between (Step.take_box c) = crossing_between tt c
@@ -232,8 +242,9 @@ left_same q box phase is between = ap (left_at q box) is ∙ go phase between
     go : (f : Phase) → IsBetween f → left_at q box f ≡ box
     go Idle b = refl
     go (Begun work) b = refl
-    go (Scanning reg label before slot) b = refl
-    go (Scanned reg label before) b = refl
+    go (Scanning reg label leaf before slot) b = refl
+    go (Scanned reg label leaf before) b = refl
+    go (Storing src f val slot) b = refl
     go Crossing b = refl
     go Swapping b = absurd b
     go Giving b = refl
@@ -250,8 +261,9 @@ leaves_box p word box phase is busy between = go phase is between
     go : (f : Phase) → p.phase ≡ f → IsBetween f → LeavesBox p box (left_of (took_of p word) box)
     go Idle e b = LeavesBox.keeps (λ n. let no : Idle ≡ Crossing = sym e ∙ n in cc) (kept (subst TakesNone (sym e) tt))
     go (Begun work) e b = LeavesBox.keeps (λ n. let no : Begun work ≡ Crossing = sym e ∙ n in cc) (kept (subst TakesNone (sym e) tt))
-    go (Scanning reg label before slot) e b = LeavesBox.keeps (λ n. let no : Scanning reg label before slot ≡ Crossing = sym e ∙ n in cc) (kept (subst TakesNone (sym e) tt))
-    go (Scanned reg label before) e b = LeavesBox.keeps (λ n. let no : Scanned reg label before ≡ Crossing = sym e ∙ n in cc) (kept (subst TakesNone (sym e) tt))
+    go (Scanning reg label leaf before slot) e b = LeavesBox.keeps (λ n. let no : Scanning reg label leaf before slot ≡ Crossing = sym e ∙ n in cc) (kept (subst TakesNone (sym e) tt))
+    go (Scanned reg label leaf before) e b = LeavesBox.keeps (λ n. let no : Scanned reg label leaf before ≡ Crossing = sym e ∙ n in cc) (kept (subst TakesNone (sym e) tt))
+    go (Storing src f val slot) e b = LeavesBox.keeps (λ n. let no : Storing src f val slot ≡ Crossing = sym e ∙ n in cc) (kept (subst TakesNone (sym e) tt))
     go Crossing e b = LeavesBox.retires e (ap (λ f. left_of (took_at p word f) box) e)
     go Swapping e b = absurd b
     go Giving e b = LeavesBox.keeps (λ n. let no : Giving ≡ Crossing = sym e ∙ n in cc) (kept (subst TakesNone (sym e) tt))

@@ -1,14 +1,13 @@
 -- The operation that comes next names a word of the heap, if the registers name its slots.
-use Rattle.std.proofs.Common.{◌≡◌, ℕ, ◌<◌, Bool, true, false, Option, None, Some, if◌then◌else◌, refl}
-use Rattle.rec_word.specs.declared.op.Op.TheVariants as ops
+use Rattle.std.proofs.Common.{◌≡◌, ℕ, ◌<◌, Bool, true, false, Option, None, Some, refl}
 use Rattle.rec_word.proofs.FieldPlaces.{place_within}
 use Rattle.rec_model.specs.declared.command.Cmd.{Cmd}
 use Rattle.rec_model.specs.declared.command.Cmd.TheVariants as commands
 use Rattle.rec_mutator.specs.Private.{Private, register, is_full, HasOperands, IsValid, IsAt, IsMachine}
-use Rattle.rec_mutator.specs.Next.{next_of, next_at, begun_op, first_op, own_word, read_op, write_op, label_op}
+use Rattle.rec_mutator.specs.Next.{next_of, next_at, begun_op, first_op, read_op, write_op, label_op, new_op}
 use Rattle.rec_mutator.specs.Step.{NamesWord, NamesSlots}
 use Rattle.rec_mutator.specs.declared.phase.Phase.{Phase}
-use Rattle.rec_mutator.specs.declared.phase.Phase.TheVariants.{Idle, Begun, Scanned, Finished}
+use Rattle.rec_mutator.specs.declared.phase.Phase.TheVariants.{Idle, Begun, Scanned, Storing, Finished}
 use Rattle.rec_mutator.specs.declared.work.Work.{Work}
 use Rattle.rec_mutator.specs.declared.work.Work.TheVariants as works
 
@@ -20,24 +19,25 @@ read_names : (p : Private) (f : ℕ) (x : Option ℕ) → IsSlot p x → f < p.f
 read_names p f None there in_range = tt
 read_names p f (Some slot) there in_range = place_within p.slots p.fields slot f (there slot refl) in_range
 
-write_names : (p : Private) (f val : ℕ) (x : Option ℕ) (full : Bool) → IsSlot p x → f < p.fields → NamesWord p.slots p.fields (write_op p f val x full)
-write_names p f val None full there in_range = tt
-write_names p f val (Some slot) true there in_range = tt
-write_names p f val (Some slot) false there in_range = place_within p.slots p.fields slot f (there slot refl) in_range
+write_names : (p : Private) (x : Option ℕ) (full : Bool) → IsSlot p x → NamesWord p.slots p.fields (write_op p x full)
+write_names p None full there = tt
+write_names p (Some slot) true there = tt
+write_names p (Some slot) false there = there slot refl
 
 label_names : (p : Private) (x : Option ℕ) → IsSlot p x → NamesWord p.slots p.fields (label_op p x)
 label_names p None there = tt
 label_names p (Some slot) there = there slot refl
 
-new_names : (p : Private) (full : Bool) → NamesWord p.slots p.fields (if full then own_word p else ops.LoadFreed)
+new_names : (p : Private) (full : Bool) → NamesWord p.slots p.fields (new_op p full)
 new_names p true = tt
 new_names p false = tt
 
 -- the first step of a command
 first_names : (p : Private) (cmd : Cmd) → HasOperands p cmd → NamesSlots p → NamesWord p.slots p.fields (first_op p cmd)
 first_names p (commands.New reg label) operands there = new_names p (is_full p)
+first_names p (commands.Leaf reg label) operands there = new_names p (is_full p)
 first_names p (commands.Get dst src f) operands there = read_names p f (register p src) (there src) operands.2
-first_names p (commands.Put src f val) operands there = write_names p f val (register p src) (is_full p) (there src) operands.1
+first_names p (commands.Put src f val) operands there = write_names p (register p src) (is_full p) (there src)
 first_names p (commands.Value reg) operands there = label_names p (register p reg) (there reg)
 first_names p _ operands there = tt
 
@@ -51,8 +51,9 @@ names_at : (p : Private) (phase : Phase) → IsAt p phase → NamesSlots p → N
 unfolding next_at
 names_at p Idle at there = tt
 names_at p (Begun work) at there = begun_names p work at.0 there
-names_at p (Scanned reg label before) at there = tt
+names_at p (Scanned reg label leaf before) at there = tt
 names_at p (Finished work made) at there = tt
+names_at p (Storing src f val slot) at there = place_within p.slots p.fields slot f (there src slot at.0.source) at.0.operands.1
 names_at p _ at there = at.1
 
 -- what comes next names a word of the heap

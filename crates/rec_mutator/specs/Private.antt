@@ -4,10 +4,11 @@ use Rattle.rec_word.specs.Word.{packed, IsTarget}
 use Rattle.rec_word.specs.declared.stamps.Stamp.{Stamp}
 use Rattle.rec_model.specs.declared.command.Cmd.{Cmd}
 use Rattle.rec_model.specs.declared.command.Cmd.TheVariants as commands
+use Rattle.rec_model.specs.Asking.{allocation}
 use Rattle.rec_log.specs.declared.contents.Contents.{Contents}
 use Rattle.rec_mutator.specs.declared.made.Made.{Made}
 use Rattle.rec_mutator.specs.declared.phase.Phase.{Phase}
-use Rattle.rec_mutator.specs.declared.phase.Phase.TheVariants.{Idle, Begun, Scanning, Scanned, Crossing, Swapping, Giving, Finished}
+use Rattle.rec_mutator.specs.declared.phase.Phase.TheVariants.{Idle, Begun, Scanning, Scanned, Storing, Crossing, Swapping, Giving, Finished}
 use Rattle.rec_mutator.specs.declared.work.Work.{Work}
 use Rattle.rec_mutator.specs.declared.work.Work.TheVariants as works
 
@@ -57,8 +58,9 @@ word_for p r = packed (register p r) (next_stamp p)
 abbrev pub is_busy_at : Phase → Bool
 is_busy_at Idle = false
 is_busy_at (Begun work) = true
-is_busy_at (Scanning reg label before slot) = true
-is_busy_at (Scanned reg label before) = true
+is_busy_at (Scanning reg label leaf before slot) = true
+is_busy_at (Scanned reg label leaf before) = true
+is_busy_at (Storing src f val slot) = true
 is_busy_at Crossing = true
 is_busy_at Swapping = true
 is_busy_at Giving = true
@@ -72,8 +74,9 @@ is_busy p = is_busy_at p.phase
 abbrev pub work_at : Phase → Option Work
 work_at Idle = None
 work_at (Begun work) = Some work
-work_at (Scanning reg label before slot) = Some (works.Command (commands.New reg label))
-work_at (Scanned reg label before) = Some (works.Command (commands.New reg label))
+work_at (Scanning reg label leaf before slot) = Some (works.Command (allocation leaf reg label))
+work_at (Scanned reg label leaf before) = Some (works.Command (allocation leaf reg label))
+work_at (Storing src f val slot) = Some (works.Command (commands.Put src f val))
 work_at Crossing = Some works.Poll
 work_at Swapping = Some works.Poll
 work_at Giving = Some works.Poll
@@ -95,6 +98,7 @@ answer_of p = answer_at p.phase
 -- the registers and fields that a command names are there
 abbrev pub HasOperands : Private → Cmd → Type 0
 HasOperands p (commands.New reg label) = reg < length p.registers
+HasOperands p (commands.Leaf reg label) = reg < length p.registers
 HasOperands p (commands.Null reg) = reg < length p.registers
 HasOperands p (commands.Copy dst src) = (dst < length p.registers) × (src < length p.registers)
 HasOperands p (commands.Get dst src f) = (dst < length p.registers) × (src < length p.registers) × (f < p.fields)
@@ -107,16 +111,24 @@ abbrev pub IsValid : Private → Work → Type 0
 IsValid p (works.Command cmd) = HasOperands p cmd
 IsValid p works.Poll = Unit {0}
 
--- the most steps that a work takes: an allocation loads the freed word, probes each slot, and loads it again; a poll loads the
--- epoch word, takes the own mailbox and gives it back
+-- the most steps that a work takes: an allocation loads the freed word, probes each slot, and loads it again; a write looks at the
+-- header of its object, and exchanges the field; a poll loads the epoch word, takes the own mailbox and gives it back
 abbrev pub limit_of : (slots : ℕ) → Work → ℕ
 limit_of slots (works.Command (commands.New reg label)) = slots + 2
+limit_of slots (works.Command (commands.Leaf reg label)) = slots + 2
+limit_of slots (works.Command (commands.Put src f val)) = 2
 limit_of slots works.Poll = 3
 limit_of slots _ = 1
 
 -- an allocation that goes on has a register and room in the log
 pub record IsScan (p : Private) (reg : ℕ) : Type 0 where
   pub register : reg < length p.registers
+  pub room : length p.log.entries < p.log.capacity
+
+-- a write that goes on has its operands, this object, and room in the log
+pub record IsStore (p : Private) (src f val slot : ℕ) : Type 0 where
+  pub operands : HasOperands p (commands.Put src f val)
+  pub source : register p src ≡ Some slot
   pub room : length p.log.entries < p.log.capacity
 
 -- there is an epoch after the own one
@@ -127,8 +139,9 @@ HasNext p = p.epoch + 1 < 2 ^ 24
 abbrev pub IsAt : Private → Phase → Type 0
 IsAt p Idle = p.steps ≡ 0
 IsAt p (Begun work) = IsValid p work × (p.steps ≡ 0)
-IsAt p (Scanning reg label before slot) = IsScan p reg × (slot < p.slots) × (p.steps ≡ slot + 1)
-IsAt p (Scanned reg label before) = IsScan p reg × (p.steps ≡ p.slots + 1)
+IsAt p (Scanning reg label leaf before slot) = IsScan p reg × (slot < p.slots) × (p.steps ≡ slot + 1)
+IsAt p (Scanned reg label leaf before) = IsScan p reg × (p.steps ≡ p.slots + 1)
+IsAt p (Storing src f val slot) = IsStore p src f val slot × (p.steps ≡ 1)
 IsAt p Crossing = (p.steps ≡ 1) × HasNext p
 IsAt p Swapping = (p.steps ≡ 2) × HasNext p
 IsAt p Giving = (p.steps ≡ 2) × HasNext p

@@ -1,5 +1,6 @@
 -- The steps of a mutator, one rule for each that it may make: what must hold before, the operation, and what it leaves.
-use Rattle.std.specs.Prelude.{◌≡◌, ◌≢◌, ℕ, ◌+◌, ◌*◌, ◌-◌, ◌%◌, ◌<◌, ◌≤◌, ◌^◌, Option, None, Some, List, [], ◌∷◌, ◌++◌, length, slice_set}
+use Rattle.std.specs.Prelude.{◌≡◌, ◌≢◌, ℕ, ◌+◌, ◌*◌, ◌%◌, ◌<◌, ◌^◌, Bool, true, false, Option, None, Some, List, [], ◌∷◌, ◌++◌, length, slice_set}
+use Rattle.rec_word.specs.Header.{header_word, is_leaf, label_of, IsTakenHeader}
 use Rattle.rec_word.specs.Mailbox.{crossing_word}
 use Rattle.rec_word.specs.declared.mailbox.Mailbox.TheVariants.{Spare}
 use Rattle.rec_word.specs.Place.{place_of}
@@ -10,7 +11,7 @@ use Rattle.rec_model.specs.declared.answer.Answer.TheVariants as answers
 use Rattle.rec_model.specs.declared.command.Cmd.{Cmd}
 use Rattle.rec_model.specs.declared.command.Cmd.TheVariants as commands
 use Rattle.rec_model.specs.declared.told.Told.{Told}
-use Rattle.rec_model.specs.Asking.{null_or_object, same, yes_or_no, plain}
+use Rattle.rec_model.specs.Asking.{null_or_object, same, yes_or_no, plain, allocation}
 use Rattle.rec_log.specs.declared.contents.Contents.{Contents}
 use Rattle.rec_log.specs.declared.entry.Entry.{Entry}
 use Rattle.rec_log.specs.declared.entry.Entry.TheVariants as entries
@@ -18,7 +19,7 @@ use Rattle.rec_mutator.specs.Private.{Private, register, word_for}
 use Rattle.rec_mutator.specs.Took.{moved, answered, IsRequested}
 use Rattle.rec_mutator.specs.declared.made.Made.TheVariants as makes
 use Rattle.rec_mutator.specs.declared.phase.Phase.{Phase}
-use Rattle.rec_mutator.specs.declared.phase.Phase.TheVariants.{Begun, Scanning, Scanned, Crossing, Giving, Finished}
+use Rattle.rec_mutator.specs.declared.phase.Phase.TheVariants.{Begun, Scanning, Scanned, Storing, Crossing, Giving, Finished}
 use Rattle.rec_mutator.specs.declared.work.Work.TheVariants as works
 
 -- The command is decided. In this phase the operation is this one, and the step leaves these registers and log entries and
@@ -71,25 +72,29 @@ pub data Step (p : Private) (word : ℕ) (box : Contents) (op : Op) (q : Private
       → DecidesAtOnce p op q (commands.Put src f val) (ops.LoadCross p.number) p.registers p.log.entries (plain answers.NoObject) → Step p word box op q
   put_refused : (src f val slot : ℕ) → register p src ≡ Some slot → IsLogFull p
       → DecidesAtOnce p op q (commands.Put src f val) (ops.LoadCross p.number) p.registers p.log.entries (plain answers.LogFull) → Step p word box op q
-  put : (src f val slot : ℕ) → register p src ≡ Some slot → HasRoom p
-      → DecidesAtOnce p op q (commands.Put src f val) (ops.SwapField (place_of slot f p.fields) (word_for p val)) p.registers (p.log.entries ++ entries.Put (place_of slot f p.fields) (word_for p val) word ∷ []) (record { answer = answers.Done; saw = word; left = word_for p val })
+  put_into_leaf : (src f val slot : ℕ) → register p src ≡ Some slot → HasRoom p → is_leaf word ≡ true
+      → DecidesAtOnce p op q (commands.Put src f val) (ops.LoadHeader slot) p.registers p.log.entries (plain answers.NoField) → Step p word box op q
+  put_begins : (src f val slot : ℕ) → register p src ≡ Some slot → HasRoom p → is_leaf word ≡ false
+      → GoesOn p op q (Begun (works.Command (commands.Put src f val))) (ops.LoadHeader slot) (Storing src f val slot) → Step p word box op q
+  put : (src f val slot : ℕ)
+      → Decides p op q (commands.Put src f val) (Storing src f val slot) (ops.SwapField (place_of slot f p.fields) (word_for p val)) p.registers (p.log.entries ++ entries.Put (place_of slot f p.fields) (word_for p val) word ∷ []) (record { answer = answers.Done; saw = word; left = word_for p val })
       → Step p word box op q
   value_of_null : (reg : ℕ) → register p reg ≡ None
       → DecidesAtOnce p op q (commands.Value reg) (ops.LoadCross p.number) p.registers p.log.entries (plain answers.NoObject) → Step p word box op q
   value : (reg slot : ℕ) → register p reg ≡ Some slot
-      → DecidesAtOnce p op q (commands.Value reg) (ops.LoadHeader slot) p.registers p.log.entries (plain (answers.Value (word - 1))) → Step p word box op q
-  new_refused : (reg label : ℕ) → IsLogFull p
-      → DecidesAtOnce p op q (commands.New reg label) (ops.LoadCross p.number) p.registers p.log.entries (plain answers.LogFull) → Step p word box op q
-  new_begins : (reg label : ℕ) → HasRoom p → GoesOn p op q (Begun (works.Command (commands.New reg label))) ops.LoadFreed (Scanning reg label word 0) → Step p word box op q
-  new_wins : (reg label before slot : ℕ) → word ≡ 0
-      → Decides p op q (commands.New reg label) (Scanning reg label before slot) (ops.ClaimHeader slot label) (slice_set p.registers reg (Some slot)) (p.log.entries ++ entries.Born slot ∷ []) (plain answers.Done)
+      → DecidesAtOnce p op q (commands.Value reg) (ops.LoadHeader slot) p.registers p.log.entries (plain (answers.Value (label_of word))) → Step p word box op q
+  new_refused : (reg label : ℕ) (leaf : Bool) → IsLogFull p
+      → DecidesAtOnce p op q (allocation leaf reg label) (ops.LoadCross p.number) p.registers p.log.entries (plain answers.LogFull) → Step p word box op q
+  new_begins : (reg label : ℕ) (leaf : Bool) → HasRoom p → GoesOn p op q (Begun (works.Command (allocation leaf reg label))) ops.LoadFreed (Scanning reg label leaf word 0) → Step p word box op q
+  new_wins : (reg label : ℕ) (leaf : Bool) (before slot : ℕ) → word ≡ 0
+      → Decides p op q (allocation leaf reg label) (Scanning reg label leaf before slot) (ops.ClaimHeader slot (header_word leaf label)) (slice_set p.registers reg (Some slot)) (p.log.entries ++ entries.Born slot leaf ∷ []) (plain answers.Done)
       → Step p word box op q
-  new_goes_on : (reg label before slot : ℕ) → word ≢ 0 → slot + 1 ≢ p.slots → GoesOn p op q (Scanning reg label before slot) (ops.ClaimHeader slot label) (Scanning reg label before (slot + 1)) → Step p word box op q
-  new_finds_none : (reg label before slot : ℕ) → word ≢ 0 → slot + 1 ≡ p.slots → GoesOn p op q (Scanning reg label before slot) (ops.ClaimHeader slot label) (Scanned reg label before) → Step p word box op q
-  new_is_full : (reg label before : ℕ) → IsStill before word
-      → Decides p op q (commands.New reg label) (Scanned reg label before) ops.LoadFreed p.registers p.log.entries (plain answers.Full) → Step p word box op q
-  new_is_busy : (reg label before : ℕ) → (IsStill before word → ⊥)
-      → Decides p op q (commands.New reg label) (Scanned reg label before) ops.LoadFreed p.registers p.log.entries (plain (answers.Busy before word)) → Step p word box op q
+  new_goes_on : (reg label : ℕ) (leaf : Bool) (before slot : ℕ) → word ≢ 0 → slot + 1 ≢ p.slots → GoesOn p op q (Scanning reg label leaf before slot) (ops.ClaimHeader slot (header_word leaf label)) (Scanning reg label leaf before (slot + 1)) → Step p word box op q
+  new_finds_none : (reg label : ℕ) (leaf : Bool) (before slot : ℕ) → word ≢ 0 → slot + 1 ≡ p.slots → GoesOn p op q (Scanning reg label leaf before slot) (ops.ClaimHeader slot (header_word leaf label)) (Scanned reg label leaf before) → Step p word box op q
+  new_is_full : (reg label : ℕ) (leaf : Bool) (before : ℕ) → IsStill before word
+      → Decides p op q (allocation leaf reg label) (Scanned reg label leaf before) ops.LoadFreed p.registers p.log.entries (plain answers.Full) → Step p word box op q
+  new_is_busy : (reg label : ℕ) (leaf : Bool) (before : ℕ) → (IsStill before word → ⊥)
+      → Decides p op q (allocation leaf reg label) (Scanned reg label leaf before) ops.LoadFreed p.registers p.log.entries (plain (answers.Busy before word)) → Step p word box op q
   poll_stays : word ≡ p.epoch → GoesOn p op q (Begun works.Poll) ops.LoadEpoch (Finished works.Poll (makes.Crossed None)) → Step p word box op q
   poll_crosses : word ≢ p.epoch → GoesOn p op q (Begun works.Poll) ops.LoadEpoch Crossing → Step p word box op q
   take_box : Crosses p op q Crossing (ops.TakeBox p.number (p.epoch + 1)) p.epoch box Giving → Step p word box op q
@@ -111,7 +116,7 @@ abbrev pub NamesWord : (slots fields : ℕ) → Op → Type 0
 NamesWord slots fields (ops.LoadField place) = place < slots * fields
 NamesWord slots fields (ops.SwapField place word) = place < slots * fields
 NamesWord slots fields (ops.LoadHeader slot) = slot < slots
-NamesWord slots fields (ops.ClaimHeader slot label) = slot < slots
+NamesWord slots fields (ops.ClaimHeader slot header) = slot < slots
 NamesWord slots fields (ops.TakeBox t e) = e < 2 ^ 24
 NamesWord slots fields (ops.GiveBox t e) = e < 2 ^ 24
 NamesWord slots fields _ = Unit {0}
@@ -123,6 +128,6 @@ NamesSlots p = (r slot : ℕ) → register p r ≡ Some slot → slot < p.slots
 -- The word that each operation finds, if the heap is one whose registers name taken slots, whose epoch word is the own epoch or
 -- the next one, and in which a mailbox that the mutator takes is home with a spare.
 pub record IsFitting (p : Private) (cell : Op → ℕ) : Type 0 where
-  pub headers : (r slot : ℕ) → register p r ≡ Some slot → (0 < cell (ops.LoadHeader slot)) × (cell (ops.LoadHeader slot) ≤ 2 ^ 32)
+  pub headers : (r slot : ℕ) → register p r ≡ Some slot → IsTakenHeader (cell (ops.LoadHeader slot))
   pub epoch : IsRequested p (cell ops.LoadEpoch)
   pub home : p.phase ≡ Crossing → cell (ops.TakeBox p.number (p.epoch + 1)) ≡ crossing_word p.epoch Spare

@@ -1,5 +1,6 @@
 -- What begins, and what is learnt: functions of the private record, of the word found, and of the buffer in the own mailbox.
 use Rattle.std.specs.Prelude.{◌≡◌, ◌⊎◌, ℕ, ◌+◌, ◌-◌, ◌%◌, ◌^◌, ◌<◌, ◌≤◌, ◌==◌, ◌&&◌, Bool, true, false, Option, None, Some, [], ◌∷◌, ◌++◌, if◌then◌else◌, length, replicate, slice_set}
+use Rattle.rec_word.specs.Header.{is_leaf, label_of, IsTakenHeader}
 use Rattle.rec_word.specs.Place.{place_of}
 use Rattle.rec_word.specs.Mailbox.{crossing_word}
 use Rattle.rec_word.specs.declared.mailbox.Mailbox.TheVariants.{Spare}
@@ -11,14 +12,14 @@ use Rattle.rec_model.specs.declared.answer.Answer.TheVariants as answers
 use Rattle.rec_model.specs.declared.command.Cmd.{Cmd}
 use Rattle.rec_model.specs.declared.command.Cmd.TheVariants as commands
 use Rattle.rec_model.specs.declared.told.Told.{Told}
-use Rattle.rec_model.specs.Asking.{null_or_object, same, yes_or_no, plain}
+use Rattle.rec_model.specs.Asking.{null_or_object, same, yes_or_no, plain, allocation}
 use Rattle.rec_log.specs.declared.contents.Contents.{Contents}
 use Rattle.rec_log.specs.declared.entry.Entry.{Entry}
 use Rattle.rec_log.specs.declared.entry.Entry.TheVariants as entries
 use Rattle.rec_mutator.specs.Private.{Private, register, is_full, word_for}
 use Rattle.rec_mutator.specs.declared.made.Made.TheVariants as makes
 use Rattle.rec_mutator.specs.declared.phase.Phase.{Phase}
-use Rattle.rec_mutator.specs.declared.phase.Phase.TheVariants.{Idle, Begun, Scanning, Scanned, Crossing, Swapping, Giving, Finished}
+use Rattle.rec_mutator.specs.declared.phase.Phase.TheVariants.{Idle, Begun, Scanning, Scanned, Storing, Crossing, Swapping, Giving, Finished}
 use Rattle.rec_mutator.specs.declared.work.Work.{Work}
 use Rattle.rec_mutator.specs.declared.work.Work.TheVariants as works
 
@@ -47,25 +48,39 @@ abbrev pub read_by : Private → Cmd → (dst word : ℕ) → Option ℕ → Pri
 read_by p cmd dst word None = answered p cmd (plain answers.NoObject)
 read_by p cmd dst word (Some slot) = answered (with_register p dst (target_of word)) cmd (record { answer = null_or_object (target_of word); saw = word; left = 0 })
 
--- the write of a field is logged with the word that stood there, if there was an object and room
-abbrev pub written_by : Private → Cmd → (f val word : ℕ) → Option ℕ → (full : Bool) → Private
-written_by p cmd f val word None full = answered p cmd (plain answers.NoObject)
-written_by p cmd f val word (Some slot) true = answered p cmd (plain answers.LogFull)
-written_by p cmd f val word (Some slot) false =
-    answered (with_entry p (entries.Put (place_of slot f p.fields) (word_for p val) word)) cmd (record { answer = answers.Done; saw = word; left = word_for p val })
+-- a write goes on where its object is no leaf
+abbrev pub allowed_by : Private → (src f val slot : ℕ) → (leaf : Bool) → Private
+allowed_by p src f val slot true = answered p (commands.Put src f val) (plain answers.NoField)
+allowed_by p src f val slot false = moved p (Storing src f val slot)
+
+-- the header tells whether a field may be written, if there was an object and room
+abbrev pub written_by : Private → (src f val word : ℕ) → Option ℕ → (full : Bool) → Private
+written_by p src f val word None full = answered p (commands.Put src f val) (plain answers.NoObject)
+written_by p src f val word (Some slot) true = answered p (commands.Put src f val) (plain answers.LogFull)
+written_by p src f val word (Some slot) false = allowed_by p src f val slot (is_leaf word)
+
+-- the write of a field is logged with the word that stood there
+abbrev pub stored : Private → (src f val slot word : ℕ) → Private
+stored p src f val slot word =
+    answered (with_entry p (entries.Put (place_of slot f p.fields) (word_for p val) word)) (commands.Put src f val) (record { answer = answers.Done; saw = word; left = word_for p val })
 
 -- the label that a header tells, if there was an object
 abbrev pub label_by : (word : ℕ) → Option ℕ → Answer
 label_by word None = answers.NoObject
-label_by word (Some slot) = answers.Value (word - 1)
+label_by word (Some slot) = answers.Value (label_of word)
+
+-- an allocation begins its scan, if the log has room
+abbrev pub new_by : Private → (word reg label : ℕ) → (leaf full : Bool) → Private
+new_by p word reg label leaf full = if full then answered p (allocation leaf reg label) (plain answers.LogFull) else moved p (Scanning reg label leaf word 0)
 
 -- the first step of a command
 abbrev pub first_by : Private → (word : ℕ) → Cmd → Private
-first_by p word (commands.New reg label) = if is_full p then answered p (commands.New reg label) (plain answers.LogFull) else moved p (Scanning reg label word 0)
+first_by p word (commands.New reg label) = new_by p word reg label false (is_full p)
+first_by p word (commands.Leaf reg label) = new_by p word reg label true (is_full p)
 first_by p word (commands.Null reg) = answered (with_register p reg None) (commands.Null reg) (plain answers.Done)
 first_by p word (commands.Copy dst src) = answered (with_register p dst (register p src)) (commands.Copy dst src) (plain answers.Done)
 first_by p word (commands.Get dst src f) = read_by p (commands.Get dst src f) dst word (register p src)
-first_by p word (commands.Put src f val) = written_by p (commands.Put src f val) f val word (register p src) (is_full p)
+first_by p word (commands.Put src f val) = written_by p src f val word (register p src) (is_full p)
 first_by p word (commands.Value reg) = answered p (commands.Value reg) (plain (label_by word (register p reg)))
 first_by p word (commands.Same a b) = answered p (commands.Same a b) (plain (yes_or_no (same (register p a) (register p b))))
 
@@ -79,13 +94,13 @@ begun_by p word (works.Command cmd) = first_by p word cmd
 begun_by p word works.Poll = polled p word
 
 -- an object is born in a slot
-abbrev pub born_in : Private → (reg label slot : ℕ) → Private
-born_in p reg label slot = answered (with_entry (with_register p reg (Some slot)) (entries.Born slot)) (commands.New reg label) (plain answers.Done)
+abbrev pub born_in : Private → (reg label : ℕ) → (leaf : Bool) → (slot : ℕ) → Private
+born_in p reg label leaf slot = answered (with_entry (with_register p reg (Some slot)) (entries.Born slot leaf)) (allocation leaf reg label) (plain answers.Done)
 
 -- a probe of a slot: the slot was free and is won, or it was taken and the next one follows, if there is one
-abbrev pub probed : Private → (reg label before slot word : ℕ) → Private
-probed p reg label before slot word =
-    if word == 0 then born_in p reg label slot else moved p (if slot + 1 == p.slots then Scanned reg label before else Scanning reg label before (slot + 1))
+abbrev pub probed : Private → (reg label : ℕ) → (leaf : Bool) → (before slot word : ℕ) → Private
+probed p reg label leaf before slot word =
+    if word == 0 then born_in p reg label leaf slot else moved p (if slot + 1 == p.slots then Scanned reg label leaf before else Scanning reg label leaf before (slot + 1))
 
 -- no slot was free: the freed word was even and the same before and after the scan, or a sweep ran, began or ended meanwhile
 abbrev pub none_free : (before after : ℕ) → Answer
@@ -111,8 +126,9 @@ crossed p = moved (record p { epoch = p.epoch + 1 }) (Finished works.Poll (makes
 unfoldable pub took_at : Private → (word : ℕ) → Phase → Private
 took_at p word Idle = moved p Idle
 took_at p word (Begun work) = begun_by p word work
-took_at p word (Scanning reg label before slot) = probed p reg label before slot word
-took_at p word (Scanned reg label before) = answered p (commands.New reg label) (plain (none_free before word))
+took_at p word (Scanning reg label leaf before slot) = probed p reg label leaf before slot word
+took_at p word (Scanned reg label leaf before) = answered p (allocation leaf reg label) (plain (none_free before word))
+took_at p word (Storing src f val slot) = stored p src f val slot word
 took_at p word Crossing = retiring p
 took_at p word Swapping = moved p Swapping
 took_at p word Giving = crossed p
@@ -146,13 +162,13 @@ step_of p word box = swapped_of (took_of p word) box
 
 -- the slots below this one are those that a scan has still to come to, or has passed, by phase
 abbrev pub IsAhead : Phase → (slot : ℕ) → Type 0
-IsAhead (Scanning reg label before at) slot = at ≤ slot
+IsAhead (Scanning reg label leaf before at) slot = at ≤ slot
 IsAhead _ slot = Unit {0}
 
 -- a scan comes to this slot, or to its end, by phase: each probe between is a step
 unfoldable pub skipped_at : Private → (slot : ℕ) → Phase → Private
-skipped_at p slot (Scanning reg label before at) =
-    record p { phase = if slot == p.slots then Scanned reg label before else Scanning reg label before slot; steps = p.steps + (slot - at) }
+skipped_at p slot (Scanning reg label leaf before at) =
+    record p { phase = if slot == p.slots then Scanned reg label leaf before else Scanning reg label leaf before slot; steps = p.steps + (slot - at) }
 skipped_at p slot _ = p
 
 -- a scan comes to this slot, or to its end
@@ -176,7 +192,7 @@ IsRequested p word = (word ≡ p.epoch) ⊎ ((word ≡ p.epoch + 1) × (word < 2
 -- what the word found has to be: the header of a taken slot; the own epoch or the next one; and the crossing word that is taken
 -- says that its mailbox is home with a spare
 abbrev pub IsFound : Private → Op → ℕ → Type 0
-IsFound p (ops.LoadHeader slot) word = (0 < word) × (word ≤ 2 ^ 32)
+IsFound p (ops.LoadHeader slot) word = IsTakenHeader word
 IsFound p ops.LoadEpoch word = IsRequested p word
 IsFound p (ops.TakeBox t e) word = word ≡ crossing_word p.epoch Spare
 IsFound p _ word = Unit {0}

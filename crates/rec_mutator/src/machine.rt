@@ -1,21 +1,21 @@
 ghost use Rattle.std.specs.Prelude.{◌≡◌, ◌⊎◌, ◌+◌, ◌^◌, ◌<◌, ◌≤◌, ◌↔◌, ◌∷◌, ◌++◌, [], true, false, length, slice_set, IfOk, IfSome, IsNone, IsTrue};
 ghost use Rattle.rec_word.specs.Place.{place_of};
-ghost use Rattle.rec_mutator.specs.Private.{Private, opened, register, is_full, word_for, is_busy, work_of, answer_of, HasOperands, IsValid, limit_of, IsScan, IsMachine, KeepsSizes};
-ghost use Rattle.rec_mutator.specs.Next.{next_of, begun_op, first_op, own_word};
-ghost use Rattle.rec_model.specs.Asking.{null_or_object, same, yes_or_no, plain};
+ghost use Rattle.rec_mutator.specs.Private.{Private, opened, register, is_full, word_for, is_busy, work_of, answer_of, HasOperands, IsValid, limit_of, IsScan, IsStore, IsMachine, KeepsSizes};
+ghost use Rattle.rec_mutator.specs.Next.{next_of, begun_op, first_op, own_word, write_op};
+ghost use Rattle.rec_model.specs.Asking.{allocation, null_or_object, same, yes_or_no, plain};
 ghost use Rattle.rec_mutator.specs.Causes.{HasCause, PollHasCause};
 ghost use Rattle.rec_mutator.specs.declared.made.Made.TheVariants as makes;
 ghost use Rattle.rec_mutator.specs.declared.work.Work.TheVariants as works;
 ghost use Rattle.rec_model.specs.declared.command.Cmd.{Cmd as Command};
 ghost use Rattle.rec_model.specs.declared.told.Told.{Told as Answered};
-ghost use Rattle.rec_mutator.specs.Took.{begun_of, begun_by, took_of, took_at, moved, answered, with_register, first_by, polled, probed, none_free, skipped_to, spare, swapped_of, IsAhead, IsFound, IsRequested, IsSwapping, IsBetween};
+ghost use Rattle.rec_mutator.specs.Took.{begun_of, begun_by, took_of, took_at, moved, answered, with_register, first_by, new_by, stored, polled, probed, none_free, skipped_to, spare, swapped_of, IsAhead, IsFound, IsRequested, IsSwapping, IsBetween};
 
 use crate::phase::Phase;
 use crate::{Made, Work};
 use rec_frame::Frame;
 use rec_log::{Buffer, Entry};
 use rec_model::{Answer, Cmd, Told};
-use rec_word::{Op, Stamp, pack, place, target};
+use rec_word::{Op, Stamp, header, is_leaf, label, pack, place, target};
 use std::alloc::{AllocError as NoMemory, Global};
 use std::marker::Model;
 use std::mem;
@@ -111,8 +111,19 @@ impl Machine {
     {
         match self.phase {
             Phase::Begun { work } => self.begun(work),
-            Phase::Scanning { label, slot, .. } => Op::ClaimHeader(slot, label),
+            Phase::Scanning {
+                label,
+                leaf,
+                slot,
+                ..
+            } => Op::ClaimHeader(slot, header(leaf, label)),
             Phase::Scanned { .. } => Op::LoadFreed,
+            Phase::Storing {
+                field,
+                val,
+                slot,
+                ..
+            } => Op::SwapField(self.place_of(slot, field), self.word_for(val)),
             Phase::Crossing => Op::TakeBox(self.number, self.epoch + 1),
             Phase::Swapping | Phase::Giving => Op::GiveBox(self.number, self.epoch + 1),
             Phase::Idle | Phase::Finished { .. } => self.own_word(),
@@ -161,17 +172,24 @@ impl Machine {
         if let Phase::Scanning {
             reg,
             label,
+            leaf,
             before,
             slot: at,
         } = self.phase
         {
             self.steps += u32::from(slot - at);
             self.phase = if slot == self.slots {
-                Phase::Scanned { reg, label, before }
+                Phase::Scanned {
+                    reg,
+                    label,
+                    leaf,
+                    before,
+                }
             } else {
                 Phase::Scanning {
                     reg,
                     label,
+                    leaf,
                     before,
                     slot,
                 }
@@ -273,7 +291,8 @@ impl Machine {
         ensures { IsTrue result ↔ HasOperands self.now cmd.now }
     {
         match *cmd {
-            Cmd::New { reg, .. } | Cmd::Null { reg } | Cmd::Value { reg } => self.has_register(reg),
+            Cmd::New { reg, .. } | Cmd::Leaf { reg, .. } | Cmd::Null { reg } | Cmd::Value { reg } =>
+                self.has_register(reg),
             Cmd::Copy { dst, src } => self.has_register(dst) && self.has_register(src),
             Cmd::Get { dst, src, field } => {
                 self.has_register(dst) && self.has_register(src) && self.has_field(field)
@@ -316,7 +335,7 @@ impl Machine {
         ensures { result ≡ first_op self.now cmd }
     {
         match cmd {
-            Cmd::New { .. } => {
+            Cmd::New { .. } | Cmd::Leaf { .. } => {
                 if self.is_full() {
                     self.own_word()
                 } else {
@@ -328,7 +347,7 @@ impl Machine {
                 Some(slot) => Op::LoadField(self.place_of(slot, field)),
                 None => self.own_word(),
             },
-            Cmd::Put { src, field, val } => self.first_of_put(src, field, val),
+            Cmd::Put { src, .. } => self.first_of_put(src),
             Cmd::Value { reg } => match self.frame.read(reg) {
                 Some(slot) => Op::LoadHeader(slot),
                 None => self.own_word(),
@@ -338,9 +357,9 @@ impl Machine {
 
     // The operation of a write's first step.
     #[inline(always)]
-    fn first_of_put(&self, src: u8, field: u8, val: u8) -> Op
-        requires { HasOperands self.now (Cmd.Put src field val) }
-        ensures { result ≡ first_op self.now (Cmd.Put src field val) }
+    fn first_of_put(&self, src: u8) -> Op
+        requires { src < length self.now.registers }
+        ensures { result ≡ write_op self.now (register self.now src) (is_full self.now) }
     {
         let Some(slot) = self.frame.read(src) else {
             return self.own_word();
@@ -348,7 +367,7 @@ impl Machine {
         if self.is_full() {
             return self.own_word();
         }
-        Op::SwapField(self.place_of(slot, field), self.word_for(val))
+        Op::LoadHeader(slot)
     }
 
     // Learns the word that was found, by phase.
@@ -372,10 +391,22 @@ impl Machine {
             Phase::Scanning {
                 reg,
                 label,
+                leaf,
                 before,
                 slot,
-            } => self.took_probe(reg, label, before, slot, word),
-            Phase::Scanned { reg, label, before } => self.took_last(reg, label, before, word),
+            } => self.took_probe(reg, label, leaf, before, slot, word),
+            Phase::Scanned {
+                reg,
+                label,
+                leaf,
+                before,
+            } => self.took_last(reg, label, leaf, before, word),
+            Phase::Storing {
+                src,
+                field,
+                val,
+                slot,
+            } => self.took_store(src, field, val, slot, word),
             Phase::Crossing => self.took_box(),
             Phase::Giving => self.gave_box(),
             Phase::Idle | Phase::Swapping | Phase::Finished { .. } => {}
@@ -409,7 +440,8 @@ impl Machine {
         ensures kept { IsMachine self.new }
     {
         match cmd {
-            Cmd::New { reg, label } => self.took_new(reg, label, word),
+            Cmd::New { reg, label } => self.took_new(reg, label, false, word),
+            Cmd::Leaf { reg, label } => self.took_new(reg, label, true, word),
             Cmd::Null { reg } => self.took_null(reg),
             Cmd::Copy { dst, src } => self.took_copy(dst, src),
             Cmd::Get { dst, src, field } => self.took_get(dst, src, field, word),
@@ -420,20 +452,21 @@ impl Machine {
     }
 
     // An allocation begins its scan, if the log has room.
-    fn took_new(&mut self, reg: u8, label: u32, word: u64)
-        requires valid { HasOperands self.old (Cmd.New reg label) }
+    fn took_new(&mut self, reg: u8, label: u32, leaf: bool, word: u64)
+        requires valid { reg < length self.old.registers }
         requires first { self.old.steps ≡ 0 }
 
-        ensures took { self.new ≡ first_by self.old word (Cmd.New reg label) }
+        ensures took { self.new ≡ new_by self.old word reg label leaf (is_full self.old) }
         ensures kept { IsMachine self.new }
     {
         if self.is_full() {
-            self.phase = answered(Cmd::New { reg, label }, only(Answer::LogFull));
+            self.phase = answered(allocation(leaf, reg, label), only(Answer::LogFull));
             self.steps += 1;
         } else {
             self.phase = Phase::Scanning {
                 reg,
                 label,
+                leaf,
                 before: word,
                 slot: 0,
             };
@@ -491,7 +524,7 @@ impl Machine {
         self.steps += 1;
     }
 
-    // The write is logged with the word that it replaced.
+    // The header of the object tells whether its field may be written.
     #[inline(always)]
     fn took_put(&mut self, src: u8, field: u8, val: u8, word: u64)
         requires valid { HasOperands self.old (Cmd.Put src field val) }
@@ -511,6 +544,29 @@ impl Machine {
             self.steps += 1;
             return;
         }
+        if is_leaf(word) {
+            self.phase = answered(cmd, only(Answer::NoField));
+        } else {
+            self.phase = Phase::Storing {
+                src,
+                field,
+                val,
+                slot,
+            };
+        }
+        self.steps += 1;
+    }
+
+    // The write is logged with the word that it replaced.
+    #[inline(always)]
+    fn took_store(&mut self, src: u8, field: u8, val: u8, slot: u16, word: u64)
+        requires store { IsStore self.old src field val slot }
+        requires second { self.old.steps ≡ 1 }
+
+        ensures took { self.new ≡ stored self.old src field val slot word }
+        ensures kept { IsMachine self.new }
+    {
+        let cmd = Cmd::Put { src, field, val };
         let left = self.word_for(val);
         let entry = Entry::Put {
             place: self.place_of(slot, field),
@@ -537,7 +593,7 @@ impl Machine {
         ensures kept { IsMachine self.new }
     {
         let answer = match self.frame.read(reg) {
-            Some(_) => Answer::Value((word - 1) as u32),
+            Some(_) => Answer::Value(label(word)),
             None => Answer::NoObject,
         };
         self.phase = answered(Cmd::Value { reg }, only(answer));
@@ -558,26 +614,32 @@ impl Machine {
     }
 
     // A probe of a slot: it was free and is won, or the next one follows, if there is one.
-    fn took_probe(&mut self, reg: u8, label: u32, before: u64, slot: u16, word: u64)
+    fn took_probe(&mut self, reg: u8, label: u32, leaf: bool, before: u64, slot: u16, word: u64)
         requires scan { IsScan self.old reg }
         requires slot { slot < self.old.slots }
         requires steps { self.old.steps ≡ slot + 1 }
 
-        ensures took { self.new ≡ probed self.old reg label before slot word }
+        ensures took { self.new ≡ probed self.old reg label leaf before slot word }
         ensures kept { IsMachine self.new }
     {
         if word == 0 {
             self.frame.set(reg, slot);
-            note(&mut self.log, Entry::Born { slot });
-            self.phase = answered(Cmd::New { reg, label }, only(Answer::Done));
+            note(&mut self.log, Entry::Born { slot, leaf });
+            self.phase = answered(allocation(leaf, reg, label), only(Answer::Done));
             self.steps += 1;
         } else if slot + 1 == self.slots {
-            self.phase = Phase::Scanned { reg, label, before };
+            self.phase = Phase::Scanned {
+                reg,
+                label,
+                leaf,
+                before,
+            };
             self.steps += 1;
         } else {
             self.phase = Phase::Scanning {
                 reg,
                 label,
+                leaf,
                 before,
                 slot: slot + 1,
             };
@@ -586,13 +648,13 @@ impl Machine {
     }
 
     // No slot was free.
-    fn took_last(&mut self, reg: u8, label: u32, before: u64, word: u64)
+    fn took_last(&mut self, reg: u8, label: u32, leaf: bool, before: u64, word: u64)
         requires steps { self.old.steps ≡ self.old.slots + 1 }
 
-        ensures took { self.new ≡ answered self.old (Cmd.New reg label) (plain (none_free before word)) }
+        ensures took { self.new ≡ answered self.old (allocation leaf reg label) (plain (none_free before word)) }
         ensures kept { IsMachine self.new }
     {
-        self.phase = answered(Cmd::New { reg, label }, only(none_free(before, word)));
+        self.phase = answered(allocation(leaf, reg, label), only(none_free(before, word)));
         self.steps += 1;
     }
 
@@ -671,6 +733,17 @@ impl Machine {
             index: self.log.entries().len() as u32,
         };
         pack(self.frame.read(r), stamp)
+    }
+}
+
+// The command that allocates: a leaf, or an object with fields.
+fn allocation(leaf: bool, reg: u8, label: u32) -> Cmd
+    ensures { result ≡ allocation leaf reg label }
+{
+    if leaf {
+        Cmd::Leaf { reg, label }
+    } else {
+        Cmd::New { reg, label }
     }
 }
 

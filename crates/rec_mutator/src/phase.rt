@@ -9,10 +9,11 @@ pub enum Phase {
     Begun {
         work: Work,
     },
-    /// An allocation found this freed word, and probes this slot next; each slot below it was taken when it was probed.
+    /// An allocation, of a leaf or not, found this freed word, and probes this slot next; each slot below it was taken when it was probed.
     Scanning {
         reg: u8,
         label: u32,
+        leaf: bool,
         before: u64,
         slot: u16,
     },
@@ -20,7 +21,15 @@ pub enum Phase {
     Scanned {
         reg: u8,
         label: u32,
+        leaf: bool,
         before: u64,
+    },
+    /// A write found that the object in this slot is no leaf, and exchanges its field next.
+    Storing {
+        src: u8,
+        field: u8,
+        val: u8,
+        slot: u16,
     },
     /// A poll found an epoch requested that isn't the own one. The own mailbox is taken next.
     Crossing,

@@ -10,18 +10,18 @@ use Rattle.rec_counts.specs.Counts.{State, IsKept, slot_at, with_slot, decrement
 use Rattle.rec_counts.specs.Groups.{last_set, earlier_sets}
 use Rattle.rec_counts.specs.Lists.{one, times}
 use Rattle.rec_counts.specs.Rest.{AllZeros, AreZeros, KeepsRest}
-use Rattle.rec_counts.specs.Slot.{absent, is_in, lessened, lessened_if, lowered, out_of_set, unbuffered_if}
+use Rattle.rec_counts.specs.Slot.{absent, is_in, lessened, lessened_if, lowered, stays, out_of_set, unbuffered_if}
 use Rattle.rec_counts.specs.Colour.{is_orange}
-use Rattle.rec_counts.proofs.Decrementing.{all_zeros_kept, decremented_less, rest_decremented, zeros_from, ZerosFrom, zero_found, same_slot}
+use Rattle.rec_counts.proofs.Decrementing.{stays_released, all_zeros_kept, decremented_less, rest_decremented, zeros_from, ZerosFrom, zero_found, same_slot}
 use Rattle.rec_counts.proofs.Keeping.{field_kept, keep_drop, map_at, last_once}
 use Rattle.rec_counts.proofs.Times.{times-nil, times-append, times-cons, one-le, one-same, one-none}
 use Rattle.rec_walk.specs.declared.member.Member.{Member}
 use Rattle.rec_walk.specs.Walk.{behind}
 use Rattle.rec_release.specs.CycleFree.{dead_if, given_up, gone_on, listed_behind, IsFreeable}
-use Rattle.rec_release.specs.Release.{emptied, listed_if, without_first, IsReady}
+use Rattle.rec_release.specs.Release.{emptied, listed_if, next_from, without_first, IsReady}
 use Rattle.rec_release.specs.TakenOff.{down_if, is_lowered, taken_off, AllZerosButOrange, IsApart, IsMember, KeepsOrange}
 use Rattle.rec_release.proofs.Giving.{given_slot}
-use Rattle.rec_release.proofs.Keeping.{first_released, ready_emptied}
+use Rattle.rec_release.proofs.Keeping.{each_next, first_released, ready_emptied}
 use Rattle.rec_release.proofs.TakenOff.{down_most, off_most, ready_off, written, KeepsMost}
 
 -- what is written isn't Orange
@@ -80,7 +80,7 @@ listed_keeps true lowers s x = lists_keep lowers s s.work s.free
 listed_keeps false lowers s x = lists_keep lowers s s.work (s.free ++ x ∷ [])
 
 -- the next zero is released
-first_keeps : (zs : List ℕ) (lowers : Bool) (s : State) → s.zeros ≡ zs → AreZeros s → Keeps lowers s (without_first zs s)
+pub first_keeps : (zs : List ℕ) (lowers : Bool) (s : State) → s.zeros ≡ zs → AreZeros s → Keeps lowers s (without_first zs s)
 first_keeps [] lowers s e k = lists_keep lowers s s.work s.free
 first_keeps (z ∷ zs) lowers s e k =
     let v : Slot = record (slot_at s z) { released = true } in
@@ -100,8 +100,12 @@ first_keeps (z ∷ zs) lowers s e k =
       kept = λ _ x o. colour x ∙ o;
     }
 
-pub next_keeps : (lowers : Bool) (s : State) → AreZeros s → Keeps lowers s (without_first s.zeros s)
-next_keeps lowers s k = first_keeps s.zeros lowers s refl k
+pub next_keeps : (lowers : Bool) (s : State) → IsReady s → Keeps lowers s (next_from s.zeros s).counts
+next_keeps lowers s k =
+    each_next (λ at t. Keeps lowers s t)
+    (λ t z zs e r g h. let u : State = without_first (z ∷ zs) t in keeps_on h (keeps_on (first_keeps (z ∷ zs) lowers t e r.zeros) (listed_keeps (slot_at u z).buffered lowers u z)))
+    (λ t z zs e r g h. keeps_on h (first_keeps (z ∷ zs) lowers t e r.zeros))
+    s.zeros s refl k (lists_keep lowers s s.work s.free)
 
 -- the colour of a target that is lowered
 pub orange_from : (c : Colour) → is_orange c ≡ true → c ≡ Orange
@@ -112,7 +116,7 @@ lowered_orange : (lowers : Bool) (c : Colour) → is_lowered lowers c ≡ true �
 lowered_orange true c e = orange_from c e
 lowered_orange false c e = absurd (false≢true e)
 
--- no decrement makes a slot orange, or leaves it so unless it is released
+-- no decrement makes a slot orange, or leaves it so unless it keeps its colour
 lessened_orange : (r l : Bool) (v : Slot) → (lessened_if r l v).colour ≡ Orange → (r ≡ true) × (v.colour ≡ Orange)
 lessened_orange true l v e = (refl, e)
 lessened_orange false true v e = cc
@@ -131,7 +135,7 @@ unjoined s y x r o =
     let f : ZerosFrom s y = zeros_from s y in
     elim (cases_lt 0 (times x f.more)) [
       | inl l ↦ elim (decremented_at s y x) [
-        | inl q ↦ absurd (false≢true (sym r ∙ ap (λ z. (slot_at s z).released) q.0 ∙ (lessened_orange (slot_at s y).released (eqb (slot_at s y).count 1) (slot_at s y) (ap (λ (w : Slot). w.colour) (sym q.1) ∙ o)).0))
+        | inl q ↦ absurd (false≢true (sym r ∙ ap (λ z. (slot_at s z).released) q.0 ∙ (let l = lessened_orange (stays (slot_at s y)) (eqb (slot_at s y).count 1) (slot_at s y) (ap (λ (w : Slot). w.colour) (sym q.1) ∙ o) in stays_released (slot_at s y) l.0 l.1)))
         | inr q ↦ absurd (omega (arith, ap (λ (w : Slot). w.count) q, f.last x l, f.count x l))
       ]
       | inr l ↦ omega (arith, l)
@@ -139,7 +143,7 @@ unjoined s y x r o =
 
 orange_before : (s : State) (y x : ℕ) → (slot_at (decremented s y) x).colour ≡ Orange → (slot_at s x).colour ≡ Orange
 orange_before s y x o = elim (decremented_at s y x) [
-  | inl q ↦ ap (λ z. (slot_at s z).colour) q.0 ∙ (lessened_orange (slot_at s y).released (eqb (slot_at s y).count 1) (slot_at s y) (ap (λ (w : Slot). w.colour) (sym q.1) ∙ o)).1
+  | inl q ↦ ap (λ z. (slot_at s z).colour) q.0 ∙ (lessened_orange (stays (slot_at s y)) (eqb (slot_at s y).count 1) (slot_at s y) (ap (λ (w : Slot). w.colour) (sym q.1) ∙ o)).1
   | inr q ↦ ap (λ (w : Slot). w.colour) (sym q) ∙ o
 ]
 
@@ -187,11 +191,11 @@ off_keeps lowers s None h = lists_keep lowers s s.work s.free
 off_keeps lowers s (Some y) h = down_keeps (is_lowered lowers (slot_at s y).colour) lowers s y refl h
 
 -- the last field of a slot: the slot is emptied, and the next zero is released
-pub last_keeps : (lowers : Bool) (s : State) (t : Option ℕ) (x : ℕ) → (slot_at s x).released ≡ true → IsReady s → IfSome t (λ y. 0 < (slot_at s y).count) → (let u : State = emptied (taken_off lowers s t) x in Keeps lowers s (without_first u.zeros u))
+pub last_keeps : (lowers : Bool) (s : State) (t : Option ℕ) (x : ℕ) → (slot_at s x).released ≡ true → IsReady s → IfSome t (λ y. 0 < (slot_at s y).count) → (let u : State = emptied (taken_off lowers s t) x in Keeps lowers s (next_from u.zeros u).counts)
 last_keeps lowers s t x r ready h =
     let off : State = taken_off lowers s t in
     keeps_on (off_keeps lowers s t h)
-    (keeps_on (listed_keeps (slot_at off x).buffered lowers off x) (next_keeps lowers (emptied off x) (ready_emptied off x ((off_most lowers s t).released x ∙ r) (ready_off lowers s t ready)).zeros))
+    (keeps_on (listed_keeps (slot_at off x).buffered lowers off x) (next_keeps lowers (emptied off x) (ready_emptied off x ((off_most lowers s t).released x ∙ r) (ready_off lowers s t ready))))
 
 -- the last set is given up: its members are Black
 given_orange_if : (b : Bool) (v : Slot) → (dead_if b (unbuffered_if b v)).colour ≡ Orange → (b ≡ false) × (v.colour ≡ Orange)

@@ -1,23 +1,25 @@
 -- Releases, move by move and word by word: a reference is taken off, a slot is emptied, the next zero is released.
-use Rattle.std.proofs.Common.{◌≡◌, ℕ, ◌+◌, ◌<◌, ◌≤◌, Bool, true, false, eqb, ltb, cond, IsNone, Option, None, Some, IfSome, List, [], ◌∷◌, ◌++◌, length, take, refl, arith, sym, ◌∙◌, ap, subst, inl, inr, append_assoc, fold}
+use Rattle.std.proofs.Common.{◌≡◌, ℕ, ◌+◌, ◌<◌, ◌≤◌, Bool, true, false, eqb, ltb, cond, not, lit<, IsNone, Option, None, Some, IfSome, List, [], ◌∷◌, ◌++◌, length, take, refl, arith, sym, ◌∙◌, ap, subst, inl, inr, append_assoc, fold}
 use Rattle.std.proofs.lemmas.List.{append-nil, length_push, flat_map_more}
+use Rattle.std.proofs.lemmas.List.Elements.{filter-append}
 use Rattle.std.proofs.lemmas.Bool.{cases_Bool, false≢true, ltb-true, ltb-false}
 use Rattle.std.proofs.lemmas.Bool.Decides.{eqb_tells}
-use Rattle.rec_word.specs.Place.{place_of, places_from}
+use Rattle.rec_word.specs.Place.{place_of, places_from, places_of}
 use Rattle.rec_word.specs.Word.{target_of}
 use Rattle.rec_word.proofs.FieldPlaces.{places_step, places_end}
 use Rattle.rec_counts.specs.declared.slot.Slot.{Slot}
+use Rattle.rec_counts.specs.Colour.{is_green}
 use Rattle.rec_counts.specs.Counts.{State, slot_at, with_slot}
 use Rattle.rec_counts.specs.Lists.{one, times}
 use Rattle.rec_counts.proofs.Keeping.{field_kept}
 use Rattle.rec_counts.proofs.Times.{inside_push, times-nil, times_push}
 use Rattle.rec_release.specs.declared.at.At.{At}
-use Rattle.rec_release.specs.Release.{Work, emptied, first_of, gone_on, listed_if, next_of, without_first, with_next, took_of, started_of, IsAtWork, IsHeld, IsReady}
-use Rattle.rec_release.specs.Released.{Released, HasReleased, exchanged, place_due}
+use Rattle.rec_release.specs.Release.{Work, emptied, gone_on, listed_if, next_from, next_of, without_first, with_next, took_of, started_of, IsAtWork, IsHeld, IsReady}
+use Rattle.rec_release.specs.Released.{Released, HasReleased, exchanged, place_due, with_fields}
 use Rattle.rec_walk.specs.Load.{given}
 use Rattle.rec_walk.proofs.Given.{given-nil, given-cons}
 use Rattle.rec_release.specs.TakenOff.{taken_off}
-use Rattle.rec_release.proofs.Keeping.{first_released, first_zero, held_off, listed_ready, next_work, none_left, work_last, work_next, work_on, FirstZero}
+use Rattle.rec_release.proofs.Keeping.{each_next, first_released, first_zero, held_off, listed_ready, next_work, none_left, work_last, work_next, work_on, FirstZero}
 use Rattle.rec_release.proofs.Orange.{last_keeps, off_keeps, Keeps}
 use Rattle.rec_release.proofs.TakenOff.{leading-nil, leading_push, off_count, off_most, ready_off, KeepsMost}
 
@@ -48,6 +50,7 @@ taken_on lowers fields before a after words from slots word l r =
         ]
       ];
       free = λ x b. ap (λ f. times x f + one (eqb x a.slot)) k.free ∙ r.free x (k.unbuffered x b);
+      green = λ x. k.green x ∙ r.green x;
       held = record { in_range = h.in_range; released = h.released; unlisted = h.unlisted };
       ready = ready_off lowers after t r.ready;
     }
@@ -67,6 +70,7 @@ emptied_on fields before a after words from slots l r = go (slot_at after a.slot
       none = r.none;
       waiting = λ x h. b x h ∙ r.waiting x h;
       free = λ x h. omega (arith, u x h, r.free x h);
+      green = r.green;
       held = tt;
       ready = k;
     }
@@ -77,29 +81,42 @@ emptied_on fields before a after words from slots l r = go (slot_at after a.slot
         (λ x h. omega (arith, times_push x after.free a.slot, unlike (λ y. (slot_at after y).buffered) x a.slot (λ q. false≢true (sym e ∙ sym q ∙ h))))
         (λ x h. times_push x after.free a.slot)
 
-next_if : (zs : List ℕ) (fields : ℕ) (before after : State) (words from slots : List ℕ) → after.zeros ≡ zs → 0 < fields → Released fields before None after words from slots →
-    (more : List ℕ) × Released fields before (first_of zs) (without_first zs after) words from more
-next_if [] fields before after words from slots e f r = (slots, r)
-next_if (z ∷ zs) fields before after words from slots e f r =
-    let first : FirstZero after z zs = first_zero after z zs e r.ready in
-    let w = next_work fields false after (z ∷ zs) e f r.ready in
+-- A zero is released, and this field of it comes next: all of its fields from there on are still to be exchanged.
+zero_on : (z : ℕ) (zs : List ℕ) (fields field : ℕ) (before after : State) (words from slots : List ℕ) → after.zeros ≡ z ∷ zs → IsReady after
+    → places_of fields (with_fields before (slots ++ z ∷ [])) ≡ places_of fields (with_fields before slots) ++ places_from fields z field → Released fields before None after words from slots
+    → Released fields before (Some (record { slot = z; field = field })) (without_first (z ∷ zs) after) words from (slots ++ z ∷ [])
+zero_on z zs fields field before after words from slots e ready p r =
+    let first : FirstZero after z zs = first_zero after z zs e ready in
+    let w = next_work 1 false after (z ∷ zs) e (lit< tt) ready in
     let v : Slot = record (slot_at after z) { released = true } in
     let count : (x : ℕ) → (slot_at (with_slot after z v) x).count ≡ (slot_at after x).count = λ x. field_kept (λ (u : Slot). u.count) after.slots z v refl x in
-    let buffered : (x : ℕ) → (slot_at (with_slot after z v) x).buffered ≡ (slot_at after x).buffered = λ x. field_kept (λ (u : Slot). u.buffered) after.slots z v refl x in (
-      slots ++ z ∷ [],
-      record {
-        places = ap (λ ps. ps ++ places_from fields z 0) (sym (append-nil from) ∙ r.places) ∙ flat_map_more (λ slot. places_from fields slot 0) [] slots z;
-        each = r.each;
-        counts = λ x. count x ∙ r.counts x;
-        zeros = (r.zeros.0, append_assoc slots (z ∷ []) zs ∙ ap (λ ys. slots ++ ys) (sym e) ∙ r.zeros.1);
-        released = λ x. omega (arith, first_released z zs after e r.ready.zeros x, r.released x, times_push x slots z);
-        none = inside_push (λ x. (slot_at (with_slot after z v) x).count ≡ 0) slots z (count z ∙ first.none) (λ x h. count x ∙ r.none x h);
-        waiting = λ x b. r.waiting x (sym (buffered x) ∙ b);
-        free = λ x b. omega (arith, r.free x (sym (buffered x) ∙ b), times_push x slots z);
-        held = w.held;
-        ready = w.ready;
-      },
-    )
+    let buffered : (x : ℕ) → (slot_at (with_slot after z v) x).buffered ≡ (slot_at after x).buffered = λ x. field_kept (λ (u : Slot). u.buffered) after.slots z v refl x in
+    record {
+      places = ap (λ ps. ps ++ places_from fields z field) (sym (append-nil from) ∙ r.places) ∙ sym p;
+      each = r.each;
+      counts = λ x. count x ∙ r.counts x;
+      zeros = (r.zeros.0, append_assoc slots (z ∷ []) zs ∙ ap (λ ys. slots ++ ys) (sym e) ∙ r.zeros.1);
+      released = λ x. omega (arith, first_released z zs after e ready.zeros x, r.released x, times_push x slots z);
+      none = inside_push (λ x. (slot_at (with_slot after z v) x).count ≡ 0) slots z (count z ∙ first.none) (λ x h. count x ∙ r.none x h);
+      waiting = λ x b. r.waiting x (sym (buffered x) ∙ b);
+      free = λ x b. omega (arith, r.free x (sym (buffered x) ∙ b), times_push x slots z);
+      green = λ x. field_kept (λ (u : Slot). is_green u.colour) after.slots z v refl x ∙ r.green x;
+      held = record { in_range = w.held.in_range; released = w.held.released; unlisted = w.held.unlisted };
+      ready = w.ready;
+    }
+
+-- the places of a Green slot, and of any other
+places_green : (fields z : ℕ) (before : State) (slots : List ℕ) → is_green (slot_at before z).colour ≡ true → places_of fields (with_fields before (slots ++ z ∷ [])) ≡ places_of fields (with_fields before slots) ++ places_from fields z fields
+places_green fields z before slots g =
+    let none : with_fields before (z ∷ []) ≡ [] = ap (λ b. cond (not b) (z ∷ []) []) g in
+    ap (places_of fields) (filter-append (λ x. not (is_green (slot_at before x).colour)) slots (z ∷ []) ∙ ap (λ zs. with_fields before slots ++ zs) none ∙ append-nil (with_fields before slots))
+    ∙ sym (ap (λ ps. places_of fields (with_fields before slots) ++ ps) (places_end fields z fields (omega arith)) ∙ append-nil (places_of fields (with_fields before slots)))
+
+places_other : (fields z : ℕ) (before : State) (slots : List ℕ) → is_green (slot_at before z).colour ≡ false → places_of fields (with_fields before (slots ++ z ∷ [])) ≡ places_of fields (with_fields before slots) ++ places_from fields z 0
+places_other fields z before slots g =
+    let one_more : with_fields before (z ∷ []) ≡ z ∷ [] = ap (λ b. cond (not b) (z ∷ []) []) g in
+    ap (places_of fields) (filter-append (λ x. not (is_green (slot_at before x).colour)) slots (z ∷ []) ∙ ap (λ zs. with_fields before slots ++ zs) one_more)
+    ∙ sym (flat_map_more (λ slot. places_from fields slot 0) [] (with_fields before slots) z)
 
 -- a release with this field due
 abbrev pub at_work : (fields : ℕ) (lowers : Bool) → Option At → State → Work
@@ -117,8 +134,16 @@ pub record Came (fields : ℕ) (lowers : Bool) (before : State) (w : Work) (word
 -- the next zero is released, if there is one
 next_on : (fields : ℕ) (lowers : Bool) (before after : State) (words from slots : List ℕ) → 0 < fields → Released fields before None after words from slots → Came fields lowers before (with_next fields lowers after) words from
 next_on fields lowers before after words from slots f r =
-    let n = next_if after.zeros fields before after words from slots refl f r in
-    record { at = first_of after.zeros; counts = without_first after.zeros after; is = refl; due = (work_next fields lowers after f r.ready).field; slots = n.0; law = n.1 }
+    let n : (more : List ℕ) × Released fields before (next_from after.zeros after).at (next_from after.zeros after).counts words from more
+    = each_next (λ at u. (more : List ℕ) × Released fields before at u words from more)
+    (λ u z zs e k g h. (
+      h.0 ++ z ∷ [],
+      emptied_on fields before (record { slot = z; field = fields }) (without_first (z ∷ zs) u) words from (h.0 ++ z ∷ []) (omega arith)
+          (zero_on z zs fields fields before u words from h.0 e k (places_green fields z before h.0 (sym (h.1.green z) ∙ g)) h.1),
+    ))
+    (λ u z zs e k g h. (h.0 ++ z ∷ [], zero_on z zs fields 0 before u words from h.0 e k (places_other fields z before h.0 (sym (h.1.green z) ∙ g)) h.1))
+    after.zeros after refl r.ready (slots, r) in
+    record { at = (next_from after.zeros after).at; counts = (next_from after.zeros after).counts; is = refl; due = (work_next fields lowers after f r.ready).field; slots = n.0; law = n.1 }
 
 -- a release that has begun
 pub came_first : (fields : ℕ) (lowers : Bool) (before : State) → 0 < fields → IsReady before → Came fields lowers before (with_next fields lowers before) [] []
@@ -131,6 +156,7 @@ came_first fields lowers before f k = next_on fields lowers before before [] [] 
   none = λ x h. absurd (omega (arith, h, times-nil x));
   waiting = λ x b. refl;
   free = λ x b. omega (arith, times-nil x);
+  green = λ x. refl;
   held = tt;
   ready = k;
 })

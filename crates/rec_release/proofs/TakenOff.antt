@@ -5,12 +5,13 @@ use Rattle.std.proofs.lemmas.List.Sums.{sum_by_push}
 use Rattle.std.proofs.lemmas.Bool.{cases_lt}
 use Rattle.std.proofs.lemmas.Bool.Decides.{eqb_tells}
 use Rattle.rec_word.specs.Word.{is_slot, target_of}
+use Rattle.rec_counts.specs.Colour.{is_green}
 use Rattle.rec_counts.specs.declared.slot.Slot.{Slot}
 use Rattle.rec_counts.specs.Counts.{State, slot_at, with_slot, decremented}
 use Rattle.rec_counts.specs.Lists.{one, times}
 use Rattle.rec_counts.specs.Rest.{AreZeros, KeepsRest}
 use Rattle.rec_counts.specs.Slot.{absent, lowered}
-use Rattle.rec_counts.proofs.Decrementing.{buffered_kept, decremented_less, rest_decremented, unbuffered_before, zeros_from, zeros_kept, ZerosFrom}
+use Rattle.rec_counts.proofs.Decrementing.{green_kept, buffered_kept, decremented_less, rest_decremented, unbuffered_before, zeros_from, zeros_kept, ZerosFrom}
 use Rattle.rec_counts.proofs.Keeping.{field_kept, less_at}
 use Rattle.rec_release.specs.Release.{IsReady}
 use Rattle.rec_release.specs.Released.{leading}
@@ -40,6 +41,7 @@ pub record KeepsMost (s t : State) : Type 0 where
   -- no slot leaves a buffer, and one that is released joins none
   pub buffered : (x : ℕ) → (slot_at s x).released ≡ true → (slot_at t x).buffered ≡ (slot_at s x).buffered
   pub unbuffered : (x : ℕ) → (slot_at t x).buffered ≡ false → (slot_at s x).buffered ≡ false
+  pub green : (x : ℕ) → is_green (slot_at t x).colour ≡ is_green (slot_at s x).colour
 
 down_count : (b : Bool) (s : State) (y x : ℕ) → (slot_at (down_if b s y) x).count ≡ (slot_at s x).count - one (eqb x y)
 down_count true s y x = less_at (λ (v : Slot). v.count) s.slots y (lowered (slot_at s y)) refl refl x
@@ -62,6 +64,7 @@ down_most true s y =
       ready = λ a. record { once = a.once; none = λ x h. omega (arith, down_count true s y x, a.none x h); unreleased = λ x h. released x ∙ a.unreleased x h };
       buffered = λ x r. buffered x;
       unbuffered = λ x b. sym (buffered x) ∙ b;
+      green = λ x. field_kept (λ (w : Slot). is_green w.colour) s.slots y v refl x;
     }
 down_most false s y =
     let k : KeepsRest s (decremented s y) = rest_decremented s y in
@@ -78,6 +81,7 @@ down_most false s y =
       ready = zeros_kept s y;
       buffered = buffered_kept s y;
       unbuffered = unbuffered_before s y;
+      green = green_kept s y;
     }
 
 pub off_count : (lowers : Bool) (s : State) (t : Option ℕ) (x : ℕ) → (slot_at (taken_off lowers s t) x).count ≡ (slot_at s x).count - one (is_slot x t)
@@ -97,6 +101,7 @@ off_most lowers s None = record {
   ready = λ a. a;
   buffered = λ x r. refl;
   unbuffered = λ x b. b;
+  green = λ x. refl;
 }
 off_most lowers s (Some y) = down_most (is_lowered lowers (slot_at s y).colour) s y
 

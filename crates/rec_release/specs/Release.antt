@@ -4,6 +4,7 @@ use Rattle.rec_word.specs.Place.{place_of}
 use Rattle.rec_word.specs.Word.{target_of}
 use Rattle.rec_word.specs.declared.op.Op.{Op}
 use Rattle.rec_word.specs.declared.op.Op.TheVariants.{ClearField}
+use Rattle.rec_counts.specs.Colour.{is_green}
 use Rattle.rec_counts.specs.Counts.{State, slot_at, with_slot}
 use Rattle.rec_counts.specs.Lists.{times}
 use Rattle.rec_counts.specs.Rest.{AreZeros}
@@ -45,9 +46,23 @@ abbrev pub without_first : List ℕ → State → State
 without_first [] s = s
 without_first (z ∷ zs) s = record (with_slot s z (record (slot_at s z) { released = true })) { zeros = zs }
 
--- the first of the zeros, if there is one, leaves them and is released, and its first field comes next
+-- the field that comes next, with the counts then
+pub record Next : Type 0 where
+  pub at : Option At
+  pub counts : State
+
+-- The first of the zeros, if there is one, leaves them and is released, and its first field comes next. A Green one has no fields: it
+-- is empty at once, and the next zero follows.
+abbrev pub next_from : List ℕ → State → Next
+next_from [] s = record { at = None; counts = s }
+next_from (z ∷ zs) s =
+    if is_green (slot_at s z).colour then next_from zs (emptied (without_first (z ∷ zs) s) z) else record { at = first_of (z ∷ zs); counts = without_first (z ∷ zs) s }
+
+abbrev pub work_of : (fields : ℕ) (lowers : Bool) → Next → Work
+work_of fields lowers n = record { machine = record { fields = fields; at = n.at; lowers = lowers }; counts = n.counts }
+
 abbrev pub with_next : (fields : ℕ) (lowers : Bool) → State → Work
-with_next fields lowers s = record { machine = record { fields = fields; at = first_of s.zeros; lowers = lowers }; counts = without_first s.zeros s }
+with_next fields lowers s = work_of fields lowers (next_from s.zeros s)
 
 -- the next field of the same slot comes next; after its last one the slot is emptied, and the next zero is released
 abbrev pub gone_on : (fields : ℕ) (lowers : Bool) → At → State → Work

@@ -1,7 +1,8 @@
 -- A whole release: what it exchanged, and what became of the counts and the free list.
-use Rattle.std.specs.Prelude.{◌≡◌, ℕ, ◌+◌, ◌-◌, ◌<◌, ◌==◌, Bool, true, false, Option, None, Some, IfSome, List, [], ◌++◌, take, length, fold, count_by}
+use Rattle.std.specs.Prelude.{◌≡◌, ℕ, ◌+◌, ◌-◌, ◌<◌, ◌==◌, Bool, true, false, Option, None, Some, IfSome, List, [], ◌++◌, not, take, length, fold, filter, count_by}
 use Rattle.rec_word.specs.Place.{places_from, places_of}
 use Rattle.rec_word.specs.Word.{target_of, is_slot}
+use Rattle.rec_counts.specs.Colour.{is_green}
 use Rattle.rec_counts.specs.Counts.{State, slot_at}
 use Rattle.rec_counts.specs.Lists.{one, times}
 use Rattle.rec_walk.specs.Load.{given}
@@ -29,11 +30,15 @@ place_due m = take 1 (places_left m.fields m.at)
 abbrev pub exchanged : Work → (words : List ℕ) → List ℕ
 exchanged w words = given took_of (λ (v : Work) word. place_due v.machine) w words
 
+-- the slots among these that have fields
+abbrev pub with_fields : State → List ℕ → List ℕ
+with_fields s slots = filter (λ x. not (is_green (slot_at s x).colour)) slots
+
 -- From the counts `before`, a release came to `after`, with the field `at` due next. `words` came out of the places
 -- `from`, in order, and `slots` were released, in order.
 pub record Released (fields : ℕ) (before : State) (at : Option At) (after : State) (words from slots : List ℕ) : Type 0 where
-  -- each field of each released slot is exchanged once, in order
-  pub places : from ++ places_left fields at ≡ places_of fields slots
+  -- each field of each released slot that isn't Green is exchanged once, in order
+  pub places : from ++ places_left fields at ≡ places_of fields (with_fields before slots)
   pub each : length words ≡ length from
   -- each reference that came out takes one off its target's count, and nothing else changes a count
   pub counts : (x : ℕ) → (slot_at after x).count ≡ (slot_at before x).count - leading x words
@@ -44,6 +49,8 @@ pub record Released (fields : ℕ) (before : State) (at : Option At) (after : St
   -- an emptied slot that is buffered is not put into the free list, every other one is, once
   pub waiting : (x : ℕ) → (slot_at after x).buffered ≡ true → times x after.free ≡ times x before.free
   pub free : (x : ℕ) → (slot_at after x).buffered ≡ false → times x after.free + one (is_at x at) ≡ times x before.free + times x slots
+  -- no slot becomes Green, and each that was stays so
+  pub green : (x : ℕ) → is_green (slot_at after x).colour ≡ is_green (slot_at before x).colour
   pub held : IfSome at (IsHeld after)
   pub ready : IsReady after
 

@@ -3,7 +3,7 @@ ghost use Rattle.rec_word.specs.Word.{target_of};
 ghost use Rattle.rec_counts.specs.Counts.{State, slot_at};
 ghost use Rattle.rec_counts.specs.Lists.{times};
 ghost use Rattle.rec_counts.specs.Rest.{AllZeros};
-ghost use Rattle.rec_release.specs.Release.{IsAtWork, IsHeld, IsReady, emptied, first_of, gone_on, next_of, started_of, took_of, without_first};
+ghost use Rattle.rec_release.specs.Release.{IsAtWork, IsHeld, IsReady, emptied, first_of, gone_on, next_from, next_of, started_of, took_of, without_first};
 ghost use Rattle.rec_release.specs.Released.{Released, place_due};
 ghost use Rattle.rec_release.specs.TakenOff.{AllZerosButOrange, IsApart, KeepsOrange};
 
@@ -48,7 +48,8 @@ impl Release {
         }
     }
 
-    /// Begins to release the zeros: the first of them is released. This release lowers orange targets, or decrements them.
+    /// Begins to release the zeros, as far as no field is due: the first of them is released, and each Green one before the first
+    /// that isn't. This release lowers orange targets, or decrements them.
     pub fn start(&mut self, counts: &mut Counts, lowers: bool)
         requires idle { IsNone (next_of self.old) }
         requires ready { IsReady counts.old }
@@ -115,6 +116,7 @@ impl Release {
 fn go_on(counts: &mut Counts, at: At, fields: u8) -> Option<At>
     requires field { at.field < fields }
     requires held { IsHeld counts.old at }
+    requires ready { IsReady counts.old }
     ensures field { IfSome result (λ a. a.field < fields) }
     ensures gone { (lowers : Bool) → record { machine = record { fields = fields; at = result; lowers = lowers }; counts = counts.new } ≡ gone_on fields lowers at counts.old }
 {
@@ -139,8 +141,24 @@ fn empty(counts: &mut Counts, slot: u16)
     }
 }
 
-// The first of the zeros is released, and its first field is due; None where there are no zeros.
+// The first of the zeros is released, and its first field is due. A Green one has no fields: it is empty at once, and the next
+// zero follows. None where there are no zeros left.
 fn release_next(counts: &mut Counts) -> Option<At>
+    requires ready { IsReady counts.old }
+    ensures first { result ≡ (next_from counts.old.zeros counts.old).at }
+    ensures released { counts.new ≡ (next_from counts.old.zeros counts.old).counts }
+{
+    while let Some(at) = release_first(counts) {
+        if !counts.colour(at.slot).is_green() {
+            return Some(at);
+        }
+        empty(counts, at.slot);
+    }
+    None
+}
+
+// The first of the zeros leaves them and is released; None where there are no zeros.
+fn release_first(counts: &mut Counts) -> Option<At>
     ensures first { result ≡ first_of counts.old.zeros }
     ensures released { counts.new ≡ without_first counts.old.zeros counts.old }
 {

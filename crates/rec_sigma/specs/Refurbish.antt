@@ -1,8 +1,9 @@
 -- What becomes of the members of a set that was refused.
 use Rattle.std.specs.Prelude.{◌≡◌, ℕ, ◌<◌, ◌==◌, Bool, true, false, Option, List, [], ◌++◌, filter, length, slice_get}
 use Rattle.rec_word.specs.Word.{is_slot}
+use Rattle.rec_counts.specs.Colour.{in_use}
 use Rattle.rec_counts.specs.declared.colour.Colour.{Colour}
-use Rattle.rec_counts.specs.declared.colour.Colour.TheVariants.{Black, Purple, Orange}
+use Rattle.rec_counts.specs.declared.colour.Colour.TheVariants.{Purple, Orange}
 use Rattle.rec_counts.specs.declared.slot.Slot.{Slot}
 use Rattle.rec_counts.specs.Counts.{State, slot_at}
 use Rattle.rec_counts.specs.Groups.{last_set, earlier_sets}
@@ -31,12 +32,12 @@ fate_of first v = fate_if v.released (v.count == 0) (is_root first v.colour)
 abbrev pub fate_at : State → (first : Option ℕ) → ℕ → Fate
 fate_at s first x = fate_of (is_slot x first) (slot_at s x)
 
--- a released member keeps its colour; a root is Purple and buffered; any other member is Black
+-- a released member keeps its colour; a root is Purple and buffered; any other member is Black, or stays Green
 abbrev pub coloured : Fate → Slot → Slot
 coloured Free v = v
-coloured Zero v = record v { colour = Black }
+coloured Zero v = record v { colour = in_use v.colour }
 coloured Root v = record v { colour = Purple; buffered = true }
-coloured Plain v = record v { colour = Black }
+coloured Plain v = record v { colour = in_use v.colour }
 
 -- a member leaves its set, and is then as its fate wants
 abbrev pub refurbished : Fate → Slot → Slot

@@ -73,13 +73,13 @@ fn settle(counts: &mut Counts, slot: u16, fate: Fate)
     match fate {
         Fate::Free => counts.push_free(slot),
         Fate::Zero => {
-            counts.set_colour(slot, Colour::Black);
+            counts.set_colour(slot, counts.colour(slot).in_use());
             counts.push_zero(slot);
         }
         Fate::Root => {
             counts.set_colour(slot, Colour::Purple);
             counts.push_root(slot);
         }
-        Fate::Plain => counts.set_colour(slot, Colour::Black),
+        Fate::Plain => counts.set_colour(slot, counts.colour(slot).in_use()),
     }
 }

@@ -15,14 +15,14 @@ use Rattle.rec_counts.proofs.Times.{length-once}
 use Rattle.rec_trial.specs.declared.phase.Phase.{Phase}
 use Rattle.rec_trial.specs.declared.phase.Phase.TheVariants.{Idle, Marking, Scanning, Collecting}
 use Rattle.rec_trial.specs.Loaded.{Run, IsAtWork, noted, begun, run_of}
-use Rattle.rec_trial.specs.Rules.{IsReady, LeadsToUnreleased, AllLeadToUnreleased}
+use Rattle.rec_trial.specs.Rules.{IsReady, LeadsToVisible, AllLeadToVisible}
 use Rattle.rec_trial.specs.Trial.{Machine, Work, NamesPlace, next_of, is_due_at, took_of, started_of}
-use Rattle.rec_trial.proofs.Course.{alive_range, first_view, due_seen, released_same}
+use Rattle.rec_trial.proofs.Course.{alive_range, first_view, due_seen, green_same, released_same}
 use Rattle.rec_trial.proofs.Deletion.{Deletion, Loads, due_at, queue_at}
 use Rattle.rec_trial.proofs.Holding.{inv_at}
 use Rattle.rec_trial.proofs.Midway.{at_work_told, at_work_course, at_work_due}
 use Rattle.rec_trial.proofs.Places.{ltb_yes}
-use Rattle.rec_trial.proofs.Runs.{Told, node_seen, begun_told, noted_work, seen_in, still_unreleased, told_next}
+use Rattle.rec_trial.proofs.Runs.{Told, node_seen, begun_told, noted_work, seen_in, still_visible, told_next}
 use Rattle.rec_trial.proofs.Totals.{times, times_here}
 use Rattle.rec_trial.proofs.Views.{view, concat_last}
 
@@ -92,23 +92,23 @@ pub run_more : (fields : ℕ) (before : State) (words : List ℕ) (word : ℕ) �
 unfolding run_of
 run_more fields before words word = fold-append noted (begun fields before) words (word ∷ [])
 
-pub all_lead_more : (s : State) (words : List ℕ) (word : ℕ) → AllLeadToUnreleased s words → LeadsToUnreleased s word → AllLeadToUnreleased s (words ++ word ∷ [])
+pub all_lead_more : (s : State) (words : List ℕ) (word : ℕ) → AllLeadToVisible s words → LeadsToVisible s word → AllLeadToVisible s (words ++ word ∷ [])
 all_lead_more s [] word a l = (l, tt)
 all_lead_more s (w ∷ words) word a l = (a.0, all_lead_more s words word a.1 l)
 
 -- the counts of fields stay
-pub took_fields : (m : Machine) (s : State) (a : IsAtWork m s) (word : ℕ) → LeadsToUnreleased s word → (took_of (record { machine = m; counts = s }) word).machine.fields ≡ m.fields
+pub took_fields : (m : Machine) (s : State) (a : IsAtWork m s) (word : ℕ) → LeadsToVisible s word → (took_of (record { machine = m; counts = s }) word).machine.fields ≡ m.fields
 took_fields m s a word l =
     let r : Run = run_of m.fields a.before a.words in
     let e : took_of (record { machine = m; counts = s }) word ≡ (noted r word).work = ap (λ (w : Work). took_of w word) a.is ∙ sym (noted_work r word) in
-    let lead : LeadsToUnreleased r.work.counts word = subst (λ (w : Work). LeadsToUnreleased w.counts word) a.is l in
+    let lead : LeadsToVisible r.work.counts word = subst (λ (w : Work). LeadsToVisible w.counts word) a.is l in
     ap (λ (w : Work). w.machine.fields) e ∙ (told_next r (at_work_told m s a) word lead).course.same.fields
 
-pub took_at_work : (m : Machine) (s : State) (a : IsAtWork m s) (word : ℕ) → LeadsToUnreleased s word → (n : Machine) (u : State) → ◌≡◌ {A = Work} (record { machine = n; counts = u }) (took_of (record { machine = m; counts = s }) word) → IsAtWork n u
+pub took_at_work : (m : Machine) (s : State) (a : IsAtWork m s) (word : ℕ) → LeadsToVisible s word → (n : Machine) (u : State) → ◌≡◌ {A = Work} (record { machine = n; counts = u }) (took_of (record { machine = m; counts = s }) word) → IsAtWork n u
 took_at_work m s a word l n u e =
     let r : Run = run_of m.fields a.before a.words in
     let q : n.fields ≡ m.fields = ap (λ (w : Work). w.machine.fields) e ∙ took_fields m s a word l in
-    let first : LeadsToUnreleased a.before word = still_unreleased a.before s (target_of word) (λ x. sym (released_same (record { machine = m; counts = s }) (at_work_course m s a) x)) l in
+    let first : LeadsToVisible a.before word = still_visible a.before s (target_of word) (λ x. sym (released_same (record { machine = m; counts = s }) (at_work_course m s a) x)) (λ x. sym (green_same (record { machine = m; counts = s }) (at_work_course m s a) x)) l in
     record {
       wide = rw q a.wide;
       before = a.before;
@@ -120,14 +120,14 @@ took_at_work m s a word l n u e =
     }
 
 -- it began on the same counts, and learnt one word more
-pub took_before : (m : Machine) (s : State) (a : IsAtWork m s) (word : ℕ) (l : LeadsToUnreleased s word) (n : Machine) (u : State) (e : ◌≡◌ {A = Work} (record { machine = n; counts = u }) (took_of (record { machine = m; counts = s }) word)) → (took_at_work m s a word l n u e).before ≡ a.before
+pub took_before : (m : Machine) (s : State) (a : IsAtWork m s) (word : ℕ) (l : LeadsToVisible s word) (n : Machine) (u : State) (e : ◌≡◌ {A = Work} (record { machine = n; counts = u }) (took_of (record { machine = m; counts = s }) word)) → (took_at_work m s a word l n u e).before ≡ a.before
 unfolding took_at_work
 took_before m s a word l n u e = refl
 
-pub took_words : (m : Machine) (s : State) (a : IsAtWork m s) (word : ℕ) (l : LeadsToUnreleased s word) (n : Machine) (u : State) (e : ◌≡◌ {A = Work} (record { machine = n; counts = u }) (took_of (record { machine = m; counts = s }) word)) → (took_at_work m s a word l n u e).words ≡ a.words ++ word ∷ []
+pub took_words : (m : Machine) (s : State) (a : IsAtWork m s) (word : ℕ) (l : LeadsToVisible s word) (n : Machine) (u : State) (e : ◌≡◌ {A = Work} (record { machine = n; counts = u }) (took_of (record { machine = m; counts = s }) word)) → (took_at_work m s a word l n u e).words ≡ a.words ++ word ∷ []
 unfolding took_at_work
 took_words m s a word l n u e = refl
 
-pub took_slots : (m : Machine) (s : State) (a : IsAtWork m s) (word : ℕ) → LeadsToUnreleased s word → (n : Machine) (u : State) → ◌≡◌ {A = Work} (record { machine = n; counts = u }) (took_of (record { machine = m; counts = s }) word) → length u.slots ≡ length s.slots
+pub took_slots : (m : Machine) (s : State) (a : IsAtWork m s) (word : ℕ) → LeadsToVisible s word → (n : Machine) (u : State) → ◌≡◌ {A = Work} (record { machine = n; counts = u }) (took_of (record { machine = m; counts = s }) word) → length u.slots ≡ length s.slots
 unfolding took_at_work
 took_slots m s a word l n u e = at_work_slots n u (took_at_work m s a word l n u e) ∙ sym (at_work_slots m s a)

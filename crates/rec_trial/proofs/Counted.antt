@@ -14,7 +14,7 @@ use Rattle.rec_counts.proofs.Times.{once_none, once_push}
 use Rattle.rec_trial.specs.declared.phase.Phase.{Phase}
 use Rattle.rec_trial.specs.Loaded.{IsAtWork, begins, learns}
 use Rattle.rec_trial.specs.Moves.{touched_if, blackened_if, whitened, all_whitened, joined_if, with_new_set}
-use Rattle.rec_trial.specs.Rules.{CanMark, CanScan, IsReady, LeadsToUnreleased, RulesAt}
+use Rattle.rec_trial.specs.Rules.{CanMark, CanScan, IsReady, LeadsToVisible, RulesAt}
 use Rattle.rec_trial.specs.Trial.{Machine, Work, next_of, settled, learnt_at, opened_of, started_of, took_of, advanced}
 use Rattle.rec_trial.proofs.Conditions.{unbuffered_white, set_room, marked_in_range, root_range, first_there}
 use Rattle.rec_trial.proofs.Moving.{settled_by, Moved, scan_begins, root_freed, root_marked, root_passed, scan_passes, scan_blackens, collect_begins, set_passes, set_begins, ends, tried_slot, moved}
@@ -92,12 +92,12 @@ started_counted fields s f k r = settled_counted (record { machine = opened_of f
 
 learnt_counted : {s t : State} {p : Phase} {code : ℕ} → Learnt s p code t → RulesAt p s → IsKept s → IsKept t
 learnt_counted (takes_one x l g) c k = keep_slot k x _ refl refl
-learnt_counted {s} (marks x live g) c k = keep_slot (touched_counted s x (unreleased_within s x live) (unmarked s c x g) k) x _ refl refl
+learnt_counted {s} (marks x live green g) c k = keep_slot (touched_counted s x (unreleased_within s x live) (unmarked s c x g) k) x _ refl refl
 learnt_counted {s} (blackens x l g) c k = blackened_counted s x l (unworked s c x g) k
 learnt_counted {s} (joins x l some g) c k = joined_counted s x l some (unbuffered_white s k c x g) k
 learnt_counted _ c k = k
 
-pub took_counted : (m : Machine) (s : State) → IsAtWork m s → IsSome (next_of m) → (word : ℕ) → LeadsToUnreleased s word → IsKept s → IsKept (took_of (record { machine = m; counts = s }) word).counts
+pub took_counted : (m : Machine) (s : State) → IsAtWork m s → IsSome (next_of m) → (word : ℕ) → LeadsToVisible s word → IsKept s → IsKept (took_of (record { machine = m; counts = s }) word).counts
 took_counted m s a b word lead k =
     let w : Work = record { machine = m; counts = s } in
     let u : State = learnt_at m.phase s (target_of word) in

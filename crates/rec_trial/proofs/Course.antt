@@ -7,12 +7,12 @@ use Rattle.std.proofs.lemmas.Bool.Decides.{nat_tests}
 use Rattle.rec_word.specs.Word.{target_of, target_bits}
 use Rattle.rec_counts.specs.declared.colour.Colour.TheVariants.{Gray}
 use Rattle.rec_counts.specs.Counts.{State, slot_at, without_root}
-use Rattle.rec_counts.specs.Colour.{is_purple}
+use Rattle.rec_counts.specs.Colour.{is_green, is_purple}
 use Rattle.rec_counts.specs.Groups.{last_set, earlier_sets}
 use Rattle.rec_counts.proofs.Keeping.{unreleased_within}
 use Rattle.rec_trial.specs.declared.phase.Phase.{Phase}
 use Rattle.rec_trial.specs.declared.phase.Phase.TheVariants.{Marking, Scanning, Collecting}
-use Rattle.rec_trial.specs.Rules.{LeadsToUnreleased}
+use Rattle.rec_trial.specs.Rules.{LeadsToVisible}
 use Rattle.rec_trial.specs.Moves.{touched_if, one_off, all_whitened, joined_if, with_new_set}
 use Rattle.rec_trial.specs.Trial.{Machine, Work, next_of, learnt_at, advanced, begun_at, is_due_at, is_due, moved_at, opened_of}
 use Rattle.rec_trial.proofs.Totals.{nonzero, times, times_here}
@@ -24,7 +24,7 @@ use Rattle.rec_trial.proofs.Learning.{Learnt, marks_none, takes_one, marks, scan
 use Rattle.rec_trial.proofs.Moving.{Moved, scan_begins, root_freed, root_marked, root_passed, scan_passes, scan_blackens, collect_begins, set_passes, set_begins, ends, next_try, tried_slot, moved}
 use Rattle.rec_trial.proofs.Orders.{ordered_begin}
 use Rattle.rec_trial.proofs.Turns.{mark_none, mark_old, mark_new, scan_loaded, scan_named, find_loaded, find_named, dropped, seeded, scan_begun, blackened, scan_tried, find_begun, joined, find_tried}
-use Rattle.rec_trial.proofs.Done.{walked_at}
+use Rattle.rec_trial.proofs.Done.{greens_at, walked_at}
 use Rattle.rec_trial.proofs.Places.{ltb_no, ltb_yes}
 use Rattle.rec_trial.proofs.Rest.{Rest, moved_rest, learnt_rest}
 use Rattle.rec_trial.proofs.Views.{view_one_off, view_advanced, at_of, earlier, view_of, view, view_touched, view_blackened, view_joined, view_whitened, view_rootless, concat_last, concat_new, earlier_new}
@@ -141,12 +141,12 @@ module _ (o : Deletion) (w : Work) (ls : Loads) where
   learnt_kept (takes_one x l g) d i =
       subst (λ s. WhileMarking o (plain.advance s) (with_load Marking (seen Marking (view (at_phase Marking w)) (suc x)) ls)) (sym (view_one_off (at_phase Marking w).machine w.counts x l))
       (mark_old o (view (at_phase Marking w)) ls i (ltb_yes w.machine.done (length w.counts.marked) d) x g)
-  learnt_kept (marks x live g) d i =
+  learnt_kept (marks x live green g) d i =
       let m : Machine = (at_phase Marking w).machine in
       let l : x < length w.counts.slots = unreleased_within w.counts x live in
       let q : view_of m (one_off (touched_if false w.counts x) x) ≡ plain.take_one (plain.touch (view (at_phase Marking w)) x) x = view_one_off m (touched_if false w.counts x) x (omega (arith, l, length-set w.counts.slots x (record (slot_at w.counts x) { colour = Gray; cyclic = (slot_at w.counts x).count }))) ∙ ap (λ (s : Deletion). plain.take_one s x) (view_touched m w.counts x l) in
       subst (λ s. WhileMarking o (plain.advance s) (with_load Marking (seen Marking (view (at_phase Marking w)) (suc x)) ls)) (sym q)
-      (mark_new o (view (at_phase Marking w)) ls i (ltb_yes w.machine.done (length w.counts.marked) d) x g live)
+      (mark_new o (view (at_phase Marking w)) ls i (ltb_yes w.machine.done (length w.counts.marked) d) x g live green)
   learnt_kept (scans_none {code} n) d i = scan_loaded o (view (at_phase Scanning w)) ls i (ltb_yes w.machine.done (length w.counts.work) d) code n
   learnt_kept (blackens x l g) d i =
       subst (λ s. WhileScanning o (plain.advance s) (with_load Scanning (seen Scanning (view (at_phase Scanning w)) (suc x)) ls)) (sym (view_blackened (at_phase Scanning w).machine w.counts x l))
@@ -161,12 +161,15 @@ module _ {fields : ℕ} {before : State} (w : Work) {ls : Loads} (c : Course fie
   pub released_same : (x : ℕ) → (slot_at w.counts x).released ≡ (slot_at before x).released
   released_same x = ap (λ (f : ℕ → Bool). f x) c.same.released
 
+  pub green_same : (x : ℕ) → is_green (slot_at w.counts x).colour ≡ is_green (slot_at before x).colour
+  green_same = greens_at w.machine.phase (first_view fields before) (view w) ls c.inv
+
   pub moved_course : is_due w ≡ false → Course fields before (moved_at w.machine.phase w) ls
   moved_course d =
       let m : Moved w w.machine.phase (moved_at w.machine.phase w) = moved w w.machine.phase d in
       course_of (moved_at w.machine.phase w) (moved_kept (first_view fields before) w ls m c.rest d c.inv) (moved_rest m released_same c.rest)
 
-  pub learnt_course : is_due w ≡ true → IsSome (next_of w.machine) → (word : ℕ) → LeadsToUnreleased w.counts word → Course fields before (learnt w word) (with_load w.machine.phase (seen w.machine.phase (view w) (target_bits word)) ls)
+  pub learnt_course : is_due w ≡ true → IsSome (next_of w.machine) → (word : ℕ) → LeadsToVisible w.counts word → Course fields before (learnt w word) (with_load w.machine.phase (seen w.machine.phase (view w) (target_bits word)) ls)
   learnt_course d b word a =
       let p : Phase = w.machine.phase in
       let t : State = (learnt w word).counts in

@@ -1,12 +1,13 @@
 -- How often a trial loads each field, and the lists that it works off, as functions, in any phase.
-use Rattle.std.proofs.Common.{◌≡◌, ℕ, zero, suc, ◌+◌, ◌*◌, ◌<◌, ◌≤◌, Bool, true, false, eqb, ltb, List, [], ◌∷◌, length, take, get_or, refl, ◌∙◌, ap, arith, cond, inl, inr}
+use Rattle.std.proofs.Common.{◌≡◌, ℕ, zero, suc, ◌+◌, ◌*◌, ◌<◌, ◌≤◌, Bool, true, false, eqb, ltb, List, [], ◌∷◌, length, take, get_or, refl, sym, ◌∙◌, ap, arith, cond, inl, inr}
 use Rattle.std.proofs.lemmas.List.{length-take-le}
 use Rattle.std.proofs.Math.Nat.{mul-le-mul_left}
 use Rattle.std.proofs.lemmas.Bool.{cases_lt, lt-ltb}
 use Rattle.std.proofs.lemmas.Bool.Decides.{nat_tests}
 use native.Mathlib.Decide.{dec_lt}
 use Rattle.rec_counts.specs.Lists.{one}
-use Rattle.rec_counts.specs.Colour.{is_white}
+use Rattle.rec_counts.specs.declared.colour.Colour.{Colour}
+use Rattle.rec_counts.specs.Colour.{is_black, is_gray, is_green, is_orange, is_white}
 use Rattle.rec_counts.proofs.Times.{length-once}
 use Rattle.rec_trial.specs.declared.phase.Phase.{Phase}
 use Rattle.rec_trial.specs.declared.phase.Phase.TheVariants.{Idle, Marking, Scanning, Collecting}
@@ -151,3 +152,24 @@ few_loads {fields} {xs} k slots once below =
       | inr l ↦ omega (arith, occurs x xs, below x l)
     ]) in
     omega (arith, loads_within k.place, mul-le-mul_left fields few)
+
+-- no slot becomes Green, and each that is stays so: a marked one was not, and an unmarked one keeps its colour
+green_by : (m : ℕ) (old now : Colour) → (m ≡ 0 → now ≡ old) → (0 < m → (is_green old ≡ false) × (is_green now ≡ false)) → is_green now ≡ is_green old
+green_by zero old now unmarked marked = ap is_green (unmarked refl)
+green_by (suc m) old now unmarked marked = let b : (is_green old ≡ false) × (is_green now ≡ false) = marked (omega arith) in b.1 ∙ sym b.0
+
+gray_or_black : (c : Colour) → 0 < one (is_gray c) + one (is_white c) + one (is_black c) + one (is_orange c) → is_green c ≡ false
+gray_or_black c h = grind arith
+
+greens_collected : {o s : Deletion} {ls : Loads} → WhileCollecting o s ls → (x : ℕ) → is_green (s.colour x) ≡ is_green (o.colour x)
+greens_collected {o} {s} i x =
+    green_by (times x s.marked) (o.colour x) (s.colour x) (i.colours_old x)
+    (λ h. (i.no_green x h, gray_or_black (s.colour x) (omega (arith, h, i.parts x, i.worked x, i.oranges x))))
+
+pub greens_at : (p : Phase) (o s : Deletion) (ls : Loads) → inv_at p o s ls → (x : ℕ) → is_green (s.colour x) ≡ is_green (o.colour x)
+greens_at Idle o s ls i x = greens_collected i.end.now x
+greens_at Marking o s ls i x =
+    green_by (times x s.marked) (o.colour x) (s.colour x) (i.colours_old x) (λ h. (i.no_green x h, gray_or_black (s.colour x) (omega (arith, h, i.grays x))))
+greens_at Scanning o s ls i x =
+    green_by (times x s.marked) (o.colour x) (s.colour x) (i.colours_old x) (λ h. (i.no_green x h, gray_or_black (s.colour x) (omega (arith, h, i.parts x, i.worked x))))
+greens_at Collecting o s ls i x = greens_collected i x

@@ -5,7 +5,7 @@ use Rattle.rec_counts.specs.declared.colour.Colour.TheVariants.{Purple}
 use Rattle.rec_trial.specs.declared.phase.Phase.{Phase}
 use Rattle.rec_trial.specs.declared.phase.Phase.TheVariants.{Idle, Marking, Scanning, Collecting}
 use Rattle.rec_counts.specs.Lists.{one}
-use Rattle.rec_counts.specs.Colour.{is_black, is_gray, is_white, is_orange}
+use Rattle.rec_counts.specs.Colour.{is_green, is_black, is_gray, is_white, is_orange}
 use Rattle.rec_trial.proofs.Totals.{total, total_of_first, total_below, same, times}
 use Rattle.rec_trial.proofs.Deletion.{Seen, Deletion, Loads}
 
@@ -63,6 +63,7 @@ pub record BaseOf (o : Deletion) (fields : ℕ) (released : ℕ → Bool) (cycli
   pub kept : SameOf o fields count released
   pub once : (x : ℕ) → times x marked ≤ 1
   pub alive : (x : ℕ) → released x ≡ true → times x marked ≡ 0
+  pub no_green : (x : ℕ) → 0 < times x marked → is_green (o.colour x) ≡ false
   pub rest : (x : ℕ) → 0 < times x marked → cyclic x ≡ count x - named x marks
   pub fresh : (x : ℕ) → times x marked ≡ 0 → named x marks ≡ 0
 

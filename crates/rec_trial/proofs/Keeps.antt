@@ -3,9 +3,9 @@ use Rattle.std.proofs.Common.{◌≡◌, ℕ, ◌*◌, ◌<◌, ◌≤◌, Bool,
 use Rattle.std.specs.List.{filter}
 use Rattle.rec_counts.specs.Counts.{State, slot_at}
 use Rattle.rec_counts.specs.Lists.{times}
-use Rattle.rec_counts.specs.Colour.{is_gray, is_white}
+use Rattle.rec_counts.specs.Colour.{is_green, is_gray, is_white}
 use Rattle.rec_trial.specs.Loaded.{Run, IsAtWork, run_of}
-use Rattle.rec_trial.specs.Rules.{IsReady, LeadsToUnreleased, released_among}
+use Rattle.rec_trial.specs.Rules.{IsReady, LeadsToVisible, released_among}
 use Rattle.rec_trial.specs.Tried.{IsCareful, IsOver, members}
 use Rattle.rec_trial.specs.Trial.{Machine, Work, next_of, started_of, took_of}
 use Rattle.rec_trial.proofs.AtWork.{run_none, took_at_work, took_before}
@@ -21,10 +21,11 @@ pub record KeepsCounts (s t : State) : Type 0 where
   pub zeros : t.zeros ≡ s.zeros
   pub free : t.free ++ released_among s t.roots ≡ s.free ++ released_among s s.roots
   pub members : (x : ℕ) → 0 < times x (members t) → (slot_at s x).released ≡ false
+  pub green : (x : ℕ) → is_green (slot_at t x).colour ≡ is_green (slot_at s x).colour
 
 -- at every moment, since the trial began
 careful_keeps : {fields words : ℕ} {before : State} {r : Run} → IsCareful fields before words r → KeepsCounts before r.work.counts
-careful_keeps c = record { counts = c.counts; released = c.released; slots = c.slots; zeros = c.zeros; free = c.free; members = c.sets_unreleased }
+careful_keeps c = record { counts = c.counts; released = c.released; slots = c.slots; zeros = c.zeros; free = c.free; members = c.sets_unreleased; green = c.green }
 
 pub at_work_keeps : (m : Machine) (s : State) (a : IsAtWork m s) → KeepsCounts a.before s
 at_work_keeps m s a = subst (λ (w : Work). KeepsCounts a.before w.counts) (sym a.is) (careful_keeps (whole_careful m.fields a.before a.words a.wide a.ready a.named))
@@ -44,6 +45,7 @@ between {b} {s} {t} k l = record {
   zeros = l.zeros ∙ sym k.zeros;
   free = ap (λ xs. t.free ++ xs) (same_among b s k.released t.roots) ∙ l.free ∙ sym k.free ∙ ap (λ xs. s.free ++ xs) (sym (same_among b s k.released s.roots));
   members = λ x h. k.released x ∙ l.members x h;
+  green = λ x. l.green x ∙ sym (k.green x);
 }
 
 -- its start
@@ -51,7 +53,7 @@ pub started_keeps : (fields : ℕ) (s : State) → 0 < fields → IsReady s → 
 started_keeps fields s f r = subst (λ (w : Work). KeepsCounts s w.counts) (run_none fields s) (careful_keeps (whole_careful fields s [] f r tt))
 
 -- one word
-pub took_keeps : (m : Machine) (s : State) → IsAtWork m s → (word : ℕ) → LeadsToUnreleased s word → KeepsCounts s (took_of (record { machine = m; counts = s }) word).counts
+pub took_keeps : (m : Machine) (s : State) → IsAtWork m s → (word : ℕ) → LeadsToVisible s word → KeepsCounts s (took_of (record { machine = m; counts = s }) word).counts
 took_keeps m s a word lead =
     let w : Work = took_of (record { machine = m; counts = s }) word in
     let n : IsAtWork w.machine w.counts = took_at_work m s a word lead w.machine w.counts refl in

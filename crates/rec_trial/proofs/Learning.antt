@@ -4,7 +4,7 @@ use Rattle.std.proofs.lemmas.Bool.{false≢true}
 use Rattle.rec_word.specs.Word.{predecessor}
 use Rattle.rec_counts.specs.Counts.{State, slot_at}
 use Rattle.rec_counts.specs.Groups.{last_set}
-use Rattle.rec_counts.specs.Colour.{is_gray, is_white}
+use Rattle.rec_counts.specs.Colour.{is_gray, is_green, is_white}
 use Rattle.rec_counts.proofs.Keeping.{unreleased_within}
 use Rattle.rec_trial.specs.declared.phase.Phase.{Phase}
 use Rattle.rec_trial.specs.declared.phase.Phase.TheVariants.{Idle, Marking, Scanning, Collecting}
@@ -18,7 +18,7 @@ use Rattle.rec_trial.proofs.Views.{bits_suc}
 pub data Learnt (s : State) : Phase → ℕ → State → Type 0 where
   marks_none : Learnt s Marking 0 s
   takes_one : (x : ℕ) → x < length s.slots → is_gray (slot_at s x).colour ≡ true → Learnt s Marking (suc x) (one_off s x)
-  marks : (x : ℕ) → (slot_at s x).released ≡ false → is_gray (slot_at s x).colour ≡ false → Learnt s Marking (suc x) (one_off (touched_if false s x) x)
+  marks : (x : ℕ) → (slot_at s x).released ≡ false → is_green (slot_at s x).colour ≡ false → is_gray (slot_at s x).colour ≡ false → Learnt s Marking (suc x) (one_off (touched_if false s x) x)
   scans_none : {code : ℕ} → ((x : ℕ) → code ≡ suc x → is_gray (slot_at s x).colour ≡ false) → Learnt s Scanning code s
   blackens : (x : ℕ) → x < length s.slots → is_gray (slot_at s x).colour ≡ true → Learnt s Scanning (suc x) (blackened_if true s x)
   finds_none : {code : ℕ} → ((x : ℕ) → code ≡ suc x → is_white (slot_at s x).colour ≡ false) → Learnt s Collecting code s
@@ -32,23 +32,23 @@ pub busy_phase : (m : Machine) → m.phase ≡ Idle → IsSome (next_of m) → �
 unfolding next_of
 busy_phase m e b = false≢true (rw e at b)
 
-pub learnt_by : (s : State) (p : Phase) (done code : ℕ) → (p ≡ Idle → ⊥) → is_due_at p done s ≡ true → IfSome (predecessor code) (λ x. (slot_at s x).released ≡ false) → Learnt s p code (learnt_at p s (predecessor code))
+pub learnt_by : (s : State) (p : Phase) (done code : ℕ) → (p ≡ Idle → ⊥) → is_due_at p done s ≡ true → IfSome (predecessor code) (λ x. ((slot_at s x).released ≡ false) × (is_green (slot_at s x).colour ≡ false)) → Learnt s p code (learnt_at p s (predecessor code))
 learnt_by s Idle done code n d a = absurd (n refl)
 learnt_by s Marking done zero n d a = marks_none
-learnt_by s Marking done (suc x) n d a = let live : (slot_at s x).released ≡ false = rw (bits_suc x) at a in rw (bits_suc x) (go live (is_gray (slot_at s x).colour) refl)
+learnt_by s Marking done (suc x) n d a = let live : ((slot_at s x).released ≡ false) × (is_green (slot_at s x).colour ≡ false) = rw (bits_suc x) at a in rw (bits_suc x) (go live (is_gray (slot_at s x).colour) refl)
   where
-    go : (slot_at s x).released ≡ false → (b : Bool) → is_gray (slot_at s x).colour ≡ b → Learnt s Marking (suc x) (one_off (touched_if b s x) x)
-    go live true g = takes_one x (unreleased_within s x live) g
-    go live false g = marks x live g
+    go : ((slot_at s x).released ≡ false) × (is_green (slot_at s x).colour ≡ false) → (b : Bool) → is_gray (slot_at s x).colour ≡ b → Learnt s Marking (suc x) (one_off (touched_if b s x) x)
+    go live true g = takes_one x (unreleased_within s x live.0) g
+    go live false g = marks x live.0 live.1 g
 learnt_by s Scanning done zero n d a = scans_none (λ x q. absurd (omega arith))
-learnt_by s Scanning done (suc x) n d a = let live : (slot_at s x).released ≡ false = rw (bits_suc x) at a in rw (bits_suc x) (go live (is_gray (slot_at s x).colour) refl)
+learnt_by s Scanning done (suc x) n d a = let live : ((slot_at s x).released ≡ false) × (is_green (slot_at s x).colour ≡ false) = rw (bits_suc x) at a in rw (bits_suc x) (go live (is_gray (slot_at s x).colour) refl)
   where
-    go : (slot_at s x).released ≡ false → (b : Bool) → is_gray (slot_at s x).colour ≡ b → Learnt s Scanning (suc x) (blackened_if b s x)
-    go live true g = blackens x (unreleased_within s x live) g
+    go : ((slot_at s x).released ≡ false) × (is_green (slot_at s x).colour ≡ false) → (b : Bool) → is_gray (slot_at s x).colour ≡ b → Learnt s Scanning (suc x) (blackened_if b s x)
+    go live true g = blackens x (unreleased_within s x live.0) g
     go live false g = scans_none (λ y q. cc)
 learnt_by s Collecting done zero n d a = finds_none (λ x q. absurd (omega arith))
-learnt_by s Collecting done (suc x) n d a = let live : (slot_at s x).released ≡ false = rw (bits_suc x) at a in rw (bits_suc x) (go live (is_white (slot_at s x).colour) refl)
+learnt_by s Collecting done (suc x) n d a = let live : ((slot_at s x).released ≡ false) × (is_green (slot_at s x).colour ≡ false) = rw (bits_suc x) at a in rw (bits_suc x) (go live (is_white (slot_at s x).colour) refl)
   where
-    go : (slot_at s x).released ≡ false → (b : Bool) → is_white (slot_at s x).colour ≡ b → Learnt s Collecting (suc x) (joined_if b s x)
-    go live true g = joins x (unreleased_within s x live) (some_set s.sets (omega (arith, ltb_yes done (length (last_set s.sets)) d))) g
+    go : ((slot_at s x).released ≡ false) × (is_green (slot_at s x).colour ≡ false) → (b : Bool) → is_white (slot_at s x).colour ≡ b → Learnt s Collecting (suc x) (joined_if b s x)
+    go live true g = joins x (unreleased_within s x live.0) (some_set s.sets (omega (arith, ltb_yes done (length (last_set s.sets)) d))) g
     go live false g = finds_none (λ y q. cc)

@@ -11,6 +11,7 @@ pub mod Promised
 pub mod Totals
 pub mod Turns
 pub mod Views
+pub mod Visible
 pub mod Rest
 pub mod Course
 pub mod Runs

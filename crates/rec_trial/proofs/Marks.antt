@@ -3,7 +3,7 @@ use Rattle.std.proofs.Common.{◌≡◌, ℕ, suc, ◌+◌, ◌-◌, ◌<◌, Bo
 use Rattle.std.proofs.lemmas.Bool.Decides.{nat_tests}
 use Rattle.rec_counts.specs.declared.colour.Colour.{Colour}
 use Rattle.rec_counts.specs.declared.colour.Colour.TheVariants.{Black, Gray, Orange}
-use Rattle.rec_counts.specs.Colour.{is_gray, is_white}
+use Rattle.rec_counts.specs.Colour.{is_gray, is_green, is_white}
 use Rattle.rec_trial.proofs.Totals.{same, times, changed, total_append}
 use Rattle.rec_trial.proofs.Deletion.{Seen, Deletion}
 use Rattle.rec_trial.proofs.Holding.{BaseOf, GraysOf, SeedsOf, ScannedOf, CollectedOf, Hot, warm, edges, Seed, Reached, seed, along}
@@ -43,16 +43,18 @@ module _ {o : Deletion} {fields : ℕ} {released : ℕ → Bool} {cyclic count :
     kept = b.kept;
     once = b.once;
     alive = b.alive;
+    no_green = b.no_green;
     rest = λ y h. omega (arith, e y, b.rest y h);
     fresh = λ y h. omega (arith, none y h, b.fresh y h);
   }
 
   -- a node more is marked
-  pub base_push : (x : ℕ) → times x marked ≡ 0 → released x ≡ false → BaseOf o fields released (changed cyclic x (count x)) count (marked ++ x ∷ []) marks
-  base_push x new live = record {
+  pub base_push : (x : ℕ) → times x marked ≡ 0 → released x ≡ false → is_green (o.colour x) ≡ false → BaseOf o fields released (changed cyclic x (count x)) count (marked ++ x ∷ []) marks
+  base_push x new live green = record {
     kept = b.kept;
     once = λ y. grind (arith, nat_tests, times_push y x marked, b.once y, new);
     alive = λ y r. grind (arith, nat_tests, times_push y x marked, b.alive y);
+    no_green = push_kept (λ y. is_green (o.colour y) ≡ false) x marked green b.no_green;
     rest = λ y h. grind (arith, nat_tests, times_push y x marked, b.rest y, b.fresh x new);
     fresh = λ y h. grind (arith, nat_tests, times_push y x marked, b.fresh y);
   }

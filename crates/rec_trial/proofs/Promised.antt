@@ -1,18 +1,19 @@
 -- What a trial promises, from its beginning and from word to word.
 use Rattle.std.proofs.Common.{◌≡◌, ℕ, ◌<◌, List, [], ◌∷◌, ◌++◌, refl, sym, ap, subst, ◌∙◌}
 use Rattle.rec_word.specs.Word.{target_of}
+use Rattle.rec_counts.specs.Colour.{is_green}
 use Rattle.rec_counts.specs.Counts.{State, slot_at}
 use Rattle.rec_trial.specs.Loaded.{Run, noted, run_of}
 use Rattle.rec_trial.specs.Promised.{IsTrial, unloaded}
-use Rattle.rec_trial.specs.Rules.{IsReady, LeadsToUnreleased, AllLeadToUnreleased}
+use Rattle.rec_trial.specs.Rules.{IsReady, LeadsToVisible, AllLeadToVisible}
 use Rattle.rec_trial.specs.Trial.{Machine, Work, took_of, started_of}
 use Rattle.rec_trial.proofs.AtWork.{all_lead_more, run_more}
 use Rattle.rec_trial.proofs.Exactly.{whole_exact}
-use Rattle.rec_trial.proofs.Runs.{noted_work, still_unreleased}
+use Rattle.rec_trial.proofs.Runs.{noted_work, still_visible}
 use Rattle.rec_trial.proofs.Whole.{whole_careful, whole_ends, whole_over}
 use Rattle.rec_trial.proofs.Witnesses.{whole_witnessed}
 
-promised : (fields : ℕ) (before : State) (words : List ℕ) → 0 < fields → IsReady before → AllLeadToUnreleased before words → IsTrial fields before words (run_of fields before words)
+promised : (fields : ℕ) (before : State) (words : List ℕ) → 0 < fields → IsReady before → AllLeadToVisible before words → IsTrial fields before words (run_of fields before words)
 promised fields before words f k a = record {
   wide = f;
   ready = k;
@@ -33,9 +34,9 @@ pub begun_promised : (fields : ℕ) (before : State) (w : Work) → 0 < fields �
 begun_promised fields before w f k e =
     subst (λ (r : Run). IsTrial fields before [] r) (begun_run fields before ∙ ap unloaded (sym e)) (promised fields before [] f k tt)
 
-pub took_promised : (fields : ℕ) (before : State) (words : List ℕ) (r : Run) (m : Machine) (s : State) (word : ℕ) → LeadsToUnreleased s word → ◌≡◌ {A = Work} r.work (record { machine = m; counts = s }) → IsTrial fields before words r → IsTrial fields before (words ++ word ∷ []) (noted r word)
+pub took_promised : (fields : ℕ) (before : State) (words : List ℕ) (r : Run) (m : Machine) (s : State) (word : ℕ) → LeadsToVisible s word → ◌≡◌ {A = Work} r.work (record { machine = m; counts = s }) → IsTrial fields before words r → IsTrial fields before (words ++ word ∷ []) (noted r word)
 took_promised fields before words r m s word l e t =
-    let first : LeadsToUnreleased before word = still_unreleased before s (target_of word) (λ x. sym (t.careful.released x) ∙ ap (λ (w : Work). (slot_at w.counts x).released) e) l in
+    let first : LeadsToVisible before word = still_visible before s (target_of word) (λ x. sym (t.careful.released x) ∙ ap (λ (w : Work). (slot_at w.counts x).released) e) (λ x. sym (t.careful.green x) ∙ ap (λ (w : Work). is_green (slot_at w.counts x).colour) e) l in
     subst (λ (q : Run). IsTrial fields before (words ++ word ∷ []) q) (run_more fields before words word ∙ ap (λ (q : Run). noted q word) (sym t.is)) (promised fields before (words ++ word ∷ []) t.wide t.ready (all_lead_more before words word t.named first))
 
 -- the record goes with the machine

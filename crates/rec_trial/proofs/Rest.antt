@@ -54,7 +54,7 @@ rest_joined s x sets some few r = record {
 -- a word
 pub learnt_rest : {before s t : State} {p : Phase} {code : ℕ} → Learnt s p code t → Rest before p s → Rest before p t
 learnt_rest (takes_one x l g) r = rest_set r x _
-learnt_rest (marks x l g) r = rest_set (rest_set r x _) x _
+learnt_rest (marks x l green g) r = rest_set (rest_set r x _) x _
 learnt_rest (blackens x l g) r = rest_set r x _
 learnt_rest {s = s} (joins x l some g) r = rest_joined s x s.sets some (omega (arith, r.few)) r
 learnt_rest _ r = r

@@ -4,15 +4,16 @@ use Rattle.std.specs.List.{concat}
 use Rattle.std.proofs.lemmas.List.{get_or-append-add}
 use Rattle.std.proofs.lemmas.Bool.{false≢true}
 use Rattle.rec_word.specs.Word.{target_of, target_bits}
+use Rattle.rec_counts.specs.Colour.{is_green}
 use Rattle.rec_counts.specs.Counts.{State, slot_at}
 use Rattle.rec_counts.specs.Groups.{last_set, earlier_sets}
 use Rattle.rec_trial.specs.declared.phase.Phase.{Phase}
 use Rattle.rec_trial.specs.declared.phase.Phase.TheVariants.{Idle, Collecting}
 use Rattle.rec_walk.specs.Load.{Load}
 use Rattle.rec_trial.specs.Loaded.{Run, load_of, noted_at, noted, begun, run_of}
-use Rattle.rec_trial.specs.Rules.{IsReady, LeadsToUnreleased, AllLeadToUnreleased}
+use Rattle.rec_trial.specs.Rules.{IsReady, LeadsToVisible, AllLeadToVisible}
 use Rattle.rec_trial.specs.Trial.{Machine, Work, next_of, list_of, is_due, settled, pointed, took_at, took_of, opened_of, started_of}
-use Rattle.rec_trial.proofs.Course.{Course, at_phase, course_of, learnt, learnt_course, first_view, moved_course, released_same}
+use Rattle.rec_trial.proofs.Course.{Course, at_phase, course_of, learnt, learnt_course, first_view, moved_course, released_same, green_same}
 use Rattle.rec_trial.proofs.Deletion.{Seen, Loads, seen, queue_at, with_load}
 use Rattle.rec_trial.proofs.Moving.{settled_by, settled_is_due}
 use Rattle.rec_trial.proofs.Turns.{opening_kept}
@@ -74,7 +75,7 @@ noted_seen _ r word = refl
 pub noted_idle : (r : Run) (word : ℕ) → r.work.machine.phase ≡ Idle → noted r word ≡ r
 noted_idle r word e = ap (λ p. noted_at p r word) e
 
-module _ {fields : ℕ} {before : State} (r : Run) (t : Told fields before r) (word : ℕ) (a : LeadsToUnreleased r.work.counts word) where
+module _ {fields : ℕ} {before : State} (r : Run) (t : Told fields before r) (word : ℕ) (a : LeadsToVisible r.work.counts word) where
   told_busy : IsSome (next_of r.work.machine) → Told fields before (noted r word)
   told_busy b =
       let p : Phase = r.work.machine.phase in
@@ -109,15 +110,16 @@ begun_told fields before f k = record {
   node = refl;
 }
 
--- what leads to no released slot at first does so later
-pub still_unreleased : (s before : State) (t : Option ℕ) → ((x : ℕ) → (slot_at s x).released ≡ (slot_at before x).released) → IfSome t (λ x. (slot_at before x).released ≡ false) → IfSome t (λ x. (slot_at s x).released ≡ false)
-still_unreleased s before None h a = tt
-still_unreleased s before (Some x) h a = h x ∙ a
+-- what leads to no released slot and to no Green one at first does so later
+pub still_visible : (s before : State) (t : Option ℕ) → ((x : ℕ) → (slot_at s x).released ≡ (slot_at before x).released) → ((x : ℕ) → is_green (slot_at s x).colour ≡ is_green (slot_at before x).colour)
+    → IfSome t (λ x. ((slot_at before x).released ≡ false) × (is_green (slot_at before x).colour ≡ false)) → IfSome t (λ x. ((slot_at s x).released ≡ false) × (is_green (slot_at s x).colour ≡ false))
+still_visible s before None h g a = tt
+still_visible s before (Some x) h g a = (h x ∙ a.0, g x ∙ a.1)
 
-told_all : {fields : ℕ} {before : State} (words : List ℕ) (r : Run) → Told fields before r → AllLeadToUnreleased before words → Told fields before (fold noted r words)
+told_all : {fields : ℕ} {before : State} (words : List ℕ) (r : Run) → Told fields before r → AllLeadToVisible before words → Told fields before (fold noted r words)
 told_all [] r t a = t
-told_all {fields} {before} (word ∷ words) r t a = told_all words (noted r word) (told_next r t word (still_unreleased r.work.counts before (target_of word) (released_same r.work t.course) a.0)) a.1
+told_all {fields} {before} (word ∷ words) r t a = told_all words (noted r word) (told_next r t word (still_visible r.work.counts before (target_of word) (released_same r.work t.course) (green_same r.work t.course) a.0)) a.1
 
-pub told_run : (fields : ℕ) (before : State) (words : List ℕ) → 0 < fields → IsReady before → AllLeadToUnreleased before words → Told fields before (run_of fields before words)
+pub told_run : (fields : ℕ) (before : State) (words : List ℕ) → 0 < fields → IsReady before → AllLeadToVisible before words → Told fields before (run_of fields before words)
 unfolding run_of
 told_run fields before words f k a = told_all words (begun fields before) (begun_told fields before f k) a

@@ -1,12 +1,12 @@
 -- One word is learnt, or what a move between two loads does, as functions: what holds stays.
-use Rattle.std.proofs.Common.{◌≡◌, ℕ, suc, ◌+◌, ◌-◌, ◌<◌, ◌≤◌, true, false, ltb, List, [], ◌∷◌, length, get_or, refl, sym, inl, inr, ◌∙◌, arith, length-append}
+use Rattle.std.proofs.Common.{◌≡◌, ℕ, suc, ◌+◌, ◌-◌, ◌<◌, ◌≤◌, true, false, ltb, List, [], ◌∷◌, length, get_or, refl, sym, ap, inl, inr, ◌∙◌, arith, length-append}
 use Rattle.std.proofs.Math.ListN.{get_or-append}
 use Rattle.std.proofs.lemmas.Bool.{false≢true, cases_lt}
 use Rattle.std.proofs.lemmas.Bool.Decides.{nat_tests}
 use Rattle.rec_counts.specs.Lists.{one}
 use Rattle.rec_counts.specs.declared.colour.Colour.{Colour}
 use Rattle.rec_counts.specs.declared.colour.Colour.TheVariants.{Purple}
-use Rattle.rec_counts.specs.Colour.{is_gray, is_white}
+use Rattle.rec_counts.specs.Colour.{is_gray, is_green, is_white}
 use Rattle.rec_trial.specs.declared.phase.Phase.TheVariants.{Marking, Scanning, Collecting}
 use Rattle.rec_trial.proofs.Totals.{total_of_first, same, times, times_here, first_more, first_whole}
 use Rattle.rec_trial.proofs.Deletion.{Seen, Deletion, Loads, with_load, touch, take_one, blacken, join, advance, seen, whiten}
@@ -40,12 +40,12 @@ module _ (o s : Deletion) (ls : Loads) where
   mark_old m d x e = mark_loaded m d (suc x) (take_one s x).cyclic (λ y. grind (arith, nat_tests)) (λ y q. cc)
 
   -- a word that names a node which is not marked yet
-  pub mark_new : WhileMarking o s ls → s.at < length s.marked → (x : ℕ) → is_gray (s.colour x) ≡ false → s.released x ≡ false → WhileMarking o (advance (take_one (touch s x) x)) (with_load Marking (seen Marking s (suc x)) ls)
-  mark_new m d x e live =
+  pub mark_new : WhileMarking o s ls → s.at < length s.marked → (x : ℕ) → is_gray (s.colour x) ≡ false → s.released x ≡ false → is_green (s.colour x) ≡ false → WhileMarking o (advance (take_one (touch s x) x)) (with_load Marking (seen Marking s (suc x)) ls)
+  mark_new m d x e live green =
       let new : times x s.marked ≡ 0 = unmarked m.look x e in
       let l : Seen = seen Marking s (suc x) in
       record {
-        base = base_load (base_push m.base x new live) l (take_one (touch s x) x).cyclic (λ y. grind (arith, nat_tests)) (λ y h. grind (arith, nat_tests, times_push y x s.marked));
+        base = base_load (base_push m.base x new live (sym (ap is_green (m.colours_old x new)) ∙ green)) l (take_one (touch s x) x).cyclic (λ y. grind (arith, nat_tests)) (λ y h. grind (arith, nat_tests, times_push y x s.marked));
         look = grays_push m.look x new;
         queue = seeds_push m.queue x;
         reached = push_kept (Reached o (l ∷ ls.marks)) x s.marked (law.Reached.along (reached_grow l (m.reached l.node (times_here s.marked s.at d))) (edge_here l.node s.field x ls.marks)) (λ y h. reached_grow l (m.reached y h));
@@ -130,7 +130,7 @@ module _ (o s : Deletion) (ls : Loads) where
   seeded m x here e live =
       let new : times x s.marked ≡ 0 = unmarked m.look x (rw e refl) in
       record {
-        base = base_push m.base x new live;
+        base = base_push m.base x new live (ap is_green (sym (m.colours_old x new) ∙ e));
         look = grays_push m.look x new;
         queue = seeds_push m.queue x;
         reached = push_kept (Reached o ls.marks) x s.marked (law.Reached.seed (record { root = m.roots_old x here; is_purple = sym (m.colours_old x new) ∙ e; live = rw (← m.kept.released) live })) m.reached;
@@ -237,6 +237,7 @@ opening_kept s wide no_gray no_white m w j a f = record {
     kept = record { fields = refl; count = refl; released = refl };
     once = λ x. rw m (omega arith);
     alive = λ x h. rw m refl;
+    no_green = λ x h. absurd (let k : 0 < times x [] = rw m at h in omega arith);
     rest = λ x h. absurd (let k : 0 < times x [] = rw m at h in omega arith);
     fresh = λ x h. refl;
   };

@@ -17,7 +17,7 @@ use Rattle.rec_trial.specs.Tried.{IsCareful, IsOver, TrialIsCareful, TrialIsWhol
 use Rattle.rec_trial.specs.Trial.{Machine, next_of}
 use Rattle.rec_trial.proofs.AtWork.{told_place}
 use Rattle.rec_trial.proofs.Course.{first_view, released_same}
-use Rattle.rec_trial.proofs.Done.{Walked, once_of, within_of, all_of, no_white_left, walked_at, few_loads}
+use Rattle.rec_trial.proofs.Done.{greens_at, Walked, once_of, within_of, all_of, no_white_left, walked_at, few_loads}
 use Rattle.rec_trial.proofs.Holding.{Over, Placed, inv_at, named}
 use Rattle.rec_trial.proofs.Learning.{busy_phase}
 use Rattle.rec_trial.proofs.Readings.{loaded_read, naming_read, edges_read}
@@ -81,6 +81,7 @@ whole_careful fields before words f k a =
       released = released_same r.work t.course;
       slots = many;
       zeros = t.course.rest.zeros;
+      green = greens_at r.work.machine.phase (first_view fields before) (view r.work) (seen_in r) t.course.inv;
       free = t.course.rest.free;
       marking_once = λ x g. omega (arith, loaded_read x g r.marking, once_of w.marks.place x g (w.once x));
       blackening_once = λ x g. omega (arith, loaded_read x g r.blackening, once_of w.blacks.place x g (worked x));

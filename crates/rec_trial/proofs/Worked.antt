@@ -8,7 +8,7 @@ use Rattle.rec_counts.specs.declared.slot.Due.{Due}
 use Rattle.rec_counts.specs.declared.slot.Due.TheVariants.{Nothing}
 use Rattle.rec_counts.specs.Counts.{State, slot_at, with_slot, sent, decremented}
 use Rattle.rec_counts.specs.Lists.{times}
-use Rattle.rec_counts.specs.Slot.{absent, lessened, lessened_if, due_of}
+use Rattle.rec_counts.specs.Slot.{absent, lessened, lessened_if, due_of, stays}
 use Rattle.rec_counts.specs.Colour.{is_gray, is_white}
 use Rattle.rec_counts.proofs.Times.{times-nil}
 use Rattle.rec_trial.specs.Rules.{IsReady}
@@ -38,7 +38,7 @@ written_ready s x v e r g w = record {
 }
 
 pub lessened_colour : (v : Slot) (f : Slot → Bool) → f v ≡ false → f (lessened_if false true v) ≡ false → f (lessened_if false false v) ≡ false → f (lessened_if true true v) ≡ false → f (lessened_if true false v) ≡ false → f (lessened v) ≡ false
-lessened_colour v f h a b c d = go v.released (eqb v.count 1)
+lessened_colour v f h a b c d = go (stays v) (eqb v.count 1)
   where
     go : (r l : Bool) → f (lessened_if r l v) ≡ false
     go true true = c

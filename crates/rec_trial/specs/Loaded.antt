@@ -5,7 +5,7 @@ use Rattle.rec_counts.specs.Counts.{State, IsKept}
 use Rattle.rec_walk.specs.Load.{Load}
 use Rattle.rec_trial.specs.declared.phase.Phase.{Phase}
 use Rattle.rec_trial.specs.declared.phase.Phase.TheVariants.{Idle, Marking, Scanning, Collecting}
-use Rattle.rec_trial.specs.Rules.{IsReady, LeadsToUnreleased, AllLeadToUnreleased}
+use Rattle.rec_trial.specs.Rules.{IsReady, LeadsToVisible, AllLeadToVisible}
 use Rattle.rec_trial.specs.Trial.{Machine, Work, next_of, took_of, started_of, opened_of, advanced, learnt_at}
 
 -- a trial, with what marking loaded, what blackening loaded and what collecting loaded, the last load first
@@ -37,17 +37,17 @@ begun fields before = record { work = started_of fields before; marking = []; bl
 unfoldable pub run_of : (fields : ℕ) (before : State) (words : List ℕ) → Run
 run_of fields before words = fold noted (begun fields before) words
 
--- a trial came to this: it began on counts that were ready for it, and took in words that led to no released slot
+-- a trial came to this: it began on counts that were ready for it, and took in words that led to no released slot and to no Green one
 pub record IsAtWork (m : Machine) (s : State) : Type 0 where
   pub wide : 0 < m.fields
   pub before : State
   pub words : List ℕ
   pub kept : IsKept before
   pub ready : IsReady before
-  pub named : AllLeadToUnreleased before words
+  pub named : AllLeadToVisible before words
   pub is : ◌≡◌ {A = Work} (record { machine = m; counts = s }) (run_of m.fields before words).work
 
 -- a trial goes on without a load: it is about to begin, or has just learnt a word
 pub data GoesOn : Machine → State → Type 0 where
   begins : {fields : ℕ} {s : State} → 0 < fields → IsKept s → IsReady s → GoesOn (opened_of fields) s
-  learns : {m : Machine} {s : State} → IsAtWork m s → IsSome (next_of m) → (word : ℕ) → LeadsToUnreleased s word → GoesOn (advanced m) (learnt_at m.phase s (target_of word))
+  learns : {m : Machine} {s : State} → IsAtWork m s → IsSome (next_of m) → (word : ℕ) → LeadsToVisible s word → GoesOn (advanced m) (learnt_at m.phase s (target_of word))

@@ -2,7 +2,7 @@
 use Rattle.std.specs.Prelude.{◌≡◌, ℕ, ◌<◌, ◌*◌, List, [], length, IsNone}
 use Rattle.rec_counts.specs.Counts.{State}
 use Rattle.rec_trial.specs.Loaded.{Run, run_of}
-use Rattle.rec_trial.specs.Rules.{IsReady, AllLeadToUnreleased}
+use Rattle.rec_trial.specs.Rules.{IsReady, AllLeadToVisible}
 use Rattle.rec_trial.specs.Still.{AreStill, IsExact}
 use Rattle.rec_trial.specs.Tried.{IsCareful, IsOver}
 use Rattle.rec_trial.specs.Trial.{Work, next_of}
@@ -16,7 +16,7 @@ unloaded w = record { work = w; marking = []; blackening = []; collecting = [] }
 pub record IsTrial (fields : ℕ) (before : State) (words : List ℕ) (r : Run) : Type 0 where
   pub wide : 0 < fields
   pub ready : IsReady before
-  pub named : AllLeadToUnreleased before words
+  pub named : AllLeadToVisible before words
   pub is : r ≡ run_of fields before words
   -- at every moment, whatever words it is given
   pub careful : IsCareful fields before (length words) r

@@ -1,10 +1,10 @@
 -- Where a trial may begin, and what holds of the counts while one is at work.
-use Rattle.std.specs.Prelude.{◌≡◌, ℕ, ◌<◌, ◌≤◌, true, false, List, [], ◌∷◌, length, IfSome}
+use Rattle.std.specs.Prelude.{◌≡◌, ℕ, ◌<◌, ◌≤◌, true, false, if◌then◌else◌, Option, None, Some, List, [], ◌∷◌, length, IfSome}
 use Rattle.std.specs.List.{concat, filter}
 use Rattle.rec_word.specs.Word.{target_of}
 use Rattle.rec_counts.specs.Counts.{State, slot_at}
 use Rattle.rec_counts.specs.Lists.{one, times}
-use Rattle.rec_counts.specs.Colour.{is_black, is_gray, is_white, is_orange}
+use Rattle.rec_counts.specs.Colour.{is_black, is_gray, is_green, is_white, is_orange}
 use Rattle.rec_trial.specs.declared.phase.Phase.{Phase}
 use Rattle.rec_trial.specs.declared.phase.Phase.TheVariants.{Idle, Marking, Scanning, Collecting}
 
@@ -21,10 +21,22 @@ pub record IsReady (s : State) : Type 0 where
 abbrev pub LeadsToUnreleased : State → (word : ℕ) → Type 0
 LeadsToUnreleased s word = IfSome (target_of word) (λ x. (slot_at s x).released ≡ false)
 
+-- and that is not Green either
+abbrev pub LeadsToVisible : State → (word : ℕ) → Type 0
+LeadsToVisible s word = IfSome (target_of word) (λ x. ((slot_at s x).released ≡ false) × (is_green (slot_at s x).colour ≡ false))
+
+abbrev pub visible_if : Option ℕ → State → (word : ℕ) → ℕ
+visible_if None s word = word
+visible_if (Some x) s word = if is_green (slot_at s x).colour then 0 else word
+
+-- what a trial sees of a word: one that leads to a Green slot is null
+abbrev pub visible : State → (word : ℕ) → ℕ
+visible s word = visible_if (target_of word) s word
+
 -- so does each of the words
-abbrev pub AllLeadToUnreleased : State → (words : List ℕ) → Type 0
-AllLeadToUnreleased s [] = Unit {0}
-AllLeadToUnreleased s (word ∷ words) = LeadsToUnreleased s word × AllLeadToUnreleased s words
+abbrev pub AllLeadToVisible : State → (words : List ℕ) → Type 0
+AllLeadToVisible s [] = Unit {0}
+AllLeadToVisible s (word ∷ words) = LeadsToVisible s word × AllLeadToVisible s words
 
 -- while marking: just the Gray slots are marked, and no released root is in the free list
 pub record CanMark (s : State) : Type 0 where

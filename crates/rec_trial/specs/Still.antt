@@ -7,7 +7,7 @@ use Rattle.rec_counts.specs.Counts.{State, slot_at}
 use Rattle.rec_counts.specs.Lists.{times}
 use Rattle.rec_walk.specs.Load.{Load}
 use Rattle.rec_trial.specs.Loaded.{Run, run_of}
-use Rattle.rec_trial.specs.Rules.{IsReady, AllLeadToUnreleased}
+use Rattle.rec_trial.specs.Rules.{IsReady, AllLeadToVisible}
 use Rattle.rec_trial.specs.Tried.{IsOver, members}
 use Rattle.rec_trial.specs.Trial.{next_of}
 
@@ -48,8 +48,8 @@ pub record IsExact (fields : ℕ) (word : (slot field : ℕ) → ℕ) (before : 
   pub members_unheld : (x : ℕ) → 0 < times x (members r.work.counts) → IsHeld fields word marked before x → ⊥
   pub unheld_members : (x : ℕ) → 0 < times x marked → (IsHeld fields word marked before x → ⊥) → 0 < times x (members r.work.counts)
 
--- a trial on counts that are ready for it, which took in words that lead to no released slot and that do not change
+-- a trial on counts that are ready for it, which took in words that lead to no released slot and to no Green one, and that do not change
 abbrev pub TrialIsExact : (fields : ℕ) (word : (slot field : ℕ) → ℕ) (before : State) (words : List ℕ) → Type 0
 TrialIsExact fields word before words =
-    0 < fields → IsReady before → AllLeadToUnreleased before words → IsNone (next_of (run_of fields before words).work.machine) → AreStill word (run_of fields before words).marking → AreStill word (run_of fields before words).blackening →
+    0 < fields → IsReady before → AllLeadToVisible before words → IsNone (next_of (run_of fields before words).work.machine) → AreStill word (run_of fields before words).marking → AreStill word (run_of fields before words).blackening →
     (marked : List ℕ) × IsOver fields before (run_of fields before words) marked × IsExact fields word before (run_of fields before words) marked

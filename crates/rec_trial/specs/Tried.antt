@@ -3,10 +3,10 @@ use Rattle.std.specs.Prelude.{◌≡◌, ℕ, ◌+◌, ◌*◌, ◌<◌, ◌≤�
 use Rattle.std.specs.List.{concat}
 use Rattle.rec_counts.specs.Counts.{State, slot_at}
 use Rattle.rec_counts.specs.Lists.{one, times}
-use Rattle.rec_counts.specs.Colour.{is_black, is_gray, is_white, is_orange}
+use Rattle.rec_counts.specs.Colour.{is_green, is_black, is_gray, is_white, is_orange}
 use Rattle.rec_walk.specs.Load.{Load, leads_to}
 use Rattle.rec_trial.specs.Loaded.{Run, run_of}
-use Rattle.rec_trial.specs.Rules.{IsReady, AllLeadToUnreleased, released_among}
+use Rattle.rec_trial.specs.Rules.{IsReady, AllLeadToVisible, released_among}
 use Rattle.rec_trial.specs.Trial.{NamesPlace, next_of}
 
 -- the load is of this field of this slot
@@ -36,6 +36,8 @@ pub record IsCareful (fields : ℕ) (before : State) (words : ℕ) (r : Run) : T
   pub released : (x : ℕ) → (slot_at r.work.counts x).released ≡ (slot_at before x).released
   pub slots : length r.work.counts.slots ≡ length before.slots
   pub zeros : r.work.counts.zeros ≡ before.zeros
+  -- no slot becomes Green, and each that is stays so
+  pub green : (x : ℕ) → is_green (slot_at r.work.counts x).colour ≡ is_green (slot_at before x).colour
   -- a root that was released goes to the free list as it leaves the root buffer
   pub free : r.work.counts.free ++ released_among before r.work.counts.roots ≡ before.free ++ released_among before before.roots
   -- marking loads each field of each slot at most once, blackening does, and collecting does
@@ -83,13 +85,13 @@ pub record IsOver (fields : ℕ) (before : State) (r : Run) (marked : List ℕ) 
   pub no_marked : r.work.counts.marked ≡ []
   pub no_work : r.work.counts.work ≡ []
 
--- a trial on counts that are ready for it, which took in words that lead to no released slot
+-- a trial on counts that are ready for it, which took in words that lead to no released slot and to no Green one
 abbrev pub TrialIsCareful : (fields : ℕ) (before : State) (words : List ℕ) → Type 0
-TrialIsCareful fields before words = 0 < fields → IsReady before → AllLeadToUnreleased before words → IsCareful fields before (length words) (run_of fields before words)
+TrialIsCareful fields before words = 0 < fields → IsReady before → AllLeadToVisible before words → IsCareful fields before (length words) (run_of fields before words)
 
 abbrev pub TrialIsWhole : (fields : ℕ) (before : State) (words : List ℕ) → Type 0
-TrialIsWhole fields before words = 0 < fields → IsReady before → AllLeadToUnreleased before words → IsNone (next_of (run_of fields before words).work.machine) → (marked : List ℕ) × IsOver fields before (run_of fields before words) marked
+TrialIsWhole fields before words = 0 < fields → IsReady before → AllLeadToVisible before words → IsNone (next_of (run_of fields before words).work.machine) → (marked : List ℕ) × IsOver fields before (run_of fields before words) marked
 
 -- after that many words it is over
 abbrev pub TrialEnds : (fields : ℕ) (before : State) (words : List ℕ) → Type 0
-TrialEnds fields before words = 0 < fields → IsReady before → AllLeadToUnreleased before words → 3 * (length before.slots * fields) < length words → IsNone (next_of (run_of fields before words).work.machine)
+TrialEnds fields before words = 0 < fields → IsReady before → AllLeadToVisible before words → 3 * (length before.slots * fields) < length words → IsNone (next_of (run_of fields before words).work.machine)

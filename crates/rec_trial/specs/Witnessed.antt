@@ -6,7 +6,7 @@ use Rattle.rec_counts.specs.Counts.{State, slot_at}
 use Rattle.rec_counts.specs.Lists.{times}
 use Rattle.rec_walk.specs.Load.{Load}
 use Rattle.rec_trial.specs.Loaded.{Run, run_of}
-use Rattle.rec_trial.specs.Rules.{IsReady, AllLeadToUnreleased}
+use Rattle.rec_trial.specs.Rules.{IsReady, AllLeadToVisible}
 use Rattle.rec_trial.specs.Still.{references}
 use Rattle.rec_trial.specs.Tried.{is_of, loaded, members}
 use Rattle.rec_trial.specs.Trial.{next_of}
@@ -27,6 +27,6 @@ pub record IsWitnessed (fields : ℕ) (before : State) (r : Run) : Type 0 where
   -- where marking found that a field of a slot which is no member leads to a member, blackening found another word there
   pub replaced : (n g x : ℕ) → times n (members r.work.counts) ≡ 0 → 0 < times x (members r.work.counts) → target_of (word_at r.marking n g) ≡ Some x → (loaded n g r.blackening ≡ 1) × (target_of (word_at r.blackening n g) ≡ Some x → ⊥)
 
--- a trial on counts that are ready for it, which took in words that lead to no released slot
+-- a trial on counts that are ready for it, which took in words that lead to no released slot and to no Green one
 abbrev pub TrialIsWitnessed : (fields : ℕ) (before : State) (words : List ℕ) → Type 0
-TrialIsWitnessed fields before words = 0 < fields → IsReady before → AllLeadToUnreleased before words → IsNone (next_of (run_of fields before words).work.machine) → IsWitnessed fields before (run_of fields before words)
+TrialIsWitnessed fields before words = 0 < fields → IsReady before → AllLeadToVisible before words → IsNone (next_of (run_of fields before words).work.machine) → IsWitnessed fields before (run_of fields before words)

@@ -4,7 +4,7 @@ ghost use Rattle.rec_counts.specs.Counts.{State};
 ghost use Rattle.rec_trial.specs.Loaded.{GoesOn, IsAtWork, Run, noted};
 ghost use Rattle.rec_trial.specs.Promised.{IsTrial, unloaded};
 ghost use Rattle.rec_trial.specs.declared.phase.Phase.TheVariants.{Collecting, Scanning};
-ghost use Rattle.rec_trial.specs.Rules.{CanCollect, CanMark, CanScan, IsReady, LeadsToUnreleased, RulesAt};
+ghost use Rattle.rec_trial.specs.Rules.{CanCollect, CanMark, CanScan, IsReady, LeadsToUnreleased, RulesAt, visible};
 ghost use Rattle.rec_trial.specs.Trial.{NamesPlace, advanced, begun_at, collect_moved, idle_of, is_due, is_due_at, learnt_at, list_of, moved_at, next_of, pointed, roots_moved, scan_moved, settled, started_of, took_of};
 
 use crate::collecting::{begin, collect, last_members};
@@ -88,22 +88,23 @@ impl Trial {
         }
     }
 
-    /// Learns the word that the field holds.
+    /// Learns the word that the field holds. One that leads to a Green slot counts as null: a trial doesn't see leaves.
     pub fn took(&mut self, counts: &mut Counts, word: u64)
         requires busy { IsSome (next_of self.old) }
         requires kept { IsAtWork self.old counts.old }
         requires named { LeadsToUnreleased counts.old word }
 
-        ensures took { record { machine = self.new; counts = counts.new } ≡ took_of (record { machine = self.old; counts = counts.old }) word }
+        ensures took { record { machine = self.new; counts = counts.new } ≡ took_of (record { machine = self.old; counts = counts.old }) (visible counts.old word) }
         ensures kept { IsAtWork self.new counts.new }
         ensures place { NamesPlace (length counts.new.slots) self.new }
         ensures slots { length counts.new.slots ≡ length counts.old.slots }
 
         // The promises of the same trial go on, with one load more in its record.
-        ensures promised { (fields : ℕ) (before : State) (words : List ℕ) (r : Run) → r.work ≡ record { machine = self.old; counts = counts.old } → IsTrial fields before words r → IsTrial fields before (words ++ word ∷ []) (noted r word) }
-        ensures recorded { (r : Run) → r.work ≡ record { machine = self.old; counts = counts.old } → (noted r word).work ≡ record { machine = self.new; counts = counts.new } }
+        ensures promised { (fields : ℕ) (before : State) (words : List ℕ) (r : Run) → r.work ≡ record { machine = self.old; counts = counts.old } → IsTrial fields before words r → IsTrial fields before (words ++ visible counts.old word ∷ []) (noted r (visible counts.old word)) }
+        ensures recorded { (r : Run) → r.work ≡ record { machine = self.old; counts = counts.old } → (noted r (visible counts.old word)).work ≡ record { machine = self.new; counts = counts.new } }
     {
         counts.rules();
+        let word = see(counts, word);
         self.learn(counts, target(word));
         self.advance();
         self.settle(counts);
@@ -259,5 +260,16 @@ impl Trial {
         self.done = 0;
         self.slot = 0;
         self.field = 0;
+    }
+}
+
+// What a trial sees of a word.
+fn see(counts: &Counts, word: u64) -> u64
+    requires { LeadsToUnreleased counts.now word }
+    ensures { result ≡ visible counts.now word }
+{
+    match target(word) {
+        Some(slot) if counts.colour(slot).is_green() => 0,
+        _ => word,
     }
 }

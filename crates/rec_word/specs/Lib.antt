@@ -1,4 +1,5 @@
 pub mod Atom
+pub mod Header
 pub mod Mailbox
 pub mod Op
 pub mod Place

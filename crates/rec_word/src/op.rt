@@ -15,8 +15,8 @@ pub enum Op {
     LoadEpoch,
     /// Load the crossing word of a mutator.
     LoadCross(u8),
-    /// Compare a header with 0, and where it is 0 put the label plus one there.
-    ClaimHeader(u16, u32),
+    /// Compare a header with 0, and where it is 0 put this header there.
+    ClaimHeader(u16, u64),
     /// Load the freed word, which is odd exactly during a sweep.
     LoadFreed,
     /// Load a field of a slot that trial deletion looks at.
@@ -79,9 +79,9 @@ impl Op {
             | Op::LoadChild(_)
             | Op::LoadFreed => Atom::Load,
             Op::SwapField(_, word) => Atom::Exchange(word),
-            Op::ClaimHeader(_, label) => Atom::CompareExchange {
+            Op::ClaimHeader(_, header) => Atom::CompareExchange {
                 expected: 0,
-                new: u64::from(label) + 1,
+                new: header,
             },
             Op::ClearField(_) | Op::FreeHeader(_) => Atom::Exchange(0),
             Op::TakeBox(_, epoch) => Atom::Exchange(crossing(epoch, Mailbox::WithMutator)),
@@ -126,8 +126,8 @@ mod tests {
         assert_eq!(rt; Op::LoadField(3).written(8), 8);
         assert_eq!(rt; Op::SwapField(3, 9).written(8), 9);
         assert_eq!(rt; Op::LoadHeader(3).written(8), 8);
-        assert_eq!(rt; Op::ClaimHeader(3, 20).written(0), 21);
-        assert_eq!(rt; Op::ClaimHeader(3, 20).written(8), 8);
+        assert_eq!(rt; Op::ClaimHeader(3, 21).written(0), 21);
+        assert_eq!(rt; Op::ClaimHeader(3, 21).written(8), 8);
         assert_eq!(rt; Op::LoadFreed.written(8), 8);
         assert_eq!(rt; Op::LoadChild(3).written(8), 8);
         assert_eq!(rt; Op::ClearField(3).written(8), 0);

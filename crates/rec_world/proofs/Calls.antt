@@ -150,7 +150,7 @@ made_small w kept =
 
 -- an operation makes one birth at most
 pub births_few : (op : Op) (found : ℕ) → births_of op found ≤ 1
-births_few (ops.ClaimHeader slot label) found = go (found == 0)
+births_few (ops.ClaimHeader slot header) found = go (found == 0)
   where
     go : (b : Bool) → (if b then 1 else 0) ≤ 1
     go true = omega arith

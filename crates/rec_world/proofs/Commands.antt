@@ -2,7 +2,7 @@
 use Rattle.std.proofs.Common.{◌≡◌, ◌≢◌, ◌↔◌, ℕ, ◌+◌, ◌%◌, ◌<◌, ◌≤◌, ◌&&◌, if◌then◌else◌, Bool, Option, None, Some, IfSome, true, false, List, length, slice_index_or, refl, sym, ap, subst, ◌∙◌, arith}
 use Rattle.std.proofs.lemmas.Bool.{false≢true}
 use Rattle.rec_word.specs.Word.{stamp_of}
-use Rattle.rec_model.specs.Asking.{is_done, refuses_new}
+use Rattle.rec_model.specs.Asking.{is_done, refuses_new, allocation}
 use Rattle.rec_model.specs.Explained.{IsExplained}
 use Rattle.rec_model.specs.LegalOrder.{is_new, is_birth, word_left}
 use Rattle.rec_model.specs.Sight.{Sight, IsTaken}
@@ -20,7 +20,7 @@ use Rattle.rec_mutator.specs.Took.{step_of}
 use Rattle.rec_mutator.specs.declared.made.Made.{Made}
 use Rattle.rec_mutator.specs.declared.made.Made.TheVariants as makes
 use Rattle.rec_mutator.specs.declared.phase.Phase.{Phase}
-use Rattle.rec_mutator.specs.declared.phase.Phase.TheVariants.{Idle, Begun, Scanning, Scanned, Crossing, Swapping, Giving, Finished}
+use Rattle.rec_mutator.specs.declared.phase.Phase.TheVariants.{Idle, Begun, Scanning, Scanned, Storing, Crossing, Swapping, Giving, Finished}
 use Rattle.rec_mutator.specs.declared.work.Work.{Work}
 use Rattle.rec_mutator.specs.declared.work.Work.TheVariants as works
 use Rattle.rec_mutator.proofs.Polls.{poll_has_cause}
@@ -50,9 +50,9 @@ record Answering (w : Core) (t : ℕ) (cmd : Cmd) (told : Told) (v : Core) : Typ
   pub refused : is_refusal told.answer ≡ true → OnlyWorks w v t
 
 -- the last step of an allocation's scan finds the freed word
-scanned_finds : (w : Core) (t reg label before : ℕ) → (mutator w t).phase ≡ Scanned reg label before → found_by w t ≡ w.freed
+scanned_finds : (w : Core) (t reg label : ℕ) (leaf : Bool) (before : ℕ) → (mutator w t).phase ≡ Scanned reg label leaf before → found_by w t ≡ w.freed
 unfolding next_of next_at
-scanned_finds w t reg label before is = ap (cell (cells_of w)) (ap (next_at (mutator w t)) is)
+scanned_finds w t reg label leaf before is = ap (cell (cells_of w)) (ap (next_at (mutator w t)) is)
 
 -- where every probe failed, the freed word found before is the one found now
 record FoundFilled (w : Core) (t : ℕ) (cmd : Cmd) (before : ℕ) : Type 0 where
@@ -60,22 +60,28 @@ record FoundFilled (w : Core) (t : ℕ) (cmd : Cmd) (before : ℕ) : Type 0 wher
   pub first : before ≡ w.freed
   pub last : found_by w t ≡ w.freed
 
+-- an allocation is new
+allocates : (reg label : ℕ) (leaf : Bool) → is_new (allocation leaf reg label) ≡ true
+allocates reg label true = refl
+allocates reg label false = refl
+
 found_filled : {w : Core} {t : ℕ} {cmd : Cmd} {told : Told} {v : Core} (before : ℕ) → Answering w t cmd told v → FoundNone (mutator w t) before → FoundFilled w t cmd before
 found_filled {w = w} {t = t} {cmd = cmd} before a none = go (mutator w t).phase refl (actor_of w t a.kept a.is).own.machine.now a.work a.found none.scanned
   where
     go : (phase : Phase) → (mutator w t).phase ≡ phase → IsAt (mutator w t) phase → work_at phase ≡ Some (works.Command cmd) → HasFound w phase → FoundNoneAt phase before → FoundFilled w t cmd before
     go Idle its at work found none = absurd none
     go (Begun begun) its at work found none = absurd none
-    go (Scanning reg label first slot) its at work found none = absurd none
-    go (Scanned reg label first) its at work found none =
+    go (Scanning reg label leaf first slot) its at work found none = absurd none
+    go (Scanned reg label leaf first) its at work found none =
         let p : Private = mutator w t in
         let room : length p.log.entries < p.log.capacity = at.0.room in
         let capacity : p.log.capacity ≡ w.config.log_entries = (actor_of w t a.kept a.is).own.capacity in
         record {
-          none = record { new = ap is_new (sym (same_command (commands.New reg label) cmd work)); room = omega arith; filled = found.1 };
+          none = record { new = ap is_new (sym (same_command (allocation leaf reg label) cmd work)) ∙ allocates reg label leaf; room = omega arith; filled = found.1 };
           first = sym none ∙ found.0;
-          last = scanned_finds w t reg label first its;
+          last = scanned_finds w t reg label leaf first its;
         }
+    go (Storing src f val slot) its at work found none = absurd none
     go Crossing its at work found none = absurd none
     go Swapping its at work found none = absurd none
     go Giving its at work found none = absurd none
@@ -97,6 +103,7 @@ answer_of_new _ may = absurd (false≢true may)
 
 new_answered : (cmd : Cmd) (answer : Answer) → is_new cmd ≡ true → may_answer cmd answer ≡ true → IsOfNew answer
 new_answered (commands.New reg label) answer new may = answer_of_new answer may
+new_answered (commands.Leaf reg label) answer new may = answer_of_new answer may
 new_answered _ answer new may = absurd (false≢true new)
 
 -- where every slot is taken, no object is born
@@ -161,6 +168,7 @@ must_be_busy {w = w} {cmd = cmd} {told = told} before after a (busy, first, last
 -- what only the registers and the log tell
 lacks_same : (p : Private) (phase : Phase) (steps : ℕ) (cmd : Cmd) → LacksObject (record p { phase = phase; steps = steps }) cmd ↔ LacksObject p cmd
 lacks_same p phase steps (commands.New reg label) = (λ x. x, λ x. x)
+lacks_same p phase steps (commands.Leaf reg label) = (λ x. x, λ x. x)
 lacks_same p phase steps (commands.Null reg) = (λ x. x, λ x. x)
 lacks_same p phase steps (commands.Copy dst src) = (λ x. x, λ x. x)
 lacks_same p phase steps (commands.Get dst src f) = (λ x. x, λ x. x)
@@ -170,6 +178,7 @@ lacks_same p phase steps (commands.Same a b) = (λ x. x, λ x. x)
 
 enters_same : (p : Private) (phase : Phase) (steps : ℕ) (cmd : Cmd) → MakesEntry (record p { phase = phase; steps = steps }) cmd ↔ MakesEntry p cmd
 enters_same p phase steps (commands.New reg label) = (λ x. x, λ x. x)
+enters_same p phase steps (commands.Leaf reg label) = (λ x. x, λ x. x)
 enters_same p phase steps (commands.Null reg) = (λ x. x, λ x. x)
 enters_same p phase steps (commands.Copy dst src) = (λ x. x, λ x. x)
 enters_same p phase steps (commands.Get dst src f) = (λ x. x, λ x. x)
@@ -216,7 +225,7 @@ busy_along w v t cmd entries config headers freed is = record { none = finds_alo
 
 -- each slot below the one that a scan has come to is taken
 probed_lower : (w : Core) (phase : Phase) (slot : ℕ) → HasFound w phase → probed_at phase ≡ Some slot → (s : ℕ) → s < slot → IsTaken (sight w) s
-probed_lower w (Scanning reg label before at) slot found is s below =
+probed_lower w (Scanning reg label leaf before at) slot found is s below =
     let same : ◌≡◌ {A = Option ℕ} (Some at) (Some slot) = is in
     let here : at ≡ slot = cc in
     found.1 s (omega arith)

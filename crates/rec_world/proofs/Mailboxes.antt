@@ -34,8 +34,9 @@ left_log p b is = go p.phase is
     go : (phase : phases.Phase) → IsSwapping phase → left_at p b phase ≡ p.log
     go at.Idle is = absurd is
     go (at.Begun work) is = absurd is
-    go (at.Scanning reg label before slot) is = absurd is
-    go (at.Scanned reg label before) is = absurd is
+    go (at.Scanning reg label leaf before slot) is = absurd is
+    go (at.Scanned reg label leaf before) is = absurd is
+    go (at.Storing src f val slot) is = absurd is
     go at.Crossing is = absurd is
     go at.Swapping is = refl
     go at.Giving is = absurd is

@@ -10,7 +10,7 @@ use Rattle.rec_mutator.specs.Next.{next_of}
 use Rattle.rec_mutator.specs.Private.{Private, is_busy, work_of, answer_of}
 use Rattle.rec_mutator.specs.Took.{took_of, step_of, swapped_of, left_of, skipped_to, skipped_at, IsAhead}
 use Rattle.rec_mutator.specs.declared.phase.Phase.{Phase}
-use Rattle.rec_mutator.specs.declared.phase.Phase.TheVariants.{Idle, Begun, Scanning, Scanned, Crossing, Swapping, Giving, Finished}
+use Rattle.rec_mutator.specs.declared.phase.Phase.TheVariants.{Idle, Begun, Scanning, Scanned, Storing, Crossing, Swapping, Giving, Finished}
 use Rattle.rec_mutator.proofs.Skips.{skipped_next, skipped_none, skipped_further, skipped_alone, skipped_busy}
 use Rattle.rec_mutator.proofs.Refusals.{at_phase}
 use Rattle.rec_mutator.proofs.Polls.{busy_none}
@@ -28,26 +28,27 @@ use Rattle.rec_core.proofs.Steps.{actor_of}
 use Rattle.rec_core.proofs.Unfinished.{work_stays, steps_counted, waited, mutator_there}
 use Rattle.rec_world.specs.World.{IsShaped, IsWorld}
 use Rattle.rec_world.proofs.Calls.{world_kept, moved_world, mutator_read}
+use Rattle.rec_word.specs.Header.{header_word}
 
 -- the mutator's scan comes to this slot
 abbrev pub skipping : Core → (t slot : ℕ) → Core
 skipping w t slot = with_mutator w t (skipped_to (mutator w t) slot)
 
 -- a claim of a taken slot changes the mutator alone
-claim_fails : (w : Core) (t slot label : ℕ) (q r : Private) → slice_index_or w.headers slot 0 ≢ 0
-    → performed (with_mutator w t q) t (ops.ClaimHeader slot label) (slice_index_or w.headers slot 0) r (box w t) ≡ with_mutator w t r
-claim_fails w t slot label q r taken =
+claim_fails : (w : Core) (t slot claimed : ℕ) (q r : Private) → slice_index_or w.headers slot 0 ≢ 0
+    → performed (with_mutator w t q) t (ops.ClaimHeader slot claimed) (slice_index_or w.headers slot 0) r (box w t) ≡ with_mutator w t r
+claim_fails w t slot claimed q r taken =
     let header : ℕ = slice_index_or w.headers slot 0 in
     let make : List ℕ → List Private → List Contents → ℕ → Core = λ hs ms bs n. record w { headers = hs; mutators = ms; boxes = bs; made = n } in
     let mutators : List Private = slice_set (slice_set w.mutators (t - 1) q) (t - 1) r in
     let boxes : List Contents = slice_set w.boxes (t - 1) (box w t) in
-    ap (λ (b : Bool). make (slice_set w.headers slot (if b then label + 1 else header)) mutators boxes (w.made + (if b then 1 else 0))) (ne_eqb header 0 taken)
+    ap (λ (b : Bool). make (slice_set w.headers slot (if b then claimed else header)) mutators boxes (w.made + (if b then 1 else 0))) (ne_eqb header 0 taken)
     ∙ ap (λ hs. make hs mutators boxes (w.made + 0)) (set-get_or w.headers slot 0)
     ∙ ap (λ ms. make w.headers ms boxes (w.made + 0)) (set-set w.mutators (t - 1) q r)
     ∙ ap (λ bs. make w.headers (slice_set w.mutators (t - 1) r) bs (w.made + 0)) (set-get_or w.boxes (t - 1) _)
     ∙ ap (make w.headers (slice_set w.mutators (t - 1) r) w.boxes) (omega arith)
 
-module _ (w : Core) (t : ℕ) (kept : IsKept w) (is : IsMutator w.config t) (reg label before at : ℕ) (scans : (mutator w t).phase ≡ Scanning reg label before at) where
+module _ (w : Core) (t : ℕ) (kept : IsKept w) (is : IsMutator w.config t) (reg label : ℕ) (leaf : Bool) (before at : ℕ) (scans : (mutator w t).phase ≡ Scanning reg label leaf before at) where
   many : (mutator w t).slots ≡ w.config.slots
   many = (actor_of w t kept is).own.slots
 
@@ -59,14 +60,14 @@ module _ (w : Core) (t : ℕ) (kept : IsKept w) (is : IsMutator w.config t) (reg
       let q : Private = skipped_to (mutator w t) slot in
       let r : Private = skipped_to (mutator w t) (slot + 1) in
       let header : ℕ = slice_index_or w.headers slot 0 in
-      let claim : Op = ops.ClaimHeader slot label in
+      let claim : Op = ops.ClaimHeader slot (header_word leaf label) in
       let within : slot < (mutator w t).slots = omega (arith, many, there) in
       let make : Op → ℕ → Private → Core = λ op found m. performed v t op found (step_of m found (box w t)) (left_of (took_of m found) (box w t)) in
       let left : mutator v t ≡ q = mutator_left w t q kept is in
-      let names : next_of (mutator v t) ≡ claim = ap next_of left ∙ skipped_next (mutator w t) reg label before at scans slot within in
+      let names : next_of (mutator v t) ≡ claim = ap next_of left ∙ skipped_next (mutator w t) reg label leaf before at scans slot within in
       let finds : found_by v t ≡ header = ap (cell (cells_of v)) names in
-      let further : took_of q header ≡ r = skipped_further (mutator w t) reg label before at scans slot header ahead within (λ e. omega (arith, e, taken)) in
-      let alone = skipped_alone (mutator w t) reg label before at scans (slot + 1) (box w t) in
+      let further : took_of q header ≡ r = skipped_further (mutator w t) reg label leaf before at scans slot header ahead within (λ e. omega (arith, e, taken)) in
+      let alone = skipped_alone (mutator w t) reg label leaf before at scans (slot + 1) (box w t) in
       sym (
       ap (make (next_of (mutator v t)) (found_by v t)) left
       ∙ ap (λ op. make op (found_by v t) q) names
@@ -74,7 +75,7 @@ module _ (w : Core) (t : ℕ) (kept : IsKept w) (is : IsMutator w.config t) (reg
       ∙ ap (λ m. performed v t claim header (swapped_of m (box w t)) (left_of m (box w t))) further
       ∙ ap (λ m. performed v t claim header m (left_of r (box w t))) alone.0
       ∙ ap (performed v t claim header r) alone.1
-      ∙ claim_fails w t slot label q r (λ e. omega (arith, e, taken))
+      ∙ claim_fails w t slot (header_word leaf label) q r (λ e. omega (arith, e, taken))
       )
 
   -- so many slots more
@@ -82,13 +83,13 @@ module _ (w : Core) (t : ℕ) (kept : IsKept w) (is : IsMutator w.config t) (reg
   many_more zero there few taken =
       let none : at + 0 ≡ at = omega arith in
       StepsTo.here (skipping w t (at + 0)) (
-      ap (skipping w t) none ∙ ap (with_mutator w t) (skipped_none (mutator w t) reg label before at scans (omega (arith, many, there)))
+      ap (skipping w t) none ∙ ap (with_mutator w t) (skipped_none (mutator w t) reg label leaf before at scans (omega (arith, many, there)))
       ∙ ap (λ ms. let x : Core = record w { mutators = ms } in x) (set-get_or w.mutators (t - 1) nobody)
       )
   many_more (suc n) there few taken =
       let more : at + suc n ≡ at + n + 1 = omega arith in
       StepsTo.further (skipping w t (at + n)) (skipping w t (at + suc n)) (many_more n there (omega (arith, few)) (λ s below. taken s (omega (arith, below))))
-      (ap is_busy (mutator_left w t (skipped_to (mutator w t) (at + n)) kept is) ∙ skipped_busy (mutator w t) reg label before at scans (at + n))
+      (ap is_busy (mutator_left w t (skipped_to (mutator w t) (at + n)) kept is) ∙ skipped_busy (mutator w t) reg label leaf before at scans (at + n))
       (ap (skipping w t) more ∙ one_more (at + n) (omega arith) (omega (arith, few)) (taken (at + n) (omega arith)))
 
 -- what skips nothing stays
@@ -98,15 +99,16 @@ stays w t slot same = StepsTo.here (skipping w t slot) (ap (with_mutator w t) sa
 skip_path_at : (w : Core) (t slot : ℕ) (phase : Phase) → IsKept w → IsMutator w.config t → (mutator w t).phase ≡ phase → IsAhead phase slot → slot ≤ w.config.slots
     → ((s : ℕ) → s < slot → IsTaken (sight w) s) → StepsTo w t (skipping w t slot)
 unfolding skipped_to skipped_at
-skip_path_at w t slot (Scanning reg label before at) kept is scans ahead few taken =
+skip_path_at w t slot (Scanning reg label leaf before at) kept is scans ahead few taken =
     let own = (actor_of w t kept is).own in
-    let there : at < (mutator w t).slots = (at_phase (mutator w t) (Scanning reg label before at) own.machine scans).1 in
+    let there : at < (mutator w t).slots = (at_phase (mutator w t) (Scanning reg label leaf before at) own.machine scans).1 in
     let ends : at + (slot - at) ≡ slot = omega (arith, ahead) in
     subst (λ n. StepsTo w t (skipping w t n)) ends
-    (many_more w t kept is reg label before at scans (slot - at) (omega (arith, own.slots, there)) (omega (arith, ends, few)) (λ s below. taken s (omega (arith, ends, below))))
+    (many_more w t kept is reg label leaf before at scans (slot - at) (omega (arith, own.slots, there)) (omega (arith, ends, few)) (λ s below. taken s (omega (arith, ends, below))))
 skip_path_at w t slot Idle kept is phase ahead few taken = stays w t slot (ap (skipped_at (mutator w t) slot) phase)
 skip_path_at w t slot (Begun work) kept is phase ahead few taken = stays w t slot (ap (skipped_at (mutator w t) slot) phase)
-skip_path_at w t slot (Scanned reg label before) kept is phase ahead few taken = stays w t slot (ap (skipped_at (mutator w t) slot) phase)
+skip_path_at w t slot (Scanned reg label leaf before) kept is phase ahead few taken = stays w t slot (ap (skipped_at (mutator w t) slot) phase)
+skip_path_at w t slot (Storing src f val at) kept is phase ahead few taken = stays w t slot (ap (skipped_at (mutator w t) slot) phase)
 skip_path_at w t slot Crossing kept is phase ahead few taken = stays w t slot (ap (skipped_at (mutator w t) slot) phase)
 skip_path_at w t slot Swapping kept is phase ahead few taken = stays w t slot (ap (skipped_at (mutator w t) slot) phase)
 skip_path_at w t slot Giving kept is phase ahead few taken = stays w t slot (ap (skipped_at (mutator w t) slot) phase)
@@ -123,16 +125,17 @@ free_ahead : (w : Core) (t slot : ℕ) → IsKept w → IsMutator w.config t →
 free_ahead w t slot kept is found few free = go (mutator w t).phase refl found
   where
     go : (phase : Phase) → (mutator w t).phase ≡ phase → HasFound w phase → IsAhead phase slot
-    go (Scanning reg label before at) scans its_found =
+    go (Scanning reg label leaf before at) scans its_found =
         let own = (actor_of w t kept is).own in
-        let there : at < (mutator w t).slots = (at_phase (mutator w t) (Scanning reg label before at) own.machine scans).1 in
+        let there : at < (mutator w t).slots = (at_phase (mutator w t) (Scanning reg label leaf before at) own.machine scans).1 in
         elim (cases_lt slot at) [
           | inl behind ↦ absurd (omega (arith, its_found.1 slot behind, free (omega (arith, behind, there, own.slots))))
           | inr ahead ↦ ahead
         ]
     go Idle phase its_found = tt
     go (Begun work) phase its_found = tt
-    go (Scanned reg label before) phase its_found = tt
+    go (Scanned reg label leaf before) phase its_found = tt
+    go (Storing src f val at) phase its_found = tt
     go Crossing phase its_found = tt
     go Swapping phase its_found = tt
     go Giving phase its_found = tt

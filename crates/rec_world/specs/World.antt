@@ -1,8 +1,8 @@
 -- What every world is, and what a command, a poll and a turn leave of it.
-use Rattle.std.specs.Prelude.{◌≡◌, ◌≢◌, ℕ, ◌+◌, ◌%◌, ◌^◌, ◌<◌, ◌≤◌, true, Option, None, Some, All, length, slice_index_or}
+use Rattle.std.specs.Prelude.{◌≡◌, ◌≢◌, ◌==◌, ℕ, ◌+◌, ◌%◌, ◌^◌, ◌<◌, ◌≤◌, if◌then◌else◌, true, Option, None, Some, All, length, slice_index_or}
 use Rattle.rec_word.specs.Mailbox.{crossing_word}
 use Rattle.rec_word.specs.declared.mailbox.Mailbox.TheVariants.{Retired}
-use Rattle.rec_word.specs.Word.{predecessor}
+use Rattle.rec_word.specs.Header.{label_of as label_in}
 use Rattle.rec_word.specs.declared.op.Op.{Op}
 use Rattle.rec_model.specs.declared.command.Cmd.{Cmd}
 use Rattle.rec_model.specs.LegalOrder.{is_new}
@@ -23,6 +23,7 @@ pub use Rattle.rec_core.specs.Shown.{entries_of}
 use Rattle.rec_core.specs.Swept.{swept}
 pub use Rattle.rec_core.specs.Unfinished.{OnlyWorks, IsQuiet, HasFound, Waits}
 use Rattle.rec_core.specs.Worked.{StepsTo}
+use Rattle.rec_core.specs.Kept.{IsHeader}
 
 -- what every world keeps of its words and registers
 pub record IsShaped (w : Core) : Type 0 where
@@ -31,7 +32,7 @@ pub record IsShaped (w : Core) : Type 0 where
   pub mutators : length w.mutators ≡ w.config.mutators
   pub registers : (t : ℕ) → IsMutator w.config t → length (mutator w t).registers ≡ w.config.registers
   pub slots : length w.collector.counts.slots ≡ w.config.slots
-  pub labels : All (λ header. header ≤ 2 ^ 32) w.headers
+  pub labels : All IsHeader w.headers
   pub epoch : w.epoch < 2 ^ 24
   pub sound : IsSound (sight w)
 
@@ -42,7 +43,7 @@ pub record IsWorld (w : Core) : Type 0 where
 
 -- the label in a header: none where the slot is free
 abbrev pub label_of : ℕ → Option ℕ
-label_of header = predecessor header
+label_of header = if header == 0 then None else Some (label_in header)
 
 -- the command needs a log entry, and there is none left
 abbrev pub IsLogFull : Core → ℕ → Cmd → Type 0

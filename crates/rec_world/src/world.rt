@@ -42,7 +42,7 @@ use rec_collector::{Machine as Collector, Sets, Turn};
 use rec_log::Buffer;
 use rec_model::{Cmd, Told};
 use rec_mutator::{Machine, Made, Work};
-use rec_word::Op;
+use rec_word::{Op, label};
 use std::alloc::{AllocError as NoMemory, Global};
 use std::marker::Model;
 
@@ -379,7 +379,7 @@ impl World {
         if header == 0 {
             None
         } else {
-            Some((header - 1) as u32)
+            Some(label(header))
         }
     }
 
@@ -706,7 +706,7 @@ fn open_machine(alloc: Global, config: &Config, number: u8) -> Result<Machine, N
 fn see_label(work: Work)
     ensures { HasLabel work }
 {
-    if let Work::Command(Cmd::New { label, .. }) = work {
+    if let Work::Command(Cmd::New { label, .. } | Cmd::Leaf { label, .. }) = work {
         prove!(label <= u32::MAX);
     }
 }

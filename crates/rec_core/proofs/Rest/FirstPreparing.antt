@@ -20,6 +20,7 @@ use Rattle.rec_core.proofs.Rest.FirstTrial.{words_landed}
 use Rattle.rec_core.proofs.Rest.SettlingPrepared.{loads_more}
 use Rattle.rec_core.proofs.Rest.SettlingTests.{unheld_prepared}
 use Rattle.rec_core.proofs.Turns.{now_at}
+use Rattle.rec_counts.specs.Colour.{is_green}
 
 -- A field was loaded for the preparation, and the word that stands there was found.
 pub prep_rests_more : (w : Core) (m : Machine) (a : loads.At) → IsKept w → w.collector.phase ≡ Preparing m → m.at ≡ Some a → PrepRests w w.words (record { machine = m; counts = w.collector.counts })
@@ -54,6 +55,6 @@ sets_rest_begun {w} {crossing} {words} v m l h done =
     let long : length words ≡ length h.before.slots * fields = words_landed l ∙ ap (λ n. n * fields) all.others.many in
     record {
       unheld = unheld_prepared fields words h.before v.counts h.loads l.kept.config.some_fields h.before_kept long h.are_loads all h.counted h.back;
-      found = λ x e none. h.found x (sym (ap (λ (c : Slot). c.released) (all.others.slots x)) ∙ e) (sym (ap (λ (c : Slot). c.set) (all.others.slots x)) ∙ none);
+      found = λ x e other none. h.found x (sym (ap (λ (c : Slot). c.released) (all.others.slots x)) ∙ e) (sym (ap (λ (c : Slot). is_green c.colour) (all.others.slots x)) ∙ other) (sym (ap (λ (c : Slot). c.set) (all.others.slots x)) ∙ none);
       unnamed = λ x i e. h.unnamed x i (sym (ap (λ (c : Slot). c.set) (all.others.slots x)) ∙ e);
     }

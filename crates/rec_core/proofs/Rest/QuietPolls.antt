@@ -12,7 +12,7 @@ use Rattle.rec_mutator.specs.Private.{Private, is_busy, is_busy_at}
 use Rattle.rec_mutator.specs.Took.{begun_of, took_of, took_at, swapped_of, swapped_at, left_of, left_at, step_of, retired, moved, polled, crossed}
 use Rattle.rec_mutator.specs.declared.made.Made.TheVariants as makes
 use Rattle.rec_mutator.specs.declared.phase.Phase.{Phase}
-use Rattle.rec_mutator.specs.declared.phase.Phase.TheVariants.{Idle, Begun, Scanning, Scanned, Crossing, Swapping, Giving, Finished}
+use Rattle.rec_mutator.specs.declared.phase.Phase.TheVariants.{Idle, Begun, Scanning, Scanned, Storing, Crossing, Swapping, Giving, Finished}
 use Rattle.rec_mutator.specs.declared.work.Work.TheVariants as works
 use Rattle.rec_collector.specs.Private.{blank, buffer_at}
 use Rattle.rec_core.specs.Cells.{cell}
@@ -205,8 +205,9 @@ on_step first t w on busy = go (mutator w t).phase refl on.own.polls
     go Idle at polls = absurd polls
     go (Begun (works.Command cmd)) at polls = absurd polls
     go (Begun works.Poll) at polls = on_begun first t w on busy at
-    go (Scanning reg label before slot) at polls = absurd polls
-    go (Scanned reg label before) at polls = absurd polls
+    go (Scanning reg label leaf before slot) at polls = absurd polls
+    go (Scanned reg label leaf before) at polls = absurd polls
+    go (Storing src f val slot) at polls = absurd polls
     go Crossing at polls = on_crossing first t w on busy at
     go Swapping at polls = absurd polls
     go Giving at polls = on_giving first t w on busy at

@@ -6,7 +6,7 @@ use Rattle.std.proofs.lemmas.List.Elements.{All-head, All-tail}
 use Rattle.std.proofs.lemmas.List.Sums.{sum_by-cons}
 use Rattle.rec_model.specs.Accounted.{puts_after, replaces_from, is_from}
 use Rattle.rec_model.specs.Moves.{puts_in}
-use Rattle.rec_model.specs.Pending.{node_of, epoch_of, Write, Dated, dated, is_at}
+use Rattle.rec_model.specs.Pending.{node_of, epoch_of, Write, Dated, dated, is_at, dated_birth}
 use Rattle.rec_model.specs.Reach.{named as named_slots}
 use Rattle.rec_model.specs.Sums.{only_if, one_if_same}
 use Rattle.rec_model.proofs.Weights.{none_if_not_lt}
@@ -69,9 +69,9 @@ earlier_left since node epoch (entries.Put place new old ∷ es) before made =
       replaces,
       earlier_left since node epoch es before (All-tail (IsMadeIn epoch) (entries.Put place new old) es made),
     )
-earlier_left since node epoch (entries.Born slot ∷ es) before made =
-    let first : is_from since node (dated epoch (slot + 1)) ≡ 0 = ap (λ b. only_if b (one_if_same node (slot + 1))) (lt-leb since epoch before) in
-    omega (arith, sum_by-cons (is_from since node) (dated epoch (slot + 1)) (births_in epoch es), first, earlier_left since node epoch es before (All-tail (IsMadeIn epoch) (entries.Born slot) es made))
+earlier_left since node epoch (entries.Born slot leaf ∷ es) before made =
+    let first : is_from since node (dated_birth epoch (slot + 1) leaf) ≡ 0 = ap (λ b. only_if b (one_if_same node (slot + 1))) (lt-leb since epoch before) in
+    omega (arith, sum_by-cons (is_from since node) (dated_birth epoch (slot + 1) leaf) (births_in epoch es), first, earlier_left since node epoch es before (All-tail (IsMadeIn epoch) (entries.Born slot leaf) es made))
 
 -- so of a silent buffer
 silent_left : (since node epoch : ℕ) (b : Contents) → IsSilent since epoch b → left_by since node epoch b.entries ≡ 0

@@ -8,8 +8,9 @@ use Rattle.rec_collector.specs.declared.phase.Phase.{Phase}
 use Rattle.rec_collector.specs.declared.phase.Phase.TheVariants.{Idle, Looking, Swapping, Returning, Releasing, Freeing, Trying, Preparing, Opening, Sweeping, Closing}
 use Rattle.rec_core.specs.Core.{Core, sight}
 use Rattle.rec_core.specs.Resting.{holds, AreFound, AreUnnamed, AreWithinReach, TrialRests, PrepRests, SetsRest, Round, RestsIn}
-use Rattle.rec_core.specs.Settling.{word_in, IsReachable, IsOffered}
+use Rattle.rec_core.specs.Settling.{word_in, IsReachable, IsOffered, seen_in}
 use Rattle.rec_core.specs.declared.config.Config.{Config}
+use Rattle.rec_counts.specs.Colour.{is_green}
 
 -- a heap with the numbers of another
 abbrev seen_as : Core → Core → Core
@@ -19,7 +20,7 @@ module _ (w v : Core) (same : holds (sight v) ≡ holds (sight w)) (words : List
   open w use {config.{fields}}
 
   found_seen : (s : State) → AreFound w words s → AreFound (seen_as w v) words s
-  found_seen s h = subst (λ (f : ℕ → ℕ). (x : ℕ) → (slot_at s x).released ≡ false → (slot_at s x).set ≡ None → (IsReachable fields (word_in fields words) f x → ⊥) → ⊥) (sym same) h
+  found_seen s h = subst (λ (f : ℕ → ℕ). (x : ℕ) → (slot_at s x).released ≡ false → is_green (slot_at s x).colour ≡ false → (slot_at s x).set ≡ None → (IsReachable fields (word_in fields words) f x → ⊥) → ⊥) (sym same) h
 
   within_seen : (s : State) → AreWithinReach w words s → AreWithinReach (seen_as w v) words s
   within_seen s h = subst (λ (f : ℕ → ℕ). (x : ℕ) → (slot_at s x).released ≡ false → (IsReachable fields (word_in fields words) f x → ⊥) → ⊥) (sym same) h
@@ -37,8 +38,9 @@ module _ (w v : Core) (same : holds (sight v) ≡ holds (sight w)) (words : List
     marks = h.marks;
     blacks = h.blacks;
     finds = h.finds;
-    offered = subst (λ (f : ℕ → ℕ). IsOffered fields (word_in fields words) f h.before) (sym same) h.offered;
+    offered = subst (λ (f : ℕ → ℕ). IsOffered fields (seen_in fields words h.before) f h.before) (sym same) h.offered;
     emptied = h.emptied;
+    leaves = h.leaves;
   }
 
   prep_seen : (p : preps.Work) → PrepRests w words p → PrepRests (seen_as w v) words p

@@ -1,5 +1,5 @@
 -- The batch of a heap at rest: it counts what registers name, and no register names a member of a set. So nothing holds the sets still.
-use Rattle.std.proofs.Common.{◌≡◌, ℕ, ◌+◌, ◌-◌, ◌<◌, Bool, false, Option, None, Some, List, [], length, map, sym, ap, subst, ◌∙◌, arith}
+use Rattle.std.proofs.Common.{◌≡◌, ℕ, ◌+◌, ◌-◌, ◌<◌, Bool, false, Option, None, Some, List, [], length, map, sym, ap, subst, ◌∙◌, arith, ◌/◌, ◌≢◌, ◌∷◌, ◌++◌, true, inl, inr, refl, slice_index_or, suc}
 use Rattle.std.specs.List.{flat_map}
 use Rattle.std.proofs.lemmas.List.Sums.{get_or-le-sum_by}
 use Rattle.rec_model.proofs.Sums.{sum_by-map}
@@ -7,32 +7,45 @@ use Rattle.rec_log.specs.declared.contents.Contents.{Contents}
 use Rattle.rec_log.specs.declared.entry.Entry.{Entry}
 use Rattle.rec_counts.specs.Counts.{State, slot_at}
 use Rattle.rec_counts.specs.Rest.{KeepsRest}
-use Rattle.rec_apply.specs.Batch.{batch, down_targets, up_targets}
-use Rattle.rec_apply.specs.Targets.{new_target, old_target, named}
+use Rattle.rec_apply.specs.Batch.{batch, down_targets, up_targets, all_counted, all_down, all_marked, all_up, mark_targets}
+use Rattle.rec_apply.specs.Targets.{new_target, old_target, named, leaf_born}
 use Rattle.rec_apply.proofs.Naming.{named-nil, added_is, taken_is}
-use Rattle.rec_release.specs.Release.{started_of}
-use Rattle.rec_release.specs.TakenOff.{IsApart}
+use Rattle.rec_release.specs.Release.{started_of, IsReady, emptied, next_from, without_first}
 use Rattle.rec_mutator.specs.Private.{Private}
 use Rattle.rec_collector.specs.Clearing.{IsCleared}
 use Rattle.rec_collector.specs.Parts.{Parts}
 use Rattle.rec_collector.specs.Private as collectors
 use Rattle.rec_collector.specs.Private.{buffer_at, parts_of}
-use Rattle.rec_collector.specs.Testing.{Begun, zeros_released}
+use Rattle.rec_collector.specs.Testing.{Begun, zeros_released, releasing_at}
 use Rattle.rec_collector.specs.Took.{batched}
 use Rattle.rec_collector.specs.declared.phase.Phase.{Phase}
 use Rattle.rec_collector.specs.declared.phase.Phase.TheVariants.{Returning, Freeing}
 use Rattle.rec_collector.proofs.Following.{batched_clear, resting_cleared}
-use Rattle.rec_collector.proofs.Goings.{first_begun}
 use Rattle.rec_core.specs.Config.{IsMutator}
 use Rattle.rec_core.specs.Core.{Core, mutator, nobody, sight}
 use Rattle.rec_core.specs.Kept.{IsKept}
 use Rattle.rec_core.specs.Quiet.{IsRetired}
-use Rattle.rec_core.specs.Resting.{AreCounted, FreesRest, SetsRest, holds}
+use Rattle.rec_core.specs.Resting.{AreCounted, FreesRest, SetsRest, holds, AreLeaves}
 use Rattle.rec_core.proofs.Applying.{counted_rest, counted_zeros, falls}
 use Rattle.rec_core.proofs.Batches.{none_of}
-use Rattle.rec_core.proofs.Rest.SecondReach.{no_zeros_rest}
-use Rattle.rec_core.proofs.Rest.SettlingBetween.{AreOutside, unheld_batch}
+use Rattle.rec_core.proofs.Rest.SecondReach.{green_zeros_rest}
+use Rattle.rec_core.proofs.Rest.SettlingBetween.{AreOutside, unheld_batch, same_counted}
 use Rattle.rec_core.proofs.Turns.{now_at}
+use Rattle.std.proofs.lemmas.Bool.{cases_eq, cases_lt, false≢true}
+use Rattle.std.proofs.lemmas.List.{get_or_past}
+use Rattle.rec_counts.specs.Colour.{is_green}
+use Rattle.rec_counts.specs.Lists.{times}
+use Rattle.rec_counts.specs.Slot.{absent, is_in}
+use Rattle.rec_counts.specs.declared.slot.Slot.{Slot}
+use Rattle.rec_counts.proofs.Keeping.{field_kept}
+use Rattle.rec_counts.proofs.Times.{one-same, times-cons}
+use Rattle.rec_release.specs.declared.at.At.{At}
+use Rattle.rec_release.proofs.Keeping.{each_next, emptied_zeros, released_first, released_same}
+use Rattle.rec_core.specs.Settling.{AreUnheld}
+use Rattle.rec_core.proofs.Begun.{batch_comes}
+use Rattle.rec_core.proofs.Counts.{emptied_alike}
+use Rattle.rec_core.proofs.Rest.FirstTrial.{leaves_landed}
+use Rattle.rec_core.proofs.Rest.SettlingTests.{outside_same}
 
 -- Between the batch and the trial of the second collection the last set passed and is freed, or nothing is begun: no slot is released.
 abbrev pub FreesIn : Core → (words : List ℕ) → Parts → Option Phase → Type 0
@@ -43,10 +56,79 @@ FreesIn w words v (Some _) = ⊥
 abbrev pub FreesOn : Core → (words : List ℕ) → Begun → Type 0
 FreesOn w words b = FreesIn w words b.parts b.phase
 
--- Where there are no zeros, none is released.
-pub no_zeros_released : (w : Core) (words : List ℕ) (lowers : Bool) (v : Parts) → v.counts.zeros ≡ [] → SetsRest w words [] v.counts → FreesOn w words (zeros_released lowers v)
+-- A Green slot is released: nothing changes of the sets, as no member is Green and none of its fields leads anywhere.
+unheld_leaf : (fields : ℕ) (words : List ℕ) (s t : State) (z : ℕ) → is_green (slot_at s z).colour ≡ true → AreLeaves fields words s → ((x : ℕ) → (slot_at t x).set ≡ (slot_at s x).set) → ((x : ℕ) → (slot_at t x).colour ≡ (slot_at s x).colour)
+    → ((x : ℕ) → (slot_at t x).cyclic ≡ (slot_at s x).cyclic) → ((x : ℕ) → x ≢ z → (slot_at t x).released ≡ (slot_at s x).released) → ((x : ℕ) → (slot_at t x).released ≡ false → (slot_at s x).released ≡ false) → AreUnheld fields words [] s → AreUnheld fields words [] t
+unheld_leaf fields words s t z green leaves set colour cyclic released live u = record {
+  back = record {
+    orange = λ x i e. colour x ∙ u.back.orange x i (sym (set x) ∙ e);
+    unreleased = λ x i e. released x (apart x i (sym (set x) ∙ e)) ∙ u.back.unreleased x i (sym (set x) ∙ e);
+    emptied = λ p l e n. elim (cases_eq (p / fields) z) [
+      | inl same ↦ leaves p l (ap (λ k. is_green (slot_at s k).colour) same ∙ green)
+      | inr other ↦ u.back.emptied p l (sym (released (p / fields) other) ∙ e) n
+    ];
+    earlier = λ p x i j l e f h. u.back.earlier p x i j l (sym (set (p / fields)) ∙ e) (sym (set x) ∙ f) h;
+    members = λ p x j l n e f h. u.back.members p x j l (live (p / fields) n) (sym (set (p / fields)) ∙ e) (sym (set x) ∙ f) h;
+  };
+  cyclic = λ x i e. cyclic x ∙ u.cyclic x i (sym (set x) ∙ e) ∙ sym (outside_same words fields s t i x (λ n. ap (is_in i) (set n)));
+}
+  where
+    apart : (x i : ℕ) → (slot_at s x).set ≡ Some i → x ≢ z
+    apart x i e same = false≢true (sym (ap is_green (u.back.orange x i e)) ∙ (ap (λ k. is_green (slot_at s k).colour) same ∙ green))
+
+-- Where all zeros are Green, they are released at once, and no field comes next.
+record OnGreens (w : Core) (words : List ℕ) (at : Option At) (s : State) : Type 0 where
+  none : at ≡ None
+  rests : SetsRest w words [] s
+  zeros : (x : ℕ) → 0 < times x s.zeros → is_green (slot_at s x).colour ≡ true
+  leaves : AreLeaves w.config.fields words s
+
+greens_on : (w : Core) (words : List ℕ) (s : State) (z : ℕ) (zs : List ℕ) → s.zeros ≡ z ∷ zs → is_green (slot_at s z).colour ≡ true → OnGreens w words None s → OnGreens w words None (emptied (without_first (z ∷ zs) s) z)
+greens_on w words s z zs is green on =
+    let t : State = without_first (z ∷ zs) s in
+    let u : State = emptied t z in
+    let v : Slot = record (slot_at s z) { released = true } in
+    let same : (x : ℕ) → slot_at u x ≡ slot_at t x = λ x. ap (λ (ss : List Slot). slice_index_or ss x absent) (emptied_alike t z) in
+    let colour : (x : ℕ) → (slot_at u x).colour ≡ (slot_at s x).colour = λ x. ap (λ (c : Slot). c.colour) (same x) ∙ field_kept (λ (c : Slot). c.colour) s.slots z v refl x in
+    let set : (x : ℕ) → (slot_at u x).set ≡ (slot_at s x).set = λ x. ap (λ (c : Slot). c.set) (same x) ∙ field_kept (λ (c : Slot). c.set) s.slots z v refl x in
+    let cyclic : (x : ℕ) → (slot_at u x).cyclic ≡ (slot_at s x).cyclic = λ x. ap (λ (c : Slot). c.cyclic) (same x) ∙ field_kept (λ (c : Slot). c.cyclic) s.slots z v refl x in
+    let released : (x : ℕ) → x ≢ z → (slot_at u x).released ≡ (slot_at s x).released = λ x other. ap (λ (c : Slot). c.released) (same x) ∙ released_same s z x other in
+    let live : (x : ℕ) → (slot_at u x).released ≡ false → (slot_at s x).released ≡ false = λ x e. elim (cases_eq x z) [
+      | inr other ↦ sym (released x other) ∙ e
+      | inl own ↦ elim (cases_lt z (length s.slots)) [
+        | inl there ↦ absurd (false≢true (sym e ∙ (ap (λ (c : Slot). c.released) (same x) ∙ ap (λ k. (slot_at t k).released) own ∙ released_first s z there)))
+        | inr past ↦ absurd (false≢true (sym (ap (λ (c : Slot). is_green c.colour) (get_or_past s.slots z absent past)) ∙ green))
+      ]
+    ] in
+    record {
+      none = refl;
+      rests = record {
+        unheld = unheld_leaf w.config.fields words s u z green on.leaves set colour cyclic released live on.rests.unheld;
+        found = λ x unreleased other none. on.rests.found x (live x unreleased) (sym (ap is_green (colour x)) ∙ other) (sym (set x) ∙ none);
+        unnamed = λ x i e. on.rests.unnamed x i (sym (set x) ∙ e);
+      };
+      zeros = λ x there. ap is_green (colour x) ∙ on.zeros x (omega (arith, there, ap (times x) (emptied_zeros t z), ap (times x) is, times-cons x z zs));
+      leaves = λ p l e. on.leaves p l (sym (ap is_green (colour (p / w.config.fields))) ∙ e);
+    }
+
+pub greens_released : (w : Core) (words : List ℕ) (lowers : Bool) (v : Parts) → IsReady v.counts → AreLeaves w.config.fields words v.counts → ((x : ℕ) → 0 < times x v.counts.zeros → is_green (slot_at v.counts x).colour ≡ true) → SetsRest w words [] v.counts
+    → FreesOn w words (zeros_released lowers v)
 unfolding started_of
-no_zeros_released w words lowers v none rest = subst (λ zs. FreesOn w words (first_begun v.fields lowers zs v)) (sym none) rest
+greens_released w words lowers v ready leaves zeros rest =
+    let end = each_next (OnGreens w words) (λ s z zs is r green on. greens_on w words s z zs is green on) (λ s z zs is r other on. absurd (false≢true (sym other ∙ on.zeros z (omega (arith, ap (times z) is, times-cons z z zs, one-same z)))))
+    v.counts.zeros v.counts refl ready (record { none = refl; rests = rest; zeros = zeros; leaves = leaves }) in
+    by (next_from v.counts.zeros v.counts).at end.none end.rests
+  where
+    by : (at : Option At) → at ≡ None → SetsRest w words [] (next_from v.counts.zeros v.counts).counts → FreesIn w words (record v { counts = (next_from v.counts.zeros v.counts).counts }) (releasing_at (record { fields = v.fields; at = at; lowers = lowers }) at)
+    by None e r = r
+    by (Some a) e r = let not_so : ◌≡◌ {A = Option At} (Some a) None = e in absurd (cc)
+
+-- buffers without entries bear no leaves
+nothing_born : (bs : List Contents) → ((i : ℕ) → i < length bs → (buffer_at bs i).entries ≡ []) → flat_map mark_targets bs ≡ []
+nothing_born [] none = refl
+nothing_born (b ∷ bs) none =
+    let first : b.entries ≡ [] = none 0 (omega arith) in
+    ap (λ (es : List Entry). (map leaf_born es ++ []) ++ flat_map mark_targets bs) first ∙ nothing_born bs (λ i below. none (suc i) (omega (arith, below)))
 
 -- what a buffer without entries adds and takes off is what its snapshot names
 added_by : (x : ℕ) (registers : List (Option ℕ)) (b : Contents) → IsRetired registers b → named x registers ≡ 0 → named x (map new_target b.entries) + named x b.snapshot ≡ 0
@@ -91,19 +173,31 @@ module _ (w : Core) (t : ℕ) (kept : IsKept w) (phase : w.collector.phase ≡ R
       let own : IsRetired (mutator w (place + 1)).registers (buffer_at c.older place) = subst (λ n. IsRetired (mutator w (place + 1)).registers (buffer_at c.older n)) at (retired (place + 1) there).1 in
       taken_by x (mutator w (place + 1)).registers (buffer_at c.older place) own (unnamed x i (place + 1) is there))
 
+  -- nothing was born
+  no_marks : s ≡ all_down (all_up c.counts (flat_map up_targets c.newer)) (flat_map down_targets c.older)
+  unfolding all_counted
+  no_marks = ap (λ ts. all_down (all_up (all_marked c.counts ts) (flat_map up_targets c.newer)) (flat_map down_targets c.older)) (nothing_born c.newer (λ place below.
+      let there : IsMutator w.config (place + 1) = numbered place (omega (arith, below, kept.collector.mutators)) in
+      let at : place + 1 - 1 ≡ place = omega arith in
+      subst (λ n. (buffer_at c.newer n).entries ≡ []) at (retired (place + 1) there).0.entries))
+
+  same_green : (x : ℕ) → is_green (slot_at s x).colour ≡ is_green (slot_at c.counts x).colour
+  same_green x = ap (λ t. is_green (slot_at t x).colour) no_marks ∙ same_counted c.counts (flat_map up_targets c.newer) (flat_map down_targets c.older) x
+
   keeps : KeepsRest c.counts s
   keeps = counted_rest w t kept phase last
 
   rested_then : SetsRest w w.words [] s
   rested_then = record {
-    unheld = unheld_batch w.config.fields w.words [] c.counts (flat_map up_targets c.newer) (flat_map down_targets c.older) outside_up outside_down rested.unheld;
-    found = λ x unreleased none. rested.found x (sym (keeps.released x) ∙ unreleased) (sym (keeps.set x) ∙ none);
+    unheld = subst (AreUnheld w.config.fields w.words []) (sym no_marks) (unheld_batch w.config.fields w.words [] c.counts (flat_map up_targets c.newer) (flat_map down_targets c.older) outside_up outside_down rested.unheld);
+    found = λ x unreleased other none. rested.found x (sym (keeps.released x) ∙ unreleased) (sym (same_green x) ∙ other) (sym (keeps.set x) ∙ none);
     unnamed = λ x i is. rested.unnamed x i (sym (keeps.set x) ∙ is);
   }
 
-  -- The batch is applied. No zeros are left of it, as the counts come to what fields and registers name.
+  -- The batch is applied. All zeros that it leaves are Green, as the counts come to what fields and registers name.
   pub frees_rest_applied : AreCounted w w.words (batch w.collector.counts w.collector.newer w.collector.older) → FreesOn w w.words (zeros_released false (batched w.collector))
   frees_rest_applied counted =
       let before : IsCleared (parts_of c) = resting_cleared (parts_of c) rest in
-      let apart : IsApart s = (batched_clear c.fields c.counts c.newer c.older (falls w t kept phase last) before.tidy before.ready before.work).0.apart in
-      no_zeros_released w w.words false (batched c) (no_zeros_rest w w.words [] s (keeps.slots ∙ kept.collector.slots) (counted_zeros w t kept phase last) apart counted rested_then) rested_then
+      let tidy = batched_clear c.fields c.counts c.newer c.older (falls w t kept phase last) before.tidy rest.counted before.ready before.work in
+      let ready : IsReady s = record { zeros = counted_zeros w t kept phase last; free = tidy.1.free } in
+      greens_released w w.words false (batched c) ready (leaves_landed (batch_comes w t kept phase last).landed) (green_zeros_rest w w.words [] s (keeps.slots ∙ kept.collector.slots) (counted_zeros w t kept phase last) tidy.0.apart counted rested_then) rested_then

@@ -1,13 +1,14 @@
--- The freeing of a set in a heap at rest: a field of a member is exchanged, and the other sets stay unheld. Nothing comes to the zeros.
-use Rattle.std.proofs.Common.{◌≡◌, ℕ, ◌+◌, ◌/◌, ◌<◌, ◌≤◌, true, Option, Some, None, List, [], ◌∷◌, ◌++◌, drop, length, refl, sym, ap, subst, ◌∙◌, arith}
-use Rattle.std.proofs.lemmas.List.{drop_all, drop_more}
+-- The freeing of a set in a heap at rest: a field of a member is exchanged, and the other sets stay unheld. Only Green slots come to the
+-- zeros.
+use Rattle.std.proofs.Common.{◌≡◌, ℕ, ◌+◌, ◌/◌, ◌<◌, ◌≤◌, true, Option, Some, None, List, [], ◌∷◌, ◌++◌, drop, length, refl, sym, ap, subst, ◌∙◌, arith, ◌%◌, inl, inr, slice_index_or}
+use Rattle.std.proofs.lemmas.List.{drop_all, drop_more, get_or-replicate, get_or-set_other, length-set}
 use Rattle.std.proofs.lemmas.Nat.{div-mul-add}
 use Rattle.rec_word.specs.Place.{place_of, places_from, places_of}
 use Rattle.rec_word.specs.Word.{target_of}
 use Rattle.rec_word.proofs.FieldPlaces.{places_step, places_end}
 use Rattle.rec_counts.specs.Counts.{State, slot_at}
 use Rattle.rec_walk.specs.declared.member.Member.{Member}
-use Rattle.rec_release.specs.CycleFree.{Machine, listed}
+use Rattle.rec_release.specs.CycleFree.{Machine, listed, IsAtWork}
 use Rattle.rec_release.specs.Release.{IsReady}
 use Rattle.rec_walk.specs.Walk.{places_left}
 use Rattle.rec_release.specs.TakenOff.{taken_off}
@@ -18,17 +19,33 @@ use Rattle.rec_collector.specs.Private.{parts_of}
 use Rattle.rec_collector.specs.declared.phase.Phase.TheVariants.{Freeing}
 use Rattle.rec_collector.proofs.Goings.{field_behind, freed_by, freed_last, freed_listed, freed_on, member_behind}
 use Rattle.rec_collector.proofs.Tidy.{tidy_off}
-use Rattle.rec_core.specs.Core.{Core}
+use Rattle.rec_core.specs.Core.{Core, sight}
 use Rattle.rec_core.specs.Kept.{IsKept}
-use Rattle.rec_core.specs.Resting.{AreCounted, FreesRest, SetsRest}
+use Rattle.rec_core.specs.Resting.{AreCounted, FreesRest, SetsRest, AreLeaves}
 use Rattle.rec_core.specs.Settling.{AreUnheld}
 use Rattle.rec_core.proofs.TurnCases.{word_at, words_without}
 use Rattle.rec_core.proofs.Freeing as freeing
 use Rattle.rec_core.proofs.Taken as taken
-use Rattle.rec_core.proofs.Rest.SecondBatch.{FreesOn, no_zeros_released}
-use Rattle.rec_core.proofs.Rest.SecondReach.{no_zeros_rest, reached_still}
+use Rattle.rec_core.proofs.Rest.SecondBatch.{FreesOn, greens_released}
+use Rattle.rec_core.proofs.Rest.SecondReach.{green_zeros_rest, reached_still}
 use Rattle.rec_core.proofs.Rest.SettlingTests.{unheld_alike, unheld_cleared}
 use Rattle.rec_core.proofs.Turns.{now_at}
+use Rattle.std.proofs.Math.Nat.{mod-lt, div-add-mod, mul_comm}
+use Rattle.std.proofs.lemmas.Bool.{cases_eq}
+use Rattle.rec_counts.specs.Colour.{is_green}
+use Rattle.rec_counts.specs.Lists.{times}
+use Rattle.rec_model.proofs.Standing.{word_in}
+use Rattle.rec_release.proofs.Freeing.{off_work}
+use Rattle.rec_collector.proofs.Freeing.{listed_ready}
+
+-- no field of a Green slot leads anywhere
+leaves_kept : (w : Core) → IsKept w → AreLeaves w.config.fields w.words w.collector.counts
+leaves_kept w kept place inside green =
+    let fields : ℕ = w.config.fields in
+    let wide : 0 < fields = kept.config.some_fields in
+    let at : place ≡ place_of (place / fields) (place % fields) fields = sym (div-add-mod place fields) ∙ ap (λ n. n + place % fields) (mul_comm fields (place / fields)) in
+    ap (λ n. target_of (slice_index_or w.words n 0)) at
+    ∙ ap target_of (sym (word_in (sight w) (place / fields) (place % fields) (mod-lt place wide)) ∙ ap (λ ws. slice_index_or ws (place % fields) 0) (kept.sound.leaves (place / fields) (kept.greens (place / fields) green)) ∙ get_or-replicate fields (place % fields) 0 0 (mod-lt place wide))
 
 -- the same member
 same_member : {a b : Member} → ◌≡◌ {A = Option Member} (Some a) (Some b) → a ≡ b
@@ -56,7 +73,7 @@ module _ (w : Core) (m : Machine) (a : Member) (kept : IsKept w) (phase : w.coll
   abbrev off : State
   off = taken_off true c.counts (target_of word)
 
-  open (taken.most w a.slot a.field may true) use {released as still_released, set as still_set, slots as still_slots, work as still_work}
+  open (taken.most w a.slot a.field may true) use {green as still_green, released as still_released, set as still_set, slots as still_slots, work as still_work}
 
   clear : IsFreeing (parts_of c) m
   clear = (now_at w (Freeing m) kept phase).clearing
@@ -87,17 +104,26 @@ module _ (w : Core) (m : Machine) (a : Member) (kept : IsKept w) (phase : w.coll
   rested_then : SetsRest w words behind off
   rested_then = record {
     unheld = unheld_then;
-    found = λ x unreleased none unreached. rested.found x (sym (still_released x) ∙ unreleased) (sym (still_set x) ∙ none)
+    found = λ x unreleased other none unreached. rested.found x (sym (still_released x) ∙ unreleased) (sym (still_green x) ∙ other) (sym (still_set x) ∙ none)
         (λ reached. unreached (reached_still w kept a.slot a.field within released x reached));
     unnamed = λ x i is. rested.unnamed x i (sym (still_set x) ∙ is);
   }
 
-  -- nothing comes to the zeros
-  no_zeros : off.zeros ≡ []
-  no_zeros =
-      let ready : IsReady off = ready_off true c.counts (target_of word) clear.freeing.ready in
+  ready : IsReady off
+  ready = ready_off true c.counts (target_of word) clear.freeing.ready
+
+  -- only Green slots come to the zeros
+  green_zeros : (x : ℕ) → 0 < times x off.zeros → is_green (slot_at off x).colour ≡ true
+  green_zeros =
       let tidy : IsTidy c.fields off None = tidy_off true c.counts (target_of word) None (taken.counted_word w a.slot a.field may) clear.freeing.ready clear.freeing.released clear.tidy in
-      no_zeros_rest w words behind off (still_slots ∙ kept.collector.slots) ready.zeros tidy.apart counted rested_then
+      green_zeros_rest w words behind off (still_slots ∙ kept.collector.slots) ready.zeros tidy.apart counted rested_then
+
+  -- no field of one leads anywhere
+  leaves : AreLeaves w.config.fields words off
+  leaves p inside green = elim (cases_eq p place) [
+    | inl same ↦ ap (λ n. target_of (slice_index_or words n 0)) same ∙ ap target_of (taken.own_empty w a.slot a.field may)
+    | inr other ↦ ap target_of (get_or-set_other w.words place p 0 0 other) ∙ leaves_kept w kept p (omega (arith, inside, length-set w.words place 0)) (sym (still_green (p / w.config.fields)) ∙ green)
+  ]
 
   -- the next field of the member follows
   on : FreesOn w words (freed_on m (parts_of c) word (field_behind a))
@@ -117,7 +143,8 @@ module _ (w : Core) (m : Machine) (a : Member) (kept : IsKept w) (phase : w.coll
   freed : m.fields ≤ a.field + 1 → length off.work ≤ a.index + 1 → FreesOn w words (freed_last (parts_of c) word)
   freed last past =
       let left : behind ≡ [] = others last ∙ ap (places_of m.fields) (drop_all (a.index + 1) off.work past) in
-      no_zeros_released w words true (freed_listed (parts_of c) word) no_zeros (rest_listed w words off (subst (λ ps. SetsRest w words ps off) left rested_then))
+      let off_at_work : IsAtWork (record { fields = m.fields; at = Some a }) off = off_work m.fields c.counts (target_of word) a (subst (λ o. IsAtWork (record { fields = m.fields; at = o }) c.counts) at clear.freeing) in
+      greens_released w words true (freed_listed (parts_of c) word) (listed_ready (record { fields = m.fields; at = Some a }) off off_at_work) leaves green_zeros (rest_listed w words off (subst (λ ps. SetsRest w words ps off) left rested_then))
 
   -- The field of a member is exchanged.
   pub frees_rest_more : FreesOn w (words_without w a.slot a.field) (with_freed m (parts_of w.collector) (word_at w a.slot a.field))

@@ -1,5 +1,5 @@
 -- What is within reach in a heap at rest: it has a count and was not given up, and a path to it uses no field of what was given up.
-use Rattle.std.proofs.Common.{◌≡◌, ◌≢◌, inl, inr, ℕ, ◌+◌, ◌-◌, ◌<◌, ◌==◌, if◌then◌else◌, Bool, true, false, Option, Some, None, List, [], ◌∷◌, length, get_or, slice_index_or, sum_by, refl, sym, ap, ◌∙◌, arith}
+use Rattle.std.proofs.Common.{◌≡◌, ◌≢◌, inl, inr, ℕ, ◌+◌, ◌-◌, ◌<◌, ◌==◌, if◌then◌else◌, Bool, true, false, Option, Some, None, List, [], ◌∷◌, length, get_or, slice_index_or, sum_by, refl, sym, ap, ◌∙◌, arith, suc, ◌/◌, ◌%◌}
 use Rattle.std.proofs.lemmas.Bool.{cases_lt, eq-eqb, false≢true}
 use Rattle.std.proofs.lemmas.Bool.Decides.{eqb_tells}
 use Rattle.std.proofs.lemmas.List.{get_or_default, get_or_past, get_or-set_other}
@@ -15,14 +15,14 @@ use Rattle.rec_counts.specs.declared.slot.Slot.{Slot}
 use Rattle.rec_counts.specs.Counts.{State, slot_at}
 use Rattle.rec_counts.specs.Lists.{one, times}
 use Rattle.rec_counts.specs.Rest.{AreZeros}
-use Rattle.rec_counts.proofs.Times.{one-same, times-cons}
-use Rattle.rec_counts.proofs.Keeping.{unreleased_within}
+use Rattle.rec_counts.proofs.Times.{one-same, times-nil}
+use Rattle.rec_counts.proofs.Keeping.{unreleased_within, set_there}
 use Rattle.rec_apply.specs.Targets.{named}
 use Rattle.rec_release.specs.TakenOff.{IsApart}
 use Rattle.rec_core.specs.Core.{Core, sight}
 use Rattle.rec_core.specs.Kept.{IsKept}
 use Rattle.rec_core.specs.Pending.{code, pending}
-use Rattle.rec_core.specs.Resting.{AreCounted, IsHeldIn, SetsRest, holds}
+use Rattle.rec_core.specs.Resting.{AreCounted, IsHeldIn, SetsRest, holds, AreFound, AreWithinReach}
 use Rattle.rec_core.specs.Settling.{heap_sum, leading}
 use Rattle.rec_core.specs.Settling.IsReachable.{held, along}
 use Rattle.rec_core.proofs.TurnCases.{words_without}
@@ -31,6 +31,13 @@ use Rattle.rec_core.proofs.Moves.{code_target, home_of}
 use Rattle.rec_core.proofs.Places.{place_within}
 use Rattle.rec_core.proofs.Reach.{reached_stays}
 use Rattle.rec_core.proofs.Rest.Rested.{named_root}
+use Rattle.rec_counts.specs.Colour.{is_green}
+use Rattle.rec_core.proofs.Landed.{HasLanded}
+use Rattle.rec_collector.specs.Clearing.{IsCleared}
+use Rattle.rec_collector.specs.Parts.{Parts}
+use Rattle.rec_collector.proofs.Goings.{still}
+use Rattle.rec_core.proofs.Rest.FirstTrial.{emptied_landed, leaves_landed}
+use Rattle.std.proofs.Math.Nat.{mod-lt, div-add-mod, mul_comm}
 
 -- what a field leads to is counted
 led_counted : (words : List ℕ) (place x : ℕ) → target_of (get_or words place 0) ≡ Some x → 0 < heap_sum words x
@@ -124,19 +131,77 @@ module _ (w : Core) (kept : IsKept w) where
       false≢true (sym alive.1 ∙ ap (λ m. (slot_at w.collector.counts m).released) is ∙ released) in
       along (reached_still slot field within released n from) f below (ap target_of (get_or-set_other w.words (place_of slot field w.config.fields) (place_of n f w.config.fields) 0 0 other) ∙ led)
 
--- no slot stands in an empty list
-nothing_in : (xs : List ℕ) → ((x : ℕ) → 0 < times x xs → ⊥) → xs ≡ []
-nothing_in [] none = refl
-nothing_in (x ∷ xs) none = absurd (none x (omega (arith, times-cons x x xs, one-same x)))
-
--- No zeros are left where all that isn't released is within reach or a member of a set.
-pub no_zeros_rest : (w : Core) (words left : List ℕ) (s : State) → length s.slots ≡ w.config.slots → AreZeros s → IsApart s → AreCounted w words s → SetsRest w words left s
-    → s.zeros ≡ []
-no_zeros_rest w words left s many zeros apart counted rest = nothing_in s.zeros (λ x there. go x there (slot_at s x).set refl)
+-- All zeros are Green where all that is neither released nor Green is within reach or a member of a set.
+pub green_zeros_rest : (w : Core) (words left : List ℕ) (s : State) → length s.slots ≡ w.config.slots → AreZeros s → IsApart s → AreCounted w words s → SetsRest w words left s
+    → (x : ℕ) → 0 < times x s.zeros → is_green (slot_at s x).colour ≡ true
+green_zeros_rest w words left s many zeros apart counted rest x there = by (is_green (slot_at s x).colour) refl (slot_at s x).set refl
   where
-    go : (x : ℕ) → 0 < times x s.zeros → (set : Option ℕ) → (slot_at s x).set ≡ set → ⊥
-    go x there None e =
+    by : (b : Bool) → is_green (slot_at s x).colour ≡ b → (set : Option ℕ) → (slot_at s x).set ≡ set → b ≡ true
+    by true g set e = refl
+    by false g None e =
         let unreleased : (slot_at s x).released ≡ false = zeros.unreleased x there in
         let below : x < w.config.slots = omega (arith, unreleased_within s x unreleased, many) in
-        omega (arith, zeros.none x there, reached_counted w words s x counted below (rest.found x unreleased e))
-    go x there (Some i) e = omega (arith, there, (apart x (rest.unheld.back.orange x i e)).no_zero)
+        absurd (omega (arith, zeros.none x there, reached_counted w words s x counted below (rest.found x unreleased g e)))
+    by false g (Some i) e = absurd (omega (arith, there, (apart x (rest.unheld.back.orange x i e)).no_zero))
+
+leading_later : (word : ℕ) (words : List ℕ) (x : ℕ) → 0 < heap_sum (word ∷ words) x → (0 < heap_sum words x → (place : ℕ) × (place < length words) × (target_of (get_or words place 0) ≡ Some x)) → leading x word ≡ 0
+    → (place : ℕ) × (place < length (word ∷ words)) × (target_of (get_or (word ∷ words) place 0) ≡ Some x)
+leading_later word words x some later none = let rest = later (omega (arith, some, none)) in (suc rest.0, omega (arith, rest.1), rest.2)
+
+leading_by : (word : ℕ) (words : List ℕ) (x : ℕ) → 0 < heap_sum (word ∷ words) x → (0 < heap_sum words x → (place : ℕ) × (place < length words) × (target_of (get_or words place 0) ≡ Some x)) → (t : Option ℕ) → target_of word ≡ t
+    → (place : ℕ) × (place < length (word ∷ words)) × (target_of (get_or (word ∷ words) place 0) ≡ Some x)
+leading_by word words x some later None e = leading_later word words x some later (ap (λ o. one (is_slot x o)) e)
+leading_by word words x some later (Some y) e = elim (eqb_tells x y) [
+  | inl q ↦ (0, omega arith, e ∙ ap Some (sym q.1))
+  | inr q ↦ leading_later word words x some later (ap (λ o. one (is_slot x o)) e ∙ ap one q.0)
+]
+
+-- what a sum over words counts is led to by one of them
+some_leading : (words : List ℕ) (x : ℕ) → 0 < heap_sum words x → (place : ℕ) × (place < length words) × (target_of (get_or words place 0) ≡ Some x)
+some_leading [] x some = absurd (omega (arith, some))
+some_leading (word ∷ words) x some = leading_by word words x some (some_leading words x) (target_of word) refl
+
+-- Where no set and no zero is left, every slot that isn't released is within reach: a Green one has a count, so a register names it, or
+-- a field of a slot that is neither released nor Green leads to it.
+pub within_all : {w : Core} {crossing words : List ℕ} {v : Parts} → HasLanded w crossing words (still v) → IsCleared v → v.counts.sets ≡ [] → AreCounted w words v.counts → AreFound w words v.counts → AreWithinReach w words v.counts
+within_all {w} {crossing} {words} {v} l clear empty counted found x unreleased = by (is_green (slot_at s x).colour) refl
+  where
+    s : State
+    s = v.counts
+
+    in_none : (n : ℕ) → (slot_at s n).set ≡ None
+    in_none n = go (slot_at s n).set refl
+      where
+        go : (set : Option ℕ) → (slot_at s n).set ≡ set → (slot_at s n).set ≡ None
+        go None e = e
+        go (Some i) e = absurd (omega (arith, set_there s i n l.counts e, ap length empty))
+
+    by : (b : Bool) → is_green (slot_at s x).colour ≡ b → (IsHeldIn w words x → ⊥) → ⊥
+    by false g not_held = found x unreleased g (in_none x) not_held
+    by true g not_held =
+        let below : x < w.config.slots = omega (arith, unreleased_within s x unreleased, l.slots) in
+        let some : 0 < (slot_at s x).count = elim (cases_lt 0 (slot_at s x).count) [
+          | inl is ↦ is
+          | inr none ↦ absurd (omega (arith, clear.all_zeros x unreleased (omega (arith, none)) (λ o. false≢true (sym (ap is_green o) ∙ g)), ap (times x) clear.zeros, times-nil x))
+        ] in
+        elim (cases_lt 0 (holds (sight w) x)) [
+          | inl h ↦ not_held (held h)
+          | inr none ↦
+              let led = some_leading words x (omega (arith, some, counted x below, none)) in
+              let fields : ℕ = w.config.fields in
+              let n : ℕ = led.0 / fields in
+              let f : ℕ = led.0 % fields in
+              let wide : 0 < fields = l.kept.config.some_fields in
+              let at : place_of n f fields ≡ led.0 = ap (λ k. k + f) (mul_comm n fields) ∙ div-add-mod led.0 fields in
+              let live : (slot_at s n).released ≡ false = alive led.0 led.1 led.2 (slot_at s n).released refl in
+              let other : is_green (slot_at s n).colour ≡ false = open_leaf led.0 led.1 led.2 (is_green (slot_at s n).colour) refl in
+              found n live other (in_none n) (λ from. not_held (along from f (mod-lt led.0 wide) (ap (λ k. target_of (get_or words k 0)) at ∙ led.2)))
+        ]
+      where
+        alive : (place : ℕ) → place < length words → target_of (get_or words place 0) ≡ Some x → (b : Bool) → (slot_at s (place / w.config.fields)).released ≡ b → b ≡ false
+        alive place inside leads false e = refl
+        alive place inside leads true e = let no : None ≡ Some x = sym (emptied_landed l place inside e (times-nil place)) ∙ leads in absurd (cc)
+
+        open_leaf : (place : ℕ) → place < length words → target_of (get_or words place 0) ≡ Some x → (b : Bool) → is_green (slot_at s (place / w.config.fields)).colour ≡ b → b ≡ false
+        open_leaf place inside leads false e = refl
+        open_leaf place inside leads true e = let no : None ≡ Some x = sym (leaves_landed l place inside e) ∙ leads in absurd (cc)

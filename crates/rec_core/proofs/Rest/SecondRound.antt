@@ -27,13 +27,14 @@ use Rattle.rec_collector.specs.declared.sets.Sets.{Sets}
 use Rattle.rec_collector.specs.declared.turn.Turn.{Turn}
 use Rattle.rec_collector.proofs.Goings.{still}
 use Rattle.rec_core.specs.Core.{Core}
-use Rattle.rec_core.specs.Resting.{AreWithinReach, ComesTo, RestsIn, Round, SetsRest}
+use Rattle.rec_core.specs.Resting.{ComesTo, RestsIn, Round, SetsRest, AreFound}
 use Rattle.rec_core.specs.Resting.ComesTo.{goes_on}
 use Rattle.rec_core.proofs.Landed.{HasCleared}
 use Rattle.rec_core.proofs.Rest.SecondBatch.{FreesIn, FreesOn}
 use Rattle.rec_core.proofs.Rest.SettlingPasses.{IsGivenUp, given, still_in, unheld_given_up, unheld_passes}
 use Rattle.rec_core.proofs.SetTests.{tested_lands}
 use Rattle.rec_core.proofs.Zeros.{some_fields}
+use Rattle.rec_counts.specs.Colour.{is_green}
 
 -- all fields of the members are still to be exchanged as the freeing of a set begins
 places_begun : (fields : ℕ) (members : List ℕ) → places_of fields members ≡ places_left fields members (first_member (slice_get members 0))
@@ -50,17 +51,17 @@ module _ (w : Core) (words : List ℕ) (v : Parts) (fields : 0 < w.config.fields
   passes = unheld_passes w.config.fields words s kept rested.unheld
 
   -- what is left is found as before: members of the last set are released now
-  found : (x : ℕ) → (slot_at (given_up s) x).released ≡ false → (slot_at (given_up s) x).set ≡ None → (slot_at s x).released ≡ false × ((slot_at s x).set ≡ None)
+  found : (x : ℕ) → (slot_at (given_up s) x).released ≡ false → (slot_at (given_up s) x).set ≡ None → (slot_at s x).released ≡ false × ((slot_at s x).set ≡ None) × (is_green (slot_at s x).colour ≡ is_green (slot_at (given_up s) x).colour)
   found x unreleased none = go (is_in number (slot_at s x).set) refl (given s x)
     where
-      go : (b : Bool) → is_in number (slot_at s x).set ≡ b → IsGivenUp b (slot_at s x) (slot_at (given_up s) x) → (slot_at s x).released ≡ false × ((slot_at s x).set ≡ None)
+      go : (b : Bool) → is_in number (slot_at s x).set ≡ b → IsGivenUp b (slot_at s x) (slot_at (given_up s) x) → (slot_at s x).released ≡ false × ((slot_at s x).set ≡ None) × (is_green (slot_at s x).colour ≡ is_green (slot_at (given_up s) x).colour)
       go true q g = absurd (false≢true (sym unreleased ∙ (g.members refl).0))
-      go false q g = let same : slot_at s x ≡ slot_at (given_up s) x = sym (g.others refl) in (ap (λ (o : Slot). o.released) same ∙ unreleased, ap (λ (o : Slot). o.set) same ∙ none)
+      go false q g = let same : slot_at s x ≡ slot_at (given_up s) x = sym (g.others refl) in (ap (λ (o : Slot). o.released) same ∙ unreleased, ap (λ (o : Slot). o.set) same ∙ none, ap (λ (o : Slot). is_green o.colour) same)
 
   rested_then : SetsRest w words (places_of w.config.fields (last_set s.sets)) (given_up s)
   rested_then = record {
     unheld = unheld_given_up w.config.fields words s fields kept rested.unheld;
-    found = λ x unreleased none. let was = found x unreleased none in rested.found x was.0 was.1;
+    found = λ x unreleased other none. let was = found x unreleased none in rested.found x was.0 (was.2 ∙ other) was.1;
     unnamed = λ x i is. rested.unnamed x i (still_in s x i is).was;
   }
 
@@ -98,9 +99,9 @@ frees_in w words v (Freeing m) rested = rested
 frees_in w words v _ rested = absurd rested
 
 -- The second collection goes on: while a set is left, it is freed, as it passes its tests; then a trial begins, with all within reach that
--- isn't released.
+-- is neither released nor Green.
 pub second_clears : {w : Core} {crossing words : List ℕ} {q : Private} {turn : Turn} {b : Begun} → HasCleared w crossing words b → FreesOn w words b
-    → ((u : Parts) → HasCleared w crossing words (still u) → u.counts.sets ≡ [] → AreWithinReach w words u.counts
+    → ((u : Parts) → HasCleared w crossing words (still u) → u.counts.sets ≡ [] → AreFound w words u.counts
     → TriesOn w.collector (with_offers u) (trials.started_of u.fields (with_offers u).counts) q turn → ComesTo Round.Second w words q)
     → ClearsOn w.collector q turn b → ComesTo Round.Second w words q
 second_clears {w} {crossing} {words} {q} {turn} {b} h rested tries (ClearsOn.works phase is g) =
@@ -112,4 +113,4 @@ second_clears {w} {crossing} {words} {q} {turn} {b} h rested tries (ClearsOn.tes
 second_clears {w} {crossing} {words} {q} {turn} {b} h rested tries (ClearsOn.tries none empty on) =
     let its : HasCleared w crossing words (still b.parts) = subst (λ o. HasCleared w crossing words (record { parts = b.parts; phase = o })) none h in
     let sets : SetsRest w words [] b.parts.counts = subst (FreesIn w words b.parts) none rested in
-    tries b.parts its empty (λ x unreleased. sets.found x unreleased (none_in b.parts.counts x its.landed.counts empty (slot_at b.parts.counts x).set refl)) on
+    tries b.parts its empty sets.found on

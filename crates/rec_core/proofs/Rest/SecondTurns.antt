@@ -23,11 +23,11 @@ use Rattle.rec_core.specs.Core.{Core}
 use Rattle.rec_core.specs.Kept.{IsKept}
 use Rattle.rec_core.specs.Pending.{older_at}
 use Rattle.rec_core.specs.Quiet.{AreQuiet, AreGathered}
-use Rattle.rec_core.specs.Resting.{AreCounted, AreWithinReach, Round, RestsIn, ComesTo}
+use Rattle.rec_core.specs.Resting.{AreCounted, Round, RestsIn, ComesTo, AreFound}
 use Rattle.rec_core.proofs.TurnCases.{IsTurn, word_at, words_without}
 use Rattle.rec_core.proofs.Begun.{applied_lands, batch_comes}
 use Rattle.rec_core.proofs.Freeing.{freed_lands, may_empty}
-use Rattle.rec_core.proofs.Landed.{HasCleared}
+use Rattle.rec_core.proofs.Landed.{HasCleared, HasLanded}
 use Rattle.rec_core.proofs.Rest.FirstRound.{all_gathered, last_gathered}
 use Rattle.rec_core.proofs.Rest.QuietCounts.{accounted_count, landed_count}
 use Rattle.rec_core.proofs.Rest.SecondBatch.{frees_rest_applied}
@@ -37,6 +37,9 @@ use Rattle.rec_core.proofs.Rest.Within.{within_begun, within_same, within_tries,
 use Rattle.rec_core.proofs.Taken.{off_accounted, MayEmpty}
 use Rattle.rec_core.proofs.Trying.{loaded_leads}
 use Rattle.rec_core.proofs.Turns.{now_at}
+use Rattle.rec_trial.specs.Rules.{visible}
+use Rattle.rec_trial.proofs.Visible.{visible_leads}
+use Rattle.rec_core.proofs.Rest.SecondReach.{within_all}
 
 module _ (first : ℕ) (w : Core) (kept : IsKept w) (quiet : AreQuiet first w) where
   -- what is known in this phase
@@ -44,9 +47,9 @@ module _ (first : ℕ) (w : Core) (kept : IsKept w) (quiet : AreQuiet first w) w
   known_in phase is h = subst (RestsIn Round.Second w w.words w.collector) is h
 
   -- once no set is left, a trial begins
-  tries_on : {crossing words : List ℕ} {q : Private} {turn : Turn} (u : Parts) → HasCleared w crossing words (still u) → u.counts.sets ≡ [] → AreWithinReach w words u.counts
+  tries_on : {crossing words : List ℕ} {q : Private} {turn : Turn} → ((u : Parts) → HasLanded w crossing words (still u) → AreCounted w words u.counts) → (u : Parts) → HasCleared w crossing words (still u) → u.counts.sets ≡ [] → AreFound w words u.counts
       → TriesOn w.collector (with_offers u) (started_of u.fields (with_offers u).counts) q turn → ComesTo Round.Second w words q
-  tries_on u h none within on = within_tries (within_begun h.landed (clear_ready u h.landed.counts h.clears.clearing none) within) on
+  tries_on counted u h none found on = within_tries (within_begun h.landed (clear_ready u h.landed.counts h.clears.clearing none) (within_all h.landed h.clears.clearing none (counted u h.landed) found)) on
 
   -- the counts after the exchange of a field are true
   exchanged_count : (m : frees.Machine) (a : Member) (phase : w.collector.phase ≡ Freeing m) (at : m.at ≡ Some a) → first < w.epoch
@@ -75,20 +78,20 @@ module _ (first : ℕ) (w : Core) (kept : IsKept w) (quiet : AreQuiet first w) w
       let behind : older_at w.epoch w.collector.phase ≡ w.epoch - 2 = ap (older_at w.epoch) phase in
       subst Comes (sym is) (second_clears (applied_lands w t kept phase last)
       (frees_rest_applied w t kept phase last (λ s of. ((quiet s of).newer early (all s of), (quiet s of).older (omega (arith, far, behind)))) (known_in (Returning t) phase h) (landed_count first (batch_comes w t kept phase last).landed quiet all early))
-      tries_on on)
+      (tries_on (λ u l. landed_count first l quiet all early)) on)
     where
       other_phase : Returning t ≡ Idle → ⊥
       other_phase is = cc
   second_turned v (IsTurn.releases m a q turn phase at on is) late unswept h = absurd (known_in (Releasing m) phase h)
   second_turned v (IsTurn.frees m a q turn phase at on is) late unswept h =
       let far : first + 1 < w.epoch = late (λ idle. other_phase (sym phase ∙ idle)) in
-      subst Comes (sym is) (second_clears (freed_lands w m a kept phase at) (frees_rest_more w m a kept phase at (exchanged_count m a phase at (omega (arith, far))) (known_in (Freeing m) phase h)) tries_on on)
+      subst Comes (sym is) (second_clears (freed_lands w m a kept phase at) (frees_rest_more w m a kept phase at (exchanged_count m a phase at (omega (arith, far))) (known_in (Freeing m) phase h)) (tries_on (λ u l. landed_count first l quiet (all_gathered w (Freeing m) phase (λ t there. refl)) (omega (arith, far)))) on)
     where
       other_phase : Freeing m ≡ Idle → ⊥
       other_phase is = cc
   second_turned v (IsTurn.tries m place q turn phase named on is) late unswept h =
-      let u : Work = took_of (record { machine = m; counts = w.collector.counts }) (slice_index_or w.words place 0) in
-      let keeps = took_keeps m w.collector.counts (now_at w (Trying m) kept phase).kept (slice_index_or w.words place 0) (loaded_leads w m kept phase place named) in
+      let u : Work = took_of (record { machine = m; counts = w.collector.counts }) (visible w.collector.counts (slice_index_or w.words place 0)) in
+      let keeps = took_keeps m w.collector.counts (now_at w (Trying m) kept phase).kept (visible w.collector.counts (slice_index_or w.words place 0)) (visible_leads w.collector.counts (slice_index_or w.words place 0) (loaded_leads w m kept phase place named)) in
       subst Comes (sym is) (within_tries (within_same w w.words w.collector.counts u.counts keeps.released (known_in (Trying m) phase h)) on)
   second_turned v (IsTurn.prepares m a q turn phase at on is) late unswept h =
       let found : ℕ = word_at w a.member.slot a.member.field in

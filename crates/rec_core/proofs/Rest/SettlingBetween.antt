@@ -9,7 +9,7 @@ use Rattle.rec_counts.specs.Counts.{State, slot_at, with_slot, decremented}
 use Rattle.rec_counts.specs.Lists.{times}
 use Rattle.rec_counts.specs.Rest.{KeepsRest}
 use Rattle.rec_counts.specs.Slot.{absent, is_in, raised}
-use Rattle.rec_counts.proofs.Decrementing.{rest_decremented}
+use Rattle.rec_counts.proofs.Decrementing.{rest_decremented, green_kept}
 use Rattle.rec_counts.proofs.Keeping.{field_kept}
 use Rattle.rec_counts.proofs.Times.{one-same, times-nil}
 use Rattle.rec_apply.specs.Batch.{all_counted, all_down, all_up, counted_down, counted_up}
@@ -18,6 +18,11 @@ use Rattle.rec_apply.proofs.Naming.{named-cons}
 use Rattle.rec_release.specs.Sweep.{Swept, swept_if}
 use Rattle.rec_core.specs.Settling.{AreUnheld}
 use Rattle.rec_core.proofs.Rest.SettlingTests.{AreAlike, decremented_other, outside_same, unheld_alike}
+use Rattle.rec_counts.specs.Colour.{in_use, is_green}
+use Rattle.rec_counts.specs.declared.colour.Colour.{Colour}
+use Rattle.rec_counts.specs.declared.colour.Colour.TheVariants.{Black, Gray, Green, Orange, Purple, White}
+use Rattle.rec_apply.proofs.Resting.{all_keep}
+use Rattle.rec_apply.specs.declared.way.Way.TheVariants.{Down, Up}
 
 -- nothing changes of a member but its count
 pub record IsQuiet (s t : State) : Type 0 where
@@ -100,6 +105,30 @@ unheld_batch fields words left s up down no_up no_down u =
     let q : IsQuiet s risen = quiet_all_up s up no_up in
     let r : IsQuiet risen (all_down risen down) = quiet_all_down risen down (λ x i e. no_down x i (sym (q.alike.set x) ∙ e)) in
     unheld_quiet fields words left s (all_down risen down) (quiet_then q r) u
+
+-- no increment and no decrement makes a slot Green, or takes it from one that is
+in_use_same : (c : Colour) → is_green (in_use c) ≡ is_green c
+in_use_same Green = refl
+in_use_same Black = refl
+in_use_same Gray = refl
+in_use_same White = refl
+in_use_same Purple = refl
+in_use_same Orange = refl
+
+abbrev SameGreens : (s t : State) → Type 0
+SameGreens s t = (x : ℕ) → is_green (slot_at t x).colour ≡ is_green (slot_at s x).colour
+
+same_up : (s : State) (target : Option ℕ) → SameGreens s (counted_up s target)
+same_up s None x = refl
+same_up s (Some y) x = field_kept (λ (v : Slot). is_green v.colour) s.slots y (raised (slot_at s y)) (in_use_same (slot_at s y).colour) x
+
+same_down : (s : State) (target : Option ℕ) → SameGreens s (counted_down s target)
+same_down s None x = refl
+same_down s (Some y) x = green_kept s y x
+
+pub same_counted : (s : State) (up down : List (Option ℕ)) (x : ℕ) → is_green (slot_at (all_down (all_up s up) down) x).colour ≡ is_green (slot_at s x).colour
+same_counted s up down =
+    all_keep Down (SameGreens s) (λ u t k x. same_down u t x ∙ k x) (all_up s up) down (all_keep Up (SameGreens s) (λ u t k x. same_up u t x ∙ k x) s up (λ x. refl))
 
 -- what a sweep makes of a slot
 record IsSwept (b : Bool) (v w : Slot) : Type 0 where

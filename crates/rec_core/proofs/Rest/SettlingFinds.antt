@@ -1,5 +1,5 @@
 -- A trial that was offered every slot finds all garbage.
-use Rattle.std.proofs.Common.{◌≡◌, ℕ, zero, suc, ◌+◌, ◌<◌, ◌&&◌, Bool, true, false, not, leb, ltb, List, length, refl, sym, ap, ◌∙◌, arith, IsNone}
+use Rattle.std.proofs.Common.{◌≡◌, ◌||◌, ℕ, zero, suc, ◌+◌, ◌<◌, ◌&&◌, Bool, true, false, not, leb, ltb, List, length, refl, sym, ap, ◌∙◌, arith, IsNone}
 use Rattle.std.specs.List.{count_by, range_with_len}
 use Rattle.std.proofs.lemmas.Bool.Decides.{nat_tests}
 use Rattle.std.proofs.lemmas.Bool.{false≢true}
@@ -7,71 +7,108 @@ use Rattle.rec_word.specs.Word.{target_of, is_slot}
 use Rattle.rec_model.specs.Sums.{only_if}
 use Rattle.rec_counts.specs.Counts.{State, slot_at}
 use Rattle.rec_counts.specs.Lists.{one, times}
-use Rattle.rec_counts.specs.Slot.{absent}
+use Rattle.rec_counts.specs.Slot.{absent, stays}
+use Rattle.rec_counts.specs.declared.slot.Slot.{Slot}
+use Rattle.rec_counts.specs.Colour.{is_green}
 use Rattle.rec_counts.proofs.Keeping.{unreleased_within}
 use Rattle.rec_trial.specs.Loaded.{Run}
 use Rattle.rec_trial.specs.Promised.{IsTrial}
-use Rattle.rec_trial.specs.Still.{AreStill, IsHeld, IsExact, IsReached, references, rest}
+use Rattle.rec_trial.specs.Still.{AreStill, IsSeed, IsHeld, IsExact, IsReached, references, rest}
 use Rattle.rec_trial.specs.Still as still
 use Rattle.rec_trial.specs.Tried.{IsOver}
 use Rattle.rec_trial.specs.Trial.{next_of}
-use Rattle.rec_core.specs.Settling.{unreleased_slots, IsOffered, IsReachable, IsGarbage, FindsGarbage}
+use Rattle.rec_core.specs.Settling.{offered_slots, IsOffered, IsReachable, IsGarbage, FindsGarbage}
 use Rattle.rec_core.specs.Settling as settling
 use Rattle.rec_core.proofs.Rest.SettlingSums.{sum_by_alike, times-range, times-filter}
 
+-- what is offered is not released, and not Green
+pub open_unreleased : (v : Slot) → stays v ≡ false → v.released ≡ false
+open_unreleased v e = by v.released e
+  where
+    by : (b : Bool) → (b || is_green v.colour) ≡ false → b ≡ false
+    by true h = absurd (false≢true (sym h))
+    by false h = refl
+
+pub open_other : (v : Slot) → stays v ≡ false → is_green v.colour ≡ false
+open_other v e = by v.released e
+  where
+    by : (b : Bool) → (b || is_green v.colour) ≡ false → is_green v.colour ≡ false
+    by true h = absurd (false≢true (sym h))
+    by false h = h
+
+pub open_both : (v : Slot) → v.released ≡ false → is_green v.colour ≡ false → stays v ≡ false
+open_both v r g = ap (λ b. b || is_green v.colour) r ∙ g
+
 -- each stands once among them
-pub times_unreleased : (s : State) (x : ℕ) → times x (unreleased_slots s) ≡ one (not (slot_at s x).released)
-times_unreleased s x = times-filter x (λ n. not (slot_at s n).released) (range_with_len 0 (length s.slots)) ∙ go (slot_at s x).released refl
+pub times_offered : (s : State) (x : ℕ) → times x (offered_slots s) ≡ one (not (stays (slot_at s x)))
+times_offered s x = times-filter x (λ n. not (stays (slot_at s n))) (range_with_len 0 (length s.slots)) ∙ go (stays (slot_at s x)) refl
   where
     inside : (x n : ℕ) → x < n → one (leb 0 x && ltb x (0 + n)) ≡ 1
     inside x n l = grind (arith, nat_tests)
 
-    go : (b : Bool) → (slot_at s x).released ≡ b → only_if (not b) (times x (range_with_len 0 (length s.slots))) ≡ one (not b)
+    go : (b : Bool) → stays (slot_at s x) ≡ b → only_if (not b) (times x (range_with_len 0 (length s.slots))) ≡ one (not b)
     go true e = refl
-    go false e = times-range x 0 (length s.slots) ∙ inside x (length s.slots) (unreleased_within s x e)
+    go false e = times-range x 0 (length s.slots) ∙ inside x (length s.slots) (unreleased_within s x (open_unreleased (slot_at s x) e))
 
-pub unreleased_inside : (s : State) (x : ℕ) → 0 < times x (unreleased_slots s) → x < length s.slots
-unreleased_inside s x h = go (slot_at s x).released refl
+pub offered_inside : (s : State) (x : ℕ) → 0 < times x (offered_slots s) → x < length s.slots
+offered_inside s x h = go (stays (slot_at s x)) refl
   where
-    go : (b : Bool) → (slot_at s x).released ≡ b → x < length s.slots
-    go true e = let n : times x (unreleased_slots s) ≡ 0 = times_unreleased s x ∙ ap (λ b. one (not b)) e in absurd (omega (arith, n, h))
-    go false e = unreleased_within s x e
+    go : (b : Bool) → stays (slot_at s x) ≡ b → x < length s.slots
+    go true e = let n : times x (offered_slots s) ≡ 0 = times_offered s x ∙ ap (λ b. one (not b)) e in absurd (omega (arith, n, h))
+    go false e = unreleased_within s x (open_unreleased (slot_at s x) e)
 
 module _ {fields : ℕ} {before : State} {r : Run} {marked : List ℕ} (word : ℕ → ℕ → ℕ) (holds : ℕ → ℕ) (o : IsOver fields before r marked) (exact : IsExact fields word before r marked) (a : IsOffered fields word holds before) where
-  -- what is not released was marked
-  pub all_marked : (n : ℕ) → (slot_at before n).released ≡ false → 0 < times n marked
+  -- what is neither released nor Green was marked
+  pub all_marked : (n : ℕ) → stays (slot_at before n) ≡ false → 0 < times n marked
   all_marked n e = exact.reached_marked n (still.IsReached.seed (a.seeds n e))
 
-  same_marked : (n : ℕ) → times n marked ≡ times n (unreleased_slots before)
-  same_marked n = go (slot_at before n).released refl
+  -- and nothing else: a seed is Purple, and no word that the trial sees leads to a Green slot
+  seed_other : (n : ℕ) → IsSeed before n → is_green (slot_at before n).colour ≡ false
+  seed_other n e = ap is_green e.purple
+
+  marked_open : (n : ℕ) → 0 < times n marked → stays (slot_at before n) ≡ false
+  marked_open n m = open_both (slot_at before n) (o.marked_unreleased n m) (by (exact.marked_reached n m))
     where
-      go : (b : Bool) → (slot_at before n).released ≡ b → times n marked ≡ times n (unreleased_slots before)
-      go true e = let u : times n (unreleased_slots before) ≡ 0 = times_unreleased before n ∙ ap (λ b. one (not b)) e in omega (arith, u, none (times n marked) refl)
+      by : {x : ℕ} → IsReached fields word before x → is_green (slot_at before x).colour ≡ false
+      by (still.IsReached.seed {x} e) = seed_other x e
+      by (still.IsReached.along {n = k} {x} p field l t) = (a.shown k field x l t).1
+
+  same_marked : (n : ℕ) → times n marked ≡ times n (offered_slots before)
+  same_marked n = go (stays (slot_at before n)) refl
+    where
+      go : (b : Bool) → stays (slot_at before n) ≡ b → times n marked ≡ times n (offered_slots before)
+      go true e = let u : times n (offered_slots before) ≡ 0 = times_offered before n ∙ ap (λ b. one (not b)) e in omega (arith, u, none (times n marked) refl)
         where
           none : (k : ℕ) → times n marked ≡ k → times n marked ≡ 0
           none zero z = z
-          none (suc k) z = absurd (false≢true (sym (o.marked_unreleased n (omega (arith, z))) ∙ e))
-      go false e = let u : times n (unreleased_slots before) ≡ 1 = times_unreleased before n ∙ ap (λ b. one (not b)) e in omega (arith, u, o.marked_once n, all_marked n e)
+          none (suc k) z = absurd (false≢true (sym (marked_open n (omega (arith, z))) ∙ e))
+      go false e = let u : times n (offered_slots before) ≡ 1 = times_offered before n ∙ ap (λ b. one (not b)) e in omega (arith, u, o.marked_once n, all_marked n e)
 
   -- so the rest of a slot is how often it is held
-  rest_is : (n : ℕ) → (slot_at before n).released ≡ false → rest fields word marked before n ≡ holds n
+  rest_is : (n : ℕ) → stays (slot_at before n) ≡ false → rest fields word marked before n ≡ holds n
   rest_is n e =
-      let same : references fields word marked n ≡ references fields word (unreleased_slots before) n =
-      sum_by_alike (λ m. count_by (λ field. is_slot n (target_of (word m field))) (range_with_len 0 fields)) (unreleased_slots before) marked before.slots absent (unreleased_inside before) same_marked in
+      let same : references fields word marked n ≡ references fields word (offered_slots before) n =
+      sum_by_alike (λ m. count_by (λ field. is_slot n (target_of (word m field))) (range_with_len 0 fields)) (offered_slots before) marked before.slots absent (offered_inside before) same_marked in
       omega (arith, same, a.counted n e)
 
   reachable : {n : ℕ} → IsHeld fields word marked before n → IsReachable fields word holds n
-  reachable (still.IsHeld.rests {x} m h) = settling.IsReachable.held (omega (arith, rest_is x (o.marked_unreleased x m), h))
+  reachable (still.IsHeld.rests {x} m h) = settling.IsReachable.held (omega (arith, rest_is x (marked_open x m), h))
   reachable (still.IsHeld.along p field l t) = settling.IsReachable.along (reachable p) field l t
 
-  held : {n : ℕ} → IsReachable fields word holds n → IsHeld fields word marked before n
-  held (settling.IsReachable.held {x} h) = still.IsHeld.rests (all_marked x (a.held x h)) (omega (arith, rest_is x (a.held x h), h))
-  held (settling.IsReachable.along p field l t) = still.IsHeld.along (held p) field l t
+  -- a path to a slot that isn't Green has no Green slot on it
+  held : {n : ℕ} → is_green (slot_at before n).colour ≡ false → IsReachable fields word holds n → IsHeld fields word marked before n
+  held g (settling.IsReachable.held {x} h) =
+      let open_slot : stays (slot_at before x) ≡ false = open_both (slot_at before x) (a.held x h) g in
+      still.IsHeld.rests (all_marked x open_slot) (omega (arith, rest_is x open_slot, h))
+  held g (settling.IsReachable.along {n = k} {x} p field l t) = still.IsHeld.along (held (a.shown k field x l t).0 p) field l t
 
   found : FindsGarbage fields word holds before r.work.counts
   found = record {
-    only = λ n m. record { unreleased = o.marked_unreleased n (omega (arith, o.members_marked n, m)); unreached = λ p. exact.members_unheld n m (held p) };
-    all = λ n g. exact.unheld_members n (all_marked n g.unreleased) (λ p. g.unreached (reachable p));
+    only = λ n m.
+        let marked_there : 0 < times n marked = omega (arith, o.members_marked n, m) in
+        let other : is_green (slot_at before n).colour ≡ false = open_other (slot_at before n) (marked_open n marked_there) in
+        record { unreleased = o.marked_unreleased n marked_there; other = other; unreached = λ p. exact.members_unheld n m (held other p) };
+    all = λ n g. exact.unheld_members n (all_marked n (open_both (slot_at before n) g.unreleased g.other)) (λ p. g.unreached (reachable p));
   }
 
 -- A trial on words that do not change, which was offered each slot that is not released: the members of its sets are exactly the

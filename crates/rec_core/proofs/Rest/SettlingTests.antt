@@ -7,7 +7,7 @@ use Rattle.rec_word.specs.Word.{target_of, is_slot}
 use Rattle.rec_model.specs.Sums.{only_if}
 use Rattle.rec_model.proofs.Sums.{sum_at_same, sum_at-set}
 use Rattle.rec_counts.specs.declared.colour.Colour.{Colour}
-use Rattle.rec_counts.specs.declared.colour.Colour.TheVariants.{Black, Purple, Gray, White, Orange}
+use Rattle.rec_counts.specs.declared.colour.Colour.TheVariants.{Black, Purple, Gray, White, Orange, Green}
 use Rattle.rec_counts.specs.declared.slot.Slot.{Slot}
 use Rattle.rec_counts.specs.Counts.{State, IsKept, slot_at, with_slot, decremented}
 use Rattle.rec_counts.specs.Lists.{one}
@@ -130,6 +130,7 @@ orange_not Black e h = cc
 orange_not Purple e h = cc
 orange_not Gray e h = cc
 orange_not White e h = cc
+orange_not Green e h = cc
 
 off : (s : State) (target : Option ℕ) → IsOff s (taken_off true s target) target
 off s None = record { alike = record { set = λ x. refl; released = λ x. refl; colour = λ x i e h. h }; cyclic = λ x i e h. omega arith }

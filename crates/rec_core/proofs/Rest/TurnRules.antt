@@ -37,6 +37,7 @@ use Rattle.rec_core.proofs.Runs.{given_is}
 use Rattle.rec_core.proofs.Trying.{loads_child}
 use Rattle.rec_core.proofs.Turning.{plain_left, mutator_at, some_op, freed_more}
 use Rattle.rec_core.proofs.Turns.{now_at}
+use Rattle.rec_trial.specs.Rules.{visible}
 
 -- what a turn leaves where no mailbox is taken, with its operation named
 plain : (w : Core) (op its : Op) (word : ℕ) (q : Private) (phase : Phase) → w.collector.phase ≡ phase → left_by w.collector word (box w (looked_at phase)) phase ≡ box w (looked_at phase) → op ≡ its
@@ -126,7 +127,7 @@ rule_is w op word q turn kept found (Step.trial m trying named on) =
     let (place, its) = loads_child m op named in
     let there : word ≡ slice_index_or w.words place 0 = found ∙ ap (cell (cells_of w)) its in
     let stays : slice_set w.words place word ≡ w.words = ap (slice_set w.words place) there ∙ set-get_or w.words place 0 in
-    IsTurn.tries m place q turn trying (sym named ∙ ap (λ o. Some o) its) (subst (λ n. TriesOn w.collector (parts_of w.collector) (trials.took_of (record { machine = m; counts = w.collector.counts }) n) q turn) there on) (
+    IsTurn.tries m place q turn trying (sym named ∙ ap (λ o. Some o) its) (subst (λ n. TriesOn w.collector (parts_of w.collector) (trials.took_of (record { machine = m; counts = w.collector.counts }) (visible w.collector.counts n)) q turn) there on) (
     plain w op (ops.LoadChild place) word q (Trying m) trying refl its ∙ ap (λ (ws : List ℕ). let v : Core = record w { words = ws; collector = q } in v) stays
     )
 rule_is w op word q turn kept found (Step.preparation m preparing named on) =

@@ -32,6 +32,7 @@ use Rattle.rec_core.proofs.Landed.{HasLanded}
 use Rattle.rec_core.proofs.Rest.SettlingBetween.{unheld_swept}
 use Rattle.rec_core.proofs.Sweeping.{swept_below, due_released}
 use Rattle.rec_core.proofs.Turns.{now_at}
+use Rattle.rec_counts.specs.Colour.{is_green}
 
 -- what releases nothing anew, and nothing less
 pub within_same : (w : Core) (words : List ℕ) (s t : State) → ((x : ℕ) → (slot_at t x).released ≡ (slot_at s x).released) → AreWithinReach w words s → AreWithinReach w words t
@@ -109,9 +110,9 @@ module _ (w : Core) (n slot : ℕ) (kept : IsKept w) (phase : w.collector.phase 
   ]
 
   found_swept : AreFound w w.words s → AreFound after w.words (swept s slot)
-  found_swept found x unreleased no_set not_held = elim (cases_eq x slot) [
+  found_swept found x unreleased other_colour no_set not_held = elim (cases_eq x slot) [
     | inl same ↦ not_held (subst (IsHeldIn after w.words) (sym same) (IsReachable.held free_held))
-    | inr other ↦ found x (sym (ap (λ (v : Slot). v.released) (others x other)) ∙ unreleased) (sym (ap (λ (v : Slot). v.set) (others x other)) ∙ no_set) (λ held. not_held (still_held x held))
+    | inr other ↦ found x (sym (ap (λ (v : Slot). v.released) (others x other)) ∙ unreleased) (sym (ap (λ (v : Slot). is_green v.colour) (others x other)) ∙ other_colour) (sym (ap (λ (v : Slot). v.set) (others x other)) ∙ no_set) (λ held. not_held (still_held x held))
   ]
 
   -- the one slot that is swept

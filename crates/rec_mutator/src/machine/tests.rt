@@ -1,4 +1,5 @@
 ghost use Rattle.std.specs.Prelude.{◌≡◌, ◌<◌, length, IsTrue, IfOk};
+ghost use Rattle.rec_word.specs.Header.{IsTakenHeader};
 ghost use Rattle.rec_mutator.specs.Private.{HasOperands, IsValid};
 ghost use Rattle.rec_mutator.specs.Took.{IsFound, IsRequested};
 
@@ -24,11 +25,19 @@ fn may_find(machine: &Machine, op: Op, word: u64) -> bool
     ensures { IsTrue result → IsFound machine.now op word }
 {
     match op {
-        Op::LoadHeader(_) => 0 < word && word <= 1 << 32,
+        Op::LoadHeader(_) => is_header(word),
         Op::LoadEpoch => is_requested(machine, word),
         Op::TakeBox(..) => word == crossing(machine.epoch(), Mailbox::Spare),
         _ => true,
     }
+}
+
+// Whether the header of a taken slot may be this.
+fn is_header(word: u64) -> bool
+    ensures { IsTrue result → IsTakenHeader word }
+{
+    let bits = word % (1 << 63);
+    0 < bits && bits <= 1 << 32
 }
 
 // Whether the epoch word of the heap may be this.
@@ -91,6 +100,8 @@ fn puts_and_logs(rt: HostRuntime) -> Result<(), Fail> {
         val: 0,
     };
     begin(&rt, &mut machine, Work::Command(put));
+    assert_eq!(rt; step(&rt, &mut machine, 1), Op::LoadHeader(0));
+    assert_eq!(rt; machine.answer(), None);
     assert_eq!(rt; step(&rt, &mut machine, 0), Op::SwapField(0, FIRST_WORD));
     let first = Told {
         answer: Answer::Done,
@@ -100,6 +111,7 @@ fn puts_and_logs(rt: HostRuntime) -> Result<(), Fail> {
     assert_eq!(rt; machine.answer(), Some(Made::Answered(first)));
     begin(&rt, &mut machine, Work::Command(put));
     let second_word = FIRST_WORD + (1 << 46);
+    assert_eq!(rt; step(&rt, &mut machine, 1), Op::LoadHeader(0));
     assert_eq!(rt;
         step(&rt, &mut machine, FIRST_WORD),
         Op::SwapField(0, second_word)
@@ -115,7 +127,11 @@ fn puts_and_logs(rt: HostRuntime) -> Result<(), Fail> {
         old: FIRST_WORD,
     };
     assert_eq!(rt; machine.entries(), [first, second].as_slice());
-    assert_eq!(rt; machine.steps(), 1);
+    assert_eq!(rt; machine.steps(), 2);
+    begin(&rt, &mut machine, Work::Command(put));
+    assert_eq!(rt; step(&rt, &mut machine, 1 << 63 | 1), Op::LoadHeader(0));
+    assert_eq!(rt; machine.answer(), told(Answer::NoField));
+    assert_eq!(rt; machine.entries().len(), 2);
     Ok(())
 }
 
@@ -128,12 +144,19 @@ fn scans_for_a_free_slot(rt: HostRuntime) -> Result<(), Fail> {
         Work::Command(Cmd::New { reg: 1, label: 7 }),
     );
     assert_eq!(rt; step(&rt, &mut machine, 0), Op::LoadFreed);
-    assert_eq!(rt; step(&rt, &mut machine, 1), Op::ClaimHeader(0, 7));
+    assert_eq!(rt; step(&rt, &mut machine, 1), Op::ClaimHeader(0, 8));
     assert_eq!(rt; machine.answer(), None);
-    assert_eq!(rt; step(&rt, &mut machine, 0), Op::ClaimHeader(1, 7));
+    assert_eq!(rt; step(&rt, &mut machine, 0), Op::ClaimHeader(1, 8));
     assert_eq!(rt; machine.answer(), told(Answer::Done));
     assert_eq!(rt; machine.register(1), Some(1));
-    assert_eq!(rt; machine.entries(), [Entry::Born { slot: 1 }].as_slice());
+    assert_eq!(rt;
+        machine.entries(),
+        [Entry::Born {
+            slot: 1,
+            leaf: false
+        }]
+        .as_slice()
+    );
     assert_eq!(rt; machine.steps(), 3);
     Ok(())
 }
@@ -146,7 +169,7 @@ fn scan_all(rt: &impl Abort, machine: &mut Machine, before: u64, after: u64) -> 
     begin(rt, machine, Work::Command(Cmd::New { reg: 1, label: 7 }));
     assert_eq!(rt; step(rt, machine, before), Op::LoadFreed);
     for slot in 0..4 {
-        assert_eq!(rt; step(rt, machine, 1), Op::ClaimHeader(slot, 7));
+        assert_eq!(rt; step(rt, machine, 1), Op::ClaimHeader(slot, 8));
     }
     assert_eq!(rt; step(rt, machine, after), Op::LoadFreed);
     assert_eq!(rt; machine.steps(), 6);
@@ -266,6 +289,8 @@ fn crosses(rt: HostRuntime) -> Result<(), Fail> {
         val: 0,
     };
     begin(&rt, &mut machine, Work::Command(put));
+    assert_eq!(rt; step(&rt, &mut machine, 1), Op::LoadHeader(0));
+    assert_eq!(rt; machine.answer(), None);
     assert_eq!(rt; step(&rt, &mut machine, 0), Op::SwapField(0, FIRST_WORD));
     begin(&rt, &mut machine, Work::Poll);
     assert_eq!(rt; step(&rt, &mut machine, 2), Op::LoadEpoch);

@@ -1,11 +1,25 @@
-use Rattle.std.proofs.Common.{◌≡◌, ◌<◌, Some, length, slice_get, arith, sym, ap, ◌∙◌}
+use Rattle.std.proofs.Common.{◌≡◌, Some, arith, length, sym, subst, ap, ◌∙◌}
 use Rattle.rec_counts.specs.Counts.{State}
-use Rattle.rec_counts.proofs.Front.{first_in}
-use Rattle.rec_counts.proofs.Times.{in_range_once}
+use Rattle.rec_counts.specs.Lists.{times}
+use Rattle.rec_release.specs.Release.{emptied, first_of, without_first}
+use Rattle.rec_release.proofs.Keeping.{FirstOut, OnTheWay, first_out}
 use Rattle.rec_release.proofs.release.release_next.Goals as goal
+use Rattle.rec_counts.specs.Colour.{is_green}
 
-pub release-requires : goal.release-requires
-release-requires c =
-    let e : slice_get c.args.counts.now.zeros 0 ≡ Some c.in_ok-slot.slot = sym c.pop_zero.ensures.first ∙ c.in_ok-slot.was in
-    let l : c.in_ok-slot.slot < length c.args.counts.now.slots = in_range_once _ _ _ c.rules.ensures.zeros_once (first_in _ _ e) in
-    omega (arith, l, ap (λ (s : State). length s.slots) c.pop_zero.ensures.rest)
+pub colour-requires : goal.colour-requires
+colour-requires c =
+    let out : FirstOut c.loop-at.counts (without_first c.loop-at.counts.zeros c.loop-at.counts) c.in-Some.at = first_out c.loop-at.counts c.in-Some.at (sym c.release_first.ensures.first ∙ c.in-Some.is) c.loop-at.invariant.ready in
+    omega (arith, out.in_range, ap (λ (s : State). length s.slots) c.release_first.ensures.released)
+
+pub empty-requires-clause-unlisted : goal.empty-requires-clause-unlisted
+empty-requires-clause-unlisted c =
+    let out : FirstOut c.loop-at.counts (without_first c.loop-at.counts.zeros c.loop-at.counts) c.in-Some.at = first_out c.loop-at.counts c.in-Some.at (sym c.release_first.ensures.first ∙ c.in-Some.is) c.loop-at.invariant.ready in
+    ap (λ (s : State). times c.in-Some.at.slot s.free) c.release_first.ensures.released ∙ out.unlisted
+
+pub loop-at-preserved : goal.loop-at-preserved
+loop-at-preserved c =
+    let was : first_of c.loop-at.counts.zeros ≡ Some c.in-Some.at = sym c.release_first.ensures.first ∙ c.in-Some.is in
+    let released : c.release_first.new.counts ≡ without_first c.loop-at.counts.zeros c.loop-at.counts = c.release_first.ensures.released in
+    let out : FirstOut c.loop-at.counts c.release_first.new.counts c.in-Some.at = subst (λ t. FirstOut c.loop-at.counts t c.in-Some.at) (sym released) (first_out c.loop-at.counts c.in-Some.at was c.loop-at.invariant.ready) in
+    let emptied_is : c.empty.new.counts ≡ emptied c.release_first.new.counts c.in-Some.at.slot = c.empty.ensures in
+    subst (OnTheWay c.args.counts.now) (sym emptied_is) (record { ready = out.ready; same = out.green (ap is_green (sym c.colour.ensures) ∙ (sym c.is_green.ensures ∙ c.if-not-is_green.false)) ∙ c.loop-at.invariant.same })

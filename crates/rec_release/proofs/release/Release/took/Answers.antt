@@ -4,18 +4,22 @@ use Rattle.rec_word.specs.Place.{places_from}
 use Rattle.rec_word.specs.Word.{target_of}
 use Rattle.rec_counts.specs.Counts.{State}
 use Rattle.rec_release.specs.declared.at.At.{At}
-use Rattle.rec_release.specs.Release.{Machine, Work, gone_on, next_of, took_of, IsAtWork}
+use Rattle.rec_release.specs.Release.{IsReady, Machine, Work, gone_on, next_of, took_of, IsAtWork}
 use Rattle.rec_release.specs.Released.{Released}
 use Rattle.rec_release.specs.TakenOff.{taken_off}
 use Rattle.rec_release.proofs.Orange.{keeps_orange}
 use Rattle.rec_release.proofs.Runs.{at_work, came_more, goes_on, took_some, Goes}
 use Rattle.rec_release.proofs.release.Release.took.Goals as goal
+use Rattle.rec_release.proofs.TakenOff.{ready_off}
 
 pub returns-in_default : goal.returns-in_default
 unfolding next_of
 returns-in_default c =
     let m : c.args.self.now ≡ record { fields = c.self.inside.fields; at = None; lowers = c.self.inside.lowers } = sym c.self.view_is ∙ ap (λ (x : Option At). record { fields = c.self.inside.fields; at = x; lowers = c.self.inside.lowers }) c.in_default.is in
     absurd (false≢true (subst (λ (p : Machine). IsSome (next_of p)) m c.requires.busy))
+
+pub go_on-self-inside-requires-clause-ready : goal.go_on-self-inside-requires-clause-ready
+go_on-self-inside-requires-clause-ready c = subst IsReady (sym c.take_off.ensures) (ready_off _ _ _ c.requires.kept.ready)
 
 pub returns : goal.returns
 returns c =

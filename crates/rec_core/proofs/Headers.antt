@@ -1,0 +1,12 @@
+-- The header of a new object.
+use Rattle.std.proofs.Common.{ℕ, ◌^◌, ◌<◌, Bool, true, false, arith}
+use Rattle.std.proofs.lemmas.Bool.Decides.{nat_tests}
+use Rattle.rec_word.specs.Header.{header_word, IsHeaderOf, IsTakenHeader}
+
+pub header_is : (leaf : Bool) (label : ℕ) → label < 2 ^ 32 → IsHeaderOf leaf label (header_word leaf label)
+header_is true label fits = record { leaf = grind (arith, nat_tests); label = omega (arith, fits) }
+header_is false label fits = record { leaf = grind (arith, nat_tests, fits); label = omega (arith, fits) }
+
+pub header_taken : (leaf : Bool) (label : ℕ) → label < 2 ^ 32 → IsTakenHeader (header_word leaf label)
+header_taken true label fits = record { some = omega (arith, fits); few = omega (arith, fits); small = omega (arith, fits) }
+header_taken false label fits = record { some = omega (arith, fits); few = omega (arith, fits); small = omega (arith, fits) }
