@@ -78,27 +78,3 @@ impl Index {
         Some(slot as u16)
     }
 }
-
-#[cfg(test)]
-mod tests {
-    use super::*;
-    use std::test::Fail;
-
-    #[test]
-    fn finds_the_lowest_member(rt: HostRuntime) -> Result<(), Fail> {
-        let mut index = Index::open(rt.alloc())?;
-        assert_eq!(rt; index.lowest(), None);
-        index.insert(65_535);
-        assert_eq!(rt; index.lowest(), Some(65_535));
-        index.insert(4_160);
-        index.insert(4_159);
-        assert_eq!(rt; index.lowest(), Some(4_159));
-        index.remove(4_159);
-        assert_eq!(rt; index.lowest(), Some(4_160));
-        index.clear();
-        assert_eq!(rt; index.lowest(), None);
-        index.insert(65_535);
-        assert_eq!(rt; index.lowest(), Some(65_535));
-        Ok(())
-    }
-}

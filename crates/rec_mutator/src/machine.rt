@@ -756,6 +756,3 @@ fn none_free(before: u64, after: u64) -> Answer
         Answer::Busy { before, after }
     }
 }
-
-#[cfg(test)]
-mod tests;

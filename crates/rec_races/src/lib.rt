@@ -11,6 +11,8 @@
 #![tactic(auto)]
 
 #[cfg(test)]
+mod adapters;
+#[cfg(test)]
 mod births;
 #[cfg(test)]
 mod crew;
@@ -19,8 +21,12 @@ mod mixed;
 #[cfg(test)]
 mod race;
 #[cfg(test)]
+mod refused_set;
+#[cfg(test)]
 mod rings;
 #[cfg(test)]
 mod settled;
 #[cfg(test)]
 mod signals;
+#[cfg(test)]
+mod words;

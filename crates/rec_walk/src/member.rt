@@ -60,29 +60,3 @@ impl Member {
         None
     }
 }
-
-#[cfg(test)]
-mod tests {
-    use super::*;
-
-    #[test]
-    fn each_field_of_each_slot_once_and_in_order(rt: HostRuntime) {
-        let slots: [u16; 2] = [7, 3];
-        let mut at = Member::first(&slots).expect(&rt, "a first member");
-        assert!(rt; at.index == 0 && at.slot == 7 && at.field == 0);
-        assert!(rt; at.next_field(2));
-        assert!(rt; at.index == 0 && at.slot == 7 && at.field == 1);
-        assert!(rt; !at.next_field(2) && at.field == 1);
-        let mut at = at.next_member(&slots).expect(&rt, "the next member");
-        assert!(rt; at.index == 1 && at.slot == 3 && at.field == 0);
-        assert!(rt; at.next_field(2));
-        assert!(rt; at.index == 1 && at.slot == 3 && at.field == 1);
-        assert!(rt; !at.next_field(2));
-        assert_eq!(rt; at.next_member(&slots), None);
-    }
-
-    #[test]
-    fn an_empty_list_has_no_first_member(rt: HostRuntime) {
-        assert_eq!(rt; Member::first(&[]), None);
-    }
-}

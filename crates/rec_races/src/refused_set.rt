@@ -1,25 +1,14 @@
-//! A machine as it is opened; and a refused set, and the release of its zeros to the end. A test asks at run time for what a call
-//! requires.
+//! A refused set, and the release of its zeros to the end. The test asks at run time for what a call requires.
 ghost use Rattle.std.specs.Prelude.{◌≡◌, ◌<◌, length, IfOk, IsSome};
 ghost use Rattle.rec_release.specs.Release.{IsAtWork, IsReady, next_of};
-ghost use Rattle.rec_sigma.specs.Worked.{IsWorked};
+ghost use Rattle.rec_races.specs.Worked.{IsWorked};
 
-use crate::Machine;
 use rec_counts::{Colour, Counts};
 use rec_release::Release;
 use rec_sigma::refurbish;
-use rec_word::Op;
 use std::alloc::{AllocError as NoMemory, Global};
 use std::process::Abort;
 use std::test::Fail;
-
-#[test]
-fn a_machine_opens_at_rest(rt: HostRuntime) -> Result<(), Fail> {
-    let machine = Machine::open(rt.alloc(), 2, 1, 1, 1, 1, 1)?;
-    assert_eq!(rt; machine.next(), Some(Op::StoreEpoch(2)));
-    assert_eq!(rt; (machine.epoch(), machine.turns()), (1, 0));
-    Ok(())
-}
 
 #[test]
 fn a_refused_set_is_released_to_its_end(rt: HostRuntime) -> Result<(), Fail> {

@@ -1,7 +1,7 @@
 use Rattle.std.proofs.Common.{◌≡◌, ℕ, arith, ap, ◌∙◌}
 use Rattle.rec_counts.specs.Lists.{times}
 use Rattle.rec_counts.proofs.Times.{times-nil}
-use Rattle.rec_collector.proofs.tests.refuse.Goals as goal
+use Rattle.rec_races.proofs.refused_set.refuse.Goals as goal
 
 pub refurbish-requires-clause-refusable : goal.refurbish-requires-clause-refusable
 refurbish-requires-clause-refusable c = record {

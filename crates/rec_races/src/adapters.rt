@@ -1,9 +1,9 @@
-use crate::{
-    BytesSource, Flush, FlushFault, Given, RoomSink, Sink, Source, StdSink, StdSource,
-    SteadySource, Taken,
-};
+//! The adapters over a reader and a writer, which fail.
+
+use rec_io::{Flush, FlushFault, Given, Sink, Source, StdSink, StdSource, Taken};
 use std::alloc::{AllocError, Global};
 use std::io::{self, Error, ErrorKind, Read, Write};
+use std::process::Abort;
 use std::test::Fail;
 
 // What reads by three bytes answer, through the bound, and all that they gave.
@@ -41,54 +41,6 @@ fn write_each<S: Sink>(
         answers.push(sink.write(piece))?;
     }
     Ok(answers)
-}
-
-#[test]
-fn a_source_in_memory_is_read_in_pieces(rt: HostRuntime) -> Result<(), Fail> {
-    let alloc = rt.alloc();
-    let mut source = BytesSource::open(alloc, b"abcdefg", &[6, 2])?;
-    let reads = read_by_threes(alloc, &mut source, 7)?;
-    let want = [
-        Given::Bytes(3),
-        Given::Failed,
-        Given::Bytes(3),
-        Given::Bytes(1),
-        Given::End,
-        Given::Failed,
-        Given::End,
-    ];
-    assert_eq!(rt; reads.answers.as_slice(), want.as_slice());
-    assert_eq!(rt; reads.bytes.as_slice(), b"abcdefg".as_slice());
-    Ok(())
-}
-
-#[test]
-fn a_steady_source_is_read_in_pieces(rt: HostRuntime) -> Result<(), Fail> {
-    let mut source = SteadySource::over(b"abcd");
-    let reads = read_by_threes(rt.alloc(), &mut source, 3)?;
-    let want = [Given::Bytes(3), Given::Bytes(1), Given::End];
-    assert_eq!(rt; reads.answers.as_slice(), want.as_slice());
-    assert_eq!(rt; reads.bytes.as_slice(), b"abcd".as_slice());
-    Ok(())
-}
-
-#[test]
-fn a_sink_in_memory_fills_its_room(rt: HostRuntime) -> Result<(), Fail> {
-    let alloc = rt.alloc();
-    let mut sink = RoomSink::open(alloc, 5, &[2])?;
-    let pieces = [b"abc".as_slice(), b"x", b"defg", b"", b"g"];
-    let answers = write_each(alloc, &mut sink, &pieces)?;
-    let want = [
-        Taken::Bytes(3),
-        Taken::Failed,
-        Taken::Bytes(2),
-        Taken::Bytes(0),
-        Taken::Failed,
-    ];
-    assert_eq!(rt; answers.as_slice(), want.as_slice());
-    assert_eq!(rt; sink.flush(), Ok(()));
-    assert_eq!(rt; sink.bytes(), b"abcde".as_slice());
-    Ok(())
 }
 
 // Gives one byte at the first and third read, fails at the second, and ends there.
