@@ -4,7 +4,7 @@ use std::alloc::{AllocError as NoMemory, Global};
 use std::marker::Model;
 
 /// The registers of a mutator, numbered from 0. Their number never changes.
-#[derive(Debug, Drop)]
+#[derive(Drop)]
 pub struct Frame {
     registers: Vec<Option<u16>>,
 }

@@ -6,7 +6,7 @@ use std::alloc::{AllocError as NoMemory, Global};
 use std::marker::Model;
 
 /// A set of slots, of which the lowest is found at once. Its memory, 8 kilobytes, is taken when it is opened.
-#[derive(Debug, Drop)]
+#[derive(Drop)]
 pub struct Index {
     slots: Level,
     // The words of `slots` that aren't 0, and in `groups` the words of `words` that aren't.

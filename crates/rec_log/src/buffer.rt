@@ -6,7 +6,7 @@ use std::alloc::{AllocError as NoMemory, Global};
 use std::marker::Model;
 
 /// The log of a mutator. Its memory is taken when it is opened.
-#[derive(Debug, Drop)]
+#[derive(Drop)]
 pub struct Buffer {
     entries: Vec<Entry>,
     snapshot: Vec<Option<u16>>,

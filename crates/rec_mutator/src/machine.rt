@@ -21,7 +21,7 @@ use std::marker::Model;
 use std::mem;
 
 /// A mutator: its registers, its log, and how far its work has come. Its memory is taken when it is opened.
-#[derive(Debug, Drop)]
+#[derive(Drop)]
 pub struct Machine {
     number: u8,
     epoch: u32,

@@ -1,7 +1,7 @@
 use crate::{Made, Work};
 
 /// How far a mutator's work has come.
-#[derive(Clone, Copy, Debug, PartialEq, Eq)]
+#[derive(Clone, Copy)]
 pub enum Phase {
     /// No work was begun yet.
     Idle,

@@ -2,7 +2,7 @@ ghost use Rattle.std.specs.Prelude.{◌≡◌, ◌<◌, ◌≤◌, ◌^◌, None
 ghost use Rattle.rec_walk.specs.Walk.{first_in, next_field, next_member};
 
 /// Where a walk stands: a field of a member of its list.
-#[derive(Clone, Copy, Debug, PartialEq, Eq)]
+#[derive(Clone, Copy)]
 pub struct Member {
     /// The member, by its place in the list, from 0.
     pub index: u16,

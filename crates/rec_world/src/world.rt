@@ -47,7 +47,7 @@ use std::alloc::{AllocError as NoMemory, Global};
 use std::marker::Model;
 
 /// A heap on which the commands of one to eight mutators run, and the turns of its collector, step by step, in any order.
-#[derive(Debug, Drop)]
+#[derive(Drop)]
 pub struct World {
     config: Config,
     memory: Memory,
