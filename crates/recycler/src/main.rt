@@ -18,8 +18,6 @@ mod playing;
 mod reading;
 mod run;
 mod status;
-#[cfg(test)]
-mod summary_tests;
 mod writing;
 
 use rec_io::{StdSink, StdSource};

@@ -168,8 +168,6 @@ fn write_made<K: Sink>(alloc: Global, make: Make, sink: &mut K) -> Status
 }
 
 #[cfg(test)]
-mod hostile_tests;
-#[cfg(test)]
-pub(crate) mod tests;
+mod failing_tests;
 #[cfg(test)]
 mod thread_tests;

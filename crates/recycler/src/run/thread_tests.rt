@@ -1,17 +1,35 @@
 //! That the workers of `threads` run beside each other.
-use super::tests::run_behind;
+use super::run;
 use crate::status::Status;
+use rec_io::{BytesSource, RoomSink};
 use rec_threads::Gate;
 use std::process::Abort;
+use std::sync::Wait;
 use std::sync::atomic::{AtomicBool, AtomicU64, Ordering};
 use std::test::Fail;
-use std::thread::yield_now;
+use std::thread::{Threads, yield_now};
 
 // How often a worker that is held looks for what it waits for, at most.
 const LOOKS: u32 = 200_000_000;
 
 // How many turns of the collector a command waits for.
 const TURNS: u64 = 64;
+
+// Behind this gate the script is carried out on threads, to this text.
+fn comes_to<R: Abort + AllocGlobal + Threads + Wait + Sync, G: Gate>(
+    rt: &R,
+    script: &str,
+    gate: &G,
+    text: &str,
+) -> Result<(), Fail> {
+    let words: [&str; 2] = ["recycler", "threads"];
+    let mut source = BytesSource::open(rt.alloc(), script.as_bytes(), &[])?;
+    let mut sink = RoomSink::open(rt.alloc(), 1_000, &[])?;
+    let status = run(rt, rt.alloc(), &words, &mut source, &mut sink, gate);
+    assert_eq!(rt; status, Status::Done);
+    assert_eq!(rt; sink.bytes(), text.as_bytes());
+    Ok(())
+}
 
 // Holds each of two mutators before its second command until the other has come to its own.
 #[derive(Drop)]
@@ -62,10 +80,7 @@ fn mutators_run_beside_each_other(rt: HostRuntime) -> Result<(), Fail> {
     let script = "recycler 1\nheap 2 1 2\nmutator\nnull 1\nnull 1\nmutator\nnull 1\nnull 1\n";
     let text =
         "1.1 done\n1.2 done\n2.1 done\n2.2 done\nlive 1\n#1 label 0 count 2 fields -\nmade 1 refused 0 freed 0\n";
-    let words: [&str; 2] = ["recycler", "threads"];
-    let ran = run_behind(&rt, &words, script.as_bytes(), [&[], &[]], 1_000, &gate)?;
-    assert_eq!(rt; ran.status, Status::Done);
-    assert_eq!(rt; ran.sink.bytes(), text.as_bytes());
+    comes_to(&rt, script, &gate, text)?;
     assert!(rt; !gate.missed.load(Ordering::SeqCst));
     Ok(())
 }
@@ -106,10 +121,7 @@ fn the_collector_runs_beside_a_mutator(rt: HostRuntime) -> Result<(), Fail> {
     let script = "recycler 1\nheap 2 1 2\nmutator\nnew 1 1\nnull 1\nnull 1\nnew 1 2\n";
     let text =
         "1.1 done\n1.2 done\n1.3 done\n1.4 done\nlive 2\n#1 label 0 count 1 fields -\n#2 label 2 count 1 fields -\nmade 3 refused 0 freed 1\n";
-    let words: [&str; 2] = ["recycler", "threads"];
-    let ran = run_behind(&rt, &words, script.as_bytes(), [&[], &[]], 1_000, &gate)?;
-    assert_eq!(rt; ran.status, Status::Done);
-    assert_eq!(rt; ran.sink.bytes(), text.as_bytes());
+    comes_to(&rt, script, &gate, text)?;
     assert!(rt; !gate.missed.load(Ordering::SeqCst));
     Ok(())
 }
