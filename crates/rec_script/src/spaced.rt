@@ -1,7 +1,7 @@
 //! Commands as most scripts spell them: one space between each two words, and an LF behind the last one. Such a line is
 //! read in one pass. Any other line has no answer here, right or wrong, and is read by its words.
 
-ghost use Rattle.std.specs.Prelude.{◌≡◌, ◌≢◌, ◌<◌, ◌≤◌, ◌^◌, ◌++◌, [], ◌∷◌, slice_index, IfSome};
+ghost use Rattle.std.specs.Prelude.{◌≡◌, ◌≢◌, ℕ, ◌<◌, ◌≤◌, ◌^◌, ◌++◌, [], ◌∷◌, slice_index, IfSome};
 ghost use Rattle.std.specs.Fmt.{decimal};
 ghost use Rattle.rec_script.specs.Lines.{spaced};
 ghost use Rattle.rec_script.specs.Script.{IsCommand, command_line};
@@ -143,39 +143,42 @@ pub fn spaced_command(registers: u32, fields: u32, bytes: &[u8]) -> Option<(Cmd,
     ensures found { IfSome result (λ x. bytes.now ≡ spaced (command_line x.0) x.1.now) }
     ensures in_range { IfSome result (λ x. IsCommand registers fields x.0) }
 {
-    let [first, second, third, fourth, rest @ ..] = bytes else {
-        return None;
-    };
-    match (*first, *second, *third, *fourth) {
-        (b'g', b'e', b't', b' ') => {
-            let (dst, src, field, rest) = three_operands((registers, registers, fields), rest)?;
-            Some((Cmd::Get { dst, src, field }, rest))
-        }
-        (b'p', b'u', b't', b' ') => {
-            let (src, field, val, rest) = three_operands((registers, fields, registers), rest)?;
-            Some((Cmd::Put { src, field, val }, rest))
-        }
-        (b'n', b'e', b'w', b' ') => {
-            let (reg, label, rest) = birth(registers, rest)?;
-            Some((Cmd::New { reg, label }, rest))
-        }
-        (b'n', b'u', b'l', b'l') => {
-            let (reg, rest) = operand(registers, behind(b' ', rest)?, b'\n')?;
-            Some((Cmd::Null { reg }, rest))
-        }
-        (b'c', b'o', b'p', b'y') => {
-            let (dst, src, rest) = two_operands(registers, behind(b' ', rest)?)?;
-            Some((Cmd::Copy { dst, src }, rest))
-        }
-        (b'v', b'a', b'l', b'u') => {
-            let rest = behind(b' ', behind(b'e', rest)?)?;
-            let (reg, rest) = operand(registers, rest, b'\n')?;
-            Some((Cmd::Value { reg }, rest))
-        }
-        (b's', b'a', b'm', b'e') => {
-            let (a, b, rest) = two_operands(registers, behind(b' ', rest)?)?;
-            Some((Cmd::Same { a, b }, rest))
-        }
-        _ => None,
+    let (name, rest) = bytes.split_first_chunk::<4>()?;
+    if name == b"get " {
+        let (dst, src, field, rest) = three_operands((registers, registers, fields), rest)?;
+        Some((Cmd::Get { dst, src, field }, rest))
+    } else if name == b"put " {
+        let (src, field, val, rest) = three_operands((registers, fields, registers), rest)?;
+        Some((Cmd::Put { src, field, val }, rest))
+    } else if name == b"new " {
+        let (reg, label, rest) = birth(registers, rest)?;
+        Some((Cmd::New { reg, label }, rest))
+    } else {
+        longer(registers, name, rest)
+    }
+}
+
+/// The same of a command whose name has more than three letters, behind the first four.
+#[inline(always)]
+fn longer<'a>(registers: u32, name: &[u8; 4], rest: &'a [u8]) -> Option<(Cmd, &'a [u8])>
+    requires registers { registers ≤ 64 }
+    ensures found { IfSome result (λ x. name.now ++ rest.now ≡ spaced (command_line x.0) x.1.now) }
+    ensures in_range { (fields : ℕ) → IfSome result (λ x. IsCommand registers fields x.0) }
+{
+    if name == b"null" {
+        let (reg, rest) = operand(registers, behind(b' ', rest)?, b'\n')?;
+        Some((Cmd::Null { reg }, rest))
+    } else if name == b"copy" {
+        let (dst, src, rest) = two_operands(registers, behind(b' ', rest)?)?;
+        Some((Cmd::Copy { dst, src }, rest))
+    } else if name == b"valu" {
+        let rest = behind(b' ', behind(b'e', rest)?)?;
+        let (reg, rest) = operand(registers, rest, b'\n')?;
+        Some((Cmd::Value { reg }, rest))
+    } else if name == b"same" {
+        let (a, b, rest) = two_operands(registers, behind(b' ', rest)?)?;
+        Some((Cmd::Same { a, b }, rest))
+    } else {
+        None
     }
 }
