@@ -22,8 +22,6 @@ mod rule;
 mod scan;
 mod seating;
 mod spare;
-#[cfg(test)]
-mod tests;
 mod views;
 
 pub use collector::Collector;
