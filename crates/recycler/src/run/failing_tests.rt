@@ -1,7 +1,8 @@
-//! Sources and sinks that fail, each at every place.
+//! Sources and sinks that fail, each at every place, and the messages of a script's error, which the program doesn't print.
 use super::run;
 use crate::status::Status;
 use rec_io::{BytesSource, RoomSink, StdSource};
+use rec_script::{Kind, ScriptError};
 use rec_threads::OpenGate;
 use std::io::{self, Error, ErrorKind, Read};
 use std::process::Abort;
@@ -179,5 +180,16 @@ fn each_read_of_a_byte_fails(rt: HostRuntime) -> Result<(), Fail> {
         assert_eq!(rt; status, ends, "at {fails}");
         assert_eq!(rt; sink.bytes(), text.as_bytes(), "at {fails}");
     }
+    Ok(())
+}
+
+#[test]
+fn scripts_errors_have_messages(rt: HostRuntime) -> Result<(), Fail> {
+    let bad = ScriptError::Bad {
+        line: 3,
+        kind: Kind::NotUtf8,
+    };
+    let said = format!(in rt.alloc(); "{}; {}", bad, ScriptError::NoMemory)?;
+    assert_eq!(rt; said.as_str(), "not a script; out of memory");
     Ok(())
 }
