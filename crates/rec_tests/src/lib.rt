@@ -9,6 +9,10 @@
 //! that `stop` gives settles, to just the slots that registers reach, with counts that a test sums anew. Every loop ends by a count,
 //! and every thread is joined.
 //!
+//! The program's run, from bytes to bytes:
+//! - `failures`: sources and sinks fail at every place, and the run says so.
+//! - `workers`: mutators' workers are held until others have come on, and so is one until the collector has.
+//!
 //! On one thread:
 //! - `cycles`: played scripts leave garbage cycles, and some collections later each is gone.
 //! - `adapters`: a reader and a writer of std that fail are passed on.
@@ -26,6 +30,8 @@ mod crew;
 #[cfg(test)]
 mod cycles;
 #[cfg(test)]
+mod failures;
+#[cfg(test)]
 mod mixed;
 #[cfg(test)]
 mod race;
@@ -39,3 +45,5 @@ mod settled;
 mod signals;
 #[cfg(test)]
 mod words;
+#[cfg(test)]
+mod workers;

@@ -1,0 +1,42 @@
+-- What a heap that was set running leaves as it is stopped is told by one order.
+use Rattle.std.proofs.Common.{◌≡◌, ◌∙◌, ℕ, List, length, refl, sym, ap, arith}
+use Rattle.rec_core.specs.Core.{Core, opened}
+use Rattle.rec_world.specs.Journal.{Notes}
+use Rattle.rec_table.specs.Held.{Held, fresh}
+use Rattle.rec_table.proofs.Beats.{config_after}
+use Rattle.rec_order.specs.Naming.{first_naming, named_after_all}
+use Rattle.rec_play.specs.Played.{config_of}
+use Rattle.rec_script.specs.Script.{Contents}
+use Rattle.rec_run.proofs.Driven.{was_driven}
+use Rattle.rec_run.specs.Running.{IsSetRunning}
+use Rattle.rec_run.proofs.driving.drive_script.Goals as goal
+
+pub returns-clause-outcome : goal.returns-clause-outcome
+returns-clause-outcome g c =
+    let so : IsSetRunning c.args.script.now c.in_ok-heap.heap c.in_ok-heap.crew = c.in_ok-heap.ensures.running in
+    let script : Contents = c.args.script.now in
+    let ms : List Held = c.in_ok-heap.crew.mutators.items in
+    let js : List Notes = c.in_ok-heap.crew.journals.items in
+    let one_each = so.whole.ready.one_each in
+    let (events, driven, made) = was_driven script c.in_ok-heap.heap ms c.in-Ok.crew.mutators.items js c.in-Ok.crew.journals.items c.in-Ok.crew.collector.crew.log c.in-Ok-stop.world
+    (record {
+      opens = so.opens;
+      some_slots = so.config.some_slots;
+      all = so.whole.all ∙ sym so.whole.script_all;
+      one_each = one_each;
+      fresh_all = so.fresh_mutators;
+      empty = λ k lt. (so.whole.ready.each k (fresh c.in_ok-heap.heap 1) (omega (arith, lt, one_each))).empty;
+      done = c.in-Ok.ensures.done;
+      stopped = c.in-Ok-stop.ensures.stopped;
+    }) in
+    let run = c.in-Ok-stop.ensures.stopped.run in
+    let number : ℕ → ℕ = (named_after_all first_naming (opened (config_of script)) driven.run).number in
+    record {
+      events = events;
+      has_run = driven;
+      stands = (number, driven.stands);
+      made = made;
+      order = refl;
+      config = ap (λ (w : Core). w.config) (sym run.ends) ∙ config_after c.in_ok-heap.heap.world run.run ∙ ap (λ (w : Core). w.config) so.opens;
+      idle = c.in-Ok-stop.ensures.idle;
+    }

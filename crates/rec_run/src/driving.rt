@@ -1,0 +1,58 @@
+//! A script is driven: each mutator's commands are carried out on a thread of its own, with the collector beside them.
+ghost use Rattle.std.specs.Prelude.{◌≤◌, IfOk};
+ghost use Rattle.rec_run.specs.Outcome.{IsOutcome};
+ghost use Rattle.rec_run.specs.Running.{IsSetRunning};
+ghost use Rattle.rec_run.specs.declared.command_line.How.TheVariants as hows;
+
+use crate::answer::open_world;
+use crate::outcome::Outcome;
+use rec_play::journals_for;
+use rec_script::Script;
+use rec_table::Heap;
+use rec_threads::{Crew, Gate, drive};
+use std::alloc::{AllocError as NoMemory, Global};
+use std::sync::Wait;
+use std::thread::Threads;
+
+/// Carries out a script's commands on threads: one for each mutator, and one for the collector.
+pub fn drive_script<R: Threads + Wait + Sync, G: Gate>(
+    rt: &R,
+    alloc: Global,
+    script: &Script,
+    gate: &G,
+) -> Result<Outcome, NoMemory>
+    ensures outcome { IfOk result (IsOutcome script.now hows.Threads) }
+
+    // Each turn requests one epoch more at most.
+    ensures epochs { IfOk result (λ outcome. outcome.world.epoch ≤ 10000001) }
+{
+    let (heap, crew) = set_running(alloc, script)?;
+    let Ok(crew) = drive(rt, alloc, &heap, crew, script, gate) else {
+        return Err(NoMemory);
+    };
+    let Ok(world) = heap.stop(alloc, crew.mutators, crew.collector) else {
+        unreachable!();
+    };
+    Ok(Outcome {
+        world,
+        journals: crew.journals,
+        order: None,
+    })
+}
+
+// A script's heap, set running, and those who carry it on.
+fn set_running(alloc: Global, script: &Script) -> Result<(Heap, Crew), NoMemory>
+    ensures running { IfOk result (λ r. IsSetRunning script.now r.0 r.1) }
+{
+    let world = open_world(alloc, script)?;
+    let journals = journals_for(alloc, script)?;
+    let Ok((heap, mutators, collector)) = Heap::start(alloc, world) else {
+        return Err(NoMemory);
+    };
+    let crew = Crew {
+        mutators,
+        collector,
+        journals,
+    };
+    Ok((heap, crew))
+}
