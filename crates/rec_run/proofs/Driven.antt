@@ -1,5 +1,7 @@
 -- What a running heap leaves as it is stopped, of whose mutators each carried out a script's commands.
-use Rattle.std.proofs.Common.{◌≡◌, ℕ, ◌+◌, ◌<◌, suc, List, [], ◌∷◌, ◌++◌, length, map, slice_index_or, refl, sym, ap, subst, ◌∙◌, arith}
+use Rattle.std.proofs.Common.{◌≡◌, ℕ, ◌+◌, ◌<◌, ◌≤◌, suc, List, [], ◌∷◌, ◌++◌, length, map, slice_index_or, refl, sym, ap, subst, ◌∙◌, arith}
+use Rattle.std.proofs.Math.ListN.{get_or-map}
+use Rattle.std.proofs.lemmas.List.{length-append}
 use Rattle.rec_model.specs.declared.command.Cmd.{Cmd}
 use Rattle.rec_model.specs.Heap.{Heap}
 use Rattle.rec_model.specs.LegalOrder.{Line, Event}
@@ -12,16 +14,17 @@ use Rattle.rec_order.specs.Events.{events_of}
 use Rattle.rec_order.specs.Legal.{HasLegalOrder}
 use Rattle.rec_order.specs.Naming.{first_naming, named_after_all}
 use Rattle.rec_world.specs.Journal.{Notes, no_notes}
-use Rattle.rec_table.specs.Ends.{IsStopped}
+use Rattle.rec_table.specs.Beats.{beats_of}
+use Rattle.rec_table.specs.Ends.{Interleaves, IsStopped}
 use Rattle.rec_table.specs.Held.{Held, Started, fresh, has}
 use Rattle.rec_table.specs.Journals.{Tells, journal, journals_from}
 use Rattle.rec_table.specs.declared.views.Beat.{Beat}
-use Rattle.rec_threads.specs.Done.{HasDone, HaveDone, commands_at, worker_at}
+use Rattle.rec_threads.specs.Done.{HasDone, HaveDone, begun, commands_at, worker_at}
 use Rattle.rec_script.specs.Script.{Contents}
 use Rattle.rec_play.specs.Played.{config_of, last_moment, lines_of}
 use Rattle.rec_play.proofs.Opened.{IsPlayedLegally, heap_of, ordered_legally, stands_opened, unfreed_opened}
 use Rattle.rec_play.proofs.Room.{no_log_full}
-use Rattle.rec_run.specs.Headline.{IsDriven}
+use Rattle.rec_run.specs.Headline.{IsDriven, KeepsRule}
 
 -- where each mutator's list tells its journal's lines, the lists tell the journals
 journals_are : (w : Core) (k : ℕ) (ms : List Held) (js : List Notes) → length js ≡ length ms
@@ -58,6 +61,7 @@ pub record WasDriven (script : Contents) (s : Started) (ms ms' : List Held) (js 
   pub one_each : length js ≡ length ms
   pub fresh_all : (k : ℕ) (d : Held) → k < length ms → slice_index_or ms k d ≡ fresh s (k + 1)
   pub empty : (k : ℕ) → k < length js → (slice_index_or js k no_notes).lines ≡ []
+  pub turns : length collected ≤ 10000000
   pub done : HaveDone script.commands ms js ms' js'
   pub stopped : IsStopped s.world collected (map (λ (m : Held). m.log) ms') world
 
@@ -67,15 +71,15 @@ module _ (script : Contents) (s : Started) (ms ms' : List Held) (js js' : List N
   did k d lt = was.done.each k d lt
 
   -- its journal has just the lines that were told
-  noted : (k : ℕ) (d : Held) (lt : k < length ms) → (slice_index_or js' k no_notes).lines ≡ (did k d lt).lines
-  noted k d lt = (did k d lt).noted ∙ ap (λ (ls : List Line). ls ++ (did k d lt).lines) (was.empty k (let one_each = was.one_each in omega (arith, lt, one_each)))
+  noted : (k : ℕ) (d : Held) (lt : k < length ms) → (slice_index_or js' k no_notes).lines ≡ (did k d lt).made.lines
+  noted k d lt = (did k d lt).made.noted ∙ ap (λ (ls : List Line). ls ++ (did k d lt).made.lines) (was.empty k (let one_each = was.one_each in omega (arith, lt, one_each)))
 
   -- and these are the ones that its list tells
   tells : (k : ℕ) (d : Held) → k < length ms' → journal (mutator s.world (0 + k + 1)) (slice_index_or ms' k d).log ≡ (slice_index_or js' k no_notes).lines
   tells k d lt' =
       let many : length ms' ≡ length ms = was.done.mutators_all in
       let lt : k < length ms = omega (arith, lt', many) in
-      let told : Tells (has (slice_index_or ms k d)) (slice_index_or ms k d).log (slice_index_or ms' k d).log (did k d lt).lines = (did k d lt).told in
+      let told : Tells (has (slice_index_or ms k d)) (slice_index_or ms k d).log (slice_index_or ms' k d).log (did k d lt).made.lines = (did k d lt).made.told in
       let new : slice_index_or ms k d ≡ fresh s (k + 1) = was.fresh_all k d lt in
       let grows : (slice_index_or ms' k d).log ≡ told.beats = told.grows ∙ ap (λ (m : Held). m.log ++ told.beats) new in
       let number : 0 + k + 1 ≡ k + 1 = omega arith in
@@ -100,13 +104,38 @@ module _ (script : Contents) (s : Started) (ms ms' : List Held) (js js' : List N
       let all = was.all in
       commands_are script.commands js' (omega (arith, journals_all, one_each, all)) (λ i lt.
       let there : i < length ms = omega (arith, lt, all) in
-      ap (map (λ (line : Line). line.0)) (noted i (fresh s 1) there) ∙ (did i (fresh s 1) there).commands)
+      ap (map (λ (line : Line). line.0)) (noted i (fresh s 1) there) ∙ (did i (fresh s 1) there).made.commands)
+
+  abbrev lists : List (List Beat)
+  lists = map (λ (m : Held). m.log) ms'
+
+  -- each mutator kept the driving rule
+  ruled : (k : ℕ) → k < length script.commands → KeepsRule (commands_at script.commands k) (slice_index_or lists k [])
+  ruled k lt =
+      let all = was.all in
+      let here : k < length ms = omega (arith, lt, all) in
+      let d : Held = fresh s 1 in
+      let done : HasDone (commands_at script.commands k) (worker_at ms js k d) (worker_at ms' js' k d) = did k d here in
+      let list : slice_index_or lists k [] ≡ done.made.told.beats =
+      get_or-map (λ (m : Held). m.log) ms' k d ∙ done.made.told.grows ∙ ap (λ (m : Held). m.log ++ done.made.told.beats) (was.fresh_all k d here) in
+      record { polls = done.polls; few = done.few; begins = ap begun list ∙ done.made.begins }
 
   abbrev moves : List Move
   moves = was.stopped.run.run
 
   ends : after_moves (opened (config_of script)) moves ≡ world
   ends = ap (λ w. after_moves w moves) (sym was.opens) ∙ was.stopped.run.ends
+
+  -- the run has the lists of all, from the script's opening on
+  abbrev interleaved : Interleaves (opened (config_of script)) (collected ++ was.stopped.returned) lists world
+  interleaved = record {
+    run = moves;
+    fit = subst (λ w. AllFit w moves) was.opens was.stopped.run.fit;
+    offerless = was.stopped.run.offerless;
+    ends = ends;
+    collector = was.stopped.run.collector ∙ ap (λ w. beats_of 0 w moves) was.opens;
+    mutators = λ k lt. was.stopped.run.mutators k (subst (λ w. k < w.config.mutators) (sym was.opens) lt) ∙ ap (λ w. beats_of (k + 1) w moves) was.opens;
+  }
 
   legally : IsPlayedLegally script world (lines_of js') (events_of first_naming (opened (config_of script)) moves) (named_after_all first_naming (opened (config_of script)) moves)
   legally =
@@ -123,9 +152,12 @@ module _ (script : Contents) (s : Started) (ms ms' : List Held) (js js' : List N
     record {
       commands = commands_kept;
       legal = legally.legal;
-      run = moves;
-      fit = subst (λ w. AllFit w moves) was.opens was.stopped.run.fit;
-      ends = ends;
+      collected = collected ++ was.stopped.returned;
+      lists = lists;
+      interleaved = interleaved;
+      turns = let once = was.stopped.once in let most = was.turns in let both = length-append collected was.stopped.returned in omega (arith, once, most, both);
+      ruled = ruled;
+      told = ap (λ w. journals_from w 0 lists) (sym was.opens) ∙ lines_are;
       tells = refl;
       stands = legally.stands;
       no_log_full = no_log_full script (lines_of js') (events_of first_naming (opened (config_of script)) moves) commands_kept legally.legal;

@@ -2,18 +2,22 @@
 -- Three definitions stand behind those that are cited here: `asks` of `rec_model/specs/Asking`, by which a heap that never frees gives
 -- an answer; `IsReached` of `rec_model/specs/Reach`, by which registers reach an object; and `IsPlayedRun` of `rec_play/specs/Run`, the
 -- steps of a played run.
-use Rattle.std.specs.Prelude.{◌≡◌, ◌⊎◌, ℕ, ◌<◌, ◌≤◌, Bool, true, false, Option, None, Some, List, [], ◌++◌, length, map}
+use Rattle.std.specs.Prelude.{◌≡◌, ◌⊎◌, ℕ, ◌<◌, ◌≤◌, Bool, true, false, Option, None, Some, List, [], ◌++◌, length, map, slice_index_or}
 use Rattle.std.specs.Option.{ForSome}
 use Rattle.rec_model.specs.Heap.{Heap}
+use Rattle.rec_model.specs.declared.command.Cmd.{Cmd}
 use Rattle.rec_model.specs.LegalOrder.{Line, Event, actors, IsLegalOrder, NoLogFull}
 use Rattle.rec_model.specs.Listing.{Row, IsListing}
 use Rattle.rec_model.specs.Sight.{StandsBy, StandsFor}
 use Rattle.rec_core.specs.Core.{Core, opened, sight}
-use Rattle.rec_core.specs.Moves.{Move, AllFit, after_moves}
 use Rattle.rec_core.specs.Settled.{IsSettled}
 use Rattle.rec_settle.specs.Collecting.{IsSettling}
 use Rattle.rec_order.specs.Events.{events_of}
 use Rattle.rec_order.specs.Naming.{first_naming, named_after_all}
+use Rattle.rec_table.specs.Ends.{Interleaves}
+use Rattle.rec_table.specs.Journals.{journals_from}
+use Rattle.rec_table.specs.declared.views.Beat.{Beat}
+use Rattle.rec_threads.specs.Done.{begun, commands_at, driving_rule}
 use Rattle.rec_play.specs.Played.{IsPlayed, config_of, last_moment, limits_of, opening_moment}
 use Rattle.rec_io.specs.Sink.{Appends}
 use Rattle.rec_io.specs.Source.{BeginsWith}
@@ -39,18 +43,30 @@ pub record IsSettledAs (end : Core) (heap : Heap) (slots : ℕ) (rows : List Row
   pub room : length world.headers ≡ slots
   pub listing : IsListing heap rows
 
--- The commands of a script were carried out on threads. The journals hold them with what was told, and no log was full. One legal order
--- from the opening heap explains them. It is the order of one run of all steps of the mutators and the collector, which leads from the
--- opening of the script's heap to this world: an answer stands in it where the step was made that decided it.
+-- A mutator's list has the works of the driving rule: it polled once before each of its commands, and at most 65,536 times behind the
+-- last one.
+pub record KeepsRule (cmds : List Cmd) (list : List Beat) : Type 0 where
+  pub polls : ℕ
+  pub few : polls ≤ 65536
+  pub begins : begun list ≡ driving_rule cmds polls
+
+-- The commands of a script were carried out on threads. The collector and each mutator have a list of their own steps, and one run from
+-- the opening of the script's heap to this world has these lists, each step once and in order, and no other step. Each mutator kept the
+-- driving rule, and the collector made at most 10,000,000 turns, and one that gives a mailbox back. The journals are what the mutators'
+-- lists tell, and no log was full. One legal order from the opening heap explains them, and it is the order of that run: an answer stands
+-- in it where the step was made that decided it.
 pub record IsDriven (script : Contents) (journals : List (List Line)) (events : List Event) (world : Core) : Type 0 where
   pub commands : map (map (λ line. line.0)) journals ≡ script.commands
   pub legal : IsLegalOrder (limits_of script) (opening_moment script) journals events
-  pub run : List Move
-  pub fit : AllFit (opened (config_of script)) run
-  pub ends : after_moves (opened (config_of script)) run ≡ world
-  pub tells : events ≡ events_of first_naming (opened (config_of script)) run
+  pub collected : List Beat
+  pub lists : List (List Beat)
+  pub interleaved : Interleaves (opened (config_of script)) collected lists world
+  pub turns : length collected ≤ 10000001
+  pub ruled : (k : ℕ) → k < length script.commands → KeepsRule (commands_at script.commands k) (slice_index_or lists k [])
+  pub told : journals_from (opened (config_of script)) 0 lists ≡ journals
+  pub tells : events ≡ events_of first_naming (opened (config_of script)) interleaved.run
   -- which object each slot holds at the end: by this the heap of the order stands for the world
-  pub stands : StandsBy (last_moment script events).heap (sight world) (named_after_all first_naming (opened (config_of script)) run).number
+  pub stands : StandsBy (last_moment script events).heap (sight world) (named_after_all first_naming (opened (config_of script)) interleaved.run).number
   pub no_log_full : NoLogFull journals
 
 -- how a script was run
