@@ -118,38 +118,54 @@ all_front request rest left before after wrote =
       written = wrote.written;
     }
 
--- A run that was done and passed on what it wrote is done, and one that could not has a fault of writing. Every other end stays.
+-- a run is done, or it isn't
+done_or_not : (status : Status) → (status ≡ statuses.Done) ⊎ (status ≢ statuses.Done)
+done_or_not statuses.Done = inl refl
+done_or_not statuses.Usage = inr (λ is. cc)
+done_or_not (statuses.BadScript line kind) = inr (λ is. cc)
+done_or_not statuses.ReadFault = inr (λ is. cc)
+done_or_not statuses.WriteFault = inr (λ is. cc)
+done_or_not statuses.NoMemory = inr (λ is. cc)
+
+-- A run that was done and passed on what it wrote is done, and one that could not has a fault of writing.
+passed_on : (request : Request) (result : Status) (source sink : Passage) (wrote : Option (List ℕ)) (faults : ℕ)
+    → WroteAnswer request source.before source.after sink.before wrote → sink.faults ≤ faults
+    → (result ≡ statuses.Done) ⊎ ((result ≡ statuses.WriteFault) × Rose faults sink.faults_after)
+    → KeepsTold wrote sink.after
+    → Ends request result source sink
+passed_on request result source sink wrote faults answered rises fault kept =
+    let whole : WroteAnswer request source.before source.after sink.before sink.after =
+    record {
+      bytes = answered.bytes;
+      read = answered.read;
+      text = answered.text;
+      answer = answered.answer;
+      written = appends_kept sink.before wrote sink.after answered.text answered.written kept;
+    } in
+    elim fault [
+      | inl done ↦ subst (λ r. Ends request r source sink) (sym done) whole
+      | inr (failed, rose) ↦
+          subst (λ r. Ends request r source sink) (sym failed)
+          (rose_since sink.faults faults sink.faults_after rises rose, all_front request source.before source.after sink.before sink.after whole)
+    ]
+
+-- So ends a run that was done, once the sink has passed on what it held. Every other end stays.
 pub finished : {K : Type 0} (told : K → Option (List ℕ)) (faults : K → ℕ) (request : Request) (status result : Status) (source : Passage) (old wrote new : K)
     → Ends request status source (passage told faults old wrote) → faults old ≤ faults wrote
     → (status ≡ statuses.Done → (result ≡ statuses.Done) ⊎ ((result ≡ statuses.WriteFault) × Rose (faults wrote) (faults new)))
     → (status ≡ statuses.Done → KeepsTold (told wrote) (told new))
     → (status ≢ statuses.Done → (result ≡ status) × (new ≡ wrote))
     → Ends request result source (passage told faults old new)
-finished told faults request statuses.Done result source old wrote new ends rises fault kept other =
-    let whole : WroteAnswer request source.before source.after (told old) (told new) =
-    record {
-      bytes = ends.bytes;
-      read = ends.read;
-      text = ends.text;
-      answer = ends.answer;
-      written = appends_kept (told old) (told wrote) (told new) ends.text ends.written (kept refl);
-    } in
-    elim (fault refl) [
-      | inl done ↦ subst (λ r. Ends request r source (passage told faults old new)) (sym done) whole
-      | inr (failed, rose) ↦
-          subst (λ r. Ends request r source (passage told faults old new)) (sym failed)
-          (rose_since (faults old) (faults wrote) (faults new) rises rose, all_front request source.before source.after (told old) (told new) whole)
+finished told faults request status result source old wrote new ends rises fault kept other =
+    elim (done_or_not status) [
+      | inl done ↦
+          passed_on request result source (passage told faults old new) (told wrote) (faults wrote)
+          (subst (λ s. Ends request s source (passage told faults old wrote)) done ends) rises (fault done) (kept done)
+      | inr not_done ↦
+          let same = other not_done in
+          subst (λ r. Ends request r source (passage told faults old new)) (sym same.0)
+          (subst (λ k. Ends request status source (passage told faults old k)) (sym same.1) ends)
     ]
-finished told faults request statuses.Usage result source old wrote new ends rises fault kept other = absurd ends
-finished told faults request (statuses.BadScript line kind) result source old wrote new ends rises fault kept other =
-    subst (λ r. Ends request r source (passage told faults old new)) (sym (other (λ is. cc)).0) ends
-finished told faults request statuses.ReadFault result source old wrote new ends rises fault kept other =
-    subst (λ r. Ends request r source (passage told faults old new)) (sym (other (λ is. cc)).0) ends
-finished told faults request statuses.WriteFault result source old wrote new ends rises fault kept other =
-    let same = other (λ is. cc) in
-    subst (λ r. Ends request r source (passage told faults old new)) (sym same.0) (subst (λ k. Ends request statuses.WriteFault source (passage told faults old k)) (sym same.1) ends)
-finished told faults request statuses.NoMemory result source old wrote new ends rises fault kept other =
-    subst (λ r. Ends request r source (passage told faults old new)) (sym (other (λ is. cc)).0) ends
 
 -- a script that is told is answered, unless a call fails or memory runs out
 pub completes : (request : Request) (status : Status) (source sink : Passage) → Ends request status source sink

@@ -3,6 +3,7 @@ ghost use Rattle.std.specs.Prelude.{◌≡◌, ◌≤◌, List, map, length, opt
 ghost use Rattle.std.specs.List.{flat_map};
 ghost use Rattle.rec_model.specs.LegalOrder.{NoLogFull};
 ghost use Rattle.rec_model.specs.Listing.{Row, ListsSlots};
+ghost use Rattle.rec_core.specs.Config.{IsConfig};
 ghost use Rattle.rec_core.specs.Settled.{IsSettled};
 ghost use Rattle.rec_report.specs.Report.{AreFor};
 ghost use Rattle.rec_report.specs.Text.{IsOrderOf};
@@ -101,7 +102,8 @@ fn write_text(
 
 /// The heap of a script.
 pub fn open_world(alloc: Global, script: &Script) -> Result<World, NoMemory>
-    ensures { IfOk result (λ world. world ≡ opened (config_of script.now)) }
+    ensures opened { IfOk result (λ world. world ≡ opened (config_of script.now)) }
+    ensures config { IfOk result (λ world. IsConfig world.config) }
 {
     match World::open(alloc, config_for(script)) {
         Ok(world) => Ok(world),

@@ -29,7 +29,7 @@ const COMMANDS: u64 = 1_000;
 const MOST_COMMANDS: u64 = rec_script::MOST_COMMANDS as u64;
 
 /// What a command line asks for.
-#[derive(Clone, Copy, Debug, PartialEq, Eq)]
+#[derive(Clone, Copy)]
 pub enum Request {
     /// Answer the script that is read, which is run so.
     Answer(How),
@@ -38,7 +38,7 @@ pub enum Request {
 }
 
 /// How a script is run.
-#[derive(Clone, Copy, Debug, PartialEq, Eq)]
+#[derive(Clone, Copy)]
 pub enum How {
     /// One thread carries everything out, in an order that is drawn.
     Play(Play),
@@ -47,7 +47,7 @@ pub enum How {
 }
 
 /// How a script is played, and what is written of it.
-#[derive(Clone, Copy, Debug, PartialEq, Eq)]
+#[derive(Clone, Copy)]
 pub struct Play {
     /// What the order of the commands is drawn from.
     pub seed: u64,
@@ -58,7 +58,7 @@ pub struct Play {
 }
 
 /// Which script is made.
-#[derive(Clone, Copy, Debug, PartialEq, Eq)]
+#[derive(Clone, Copy)]
 pub struct Make {
     /// What the commands are drawn from.
     pub seed: u64,
@@ -69,7 +69,7 @@ pub struct Make {
 }
 
 /// Why words ask for nothing.
-#[derive(Clone, Copy, Debug, PartialEq, Eq)]
+#[derive(Clone, Copy)]
 pub enum Refusal {
     /// They are no command line.
     Usage,

@@ -1,14 +1,14 @@
 //! A script is driven: each mutator's commands are carried out on a thread of its own, with the collector beside them.
 ghost use Rattle.std.specs.Prelude.{◌≤◌, IfOk};
 ghost use Rattle.rec_run.specs.Outcome.{IsOutcome};
-ghost use Rattle.rec_run.specs.Running.{IsSetRunning};
+ghost use Rattle.rec_run.specs.Running.{IsSetRunning, IsStarted};
 ghost use Rattle.rec_run.specs.declared.command_line.How.TheVariants as hows;
 
 use crate::answer::open_world;
 use crate::outcome::Outcome;
 use rec_play::journals_for;
 use rec_script::Script;
-use rec_table::Heap;
+use rec_table::{Collector, Heap, Mutator};
 use rec_threads::{Crew, Gate, drive};
 use std::alloc::{AllocError as NoMemory, Global};
 use std::sync::Wait;
@@ -44,15 +44,23 @@ pub fn drive_script<R: Threads + Wait + Sync, G: Gate>(
 fn set_running(alloc: Global, script: &Script) -> Result<(Heap, Crew), NoMemory>
     ensures running { IfOk result (λ r. IsSetRunning script.now r.0 r.1) }
 {
-    let world = open_world(alloc, script)?;
     let journals = journals_for(alloc, script)?;
-    let Ok((heap, mutators, collector)) = Heap::start(alloc, world) else {
-        return Err(NoMemory);
-    };
+    let (heap, mutators, collector) = start(alloc, script)?;
     let crew = Crew {
         mutators,
         collector,
         journals,
     };
     Ok((heap, crew))
+}
+
+// A script's heap, started, with its mutators and its collector.
+fn start(alloc: Global, script: &Script) -> Result<(Heap, Vec<Mutator>, Collector), NoMemory>
+    ensures started { IfOk result (λ r. IsStarted script.now r.0 r.1.items r.2) }
+{
+    let world = open_world(alloc, script)?;
+    let Ok(started) = Heap::start(alloc, world) else {
+        return Err(NoMemory);
+    };
+    Ok(started)
 }

@@ -18,9 +18,9 @@ pub fn play_script(alloc: Global, script: &Script, how: Play) -> Result<Outcome,
     // Each turn requests one epoch more at most.
     ensures epochs { IfOk result (λ outcome. outcome.world.epoch ≤ 10000001) }
 {
-    let mut world = open_world(alloc, script)?;
     let mut journals = journals_for(alloc, script)?;
     let mut order = order_for(alloc, script)?;
+    let mut world = open_world(alloc, script)?;
     play(
         script,
         how.seed,

@@ -12,7 +12,7 @@ use std::alloc::{AllocError, Global};
 const CHUNK: usize = 65_536;
 
 /// Why the bytes could not be had.
-#[derive(Clone, Copy, Debug, PartialEq, Eq)]
+#[derive(Clone, Copy)]
 pub enum ReadStop {
     /// A read failed.
     Fault,

@@ -8,7 +8,7 @@ use rec_io::{Sink, Taken};
 use rec_report::Text;
 
 /// A write failed.
-#[derive(Clone, Copy, Debug, PartialEq, Eq)]
+#[derive(Clone, Copy)]
 pub struct WriteFault;
 
 /// Offers a piece, and its rest again, until all of it is taken.

@@ -5,7 +5,9 @@ use crate::race::race;
 use rec_model::Cmd;
 use rec_world::{Config, World};
 use std::alloc::{AllocError as NoMemory, Global};
+use std::process::Abort;
 use std::test::Fail;
+use std::thread::Threads;
 
 // The collector makes no turn.
 const NO_TURNS: Limits = Limits { turns: 0, freed: 0 };
@@ -23,9 +25,20 @@ fn labels(world: &World) -> Option<(Option<u32>, Option<u32>)> {
     Some((world.label(1), world.label(2)))
 }
 
-#[test]
-fn two_births_at_once_take_two_slots(rt: HostRuntime) -> Result<(), Fail> {
-    let alloc: Global = rt.alloc();
+// What two births at once left.
+#[derive(Clone, Copy)]
+struct Born {
+    is_refused: bool,
+    labels: Option<(Option<u32>, Option<u32>)>,
+    made: u64,
+}
+
+// A race of two births.
+fn race_births<R: Abort + Threads + Sync>(
+    rt: &R,
+    alloc: Global,
+    tasks: &[Task],
+) -> Result<Born, Fail> {
     let config = Config {
         slots: 3,
         fields: 1,
@@ -34,17 +47,26 @@ fn two_births_at_once_take_two_slots(rt: HostRuntime) -> Result<(), Fail> {
         log_entries: 16,
         first_epoch: 1,
     };
+    let (world, seen) = race(rt, alloc, config, tasks, NO_TURNS)?;
+    Ok(Born {
+        is_refused: seen.is_refused,
+        labels: labels(&world),
+        made: world.made(),
+    })
+}
+
+#[test]
+fn two_births_at_once_take_two_slots(rt: HostRuntime) -> Result<(), Fail> {
+    let alloc: Global = rt.alloc();
     let tasks = [birth(alloc, 5)?, birth(alloc, 6)?];
     for round in 0..1000 {
-        let world = World::open(alloc, config)?;
-        let raced = race(&rt, alloc, world, &tasks, NO_TURNS)?;
-        assert!(rt; !raced.is_refused, "round {round}");
-        let labels = labels(&raced.world);
+        let born = race_births(&rt, alloc, &tasks)?;
+        assert!(rt; !born.is_refused, "round {round}");
         assert!(rt;
-            labels == Some((Some(5), Some(6))) || labels == Some((Some(6), Some(5))),
+            born.labels == Some((Some(5), Some(6))) || born.labels == Some((Some(6), Some(5))),
             "round {round}"
         );
-        assert_eq!(rt; raced.world.made(), 3, "round {round}");
+        assert_eq!(rt; born.made, 3, "round {round}");
     }
     Ok(())
 }

@@ -9,7 +9,7 @@ use rec_collector::{Sets, Turn};
 use rec_model::Cmd;
 use rec_play::{config_for, journals_for, order_for, play};
 use rec_script::{Script, read};
-use rec_world::{Journal, Order, World};
+use rec_world::{Journal, OpenError, Order, World};
 use std::alloc::{AllocError as NoMemory, Global};
 use std::test::Fail;
 
@@ -78,10 +78,10 @@ fn collect(world: &mut World) -> (u64, Sets) {
 }
 
 // The heap of a script.
-fn open_world(alloc: Global, script: &Script) -> Result<World, Fail>
+fn open_world(alloc: Global, script: &Script) -> Result<World, OpenError>
     ensures { IfOk result (λ world. world ≡ opened (config_of script.now)) }
 {
-    Ok(World::open(alloc, config_for(script))?)
+    World::open(alloc, config_for(script))
 }
 
 // Plays a script on the heap that was opened for it.
@@ -103,10 +103,15 @@ fn play_on(
 // Plays the script of a text, and collects. How many objects are left, and what became of the sets.
 fn left_after(alloc: Global, text: &[u8], seed: u64) -> Result<(u64, Sets), Fail> {
     let script = read(alloc, text)?;
-    let mut world = open_world(alloc, &script)?;
-    let mut journals = journals_for(alloc, &script)?;
-    let mut order = order_for(alloc, &script)?;
-    play_on(&script, seed, &mut world, &mut journals, &mut order);
+    play_and_collect(alloc, &script, seed)
+}
+
+// The world is opened last, so there is one way out that drops it.
+fn play_and_collect(alloc: Global, script: &Script, seed: u64) -> Result<(u64, Sets), Fail> {
+    let mut journals = journals_for(alloc, script)?;
+    let mut order = order_for(alloc, script)?;
+    let mut world = open_world(alloc, script)?;
+    play_on(script, seed, &mut world, &mut journals, &mut order);
     Ok(collect(&mut world))
 }
 

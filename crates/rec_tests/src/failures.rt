@@ -205,7 +205,13 @@ fn a_failed_flush_is_a_write_fault(rt: HostRuntime) -> Result<(), Fail> {
     assert_eq!(rt; sink.fault_count(), 1);
     // Any other status is told as it was, and nothing is flushed.
     let status = run(&rt, rt.alloc(), &PLAY, &mut source, &mut sink, &OpenGate);
-    assert_eq!(rt; status, Status::BadScript { line: 1, kind: Kind::NoHeader });
+    assert_eq!(rt;
+        status,
+        Status::BadScript {
+            line: 1,
+            kind: Kind::NoHeader
+        }
+    );
     assert_eq!(rt; sink.fault_count(), 1);
     Ok(())
 }

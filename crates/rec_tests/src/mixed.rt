@@ -3,13 +3,11 @@
 ghost use Rattle.std.specs.Prelude.{◌<◌};
 
 use crate::crew::{Limits, Task};
-use crate::race::race;
-use crate::settled::is_settled;
+use crate::race::race_and_settle;
 use rand_core::utils::NextWord;
 use rand_pcg::Pcg32;
 use rec_model::Cmd;
-use rec_settle::settle;
-use rec_world::{Config, World};
+use rec_world::Config;
 use std::alloc::{AllocError as NoMemory, Global};
 use std::process::Abort;
 use std::test::Fail;
@@ -82,7 +80,7 @@ fn draw_tasks(alloc: Global, seed: u64, mutators: u32) -> Result<Vec<Task>, NoMe
 }
 
 // One race of drawn commands. What it leaves settles.
-fn race_and_settle<R: Abort + Threads + Sync>(
+fn race_drawn<R: Abort + Threads + Sync>(
     rt: &R,
     alloc: Global,
     seed: u64,
@@ -96,11 +94,9 @@ fn race_and_settle<R: Abort + Threads + Sync>(
         log_entries: 64,
         first_epoch: 1,
     };
-    let world = World::open(alloc, config)?;
     let tasks = draw_tasks(alloc, seed, mutators)?;
-    let mut world = race(rt, alloc, world, &tasks, LIMITS)?.world;
-    assert!(rt; settle(&mut world).is_ok(), "seed {seed}");
-    assert!(rt; is_settled(alloc, &world)?, "seed {seed}");
+    let left = race_and_settle(rt, alloc, config, &tasks, LIMITS)?;
+    assert!(rt; left.is_settled, "seed {seed}");
     Ok(())
 }
 
@@ -108,7 +104,7 @@ fn race_and_settle<R: Abort + Threads + Sync>(
 fn what_two_mutators_leave_settles(rt: HostRuntime) -> Result<(), Fail> {
     let alloc: Global = rt.alloc();
     for seed in 0..1000 {
-        race_and_settle(&rt, alloc, seed, 2)?;
+        race_drawn(&rt, alloc, seed, 2)?;
     }
     Ok(())
 }
@@ -117,7 +113,7 @@ fn what_two_mutators_leave_settles(rt: HostRuntime) -> Result<(), Fail> {
 fn what_four_mutators_leave_settles(rt: HostRuntime) -> Result<(), Fail> {
     let alloc: Global = rt.alloc();
     for seed in 0..1000 {
-        race_and_settle(&rt, alloc, seed, 4)?;
+        race_drawn(&rt, alloc, seed, 4)?;
     }
     Ok(())
 }

@@ -14,18 +14,32 @@ use std::test::Fail;
 fn a_refused_set_is_released_to_its_end(rt: HostRuntime) -> Result<(), Fail> {
     let mut counts = set_of_four(&rt, rt.alloc())?;
     refuse(&mut counts);
-    assert!(rt; has(counts.zeros(), &[1]));
-    assert!(rt; has(counts.roots(), &[2]));
-    assert!(rt; has(counts.free_list(), &[4]));
-    assert!(rt; is_plain(&counts, 1) && is_plain(&counts, 3) && is_plain(&counts, 4));
-    let mut release = Release::idle(1);
-    release.start(&mut counts, true);
-    assert!(rt; release.next().is_some());
-    release.took(&mut counts, 0);
-    assert_eq!(rt; release.next(), None);
+    look_at_refused(&rt, &counts);
+    release_all(&rt, &mut counts);
     assert!(rt; has(counts.free_list(), &[4, 1]));
     assert!(rt; counts.zeros().is_empty());
     Ok(())
+}
+
+// Each member is where it belongs.
+fn look_at_refused(rt: &impl Abort, counts: &Counts)
+    requires { length counts.now.slots ≡ 8 }
+{
+    assert!(rt; has(counts.zeros(), &[1]));
+    assert!(rt; has(counts.roots(), &[2]));
+    assert!(rt; has(counts.free_list(), &[4]));
+    assert!(rt; is_plain(counts, 1) && is_plain(counts, 3) && is_plain(counts, 4));
+}
+
+// The zeros are released, which takes one step.
+fn release_all(rt: &impl Abort, counts: &mut Counts)
+    requires { IsReady counts.old }
+{
+    let mut release = Release::idle(1);
+    release.start(counts, true);
+    assert!(rt; release.next().is_some());
+    release.took(counts, 0);
+    assert_eq!(rt; release.next(), None);
 }
 
 // Eight slots, and a set of four: an orange slot without references, a purple one and an orange one with a reference each, and a black

@@ -1,11 +1,9 @@
 //! Mutators that make rings and drop them while the collector turns.
 
 use crate::crew::{Limits, Task};
-use crate::race::race;
-use crate::settled::is_settled;
+use crate::race::race_and_settle;
 use rec_model::Cmd;
-use rec_settle::settle;
-use rec_world::{Config, World};
+use rec_world::Config;
 use std::alloc::{AllocError as NoMemory, Global};
 use std::process::Abort;
 use std::test::Fail;
@@ -51,7 +49,7 @@ fn rings(alloc: Global) -> Result<Task, NoMemory> {
 
 // One race. What it leaves settles; the answer is whether enough rings were freed while the mutators had commands, and slots were
 // claimed again.
-fn race_and_settle<R: Abort + Threads + Sync>(
+fn race_rings<R: Abort + Threads + Sync>(
     rt: &R,
     alloc: Global,
     tasks: &[Task],
@@ -64,13 +62,10 @@ fn race_and_settle<R: Abort + Threads + Sync>(
         log_entries: 16,
         first_epoch: 1,
     };
-    let world = World::open(alloc, config)?;
-    let raced = race(rt, alloc, world, tasks, LIMITS)?;
-    let mut world = raced.world;
-    let is_reused = world.made() > u64::from(SLOTS);
-    assert!(rt; settle(&mut world).is_ok());
-    assert!(rt; is_settled(alloc, &world)?);
-    Ok(raced.is_cut && is_reused)
+    let left = race_and_settle(rt, alloc, config, tasks, LIMITS)?;
+    assert!(rt; left.is_settled);
+    let is_reused = left.made > u64::from(SLOTS);
+    Ok(left.seen.is_cut && is_reused)
 }
 
 #[test]
@@ -79,7 +74,7 @@ fn rings_are_freed_while_commands_run(rt: HostRuntime) -> Result<(), Fail> {
     let tasks = [rings(alloc)?, rings(alloc)?];
     let mut is_freed = false;
     for _ in 0..1000 {
-        if race_and_settle(&rt, alloc, &tasks)? {
+        if race_rings(&rt, alloc, &tasks)? {
             is_freed = true;
         }
     }

@@ -1,11 +1,23 @@
-//! Whether a world is settled, by sums that this crate makes itself.
+//! Whether a world settles and is settled, by sums that this crate makes itself.
+ghost use Rattle.rec_core.specs.Worked.{AreIdle};
 
+use rec_settle::settle;
 use rec_word::target;
 use rec_world::{Numbering, World};
 use std::alloc::{AllocError as NoMemory, Global};
 
-/// Whether just the slots that registers reach are taken, each with as many holders as it counts.
-pub fn is_settled(alloc: Global, world: &World) -> Result<bool, NoMemory> {
+/// Lets a world settle, and tells whether it came to that.
+pub fn settles(alloc: Global, world: &mut World) -> Result<bool, NoMemory>
+    requires { AreIdle world.old }
+{
+    if settle(world).is_err() {
+        return Ok(false);
+    }
+    is_settled(alloc, world)
+}
+
+// Whether just the slots that registers reach are taken, each with as many holders as it counts.
+fn is_settled(alloc: Global, world: &World) -> Result<bool, NoMemory> {
     let mut numbering = Numbering::open(alloc, world.slots())?;
     world.number(&mut numbering);
     let holders = holders(alloc, world)?;

@@ -20,7 +20,7 @@ pub struct Signals {
 
 impl Signals {
     /// So many mutators and a collector are awaited.
-    pub fn of(mutators: u8) -> Signals {
+    pub fn of(mutators: u32) -> Signals {
         let working = u64::from(mutators);
         Signals {
             awaited: AtomicU64::new(working + 1),

@@ -1,10 +1,9 @@
--- The heap is started as the script's opening, and its crew is whole and new.
+-- The crew of a started heap is whole and new, and each mutator may carry out its commands.
 use Rattle.std.proofs.Common.{◌≡◌, ◌∙◌, ◌<◌, ℕ, ◌+◌, List, [], length, slice_index_or, sym, ap, subst, arith}
 use Rattle.std.proofs.lemmas.List.Elements.{All-get_or}
-use Rattle.rec_mutator.specs.Private.{Private, is_busy}
+use Rattle.rec_mutator.specs.Private.{Private}
 use Rattle.rec_core.specs.Config.{IsConfig, IsMutator}
 use Rattle.rec_core.specs.Core.{Core, mutator, opened, opened_mutator}
-use Rattle.rec_core.specs.Worked.{AreIdle}
 use Rattle.rec_core.specs.declared.config.Config.{Config}
 use Rattle.rec_core.proofs.OpenedMutators.{mutator_opened, registers_many}
 use Rattle.rec_world.specs.Journal.{Notes, no_notes}
@@ -12,14 +11,8 @@ use Rattle.rec_table.specs.Held.{AreMutatorsOf, Held, Started, fresh, has}
 use Rattle.rec_threads.specs.Done.{IsReady, worker_at}
 use Rattle.rec_play.specs.Played.{AreReady, config_of}
 use Rattle.rec_script.specs.Script.{Contents}
+use Rattle.rec_run.specs.Running.{IsStarted}
 use Rattle.rec_run.proofs.driving.set_running.Goals as goal
-
--- nobody works in a newly opened heap
-idle_opened : (config : Config) (w : Core) → w ≡ opened config → AreIdle w
-idle_opened config w is = subst AreIdle (sym is) (λ t there. ap is_busy (mutator_opened config t there))
-
-pub start-requires-clause-idle : goal.start-requires-clause-idle
-start-requires-clause-idle c = idle_opened (config_of c.args.script.now) c.in_ok-world.world c.in_ok-world.ensures
 
 -- the script's heap was started, with these mutators, which are new, and these journals
 module _ (script : Contents) (heap : Started) (ms : List Held) (js : List Notes)
@@ -50,28 +43,27 @@ module _ (script : Contents) (heap : Started) (ms : List Held) (js : List Notes)
 pub returns : goal.returns
 returns c =
     let script : Contents = c.args.script.now in
-    let opens : c.in-Ok.heap.world ≡ opened (config_of script) = c.in-Ok.ensures.started ∙ c.in_ok-world.ensures in
-    let config : IsConfig (config_of script) = subst (λ (w : Core). IsConfig w.config) (c.world.view_is ∙ c.in_ok-world.ensures) c.world.invariant.world.shaped.config in
+    let is : IsStarted script c.in_ok-heap.heap c.in_ok-heap.mutators.items c.in_ok-heap.collector = c.in_ok-heap.ensures.started in
     let js : List Notes = c.in_ok-journals.journals.items in
     let journals : AreReady script.commands js = c.in_ok-journals.ensures in
-    let as_many : length c.in-Ok.mutators.items ≡ length script.commands
-    = many script c.in-Ok.heap c.in-Ok.mutators.items js config opens c.in-Ok.ensures.mutators c.in-Ok.ensures.fresh journals in
+    let as_many : length c.in_ok-heap.mutators.items ≡ length script.commands
+    = many script c.in_ok-heap.heap c.in_ok-heap.mutators.items js is.config is.opens is.all is.fresh_mutators journals in
     let one_each = journals.one_each in
     record {
       running = record {
-        config = config;
-        opens = opens;
+        config = is.config;
+        opens = is.opens;
         whole = record {
-          all = c.in-Ok.ensures.mutators.all;
-          script_all = sym (ap (λ (w : Core). w.config.mutators) opens);
+          all = is.all.all;
+          script_all = sym (ap (λ (w : Core). w.config.mutators) is.opens);
           ready = record {
             few = omega (arith, as_many);
             one_each = omega (arith, as_many, one_each);
-            each = ready_at script c.in-Ok.heap c.in-Ok.mutators.items js config opens c.in-Ok.ensures.mutators c.in-Ok.ensures.fresh journals;
+            each = ready_at script c.in_ok-heap.heap c.in_ok-heap.mutators.items js is.config is.opens is.all is.fresh_mutators journals;
           };
-          collector = c.in-Ok.ensures.collector.0;
+          collector = is.own;
         };
-        fresh_mutators = c.in-Ok.ensures.fresh;
-        fresh_collector = c.in-Ok.ensures.collector.1;
+        fresh_mutators = is.fresh_mutators;
+        fresh_collector = is.fresh_collector;
       };
     }
