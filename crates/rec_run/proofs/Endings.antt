@@ -55,22 +55,22 @@ past_limit bytes more rest line kind long is refused =
 
 -- bytes that were refused, read to the end or past the limit
 pub no_script : (rest left : Option (List ℕ)) (bytes : List ℕ) (line : ℕ) (kind : Kind) → Passes rest left bytes → (length bytes ≤ 16777216 → IsAtEnd rest left)
-    → IsRefused bytes line kind → ReadNoScript rest left line kind
-no_script None left bytes line kind passes end refused =
+    → length bytes ≤ 16777216 + 65536 → IsRefused bytes line kind → ReadNoScript rest left line kind
+no_script None left bytes line kind passes end few refused =
     record {
       bytes = bytes;
       read = λ whole told. untold (λ w. w ≡ bytes) whole told;
       ended = λ whole told. untold (λ w. (left ≡ Some []) ⊎ IsReadPast w left) whole told;
       refused = refused;
     }
-no_script (Some rest) left bytes line kind passes end refused =
+no_script (Some rest) left bytes line kind passes end few refused =
     let passed = passes rest refl in
     elim (cases_lt 16777216 (length bytes)) [
       | inl long ↦
           record {
             bytes = rest;
             read = λ whole told. sym (some_same rest whole told);
-            ended = λ whole told. inr (subst (λ w. IsReadPast w left) (some_same rest whole told) (record { bytes = bytes; passed = passed; many = long }));
+            ended = λ whole told. inr (subst (λ w. IsReadPast w left) (some_same rest whole told) (record { bytes = bytes; passed = passed; many = long; few = few }));
             refused = past_limit bytes passed.left rest line kind long passed.front refused;
           }
       | inr short ↦
@@ -81,6 +81,21 @@ no_script (Some rest) left bytes line kind passes end refused =
             refused = refused;
           }
     ]
+
+-- no write failed in a run whose end is no fault of writing
+pub none_failed : {K : Type 0} (faults : K → ℕ) (status result : Status) (old wrote new : K) → (status ≢ statuses.WriteFault → faults wrote ≡ faults old)
+    → (status ≡ statuses.Done → (result ≡ statuses.Done) ⊎ ((result ≡ statuses.WriteFault) × Rose (faults wrote) (faults new)))
+    → (result ≡ statuses.Done → faults new ≡ faults wrote) → (status ≢ statuses.Done → (result ≡ status) × (new ≡ wrote)) → result ≢ statuses.WriteFault
+    → faults new ≡ faults old
+none_failed faults statuses.Done result old wrote new writes done faultless other no_fault = elim (done refl) [
+  | inl is ↦ faultless is ∙ writes (λ bad. cc)
+  | inr (is, rose) ↦ absurd (no_fault is)
+]
+none_failed faults statuses.WriteFault result old wrote new writes done faultless other no_fault = absurd (no_fault (other (λ bad. cc)).0)
+none_failed faults statuses.Usage result old wrote new writes done faultless other no_fault = ap faults (other (λ bad. cc)).1 ∙ writes (λ bad. cc)
+none_failed faults (statuses.BadScript line kind) result old wrote new writes done faultless other no_fault = ap faults (other (λ bad. cc)).1 ∙ writes (λ bad. cc)
+none_failed faults statuses.ReadFault result old wrote new writes done faultless other no_fault = ap faults (other (λ bad. cc)).1 ∙ writes (λ bad. cc)
+none_failed faults statuses.NoMemory result old wrote new writes done faultless other no_fault = ap faults (other (λ bad. cc)).1 ∙ writes (λ bad. cc)
 
 -- what a source that was read to its end, or past a limit that a script keeps, gave
 read_out : (how : How) (rest left : Option (List ℕ)) (bytes text : List ℕ) → Passes rest left bytes → (length bytes ≤ 16777216 → IsAtEnd rest left) → AnswersTo bytes how text

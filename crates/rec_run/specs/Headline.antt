@@ -2,7 +2,7 @@
 -- Three definitions stand behind those that are cited here: `asks` of `rec_model/specs/Asking`, by which a heap that never frees gives
 -- an answer; `IsReached` of `rec_model/specs/Reach`, by which registers reach an object; and `IsPlayedRun` of `rec_play/specs/Run`, the
 -- steps of a played run.
-use Rattle.std.specs.Prelude.{◌≡◌, ◌⊎◌, ℕ, ◌<◌, ◌≤◌, Bool, true, false, Option, None, Some, List, [], ◌++◌, length, map, slice_index_or}
+use Rattle.std.specs.Prelude.{◌≡◌, ◌⊎◌, ℕ, ◌+◌, ◌<◌, ◌≤◌, Bool, true, false, Option, None, Some, List, [], ◌++◌, length, map, slice_index_or}
 use Rattle.std.specs.Option.{ForSome}
 use Rattle.rec_model.specs.Heap.{Heap}
 use Rattle.rec_model.specs.declared.command.Cmd.{Cmd}
@@ -120,11 +120,13 @@ IsAnswer (requests.Make asked) bytes text = text ≡ made_text asked.seed asked.
 abbrev pub Are : Option (List ℕ) → List ℕ → Type 0
 Are told bytes = ForSome told (λ all. all ≡ bytes)
 
--- More bytes were read than a script has: they stand in front of what there was, and what is behind them is left.
+-- More bytes were read than a script has, and at most a piece of 65,536 more: they stand in front of what there was, and what is behind
+-- them is left.
 pub record IsReadPast (rest : List ℕ) (left : Option (List ℕ)) : Type 0 where
   pub bytes : List ℕ
   pub passed : BeginsWith rest bytes left
   pub many : 16777216 < length bytes
+  pub few : length bytes ≤ 16777216 + 65536
 
 -- a source was read to its end, or past the limit of a script
 abbrev pub IsReadOut : Option (List ℕ) → Option (List ℕ) → Type 0

@@ -47,8 +47,10 @@ fn read_more<S: Source>(
     ensures passed { OnOk result ((piece : List ℕ) × Passes (S.rest source.old) (S.rest source.new) piece × (bytes.new.items ≡ bytes.old.items ++ piece)) }
     ensures more { IfOk result (λ more. IsTrue more → vec_len bytes.old < vec_len bytes.new) }
     ensures end { IfOk result (λ more. more ≡ false → IsSpent (S.rest source.old) (S.rest source.new)) }
+    ensures few { OnOk result (vec_len bytes.new ≤ vec_len bytes.old + length chunk.old) }
+    ensures left { (piece : List ℕ) × Passes (S.rest source.old) (S.rest source.new) piece }
     ensures fault { IsErrOf result ReadStop.Fault → Rose (S.faults source.old) (S.faults source.new) }
-    ensures never_falls { S.faults source.old ≤ S.faults source.new }
+    ensures uncounted { ¬ IsErrOf result ReadStop.Fault → S.faults source.new ≡ S.faults source.old }
 {
     match source.read(chunk) {
         Given::Bytes(count) => {
@@ -60,12 +62,17 @@ fn read_more<S: Source>(
     }
 }
 
-/// Reads a source to its end, or past the limit: then it stops, since no script is that long.
+/// Reads a source to its end, or past the limit: then it stops, since no script is that long. It asks for a piece at a time, so at most
+/// one piece was read past the limit.
 pub fn read_all<S: Source>(alloc: Global, source: &mut S) -> Result<Vec<u8>, ReadStop>
     ensures passed { IfOk result (λ bytes. Passes (S.rest source.old) (S.rest source.new) bytes.items) }
     ensures whole { IfOk result (λ bytes. length bytes.items ≤ 16777216 → IsAtEnd (S.rest source.old) (S.rest source.new)) }
+    ensures few { IfOk result (λ bytes. length bytes.items ≤ 16777216 + 65536) }
+    ensures left { (bytes : List ℕ) × Passes (S.rest source.old) (S.rest source.new) bytes }
+
+    // A read that fails ends it, and no other read is counted.
     ensures fault { IsErrOf result ReadStop.Fault → Rose (S.faults source.old) (S.faults source.new) }
-    ensures never_falls { S.faults source.old ≤ S.faults source.new }
+    ensures uncounted { ¬ IsErrOf result ReadStop.Fault → S.faults source.new ≡ S.faults source.old }
 {
     let mut chunk = buffer(alloc, CHUNK)?;
     let mut bytes = Vec::new(alloc);

@@ -1,7 +1,8 @@
 //! The top call: from words, and the bytes of a script, to the bytes of an answer.
-ghost use Rattle.std.specs.Prelude.{◌≡◌, ◌⊎◌, ℕ, ◌≤◌, false, List, Option, Some, map, IfOk};
+ghost use Rattle.std.specs.Prelude.{◌≡◌, ◌≢◌, ◌⊎◌, ℕ, ◌≤◌, false, List, Option, Some, map, IfOk};
 ghost use Rattle.std.specs.List.{flat_map};
 ghost use Rattle.rec_io.specs.Faults.{Rose};
+ghost use Rattle.rec_io.specs.Source.{Passes};
 ghost use Rattle.rec_io.specs.Told.{KeepsTold};
 ghost use Rattle.rec_script.specs.Script.{IsText, IsRefused};
 ghost use Rattle.rec_script.specs.declared.error.Kind.{Kind};
@@ -50,6 +51,13 @@ pub fn run<R: Threads + Wait + Sync, S: Source, K: Flush, G: Gate>(
     ensures read_fault { result ≡ Status.ReadFault → AsksToRead (map (λ word. word.now) words.now) × Rose (S.faults source.old) (S.faults source.new) }
     ensures write_fault { result ≡ Status.WriteFault → Rose (K.faults sink.old) (K.faults sink.new) }
 
+    // A fault ends the run: with every other status no read or no write failed.
+    ensures reads { result ≢ Status.ReadFault → S.faults source.new ≡ S.faults source.old }
+    ensures writes { result ≢ Status.WriteFault → K.faults sink.new ≡ K.faults sink.old }
+
+    // What is left of the source stood there behind the bytes that were read, whatever the status.
+    ensures left { (bytes : List ℕ) × Passes (S.rest source.old) (S.rest source.new) bytes }
+
     // What each leaves: a front of the answer, or nothing written, or nothing read either.
     ensures front { result ≡ Status.WriteFault → (request : Asked) × Asks (map (λ word. word.now) words.now) request
         × WroteFront request (S.rest source.old) (S.rest source.new) (K.written sink.old) (K.written sink.new) }
@@ -94,6 +102,9 @@ fn carry_out<R: Threads + Wait + Sync, S: Source, K: Sink, G: Gate>(
     ensures ends { Ends request result (passage S.rest S.faults source.old source.new) (passage K.written K.faults sink.old sink.new) }
     ensures unwritten { may_write result ≡ false → sink.new ≡ sink.old }
     ensures unread { ¬ ReadsScript request → source.new ≡ source.old }
+    ensures reads { result ≢ Status.ReadFault → S.faults source.new ≡ S.faults source.old }
+    ensures writes { result ≢ Status.WriteFault → K.faults sink.new ≡ K.faults sink.old }
+    ensures left { (bytes : List ℕ) × Passes (S.rest source.old) (S.rest source.new) bytes }
     ensures never_falls { K.faults sink.old ≤ K.faults sink.new }
 {
     match request {
@@ -114,6 +125,9 @@ fn answer_source<R: Threads + Wait + Sync, S: Source, K: Sink, G: Gate>(
     requires { HasFewTurns how }
     ensures ends { Ends (Request.Answer how) result (passage S.rest S.faults source.old source.new) (passage K.written K.faults sink.old sink.new) }
     ensures unwritten { may_write result ≡ false → sink.new ≡ sink.old }
+    ensures reads { result ≢ Status.ReadFault → S.faults source.new ≡ S.faults source.old }
+    ensures writes { result ≢ Status.WriteFault → K.faults sink.new ≡ K.faults sink.old }
+    ensures left { (bytes : List ℕ) × Passes (S.rest source.old) (S.rest source.new) bytes }
     ensures never_falls { K.faults sink.old ≤ K.faults sink.new }
 {
     let bytes = match read_all(alloc, source) {
@@ -156,6 +170,7 @@ fn write_made<K: Sink>(alloc: Global, make: Make, sink: &mut K) -> Status
     requires commands { make.commands ≤ 200000 }
     ensures ends { (rest : Option (List ℕ)) (faults : ℕ) → Ends (Request.Make make) result (untouched rest faults) (passage K.written K.faults sink.old sink.new) }
     ensures unwritten { may_write result ≡ false → sink.new ≡ sink.old }
+    ensures writes { result ≢ Status.WriteFault → K.faults sink.new ≡ K.faults sink.old }
     ensures never_falls { K.faults sink.old ≤ K.faults sink.new }
 {
     let Ok(text) = rec_script::make(alloc, make.seed, make.mutators, make.commands) else {

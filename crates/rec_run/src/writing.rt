@@ -16,6 +16,7 @@ fn write_piece<K: Sink>(sink: &mut K, piece: &[u8]) -> Result<(), WriteFault>
     ensures written { OnOk result (Appends (K.written sink.old) (K.written sink.new) piece.now) }
     ensures fault { OnErr result (Rose (K.faults sink.old) (K.faults sink.new)) }
     ensures front { OnErr result ((front back : List ℕ) × (piece.now ≡ front ++ back) × Appends (K.written sink.old) (K.written sink.new) front) }
+    ensures faultless { OnOk result (K.faults sink.new ≡ K.faults sink.old) }
     ensures never_falls { K.faults sink.old ≤ K.faults sink.new }
 {
     let mut rest = piece;
@@ -44,6 +45,7 @@ pub fn write_text<K: Sink>(sink: &mut K, text: &[u8]) -> Result<(), WriteFault>
     ensures written { OnOk result (Appends (K.written sink.old) (K.written sink.new) text.now) }
     ensures fault { OnErr result (Rose (K.faults sink.old) (K.faults sink.new)) }
     ensures front { OnErr result ((front back : List ℕ) × (text.now ≡ front ++ back) × Appends (K.written sink.old) (K.written sink.new) front) }
+    ensures faultless { OnOk result (K.faults sink.new ≡ K.faults sink.old) }
     ensures never_falls { K.faults sink.old ≤ K.faults sink.new }
 {
     let mut rest = text;
@@ -60,6 +62,7 @@ pub fn write_lines<K: Sink>(sink: &mut K, text: &Text) -> Result<(), WriteFault>
     ensures written { OnOk result (Appends (K.written sink.old) (K.written sink.new) (flat_map (λ line. line) text.now)) }
     ensures fault { OnErr result (Rose (K.faults sink.old) (K.faults sink.new)) }
     ensures front { OnErr result ((front back : List ℕ) × (flat_map (λ line. line) text.now ≡ front ++ back) × Appends (K.written sink.old) (K.written sink.new) front) }
+    ensures faultless { OnOk result (K.faults sink.new ≡ K.faults sink.old) }
     ensures never_falls { K.faults sink.old ≤ K.faults sink.new }
 {
     for line in text.lines() {

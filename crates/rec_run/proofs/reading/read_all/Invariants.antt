@@ -1,4 +1,4 @@
-use Rattle.std.proofs.Common.{◌<◌, ◌≤◌, ◌-◌, vec_len}
+use Rattle.std.proofs.Common.{◌≡◌, ◌+◌, ◌≤◌, ◌-◌, vec_len}
 use Rattle.rec_io.specs.Source.{Passes}
 use Rattle.rec_run.proofs.reading.read_all.Given as goal
 
@@ -6,9 +6,10 @@ use Rattle.rec_run.proofs.reading.read_all.Given as goal
 abbrev pub invariant-loop-source : goal.invariant-loop-source
 invariant-loop-source g l =
     record {
-      room : 0 < vec_len l.chunk;
+      room : vec_len l.chunk ≡ 65536;
+      few : vec_len l.bytes ≤ 16777216 + 65536;
       passed : Passes (g.S.Source.rest l.fn.source) (g.S.Source.rest l.source) l.bytes.items;
-      faults : g.S.Source.faults l.fn.source ≤ g.S.Source.faults l.source;
+      faults : g.S.Source.faults l.source ≡ g.S.Source.faults l.fn.source;
     }
 
 abbrev pub decreases-loop-source : goal.decreases-loop-source

@@ -6,7 +6,7 @@ use Rattle.rec_run.proofs.running.answer_source.Goals as goal
 pub returns-in-Err-Bad-clause-ends : goal.returns-in-Err-Bad-clause-ends
 returns-in-Err-Bad-clause-ends g c = (
   tt,
-  no_script (g.S.Source.rest c.args.source.now) (g.S.Source.rest c.read_all.new.source) c.in-Ok.bytes.items _ _ c.in-Ok.ensures.passed c.in-Ok.ensures.whole
+  no_script (g.S.Source.rest c.args.source.now) (g.S.Source.rest c.read_all.new.source) c.in-Ok.bytes.items _ _ c.in-Ok.ensures.passed c.in-Ok.ensures.whole c.in-Ok.ensures.few
       (c.in-Err-Bad.ensures.refused _ _ (bad_same c.in-Err-Bad.field-0 c.in-Err-Bad.line _ c.in-Err-Bad.kind _ c.in-Err-Bad.field-0-is refl)),
 )
 

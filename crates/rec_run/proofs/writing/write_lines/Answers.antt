@@ -1,5 +1,5 @@
 -- Each line stands behind what was written, and where a write fails a front of it does.
-use Rattle.std.proofs.Common.{ℕ, ◌++◌, ◌+◌, List, length, take, drop, sym, subst, arith}
+use Rattle.std.proofs.Common.{ℕ, ◌++◌, ◌+◌, List, length, take, drop, sym, subst, ◌∙◌, arith}
 use Rattle.std.proofs.lemmas.List.{length_push, take_all}
 use Rattle.std.proofs.lemmas.Iterator.Consumers.{YieldsList-from_first, YieldsList-turn, YieldsList-end}
 use Rattle.std.proofs.lemmas.Result.{err_from_is_err_and}
@@ -38,5 +38,5 @@ loop-line-preserved g c =
     record {
       front = rw (length_push c.loop-line.yielded c.in-Some.line) (subst P (sym (joined_more lines i c.in-Some.line.now _ t.0 t.1))
           (appends_more _ (g.K.Sink.written c.loop-line.sink) _ (joined (take i lines)) c.in-Some.line.now c.loop-line.invariant.front c.in_ok-write_piece.ensures.written));
-      faults = omega (arith, c.loop-line.invariant.faults, c.write_piece.ensures.never_falls);
+      faults = c.in_ok-write_piece.ensures.faultless ∙ c.loop-line.invariant.faults;
     }

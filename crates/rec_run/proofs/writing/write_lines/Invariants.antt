@@ -1,4 +1,4 @@
-use Rattle.std.proofs.Common.{◌≤◌, length, take}
+use Rattle.std.proofs.Common.{◌≡◌, length, take}
 use Rattle.std.specs.List.{flat_map}
 use Rattle.rec_io.specs.Sink.{Appends}
 use Rattle.rec_run.proofs.writing.write_lines.Given as goal
@@ -8,5 +8,5 @@ abbrev pub invariant-loop-line : goal.invariant-loop-line
 invariant-loop-line g l =
     record {
       front : Appends (g.K.Sink.written l.fn.sink) (g.K.Sink.written l.sink) (flat_map (λ line. line) (take (length l.yielded) l.text));
-      faults : g.K.Sink.faults l.fn.sink ≤ g.K.Sink.faults l.sink;
+      faults : g.K.Sink.faults l.sink ≡ g.K.Sink.faults l.fn.sink;
     }

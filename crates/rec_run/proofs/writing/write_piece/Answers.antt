@@ -14,5 +14,5 @@ loop-rest-preserved g c =
             ∙ ap (λ rest. (front ++ piece) ++ rest) (sym c.split_at.ensures.back),
         appends_more (g.K.Sink.written c.args.sink.now) (g.K.Sink.written c.loop-rest.sink) _ front piece told c.in-Bytes.ensures.appends,
       );
-      faults = omega (arith, c.loop-rest.invariant.faults, c.write.ensures.never_falls);
+      faults = c.write.ensures.uncounted (λ bad. cc) ∙ c.loop-rest.invariant.faults;
     }

@@ -1,4 +1,4 @@
-use Rattle.std.proofs.Common.{◌≡◌, ◌≤◌, ◌++◌, ℕ, List, length}
+use Rattle.std.proofs.Common.{◌≡◌, ◌++◌, ℕ, List, length}
 use Rattle.rec_io.specs.Sink.{Appends}
 use Rattle.rec_run.proofs.writing.write_piece.Given as goal
 
@@ -7,7 +7,7 @@ abbrev pub invariant-loop-rest : goal.invariant-loop-rest
 invariant-loop-rest g l =
     record {
       front : (front : List ℕ) × (l.piece ≡ front ++ l.rest) × Appends (g.K.Sink.written l.fn.sink) (g.K.Sink.written l.sink) front;
-      faults : g.K.Sink.faults l.fn.sink ≤ g.K.Sink.faults l.sink;
+      faults : g.K.Sink.faults l.sink ≡ g.K.Sink.faults l.fn.sink;
     }
 
 abbrev pub decreases-loop-rest : goal.decreases-loop-rest

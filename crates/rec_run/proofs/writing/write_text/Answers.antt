@@ -35,5 +35,5 @@ loop-rest-preserved g c =
         is ∙ ap (λ (t : List ℕ). front ++ t) (sym (take-append-drop n rest)) ∙ sym (append_assoc front line (drop n rest)) ∙ ap (λ (t : List ℕ). (front ++ line) ++ t) (sym c.split_at.ensures.back),
         appends_more (g.K.Sink.written c.args.sink.now) (g.K.Sink.written c.loop-rest.sink) _ front line told (subst P c.split_at.ensures.front c.in_ok-write_piece.ensures.written),
       );
-      faults = omega (arith, c.loop-rest.invariant.faults, c.write_piece.ensures.never_falls);
+      faults = c.in_ok-write_piece.ensures.faultless ∙ c.loop-rest.invariant.faults;
     }
