@@ -1,7 +1,8 @@
 //! Runs of the program over sources and sinks that fail, each at every place.
 
+use crate::program::run_with;
 use rec_io::{BytesSource, RoomSink, StdSink, StdSource};
-use rec_run::{Status, run};
+use rec_run::Status;
 use rec_script::Kind;
 use rec_threads::OpenGate;
 use std::io::{self, Error, ErrorKind, Read, Write};
@@ -54,7 +55,7 @@ fn comes_to<R: Abort + AllocGlobal + Threads + Wait + Sync>(
     let [read, write] = fails;
     let mut source = BytesSource::open(rt.alloc(), SCRIPT.as_bytes(), &[read])?;
     let mut sink = RoomSink::open(rt.alloc(), room, &[write])?;
-    let ended = run(rt, rt.alloc(), words, &mut source, &mut sink, &OpenGate);
+    let ended = run_with(rt, words, &mut source, &mut sink, &OpenGate);
     assert_eq!(rt; ended, status, "at {words:?}, {fails:?}, {room}");
     assert_eq!(rt;
         Some(sink.bytes()),
@@ -170,7 +171,7 @@ fn each_read_of_a_byte_fails(rt: HostRuntime) -> Result<(), Fail> {
             fails,
         });
         let mut sink = RoomSink::open(rt.alloc(), 1_000, &[])?;
-        let status = run(&rt, rt.alloc(), &PLAY, &mut source, &mut sink, &OpenGate);
+        let status = run_with(&rt, &PLAY, &mut source, &mut sink, &OpenGate);
         let (ends, text) = if fails < 75 {
             (Status::ReadFault, "")
         } else {
@@ -200,11 +201,11 @@ impl Write for Loses {
 fn a_failed_flush_is_a_write_fault(rt: HostRuntime) -> Result<(), Fail> {
     let mut source = BytesSource::open(rt.alloc(), b"", &[])?;
     let mut sink = StdSink::over(Loses);
-    let status = run(&rt, rt.alloc(), &MAKE, &mut source, &mut sink, &OpenGate);
+    let status = run_with(&rt, &MAKE, &mut source, &mut sink, &OpenGate);
     assert_eq!(rt; status, Status::WriteFault);
     assert_eq!(rt; sink.fault_count(), 1);
     // Any other status is told as it was, and nothing is flushed.
-    let status = run(&rt, rt.alloc(), &PLAY, &mut source, &mut sink, &OpenGate);
+    let status = run_with(&rt, &PLAY, &mut source, &mut sink, &OpenGate);
     assert_eq!(rt;
         status,
         Status::BadScript {

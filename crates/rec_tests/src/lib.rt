@@ -34,6 +34,8 @@ mod failures;
 #[cfg(test)]
 mod mixed;
 #[cfg(test)]
+mod program;
+#[cfg(test)]
 mod race;
 #[cfg(test)]
 mod refused_set;

@@ -1,7 +1,8 @@
 //! That the workers of `recycler threads` run beside each other: each of them is held until others have come on.
 
+use crate::program::run_with;
 use rec_io::{BytesSource, RoomSink};
-use rec_run::{Status, run};
+use rec_run::Status;
 use rec_threads::Gate;
 use std::process::Abort;
 use std::sync::Wait;
@@ -25,7 +26,7 @@ fn comes_to<R: Abort + AllocGlobal + Threads + Wait + Sync, G: Gate>(
     let words: [&str; 2] = ["recycler", "threads"];
     let mut source = BytesSource::open(rt.alloc(), script.as_bytes(), &[])?;
     let mut sink = RoomSink::open(rt.alloc(), 1_000, &[])?;
-    let status = run(rt, rt.alloc(), &words, &mut source, &mut sink, gate);
+    let status = run_with(rt, &words, &mut source, &mut sink, gate);
     assert_eq!(rt; status, Status::Done);
     assert_eq!(rt; sink.bytes(), text.as_bytes());
     Ok(())
