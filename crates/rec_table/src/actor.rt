@@ -253,6 +253,10 @@ impl Actor {
     {
         let steps = self.machine.steps();
         if let Op::ClaimHeader(slot, _) = self.machine.next() {
+            // Behind the last claim a header is mostly free, and then no probe fails.
+            if board.finds_free(slot) {
+                return;
+            }
             // The first step loaded the freed word, and each other one was a probe.
             let probed = steps as usize - 1;
             let count = first_free(board, &mut self.seat, probed, usize::from(slot));

@@ -49,6 +49,20 @@ many c =
     let own = (actor_of (key c) (seated c).number kept is).own in
     c.self.invariant.3.slots ∙ ap (λ (p : Private). p.slots) (opened c) ∙ own.slots ∙ sym kept.headers ∙ sym c.args.board.now.wide.1
 
+-- the slot is one of the table's
+pub finds_free-requires : goal.finds_free-requires
+finds_free-requires c =
+    let key : Core = c.args.board.now.table.shared.key.value in
+    let t : Seated = seated_of c.self.inside.seat.me.0 in
+    let opened : c.self.inside.opened.value ≡ mutator key t.number = opened_is c.args.board.now.table.shared.table_id c.self.inside.seat.table_id key c.self.inside.opened.value t c.args.self.now c.self.view_is c.requires.own in
+    let is : IsMutator key.config t.number = subst (λ (n : ℕ). IsMutator key.config n) (sym (ap (λ (x : Held). x.number) c.self.view_is)) c.requires.own.1 in
+    let kept = world_kept key c.requires.world in
+    let own = (actor_of key t.number kept is).own in
+    let many : c.self.inside.machine.slots ≡ c.args.board.now.slots = c.self.invariant.3.slots ∙ ap (λ (p : Private). p.slots) opened ∙ own.slots ∙ sym kept.headers ∙ sym c.args.board.now.wide.1 in
+    let k : Claims c.self.inside.machine c.in-ClaimHeader.slot = claims c.self.inside.machine c.in-ClaimHeader.slot c.in-ClaimHeader.field-1 (sym c.next.ensures ∙ c.in-ClaimHeader.is) in
+    let there = (claims_slot c.self.inside.machine c.in-ClaimHeader.slot c.steps-steps.ensures.kept k).2 in
+    omega (arith, many, there)
+
 -- the first step came before the probes
 pub overflow_sub-probed : goal.overflow_sub-probed
 overflow_sub-probed c =
@@ -108,9 +122,9 @@ invariant_of-self c =
 was : (c : After-from) → c.self.inside.machine ≡ has c.args.self.now
 was c = c.self.invariant.1 ∙ ap has c.self.view_is
 
-pub returns-in-ClaimHeader-clause-scanned : goal.returns-in-ClaimHeader-clause-scanned
-returns-in-ClaimHeader-clause-scanned c =
-    let a : After-from = (goal.at.returns-in-ClaimHeader-clause-scanned c).After-from in
+pub returns-else-finds_free-clause-scanned : goal.returns-else-finds_free-clause-scanned
+returns-else-finds_free-clause-scanned c =
+    let a : After-from = (goal.at.returns-else-finds_free-clause-scanned c).After-from in
     let e = ended a c.skip_to.new.self c.first_free-count.result c.first_free-count.new.seat.me c.first_free-count.ensures.passed c.first_free-count.ensures.few c.skip_to.ensures.skipped in
     let s = c.self.inside in
     let passed = c.first_free-count.ensures.passed in
@@ -124,26 +138,26 @@ returns-in-ClaimHeader-clause-scanned c =
       learns = sym e.told ∙ e.learns ∙ ap (λ (p : Private). fold took_of p passed.words) (was a);
     }
 
-pub returns-in-ClaimHeader-clause-steps : goal.returns-in-ClaimHeader-clause-steps
-returns-in-ClaimHeader-clause-steps c =
-    let a : After-from = (goal.at.returns-in-ClaimHeader-clause-steps c).After-from in
+pub returns-else-finds_free-clause-steps : goal.returns-else-finds_free-clause-steps
+returns-else-finds_free-clause-steps c =
+    let a : After-from = (goal.at.returns-else-finds_free-clause-steps c).After-from in
     let e = ended a c.skip_to.new.self c.first_free-count.result c.first_free-count.new.seat.me c.first_free-count.ensures.passed c.first_free-count.ensures.few c.skip_to.ensures.skipped in
     subst (λ (y : Private × Private). y.0.steps ≤ y.1.steps) (λ k. (was a k, e.told k)) e.steps
 
-pub returns-in-ClaimHeader-clause-busy : goal.returns-in-ClaimHeader-clause-busy
-returns-in-ClaimHeader-clause-busy c =
-    let a : After-from = (goal.at.returns-in-ClaimHeader-clause-busy c).After-from in
+pub returns-else-finds_free-clause-busy : goal.returns-else-finds_free-clause-busy
+returns-else-finds_free-clause-busy c =
+    let a : After-from = (goal.at.returns-else-finds_free-clause-busy c).After-from in
     let e = ended a c.skip_to.new.self c.first_free-count.result c.first_free-count.new.seat.me c.first_free-count.ensures.passed c.first_free-count.ensures.few c.skip_to.ensures.skipped in
     ap is_busy (sym e.told) ∙ c.skip_to.ensures.busy ∙ ap is_busy (was a) ∙ c.requires.busy
 
-pub returns-in-ClaimHeader-clause-work : goal.returns-in-ClaimHeader-clause-work
-returns-in-ClaimHeader-clause-work c =
-    let a : After-from = (goal.at.returns-in-ClaimHeader-clause-work c).After-from in
+pub returns-else-finds_free-clause-work : goal.returns-else-finds_free-clause-work
+returns-else-finds_free-clause-work c =
+    let a : After-from = (goal.at.returns-else-finds_free-clause-work c).After-from in
     let e = ended a c.skip_to.new.self c.first_free-count.result c.first_free-count.new.seat.me c.first_free-count.ensures.passed c.first_free-count.ensures.few c.skip_to.ensures.skipped in
     ap work_of (sym e.told) ∙ c.skip_to.ensures.work ∙ ap work_of (was a)
 
-pub returns-in-ClaimHeader-clause-same : goal.returns-in-ClaimHeader-clause-same
-returns-in-ClaimHeader-clause-same c =
-    let a : After-from = (goal.at.returns-in-ClaimHeader-clause-same c).After-from in
+pub returns-else-finds_free-clause-same : goal.returns-else-finds_free-clause-same
+returns-else-finds_free-clause-same c =
+    let a : After-from = (goal.at.returns-else-finds_free-clause-same c).After-from in
     let e = ended a c.skip_to.new.self c.first_free-count.result c.first_free-count.new.seat.me c.first_free-count.ensures.passed c.first_free-count.ensures.few c.skip_to.ensures.skipped in
     subst (λ (y : Private × Private). KeepsSizes y.0 y.1) (λ k. (was a k, e.told k)) c.skip_to.ensures.same
