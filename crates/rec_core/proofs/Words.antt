@@ -77,7 +77,7 @@ own_next p = by p.phase
 
     by : (phase : phases.Phase) → IsOwnOp p (next_at p phase)
     by (at.Begun work) = worked work
-    by (at.Scanning reg label before slot) = tt
+    by (at.Scanning reg label before probed) = tt
     by (at.Scanned reg label before) = tt
     by _ = refl
 

@@ -196,11 +196,11 @@ step_cause {p = p} {word = word} {q = q} cmd told kept work answer (Step.value r
 step_cause {p = p} {word = word} {q = q} cmd told kept work answer (Step.new_refused reg label full d) =
     decided word cmd told refl work answer d (full_log_cause p q (commands.New reg label) word (stays d) full tt (λ e. e) (not_scanned p _ d.phase (λ _ e. e)))
 step_cause cmd told kept work answer (Step.new_begins reg label room g) = absurd (goes_on told refl answer g)
-step_cause {p = p} {word = word} {q = q} cmd told kept work answer (Step.new_wins reg label before slot free d) =
+step_cause {p = p} {word = word} {q = q} cmd told kept work answer (Step.new_wins reg label before probed free d) =
     decided word cmd told refl work answer d
     (plain_cause p q (commands.New reg label) word answers.Done refl (λ e. e) (λ e. has_room p reg (at_phase p _ kept d.phase).0 e.0) (not_scanned p _ d.phase (λ _ e. e)))
-step_cause cmd told kept work answer (Step.new_goes_on reg label before slot taken more g) = absurd (goes_on told refl answer g)
-step_cause cmd told kept work answer (Step.new_finds_none reg label before slot taken last g) = absurd (goes_on told refl answer g)
+step_cause cmd told kept work answer (Step.new_goes_on reg label before probed taken more g) = absurd (goes_on told refl answer g)
+step_cause cmd told kept work answer (Step.new_finds_none reg label before probed taken last g) = absurd (goes_on told refl answer g)
 step_cause {p = p} {word = word} {q = q} cmd told kept work answer (Step.new_is_full reg label before still d) =
     decided word cmd told refl work answer d (full_cause p q reg label before word (stays d) (has_room p reg (at_phase p _ kept d.phase).0) d.phase still)
 step_cause {p = p} {word = word} {q = q} cmd told kept work answer (Step.new_is_busy reg label before moves d) =

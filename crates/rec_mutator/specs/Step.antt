@@ -14,7 +14,7 @@ use Rattle.rec_model.specs.Asking.{null_or_object, same, yes_or_no, plain}
 use Rattle.rec_log.specs.declared.contents.Contents.{Contents}
 use Rattle.rec_log.specs.declared.entry.Entry.{Entry}
 use Rattle.rec_log.specs.declared.entry.Entry.TheVariants as entries
-use Rattle.rec_mutator.specs.Private.{Private, register, word_for}
+use Rattle.rec_mutator.specs.Private.{Private, register, word_for, probe_of}
 use Rattle.rec_mutator.specs.Took.{moved, answered, IsRequested}
 use Rattle.rec_mutator.specs.declared.made.Made.TheVariants as makes
 use Rattle.rec_mutator.specs.declared.phase.Phase.{Phase}
@@ -81,11 +81,12 @@ pub data Step (p : Private) (word : ℕ) (box : Contents) (op : Op) (q : Private
   new_refused : (reg label : ℕ) → IsLogFull p
       → DecidesAtOnce p op q (commands.New reg label) (ops.LoadCross p.number) p.registers p.log.entries (plain answers.LogFull) → Step p word box op q
   new_begins : (reg label : ℕ) → HasRoom p → GoesOn p op q (Begun (works.Command (commands.New reg label))) ops.LoadFreed (Scanning reg label word 0) → Step p word box op q
-  new_wins : (reg label before slot : ℕ) → word ≡ 0
-      → Decides p op q (commands.New reg label) (Scanning reg label before slot) (ops.ClaimHeader slot label) (slice_set p.registers reg (Some slot)) (p.log.entries ++ entries.Born slot ∷ []) (plain answers.Done)
+  new_wins : (reg label before probed : ℕ) → word ≡ 0
+      → Decides p op q (commands.New reg label) (Scanning reg label before probed) (ops.ClaimHeader (probe_of p probed) label) (slice_set p.registers reg (Some (probe_of p probed))) (p.log.entries ++ entries.Born (probe_of p probed) ∷ []) (plain answers.Done)
       → Step p word box op q
-  new_goes_on : (reg label before slot : ℕ) → word ≢ 0 → slot + 1 ≢ p.slots → GoesOn p op q (Scanning reg label before slot) (ops.ClaimHeader slot label) (Scanning reg label before (slot + 1)) → Step p word box op q
-  new_finds_none : (reg label before slot : ℕ) → word ≢ 0 → slot + 1 ≡ p.slots → GoesOn p op q (Scanning reg label before slot) (ops.ClaimHeader slot label) (Scanned reg label before) → Step p word box op q
+  new_goes_on : (reg label before probed : ℕ) → word ≢ 0 → probed + 1 ≢ p.slots
+      → GoesOn p op q (Scanning reg label before probed) (ops.ClaimHeader (probe_of p probed) label) (Scanning reg label before (probed + 1)) → Step p word box op q
+  new_finds_none : (reg label before probed : ℕ) → word ≢ 0 → probed + 1 ≡ p.slots → GoesOn p op q (Scanning reg label before probed) (ops.ClaimHeader (probe_of p probed) label) (Scanned reg label before) → Step p word box op q
   new_is_full : (reg label before : ℕ) → IsStill before word
       → Decides p op q (commands.New reg label) (Scanned reg label before) ops.LoadFreed p.registers p.log.entries (plain answers.Full) → Step p word box op q
   new_is_busy : (reg label before : ℕ) → (IsStill before word → ⊥)

@@ -9,12 +9,12 @@ pub enum Phase {
     Begun {
         work: Work,
     },
-    /// An allocation found this freed word, and probes this slot next; each slot below it was taken when it was probed.
+    /// An allocation found this freed word, and has probed so many slots; each of them was taken when it was probed.
     Scanning {
         reg: u8,
         label: u32,
         before: u64,
-        slot: u16,
+        probed: u16,
     },
     /// An allocation found this freed word and no free slot, and loads the freed word once more.
     Scanned {

@@ -21,21 +21,22 @@ use Rattle.rec_mutator.proofs.Steps.{TakesNone, here_same, none_between}
 use Rattle.rec_table.specs.Answered.{FailsProbes, IsAnswered, worked}
 use Rattle.rec_table.specs.Beats.{learnt, told}
 use Rattle.rec_table.specs.Scan.{saw_all}
+use Rattle.rec_table.specs.declared.start.Start.{Start}
 use Rattle.rec_table.specs.declared.views.Beat.{Beat}
 use Rattle.rec_table.specs.declared.views.Beat.TheVariants.{Begins, Saw}
 use Rattle.rec_table.proofs.Beats.{told_both}
 
 -- a work that was begun and went on step by step: the words that were found, and the record before the last step
-pub record Path (work : Work) (p : Private) (log log' : List Beat) (q : Private) : Type 0 where
+pub record Path (start : Start) (p : Private) (log log' : List Beat) (q : Private) : Type 0 where
   pub words : List ℕ
   pub last : ℕ
-  pub grows : log' ≡ log ++ worked work (words ++ last ∷ [])
+  pub grows : log' ≡ log ++ worked start (words ++ last ∷ [])
   pub before : Private
-  pub along : before ≡ told (begun_of p work) (saw_all words)
-  pub came : (cmd : Cmd) → work ≡ works.Command cmd → before ≡ fold took_of (begun_of p work) words
+  pub along : before ≡ told (begun_of p start.work start.from) (saw_all words)
+  pub came : (cmd : Cmd) → start.work ≡ works.Command cmd → before ≡ fold took_of (begun_of p start.work start.from) words
   pub machine : IsMachine before
   pub busy : is_busy before ≡ true
-  pub works_on : work_of before ≡ Some work
+  pub works_on : work_of before ≡ Some start.work
   pub slots : before.slots ≡ p.slots
   pub made : q ≡ learnt before (Saw last)
 
@@ -70,21 +71,21 @@ busy_still p work is none = by p.phase refl
     by at.Giving e = ap is_busy_at e
     by (at.Finished w made) e = absurd (none made (ap answer_at e))
 
-begun_at : (p : Private) (work : Work) → (begun_of p work).phase ≡ at.Begun work
+begun_at : (p : Private) (work : Work) (from : ℕ) → (begun_of p work from).phase ≡ at.Begun work
 unfolding begun_of
-begun_at p work = refl
+begun_at p work from = refl
 
-pub begun_slots : (p : Private) (work : Work) → (begun_of p work).slots ≡ p.slots
+pub begun_slots : (p : Private) (work : Work) (from : ℕ) → (begun_of p work from).slots ≡ p.slots
 unfolding begun_of
-begun_slots p work = refl
+begun_slots p work from = refl
 
-pub path_first : (work : Work) (p q : Private) (log log' : List Beat) (word : ℕ) → log' ≡ log ++ worked work (word ∷ []) → IsMachine (begun_of p work) → is_busy (begun_of p work) ≡ true → work_of (begun_of p work) ≡ Some work
-    → (begun_of p work).slots ≡ p.slots → q ≡ learnt (begun_of p work) (Saw word) → Path work p log log' q
-path_first work p q log log' word grows machine busy works_on slots made = record {
+pub path_first : (start : Start) (p q : Private) (log log' : List Beat) (word : ℕ) → log' ≡ log ++ worked start (word ∷ []) → IsMachine (begun_of p start.work start.from) → is_busy (begun_of p start.work start.from) ≡ true → work_of (begun_of p start.work start.from) ≡ Some start.work
+    → (begun_of p start.work start.from).slots ≡ p.slots → q ≡ learnt (begun_of p start.work start.from) (Saw word) → Path start p log log' q
+path_first start p q log log' word grows machine busy works_on slots made = record {
   words = [];
   last = word;
   grows = grows;
-  before = begun_of p work;
+  before = begun_of p start.work start.from;
   along = refl;
   came = λ cmd is. refl;
   machine = machine;
@@ -95,28 +96,28 @@ path_first work p q log log' word grows machine busy works_on slots made = recor
 }
 
 -- failing probes that found these words, and one step more
-pub path_on : (work : Work) (p q m r : Private) (log was on now : List Beat) (ws : List ℕ) (word : ℕ) → Path work p log was q → is_busy m ≡ true → work_of m ≡ Some work → on ≡ was ++ saw_all ws → m ≡ fold took_of q ws → m ≡ told q (saw_all ws) → now ≡ on ++ Saw word ∷ []
-    → IsMachine m → m.slots ≡ p.slots → r ≡ learnt m (Saw word) → Path work p log now r
-path_on work p q m r log was on now ws word path busy works_on passed came went more machine slots made =
+pub path_on : (start : Start) (p q m r : Private) (log was on now : List Beat) (ws : List ℕ) (word : ℕ) → Path start p log was q → is_busy m ≡ true → work_of m ≡ Some start.work → on ≡ was ++ saw_all ws → m ≡ fold took_of q ws → m ≡ told q (saw_all ws) → now ≡ on ++ Saw word ∷ []
+    → IsMachine m → m.slots ≡ p.slots → r ≡ learnt m (Saw word) → Path start p log now r
+path_on start p q m r log was on now ws word path busy works_on passed came went more machine slots made =
     let first : List ℕ = path.words ++ path.last ∷ [] in
     let last : List Beat = Saw word ∷ [] in
-    let beats : worked work first ++ (saw_all ws ++ last) ≡ worked work ((first ++ ws) ++ word ∷ []) =
-    ap (λ (l : List Beat). Begins work ∷ l) (sym (append_assoc (saw_all first) (saw_all ws) last) ∙ ap (λ (l : List Beat). l ++ last) (sym (map-append (λ (n : ℕ). Saw n) first ws)) ∙ sym (map-append (λ (n : ℕ). Saw n) (first ++ ws) (word ∷ []))) in
+    let beats : worked start first ++ (saw_all ws ++ last) ≡ worked start ((first ++ ws) ++ word ∷ []) =
+    ap (λ (l : List Beat). Begins start ∷ l) (sym (append_assoc (saw_all first) (saw_all ws) last) ∙ ap (λ (l : List Beat). l ++ last) (sym (map-append (λ (n : ℕ). Saw n) first ws)) ∙ sym (map-append (λ (n : ℕ). Saw n) (first ++ ws) (word ∷ []))) in
     record {
       words = first ++ ws;
       last = word;
-      grows = more ∙ ap (λ (l : List Beat). l ++ last) passed ∙ (λ i. (path.grows i ++ saw_all ws) ++ last) ∙ append_assoc (log ++ worked work first) (saw_all ws) last ∙ append_assoc log (worked work first) (saw_all ws ++ last)
+      grows = more ∙ ap (λ (l : List Beat). l ++ last) passed ∙ (λ i. (path.grows i ++ saw_all ws) ++ last) ∙ append_assoc (log ++ worked start first) (saw_all ws) last ∙ append_assoc log (worked start first) (saw_all ws ++ last)
           ∙ ap (λ (l : List Beat). log ++ l) beats;
       before = m;
       along =
-          went ∙ ap (λ (x : Private). told x (saw_all ws)) (path.made ∙ ap (λ (x : Private). learnt x (Saw path.last)) path.along ∙ sym (told_both (begun_of p work) (saw_all path.words) (Saw path.last ∷ [])))
-          ∙ sym (told_both (begun_of p work) (saw_all path.words ++ Saw path.last ∷ []) (saw_all ws))
-          ∙ ap (told (begun_of p work)) (ap (λ (l : List Beat). l ++ saw_all ws) (sym (map-append (λ (n : ℕ). Saw n) path.words (path.last ∷ []))) ∙ sym (map-append (λ (n : ℕ). Saw n) first ws));
+          went ∙ ap (λ (x : Private). told x (saw_all ws)) (path.made ∙ ap (λ (x : Private). learnt x (Saw path.last)) path.along ∙ sym (told_both (begun_of p start.work start.from) (saw_all path.words) (Saw path.last ∷ [])))
+          ∙ sym (told_both (begun_of p start.work start.from) (saw_all path.words ++ Saw path.last ∷ []) (saw_all ws))
+          ∙ ap (told (begun_of p start.work start.from)) (ap (λ (l : List Beat). l ++ saw_all ws) (sym (map-append (λ (n : ℕ). Saw n) path.words (path.last ∷ []))) ∙ sym (map-append (λ (n : ℕ). Saw n) first ws));
       came = λ cmd is.
           let none : TakesNone path.before.phase = command_takes_none path.before cmd (path.works_on ∙ ap (λ (w : Work). Some w) is) in
-          let so_far : q ≡ fold took_of (begun_of p work) first = path.made ∙ here_same path.before path.last (spare (took_of path.before path.last)) path.busy none ∙ ap (λ (x : Private). took_of x path.last) (path.came cmd is)
-          ∙ sym (fold-append took_of (begun_of p work) path.words (path.last ∷ [])) in
-          came ∙ ap (λ (x : Private). fold took_of x ws) so_far ∙ sym (fold-append took_of (begun_of p work) first ws);
+          let so_far : q ≡ fold took_of (begun_of p start.work start.from) first = path.made ∙ here_same path.before path.last (spare (took_of path.before path.last)) path.busy none ∙ ap (λ (x : Private). took_of x path.last) (path.came cmd is)
+          ∙ sym (fold-append took_of (begun_of p start.work start.from) path.words (path.last ∷ [])) in
+          came ∙ ap (λ (x : Private). fold took_of x ws) so_far ∙ sym (fold-append took_of (begun_of p start.work start.from) first ws);
       machine = machine;
       busy = busy;
       works_on = works_on;
@@ -143,29 +144,31 @@ scanned_at q cmd before work found = by q.phase refl found
     by at.Giving e f = absurd f
     by (at.Finished w made) e f = absurd f
 
-fails_probes : (p q : Private) (cmd : Cmd) (before : ℕ) (words : List ℕ) → q ≡ fold took_of (begun_of p (works.Command cmd)) words → q.slots ≡ p.slots → work_of q ≡ Some (works.Command cmd) → FoundNone q before → FailsProbes p cmd before words
-fails_probes p q cmd before words came slots work found =
+fails_probes : (p q : Private) (cmd : Cmd) (from before : ℕ) (words : List ℕ) → q ≡ fold took_of (begun_of p (works.Command cmd) from) words → q.slots ≡ p.slots → work_of q ≡ Some (works.Command cmd) → FoundNone q before → FailsProbes p cmd from before words
+unfolding begun_of
+fails_probes p q cmd from before words came slots work found =
     let (reg, label, is) = scanned_at q cmd before work found.scanned in
     record {
       reg = reg;
       label = label;
       is = is;
-      fails = subst (λ n. FailsScan label n before (ops_along (begun_of p (works.Command cmd)) words) words) slots
-          (found.every (begun_of p (works.Command cmd)) words (record { reg = reg; label = label; begun = begun_at p (works.Command cmd) ∙ ap (λ (c : Cmd). at.Begun (works.Command c)) is; came = came }));
+      fails = subst (λ n. FailsScan label n from before (ops_along (begun_of p (works.Command cmd) from) words) words) slots
+          (found.every (begun_of p (works.Command cmd) from) words (record { reg = reg; label = label; begun = begun_at p (works.Command cmd) from ∙ ap (λ (c : Cmd). at.Begun (works.Command c)) is; came = came }));
     }
 
-pub answered : (p q : Private) (cmd : Cmd) (log log' : List Beat) (told : Told) → Path (works.Command cmd) p log log' q → answer_of q ≡ Some (makes.Answered told) → IsAnswered p cmd log log' q told
-answered p q cmd log log' told path answer =
+pub answered : (p q : Private) (cmd : Cmd) (from : ℕ) (log log' : List Beat) (told : Told) → Path (record { work = works.Command cmd; from = from }) p log log' q → answer_of q ≡ Some (makes.Answered told) → IsAnswered p cmd log log' q told
+answered p q cmd from log log' told path answer =
     let pre : Private = path.before in
     let none : TakesNone pre.phase = command_takes_none pre cmd path.works_on in
     let took : q ≡ took_of pre path.last = path.made ∙ here_same pre path.last (spare (took_of pre path.last)) path.busy none in
     let cause : HasCause pre (took_of pre path.last) cmd path.last told.answer = took_cause pre path.last cmd told path.machine path.busy (none_between pre.phase none) path.works_on (ap answer_of (sym took) ∙ answer) in
-    let came : pre ≡ fold took_of (begun_of p (works.Command cmd)) path.words = path.came cmd refl in
+    let came : pre ≡ fold took_of (begun_of p (works.Command cmd) from) path.words = path.came cmd refl in
     record {
+      from = from;
       words = path.words;
       last = path.last;
       grows = path.grows;
       cause = subst (λ (y : Private × Private). HasCause y.0 y.1 cmd path.last told.answer) (λ i. (came i, sym took i)) cause;
-      full = λ is. let (before, found, still) = cause.full.0 is in (before, fails_probes p pre cmd before path.words came path.slots path.works_on found, still);
-      busy = λ before after is. let (found, same, still) = (cause.busy before after).0 is in (fails_probes p pre cmd before path.words came path.slots path.works_on found, same, still);
+      full = λ is. let (before, found, still) = cause.full.0 is in (before, fails_probes p pre cmd from before path.words came path.slots path.works_on found, still);
+      busy = λ before after is. let (found, same, still) = (cause.busy before after).0 is in (fails_probes p pre cmd from before path.words came path.slots path.works_on found, same, still);
     }

@@ -1,5 +1,5 @@
 //! The failing probes of a scan.
-ghost use Rattle.std.specs.Prelude.{◌≡◌, ◌+◌, ◌≤◌, []};
+ghost use Rattle.std.specs.Prelude.{◌≡◌, ◌+◌, ◌<◌, ◌≤◌, []};
 ghost use Rattle.rec_core.specs.Core.{mutator};
 ghost use Rattle.rec_table.specs.Beats.{told};
 ghost use Rattle.rec_table.specs.Rule.{seated_of};
@@ -16,51 +16,91 @@ use rec_log::Buffer;
 // two of them.
 const STRIDE: usize = 16;
 
-/// The first slot from this one on whose header is found free, or the number of slots. Each load of a taken header is a step.
-/// A load takes the header's line from no other thread, and no record is written between two of them.
-pub(crate) fn first_free(board: &Board, seat: &mut Seat<Option<Buffer>, View>, from: usize) -> usize
+/// How many probes a scan has made that made so many, and so has come to this slot, once it comes to a free header or to its end.
+/// Each load of a taken header is a step. A load takes the header's line from no other thread, and no record is written between two
+/// of them. Behind the last slot the first one follows, so there are two runs of slots at most.
+pub(crate) fn first_free(
+    board: &Board,
+    seat: &mut Seat<Option<Buffer>, View>,
+    probed: usize,
+    slot: usize,
+) -> usize
     requires table { seat.old.table_id ≡ board.now.table.shared.table_id }
     requires seat { seat.old.me ≡ (Mutates (seated_of seat.old.me.0), []) }
-    requires scan { ScansFrom (told (mutator board.now.table.shared.key.value (seated_of seat.old.me.0).number) (seated_of seat.old.me.0).log) from board.now.slots }
+    requires scan { ScansFrom (told (mutator board.now.table.shared.key.value (seated_of seat.old.me.0).number) (seated_of seat.old.me.0).log) probed slot board.now.slots }
+    requires slot { slot < board.now.slots }
 
     ensures seat { (seat.new.table_id ≡ seat.old.table_id) × (seat.new.id ≡ seat.old.id) }
-    ensures passed { Passed (seated_of seat.old.me.0) from result seat.new.me }
+    ensures passed { Passed (seated_of seat.old.me.0) probed result seat.new.me }
     ensures few { result ≤ board.now.slots }
 {
-    let mut slot = from;
-    while slot + STRIDE < board.slots {
-        let free = first_free_of(board, seat, slot, STRIDE);
-        if free < slot + STRIDE {
-            return free;
-        }
-        slot += STRIDE;
+    let left = board.slots - probed;
+    let ahead = board.slots - slot;
+    if left <= ahead {
+        return first_free_of_run(board, seat, probed, slot, left);
     }
-    first_free_of(board, seat, slot, board.slots - slot)
+    let count = first_free_of_run(board, seat, probed, slot, ahead);
+    if count < probed + ahead {
+        return count;
+    }
+    first_free_of_run(board, seat, count, 0, left - ahead)
 }
 
-// The same of so many slots alone. Where none of them is free, the answer is the slot behind them.
+// The same of so many slots alone, of which none is behind the last one.
+fn first_free_of_run(
+    board: &Board,
+    seat: &mut Seat<Option<Buffer>, View>,
+    probed: usize,
+    slot: usize,
+    many: usize,
+) -> usize
+    requires table { seat.old.table_id ≡ board.now.table.shared.table_id }
+    requires seat { seat.old.me ≡ (Mutates (seated_of seat.old.me.0), []) }
+    requires scan { ScansFrom (told (mutator board.now.table.shared.key.value (seated_of seat.old.me.0).number) (seated_of seat.old.me.0).log) probed slot board.now.slots }
+    requires some { 0 < many }
+    requires slots { slot + many ≤ board.now.slots }
+    requires probes { probed + many ≤ board.now.slots }
+
+    ensures seat { (seat.new.table_id ≡ seat.old.table_id) × (seat.new.id ≡ seat.old.id) }
+    ensures passed { Passed (seated_of seat.old.me.0) probed result seat.new.me }
+    ensures few { result ≤ probed + many }
+{
+    let mut done = 0;
+    while done + STRIDE < many {
+        let count = first_free_of(board, seat, probed + done, slot + done, STRIDE);
+        if count < probed + done + STRIDE {
+            return count;
+        }
+        done += STRIDE;
+    }
+    first_free_of(board, seat, probed + done, slot + done, many - done)
+}
+
+// The same of a few slots. Where none of them is free, the answer is the number of probes behind them.
 #[inline(always)]
 fn first_free_of(
     board: &Board,
     seat: &mut Seat<Option<Buffer>, View>,
-    from: usize,
-    count: usize,
+    probed: usize,
+    slot: usize,
+    many: usize,
 ) -> usize
     requires table { seat.old.table_id ≡ board.now.table.shared.table_id }
     requires seat { seat.old.me ≡ (Mutates (seated_of seat.old.me.0), []) }
-    requires scan { ScansFrom (told (mutator board.now.table.shared.key.value (seated_of seat.old.me.0).number) (seated_of seat.old.me.0).log) from board.now.slots }
-    requires count { from + count ≤ board.now.slots }
+    requires scan { ScansFrom (told (mutator board.now.table.shared.key.value (seated_of seat.old.me.0).number) (seated_of seat.old.me.0).log) probed slot board.now.slots }
+    requires slots { slot + many ≤ board.now.slots }
+    requires probes { probed + many ≤ board.now.slots }
 
     ensures seat { (seat.new.table_id ≡ seat.old.table_id) × (seat.new.id ≡ seat.old.id) }
-    ensures passed { Passed (seated_of seat.old.me.0) from result seat.new.me }
-    ensures few { result ≤ from + count }
+    ensures passed { Passed (seated_of seat.old.me.0) probed result seat.new.me }
+    ensures few { result ≤ probed + many }
 {
     let shared = &board.table.shared;
-    let first_header = board.places + from;
-    for index in 0..count {
+    let first_header = board.places + slot;
+    for index in 0..many {
         if shared.load::<Passes>(seat, first_header + index) == 0 {
-            return from + index;
+            return probed + index;
         }
     }
-    from + count
+    probed + many
 }

@@ -43,7 +43,7 @@ took_epoch p word = took_rises p word p.phase
 
 pub gathered_epoch : (p : Private) (b : Beat) → (gathered p b).epoch ≤ p.epoch + 1
 unfolding step_of
-gathered_epoch p (Begins work) = omega arith
+gathered_epoch p (Begins start) = omega arith
 gathered_epoch p (Saw word) = took_epoch p word
 gathered_epoch p (Took word b) = let e = swapped_epoch (took_of p word) b in let t = took_epoch p word in omega (arith, e, t)
 
