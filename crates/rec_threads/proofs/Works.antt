@@ -29,7 +29,7 @@ still_own h m n is own = subst (IsMutatorOf h) (sym is) own
 
 -- a list that grew by a work grew by beats that begin this work alone
 grown : (work : Work) (log log' : List Beat) → Works work log log' → (bs : List Beat) × (log' ≡ log ++ bs) × (begun bs ≡ work ∷ [])
-grown work log log' (Works.first word) = (beats (Some work) word, refl, refl)
+grown work log log' (Works.first from word) = (beats (Some (record { work = work; from = from })) word, refl, refl)
 grown work log log' (Works.then before word works) =
     let (bs, is, one) = grown work log before works in
     (bs ++ Saw word ∷ [], ap (λ (l : List Beat). l ++ Saw word ∷ []) is ∙ append_assoc log bs (Saw word ∷ []), flat_map-append begun_by bs (Saw word ∷ []) ∙ ap (λ (l : List Work). l ++ []) one)

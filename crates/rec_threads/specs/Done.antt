@@ -50,7 +50,7 @@ pub record IsCrewFor (h : Started) (script : Contents) (crew : Crew) : Type 0 wh
 
 -- the works that a list begins, in order
 abbrev pub begun_by : Beat → List Work
-begun_by (beats.Begins work) = work ∷ []
+begun_by (beats.Begins start) = start.work ∷ []
 begun_by _ = []
 
 abbrev pub begun : List Beat → List Work
