@@ -143,8 +143,8 @@ module _ (p : Private) (reg label before from : ℕ) (scans : p.phase ≡ at.Sca
   pub skipped_names : (slot : ℕ) → NamesSlots p → NamesSlots (skipped_to p slot)
   skipped_names slot names = subst NamesSlots (sym (came_to slot)) names
 
-  pub skipped_steps : (slot : ℕ) → p.steps ≤ (skipped_to p slot).steps
-  skipped_steps slot = let e : (skipped_to p slot).steps ≡ p.steps + (slot - from) = ap (λ (q : Private). q.steps) (came_to slot) in omega (arith, e)
+  pub skipped_steps : (slot : ℕ) → (skipped_to p slot).steps ≡ p.steps + (slot - from)
+  skipped_steps slot = ap (λ (q : Private). q.steps) (came_to slot)
 
   goes_on : (b : Bool) (slot number : ℕ) (hand : Contents) (phase : phases.Phase) → phase ≡ (if b then at.Scanned reg label before else at.Scanning reg label before slot) → IsBetween phase × (hands_at hand number phase ≡ [])
   goes_on true slot number hand phase is = (subst IsBetween (sym is) tt, ap (hands_at hand number) is)
@@ -251,7 +251,7 @@ pub record Ends (o p r : Private) (t : Seated) (me : Me (Option Contents) View) 
   pub between : IsBetween r.phase
   pub births : births_told o (seated_of me.0).log ≡ births_told o t.log
   pub learns : r ≡ fold took_of p words
-  pub steps : p.steps ≤ r.steps
+  pub steps : r.steps ≡ p.steps + length words
 
 pub ends : (o p r : Private) (t : Seated) (slot count : ℕ) (me : Me (Option Contents) View) → p ≡ told o t.log → (k : Claims p slot) → (passed : Passed t k.probed count me) → k.probed < p.slots → count ≤ p.slots → r ≡ skipped_to p count → NamesSlots p
     → Ends o p r t me passed.words
@@ -270,5 +270,8 @@ ends o p r t slot count me is k passed first few skips names =
       between = subst (λ (q : Private). IsBetween q.phase) (sym skips) rests.0;
       births = ap (births_told o) log ∙ (let e : births_told o (t.log ++ bs) ≡ births_told o t.log = omega (arith, all, born) in e);
       learns = skips ∙ w.learns;
-      steps = subst (λ (q : Private). p.steps ≤ q.steps) (sym skips) (skipped_steps p k.reg k.label k.before k.probed k.phase count);
+      steps =
+          let so : r.steps ≡ p.steps + (count - k.probed) = ap (λ (q : Private). q.steps) skips ∙ skipped_steps p k.reg k.label k.before k.probed k.phase count in
+          let every = passed.every in
+          omega (arith, so, every);
     }

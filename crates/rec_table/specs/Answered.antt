@@ -1,11 +1,11 @@
 -- Why a command was answered so, said of the mutator's list.
-use Rattle.std.specs.Prelude.{◌≡◌, ℕ, List, [], ◌∷◌, ◌++◌, fold, map}
+use Rattle.std.specs.Prelude.{◌≡◌, ◌≢◌, ℕ, ◌+◌, ◌<◌, Option, None, Some, List, [], ◌∷◌, ◌++◌, fold, length, map}
 use Rattle.rec_model.specs.declared.answer.Answer.TheVariants as answers
 use Rattle.rec_model.specs.declared.command.Cmd.{Cmd}
 use Rattle.rec_model.specs.declared.command.Cmd.TheVariants as commands
 use Rattle.rec_model.specs.declared.told.Told.{Told}
 use Rattle.rec_mutator.specs.Causes.{HasCause}
-use Rattle.rec_mutator.specs.Private.{Private}
+use Rattle.rec_mutator.specs.Private.{Private, limit_of}
 use Rattle.rec_mutator.specs.Scans.{FailsScan, ops_along}
 use Rattle.rec_mutator.specs.Step.{IsStill}
 use Rattle.rec_mutator.specs.Took.{begun_of, took_of}
@@ -33,8 +33,20 @@ pub record IsAnswered (p : Private) (cmd : Cmd) (log log' : List Beat) (q : Priv
   pub words : List ℕ
   pub last : ℕ
   pub grows : log' ≡ log ++ worked (record { work = works.Command cmd; from = from }) (words ++ last ∷ [])
+  -- it took no more steps than such a command takes at most
+  pub few : length words < limit_of p.slots (works.Command cmd)
   pub cause : HasCause (fold took_of (begun_of p (works.Command cmd) from) words) q cmd last told.answer
   -- Full: the last step found the freed word as the first one had, and it was even
   pub full : told.answer ≡ answers.Full → (before : ℕ) × FailsProbes p cmd from before words × IsStill before last
   -- Busy tells both words, where that is not so
   pub busy : (before after : ℕ) → told.answer ≡ answers.Busy before after → FailsProbes p cmd from before words × (after ≡ last) × (IsStill before last → ⊥)
+
+-- The list grew by a poll and the words that its steps found: the requested epoch, and, where the mutator isn't in it, those of two steps
+-- by which it crosses into the next one.
+pub record IsPolled (p : Private) (log log' : List Beat) (result : Option ℕ) : Type 0 where
+  pub from : ℕ
+  pub requested : ℕ
+  pub crossing : List ℕ
+  pub grows : log' ≡ log ++ worked (record { work = works.Poll; from = from }) (requested ∷ crossing)
+  pub none : requested ≡ p.epoch → (crossing ≡ []) × (result ≡ None)
+  pub some : requested ≢ p.epoch → (length crossing ≡ 2) × (result ≡ Some (p.epoch + 1))

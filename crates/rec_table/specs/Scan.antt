@@ -40,3 +40,4 @@ pub record HasScanned (h h' : Held) : Type 0 where
   pub taken : All (λ word. 0 < word) words
   pub grows : h' ≡ record h { log = h.log ++ saw_all words }
   pub learns : has h' ≡ fold took_of (has h) words
+  pub steps : (has h').steps ≡ (has h).steps + length words

@@ -164,14 +164,14 @@ fn cursor_after(op: Op, cursor: u16) -> u16 {
 }
 
 impl Actor {
-    ghost use Rattle.std.specs.Prelude.{◌+◌, ◌%◌, ◌^◌, ◌≤◌, false, Some, IfSome};
+    ghost use Rattle.std.specs.Prelude.{◌+◌, ◌%◌, ◌^◌, ◌≤◌, ℕ, false, Some, IfSome};
     ghost use Rattle.rec_table.specs.Beats.{births_told};
     ghost use Rattle.rec_mutator.specs.Private.{work_of, answer_of, limit_of};
     ghost use Rattle.rec_model.specs.declared.command.Cmd.{Cmd as Command};
     ghost use Rattle.rec_model.specs.declared.told.Told.{Told as Answers};
     ghost use Rattle.rec_mutator.specs.declared.made.Made.TheVariants as makes;
     ghost use Rattle.rec_mutator.specs.declared.work.Work.TheVariants as works;
-    ghost use Rattle.rec_table.specs.Answered.{IsAnswered};
+    ghost use Rattle.rec_table.specs.Answered.{IsAnswered, IsPolled};
     ghost use Rattle.rec_table.specs.Held.{IsTold, Works};
     ghost use Rattle.rec_table.specs.Journals.{Tells, line_of};
     ghost use Rattle.rec_table.specs.Scan.{HasScanned};
@@ -333,6 +333,7 @@ impl Actor {
         ensures same { KeepsSizes (has self.old) (has self.new) }
         // A command's refusals have their causes in the list.
         ensures causes { (cmd : Command) (told : Answers) → work ≡ works.Command cmd → result ≡ makes.Answered told → IsAnswered (has self.old) cmd self.old.log self.new.log (has self.new) told }
+        ensures polled { (epoch : Option ℕ) → work ≡ works.Poll → result ≡ makes.Crossed epoch → IsPolled (has self.old) self.old.log self.new.log epoch }
     {
         let start = self.start(board, work);
         self.step(board, Some(start));

@@ -1,4 +1,4 @@
-use Rattle.std.proofs.Common.{◌≡◌, ◌<◌, ◌≤◌, ◌+◌, ◌-◌, ◌++◌, ◌%◌, ◌^◌, ℕ, fold, Option, sym, ap, subst, ◌∙◌, arith}
+use Rattle.std.proofs.Common.{◌≡◌, ◌<◌, ◌≤◌, ◌+◌, ◌-◌, ◌++◌, ◌%◌, ◌^◌, ℕ, fold, length, Option, sym, ap, subst, ◌∙◌, arith}
 use Rattle.rec_word.specs.declared.op.Op.TheVariants as ops
 use Rattle.rec_mutator.specs.Private.{Private, KeepsSizes, is_busy, work_of}
 use Rattle.rec_mutator.specs.Took.{took_of, skipped_to, IsAhead}
@@ -136,13 +136,15 @@ returns-else-finds_free-clause-scanned c =
       taken = passed.taken;
       grows = grows ∙ (λ k. record (c.self.view_is k) { log = (c.self.view_is k).log ++ saw_all passed.words });
       learns = sym e.told ∙ e.learns ∙ ap (λ (p : Private). fold took_of p passed.words) (was a);
+      steps = subst (λ (y : Private × Private). y.1.steps ≡ y.0.steps + length passed.words) (λ k. (was a k, e.told k)) e.steps;
     }
 
 pub returns-else-finds_free-clause-steps : goal.returns-else-finds_free-clause-steps
 returns-else-finds_free-clause-steps c =
     let a : After-from = (goal.at.returns-else-finds_free-clause-steps c).After-from in
     let e = ended a c.skip_to.new.self c.first_free-count.result c.first_free-count.new.seat.me c.first_free-count.ensures.passed c.first_free-count.ensures.few c.skip_to.ensures.skipped in
-    subst (λ (y : Private × Private). y.0.steps ≤ y.1.steps) (λ k. (was a k, e.told k)) e.steps
+    let counted = e.steps in
+    subst (λ (y : Private × Private). y.0.steps ≤ y.1.steps) (λ k. (was a k, e.told k)) (omega (arith, counted))
 
 pub returns-else-finds_free-clause-busy : goal.returns-else-finds_free-clause-busy
 returns-else-finds_free-clause-busy c =
