@@ -144,7 +144,10 @@ typedef struct recycler_totals_told {
  * slots: objects that fit, 1 to 65,535. fields: of each object, 1 to 16. registers: of each mutator, 1 to 64. mutators: 1 to 8.
  * log_entries: that the log of each mutator holds, 1 to 262,143. An object that the mutator makes takes one, and so does a field that it
  * puts, a null one too; a refused command takes none. A poll that crosses empties the log, and there is an epoch to cross into once the
- * collector's turns have begun a collection. first_epoch: 1 to 16,777,215.
+ * collector's turns have begun a collection. The larger the logs, the more slots mutators take before the collector comes by: in the
+ * rings of bench/c-library, on a busy machine, logs of 64 entries had the longest wait for a slot at 10 to 14 ms, and logs of 4,096 at 15
+ * to 45 ms; of the former three to eight times as many births were refused over 8,192 and 65,535 slots (bench/README.md, "The C
+ * library"). first_epoch: 1 to 16,777,215.
  * Codes: OPEN_ALREADY, the six of the numbers, NO_MEMORY. */
 uint32_t recycler_open(recycler *r, uint32_t slots, uint32_t fields, uint32_t registers, uint32_t mutators, uint32_t log_entries,
                        uint32_t first_epoch);
