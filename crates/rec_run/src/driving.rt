@@ -1,5 +1,8 @@
 //! A script is driven: each mutator's commands are carried out on a thread of its own, with the collector beside them.
-ghost use Rattle.std.specs.Prelude.{◌≤◌, IfOk};
+ghost use Rattle.std.specs.Prelude.{◌≡◌, ◌≤◌, None, map, IfOk};
+ghost use Rattle.rec_core.specs.Worked.{AreIdle};
+ghost use Rattle.rec_table.specs.Ends.{IsStopped};
+ghost use Rattle.rec_table.specs.Held.{AreMutatorsOf, IsCollectorOf, gathers_now};
 ghost use Rattle.rec_run.specs.Outcome.{IsOutcome};
 ghost use Rattle.rec_run.specs.Running.{IsSetRunning, IsStarted};
 ghost use Rattle.rec_run.specs.declared.command_line.How.TheVariants as hows;
@@ -30,14 +33,27 @@ pub fn drive_script<R: Threads + Wait + Sync, G: Gate>(
     let Ok(crew) = drive(rt, alloc, &heap, crew, script, gate) else {
         return Err(NoMemory);
     };
+    Ok(stop(alloc, heap, crew))
+}
+
+// What a heap and its crew leave when the heap is stopped, which is never refused.
+fn stop(alloc: Global, heap: Heap, crew: Crew) -> Outcome
+    requires mutators { AreMutatorsOf heap crew.mutators.items }
+    requires collector { IsCollectorOf heap crew.collector }
+    ensures stopped { IsStopped heap.world crew.collector.crew.log (map (λ m. m.log) crew.mutators.items) result.world }
+    ensures requested { result.world.epoch ≡ (gathers_now crew.collector).epoch }
+    ensures idle { AreIdle result.world }
+    ensures journals { result.journals.items ≡ crew.journals.items }
+    ensures order { result.order ≡ None }
+{
     let Ok(world) = heap.stop(alloc, crew.mutators, crew.collector) else {
         unreachable!();
     };
-    Ok(Outcome {
+    Outcome {
         world,
         journals: crew.journals,
         order: None,
-    })
+    }
 }
 
 // A script's heap, set running, and those who carry it on.

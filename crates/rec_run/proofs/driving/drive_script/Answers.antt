@@ -1,10 +1,11 @@
 -- What a heap that was set running leaves as it is stopped is told by one order.
-use Rattle.std.proofs.Common.{◌≡◌, ◌∙◌, ◌≤◌, ℕ, List, ◌++◌, length, refl, sym, ap, subst, arith}
+use Rattle.std.proofs.Common.{◌≡◌, ◌∙◌, ◌≤◌, ℕ, List, ◌++◌, length, option_map, refl, sym, ap, subst, arith}
 use Rattle.rec_core.specs.Core.{Core, opened}
 use Rattle.rec_world.specs.Journal.{Notes}
+use Rattle.rec_world.specs.Order.{Turns}
 use Rattle.rec_table.specs.Held.{Gathers, Held, Started, fresh, fresh_collector}
 use Rattle.rec_table.specs.declared.views.Beat.{Beat}
-use Rattle.rec_threads.specs.Done.{HasCollected}
+use Rattle.rec_threads.specs.Done.{HasCollected, HaveDone}
 use Rattle.rec_table.proofs.Beats.{config_after}
 use Rattle.rec_order.specs.Naming.{first_naming, named_after_all}
 use Rattle.rec_play.specs.Played.{config_of}
@@ -26,7 +27,7 @@ returns-clause-outcome g c =
     let ms : List Held = c.in_ok-heap.crew.mutators.items in
     let js : List Notes = c.in_ok-heap.crew.journals.items in
     let one_each = so.whole.ready.one_each in
-    let (events, driven, made) = was_driven script c.in_ok-heap.heap ms c.in-Ok.crew.mutators.items js c.in-Ok.crew.journals.items c.in-Ok.crew.collector.crew.log c.in-Ok-stop.world
+    let (events, driven, made) = was_driven script c.in_ok-heap.heap ms c.in-Ok.crew.mutators.items js c.stop.result.journals.items c.in-Ok.crew.collector.crew.log c.stop.result.world
     (record {
       opens = so.opens;
       some_slots = so.config.some_slots;
@@ -35,17 +36,17 @@ returns-clause-outcome g c =
       fresh_all = so.fresh_mutators;
       empty = λ k lt. (so.whole.ready.each k (fresh c.in_ok-heap.heap 1) (omega (arith, lt, one_each))).empty;
       turns = few_turns c.in_ok-heap.heap c.in_ok-heap.crew.collector c.in-Ok.crew.collector so.fresh_collector c.in-Ok.ensures.collected;
-      done = c.in-Ok.ensures.done;
-      stopped = c.in-Ok-stop.ensures.stopped;
+      done = subst (λ (ns : List Notes). HaveDone script.commands ms js c.in-Ok.crew.mutators.items ns) (sym c.stop.ensures.journals) c.in-Ok.ensures.done;
+      stopped = c.stop.ensures.stopped;
     }) in
-    let run = c.in-Ok-stop.ensures.stopped.run in
+    let run = c.stop.ensures.stopped.run in
     let number : ℕ → ℕ = (named_after_all first_naming (opened (config_of script)) driven.interleaved.run).number in
     record {
       events = events;
       has_run = driven;
       stands = (number, driven.stands);
       made = made;
-      order = refl;
+      order = ap (option_map (λ (turns : Turns). turns.list)) c.stop.ensures.order;
       config = ap (λ (w : Core). w.config) (sym run.ends) ∙ config_after c.in_ok-heap.heap.world run.run ∙ ap (λ (w : Core). w.config) so.opens;
-      idle = c.in-Ok-stop.ensures.idle;
+      idle = c.stop.ensures.idle;
     }

@@ -1,10 +1,9 @@
 -- The crew of a started heap is whole and new, and each mutator may carry out its commands.
-use Rattle.std.proofs.Common.{◌≡◌, ◌∙◌, ◌<◌, ℕ, ◌+◌, List, [], length, slice_index_or, sym, ap, subst, arith}
+use Rattle.std.proofs.Common.{◌≡◌, ◌∙◌, ◌<◌, ℕ, ◌+◌, List, [], length, slice_index_or, sym, ap, arith}
 use Rattle.std.proofs.lemmas.List.Elements.{All-get_or}
 use Rattle.rec_mutator.specs.Private.{Private}
 use Rattle.rec_core.specs.Config.{IsConfig, IsMutator}
 use Rattle.rec_core.specs.Core.{Core, mutator, opened, opened_mutator}
-use Rattle.rec_core.specs.declared.config.Config.{Config}
 use Rattle.rec_core.proofs.OpenedMutators.{mutator_opened, registers_many}
 use Rattle.rec_world.specs.Journal.{Notes, no_notes}
 use Rattle.rec_table.specs.Held.{AreMutatorsOf, Held, Started, fresh, has}
