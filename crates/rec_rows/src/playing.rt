@@ -17,19 +17,23 @@ pub fn play(alloc: Global, row: &Row<'_>) -> Result<(), Failure> {
     if row.opening.is_cut {
         return play_cut(alloc, row);
     }
-    let Some(mut world) = open(alloc, &row.opening)? else {
-        return Ok(());
-    };
-    // Every second stretch is of the heap as it runs.
-    let stretches = row
-        .steps
-        .split(|step| matches!(step.action, Action::TurnOver));
+    match open(alloc, &row.opening)? {
+        Some(world) => play_on(alloc, world, &row.steps),
+        None => Ok(()),
+    }
+}
+
+// Makes the steps of a row. Every second stretch is of the heap as it runs.
+fn play_on(alloc: Global, mut world: World, steps: &[Step<'_>]) -> Result<(), Failure> {
+    let stretches = steps.split(|step| matches!(step.action, Action::TurnOver));
     for (number, steps) in stretches.enumerate() {
-        world = if number % 2 == 0 {
-            go_on(alloc, world, steps)?
+        let went;
+        (world, went) = if number % 2 == 0 {
+            go_on(alloc, world, steps)
         } else {
-            run(alloc, world, steps)?
+            run(alloc, world, steps)
         };
+        went?;
     }
     Ok(())
 }
@@ -37,14 +41,24 @@ pub fn play(alloc: Global, row: &Row<'_>) -> Result<(), Failure> {
 // Carries out a row once for each place at which its heap can be taken apart and put together again.
 fn play_cut(alloc: Global, row: &Row<'_>) -> Result<(), Failure> {
     for cut in 0..=row.steps.len() {
-        let (before, after) = row.steps.split_at(cut);
-        let Some(world) = open(alloc, &row.opening)? else {
-            return Ok(());
-        };
-        let world = go_on(alloc, world, before)?;
-        go_on(alloc, World::of_parts(world.into_parts()), after)?;
+        if let Some(world) = open(alloc, &row.opening)? {
+            let (before, after) = row.steps.split_at(cut);
+            play_apart(alloc, world, before, after)?;
+        }
     }
     Ok(())
+}
+
+// Takes the heap apart and puts it together again between these steps and those.
+fn play_apart(
+    alloc: Global,
+    world: World,
+    before: &[Step<'_>],
+    after: &[Step<'_>],
+) -> Result<(), Failure> {
+    let (world, went) = go_on(alloc, world, before);
+    went?;
+    go_on(alloc, World::of_parts(world.into_parts()), after).1
 }
 
 // The heap of a row, or nothing where it is refused as it should be.
@@ -62,26 +76,42 @@ fn open(alloc: Global, opening: &Opening<'_>) -> Result<Option<World>, Failure> 
     }
 }
 
-// Makes these steps of a heap that doesn't run.
-fn go_on(alloc: Global, mut world: World, steps: &[Step<'_>]) -> Result<World, Failure> {
+// Makes these steps of a heap that doesn't run, up to one of which something else is told. The heap is given back then too: so it is
+// let go in one place alone.
+fn go_on(alloc: Global, mut world: World, steps: &[Step<'_>]) -> (World, Result<(), Failure>) {
     for step in steps {
         let told;
-        (world, told) = make(alloc, world, step.action)?;
-        check(alloc, step.line, step.told, told)?;
+        (world, told) = make(alloc, world, step.action);
+        if let Err(failure) = check_told(alloc, step, told) {
+            return (world, Err(failure));
+        }
     }
-    Ok(world)
+    (world, Ok(()))
+}
+
+// What is told has to be what the step says.
+fn check_told(
+    alloc: Global,
+    step: &Step<'_>,
+    told: Result<String, NoMemory>,
+) -> Result<(), Failure> {
+    check(alloc, step.line, step.told, told?)
 }
 
 // Makes a step, and tells what comes of it.
-fn make(alloc: Global, mut world: World, action: Action) -> Result<(World, String), NoMemory> {
+fn make(alloc: Global, mut world: World, action: Action) -> (World, Result<String, NoMemory>) {
     if let Action::Apart(piece) = action {
-        let parts = world.into_parts();
-        let found = piece_of(&parts, piece);
-        let told = number(alloc, found, "not there")?;
-        return Ok((World::of_parts(parts), told));
+        return take_apart(alloc, world, piece);
     }
-    let told = happen(alloc, &mut world, action)?;
-    Ok((world, told))
+    let told = happen(alloc, &mut world, action);
+    (world, told)
+}
+
+// Takes a heap apart, and puts it together again. What is told is a number of it between the two.
+fn take_apart(alloc: Global, world: World, piece: Piece) -> (World, Result<String, NoMemory>) {
+    let parts = world.into_parts();
+    let told = number(alloc, piece_of(&parts, piece), "not there");
+    (World::of_parts(parts), told)
 }
 
 // The same, of a step for which the heap isn't taken apart.

@@ -14,17 +14,22 @@ use rec_table::{Collector, Heap, Mutator};
 use rec_world::World;
 use std::alloc::{AllocError as NoMemory, Global};
 
-/// Sets a world running, makes these steps, and stops it.
-pub fn run(alloc: Global, world: World, steps: &[Step<'_>]) -> Result<World, Failure> {
-    if !world.at_rest() || !world.boxes_home() {
-        let line = first_line(steps);
-        let told = String::from_str(alloc, "the heap may not run")?;
-        let wanted = String::new(alloc);
-        return Err(Failure::Otherwise { line, told, wanted });
+/// Sets a world running, makes these steps, and stops it. The world is given back where a step went otherwise too.
+pub fn run(alloc: Global, world: World, steps: &[Step<'_>]) -> (World, Result<(), Failure>) {
+    if world.at_rest() && world.boxes_home() {
+        run_at_rest(alloc, world, steps)
+    } else {
+        (world, Err(refusal(alloc, first_line(steps))))
     }
-    let (world, went) = run_at_rest(alloc, world, steps)?;
-    went?;
-    Ok(world)
+}
+
+// What a world comes to that may not run.
+fn refusal(alloc: Global, line: u32) -> Failure {
+    let wanted = String::new(alloc);
+    match String::from_str(alloc, "the heap may not run") {
+        Ok(told) => Failure::Otherwise { line, told, wanted },
+        Err(error) => error.into(),
+    }
 }
 
 fn first_line(steps: &[Step<'_>]) -> u32 {
@@ -34,18 +39,14 @@ fn first_line(steps: &[Step<'_>]) -> u32 {
     }
 }
 
-// The same, of a world that may run. The world is given back where a step went otherwise too.
-fn run_at_rest(
-    alloc: Global,
-    world: World,
-    steps: &[Step<'_>],
-) -> Result<(World, Result<(), Failure>), NoMemory>
+// The same, of a world that may run.
+fn run_at_rest(alloc: Global, world: World, steps: &[Step<'_>]) -> (World, Result<(), Failure>)
     requires idle { AreIdle world }
     requires home { All (λ word. word % 2 ≡ 0) world.crossing }
 {
     match Heap::start(alloc, world) {
-        Ok((heap, mutators, collector)) => { Ok(run_on(alloc, heap, mutators, collector, steps)) }
-        Err((_, error)) => Err(error),
+        Ok((heap, mutators, collector)) => run_on(alloc, heap, mutators, collector, steps),
+        Err((world, error)) => (world, Err(error.into())),
     }
 }
 

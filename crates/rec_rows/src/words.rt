@@ -11,11 +11,18 @@ pub fn action(line: &[&str], words: bool) -> Result<Action, Wrong> {
     let [first, rest @ ..] = line else {
         return Err(Wrong::Unknown);
     };
-    if let Ok(mutator) = first.parse::<u8>() {
-        let deed = deed(rest, words)?;
-        return Ok(Action::Mutator { mutator, deed });
+    match first.parse::<u8>() {
+        Ok(mutator) => Ok(Action::Mutator {
+            mutator,
+            deed: deed(rest, words)?,
+        }),
+        Err(_) => collecting(line, first, rest),
     }
-    match *first {
+}
+
+// What a line asks that begins with another word than a mutator's number.
+fn collecting(line: &[&str], first: &str, rest: &[&str]) -> Result<Action, Wrong> {
+    match first {
         "turn" | "move" | "collect" | "finish" | "sweep" => Ok(Action::Collector(turns(line)?)),
         "reach" => Ok(Action::Collector(Turns::Reach(stage(rest)?))),
         "apart" => Ok(Action::Apart(piece(rest)?)),
@@ -27,31 +34,42 @@ pub fn action(line: &[&str], words: bool) -> Result<Action, Wrong> {
 
 /// The numbers of a heap: each behind its name, in their order.
 pub fn config(words: &[&str]) -> Result<Config, Wrong> {
-    let [
-        "slots",
-        slots,
-        "fields",
-        fields,
-        "registers",
-        registers,
-        "mutators",
-        mutators,
-        "log",
-        log_entries,
-        "epoch",
-        first_epoch,
-    ] = words
-    else {
+    if !are_named(words) {
         return Err(Wrong::Unknown);
-    };
+    }
+    let [slots, fields, registers, mutators, log_entries, first_epoch] = numbers(words)?;
     Ok(Config {
-        slots: number(slots)?,
-        fields: number(fields)?,
-        registers: number(registers)?,
-        mutators: number(mutators)?,
-        log_entries: number(log_entries)?,
-        first_epoch: number(first_epoch)?,
+        slots,
+        fields,
+        registers,
+        mutators,
+        log_entries,
+        first_epoch,
     })
+}
+
+// What the numbers of a heap are called.
+const NUMBERS: [&str; 6] = ["slots", "fields", "registers", "mutators", "log", "epoch"];
+
+// Whether these are the names of a heap's numbers, with a word behind each.
+fn are_named(words: &[&str]) -> bool {
+    let mut left = words;
+    for name in &NUMBERS {
+        match left {
+            [first, _, rest @ ..] if first == name => left = rest,
+            _ => return false,
+        }
+    }
+    left.is_empty()
+}
+
+// The numbers behind their names.
+fn numbers(words: &[&str]) -> Result<[u32; 6], Wrong> {
+    let mut numbers = [0; 6];
+    for (into, pair) in numbers.iter_mut().zip(words.chunks(2)) {
+        *into = number(pair.last().unwrap_or(&""))?;
+    }
+    Ok(numbers)
 }
 
 fn number(word: &str) -> Result<u32, Wrong> {
@@ -86,16 +104,18 @@ fn command(line: &[&str]) -> Result<Cmd, Wrong> {
     match line {
         ["null", reg] => Ok(Cmd::Null { reg: short(reg)? }),
         ["value", reg] => Ok(Cmd::Value { reg: short(reg)? }),
-        ["new", reg, label] => {
-            let (reg, label) = (short(reg)?, number(label)?);
-            Ok(Cmd::New { reg, label })
-        }
+        ["new", reg, label] => birth(reg, label),
         [name, first, second] => command_of_two(name, short(first)?, short(second)?),
         [name, first, second, third] => {
             command_of_three(name, short(first)?, short(second)?, short(third)?)
         }
         _ => Err(Wrong::Unknown),
     }
+}
+
+fn birth(reg: &str, label: &str) -> Result<Cmd, Wrong> {
+    let (reg, label) = (short(reg)?, number(label)?);
+    Ok(Cmd::New { reg, label })
 }
 
 fn command_of_two(name: &str, first: u8, second: u8) -> Result<Cmd, Wrong> {
@@ -146,12 +166,19 @@ fn stage(line: &[&str]) -> Result<Stage, Wrong> {
         ["look", mutator] => Ok(Stage::Looks(short(mutator)?)),
         ["return", mutator] => Ok(Stage::Returns(short(mutator)?)),
         ["sweep", slots] => Ok(Stage::Sweeps(number(slots)?)),
-        ["release"] => Ok(Stage::Releases),
-        ["free"] => Ok(Stage::Frees),
-        ["trial"] => Ok(Stage::Tries),
-        ["preparation"] => Ok(Stage::Prepares),
-        ["opening"] => Ok(Stage::Opens),
-        ["closing"] => Ok(Stage::Closes),
+        [name] => stage_alone(name),
+        _ => Err(Wrong::Unknown),
+    }
+}
+
+fn stage_alone(name: &str) -> Result<Stage, Wrong> {
+    match name {
+        "release" => Ok(Stage::Releases),
+        "free" => Ok(Stage::Frees),
+        "trial" => Ok(Stage::Tries),
+        "preparation" => Ok(Stage::Prepares),
+        "opening" => Ok(Stage::Opens),
+        "closing" => Ok(Stage::Closes),
         _ => Err(Wrong::Unknown),
     }
 }
@@ -188,30 +215,39 @@ fn message(line: &[&str]) -> Result<Message, Wrong> {
 // What a heap shows.
 fn fact(line: &[&str]) -> Result<Fact, Wrong> {
     match line {
-        ["slot", at] => Ok(Fact::Slot(slot(at)?)),
-        ["label", at] => Ok(Fact::Label(slot(at)?)),
-        ["number", at] => Ok(Fact::Number(slot(at)?)),
-        ["field", place] => Ok(Fact::Field(number(place)?)),
         ["register", mutator, reg] => Ok(Fact::Register(short(mutator)?, short(reg)?)),
         ["valid", mutator, rest @ ..] => Ok(Fact::Valid(short(mutator)?, command(rest)?)),
-        ["busy", mutator] => Ok(Fact::Busy(short(mutator)?)),
         ["epoch", "of", mutator] => Ok(Fact::EpochOf(short(mutator)?)),
+        ["freed", "word"] => Ok(Fact::Whole(Whole::FreedWord)),
+        [name, at] => fact_at(name, at),
         ["sets"] => Ok(Fact::Sets),
         ["mailboxes"] => Ok(Fact::Mailboxes),
-        _ => Ok(Fact::Whole(whole(line)?)),
+        [name] => Ok(Fact::Whole(whole(name)?)),
+        _ => Err(Wrong::Unknown),
+    }
+}
+
+// What it shows of one slot, field or mutator.
+fn fact_at(name: &str, at: &str) -> Result<Fact, Wrong> {
+    match name {
+        "slot" => Ok(Fact::Slot(slot(at)?)),
+        "label" => Ok(Fact::Label(slot(at)?)),
+        "number" => Ok(Fact::Number(slot(at)?)),
+        "field" => Ok(Fact::Field(number(at)?)),
+        "busy" => Ok(Fact::Busy(short(at)?)),
+        _ => Err(Wrong::Unknown),
     }
 }
 
 // A number of it as a whole.
-fn whole(line: &[&str]) -> Result<Whole, Wrong> {
-    match line {
-        ["epoch"] => Ok(Whole::Epoch),
-        ["freed", "word"] => Ok(Whole::FreedWord),
-        ["freed"] => Ok(Whole::Freed),
-        ["collections"] => Ok(Whole::Collections),
-        ["made"] => Ok(Whole::Made),
-        ["mutators"] => Ok(Whole::Mutators),
-        ["slots"] => Ok(Whole::Slots),
+fn whole(name: &str) -> Result<Whole, Wrong> {
+    match name {
+        "epoch" => Ok(Whole::Epoch),
+        "freed" => Ok(Whole::Freed),
+        "collections" => Ok(Whole::Collections),
+        "made" => Ok(Whole::Made),
+        "mutators" => Ok(Whole::Mutators),
+        "slots" => Ok(Whole::Slots),
         _ => Err(Wrong::Unknown),
     }
 }
