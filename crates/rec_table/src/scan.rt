@@ -37,16 +37,16 @@ pub(crate) fn first_free(
     let left = board.slots - probed;
     let ahead = board.slots - slot;
     if left <= ahead {
-        return first_free_of_run(board, seat, probed, slot, left);
+        return probed + first_free_of_run(board, seat, probed, slot, left);
     }
     let count = first_free_of_run(board, seat, probed, slot, ahead);
-    if count < probed + ahead {
-        return count;
+    if count < ahead {
+        return probed + count;
     }
-    first_free_of_run(board, seat, count, 0, left - ahead)
+    probed + ahead + first_free_of_run(board, seat, probed + ahead, 0, left - ahead)
 }
 
-// The same of so many slots alone, of which none is behind the last one.
+// How many of so many slots it passes, of which none is behind the last one.
 fn first_free_of_run(
     board: &Board,
     seat: &mut Seat<Option<Buffer>, View>,
@@ -62,21 +62,21 @@ fn first_free_of_run(
     requires probes { probed + many ≤ board.now.slots }
 
     ensures seat { (seat.new.table_id ≡ seat.old.table_id) × (seat.new.id ≡ seat.old.id) }
-    ensures passed { Passed (seated_of seat.old.me.0) probed result seat.new.me }
-    ensures few { result ≤ probed + many }
+    ensures passed { Passed (seated_of seat.old.me.0) probed (probed + result) seat.new.me }
+    ensures few { result ≤ many }
 {
     let mut done = 0;
     while done + STRIDE < many {
         let count = first_free_of(board, seat, probed + done, slot + done, STRIDE);
-        if count < probed + done + STRIDE {
-            return count;
+        if count < STRIDE {
+            return done + count;
         }
         done += STRIDE;
     }
-    first_free_of(board, seat, probed + done, slot + done, many - done)
+    done + first_free_of(board, seat, probed + done, slot + done, many - done)
 }
 
-// The same of a few slots. Where none of them is free, the answer is the number of probes behind them.
+// The same of a few slots.
 #[inline(always)]
 fn first_free_of(
     board: &Board,
@@ -92,15 +92,16 @@ fn first_free_of(
     requires probes { probed + many ≤ board.now.slots }
 
     ensures seat { (seat.new.table_id ≡ seat.old.table_id) × (seat.new.id ≡ seat.old.id) }
-    ensures passed { Passed (seated_of seat.old.me.0) probed result seat.new.me }
-    ensures few { result ≤ probed + many }
+    ensures passed { Passed (seated_of seat.old.me.0) probed (probed + result) seat.new.me }
+    ensures few { result ≤ many }
 {
+    let _ = probed;
     let shared = &board.table.shared;
     let first_header = board.places + slot;
     for index in 0..many {
         if shared.load::<Passes>(seat, first_header + index) == 0 {
-            return probed + index;
+            return index;
         }
     }
-    probed + many
+    many
 }
