@@ -16,9 +16,10 @@ use rec_log::Buffer;
 // two of them.
 const STRIDE: usize = 16;
 
-/// How many probes a scan has made that made so many, and so has come to this slot, once it comes to a free header or to its end.
-/// Each load of a taken header is a step. A load takes the header's line from no other thread, and no record is written between two
-/// of them. Behind the last slot the first one follows, so there are two runs of slots at most.
+/// Passes taken headers, from the slot to which a scan has come after so many probes, until one is free or the scan has gone round.
+/// The answer is how many probes it has made then. Each load of a taken header is a step. A load takes the header's line from no
+/// other thread, and no record is written between two of them. Behind the last slot the first one follows, so there are two runs of
+/// slots at most.
 pub(crate) fn first_free(
     board: &Board,
     seat: &mut Seat<Option<Buffer>, View>,
@@ -46,7 +47,7 @@ pub(crate) fn first_free(
     probed + ahead + first_free_of_run(board, seat, probed + ahead, 0, left - ahead)
 }
 
-// How many of so many slots it passes, of which none is behind the last one.
+// The same within one run of slots. The answer is how many of them it passes.
 fn first_free_of_run(
     board: &Board,
     seat: &mut Seat<Option<Buffer>, View>,
