@@ -146,7 +146,7 @@ typedef struct recycler_totals_told {
  * puts, a null one too; a refused command takes none. A poll that crosses empties the log, and there is an epoch to cross into once the
  * collector's turns have begun a collection. The larger the logs, the more slots mutators take before the collector comes by: in the
  * rings of bench/c-library, on a busy machine, logs of 64 entries had the longest wait for a slot at 10 to 14 ms, and logs of 4,096 at 15
- * to 45 ms; of the former three to eight times as many births were refused over 8,192 and 65,535 slots (bench/README.md, "The C
+ * to 45 ms; with the smaller ones three and eight times as many births were refused over 65,535 and 8,192 slots (bench/README.md, "The C
  * library"). first_epoch: 1 to 16,777,215.
  * Codes: OPEN_ALREADY, the six of the numbers, NO_MEMORY. */
 uint32_t recycler_open(recycler *r, uint32_t slots, uint32_t fields, uint32_t registers, uint32_t mutators, uint32_t log_entries,

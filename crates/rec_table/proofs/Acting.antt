@@ -4,7 +4,6 @@ use Rattle.atomic_table.specs.Seated.{TableId}
 use Rattle.rec_mutator.specs.Private.{Private}
 use Rattle.rec_mutator.specs.Step.{NamesSlots}
 use Rattle.rec_mutator.specs.Took.{begun_of}
-use Rattle.rec_mutator.specs.declared.work.Work.{Work}
 use Rattle.rec_core.specs.Core.{Core, mutator}
 use Rattle.rec_table.specs.Beats.{told, learnt}
 use Rattle.rec_table.specs.Held.{Held, held, has, IsOf}

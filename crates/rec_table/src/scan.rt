@@ -16,9 +16,10 @@ use rec_log::Buffer;
 // two of them.
 const STRIDE: usize = 16;
 
-/// How many probes a scan has made that made so many, and so has come to this slot, once it comes to a free header or to its end.
-/// Each load of a taken header is a step. A load takes the header's line from no other thread, and no record is written between two
-/// of them. Behind the last slot the first one follows, so there are two runs of slots at most.
+/// Passes taken headers, from the slot to which a scan has come after so many probes, until one is free or the scan has gone round.
+/// The answer is how many probes it has made then. Each load of a taken header is a step. A load takes the header's line from no
+/// other thread, and no record is written between two of them. Behind the last slot the first one follows, so there are two runs of
+/// slots at most.
 pub(crate) fn first_free(
     board: &Board,
     seat: &mut Seat<Option<Buffer>, View>,
@@ -37,16 +38,16 @@ pub(crate) fn first_free(
     let left = board.slots - probed;
     let ahead = board.slots - slot;
     if left <= ahead {
-        return first_free_of_run(board, seat, probed, slot, left);
+        return probed + first_free_of_run(board, seat, probed, slot, left);
     }
     let count = first_free_of_run(board, seat, probed, slot, ahead);
-    if count < probed + ahead {
-        return count;
+    if count < ahead {
+        return probed + count;
     }
-    first_free_of_run(board, seat, count, 0, left - ahead)
+    probed + ahead + first_free_of_run(board, seat, probed + ahead, 0, left - ahead)
 }
 
-// The same of so many slots alone, of which none is behind the last one.
+// The same within one run of slots. The answer is how many of them it passes.
 fn first_free_of_run(
     board: &Board,
     seat: &mut Seat<Option<Buffer>, View>,
@@ -62,21 +63,21 @@ fn first_free_of_run(
     requires probes { probed + many ≤ board.now.slots }
 
     ensures seat { (seat.new.table_id ≡ seat.old.table_id) × (seat.new.id ≡ seat.old.id) }
-    ensures passed { Passed (seated_of seat.old.me.0) probed result seat.new.me }
-    ensures few { result ≤ probed + many }
+    ensures passed { Passed (seated_of seat.old.me.0) probed (probed + result) seat.new.me }
+    ensures few { result ≤ many }
 {
     let mut done = 0;
     while done + STRIDE < many {
         let count = first_free_of(board, seat, probed + done, slot + done, STRIDE);
-        if count < probed + done + STRIDE {
-            return count;
+        if count < STRIDE {
+            return done + count;
         }
         done += STRIDE;
     }
-    first_free_of(board, seat, probed + done, slot + done, many - done)
+    done + first_free_of(board, seat, probed + done, slot + done, many - done)
 }
 
-// The same of a few slots. Where none of them is free, the answer is the number of probes behind them.
+// The same of a few slots.
 #[inline(always)]
 fn first_free_of(
     board: &Board,
@@ -92,15 +93,16 @@ fn first_free_of(
     requires probes { probed + many ≤ board.now.slots }
 
     ensures seat { (seat.new.table_id ≡ seat.old.table_id) × (seat.new.id ≡ seat.old.id) }
-    ensures passed { Passed (seated_of seat.old.me.0) probed result seat.new.me }
-    ensures few { result ≤ probed + many }
+    ensures passed { Passed (seated_of seat.old.me.0) probed (probed + result) seat.new.me }
+    ensures few { result ≤ many }
 {
+    let _ = probed;
     let shared = &board.table.shared;
     let first_header = board.places + slot;
     for index in 0..many {
         if shared.load::<Passes>(seat, first_header + index) == 0 {
-            return probed + index;
+            return index;
         }
     }
-    probed + many
+    many
 }

@@ -1,5 +1,5 @@
 -- The cursor is a slot of the heap, or slot 0 is taken in its place.
-use Rattle.std.proofs.Common.{◌≡◌, ◌<◌, ℕ, arith, sym, ap, subst, ◌∙◌}
+use Rattle.std.proofs.Common.{◌≡◌, ℕ, arith, sym, ap, subst, ◌∙◌}
 use Rattle.rec_mutator.specs.Private.{Private}
 use Rattle.rec_core.specs.Config.{IsMutator}
 use Rattle.rec_core.specs.Core.{Core, mutator}
