@@ -14,6 +14,10 @@
  * A code other than RECYCLER_OK says that the call did nothing: handles and out-parameters are as before. The one exception is
  * RECYCLER_SHARED. No call aborts, prints or waits, and none takes a lock beside those of malloc and free.
  *
+ * Wrong callers. Codes tell of calls in a wrong order and of numbers out of range. Nothing is promised after a null pointer, a copied
+ * `recycler`, two calls at once on one handle, a call on a handle during recycler_stop, or an out-parameter inside a `recycler`. A
+ * `recycler` that isn't closed leaks. The handles past `mutators` stay closed, and answer RECYCLER_CLOSED_HANDLE.
+ *
  * Threads. A call that takes a whole `recycler` wants it to itself, with all its handles. While the heap runs, each handle is given to
  * one call at a time, and calls on different handles may run beside each other: one thread turns &r.collector, and one thread each
  * carries on &r.mutators[k], which is the mutator with number k + 1. A handle may move to another thread. Order that by the start or
@@ -26,7 +30,7 @@
  *
  * Epochs. Each collection spends an epoch, recycler_settle spends three, and 16,777,215 is the last. A small collection takes some 8
  * microseconds (bench/README.md, the table of bench/pauses). So a collector that is turned without pause may spend all epochs within
- * minutes. Let its thread rest after RECYCLER_COLLECTED while slots are free: at one collection a millisecond the epochs last 4.6
+ * minutes. Let its thread rest after RECYCLER_COLLECTED while slots are free: at one collection a millisecond the epochs last 4.7
  * hours, at one a second 194 days. Each log has to hold what its mutator makes and puts in such a rest. From RECYCLER_NO_EPOCH on
  * nothing is freed, and a heap with fewer than four epochs left isn't settled. Its mutators may go on until slots or logs are full, and
  * it may be stopped and closed.
@@ -95,7 +99,8 @@ typedef enum recycler_answer {
     /* the heap refuses; nothing changed */
     RECYCLER_NO_OBJECT = 6, /* the register that should name an object is null */
     RECYCLER_FULL = 7,      /* recycler_new: every slot was taken */
-    RECYCLER_BUSY = 8,      /* recycler_new: no free slot was found, but a sweep ran: the freed word in `before` and `after` */
+    RECYCLER_BUSY = 8,      /* recycler_new: no free slot was found, but a sweep ran. `before` and `after` have the freed word, which is odd
+                              * within a sweep and greater after it */
     RECYCLER_LOG_FULL = 9   /* the mutator's log has no room: let the collector turn, poll until the poll crosses, and ask again */
 } recycler_answer;
 
@@ -132,7 +137,8 @@ typedef struct recycler_slot_told {
 } recycler_slot_told;
 
 /* Since the opening: objects born, with the first one; slots freed; the requested epoch; collections completed; and of the sets of
- * possible garbage cycles, how many were freed, and how many the Delta test and the Sigma test refused. */
+ * possible garbage cycles, how many were freed, and how many the Delta test and the Sigma test refused: the first where an object of
+ * the set was touched since it was found, the second where something outside still refers to it. */
 typedef struct recycler_totals_told {
     uint64_t born, freed;
     uint32_t epoch, collections;
@@ -144,7 +150,10 @@ typedef struct recycler_totals_told {
  * slots: objects that fit, 1 to 65,535. fields: of each object, 1 to 16. registers: of each mutator, 1 to 64. mutators: 1 to 8.
  * log_entries: that the log of each mutator holds, 1 to 262,143. An object that the mutator makes takes one, and so does a field that it
  * puts, a null one too; a refused command takes none. A poll that crosses empties the log, and there is an epoch to cross into once the
- * collector's turns have begun a collection. first_epoch: 1 to 16,777,215.
+ * collector's turns have begun a collection. The larger the logs, the more slots mutators take before the collector comes by: in the
+ * rings of bench/c-library, on a busy machine, logs of 64 entries had the longest wait for a slot at 10 to 14 ms, and logs of 4,096 at 15
+ * to 45 ms; with the smaller ones three and eight times as many births were refused over 65,535 and 8,192 slots (bench/README.md, "The C
+ * library"). first_epoch: 1 to 16,777,215.
  * Codes: OPEN_ALREADY, the six of the numbers, NO_MEMORY. */
 uint32_t recycler_open(recycler *r, uint32_t slots, uint32_t fields, uint32_t registers, uint32_t mutators, uint32_t log_entries,
                        uint32_t first_epoch);
@@ -153,7 +162,7 @@ uint32_t recycler_open(recycler *r, uint32_t slots, uint32_t fields, uint32_t re
 uint32_t recycler_close(recycler *r);
 
 /* Sets a heap at rest running: &r->collector is its collector's handle then, and &r->mutators[k] the handle of mutator k + 1.
- * Codes: CLOSED_HANDLE, RUNS, NO_MEMORY, SHARED. After SHARED it runs with all mutators at home: stop it. */
+ * Codes: CLOSED_HANDLE, RUNS, NO_MEMORY, SHARED. After SHARED it runs with all mutators at home, whose handles answer RESTS: stop it. */
 uint32_t recycler_start(recycler *r);
 
 /* Stops a running heap: it rests, as its threads left it. No mutator has to be called first. It may be started again, settled or not.

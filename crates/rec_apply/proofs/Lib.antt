@@ -5,5 +5,4 @@ pub mod Naming
 pub mod Resting
 pub mod Rising
 pub mod Whole
-pub mod Worked
 pub mod Ways

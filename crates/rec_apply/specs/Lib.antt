@@ -1,3 +1,2 @@
 pub mod Batch
 pub mod Targets
-pub mod Worked

@@ -14,8 +14,6 @@
 mod batch;
 mod counting;
 mod targets;
-#[cfg(test)]
-mod tests;
 mod way;
 
 pub use batch::apply;

@@ -1,5 +1,5 @@
 /// Which way a batch changes counts, or that it marks leaves.
-#[derive(Clone, Copy, Debug, PartialEq, Eq, Drop)]
+#[derive(Clone, Copy, Drop)]
 pub enum Way {
     /// Up, by increments: what is referred to from now on.
     Up,

@@ -25,8 +25,6 @@ mod offer;
 mod parts;
 mod phase;
 mod sets;
-#[cfg(test)]
-mod tests;
 mod turn;
 mod verdict;
 

@@ -28,7 +28,7 @@ const EPOCHS: u32 = 1 << 24;
 
 /// The collector: the counts, two buffers for each mutator, and how far its collection has come. Its memory is taken when
 /// it is opened.
-#[derive(Debug, Drop)]
+#[derive(Drop)]
 pub struct Machine {
     epoch: u32,
     collections: u32,

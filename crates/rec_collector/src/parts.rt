@@ -26,7 +26,7 @@ use std::marker::Model;
 
 /// What a collection works on between a batch and a sweep: the counts, how many fields a slot has, what became of the sets, and
 /// whether the next trial is offered every slot.
-#[derive(Debug, Drop)]
+#[derive(Drop)]
 pub(crate) struct Parts {
     pub(crate) counts: Counts,
     fields: u8,

@@ -3,7 +3,7 @@ use rec_sigma::Prep;
 use rec_trial::Trial;
 
 /// How far a collection has come, with the machine that is at work.
-#[derive(Debug, Drop)]
+#[derive(Drop)]
 pub enum Phase {
     /// No collection is under way; the next epoch is requested next.
     Idle,

@@ -6,7 +6,7 @@ use rec_counts::Counts;
 use rec_sigma::{delta, sigma};
 
 /// What the two tests say of a set.
-#[derive(Clone, Copy, Debug, PartialEq, Eq)]
+#[derive(Clone, Copy)]
 pub(crate) enum Verdict {
     /// It passes both.
     Passed,

@@ -4,10 +4,10 @@ use Rattle.rec_model.specs.Sight.{Sight}
 use Rattle.rec_mutator.specs.Took.{begun_of}
 use Rattle.rec_mutator.specs.declared.work.Work.{Work}
 use Rattle.rec_core.specs.Core.{Core, sight, mutator}
-use Rattle.rec_core.specs.Moves.{begun}
+use Rattle.rec_core.specs.Moves.{begun_from}
 use Rattle.rec_core.proofs.Steps.{registers_stay}
 
 -- a work that begins is seen by nobody
-pub begun_sight : (w : Core) (t : ℕ) (work : Work) → sight (begun w t work) ≡ sight w
+pub begun_sight : (w : Core) (t : ℕ) (work : Work) (from : ℕ) → sight (begun_from w t work from) ≡ sight w
 unfolding begun_of
-begun_sight w t work = ap (λ (rss : List (List (Option ℕ))). let s : Sight = record (sight w) { registers = rss } in s) (registers_stay w t (begun_of (mutator w t) work) refl)
+begun_sight w t work from = ap (λ (rss : List (List (Option ℕ))). let s : Sight = record (sight w) { registers = rss } in s) (registers_stay w t (begun_of (mutator w t) work from) refl)

@@ -38,7 +38,7 @@ use Rattle.rec_core.specs.Config.{IsMutator, HasLabel}
 use Rattle.rec_core.specs.Core.{Core, cells_of, sight, mutator, box, crossing_of, spare_of, with_mutator}
 use Rattle.rec_core.specs.CyclesAt.{HasCyclesAt}
 use Rattle.rec_core.specs.Kept.{IsSettledIn, HasLabelAt, IsOwn, IsBufferOf, Stand, stand_at, IsBehind, IsCrossing, IsHandshake, IsActor, IsScanning, entries_made, IsKept, HasMutators, IsMadeIn, freeing_due, IsHeader}
-use Rattle.rec_core.specs.Moves.{performed, found_by, stepped, begun}
+use Rattle.rec_core.specs.Moves.{performed, found_by, stepped, begun_from}
 use Rattle.rec_core.specs.Pending.{epoch_at, applied_at, pending}
 use Rattle.rec_core.proofs.Actors.{own_stepped, epoch_here, handshake_stays, unsettled_due, spare_buffer, others_stay}
 use Rattle.rec_core.proofs.Cycling.{cycles_moved, machine_alive}
@@ -156,7 +156,7 @@ taken_kept w t kept is busy may phase =
           (others_stay t q (crossing_word (p.epoch + 1) WithMutator) b kept.mutators is q_actor);
       collector = kept.collector;
       sweeps = kept.sweeps;
-      scans = scans_stay w t q w.headers kept is (subst (IsScanning w.config.slots w.headers w.freed) (sym q_phase) tt) (λ s taken. refl);
+      scans = scans_stay w t q w.headers kept is (subst (IsScanning w.config.slots w.headers w.freed q.from) (sym q_phase) tt) (λ s taken. refl);
       made = subst (λ (n : ℕ). n ≤ 1 + sum_by (entries_made w.config) (slice_set w.mutators (t - 1) q)) (add-zero w.made) (entries_stay w t 0 q kept is more);
       sound = subst (λ (rss : List (List (Option ℕ))). IsSound (record (sight w) { registers = rss })) (sym (registers_stay w t q q_registers)) kept.sound;
       greens = kept.greens;
@@ -216,7 +216,7 @@ given_kept w t kept is busy may phase same =
           (others_stay t q (crossing_word (p.epoch + 1) Retired) (box w t) kept.mutators is q_actor));
       collector = kept.collector;
       sweeps = kept.sweeps;
-      scans = scans_stay w t q w.headers kept is (subst (IsScanning w.config.slots w.headers w.freed) (sym q_phase) tt) (λ s taken. refl);
+      scans = scans_stay w t q w.headers kept is (subst (IsScanning w.config.slots w.headers w.freed q.from) (sym q_phase) tt) (λ s taken. refl);
       made = subst (λ (n : ℕ). n ≤ 1 + sum_by (entries_made w.config) (slice_set w.mutators (t - 1) q)) (add-zero w.made) (entries_stay w t 0 q kept is (omega (arith, entries)));
       sound = subst (λ (rss : List (List (Option ℕ))). IsSound (record (sight w) { registers = rss })) (sym (registers_stay w t q q_registers)) kept.sound;
       greens = kept.greens;
@@ -227,11 +227,11 @@ given_kept w t kept is busy may phase same =
     subst (λ (b : Contents). IsKept (performed w t (next_of p) word q b)) (sym same) (after_give IsKept w t p.number (p.epoch + 1) word q (next_of p) c.operation whole)
 
 -- a work begins
-pub begun_kept : (w : Core) (t : ℕ) (work : Work) → IsKept w → IsMutator w.config t → is_busy (mutator w t) ≡ false → IsValid (mutator w t) work → HasLabel work → IsKept (begun w t work)
+pub begun_kept : (w : Core) (t : ℕ) (work : Work) (from : ℕ) → IsKept w → IsMutator w.config t → is_busy (mutator w t) ≡ false → IsValid (mutator w t) work → HasLabel work → from < w.config.slots → IsKept (begun_from w t work from)
 unfolding begun_of
-begun_kept w t work kept is idle valid label =
+begun_kept w t work from kept is idle valid label there =
     let p : Private = mutator w t in
-    let q : Private = begun_of p work in
+    let q : Private = begun_of p work from in
     let actor = actor_of w t kept is in
     let machine : IsMachine p = actor.own.machine in
     let here : is_giving p.phase ≡ false = idle_here p.phase idle in
@@ -250,6 +250,7 @@ begun_kept w t work kept is idle valid label =
         entries = machine.entries;
         registers = machine.registers;
         snapshot = machine.snapshot;
+        from = subst (λ n. from < n) (sym actor.own.slots) there;
         now = (valid, refl);
       };
       between = tt;
@@ -269,7 +270,7 @@ begun_kept w t work kept is idle valid label =
     idle_here : (phase : phases.Phase) → is_busy_at phase ≡ false → is_giving phase ≡ false
     idle_here at.Idle is = refl
     idle_here (at.Begun work) is = refl
-    idle_here (at.Scanning reg label leaf before slot) is = refl
+    idle_here (at.Scanning reg label leaf before probed) is = refl
     idle_here (at.Scanned reg label leaf before) is = refl
     idle_here (at.Storing src f val slot) is = refl
     idle_here at.Crossing is = refl
@@ -328,7 +329,7 @@ step_at w t phase kept is busy at_phase none =
     giving : (x : phases.Phase) → is_giving x ≡ true → x ≡ at.Giving
     giving at.Idle gives = absurd (false≢true gives)
     giving (at.Begun work) gives = absurd (false≢true gives)
-    giving (at.Scanning reg label leaf before slot) gives = absurd (false≢true gives)
+    giving (at.Scanning reg label leaf before probed) gives = absurd (false≢true gives)
     giving (at.Scanned reg label leaf before) gives = absurd (false≢true gives)
     giving (at.Storing src f val slot) gives = absurd (false≢true gives)
     giving at.Crossing gives = absurd (false≢true gives)
@@ -343,7 +344,7 @@ step_kept w t kept is busy = go (mutator w t).phase refl (actor_of w t kept is).
     go : (phase : phases.Phase) → (mutator w t).phase ≡ phase → IsBetween phase → IsKept (stepped w t)
     go at.Idle at_phase between = step_at w t at.Idle kept is busy at_phase tt
     go (at.Begun work) at_phase between = step_at w t (at.Begun work) kept is busy at_phase tt
-    go (at.Scanning reg label leaf before slot) at_phase between = step_at w t (at.Scanning reg label leaf before slot) kept is busy at_phase tt
+    go (at.Scanning reg label leaf before probed) at_phase between = step_at w t (at.Scanning reg label leaf before probed) kept is busy at_phase tt
     go (at.Scanned reg label leaf before) at_phase between = step_at w t (at.Scanned reg label leaf before) kept is busy at_phase tt
     go (at.Storing src f val slot) at_phase between = step_at w t (at.Storing src f val slot) kept is busy at_phase tt
     go at.Crossing at_phase between = taken_kept w t kept is busy (next_found w t kept is) at_phase

@@ -18,7 +18,7 @@ use Rattle.rec_model.specs.Sets.{Cleared}
 use Rattle.rec_model.specs.declared.command.Cmd.{Cmd}
 use Rattle.rec_model.specs.declared.told.Told.{Told}
 use Rattle.rec_log.specs.declared.contents.Contents.{Contents}
-use Rattle.rec_mutator.specs.Private.{Private, is_busy, IsMachine, next_stamp, word_for, IsStore}
+use Rattle.rec_mutator.specs.Private.{Private, is_busy, IsMachine, next_stamp, word_for, IsStore, probe_of}
 use Rattle.rec_mutator.specs.Next.{next_of}
 use Rattle.rec_mutator.specs.Step.{Step, Decides, GoesOn, LeavesBox, HasRoom}
 use Rattle.rec_mutator.specs.Took.{begun_of, left_of, step_of, took_of}
@@ -48,7 +48,7 @@ use Rattle.rec_core.specs.Config.{IsMutator}
 use Rattle.rec_core.specs.Core.{Core, cells_of, mutator, box, nobody, crossing_of}
 use Rattle.rec_core.specs.Kept.{IsBufferOf, IsHandshake, IsKept, Stand, stand_at}
 use Rattle.rec_core.specs.Loads.{cleared_by, cleared_in, IsKnown, Loaded, tried_in}
-use Rattle.rec_core.specs.Moves.{Fits, Move, after_move, begun, found_by, left_by, looked_at, offering, stepped, turned, turned_at, turned_by}
+use Rattle.rec_core.specs.Moves.{Fits, Move, after_move, begun_from, found_by, left_by, looked_at, offering, stepped, turned, turned_at, turned_by}
 use Rattle.rec_core.specs.Pending.{older_at, writes_in, writes_of}
 use Rattle.rec_core.specs.declared.config.Config.{Config}
 use Rattle.rec_core.proofs.Batches.{none_of}
@@ -201,11 +201,11 @@ step_logs m (Step.value_of_null reg none d) b = inl (plain_decides b d (λ cells
 step_logs m (Step.value reg slot is d) b = inl (plain_decides b d (λ cells e. refl) (λ e. cc))
 step_logs m (Step.new_refused reg label leaf full d) b = inl (plain_decides b d (λ cells e. refl) (λ e. cc))
 step_logs m (Step.new_begins reg label leaf room d) b = inl (plain_goes b d (λ cells e. refl) (λ e. cc))
-step_logs {p} {q} m (Step.new_wins reg label leaf before slot free d) b =
-    let other : p.phase ≢ at.Crossing = λ e. let x : at.Scanning reg label leaf before slot ≡ at.Crossing = sym d.phase ∙ e in cc in
-    inl (plain_as b (ops.ClaimHeader slot (header_word leaf label)) d.operation (λ cells e. refl) other (λ g. ap (λ (x : Private). wrote g x.log) d.after ∙ writes_same g p.log.entries slot leaf))
-step_logs m (Step.new_goes_on reg label leaf before slot taken next d) b = inl (plain_goes b d (λ cells e. refl) (λ e. cc))
-step_logs m (Step.new_finds_none reg label leaf before slot taken last d) b = inl (plain_goes b d (λ cells e. refl) (λ e. cc))
+step_logs {p} {q} m (Step.new_wins reg label leaf before probed free d) b =
+    let other : p.phase ≢ at.Crossing = λ e. let x : at.Scanning reg label leaf before probed ≡ at.Crossing = sym d.phase ∙ e in cc in
+    inl (plain_as b (ops.ClaimHeader (probe_of p probed) (header_word leaf label)) d.operation (λ cells e. refl) other (λ g. ap (λ (x : Private). wrote g x.log) d.after ∙ writes_same g p.log.entries (probe_of p probed) leaf))
+step_logs m (Step.new_goes_on reg label leaf before probed taken next d) b = inl (plain_goes b d (λ cells e. refl) (λ e. cc))
+step_logs m (Step.new_finds_none reg label leaf before probed taken last d) b = inl (plain_goes b d (λ cells e. refl) (λ e. cc))
 step_logs m (Step.new_is_full reg label leaf before still d) b = inl (plain_decides b d (λ cells e. refl) (λ e. cc))
 step_logs m (Step.new_is_busy reg label leaf before swept d) b = inl (plain_decides b d (λ cells e. refl) (λ e. cc))
 step_logs m (Step.poll_stays own d) b = inl (plain_goes b d (λ cells e. refl) (λ e. cc))
@@ -428,13 +428,13 @@ turn_keeps w kept = go (collectors_next.next_of w.collector) refl
     go None none = same_keeps w w (tried_in w) refl (λ g. omega arith)
     go (Some op) named = op_keeps w op kept named
 
-begun_keeps : (w : Core) (t : ℕ) (work : Work) → IsKept w → IsMutator w.config t → Keeps w (begun w t work) [] (tried_in w)
+begun_keeps : (w : Core) (t : ℕ) (work : Work) (from : ℕ) → IsKept w → IsMutator w.config t → Keeps w (begun_from w t work from) [] (tried_in w)
 unfolding begun_of
-begun_keeps w t work kept is = same_keeps w (begun w t work) (tried_in w) refl (λ g. omega (arith, writes_sum g (begun w t work), writes_sum g w, sum_by-set (λ (x : Private). wrote g x.log) w.mutators (t - 1) (begun_of (mutator w t) work) nobody (in_list w t kept is)))
+begun_keeps w t work from kept is = same_keeps w (begun_from w t work from) (tried_in w) refl (λ g. omega (arith, writes_sum g (begun_from w t work from), writes_sum g w, sum_by-set (λ (x : Private). wrote g x.log) w.mutators (t - 1) (begun_of (mutator w t) work from) nobody (in_list w t kept is)))
 
 -- each move keeps what was loaded
 pub move_keeps : (w : Core) (m : Move) → IsKept w → Fits w m → Keeps w (after_move w m) (cleared_in w m) (tried_in w)
-move_keeps w (Move.Begins t work) kept fits = begun_keeps w t work kept fits.0
+move_keeps w (Move.Begins t work from) kept fits = begun_keeps w t work from kept fits.0
 move_keeps w (Move.Steps t) kept fits = step_keeps w t kept fits.0 fits.1
 move_keeps w Move.Turns kept fits = turn_keeps w kept
 move_keeps w Move.Offers kept fits = same_keeps w (offering w) (tried_in w) refl (λ g. omega arith)

@@ -79,7 +79,7 @@ record IsFresh (w : Core) (l : Loaded) : Type 0 where
 
 loaded_fresh : (w : Core) (m : Move) (l : Loaded) → IsKept w → Contains (loaded_in w m) l → IsFresh w l
 unfolding collectors_next.next_of
-loaded_fresh w (Move.Begins t work) l kept (k, below, is) = absurd (omega (arith, below))
+loaded_fresh w (Move.Begins t work from) l kept (k, below, is) = absurd (omega (arith, below))
 loaded_fresh w (Move.Steps t) l kept (k, below, is) = absurd (omega (arith, below))
 loaded_fresh w Move.Offers l kept (k, below, is) = absurd (omega (arith, below))
 loaded_fresh w Move.Turns l kept held = go (collectors_next.next_of w.collector) refl held

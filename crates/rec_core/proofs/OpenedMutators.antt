@@ -109,6 +109,7 @@ machine_opened config t is there =
       entries = omega arith;
       registers = All-cons IsTarget (Some 0) (replicate (config.registers - 1) None) first (All-replicate IsTarget (config.registers - 1) None tt);
       snapshot = length-replicate config.registers None ∙ sym many;
+      from = omega arith;
       now = refl;
     }
 

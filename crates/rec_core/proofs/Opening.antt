@@ -283,7 +283,7 @@ opened_kept config is =
       };
       collector = collector_opened config is;
       sweeps = record { odd = refl; few = omega arith; some = tt };
-      scans = λ t there. subst (λ (p : Private). IsScanning config.slots (opened config).headers 0 p.phase) (sym (one_of config t there)) tt;
+      scans = λ t there. subst (λ (p : Private). IsScanning config.slots (opened config).headers 0 p.from p.phase) (sym (one_of config t there)) tt;
       made = omega arith;
       greens = λ x green. absurd (false≢true (sym (opened_black config x) ∙ green));
       sound = rw (registers_opened config config.mutators) (opening_sound config.slots config.fields config.registers config.mutators slots);

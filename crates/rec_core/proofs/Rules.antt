@@ -20,11 +20,12 @@ use Rattle.rec_log.specs.declared.entry.Entry.{Entry}
 use Rattle.rec_log.specs.declared.entry.Entry.TheVariants as entries
 use Rattle.rec_model.specs.Asking.{plain, allocation}
 use Rattle.rec_mutator.specs.Causes.{is_giving}
-use Rattle.rec_mutator.specs.Private.{Private, register, word_for, next_stamp, IsStore}
+use Rattle.rec_mutator.specs.Private.{Private, register, word_for, next_stamp, IsStore, probe_of, slot_behind}
 use Rattle.rec_mutator.specs.Step.{Step, Decides, HasRoom}
 use Rattle.rec_mutator.specs.declared.phase.Phase as phases
 use Rattle.rec_mutator.specs.declared.phase.Phase.TheVariants as at
 use Rattle.rec_mutator.specs.declared.work.Work.TheVariants as works
+use Rattle.rec_mutator.proofs.Around.{behind_below}
 use Rattle.rec_mutator.proofs.Steps.{TakesNone}
 use Rattle.rec_mutator.proofs.Refusals.{at_phase}
 use Rattle.rec_core.specs.Cells.{cell}
@@ -136,11 +137,11 @@ module _ {w : Core} {t word : ℕ} {op : Op} {q : Private} (m : Makes w t word o
           subst (P w.config.fields) found (subst (λ n. P n word) fields is)
 
   -- a birth in a free slot
-  births : (reg label : ℕ) (leaf : Bool) (before slot : ℕ) → word ≡ 0 → slice_index_or w.headers slot 0 ≡ 0 → slot < w.config.slots → label < 2 ^ 32
-      → Decides p op q (allocation leaf reg label) (at.Scanning reg label leaf before slot) (ops.ClaimHeader slot (header_word leaf label)) (slice_set p.registers reg (Some slot)) (p.log.entries ++ entries.Born slot leaf ∷ []) (plain answers_.Done)
+  births : (reg label : ℕ) (leaf : Bool) (before probed slot : ℕ) → word ≡ 0 → slice_index_or w.headers slot 0 ≡ 0 → slot < w.config.slots → label < 2 ^ 32
+      → Decides p op q (allocation leaf reg label) (at.Scanning reg label leaf before probed) (ops.ClaimHeader slot (header_word leaf label)) (slice_set p.registers reg (Some slot)) (p.log.entries ++ entries.Born slot leaf ∷ []) (plain answers_.Done)
       → IsKept (record (with_mutator w t q) { headers = slice_set w.headers slot (header_word leaf label); made = w.made + 1 })
-  births reg label leaf before slot free empty below fits d =
-      let scan = (at_phase p (at.Scanning reg label leaf before slot) actor.own.machine d.phase).0 in
+  births reg label leaf before probed slot free empty below fits d =
+      let scan = (at_phase p (at.Scanning reg label leaf before probed) actor.own.machine d.phase).0 in
       let within : reg < length p.registers = scan.register in
       let room : length p.log.entries < p.log.capacity = scan.room in
       let headers : length w.headers ≡ w.config.slots = kept_headers in
@@ -162,22 +163,33 @@ module _ {w : Core} {t word : ℕ} {op : Op} {q : Private} (m : Makes w t word o
       still x header free s some = get_or-set_other w.headers x s header 0 (λ same. omega (arith, some, free, ap (λ n. slice_index_or w.headers n 0) same))
 
 -- what is known of a scan's slot
-pub scanned : (w : Core) (t : ℕ) (phase : phases.Phase) → IsKept w → IsMutator w.config t → (mutator w t).phase ≡ phase → IsScanning w.config.slots w.headers w.freed phase
-scanned w t phase kept is at = subst (IsScanning w.config.slots w.headers w.freed) at (kept.scans t is)
+pub scanned : (w : Core) (t : ℕ) (phase : phases.Phase) → IsKept w → IsMutator w.config t → (mutator w t).phase ≡ phase → IsScanning w.config.slots w.headers w.freed (mutator w t).from phase
+scanned w t phase kept is at = subst (IsScanning w.config.slots w.headers w.freed (mutator w t).from) at (kept.scans t is)
 
 -- a probe's word
 pub probe_found : (w : Core) (word slot header : ℕ) (op : Op) → word ≡ cell (cells_of w) op → op ≡ ops.ClaimHeader slot header → word ≡ slice_index_or w.headers slot 0
 probe_found w word slot header op found at = found ∙ ap (cell (cells_of w)) at
 
+-- the slot that a scan of a kept heap has come to
+pub probes : (w : Core) (t probed : ℕ) → IsKept w → IsMutator w.config t → (probe_of (mutator w t) probed ≡ slot_behind w.config.slots (mutator w t).from probed) × (probe_of (mutator w t) probed < w.config.slots)
+probes w t probed kept is =
+    let at : probe_of (mutator w t) probed ≡ slot_behind w.config.slots (mutator w t).from probed = ap (λ n. slot_behind n (mutator w t).from probed) (actor_of w t kept is).own.slots in
+    (at, subst (λ n. n < w.config.slots) (sym at) (behind_below w.config.slots (mutator w t).from probed kept.config.some_slots))
+
 -- a scan that passes a taken slot has passed it
-passes : (w : Core) (before slot : ℕ) → HasPassed w.headers w.freed before slot → 0 < slice_index_or w.headers slot 0 → HasPassed w.headers w.freed before (slot + 1)
-passes w before slot is taken = (
+passes : (w : Core) (from before probed : ℕ) → HasPassed w.config.slots w.headers w.freed from before probed → 0 < slice_index_or w.headers (slot_behind w.config.slots from probed) 0 → HasPassed w.config.slots w.headers w.freed from before (probed + 1)
+passes w from before probed is taken = (
   is.0,
-  λ same even s below. elim (cases_eq s slot) [
-    | inl here ↦ subst (λ n. 0 < slice_index_or w.headers n 0) (sym here) taken
-    | inr other ↦ is.1 same even s (omega arith)
+  λ same even count below. elim (cases_eq count probed) [
+    | inl here ↦ subst (λ n. 0 < slice_index_or w.headers (slot_behind w.config.slots from n) 0) (sym here) taken
+    | inr other ↦ is.1 same even count (omega arith)
   ],
 )
+
+passed_on : (w : Core) (t reg label : ℕ) (leaf : Bool) (before probed : ℕ) → IsKept w → IsMutator w.config t → (mutator w t).phase ≡ at.Scanning reg label leaf before probed → 0 < slice_index_or w.headers (probe_of (mutator w t) probed) 0
+    → HasPassed w.config.slots w.headers w.freed (mutator w t).from before (probed + 1)
+passed_on w t reg label leaf before probed kept is phase taken =
+    passes w (mutator w t).from before probed (scanned w t (at.Scanning reg label leaf before probed) kept is phase) (subst (λ n. 0 < slice_index_or w.headers n 0) (probes w t probed kept is).0 taken)
 
 -- the label of a scan
 pub label_at : (w : Core) (t : ℕ) (phase : phases.Phase) → IsKept w → IsMutator w.config t → (mutator w t).phase ≡ phase → HasLabelAt phase
@@ -230,23 +242,24 @@ performed_kept {w = w} {t = t} {word = word} {op = op} {q = q} here m (Step.valu
 performed_kept {w = w} {t = t} {word = word} {op = op} {q = q} here m (Step.new_refused reg label leaf full d) = after_cross IsKept w t _ word q op d.operation m.found (unchanged refl m d)
 performed_kept {w = w} {t = t} {word = word} {op = op} {q = q} here m (Step.new_begins reg label leaf room g) =
     let freed : word ≡ w.freed = m.found ∙ ap (cell (cells_of w)) g.operation in
-    after_freed IsKept w t word q op g.operation m.found (goes_on refl m tt (begun_label reg label leaf (label_at w t _ m.kept m.is g.phase)) (omega (arith, freed), λ _ _ s below. absurd (omega arith)) g)
-performed_kept {w = w} {t = t} {word = word} {op = op} {q = q} here m (Step.new_wins reg label leaf before slot free d) =
-    let p : Private = mutator w t in
-    let slots : p.slots ≡ w.config.slots = (actor m).own.slots in
-    let there : slot < p.slots = (at_phase p (at.Scanning reg label leaf before slot) (actor m).own.machine d.phase).1 in
+    after_freed IsKept w t word q op g.operation m.found (goes_on refl m tt (begun_label reg label leaf (label_at w t _ m.kept m.is g.phase)) (omega (arith, freed), λ _ _ count below. absurd (omega arith)) g)
+performed_kept {w = w} {t = t} {word = word} {op = op} {q = q} here m (Step.new_wins reg label leaf before probed free d) =
+    let slot : ℕ = probe_of (mutator w t) probed in
+    let there : slot < w.config.slots = (probes w t probed m.kept m.is).1 in
     let header : slice_index_or w.headers slot 0 ≡ 0 = sym (probe_found w word slot (header_word leaf label) op m.found d.operation) ∙ free in
-    after_claim IsKept w t slot (header_word leaf label) word q op d.operation free (births m reg label leaf before slot free header (omega arith) (label_at w t (at.Scanning reg label leaf before slot) m.kept m.is d.phase) d)
-performed_kept {w = w} {t = t} {word = word} {op = op} {q = q} here m (Step.new_goes_on reg label leaf before slot taken more g) =
+    after_claim IsKept w t slot (header_word leaf label) word q op d.operation free (births m reg label leaf before probed slot free header there (label_at w t (at.Scanning reg label leaf before probed) m.kept m.is d.phase) d)
+performed_kept {w = w} {t = t} {word = word} {op = op} {q = q} here m (Step.new_goes_on reg label leaf before probed taken more g) =
+    let slot : ℕ = probe_of (mutator w t) probed in
     let header : word ≡ slice_index_or w.headers slot 0 = probe_found w word slot (header_word leaf label) op m.found g.operation in
     after_probe IsKept w t slot (header_word leaf label) word q op g.operation m.found taken
-    (goes_on refl m tt (label_at w t (at.Scanning reg label leaf before slot) m.kept m.is g.phase) (passes w before slot (scanned w t (at.Scanning reg label leaf before slot) m.kept m.is g.phase) (omega arith)) g)
-performed_kept {w = w} {t = t} {word = word} {op = op} {q = q} here m (Step.new_finds_none reg label leaf before slot taken last g) =
+    (goes_on refl m tt (label_at w t (at.Scanning reg label leaf before probed) m.kept m.is g.phase) (passed_on w t reg label leaf before probed m.kept m.is g.phase (omega arith)) g)
+performed_kept {w = w} {t = t} {word = word} {op = op} {q = q} here m (Step.new_finds_none reg label leaf before probed taken last g) =
+    let slot : ℕ = probe_of (mutator w t) probed in
     let header : word ≡ slice_index_or w.headers slot 0 = probe_found w word slot (header_word leaf label) op m.found g.operation in
     let slots : (mutator w t).slots ≡ w.config.slots = (actor m).own.slots in
-    let all : slot + 1 ≡ w.config.slots = last ∙ slots in
+    let all : probed + 1 ≡ w.config.slots = last ∙ slots in
     after_probe IsKept w t slot (header_word leaf label) word q op g.operation m.found taken
-    (goes_on refl m tt tt (subst (HasPassed w.headers w.freed before) all (passes w before slot (scanned w t (at.Scanning reg label leaf before slot) m.kept m.is g.phase) (omega arith))) g)
+    (goes_on refl m tt tt (subst (HasPassed w.config.slots w.headers w.freed (mutator w t).from before) all (passed_on w t reg label leaf before probed m.kept m.is g.phase (omega arith))) g)
 performed_kept {w = w} {t = t} {word = word} {op = op} {q = q} here m (Step.new_is_full reg label leaf before still d) = after_freed IsKept w t word q op d.operation m.found (unchanged refl m d)
 performed_kept {w = w} {t = t} {word = word} {op = op} {q = q} here m (Step.new_is_busy reg label leaf before moves d) = after_freed IsKept w t word q op d.operation m.found (unchanged refl m d)
 performed_kept {w = w} {t = t} {word = word} {op = op} {q = q} here m (Step.poll_stays own g) = after_epoch IsKept w t word q op g.operation m.found (goes_on refl m tt tt tt g)

@@ -107,7 +107,7 @@ turned_kept w kept = go (next_of w.collector) refl
 
 -- a move
 pub move_kept : (w : Core) (m : Move) → IsKept w → Fits w m → IsKept (after_move w m)
-move_kept w (Move.Begins t work) kept fits = begun_kept w t work kept fits.0 fits.1 fits.2 fits.3
+move_kept w (Move.Begins t work from) kept fits = begun_kept w t work from kept fits.0 fits.1 fits.2 fits.3 fits.4
 move_kept w (Move.Steps t) kept fits = step_kept w t kept fits.0 fits.1
 move_kept w Move.Turns kept fits = turned_kept w kept
 move_kept w Move.Offers kept fits = offering_kept w kept
@@ -144,7 +144,7 @@ turned_stays w = go (next_of w.collector)
 
 -- so does every move
 pub move_stays : (w : Core) (m : Move) → (after_move w m).config ≡ w.config
-move_stays w (Move.Begins t work) = refl
+move_stays w (Move.Begins t work from) = refl
 move_stays w (Move.Steps t) = refl
 move_stays w Move.Turns = turned_stays w
 move_stays w Move.Offers = refl

@@ -20,7 +20,7 @@ use Rattle.rec_collector.specs.Next.{next_of as collector_next}
 use Rattle.rec_core.specs.Config.{IsMutator}
 use Rattle.rec_core.specs.Core.{box, mutator, nobody, Core}
 use Rattle.rec_core.specs.Kept.{IsKept}
-use Rattle.rec_core.specs.Moves.{after_move, after_moves, begun, found_by, stepped, turned, turned_at, AllFit, Move}
+use Rattle.rec_core.specs.Moves.{after_move, after_moves, begun_from, found_by, stepped, turned, turned_at, AllFit, Move}
 use Rattle.rec_core.specs.Scans.{ops_over, words_over, BeginsNone, FailsByProbes}
 use Rattle.rec_core.proofs.Runs.{move_kept}
 use Rattle.rec_core.proofs.Showing.{step_caused, stepped_mutator}
@@ -66,10 +66,10 @@ come_by w v t reg label leaf {made = made} {its = its} {words = words} ops are h
 come : (ms : List Move) (w : Core) (t reg label : ℕ) (leaf : Bool) → IsKept w → IsMutator w.config t → work_of (mutator w t) ≡ Some (works.Command (allocation leaf reg label)) → AllFit w ms → BeginsNone t ms
     → HasCome w (after_moves w ms) t reg label leaf (ops_over w t ms) (words_over w t ms)
 come [] w t reg label leaf kept is work fit none = record { kept = kept; config = refl; came = refl; along = refl; work = work }
-come (Move.Begins s its ∷ ms) w t reg label leaf kept is work fit none =
-    let v : Core = begun w s its in
-    let same : mutator v t ≡ mutator w t = other_stays w s t (begun_of (mutator w s) its) fit.0.0 is none.0 in
-    same_come w v (after_moves v ms) t reg label leaf (ops_over v t ms) (words_over v t ms) same refl (come ms v t reg label leaf (move_kept w (Move.Begins s its) kept fit.0) is (ap work_of same ∙ work) fit.1 none.1)
+come (Move.Begins s its from ∷ ms) w t reg label leaf kept is work fit none =
+    let v : Core = begun_from w s its from in
+    let same : mutator v t ≡ mutator w t = other_stays w s t (begun_of (mutator w s) its from) fit.0.0 is none.0 in
+    same_come w v (after_moves v ms) t reg label leaf (ops_over v t ms) (words_over v t ms) same refl (come ms v t reg label leaf (move_kept w (Move.Begins s its from) kept fit.0) is (ap work_of same ∙ work) fit.1 none.1)
 come (Move.Steps s ∷ ms) w t reg label leaf kept is work fit none = elim (cases_eq s t) [
   | inl e ↦
       let v : Core = stepped w s in
@@ -115,9 +115,9 @@ fails_by_probes w moves t reg label leaf told kept is begin fit none busy answer
     let cause : HasCause (mutator v t) (mutator (stepped v t) t) (allocation leaf reg label) (found_by v t) told.answer = step_caused v t (allocation leaf reg label) told h.kept there busy h.work answer in
     let slots : (mutator v t).slots ≡ w.config.slots = (actor_of v t h.kept there).own.slots ∙ ap (λ c. c.slots) h.config in
     let words : List ℕ = words_over w t moves in
-    let probed : (before : ℕ) → FoundNone (mutator v t) before → FailsScan (header_word leaf label) w.config.slots before (ops_over w t moves) words = λ before found.
-    subst (λ xs. FailsScan (header_word leaf label) w.config.slots before xs words) (sym h.along)
-    (subst (λ n. FailsScan (header_word leaf label) n before (ops_along (mutator w t) words) words) slots (found.every (mutator w t) words (record { reg = reg; label = label; leaf = leaf; begun = begin; came = h.came }))) in
+    let probed : (before : ℕ) → FoundNone (mutator v t) before → FailsScan (header_word leaf label) w.config.slots (mutator w t).from before (ops_over w t moves) words = λ before found.
+    subst (λ xs. FailsScan (header_word leaf label) w.config.slots (mutator w t).from before xs words) (sym h.along)
+    (subst (λ n. FailsScan (header_word leaf label) n (mutator w t).from before (ops_along (mutator w t) words) words) slots (found.every (mutator w t) words (record { reg = reg; label = label; leaf = leaf; begun = begin; came = h.came }))) in
     record {
       full = λ e. let f = cause.full.0 e in (f.0, probed f.0 f.1, f.2);
       busy = λ before after e. let f = (cause.busy before after).0 e in (probed before f.0, f.1, λ still. f.2 (subst (λ n. IsStill before n) f.1 still));

@@ -1,5 +1,5 @@
 -- What a step of a mutator shows, rule by rule: it decides a command, or finishes a poll, or the work goes on.
-use Rattle.std.proofs.Common.{◌≡◌, ◌≢◌, inl, inr, ℕ, ◌+◌, ◌-◌, ◌<◌, ◌≤◌, if◌then◌else◌, false, true, Bool, List, [], ◌∷◌, ◌++◌, Option, None, Some, IfSome, length, slice_index_or, slice_set, refl, sym, ap, subst, ◌∙◌, arith, add-zero}
+use Rattle.std.proofs.Common.{◌≡◌, ◌%◌, ◌≢◌, inl, inr, ℕ, ◌+◌, ◌-◌, ◌<◌, ◌≤◌, if◌then◌else◌, false, true, Bool, List, [], ◌∷◌, ◌++◌, Option, None, Some, IfSome, length, slice_index_or, slice_set, refl, sym, ap, subst, ◌∙◌, arith, add-zero}
 use Rattle.std.proofs.lemmas.Bool.{false≢true, cases_eq}
 use Rattle.std.proofs.lemmas.List.{get_or-set_same, get_or-set_other, length_push}
 use Rattle.rec_word.specs.Place.{place_of}
@@ -20,7 +20,7 @@ use Rattle.rec_log.specs.declared.contents.Contents.{Contents}
 use Rattle.rec_log.specs.declared.entry.Entry.{Entry}
 use Rattle.rec_log.specs.declared.entry.Entry.TheVariants as entries_
 use Rattle.rec_mutator.specs.Causes.{HasCause, is_refusal, is_giving}
-use Rattle.rec_mutator.specs.Private.{Private, register as register_of, word_for, is_busy, work_of, work_at, answer_of, answer_at, IsStore}
+use Rattle.rec_mutator.specs.Private.{Private, register as register_of, word_for, is_busy, work_of, work_at, answer_of, answer_at, IsStore, probe_of, slot_behind}
 use Rattle.rec_mutator.specs.Step.{Step, Decides, GoesOn, HasRoom}
 use Rattle.rec_mutator.specs.Next.{next_of}
 use Rattle.rec_mutator.specs.Took.{moved, took_of, step_of, left_of, IsBetween}
@@ -29,6 +29,7 @@ use Rattle.rec_mutator.specs.declared.made.Made.TheVariants as makes
 use Rattle.rec_mutator.specs.declared.phase.Phase as phases
 use Rattle.rec_mutator.specs.declared.phase.Phase.TheVariants as at
 use Rattle.rec_mutator.specs.declared.work.Work.TheVariants as works
+use Rattle.rec_mutator.proofs.Around.{all_round, behind_first}
 use Rattle.rec_mutator.proofs.Refusals.{answer_cause, read_made, compare_made, at_phase}
 use Rattle.rec_mutator.proofs.Steps.{TakesNone, step_made, learnt_made, step_between}
 use Rattle.rec_core.specs.Cells.{cell}
@@ -40,7 +41,7 @@ use Rattle.rec_core.specs.Shown.{IsFilled, may_answer, entries_of, sight_told, s
 use Rattle.rec_core.specs.Unfinished.{OnlyWorks, IsQuiet, HasFound}
 use Rattle.rec_core.proofs.Crossings.{takes, left_same}
 use Rattle.rec_mutator.proofs.LogStamps.{word_stamp}
-use Rattle.rec_core.proofs.Rules.{word_found, probe_found, scanned, leads_to, label_at}
+use Rattle.rec_core.proofs.Rules.{word_found, probe_found, scanned, leads_to, label_at, probes}
 use Rattle.rec_core.proofs.Shapes.{after_cross, after_field, after_header, after_epoch, after_freed, after_probe, after_swap, after_claim, after_take, after_give}
 use Rattle.rec_core.proofs.Steps.{actor_of, in_list, own_register, registers_stay, registers_set}
 use Rattle.rec_word.specs.Header.{header_word, is_leaf, label_of}
@@ -51,7 +52,7 @@ use Rattle.rec_core.proofs.Headers.{header_is}
 pub data Says (w : Core) (t : ℕ) (q : Private) (v : Core) : Type 0 where
   decided : (cmd : Cmd) (told : Told) → work_of (mutator w t) ≡ Some (works.Command cmd) → answer_of q ≡ Some (makes.Answered told) → IsDecided w t cmd told v
       → (is_refusal told.answer ≡ true → OnlyWorks w v t) → Says w t q v
-  going : answer_of q ≡ None → OnlyWorks w v t → (HasFound w (mutator w t).phase → HasFound w q.phase) → Says w t q v
+  going : answer_of q ≡ None → OnlyWorks w v t → (HasFound w (mutator w t).from (mutator w t).phase → HasFound w q.from q.phase) → Says w t q v
   holding : answer_of q ≡ None → q.phase ≡ at.Giving → IsQuiet w v t → q.epoch ≡ (mutator w t).epoch → Says w t q v
   stayed : answer_of q ≡ Some (makes.Crossed None) → work_of (mutator w t) ≡ Some works.Poll → is_giving (mutator w t).phase ≡ false → OnlyWorks w v t → Says w t q v
   crossed : answer_of q ≡ Some (makes.Crossed (Some ((mutator w t).epoch + 1))) → work_of (mutator w t) ≡ Some works.Poll → (mutator w t).phase ≡ at.Giving → IsQuiet w v t
@@ -88,7 +89,7 @@ registers_left d = ap (λ (x : Private). x.registers) d.after
 only_works : (w : Core) (t : ℕ) (q : Private) (phase : phases.Phase) → IsKept w → IsMutator w.config t → q ≡ moved (mutator w t) phase → OnlyWorks w (with_mutator w t q) t
 only_works w t q phase kept is after =
     let here : mutator (with_mutator w t q) t ≡ q = mutator_left w t q kept is in
-    let P : Private → Type 0 = λ x. x ≡ record (mutator w t) { phase = x.phase; steps = x.steps } in
+    let P : Private → Type 0 = λ x. x ≡ record (mutator w t) { from = x.from; phase = x.phase; steps = x.steps } in
     record { others = ap (with_mutator w t) (sym here); own = subst P (sym (here ∙ after)) refl }
 
 -- A state `v` in which mutator `t` alone is another: `q`, whose log has these entries.
@@ -167,10 +168,10 @@ refuses {w = w} {t = t} {q = q} {cmd = cmd} {told = told} work m d telling =
 
 -- a step after which the work goes on
 going_on : {w : Core} {t word : ℕ} {op : Op} {q : Private} {phase : phases.Phase} {its_op : Op} {next_phase : phases.Phase}
-    → Finds w t word op → answer_at next_phase ≡ None → (HasFound w phase → HasFound w next_phase) → GoesOn (mutator w t) op q phase its_op next_phase → Says w t q (with_mutator w t q)
+    → Finds w t word op → answer_at next_phase ≡ None → (HasFound w (mutator w t).from phase → HasFound w (mutator w t).from next_phase) → GoesOn (mutator w t) op q phase its_op next_phase → Says w t q (with_mutator w t q)
 going_on {w = w} {t = t} {q = q} m none finds g =
     Says.going (ap answer_of g.after ∙ none) (only_works w t q _ m.kept m.is g.after)
-    (λ was. subst (HasFound w) (sym (ap (λ (x : Private). x.phase) g.after)) (finds (subst (HasFound w) g.phase was)))
+    (λ was. subst (λ (x : Private). HasFound w x.from x.phase) (sym g.after) (finds (subst (HasFound w (mutator w t).from) g.phase was)))
 
 -- a probe that fails tells one slot more
 one_more : (w : Core) (slot : ℕ) → slice_index_or w.headers slot 0 ≢ 0 → ((s : ℕ) → s < slot → IsTaken (sight w) s) → (s : ℕ) → s < slot + 1 → IsTaken (sight w) s
@@ -178,6 +179,11 @@ one_more w slot taken lower s below = elim (cases_eq s slot) [
   | inl same ↦ subst (IsTaken (sight w)) (sym same) (let some : slice_index_or w.headers slot 0 ≢ 0 = taken in omega (arith, some))
   | inr other ↦ lower s (omega (arith, other))
 ]
+
+-- a scan that began with slot 0 probes the slots in order
+pub in_order : (w : Core) (t reg label : ℕ) (leaf : Bool) (before probed : ℕ) → IsKept w → IsMutator w.config t → (mutator w t).phase ≡ at.Scanning reg label leaf before probed → (mutator w t).from ≡ 0 → probe_of (mutator w t) probed ≡ probed
+in_order w t reg label leaf before probed kept is phase first =
+    ap (λ n. slot_behind (mutator w t).slots n probed) first ∙ behind_first (mutator w t).slots probed (at_phase (mutator w t) (at.Scanning reg label leaf before probed) (actor_of w t kept is).own.machine phase).1
 
 -- a crossing goes on with another buffer, crossing word and mailbox, which nobody sees
 quiet : (w : Core) (t : ℕ) (q : Private) (crossing : List ℕ) (boxes : List Contents) → 1 ≤ t → q.registers ≡ (mutator w t).registers → IsQuiet w (record (with_mutator w t q) { crossing = crossing; boxes = boxes }) t
@@ -283,7 +289,7 @@ says {w = w} {t = t} {word = word} {op = op} {q = q} m (Step.new_refused reg lab
     after_cross (Says w t q) w t _ word q op d.operation m.found (refuses refl m d (tells (birth_refused (sight w) t reg label false answers.LogFull refl refl) refl refl (λ is. cc) refl refl refl))
 says {w = w} {t = t} {word = word} {op = op} {q = q} m (Step.new_begins reg label leaf room g) =
     let freed : word ≡ w.freed = m.found ∙ ap (cell (cells_of w)) g.operation in
-    after_freed (Says w t q) w t word q op g.operation m.found (going_on m refl (λ _. (freed, λ s below. absurd (omega (arith, below)))) g)
+    after_freed (Says w t q) w t word q op g.operation m.found (going_on m refl (λ first. (first, freed, λ s below. absurd (omega (arith, below)))) g)
 says {w = w} {t = t} {word = word} {op = op} {q = q} m (Step.new_wins reg label true before slot free d) =
     let p : Private = mutator w t in
     let own = (actor_of w t m.kept m.is).own in
@@ -306,12 +312,11 @@ says {w = w} {t = t} {word = word} {op = op} {q = q} m (Step.new_wins reg label 
       stamp = tt;
     } in
     after_claim (Says w t q) w t slot (header_word true label) word q op d.operation free (done refl d refl (decides v m (left_by v d refl refl refl) saw telling))
-says {w = w} {t = t} {word = word} {op = op} {q = q} m (Step.new_wins reg label false before slot free d) =
+says {w = w} {t = t} {word = word} {op = op} {q = q} m (Step.new_wins reg label false before probed free d) =
     let p : Private = mutator w t in
-    let own = (actor_of w t m.kept m.is).own in
-    let slots : p.slots ≡ w.config.slots = own.slots in
+    let slot : ℕ = probe_of p probed in
     let headers : length w.headers ≡ w.config.slots = m.kept.headers in
-    let there : slot < p.slots = (at_phase p (at.Scanning reg label false before slot) own.machine d.phase).1 in
+    let there : slot < w.config.slots = (probes w t probed m.kept m.is).1 in
     let header : slice_index_or w.headers slot 0 ≡ 0 = sym (probe_found w word slot (header_word false label) op m.found d.operation) ∙ free in
     let grown : Sight = sight_with_header (sight w) slot (header_word false label) in
     let v : Core = record (with_mutator w t q) { headers = slice_set w.headers slot (header_word false label); made = w.made + 1 } in
@@ -320,7 +325,7 @@ says {w = w} {t = t} {word = word} {op = op} {q = q} m (Step.new_wins reg label 
     let telling : IsTelling w t (commands.New reg label) (plain answers.Done) (p.log.entries ++ entries_.Born slot false ∷ []) (w.made + 1) slot after
     = record {
       explained = birth_explained (sight w) t reg label slot (header_word false label) false m.kept.sound (omega arith) header (header_is false label (label_at w t (at.Scanning reg label false before slot) m.kept m.is d.phase));
-      leaves = record { seen = refl; birth = λ _. record { there = omega arith; free = header; probed = ap probed_at d.phase } };
+      leaves = record { seen = refl; birth = λ _. record { there = there; free = header; probed = ap (probed_at p) d.phase } };
       kind = refl;
       full = λ is. cc;
       births = refl;
@@ -328,25 +333,31 @@ says {w = w} {t = t} {word = word} {op = op} {q = q} m (Step.new_wins reg label 
       stamp = tt;
     } in
     after_claim (Says w t q) w t slot (header_word false label) word q op d.operation free (done refl d refl (decides v m (left_by v d refl refl refl) saw telling))
-says {w = w} {t = t} {word = word} {op = op} {q = q} m (Step.new_goes_on reg label leaf before slot taken more g) =
+says {w = w} {t = t} {word = word} {op = op} {q = q} m (Step.new_goes_on reg label leaf before probed taken more g) =
+    let slot : ℕ = probe_of (mutator w t) probed in
     let its : word ≡ slice_index_or w.headers slot 0 = probe_found w word slot (header_word leaf label) op m.found g.operation in
-    after_probe (Says w t q) w t slot (header_word leaf label) word q op g.operation m.found taken (going_on m refl (λ found. (found.0, one_more w slot (λ is. taken (its ∙ is)) found.1)) g)
-says {w = w} {t = t} {word = word} {op = op} {q = q} m (Step.new_finds_none reg label leaf before slot taken last g) =
+    after_probe (Says w t q) w t slot (header_word leaf label) word q op g.operation m.found taken (going_on m refl (λ found. (found.0, found.1, one_more w probed (λ is. taken (its ∙ ap (λ n. slice_index_or w.headers n 0) (in_order w t reg label leaf before probed m.kept m.is g.phase found.0) ∙ is)) found.2)) g)
+says {w = w} {t = t} {word = word} {op = op} {q = q} m (Step.new_finds_none reg label leaf before probed taken last g) =
+    let slot : ℕ = probe_of (mutator w t) probed in
     let own = (actor_of w t m.kept m.is).own in
     let its : word ≡ slice_index_or w.headers slot 0 = probe_found w word slot (header_word leaf label) op m.found g.operation in
-    let all : slot + 1 ≡ w.config.slots = last ∙ own.slots in
+    let all : probed + 1 ≡ w.config.slots = last ∙ own.slots in
     after_probe (Says w t q) w t slot (header_word leaf label) word q op g.operation m.found taken
-    (going_on m refl (λ found. (found.0, λ s below. one_more w slot (λ is. taken (its ∙ is)) found.1 s (omega (arith, below)))) g)
+    (going_on m refl (λ found. (found.1, λ s below. one_more w probed (λ is. taken (its ∙ ap (λ n. slice_index_or w.headers n 0) (in_order w t reg label leaf before probed m.kept m.is g.phase found.0) ∙ is)) found.2 s (omega (arith, below)))) g)
 says {w = w} {t = t} {word = word} {op = op} {q = q} m (Step.new_is_full reg label true before still d) =
     let freed : word ≡ w.freed = m.found ∙ ap (cell (cells_of w)) d.operation in
+    let own = (actor_of w t m.kept m.is).own in
     let passed = scanned w t (at.Scanned reg label true before) m.kept m.is d.phase in
+    let filled : before ≡ w.freed → before % 2 ≡ 0 → IsFilled w = λ same even. all_round (IsTaken (sight w)) w.config.slots (mutator w t).from (subst (λ n. (mutator w t).from < n) own.slots own.machine.from) (passed.1 same even) in
     after_freed (Says w t q) w t word q op d.operation m.found
-    (refuses refl m d (tells (birth_refused (sight w) t reg label true answers.Full refl refl) refl refl (λ is. passed.1 (still.1 ∙ freed) still.0) refl refl refl))
+    (refuses refl m d (tells (birth_refused (sight w) t reg label true answers.Full refl refl) refl refl (λ is. filled (still.1 ∙ freed) still.0) refl refl refl))
 says {w = w} {t = t} {word = word} {op = op} {q = q} m (Step.new_is_full reg label false before still d) =
     let freed : word ≡ w.freed = m.found ∙ ap (cell (cells_of w)) d.operation in
+    let own = (actor_of w t m.kept m.is).own in
     let passed = scanned w t (at.Scanned reg label false before) m.kept m.is d.phase in
+    let filled : before ≡ w.freed → before % 2 ≡ 0 → IsFilled w = λ same even. all_round (IsTaken (sight w)) w.config.slots (mutator w t).from (subst (λ n. (mutator w t).from < n) own.slots own.machine.from) (passed.1 same even) in
     after_freed (Says w t q) w t word q op d.operation m.found
-    (refuses refl m d (tells (birth_refused (sight w) t reg label false answers.Full refl refl) refl refl (λ is. passed.1 (still.1 ∙ freed) still.0) refl refl refl))
+    (refuses refl m d (tells (birth_refused (sight w) t reg label false answers.Full refl refl) refl refl (λ is. filled (still.1 ∙ freed) still.0) refl refl refl))
 says {w = w} {t = t} {word = word} {op = op} {q = q} m (Step.new_is_busy reg label true before moves d) =
     after_freed (Says w t q) w t word q op d.operation m.found
     (refuses refl m d (tells (birth_refused (sight w) t reg label true (answers.Busy before word) refl refl) refl refl (λ is. cc) refl refl refl))
@@ -397,7 +408,7 @@ step_says w t kept is busy =
     go : (phase : phases.Phase) → (mutator w t).phase ≡ phase → IsBetween phase → Says w t (step_of (mutator w t) (found_by w t) (box w t)) (stepped w t)
     go at.Idle its between = here at.Idle its tt
     go (at.Begun work) its between = here (at.Begun work) its tt
-    go (at.Scanning reg label leaf before slot) its between = here (at.Scanning reg label leaf before slot) its tt
+    go (at.Scanning reg label leaf before probed) its between = here (at.Scanning reg label leaf before probed) its tt
     go (at.Scanned reg label leaf before) its between = here (at.Scanned reg label leaf before) its tt
     go (at.Storing src f val slot) its between = here (at.Storing src f val slot) its tt
     go at.Crossing its between = takes_says w t kept is its

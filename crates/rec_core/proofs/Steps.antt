@@ -32,7 +32,7 @@ use Rattle.rec_counts.specs.Counts.{slot_at}
 use Rattle.rec_counts.specs.Slot.{absent, fresh}
 use Rattle.rec_counts.specs.declared.slot.Slot.{Slot}
 use Rattle.rec_mutator.specs.Causes.{is_giving}
-use Rattle.rec_mutator.specs.Private.{Private, register, IsStore}
+use Rattle.rec_mutator.specs.Private.{Private, register, IsStore, slot_behind}
 use Rattle.rec_mutator.specs.Step.{Step, Decides, GoesOn}
 use Rattle.rec_mutator.specs.Took.{IsFound}
 use Rattle.rec_mutator.specs.declared.phase.Phase as phases
@@ -153,33 +153,33 @@ emptied_stays w slot f new kept in_range unreleased =
     }
 
 -- the scans of all mutators, where one goes on
-pub scans_stay : (w : Core) (t : ℕ) (q : Private) (headers : List ℕ) → IsKept w → IsMutator w.config t → IsScanning w.config.slots headers w.freed q.phase
+pub scans_stay : (w : Core) (t : ℕ) (q : Private) (headers : List ℕ) → IsKept w → IsMutator w.config t → IsScanning w.config.slots headers w.freed q.from q.phase
     → ((s : ℕ) → 0 < slice_index_or w.headers s 0 → slice_index_or headers s 0 ≡ slice_index_or w.headers s 0) → HasScans w.config headers w.freed (slice_set w.mutators (t - 1) q)
 scans_stay w t q headers kept is scans still s there = elim (cases_eq s t) [
   | inl same ↦
       let here : slice_index_or (slice_set w.mutators (t - 1) q) (s - 1) nobody ≡ q
       = ap (λ n. slice_index_or (slice_set w.mutators (t - 1) q) (n - 1) nobody) same ∙ get_or-set_same w.mutators (t - 1) q nobody (in_list w t kept is) in
-      subst (λ (p : Private). IsScanning w.config.slots headers w.freed p.phase) (sym here) scans
+      subst (λ (p : Private). IsScanning w.config.slots headers w.freed p.from p.phase) (sym here) scans
   | inr other ↦
       let apart : (s - 1) ≢ (t - 1) = λ e. other (omega (arith, is.0, there.0)) in
-      subst (λ (p : Private). IsScanning w.config.slots headers w.freed p.phase) (sym (get_or-set_other w.mutators (t - 1) (s - 1) q nobody apart)) (grown (mutator w s).phase refl (kept.scans s there))
+      subst (λ (p : Private). IsScanning w.config.slots headers w.freed p.from p.phase) (sym (get_or-set_other w.mutators (t - 1) (s - 1) q nobody apart)) (grown (mutator w s).from (mutator w s).phase refl (kept.scans s there))
 ]
   where
     more : (z : ℕ) → 0 < slice_index_or w.headers z 0 → 0 < slice_index_or headers z 0
     more z some = omega (arith, some, still z some)
 
-    grown : (phase : phases.Phase) → (mutator w s).phase ≡ phase → IsScanning w.config.slots w.headers w.freed phase → IsScanning w.config.slots headers w.freed phase
-    grown at.Idle here is = tt
-    grown (at.Begun work) here is = tt
-    grown (at.Scanning reg label leaf before slot) here is = (is.0, λ same even z below. more z (is.1 same even z below))
-    grown (at.Scanned reg label leaf before) here is = (is.0, λ same even z below. more z (is.1 same even z below))
-    grown (at.Storing src f val slot) here is =
+    grown : (from : ℕ) (phase : phases.Phase) → (mutator w s).phase ≡ phase → IsScanning w.config.slots w.headers w.freed from phase → IsScanning w.config.slots headers w.freed from phase
+    grown from at.Idle here is = tt
+    grown from (at.Begun work) here is = tt
+    grown from (at.Scanning reg label leaf before probed) here is = (is.0, λ same even count below. more (slot_behind w.config.slots from count) (is.1 same even count below))
+    grown from (at.Scanned reg label leaf before) here is = (is.0, λ same even count below. more (slot_behind w.config.slots from count) (is.1 same even count below))
+    grown from (at.Storing src f val slot) here is =
         let store : IsStore (mutator w s) src f val slot = (at_phase (mutator w s) (at.Storing src f val slot) (actor_of w s kept there).own.machine here).0 in
         ap is_leaf (still slot (register_taken w kept s src slot store.source)) ∙ is
-    grown at.Crossing here is = tt
-    grown at.Swapping here is = tt
-    grown at.Giving here is = tt
-    grown (at.Finished work made) here is = tt
+    grown from at.Crossing here is = tt
+    grown from at.Swapping here is = tt
+    grown from at.Giving here is = tt
+    grown from (at.Finished work made) here is = tt
 
 -- what the entries that were made come to, where one mutator goes on
 pub entries_stay : (w : Core) (t births : ℕ) (q : Private) → IsKept w → IsMutator w.config t → entries_made w.config (mutator w t) + births ≤ entries_made w.config q → w.made + births ≤ 1 + sum_by (entries_made w.config) (slice_set w.mutators (t - 1) q)
@@ -198,7 +198,7 @@ leaf_some header leaf = grind (arith, nat_tests, leaf)
 -- A heap in which a mutator has moved, with headers, words and births, is kept where each part of it is.
 pub changed_kept : (w : Core) (t : ℕ) (q : Private) (headers words : List ℕ) (births : ℕ) → IsKept w → IsMutator w.config t → IsActor w.config w.epoch w.collector.phase t q (crossing_of w t) (box w t)
     → length headers ≡ length w.headers → All IsHeader headers → HasCollector w.config w.epoch words w.collector
-    → IsScanning w.config.slots headers w.freed q.phase → ((s : ℕ) → 0 < slice_index_or w.headers s 0 → slice_index_or headers s 0 ≡ slice_index_or w.headers s 0)
+    → IsScanning w.config.slots headers w.freed q.from q.phase → ((s : ℕ) → 0 < slice_index_or w.headers s 0 → slice_index_or headers s 0 ≡ slice_index_or w.headers s 0)
     → entries_made w.config (mutator w t) + births ≤ entries_made w.config q
     → IsSound (sight (record (with_mutator w t q) { headers = headers; words = words }))
     → HasAccounts w (pending (record (with_mutator w t q) { headers = headers; words = words; made = w.made + births }))
@@ -252,7 +252,7 @@ same_entries config p q epoch log =
 
 -- A step that changes nothing but how far a work has come.
 pub quiet_kept : (w : Core) (t : ℕ) (q : Private) → IsKept w → IsMutator w.config t → IsOwn w.config t q → is_giving (mutator w t).phase ≡ false → is_giving q.phase ≡ false → q.epoch ≡ (mutator w t).epoch
-    → IsActor w.config w.epoch w.collector.phase t q (crossing_of w t) (box w t) → q.log ≡ (mutator w t).log → q.registers ≡ (mutator w t).registers → IsScanning w.config.slots w.headers w.freed q.phase
+    → IsActor w.config w.epoch w.collector.phase t q (crossing_of w t) (box w t) → q.log ≡ (mutator w t).log → q.registers ≡ (mutator w t).registers → IsScanning w.config.slots w.headers w.freed q.from q.phase
     → IsKept (with_mutator w t q)
 quiet_kept w t q kept is own here stays epoch actor log registers scans =
     let same : epoch_at q ≡ epoch_at (mutator w t) = epoch_here q stays ∙ epoch ∙ sym (epoch_here (mutator w t) here) in
@@ -266,15 +266,15 @@ abbrev IsAnswered : phases.Phase → Type 0
 IsAnswered (at.Finished work made) = Unit {0}
 IsAnswered _ = ⊥
 
-answered_parts : (slots freed : ℕ) (headers : List ℕ) (phase : phases.Phase) → IsAnswered phase → IsSettledIn phase × (HasLabelAt phase × IsScanning slots headers freed phase)
-answered_parts slots freed headers (at.Finished work made) is = (tt, (tt, tt))
-answered_parts slots freed headers _ is = absurd is
+answered_parts : (slots freed from : ℕ) (headers : List ℕ) (phase : phases.Phase) → IsAnswered phase → IsSettledIn phase × (HasLabelAt phase × IsScanning slots headers freed from phase)
+answered_parts slots freed from headers (at.Finished work made) is = (tt, (tt, tt))
+answered_parts slots freed from headers _ is = absurd is
 
 -- what is known after an answer
 pub record Answers {w : Core} {t word : ℕ} {op : Op} {q : Private} (m : Makes w t word op q) (registers : List (Option ℕ)) (entries : List Entry) : Type 0 where
   pub here : is_giving (mutator w t).phase ≡ false
   pub settled : IsSettledIn q.phase
-  pub scans : (slots freed : ℕ) (headers : List ℕ) → IsScanning slots headers freed q.phase
+  pub scans : (slots freed : ℕ) (headers : List ℕ) → IsScanning slots headers freed q.from q.phase
   pub own : IsOwn w.config t q
   pub epoch : q.epoch ≡ (mutator w t).epoch
   pub same : epoch_at q ≡ epoch_at (mutator w t)
@@ -286,13 +286,13 @@ pub answers : {w : Core} {t word : ℕ} {op : Op} {q : Private} {cmd : Cmd} {at 
 answers {w = w} {t = t} {q = q} gives m d =
     let here : is_giving (mutator w t).phase ≡ false = ap is_giving d.phase ∙ gives in
     let done : IsAnswered q.phase = subst (λ (x : Private). IsAnswered x.phase) (sym d.after) tt in
-    let settled : IsSettledIn q.phase = (answered_parts 0 0 [] q.phase done).0 in
+    let settled : IsSettledIn q.phase = (answered_parts 0 0 0 [] q.phase done).0 in
     let epoch : q.epoch ≡ (mutator w t).epoch = ap (λ (x : Private). x.epoch) d.after in
     record {
       here = here;
       settled = settled;
-      scans = λ slots freed headers. (answered_parts slots freed headers q.phase done).1.1;
-      own = own_stepped (actor_of w t m.kept m.is).own (its_box w t m.kept m.is) m.may m.step (answered_parts 0 0 [] q.phase done).1.0;
+      scans = λ slots freed headers. (answered_parts slots freed q.from headers q.phase done).1.1;
+      own = own_stepped (actor_of w t m.kept m.is).own (its_box w t m.kept m.is) m.may m.step (answered_parts 0 0 0 [] q.phase done).1.0;
       epoch = epoch;
       same = epoch_here q (settled_here q.phase settled) ∙ epoch ∙ sym (epoch_here (mutator w t) here);
       registers_are = ap (λ (x : Private). x.registers) d.after;
@@ -329,7 +329,7 @@ sets {w = w} {t = t} {q = q} r x gives m within may value d =
 
 -- a step after which the work goes on, in a settled phase
 pub goes_on : {w : Core} {t word : ℕ} {op : Op} {q : Private} {at : phases.Phase} {its_op : Op} {next_phase : phases.Phase}
-    → is_giving at ≡ false → (m : Makes w t word op q) → IsSettledIn next_phase → HasLabelAt next_phase → IsScanning w.config.slots w.headers w.freed next_phase → GoesOn (mutator w t) op q at its_op next_phase → IsKept (with_mutator w t q)
+    → is_giving at ≡ false → (m : Makes w t word op q) → IsSettledIn next_phase → HasLabelAt next_phase → IsScanning w.config.slots w.headers w.freed (mutator w t).from next_phase → GoesOn (mutator w t) op q at its_op next_phase → IsKept (with_mutator w t q)
 goes_on {w = w} {t = t} {q = q} gives m settled label scans g =
     let here : is_giving (mutator w t).phase ≡ false = ap is_giving g.phase ∙ gives in
     let phase = ap (λ (x : Private). x.phase) g.after in
@@ -340,7 +340,7 @@ goes_on {w = w} {t = t} {q = q} gives m settled label scans g =
     let own : IsOwn w.config t q = own_stepped actor.own (its_box w t m.kept m.is) m.may m.step (subst HasLabelAt (sym phase) label) in
     quiet_kept w t q m.kept m.is own here (settled_here q.phase q_settled) epoch
     (actor_stays actor own here q_settled epoch (subst (IsBufferOf w.config (epoch_at (mutator w t))) (sym log) actor.log) (ap (λ (b : Contents). named b.snapshot) log ∙ actor.unwritten))
-    log (ap (λ (x : Private). x.registers) g.after) (subst (IsScanning w.config.slots w.headers w.freed) (sym phase) scans)
+    log (ap (λ (x : Private). x.registers) g.after) (subst (λ (x : Private). IsScanning w.config.slots w.headers w.freed x.from x.phase) (sym g.after) scans)
 
 -- a poll that found the next epoch: the mutator is about to cross, and its mailbox is home with a spare
 pub about_to_cross : {w : Core} {t word : ℕ} {op : Op} {q : Private} → (m : Makes w t word op q) → word ≢ (mutator w t).epoch → GoesOn (mutator w t) op q (at.Begun works.Poll) ops.LoadEpoch at.Crossing → IsKept (with_mutator w t q)
@@ -364,4 +364,4 @@ about_to_cross {w = w} {t = t} {word = word} {q = q} m other g =
       handshake = subst (IsHandshake w.config w.epoch q (crossing_of w t) (box w t)) (sym due)
           (inl (record { epoch = ap (λ n. n + 1) epoch ∙ behind.epoch; word = behind.word ∙ ap (λ n. crossing_word n Spare) (sym epoch); here = stays; spare = behind.spare }));
     })
-    log (ap (λ (x : Private). x.registers) g.after) (subst (IsScanning w.config.slots w.headers w.freed) (sym phase) tt)
+    log (ap (λ (x : Private). x.registers) g.after) (subst (IsScanning w.config.slots w.headers w.freed q.from) (sym phase) tt)

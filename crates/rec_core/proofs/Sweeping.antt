@@ -56,19 +56,19 @@ use Rattle.rec_word.specs.Header.{is_leaf}
 use Rattle.rec_counts.specs.Colour.{is_green}
 
 -- as a sweep begins or ends, a scan that has begun before knows nothing more
-scans_change : (config : Config) (headers later : List ℕ) (freed next : ℕ) (mutators : List Private) → ((before slot : ℕ) → HasPassed headers freed before slot → HasPassed later next before slot) → ((slot : ℕ) → is_leaf (slice_index_or headers slot 0) ≡ false → is_leaf (slice_index_or later slot 0) ≡ false) → HasScans config headers freed mutators → HasScans config later next mutators
-scans_change config headers later freed next mutators change unmarked scans t is = go (slice_index_or mutators (t - 1) nobody).phase (scans t is)
+scans_change : (config : Config) (headers later : List ℕ) (freed next : ℕ) (mutators : List Private) → ((from before probed : ℕ) → HasPassed config.slots headers freed from before probed → HasPassed config.slots later next from before probed) → ((slot : ℕ) → is_leaf (slice_index_or headers slot 0) ≡ false → is_leaf (slice_index_or later slot 0) ≡ false) → HasScans config headers freed mutators → HasScans config later next mutators
+scans_change config headers later freed next mutators change unmarked scans t is = go (slice_index_or mutators (t - 1) nobody).from (slice_index_or mutators (t - 1) nobody).phase (scans t is)
   where
-    go : (phase : phases.Phase) → IsScanning config.slots headers freed phase → IsScanning config.slots later next phase
-    go at.Idle s = tt
-    go (at.Begun work) s = tt
-    go (at.Scanning reg label leaf before slot) s = change before slot s
-    go (at.Scanned reg label leaf before) s = change before config.slots s
-    go (at.Storing src f val slot) s = unmarked slot s
-    go at.Crossing s = tt
-    go at.Swapping s = tt
-    go at.Giving s = tt
-    go (at.Finished work made) s = tt
+    go : (from : ℕ) (phase : phases.Phase) → IsScanning config.slots headers freed from phase → IsScanning config.slots later next from phase
+    go from at.Idle s = tt
+    go from (at.Begun work) s = tt
+    go from (at.Scanning reg label leaf before probed) s = change from before probed s
+    go from (at.Scanned reg label leaf before) s = change from before config.slots s
+    go from (at.Storing src f val slot) s = unmarked slot s
+    go from at.Crossing s = tt
+    go from at.Swapping s = tt
+    go from at.Giving s = tt
+    go from (at.Finished work made) s = tt
 
 -- a swept header is that of no leaf
 pub swept_unmarked : (headers : List ℕ) (x : ℕ) → x < length headers → (slot : ℕ) → is_leaf (slice_index_or headers slot 0) ≡ false → is_leaf (slice_index_or (slice_set headers x 0) slot 0) ≡ false
@@ -77,8 +77,8 @@ swept_unmarked headers x there slot unmarked = elim (cases_eq slot x) [
   | inr other ↦ ap is_leaf (get_or-set_other headers x slot 0 0 other) ∙ unmarked
 ]
 
-passed_more : (headers : List ℕ) (freed before slot : ℕ) → HasPassed headers freed before slot → HasPassed headers (freed + 1) before slot
-passed_more headers freed before slot is = let up : before ≤ freed = is.0 in (omega arith, λ same. absurd (omega arith))
+passed_more : (slots : ℕ) (headers : List ℕ) (freed from before probed : ℕ) → HasPassed slots headers freed from before probed → HasPassed slots headers (freed + 1) from before probed
+passed_more slots headers freed from before probed is = let up : before ≤ freed = is.0 in (omega arith, λ same. absurd (omega arith))
 
 -- A sweep begins.
 module _ (w : Core) (due : Option ℕ) (kept : IsKept w) (phase : w.collector.phase ≡ Opening) where
@@ -113,7 +113,7 @@ module _ (w : Core) (due : Option ℕ) (kept : IsKept w) (phase : w.collector.ph
           emptied = emptied_in w Opening kept phase;
         };
         sweeps = record { odd = odd_next w.freed (kept.sweeps.odd ∙ still); few = omega (arith, kept.sweeps.few, still); some = tt };
-        scans = scans_change w.config w.headers w.headers w.freed (w.freed + 1) w.mutators (passed_more w.headers w.freed) (λ slot unmarked. unmarked) kept.scans;
+        scans = scans_change w.config w.headers w.headers w.freed (w.freed + 1) w.mutators (passed_more w.config.slots w.headers w.freed) (λ slot unmarked. unmarked) kept.scans;
         made = kept.made;
         sound = kept.sound;
         greens = kept.greens;
@@ -167,7 +167,7 @@ module _ (w : Core) (swept_ : ℕ) (kept : IsKept w) (phase : w.collector.phase 
           emptied = emptied_in w (Closing swept_) kept phase;
         };
         sweeps = record { odd = even_next w.freed (kept.sweeps.odd ∙ odd); few = omega (arith, kept.sweeps.few, odd); some = tt };
-        scans = scans_change w.config w.headers w.headers w.freed (w.freed + 1) w.mutators (passed_more w.headers w.freed) (λ slot unmarked. unmarked) kept.scans;
+        scans = scans_change w.config w.headers w.headers w.freed (w.freed + 1) w.mutators (passed_more w.config.slots w.headers w.freed) (λ slot unmarked. unmarked) kept.scans;
         made = kept.made;
         sound = kept.sound;
         greens = kept.greens;
@@ -450,7 +450,7 @@ module _ (w : Core) (done : ℕ) (x : ℕ) (kept : IsKept w) (phase : w.collecto
           ];
         };
         sweeps = record { odd = kept.sweeps.odd ∙ odd ∙ sym on.sweeping; few = omega (arith, kept.sweeps.few, odd, on.sweeping); some = on.some };
-        scans = scans_change w.config w.headers (slice_set w.headers x 0) w.freed w.freed w.mutators (λ before slot is. (is.0, λ now even. absurd (omega (arith, odd, kept.sweeps.odd, ap (λ n. n % 2) now, even)))) (swept_unmarked w.headers x (omega (arith, swept_below, headers))) kept.scans;
+        scans = scans_change w.config w.headers (slice_set w.headers x 0) w.freed w.freed w.mutators (λ from before probed is. (is.0, λ now even. absurd (omega (arith, odd, kept.sweeps.odd, ap (λ n. n % 2) now, even)))) (swept_unmarked w.headers x (omega (arith, swept_below, headers))) kept.scans;
         made = kept.made;
         sound = sound;
         greens = λ y green. elim (cases_eq y x) [

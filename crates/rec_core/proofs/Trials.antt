@@ -84,7 +84,7 @@ turn_rises w kept later = go (collectors_next.next_of w.collector) refl later
         omega (arith, rises, tried_of w kept, tried_of (turned_by w op (cell (cells_of w) op)) later)
 
 move_rises : (w : Core) (m : Move) → IsKept w → Fits w m → tried_in w ≤ tried_in (after_move w m)
-move_rises w (Move.Begins t work) kept fits = omega arith
+move_rises w (Move.Begins t work from) kept fits = omega arith
 move_rises w (Move.Steps t) kept fits = omega (arith, step_tried w t kept fits.0 fits.1)
 move_rises w Move.Turns kept fits = turn_rises w kept (move_kept w Move.Turns kept fits)
 move_rises w Move.Offers kept fits = omega arith

@@ -20,7 +20,7 @@ use Rattle.rec_mutator.proofs.Steps.{step_made}
 use Rattle.rec_core.specs.Config.{IsMutator}
 use Rattle.rec_core.specs.Core.{Core, nobody, box, mutator, with_mutator}
 use Rattle.rec_core.specs.Kept.{IsKept}
-use Rattle.rec_core.specs.Moves.{begun, stepped, found_by}
+use Rattle.rec_core.specs.Moves.{begun_from, stepped, found_by}
 use Rattle.rec_core.specs.Unfinished.{OnlyWorks, IsQuiet, HasFound, Waits}
 use Rattle.rec_core.specs.declared.config.Config.{Config}
 use Rattle.rec_core.proofs.Showing.{Says, mutator_left, mutator_other, stepped_mutator, step_says, works_sight}
@@ -37,7 +37,7 @@ works_both w v u t first second =
     let set_set : Core → Core = λ x. with_mutator x t (mutator u t) in
     record {
       others = second.others ∙ ap set_set first.others ∙ ap (λ ms. let x : Core = record w { mutators = ms } in x) (set-set w.mutators (t - 1) (mutator v t) (mutator u t));
-      own = second.own ∙ ap (λ (p : Private). let q : Private = record p { phase = (mutator u t).phase; steps = (mutator u t).steps } in q) first.own;
+      own = second.own ∙ ap (λ (p : Private). let q : Private = record p { from = (mutator u t).from; phase = (mutator u t).phase; steps = (mutator u t).steps } in q) first.own;
     }
 
 -- a work that went on is quiet
@@ -67,24 +67,25 @@ quiet_both w v u t first second =
     }
 
 -- what a scan has found is said of headers and the freed word alone
-found_same : (w : Core) (t : ℕ) (q : Private) (phase : Phase) → HasFound w phase → HasFound (with_mutator w t q) phase
-found_same w t q (Scanning reg label leaf before slot) is = is
-found_same w t q (Scanned reg label leaf before) is = is
-found_same w t q _ is = tt
+found_same : (w : Core) (t : ℕ) (q : Private) (from : ℕ) (phase : Phase) → HasFound w from phase → HasFound (with_mutator w t q) from phase
+found_same w t q from (Begun work) is = is
+found_same w t q from (Scanning reg label leaf before probed) is = is
+found_same w t q from (Scanned reg label leaf before) is = is
+found_same w t q from _ is = tt
 
-works_found : (w v : Core) (t : ℕ) (phase : Phase) → OnlyWorks w v t → HasFound w phase → HasFound v phase
-works_found w v t phase only is = subst (λ (x : Core). HasFound x phase) (sym only.others) (found_same w t (mutator v t) phase is)
+works_found : (w v : Core) (t from : ℕ) (phase : Phase) → OnlyWorks w v t → HasFound w from phase → HasFound v from phase
+works_found w v t from phase only is = subst (λ (x : Core). HasFound x from phase) (sym only.others) (found_same w t (mutator v t) from phase is)
 
 -- the begin of a work changes nothing but the work
-pub begun_works : (w : Core) (t : ℕ) (work : Work) → IsKept w → IsMutator w.config t → OnlyWorks w (begun w t work) t
+pub begun_works : (w : Core) (t : ℕ) (work : Work) (from : ℕ) → IsKept w → IsMutator w.config t → OnlyWorks w (begun_from w t work from) t
 unfolding begun_of
-begun_works w t work kept is =
-    let here : mutator (begun w t work) t ≡ begun_of (mutator w t) work = mutator_left w t (begun_of (mutator w t) work) kept is in
-    let P : Private → Type 0 = λ x. x ≡ record (mutator w t) { phase = x.phase; steps = x.steps } in
+begun_works w t work from kept is =
+    let here : mutator (begun_from w t work from) t ≡ begun_of (mutator w t) work from = mutator_left w t (begun_of (mutator w t) work from) kept is in
+    let P : Private → Type 0 = λ x. x ≡ record (mutator w t) { from = x.from; phase = x.phase; steps = x.steps } in
     record { others = ap (with_mutator w t) (sym here); own = subst P (sym here) refl }
 
 -- no step was made yet
-pub waits_none : (w : Core) (t : ℕ) → HasFound w (mutator w t).phase → Waits w w t
+pub waits_none : (w : Core) (t : ℕ) → HasFound w (mutator w t).from (mutator w t).phase → Waits w w t
 waits_none w t found = Waits.works (works_none w t) found
 
 -- steps that finished nothing are quiet
@@ -115,7 +116,7 @@ busy_told _ work is = refl
 busy_work : (at : Phase) → is_busy_at at ≡ true → (work : Work) × (work_at at ≡ Some work)
 busy_work Idle busy = absurd (false≢true busy)
 busy_work (Begun work) busy = (work, refl)
-busy_work (Scanning reg label leaf before slot) busy = (works.Command (allocation leaf reg label), refl)
+busy_work (Scanning reg label leaf before probed) busy = (works.Command (allocation leaf reg label), refl)
 busy_work (Scanned reg label leaf before) busy = (works.Command (allocation leaf reg label), refl)
 busy_work (Storing src f val slot) busy = (works.Command (commands.Put src f val), refl)
 busy_work (Finished work made) busy = absurd (false≢true busy)
@@ -154,7 +155,7 @@ allocation_limit slots reg label false = refl
 limit_at : (p : Private) (at : Phase) → IsAt p at → IfSome (work_at at) (λ work. p.steps ≤ limit_of p.slots work)
 limit_at p Idle is = tt
 limit_at p (Begun work) is = let none : p.steps ≡ 0 = is.1 in omega arith
-limit_at p (Scanning reg label leaf before slot) is = let there : slot < p.slots = is.1 in let steps : p.steps ≡ slot + 1 = is.2 in omega (arith, allocation_limit p.slots reg label leaf)
+limit_at p (Scanning reg label leaf before probed) is = let there : probed < p.slots = is.1 in let steps : p.steps ≡ probed + 1 = is.2 in omega (arith, allocation_limit p.slots reg label leaf)
 limit_at p (Scanned reg label leaf before) is = let steps : p.steps ≡ p.slots + 1 = is.1 in omega (arith, allocation_limit p.slots reg label leaf)
 limit_at p (Storing src f val slot) is = let one : p.steps ≡ 1 = is.1 in omega arith
 limit_at p Crossing is = let one : p.steps ≡ 1 = is.0 in omega arith
@@ -212,7 +213,7 @@ waited before w v t kept is busy (Waits.works only found) steps none =
 
     go : Says w t (mutator v t) v → Waits before v t
     go (Says.decided cmd its_told work answer said refused) = told (makes.Answered its_told) answer
-    go (Says.going answer here finds) = Waits.works (works_both before w v t only here) (works_found w v t (mutator v t).phase here (finds found))
+    go (Says.going answer here finds) = Waits.works (works_both before w v t only here) (works_found w v t (mutator v t).from (mutator v t).phase here (finds found))
     go (Says.holding answer phase still epoch) = Waits.holds phase (quiet_both before w v t (works_quiet before w t is.0 only) still) (epoch ∙ ap (λ (p : Private). p.epoch) only.own)
     go (Says.stayed answer work here its_only) = told (makes.Crossed None) answer
     go (Says.crossed answer work phase still epoch log) = told (makes.Crossed (Some ((mutator w t).epoch + 1))) answer

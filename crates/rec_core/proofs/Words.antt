@@ -78,7 +78,7 @@ own_next p = by p.phase
 
     by : (phase : phases.Phase) → IsOwnOp p (next_at p phase)
     by (at.Begun work) = worked work
-    by (at.Scanning reg label leaf before slot) = tt
+    by (at.Scanning reg label leaf before probed) = tt
     by (at.Scanned reg label leaf before) = tt
     by (at.Storing src f val slot) = tt
     by _ = refl

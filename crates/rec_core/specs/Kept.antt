@@ -19,7 +19,7 @@ use Rattle.rec_counts.specs.Lists.{times}
 use Rattle.rec_release.specs.declared.at.At.{At}
 use Rattle.rec_walk.specs.declared.member.Member.{Member}
 use Rattle.rec_mutator.specs.Causes.{is_giving}
-use Rattle.rec_mutator.specs.Private.{Private, IsMachine}
+use Rattle.rec_mutator.specs.Private.{Private, IsMachine, slot_behind}
 use Rattle.rec_mutator.specs.Took.{IsBetween}
 use Rattle.rec_mutator.specs.declared.phase.Phase as phases
 use Rattle.rec_mutator.specs.declared.phase.Phase.TheVariants as at
@@ -44,7 +44,7 @@ IsSettledIn _ = Unit {0}
 -- the label of an allocation that goes on fits a header
 abbrev pub HasLabelAt : phases.Phase → Type 0
 HasLabelAt (at.Begun work) = HasLabel work
-HasLabelAt (at.Scanning reg label leaf before slot) = label < 2 ^ 32
+HasLabelAt (at.Scanning reg label leaf before probed) = label < 2 ^ 32
 HasLabelAt _ = Unit {0}
 
 -- what is known of a mutator of a heap with these numbers
@@ -182,20 +182,21 @@ pub record HasSweeps (freed : ℕ) (collections : ℕ) (phase : Phase) : Type 0 
   pub few : freed ≤ 2 * collections + one_if_sweeping phase
   pub some : IsSomeSwept phase
 
--- What a scan knows: unless a sweep has begun or ended since it began, each slot that it has passed is taken still.
-abbrev pub HasPassed : (headers : List ℕ) → (freed before slot : ℕ) → Type 0
-HasPassed headers freed before slot = (before ≤ freed) × (before ≡ freed → before % 2 ≡ 0 → (s : ℕ) → s < slot → 0 < slice_index_or headers s 0)
+-- What a scan knows that began with slot `from` and has made so many probes: unless a sweep has begun or ended since it began, each slot
+-- that it has probed is taken still.
+abbrev pub HasPassed : (slots : ℕ) → (headers : List ℕ) → (freed from before probed : ℕ) → Type 0
+HasPassed slots headers freed from before probed = (before ≤ freed) × (before ≡ freed → before % 2 ≡ 0 → (count : ℕ) → count < probed → 0 < slice_index_or headers (slot_behind slots from count) 0)
 
 -- what is known of an allocation's scan, by phase; and of a write that goes on, that its object is no leaf
-abbrev pub IsScanning : (slots : ℕ) → (headers : List ℕ) → (freed : ℕ) → phases.Phase → Type 0
-IsScanning slots headers freed (at.Scanning reg label leaf before slot) = HasPassed headers freed before slot
-IsScanning slots headers freed (at.Scanned reg label leaf before) = HasPassed headers freed before slots
-IsScanning slots headers freed (at.Storing src f val slot) = is_leaf (slice_index_or headers slot 0) ≡ false
-IsScanning slots headers freed _ = Unit {0}
+abbrev pub IsScanning : (slots : ℕ) → (headers : List ℕ) → (freed from : ℕ) → phases.Phase → Type 0
+IsScanning slots headers freed from (at.Scanning reg label leaf before probed) = HasPassed slots headers freed from before probed
+IsScanning slots headers freed from (at.Scanned reg label leaf before) = HasPassed slots headers freed from before slots
+IsScanning slots headers freed from (at.Storing src f val slot) = is_leaf (slice_index_or headers slot 0) ≡ false
+IsScanning slots headers freed from _ = Unit {0}
 
 -- what is known of all scans
 abbrev pub HasScans : Config → (headers : List ℕ) → (freed : ℕ) → (mutators : List Private) → Type 0
-HasScans config headers freed mutators = (t : ℕ) → IsMutator config t → IsScanning config.slots headers freed (slice_index_or mutators (t - 1) nobody).phase
+HasScans config headers freed mutators = (t : ℕ) → IsMutator config t → IsScanning config.slots headers freed (slice_index_or mutators (t - 1) nobody).from (slice_index_or mutators (t - 1) nobody).phase
 
 -- the entries that a mutator has made at most since the opening: a full log for each epoch that it left, and those of its log
 abbrev pub entries_made : Config → Private → ℕ

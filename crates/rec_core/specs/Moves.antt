@@ -1,5 +1,5 @@
 -- The moves of mutators and of the collector, and the runs that they make up.
-use Rattle.std.specs.Prelude.{◌≡◌, ℕ, ◌+◌, ◌-◌, ◌==◌, if◌then◌else◌, true, false, Option, None, Some, List, [], ◌∷◌, slice_set}
+use Rattle.std.specs.Prelude.{◌≡◌, ℕ, ◌+◌, ◌-◌, ◌<◌, ◌==◌, if◌then◌else◌, true, false, Option, None, Some, List, [], ◌∷◌, slice_set}
 use Rattle.rec_word.specs.Mailbox.{crossing_word}
 use Rattle.rec_word.specs.declared.mailbox.Mailbox.TheVariants.{Retired}
 use Rattle.rec_word.specs.Op.{written}
@@ -38,9 +38,13 @@ abbrev pub stepped : Core → (t : ℕ) → Core
 stepped w t =
     performed w t (next_of (mutator w t)) (found_by w t) (step_of (mutator w t) (found_by w t) (box w t)) (left_of (took_of (mutator w t) (found_by w t)) (box w t))
 
--- a work of a mutator begins
+-- a work of a mutator begins, whose scan, if it makes one, begins with this slot
+abbrev pub begun_from : Core → (t : ℕ) → Work → (from : ℕ) → Core
+begun_from w t work from = record w { mutators = slice_set w.mutators (t - 1) (begun_of (mutator w t) work from) }
+
+-- a work of a mutator begins, whose scan, if it makes one, begins with slot 0
 abbrev pub begun : Core → (t : ℕ) → Work → Core
-begun w t work = record w { mutators = slice_set w.mutators (t - 1) (begun_of (mutator w t) work) }
+begun w t work = begun_from w t work 0
 
 -- the mutator whose mailbox the collector looks at next, by phase; the first where it looks at none
 abbrev pub looked_at : Phase → ℕ
@@ -80,22 +84,22 @@ offering w = record w { collector = record w.collector { offers = true } }
 
 -- a mutator begins a work, or makes a step, or the collector makes a turn, or all slots are to be offered
 pub data Move : Type 0 where
-  Begins : (t : ℕ) → Work → Move
+  Begins : (t : ℕ) → Work → (from : ℕ) → Move
   Steps : (t : ℕ) → Move
   Turns : Move
   Offers : Move
 
 -- after a move
 abbrev pub after_move : Core → Move → Core
-after_move w (Move.Begins t work) = begun w t work
+after_move w (Move.Begins t work from) = begun_from w t work from
 after_move w (Move.Steps t) = stepped w t
 after_move w Move.Turns = turned w
 after_move w Move.Offers = offering w
 
--- a mutator may begin a work where it has none that isn't finished, and make a step where it has; the collector may always turn, and
--- the slots may always be offered
+-- A mutator may begin a work where it has none that isn't finished, with any slot as its scan's first one, and make a step where it has.
+-- The collector may always turn, and the slots may always be offered.
 abbrev pub Fits : Core → Move → Type 0
-Fits w (Move.Begins t work) = IsMutator w.config t × (is_busy (mutator w t) ≡ false) × IsValid (mutator w t) work × HasLabel work
+Fits w (Move.Begins t work from) = IsMutator w.config t × (is_busy (mutator w t) ≡ false) × IsValid (mutator w t) work × HasLabel work × (from < w.config.slots)
 Fits w (Move.Steps t) = IsMutator w.config t × (is_busy (mutator w t) ≡ true)
 Fits w Move.Turns = Unit {0}
 Fits w Move.Offers = Unit {0}

@@ -32,13 +32,14 @@ ops_over w t (m ∷ ms) = op_of w t m ++ ops_over (after_move w m) t ms
 -- the mutator begins no work over these moves
 abbrev pub BeginsNone : (t : ℕ) → List Move → Type 0
 BeginsNone t [] = Unit {0}
-BeginsNone t (Move.Begins s work ∷ ms) = (s ≢ t) × BeginsNone t ms
+BeginsNone t (Move.Begins s work from ∷ ms) = (s ≢ t) × BeginsNone t ms
 BeginsNone t (Move.Steps s ∷ ms) = BeginsNone t ms
 BeginsNone t (Move.Turns ∷ ms) = BeginsNone t ms
 BeginsNone t (Move.Offers ∷ ms) = BeginsNone t ms
 
 -- Where the steps of an allocation with this header were made over these moves, and one more at their end `v` answers it this: every probe
--- failed. Full comes where the freed word was even and the same before and after the probes, and Busy tells the two where it was not.
+-- failed, once round from the slot with which it was begun. Full comes where the freed word was even and the same before and after the
+-- probes, and Busy tells the two where it was not.
 pub record FailsByProbes (w : Core) (t header : ℕ) (moves : List Move) (v : Core) (answer : Answer) : Type 0 where
-  pub full : answer ≡ answers.Full → (before : ℕ) × FailsScan header w.config.slots before (ops_over w t moves) (words_over w t moves) × IsStill before (found_by v t)
-  pub busy : (before after : ℕ) → answer ≡ answers.Busy before after → FailsScan header w.config.slots before (ops_over w t moves) (words_over w t moves) × (after ≡ found_by v t) × (IsStill before after → ⊥)
+  pub full : answer ≡ answers.Full → (before : ℕ) × FailsScan header w.config.slots (mutator w t).from before (ops_over w t moves) (words_over w t moves) × IsStill before (found_by v t)
+  pub busy : (before after : ℕ) → answer ≡ answers.Busy before after → FailsScan header w.config.slots (mutator w t).from before (ops_over w t moves) (words_over w t moves) × (after ≡ found_by v t) × (IsStill before after → ⊥)

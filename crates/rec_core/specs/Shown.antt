@@ -14,7 +14,7 @@ use Rattle.rec_model.specs.declared.command.Cmd.{Cmd}
 use Rattle.rec_model.specs.declared.command.Cmd.TheVariants as commands
 use Rattle.rec_model.specs.declared.told.Told.{Told}
 use Rattle.rec_mutator.specs.Causes.{HasCause}
-use Rattle.rec_mutator.specs.Private.{work_of}
+use Rattle.rec_mutator.specs.Private.{Private, work_of, probe_of}
 use Rattle.rec_mutator.specs.declared.made.Made.{Made}
 use Rattle.rec_mutator.specs.declared.made.Made.TheVariants as makes
 use Rattle.rec_mutator.specs.declared.phase.Phase.{Phase}
@@ -66,16 +66,16 @@ sight_told w slot t (commands.Put src f val) told = sight_after_put w f (registe
 sight_told w slot t (commands.Value reg) told = w
 sight_told w slot t (commands.Same a b) told = w
 
--- the slot that a scan has come to
-abbrev pub probed_at : Phase → Option ℕ
-probed_at (Scanning reg label leaf before slot) = Some slot
-probed_at _ = None
+-- the slot that a scan has come to, by phase
+abbrev pub probed_at : Private → Phase → Option ℕ
+probed_at p (Scanning reg label leaf before probed) = Some (probe_of p probed)
+probed_at p _ = None
 
 -- a free slot that a mutator's scan has come to
 pub record IsBirthplace (w : Core) (t slot : ℕ) : Type 0 where
   pub there : slot < w.config.slots
   pub free : slice_index_or w.headers slot 0 ≡ 0
-  pub probed : probed_at (mutator w t).phase ≡ Some slot
+  pub probed : probed_at (mutator w t) (mutator w t).phase ≡ Some slot
 
 -- what a command that was told this leaves of what is seen: a birth has the slot to which the scan has come
 pub record Leaves (w : Core) (t : ℕ) (cmd : Cmd) (told : Told) (after : Sight) (slot : ℕ) : Type 0 where

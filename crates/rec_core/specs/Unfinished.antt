@@ -2,14 +2,14 @@
 use Rattle.std.specs.Prelude.{◌≡◌, ◌≢◌, ℕ, ◌<◌, ◌≤◌}
 use Rattle.rec_model.specs.Sight.{IsTaken}
 use Rattle.rec_mutator.specs.declared.phase.Phase.{Phase}
-use Rattle.rec_mutator.specs.declared.phase.Phase.TheVariants.{Scanning, Scanned, Giving}
+use Rattle.rec_mutator.specs.declared.phase.Phase.TheVariants.{Begun, Scanning, Scanned, Giving}
 use Rattle.rec_core.specs.Core.{Core, sight, mutator, with_mutator}
 use Rattle.rec_core.specs.Shown.{IsFilled}
 
--- the mutator's work went on, and changed no register and no log: all else stays
+-- the mutator's work went on, and changed no register and no log: all else stays, but for the slot with which its scan begins
 pub record OnlyWorks (before after : Core) (t : ℕ) : Type 0 where
   pub others : after ≡ with_mutator before t (mutator after t)
-  pub own : mutator after t ≡ record (mutator before t) { phase = (mutator after t).phase; steps = (mutator after t).steps }
+  pub own : mutator after t ≡ record (mutator before t) { from = (mutator after t).from; phase = (mutator after t).phase; steps = (mutator after t).steps }
 
 -- A work of the mutator changed nothing that is seen, no other mutator, and nothing of the collector. Crossing words and mailboxes
 -- may be others.
@@ -22,13 +22,14 @@ pub record IsQuiet (before after : Core) (t : ℕ) : Type 0 where
   pub made : after.made ≡ before.made
   pub config : after.config ≡ before.config
 
--- what a scan has found since it began, where nothing else moved: each slot that it has passed holds an object
-abbrev pub HasFound : Core → Phase → Type 0
-HasFound w (Scanning reg label leaf before slot) = (before ≡ w.freed) × ((s : ℕ) → s < slot → IsTaken (sight w) s)
-HasFound w (Scanned reg label leaf before) = (before ≡ w.freed) × IsFilled w
-HasFound w _ = Unit {0}
+-- what a scan that began with slot 0 has found since then, where nothing else moved: each slot that it has probed holds an object
+abbrev pub HasFound : Core → (from : ℕ) → Phase → Type 0
+HasFound w from (Begun work) = from ≡ 0
+HasFound w from (Scanning reg label leaf before probed) = (from ≡ 0) × (before ≡ w.freed) × ((s : ℕ) → s < probed → IsTaken (sight w) s)
+HasFound w from (Scanned reg label leaf before) = (before ≡ w.freed) × IsFilled w
+HasFound w from _ = Unit {0}
 
 -- Steps of a mutator that finished nothing: only its work went on, or it holds its mailbox.
 pub data Waits (before w : Core) (t : ℕ) : Type 0 where
-  works : OnlyWorks before w t → HasFound w (mutator w t).phase → Waits before w t
+  works : OnlyWorks before w t → HasFound w (mutator w t).from (mutator w t).phase → Waits before w t
   holds : (mutator w t).phase ≡ Giving → IsQuiet before w t → (mutator w t).epoch ≡ (mutator before t).epoch → Waits before w t

@@ -18,7 +18,7 @@ pub data StepsTo (before : Core) (t : ℕ) : Core → Type 0 where
   here : (w : Core) → w ≡ before → StepsTo before t w
   further : (w v : Core) → StepsTo before t w → is_busy (mutator w t) ≡ true → v ≡ stepped w t → StepsTo before t v
 
--- The work was begun, and its steps were made until it was finished. There is just one such state.
+-- The work was begun, with slot 0 as its scan's first one, and its steps were made until it was finished. There is just one such state.
 pub record IsWorked (before : Core) (t : ℕ) (work : Work) (after : Core) : Type 0 where
   -- the state before the last step
   pub last : Core

@@ -76,8 +76,8 @@ pub fn true_counts_are_the_formula()
 {}
 
 /// Where an allocation is answered Full or Busy, over whatever moves of whatever run its steps were made, its first step found the
-/// freed word that is told; then each header was claimed, from the first to the last, and each was found taken. Full comes where
-/// that word was even and its last step found the same, and Busy tells both where that is not so.
+/// freed word that is told. Then each header was claimed, once round from the slot with which the allocation was begun, and each was
+/// found taken. Full comes where that word was even and its last step found the same, and Busy tells both where that is not so.
 pub fn failed_allocations_probed_every_slot()
     ensures { (w : Core) (moves : List Move) (t reg label : ℕ) (leaf : Bool) (told : Told) → IsConfig w.config → EndsRun w → IsMutator w.config t → (mutator w t).phase ≡ Begun (works.Command (allocation leaf reg label)) → AllFit w moves → BeginsNone t moves → is_busy (mutator (after_moves w moves) t) ≡ true → answer_of (mutator (stepped (after_moves w moves) t) t) ≡ Some (makes.Answered told) → FailsByProbes w t (header_word leaf label) moves (after_moves w moves) told.answer }
 {}

@@ -1,6 +1,5 @@
 pub mod Changing
 pub mod Decrementing
-pub mod Empty
 pub mod Front
 pub mod Keeping
 pub mod Leaving

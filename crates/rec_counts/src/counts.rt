@@ -15,7 +15,7 @@ use std::marker::Model;
 
 /// What the collector keeps of all slots. A contract sees one record: the slots, and each list as a list of slots. Slots
 /// are numbered from 0, and so are sets.
-#[derive(Debug, Drop)]
+#[derive(Drop)]
 pub struct Counts {
     slots: Vec<Slot>,
     roots: Queue,

@@ -9,7 +9,7 @@ use std::marker::Model;
 
 /// The sets in the order in which they were begun. Their members stand in one list, set after set, in the order of
 /// joining; each set is known by the place of its first member.
-#[derive(Debug, Drop)]
+#[derive(Drop)]
 pub(crate) struct CycleBuffer {
     members: Row,
     starts: Row,

@@ -16,8 +16,6 @@ mod cycle_buffer;
 mod queue;
 mod row;
 mod slot;
-#[cfg(test)]
-mod tests;
 mod unbuffer;
 
 pub use colour::Colour;

@@ -7,7 +7,7 @@ use std::marker::Model;
 /// A list of slots with a fixed room, which grows at its end and is worked off from its front. Where it meets the end
 /// of its memory, it moves to the front of it. With a room of at least twice the greatest length that comes once in
 /// so many pops at most, so a push takes constant time when spread over the pops before it.
-#[derive(Debug, Drop)]
+#[derive(Drop)]
 pub(crate) struct Queue {
     items: Vec<u16>,
     head: usize,

@@ -5,7 +5,7 @@ use std::alloc::{AllocError as NoMemory, Global};
 use std::marker::Model;
 
 /// A list of numbers below 65,536 with a fixed room, which grows and shrinks at its end.
-#[derive(Debug, Drop)]
+#[derive(Drop)]
 pub(crate) struct Row {
     items: Vec<u16>,
     len: usize,

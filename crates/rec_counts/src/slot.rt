@@ -5,7 +5,7 @@ ghost use Rattle.rec_counts.specs.Slot.{raised, lessened, due_of, lowered, swept
 use crate::colour::Colour;
 
 /// What is kept of one slot.
-#[derive(Clone, Copy, Debug, Drop)]
+#[derive(Clone, Copy, Drop)]
 pub struct Slot {
     /// How many references to the slot were counted.
     pub count: u64,
@@ -22,7 +22,7 @@ pub struct Slot {
 }
 
 /// Where a slot goes whose count fell.
-#[derive(Clone, Copy, Debug, Drop)]
+#[derive(Clone, Copy, Drop)]
 pub enum Due {
     /// It stays where it is.
     Nothing,

@@ -4,7 +4,7 @@ use std::alloc::{AllocError as NoMemory, Global};
 use std::marker::Model;
 
 /// The registers of a mutator, numbered from 0. Their number never changes.
-#[derive(Debug, Drop)]
+#[derive(Drop)]
 pub struct Frame {
     registers: Vec<Option<u16>>,
 }
@@ -67,24 +67,5 @@ impl Frame {
         ensures { self.new ≡ slice_set self.old dst (slice_index_or self.old src None) }
     {
         self.registers[usize::from(dst)] = self.registers[usize::from(src)];
-    }
-}
-
-#[cfg(test)]
-mod tests {
-    use super::*;
-    use std::test::Fail;
-
-    #[test]
-    fn keeps_its_registers(rt: HostRuntime) -> Result<(), Fail> {
-        let mut frame = Frame::open(rt.alloc(), 3)?;
-        assert_eq!(rt; frame.read(2), None);
-        frame.set(1, 65_534);
-        frame.copy(0, 1);
-        frame.clear(1);
-        assert_eq!(rt; frame.read(0), Some(65_534));
-        assert_eq!(rt; frame.read(1), None);
-        assert_eq!(rt; frame.registers(), [Some(65_534), None, None].as_slice());
-        Ok(())
     }
 }

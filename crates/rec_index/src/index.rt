@@ -6,7 +6,7 @@ use std::alloc::{AllocError as NoMemory, Global};
 use std::marker::Model;
 
 /// A set of slots, of which the lowest is found at once. Its memory, 8 kilobytes, is taken when it is opened.
-#[derive(Debug, Drop)]
+#[derive(Drop)]
 pub struct Index {
     slots: Level,
     // The words of `slots` that aren't 0, and in `groups` the words of `words` that aren't.
@@ -76,29 +76,5 @@ impl Index {
         let word = self.words.lowest(group)?;
         let slot = self.slots.lowest(word)?;
         Some(slot as u16)
-    }
-}
-
-#[cfg(test)]
-mod tests {
-    use super::*;
-    use std::test::Fail;
-
-    #[test]
-    fn finds_the_lowest_member(rt: HostRuntime) -> Result<(), Fail> {
-        let mut index = Index::open(rt.alloc())?;
-        assert_eq!(rt; index.lowest(), None);
-        index.insert(65_535);
-        assert_eq!(rt; index.lowest(), Some(65_535));
-        index.insert(4_160);
-        index.insert(4_159);
-        assert_eq!(rt; index.lowest(), Some(4_159));
-        index.remove(4_159);
-        assert_eq!(rt; index.lowest(), Some(4_160));
-        index.clear();
-        assert_eq!(rt; index.lowest(), None);
-        index.insert(65_535);
-        assert_eq!(rt; index.lowest(), Some(65_535));
-        Ok(())
     }
 }

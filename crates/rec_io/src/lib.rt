@@ -34,6 +34,3 @@ pub use source::{Given, Source};
 pub use std_sink::StdSink;
 pub use std_source::StdSource;
 pub use steady_source::SteadySource;
-
-#[cfg(test)]
-mod tests;

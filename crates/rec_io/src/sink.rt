@@ -1,5 +1,5 @@
 //! Where bytes go.
-ghost use Rattle.std.specs.Prelude.{ℕ, ◌<◌, ◌≤◌, List, Option, length, take};
+ghost use Rattle.std.specs.Prelude.{◌≡◌, ◌≢◌, ℕ, ◌<◌, ◌≤◌, List, Option, length, take};
 ghost use Rattle.rec_io.specs.Faults.{Rose, last_count};
 ghost use Rattle.rec_io.specs.Sink.{IfTaken, OnWriteFailed, Appends};
 ghost use Rattle.rec_io.specs.Told.{KeepsTold, StaysTold};
@@ -33,6 +33,9 @@ pub trait Sink {
         // A failed write takes nothing, and is counted.
         ensures kept { OnWriteFailed result (KeepsTold (written self.old) (written self.new)) }
         ensures rose { OnWriteFailed result (Rose (faults self.old) (faults self.new)) }
+
+        // No other write is counted.
+        ensures uncounted { result ≢ Taken.Failed → faults self.new ≡ faults self.old }
 
         // On every answer.
         ensures never_falls { faults self.old ≤ faults self.new }

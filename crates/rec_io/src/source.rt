@@ -1,5 +1,5 @@
 //! Where bytes come from.
-ghost use Rattle.std.specs.Prelude.{ℕ, ◌<◌, ◌≤◌, List, Option, length};
+ghost use Rattle.std.specs.Prelude.{◌≡◌, ◌≢◌, ℕ, ◌<◌, ◌≤◌, List, Option, length};
 ghost use Rattle.rec_io.specs.Faults.{Rose, last_count};
 ghost use Rattle.rec_io.specs.Source.{IfGiven, OnEnd, OnReadFailed, GivesFront, IsSpent};
 ghost use Rattle.rec_io.specs.Told.{KeepsTold, StaysTold};
@@ -40,6 +40,9 @@ pub trait Source {
         // A failed read takes nothing, and is counted.
         ensures kept { OnReadFailed result (KeepsTold (rest self.old) (rest self.new)) }
         ensures rose { OnReadFailed result (Rose (faults self.old) (faults self.new)) }
+
+        // No other read is counted.
+        ensures uncounted { result ≢ Given.Failed → faults self.new ≡ faults self.old }
 
         // On every answer.
         ensures never_falls { faults self.old ≤ faults self.new }

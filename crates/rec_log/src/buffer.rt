@@ -6,7 +6,7 @@ use std::alloc::{AllocError as NoMemory, Global};
 use std::marker::Model;
 
 /// The log of a mutator. Its memory is taken when it is opened.
-#[derive(Debug, Drop)]
+#[derive(Drop)]
 pub struct Buffer {
     entries: Vec<Entry>,
     snapshot: Vec<Option<u16>>,
@@ -87,54 +87,5 @@ impl Buffer {
         ensures { result.now ≡ self.now.snapshot }
     {
         self.snapshot.as_slice()
-    }
-}
-
-#[cfg(test)]
-mod tests {
-    use super::*;
-    use std::test::Fail;
-
-    #[test]
-    fn keeps_its_entries(rt: HostRuntime) -> Result<(), Fail> {
-        let put = Entry::Put {
-            place: 7,
-            new: 2,
-            old: 1,
-        };
-        let born = Entry::Born {
-            slot: 3,
-            leaf: false,
-        };
-        let mut buffer = Buffer::open(rt.alloc(), 2, 1)?;
-        assert!(rt; !buffer.is_full());
-        assert_eq!(rt; buffer.push(put), Ok(()));
-        assert_eq!(rt; buffer.push(born), Ok(()));
-        assert!(rt; buffer.is_full());
-        assert_eq!(rt; buffer.push(put), Err(Full));
-        assert_eq!(rt; buffer.entries(), [put, born].as_slice());
-        assert_eq!(rt; buffer.snapshot(), [None].as_slice());
-        Ok(())
-    }
-
-    #[test]
-    fn is_retired_and_cleared(rt: HostRuntime) -> Result<(), Fail> {
-        let born = Entry::Born {
-            slot: 3,
-            leaf: false,
-        };
-        let mut frame = Frame::open(rt.alloc(), 2)?;
-        frame.set(1, 3);
-        let mut buffer = Buffer::open(rt.alloc(), 1, 2)?;
-        assert_eq!(rt; buffer.push(born), Ok(()));
-        buffer.retire(&frame);
-        assert_eq!(rt; buffer.entries(), [born].as_slice());
-        assert_eq!(rt; buffer.snapshot(), [None, Some(3)].as_slice());
-        buffer.clear();
-        assert!(rt; buffer.entries().is_empty());
-        assert_eq!(rt; buffer.snapshot(), [None, None].as_slice());
-        assert_eq!(rt; buffer.push(born), Ok(()));
-        assert!(rt; buffer.is_full());
-        Ok(())
     }
 }

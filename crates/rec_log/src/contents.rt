@@ -3,7 +3,7 @@ use std::collections::LinkedList;
 
 /// What a buffer is to its callers. No value of this type is made: clauses speak of it, and so do the views of heaps that
 /// hold buffers.
-#[derive(Debug, Drop)]
+#[derive(Drop)]
 pub struct Contents {
     /// The entries, in the order in which they were pushed.
     pub entries: LinkedList<Entry>,

@@ -1,8 +1,10 @@
+pub mod Around
 pub mod Found
 pub mod LogStamps
 pub mod Machines
 pub mod Polls
 pub mod Refusals
+pub mod Rounds
 pub mod Scans
 pub mod Sizes
 pub mod Skips

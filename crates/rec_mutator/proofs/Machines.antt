@@ -13,11 +13,12 @@ use Rattle.rec_model.specs.declared.told.Told.{Told}
 use Rattle.rec_model.specs.Asking.{allocation}
 use Rattle.rec_log.specs.declared.contents.Contents.{Contents}
 use Rattle.rec_log.specs.declared.entry.Entry.{Entry}
-use Rattle.rec_mutator.specs.Private.{Private, register, HasOperands, limit_of, HasNext, IsAt, IsMachine}
+use Rattle.rec_mutator.specs.Private.{Private, register, HasOperands, limit_of, probe_of, HasNext, IsAt, IsMachine}
 use Rattle.rec_mutator.specs.Step.{Step, Decides, GoesOn, Crosses, HasRoom}
 use Rattle.rec_mutator.specs.Took.{IsFound}
 use Rattle.rec_mutator.specs.declared.phase.Phase.{Phase}
 use Rattle.rec_mutator.specs.declared.work.Work.TheVariants as works
+use Rattle.rec_mutator.proofs.Around.{behind_below}
 use Rattle.rec_mutator.proofs.Refusals.{at_phase}
 
 -- where a field word leads may be a slot
@@ -44,6 +45,7 @@ decided_machine {p = p} m targets few many steps d =
       entries = few;
       registers = targets;
       snapshot = m.snapshot ∙ sym many;
+      from = m.from;
       now = steps;
     })
 
@@ -60,6 +62,7 @@ going_on_machine m now g =
       entries = m.entries;
       registers = m.registers;
       snapshot = m.snapshot;
+      from = m.from;
       now = now;
     })
 
@@ -125,6 +128,7 @@ crossing_machine {p = p} {log = log} m box small now c =
       entries = box.entries;
       registers = m.registers;
       snapshot = box.snapshot;
+      from = m.from;
       now = now;
     })
 
@@ -160,19 +164,19 @@ step_machine {p = p} m sized found (Step.new_begins reg label leaf room g) =
     let begun = at_phase p _ m g.phase in
     let none : p.steps ≡ 0 = begun.1 in
     going_on_machine m (record { register = allocation_register p reg label leaf begun.0; room = has_room p m room }, m.first_slot, omega arith) g
-step_machine {p = p} m sized found (Step.new_wins reg label leaf before slot free d) =
+step_machine {p = p} m sized found (Step.new_wins reg label leaf before probed free d) =
     let scan = at_phase p _ m d.phase in
-    let there : slot < p.slots = scan.1 in
-    let steps : p.steps ≡ slot + 1 = scan.2 in
-    decided_machine m (All-set IsTarget p.registers reg (Some slot) (slot_target p slot m there) m.registers) (one_more p _ scan.0.room) (length-set p.registers reg _) (within_scan p reg label leaf (omega arith)) d
-step_machine {p = p} m sized found (Step.new_goes_on reg label leaf before slot taken more g) =
+    let there : probed < p.slots = scan.1 in
+    let steps : p.steps ≡ probed + 1 = scan.2 in
+    decided_machine m (All-set IsTarget p.registers reg (Some (probe_of p probed)) (slot_target p (probe_of p probed) m (behind_below p.slots p.from probed m.first_slot)) m.registers) (one_more p _ scan.0.room) (length-set p.registers reg _) (within_scan p reg label leaf (omega arith)) d
+step_machine {p = p} m sized found (Step.new_goes_on reg label leaf before probed taken more g) =
     let scan = at_phase p _ m g.phase in
-    let there : slot < p.slots = scan.1 in
-    let steps : p.steps ≡ slot + 1 = scan.2 in
+    let there : probed < p.slots = scan.1 in
+    let steps : p.steps ≡ probed + 1 = scan.2 in
     going_on_machine m (record { register = scan.0.register; room = scan.0.room }, omega arith, omega arith) g
-step_machine {p = p} m sized found (Step.new_finds_none reg label leaf before slot taken last g) =
+step_machine {p = p} m sized found (Step.new_finds_none reg label leaf before probed taken last g) =
     let scan = at_phase p _ m g.phase in
-    let steps : p.steps ≡ slot + 1 = scan.2 in
+    let steps : p.steps ≡ probed + 1 = scan.2 in
     going_on_machine m (record { register = scan.0.register; room = scan.0.room }, omega arith) g
 step_machine {p = p} m sized found (Step.new_is_full reg label leaf before still d) =
     let scan = at_phase p _ m d.phase in

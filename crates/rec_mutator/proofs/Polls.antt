@@ -73,9 +73,9 @@ poll_cause {word = word} (Step.value_of_null reg names d) = decided word refl re
 poll_cause {word = word} (Step.value reg slot names d) = decided word refl refl d
 poll_cause {word = word} (Step.new_refused reg label leaf full d) = decided word refl refl d
 poll_cause {word = word} (Step.new_begins reg label leaf room g) = going_on word refl refl refl g
-poll_cause {word = word} (Step.new_wins reg label leaf before slot free d) = decided word refl refl d
-poll_cause {word = word} (Step.new_goes_on reg label leaf before slot taken more g) = going_on word refl refl refl g
-poll_cause {word = word} (Step.new_finds_none reg label leaf before slot taken last g) = going_on word refl refl refl g
+poll_cause {word = word} (Step.new_wins reg label leaf before probed free d) = decided word refl refl d
+poll_cause {word = word} (Step.new_goes_on reg label leaf before probed taken more g) = going_on word refl refl refl g
+poll_cause {word = word} (Step.new_finds_none reg label leaf before probed taken last g) = going_on word refl refl refl g
 poll_cause {word = word} (Step.new_is_full reg label leaf before still d) = decided word refl refl d
 poll_cause {word = word} (Step.new_is_busy reg label leaf before moves d) = decided word refl refl d
 poll_cause {p = p} {word = word} {q = q} (Step.poll_stays own g) =

@@ -235,11 +235,11 @@ step_cause {p = p} {word = word} {q = q} cmd told kept work answer (Step.value r
 step_cause {p = p} {word = word} {q = q} cmd told kept work answer (Step.new_refused reg label leaf full d) =
     decided word cmd told refl work answer d (full_log_cause p q (allocation leaf reg label) word (stays d) full (allocation_entry p reg label leaf) (allocation_lacks p reg label leaf) (not_scanned p _ d.phase (λ _ e. e)) (allocation_finds p word reg label leaf))
 step_cause cmd told kept work answer (Step.new_begins reg label leaf room g) = absurd (goes_on told refl answer g)
-step_cause {p = p} {word = word} {q = q} cmd told kept work answer (Step.new_wins reg label leaf before slot free d) =
+step_cause {p = p} {word = word} {q = q} cmd told kept work answer (Step.new_wins reg label leaf before probed free d) =
     decided word cmd told refl work answer d
     (plain_cause p q (allocation leaf reg label) word answers.Done refl (allocation_lacks p reg label leaf) (λ e. has_room p reg (at_phase p _ kept d.phase).0 e.0) (not_scanned p _ d.phase (λ _ e. e)) (allocation_finds p word reg label leaf))
-step_cause cmd told kept work answer (Step.new_goes_on reg label leaf before slot taken more g) = absurd (goes_on told refl answer g)
-step_cause cmd told kept work answer (Step.new_finds_none reg label leaf before slot taken last g) = absurd (goes_on told refl answer g)
+step_cause cmd told kept work answer (Step.new_goes_on reg label leaf before probed taken more g) = absurd (goes_on told refl answer g)
+step_cause cmd told kept work answer (Step.new_finds_none reg label leaf before probed taken last g) = absurd (goes_on told refl answer g)
 step_cause {p = p} {word = word} {q = q} cmd told kept work answer (Step.new_is_full reg label leaf before still d) =
     decided word cmd told refl work answer d (full_cause p q reg label leaf before word (stays d) (has_room p reg (at_phase p _ kept d.phase).0) d.phase still)
 step_cause {p = p} {word = word} {q = q} cmd told kept work answer (Step.new_is_busy reg label leaf before moves d) =

@@ -34,7 +34,7 @@ phases = search (works, mades, sendable) depth 30
 
 -- each of its fields may
 each : AllSend (fields machine.TheInside.the_type)
-each = (search sendable, (search sendable, (search sendable, (search sendable, (frames, (buffers, (phases, (search sendable, tt))))))))
+each = (search sendable, (search sendable, (search sendable, (search sendable, (frames, (buffers, (search sendable, (phases, (search sendable, tt)))))))))
 
 pub machine_send : IsSend machine.the_row
 machine_send = view_send _ _ _ _ _ (recorded_send _ _ _ (machine.TheInside.the_type).to_one (struct_send (shape machine.TheInside.the_type) each))
@@ -62,7 +62,7 @@ phases_shared = search (works_shared, mades_shared, sendable) depth 30
 
 -- each of its fields may be shared
 each_shared : AllSync (fields machine.TheInside.the_type)
-each_shared = (search sendable, (search sendable, (search sendable, (search sendable, (frames_shared, (buffers_shared, (phases_shared, (search sendable, tt))))))))
+each_shared = (search sendable, (search sendable, (search sendable, (search sendable, (frames_shared, (buffers_shared, (search sendable, (phases_shared, (search sendable, tt)))))))))
 
 pub machine_sync : IsSync machine.the_row
 machine_sync = view_sync _ _ _ _ _ (recorded_sync _ _ _ (machine.TheInside.the_type).to_one (struct_sync (shape machine.TheInside.the_type) each_shared))

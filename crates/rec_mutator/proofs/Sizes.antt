@@ -56,9 +56,9 @@ step_keeps sized (Step.value_of_null reg names d) = decided_keeps refl refl d
 step_keeps sized (Step.value reg slot names d) = decided_keeps refl refl d
 step_keeps sized (Step.new_refused reg label leaf full d) = decided_keeps refl refl d
 step_keeps sized (Step.new_begins reg label leaf room g) = going_on_keeps refl g
-step_keeps {p = p} sized (Step.new_wins reg label leaf before slot free d) = decided_keeps (length-set p.registers reg _) refl d
-step_keeps sized (Step.new_goes_on reg label leaf before slot taken more g) = going_on_keeps refl g
-step_keeps sized (Step.new_finds_none reg label leaf before slot taken last g) = going_on_keeps refl g
+step_keeps {p = p} sized (Step.new_wins reg label leaf before probed free d) = decided_keeps (length-set p.registers reg _) refl d
+step_keeps sized (Step.new_goes_on reg label leaf before probed taken more g) = going_on_keeps refl g
+step_keeps sized (Step.new_finds_none reg label leaf before probed taken last g) = going_on_keeps refl g
 step_keeps sized (Step.new_is_full reg label leaf before still d) = decided_keeps refl refl d
 step_keeps sized (Step.new_is_busy reg label leaf before moves d) = decided_keeps refl refl d
 step_keeps sized (Step.poll_stays own g) = going_on_keeps refl g
@@ -94,9 +94,9 @@ step_counts (Step.value_of_null reg names d) = ap (λ (x : Private). x.steps) d.
 step_counts (Step.value reg slot names d) = ap (λ (x : Private). x.steps) d.after
 step_counts (Step.new_refused reg label leaf full d) = ap (λ (x : Private). x.steps) d.after
 step_counts (Step.new_begins reg label leaf room g) = ap (λ (x : Private). x.steps) g.after
-step_counts (Step.new_wins reg label leaf before slot free d) = ap (λ (x : Private). x.steps) d.after
-step_counts (Step.new_goes_on reg label leaf before slot taken more g) = ap (λ (x : Private). x.steps) g.after
-step_counts (Step.new_finds_none reg label leaf before slot taken last g) = ap (λ (x : Private). x.steps) g.after
+step_counts (Step.new_wins reg label leaf before probed free d) = ap (λ (x : Private). x.steps) d.after
+step_counts (Step.new_goes_on reg label leaf before probed taken more g) = ap (λ (x : Private). x.steps) g.after
+step_counts (Step.new_finds_none reg label leaf before probed taken last g) = ap (λ (x : Private). x.steps) g.after
 step_counts (Step.new_is_full reg label leaf before still d) = ap (λ (x : Private). x.steps) d.after
 step_counts (Step.new_is_busy reg label leaf before moves d) = ap (λ (x : Private). x.steps) d.after
 step_counts (Step.poll_stays own g) = ap (λ (x : Private). x.steps) g.after

@@ -66,22 +66,22 @@ value_step p word reg box None names is = Step.value_of_null reg names (record {
 value_step p word reg box (Some slot) names is = Step.value reg slot names (record { phase = is; operation = refl; after = refl })
 
 -- a probe
-probe_step : (p : Private) (word reg label : ℕ) (leaf : Bool) (before slot : ℕ) (box : Contents) → p.phase ≡ Scanning reg label leaf before slot → Step p word box (next_at p (Scanning reg label leaf before slot)) (took_at p word (Scanning reg label leaf before slot))
+probe_step : (p : Private) (word reg label : ℕ) (leaf : Bool) (before probed : ℕ) (box : Contents) → p.phase ≡ Scanning reg label leaf before probed → Step p word box (next_at p (Scanning reg label leaf before probed)) (took_at p word (Scanning reg label leaf before probed))
 unfolding next_at took_at
-probe_step p word reg label leaf before slot box is = elim (cases_eq word 0) [
-  | inl free ↦ Step.new_wins reg label leaf before slot free (record { phase = is; operation = refl; after = cond-true (word == 0) _ _ (eq-eqb word 0 free) })
-  | inr taken ↦ elim (cases_eq (slot + 1) p.slots) [
+probe_step p word reg label leaf before probed box is = elim (cases_eq word 0) [
+  | inl free ↦ Step.new_wins reg label leaf before probed free (record { phase = is; operation = refl; after = cond-true (word == 0) _ _ (eq-eqb word 0 free) })
+  | inr taken ↦ elim (cases_eq (probed + 1) p.slots) [
     | inl last ↦
-        Step.new_finds_none reg label leaf before slot taken last (record {
+        Step.new_finds_none reg label leaf before probed taken last (record {
           phase = is;
           operation = refl;
-          after = cond-false (word == 0) _ _ (ne_eqb word 0 taken) ∙ ap (moved p) (cond-true (slot + 1 == p.slots) (Scanned reg label leaf before) (Scanning reg label leaf before (slot + 1)) (eq-eqb (slot + 1) p.slots last));
+          after = cond-false (word == 0) _ _ (ne_eqb word 0 taken) ∙ ap (moved p) (cond-true (probed + 1 == p.slots) (Scanned reg label leaf before) (Scanning reg label leaf before (probed + 1)) (eq-eqb (probed + 1) p.slots last));
         })
     | inr more ↦
-        Step.new_goes_on reg label leaf before slot taken more (record {
+        Step.new_goes_on reg label leaf before probed taken more (record {
           phase = is;
           operation = refl;
-          after = cond-false (word == 0) _ _ (ne_eqb word 0 taken) ∙ ap (moved p) (cond-false (slot + 1 == p.slots) (Scanned reg label leaf before) (Scanning reg label leaf before (slot + 1)) (ne_eqb (slot + 1) p.slots more));
+          after = cond-false (word == 0) _ _ (ne_eqb word 0 taken) ∙ ap (moved p) (cond-false (probed + 1 == p.slots) (Scanned reg label leaf before) (Scanning reg label leaf before (probed + 1)) (ne_eqb (probed + 1) p.slots more));
         })
   ]
 ]
@@ -141,7 +141,7 @@ learnt_at : (p : Private) (word : ℕ) (box : Contents) (phase : Phase) → p.ph
 unfolding next_at took_at
 learnt_at p word box Idle is busy none = absurd (false≢true busy)
 learnt_at p word box (Begun work) is busy none = begun_step p word box work is
-learnt_at p word box (Scanning reg label leaf before slot) is busy none = probe_step p word reg label leaf before slot box is
+learnt_at p word box (Scanning reg label leaf before probed) is busy none = probe_step p word reg label leaf before probed box is
 learnt_at p word box (Scanned reg label leaf before) is busy none = last_step p word reg label leaf before box is
 learnt_at p word box (Storing src f val slot) is busy none = Step.put src f val slot (record { phase = is; operation = refl; after = refl })
 learnt_at p word box Crossing is busy none = absurd none
@@ -184,9 +184,9 @@ step_between (Step.value_of_null reg names d) = decided_between d
 step_between (Step.value reg slot names d) = decided_between d
 step_between (Step.new_refused reg label leaf full d) = decided_between d
 step_between (Step.new_begins reg label leaf room g) = going_between tt g
-step_between (Step.new_wins reg label leaf before slot free d) = decided_between d
-step_between (Step.new_goes_on reg label leaf before slot taken more g) = going_between tt g
-step_between (Step.new_finds_none reg label leaf before slot taken last g) = going_between tt g
+step_between (Step.new_wins reg label leaf before probed free d) = decided_between d
+step_between (Step.new_goes_on reg label leaf before probed taken more g) = going_between tt g
+step_between (Step.new_finds_none reg label leaf before probed taken last g) = going_between tt g
 step_between (Step.new_is_full reg label leaf before still d) = decided_between d
 step_between (Step.new_is_busy reg label leaf before moves d) = decided_between d
 step_between (Step.poll_stays own g) = going_between tt g
@@ -242,7 +242,7 @@ left_same q box phase is between = ap (left_at q box) is ∙ go phase between
     go : (f : Phase) → IsBetween f → left_at q box f ≡ box
     go Idle b = refl
     go (Begun work) b = refl
-    go (Scanning reg label leaf before slot) b = refl
+    go (Scanning reg label leaf before probed) b = refl
     go (Scanned reg label leaf before) b = refl
     go (Storing src f val slot) b = refl
     go Crossing b = refl
@@ -261,7 +261,7 @@ leaves_box p word box phase is busy between = go phase is between
     go : (f : Phase) → p.phase ≡ f → IsBetween f → LeavesBox p box (left_of (took_of p word) box)
     go Idle e b = LeavesBox.keeps (λ n. let no : Idle ≡ Crossing = sym e ∙ n in cc) (kept (subst TakesNone (sym e) tt))
     go (Begun work) e b = LeavesBox.keeps (λ n. let no : Begun work ≡ Crossing = sym e ∙ n in cc) (kept (subst TakesNone (sym e) tt))
-    go (Scanning reg label leaf before slot) e b = LeavesBox.keeps (λ n. let no : Scanning reg label leaf before slot ≡ Crossing = sym e ∙ n in cc) (kept (subst TakesNone (sym e) tt))
+    go (Scanning reg label leaf before probed) e b = LeavesBox.keeps (λ n. let no : Scanning reg label leaf before probed ≡ Crossing = sym e ∙ n in cc) (kept (subst TakesNone (sym e) tt))
     go (Scanned reg label leaf before) e b = LeavesBox.keeps (λ n. let no : Scanned reg label leaf before ≡ Crossing = sym e ∙ n in cc) (kept (subst TakesNone (sym e) tt))
     go (Storing src f val slot) e b = LeavesBox.keeps (λ n. let no : Storing src f val slot ≡ Crossing = sym e ∙ n in cc) (kept (subst TakesNone (sym e) tt))
     go Crossing e b = LeavesBox.retires e (ap (λ f. left_of (took_at p word f) box) e)

@@ -7,9 +7,10 @@ use Rattle.rec_mutator.specs.Private.{Private, register, is_full, HasOperands, I
 use Rattle.rec_mutator.specs.Next.{next_of, next_at, begun_op, first_op, read_op, write_op, label_op, new_op}
 use Rattle.rec_mutator.specs.Step.{NamesWord, NamesSlots}
 use Rattle.rec_mutator.specs.declared.phase.Phase.{Phase}
-use Rattle.rec_mutator.specs.declared.phase.Phase.TheVariants.{Idle, Begun, Scanned, Storing, Finished}
+use Rattle.rec_mutator.specs.declared.phase.Phase.TheVariants.{Idle, Begun, Scanning, Scanned, Storing, Finished}
 use Rattle.rec_mutator.specs.declared.work.Work.{Work}
 use Rattle.rec_mutator.specs.declared.work.Work.TheVariants as works
+use Rattle.rec_mutator.proofs.Around.{behind_below}
 
 -- what is null or a slot of the heap
 abbrev IsSlot : Private → Option ℕ → Type 0
@@ -47,16 +48,17 @@ begun_names p (works.Command cmd) valid there = first_names p cmd valid there
 begun_names p works.Poll valid there = tt
 
 -- a step, by phase
-names_at : (p : Private) (phase : Phase) → IsAt p phase → NamesSlots p → NamesWord p.slots p.fields (next_at p phase)
+names_at : (p : Private) (phase : Phase) → IsMachine p → IsAt p phase → NamesSlots p → NamesWord p.slots p.fields (next_at p phase)
 unfolding next_at
-names_at p Idle at there = tt
-names_at p (Begun work) at there = begun_names p work at.0 there
-names_at p (Scanned reg label leaf before) at there = tt
-names_at p (Finished work made) at there = tt
-names_at p (Storing src f val slot) at there = place_within p.slots p.fields slot f (there src slot at.0.source) at.0.operands.1
-names_at p _ at there = at.1
+names_at p Idle kept at there = tt
+names_at p (Begun work) kept at there = begun_names p work at.0 there
+names_at p (Scanning reg label leaf before probed) kept at there = behind_below p.slots p.from probed kept.first_slot
+names_at p (Scanned reg label leaf before) kept at there = tt
+names_at p (Finished work made) kept at there = tt
+names_at p (Storing src f val slot) kept at there = place_within p.slots p.fields slot f (there src slot at.0.source) at.0.operands.1
+names_at p _ kept at there = at.1
 
 -- what comes next names a word of the heap
 pub names_word : (p : Private) → IsMachine p → NamesSlots p → NamesWord p.slots p.fields (next_of p)
 unfolding next_of
-names_word p kept there = names_at p p.phase kept.now there
+names_word p kept there = names_at p p.phase kept kept.now there

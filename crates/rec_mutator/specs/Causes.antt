@@ -62,10 +62,10 @@ FoundNoneAt (Scanned reg label leaf first) before = first ≡ before
 FoundNoneAt _ before = ⊥
 
 -- The scan is over, and every probe failed: whatever words the steps of the allocation found, the first one found this freed word, and
--- since then the header of each slot was claimed, one after another, and each was found taken.
+-- since then the header of each slot was claimed, one after another from the scan's first slot on, and each was found taken.
 pub record FoundNone (p : Private) (before : ℕ) : Type 0 where
   pub scanned : FoundNoneAt p.phase before
-  pub every : (start : Private) (words : List ℕ) → (s : HasScanned start words p) → FailsScan (header_word s.leaf s.label) p.slots before (ops_along start words) words
+  pub every : (start : Private) (words : List ℕ) → (s : HasScanned start words p) → FailsScan (header_word s.leaf s.label) p.slots start.from before (ops_along start words) words
 
 -- When each refusal comes, at the step that answers; and it changes no register and no log.
 pub record HasCause (p q : Private) (cmd : Cmd) (word : ℕ) (answer : Answer) : Type 0 where

@@ -12,6 +12,7 @@ private inside =
       fields = inside.fields;
       registers = inside.frame;
       log = inside.log;
+      from = inside.from;
       phase = inside.phase;
       steps = inside.steps;
     }

@@ -6,7 +6,7 @@ use Rattle.rec_word.specs.declared.op.Op.{Op}
 use Rattle.rec_word.specs.declared.op.Op.TheVariants as ops
 use Rattle.rec_model.specs.declared.command.Cmd.{Cmd}
 use Rattle.rec_model.specs.declared.command.Cmd.TheVariants as commands
-use Rattle.rec_mutator.specs.Private.{Private, register, is_full, word_for}
+use Rattle.rec_mutator.specs.Private.{Private, register, is_full, word_for, probe_of}
 use Rattle.rec_mutator.specs.declared.phase.Phase.{Phase}
 use Rattle.rec_mutator.specs.declared.phase.Phase.TheVariants.{Idle, Begun, Scanning, Scanned, Storing, Crossing, Swapping, Giving, Finished}
 use Rattle.rec_mutator.specs.declared.work.Work.{Work}
@@ -56,7 +56,7 @@ begun_op p works.Poll = ops.LoadEpoch
 unfoldable pub next_at : Private → Phase → Op
 next_at p Idle = own_word p
 next_at p (Begun work) = begun_op p work
-next_at p (Scanning reg label leaf before slot) = ops.ClaimHeader slot (header_word leaf label)
+next_at p (Scanning reg label leaf before probed) = ops.ClaimHeader (probe_of p probed) (header_word leaf label)
 next_at p (Scanned reg label leaf before) = ops.LoadFreed
 next_at p (Storing src f val slot) = ops.SwapField (place_of slot f p.fields) (word_for p val)
 next_at p Crossing = ops.TakeBox p.number (p.epoch + 1)

@@ -1,5 +1,5 @@
 -- A mutator's machine as a whole: plain data, and what every machine keeps.
-use Rattle.std.specs.Prelude.{◌≡◌, ℕ, ◌+◌, ◌-◌, ◌^◌, ◌<◌, ◌≤◌, ◌==◌, Bool, true, false, Option, None, Some, List, [], ◌∷◌, All, length, replicate, slice_index_or}
+use Rattle.std.specs.Prelude.{◌≡◌, ℕ, ◌+◌, ◌-◌, ◌%◌, ◌^◌, ◌<◌, ◌≤◌, ◌==◌, Bool, true, false, Option, None, Some, List, [], ◌∷◌, All, length, replicate, slice_index_or}
 use Rattle.rec_word.specs.Word.{packed, IsTarget}
 use Rattle.rec_word.specs.declared.stamps.Stamp.{Stamp}
 use Rattle.rec_model.specs.declared.command.Cmd.{Cmd}
@@ -12,8 +12,8 @@ use Rattle.rec_mutator.specs.declared.phase.Phase.TheVariants.{Idle, Begun, Scan
 use Rattle.rec_mutator.specs.declared.work.Work.{Work}
 use Rattle.rec_mutator.specs.declared.work.Work.TheVariants as works
 
--- the mutator's number and epoch, slots of the heap and fields of an object, its registers, its log, how far its work has
--- come, and how many steps that took
+-- the mutator's number and epoch, slots of the heap and fields of an object, its registers, its log, the slot with which a scan begins,
+-- how far its work has come, and how many steps that took
 pub record Private : Type 0 where
   pub number : ℕ
   pub epoch : ℕ
@@ -21,6 +21,7 @@ pub record Private : Type 0 where
   pub fields : ℕ
   pub registers : List (Option ℕ)
   pub log : Contents
+  pub from : ℕ
   pub phase : Phase
   pub steps : ℕ
 
@@ -34,6 +35,7 @@ opened number epoch slots fields regs cap =
       fields = fields;
       registers = Some 0 ∷ replicate (regs - 1) None;
       log = record { entries = []; snapshot = replicate regs None; capacity = cap };
+      from = 0;
       phase = Idle;
       steps = 0;
     }
@@ -54,11 +56,19 @@ next_stamp p = record { writer = p.number; epoch = p.epoch; index = length p.log
 abbrev pub word_for : Private → ℕ → ℕ
 word_for p r = packed (register p r) (next_stamp p)
 
+-- the slot that comes so many behind this one, where the first one follows the last
+abbrev pub slot_behind : (slots from count : ℕ) → ℕ
+slot_behind slots from count = (from + count) % slots
+
+-- the slot that a scan probes after so many others: it begins with its first one, and goes round once
+abbrev pub probe_of : Private → (probed : ℕ) → ℕ
+probe_of p probed = slot_behind p.slots p.from probed
+
 -- whether a work isn't finished, by phase
 abbrev pub is_busy_at : Phase → Bool
 is_busy_at Idle = false
 is_busy_at (Begun work) = true
-is_busy_at (Scanning reg label leaf before slot) = true
+is_busy_at (Scanning reg label leaf before probed) = true
 is_busy_at (Scanned reg label leaf before) = true
 is_busy_at (Storing src f val slot) = true
 is_busy_at Crossing = true
@@ -74,7 +84,7 @@ is_busy p = is_busy_at p.phase
 abbrev pub work_at : Phase → Option Work
 work_at Idle = None
 work_at (Begun work) = Some work
-work_at (Scanning reg label leaf before slot) = Some (works.Command (allocation leaf reg label))
+work_at (Scanning reg label leaf before probed) = Some (works.Command (allocation leaf reg label))
 work_at (Scanned reg label leaf before) = Some (works.Command (allocation leaf reg label))
 work_at (Storing src f val slot) = Some (works.Command (commands.Put src f val))
 work_at Crossing = Some works.Poll
@@ -139,7 +149,7 @@ HasNext p = p.epoch + 1 < 2 ^ 24
 abbrev pub IsAt : Private → Phase → Type 0
 IsAt p Idle = p.steps ≡ 0
 IsAt p (Begun work) = IsValid p work × (p.steps ≡ 0)
-IsAt p (Scanning reg label leaf before slot) = IsScan p reg × (slot < p.slots) × (p.steps ≡ slot + 1)
+IsAt p (Scanning reg label leaf before probed) = IsScan p reg × (probed < p.slots) × (p.steps ≡ probed + 1)
 IsAt p (Scanned reg label leaf before) = IsScan p reg × (p.steps ≡ p.slots + 1)
 IsAt p (Storing src f val slot) = IsStore p src f val slot × (p.steps ≡ 1)
 IsAt p Crossing = (p.steps ≡ 1) × HasNext p
@@ -157,6 +167,7 @@ pub record IsMachine (p : Private) : Type 0 where
   pub entries : length p.log.entries ≤ p.log.capacity
   pub registers : All IsTarget p.registers
   pub snapshot : length p.log.snapshot ≡ length p.registers
+  pub from : p.from < p.slots
   pub now : IsAt p p.phase
 
 -- what no step and no new work changes: the numbers but for the epoch, the number of registers and what the log can hold

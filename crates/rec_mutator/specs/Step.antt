@@ -15,7 +15,7 @@ use Rattle.rec_model.specs.Asking.{null_or_object, same, yes_or_no, plain, alloc
 use Rattle.rec_log.specs.declared.contents.Contents.{Contents}
 use Rattle.rec_log.specs.declared.entry.Entry.{Entry}
 use Rattle.rec_log.specs.declared.entry.Entry.TheVariants as entries
-use Rattle.rec_mutator.specs.Private.{Private, register, word_for}
+use Rattle.rec_mutator.specs.Private.{Private, register, word_for, probe_of}
 use Rattle.rec_mutator.specs.Took.{moved, answered, IsRequested}
 use Rattle.rec_mutator.specs.declared.made.Made.TheVariants as makes
 use Rattle.rec_mutator.specs.declared.phase.Phase.{Phase}
@@ -86,11 +86,12 @@ pub data Step (p : Private) (word : ℕ) (box : Contents) (op : Op) (q : Private
   new_refused : (reg label : ℕ) (leaf : Bool) → IsLogFull p
       → DecidesAtOnce p op q (allocation leaf reg label) (ops.LoadCross p.number) p.registers p.log.entries (plain answers.LogFull) → Step p word box op q
   new_begins : (reg label : ℕ) (leaf : Bool) → HasRoom p → GoesOn p op q (Begun (works.Command (allocation leaf reg label))) ops.LoadFreed (Scanning reg label leaf word 0) → Step p word box op q
-  new_wins : (reg label : ℕ) (leaf : Bool) (before slot : ℕ) → word ≡ 0
-      → Decides p op q (allocation leaf reg label) (Scanning reg label leaf before slot) (ops.ClaimHeader slot (header_word leaf label)) (slice_set p.registers reg (Some slot)) (p.log.entries ++ entries.Born slot leaf ∷ []) (plain answers.Done)
+  new_wins : (reg label : ℕ) (leaf : Bool) (before probed : ℕ) → word ≡ 0
+      → Decides p op q (allocation leaf reg label) (Scanning reg label leaf before probed) (ops.ClaimHeader (probe_of p probed) (header_word leaf label)) (slice_set p.registers reg (Some (probe_of p probed))) (p.log.entries ++ entries.Born (probe_of p probed) leaf ∷ []) (plain answers.Done)
       → Step p word box op q
-  new_goes_on : (reg label : ℕ) (leaf : Bool) (before slot : ℕ) → word ≢ 0 → slot + 1 ≢ p.slots → GoesOn p op q (Scanning reg label leaf before slot) (ops.ClaimHeader slot (header_word leaf label)) (Scanning reg label leaf before (slot + 1)) → Step p word box op q
-  new_finds_none : (reg label : ℕ) (leaf : Bool) (before slot : ℕ) → word ≢ 0 → slot + 1 ≡ p.slots → GoesOn p op q (Scanning reg label leaf before slot) (ops.ClaimHeader slot (header_word leaf label)) (Scanned reg label leaf before) → Step p word box op q
+  new_goes_on : (reg label : ℕ) (leaf : Bool) (before probed : ℕ) → word ≢ 0 → probed + 1 ≢ p.slots
+      → GoesOn p op q (Scanning reg label leaf before probed) (ops.ClaimHeader (probe_of p probed) (header_word leaf label)) (Scanning reg label leaf before (probed + 1)) → Step p word box op q
+  new_finds_none : (reg label : ℕ) (leaf : Bool) (before probed : ℕ) → word ≢ 0 → probed + 1 ≡ p.slots → GoesOn p op q (Scanning reg label leaf before probed) (ops.ClaimHeader (probe_of p probed) (header_word leaf label)) (Scanned reg label leaf before) → Step p word box op q
   new_is_full : (reg label : ℕ) (leaf : Bool) (before : ℕ) → IsStill before word
       → Decides p op q (allocation leaf reg label) (Scanned reg label leaf before) ops.LoadFreed p.registers p.log.entries (plain answers.Full) → Step p word box op q
   new_is_busy : (reg label : ℕ) (leaf : Bool) (before : ℕ) → (IsStill before word → ⊥)

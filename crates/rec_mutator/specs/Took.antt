@@ -16,16 +16,16 @@ use Rattle.rec_model.specs.Asking.{null_or_object, same, yes_or_no, plain, alloc
 use Rattle.rec_log.specs.declared.contents.Contents.{Contents}
 use Rattle.rec_log.specs.declared.entry.Entry.{Entry}
 use Rattle.rec_log.specs.declared.entry.Entry.TheVariants as entries
-use Rattle.rec_mutator.specs.Private.{Private, register, is_full, word_for}
+use Rattle.rec_mutator.specs.Private.{Private, register, is_full, word_for, probe_of}
 use Rattle.rec_mutator.specs.declared.made.Made.TheVariants as makes
 use Rattle.rec_mutator.specs.declared.phase.Phase.{Phase}
 use Rattle.rec_mutator.specs.declared.phase.Phase.TheVariants.{Idle, Begun, Scanning, Scanned, Storing, Crossing, Swapping, Giving, Finished}
 use Rattle.rec_mutator.specs.declared.work.Work.{Work}
 use Rattle.rec_mutator.specs.declared.work.Work.TheVariants as works
 
--- a work begins; no step of it is made
-unfoldable pub begun_of : Private → Work → Private
-begun_of p work = record p { phase = Begun work; steps = 0 }
+-- a work begins, whose scan, if it makes one, begins with this slot; no step of it is made
+unfoldable pub begun_of : Private → Work → (from : ℕ) → Private
+begun_of p work from = record p { from = from; phase = Begun work; steps = 0 }
 
 -- one step was made, and this comes next
 abbrev pub moved : Private → Phase → Private
@@ -97,10 +97,10 @@ begun_by p word works.Poll = polled p word
 abbrev pub born_in : Private → (reg label : ℕ) → (leaf : Bool) → (slot : ℕ) → Private
 born_in p reg label leaf slot = answered (with_entry (with_register p reg (Some slot)) (entries.Born slot leaf)) (allocation leaf reg label) (plain answers.Done)
 
--- a probe of a slot: the slot was free and is won, or it was taken and the next one follows, if there is one
-abbrev pub probed : Private → (reg label : ℕ) → (leaf : Bool) → (before slot word : ℕ) → Private
-probed p reg label leaf before slot word =
-    if word == 0 then born_in p reg label leaf slot else moved p (if slot + 1 == p.slots then Scanned reg label leaf before else Scanning reg label leaf before (slot + 1))
+-- a probe after so many others: the slot was free and is won, or it was taken and the next one follows, until each was probed
+abbrev pub probed : Private → (reg label : ℕ) → (leaf : Bool) → (before count word : ℕ) → Private
+probed p reg label leaf before count word =
+    if word == 0 then born_in p reg label leaf (probe_of p count) else moved p (if count + 1 == p.slots then Scanned reg label leaf before else Scanning reg label leaf before (count + 1))
 
 -- no slot was free: the freed word was even and the same before and after the scan, or a sweep ran, began or ended meanwhile
 abbrev pub none_free : (before after : ℕ) → Answer
@@ -126,7 +126,7 @@ crossed p = moved (record p { epoch = p.epoch + 1 }) (Finished works.Poll (makes
 unfoldable pub took_at : Private → (word : ℕ) → Phase → Private
 took_at p word Idle = moved p Idle
 took_at p word (Begun work) = begun_by p word work
-took_at p word (Scanning reg label leaf before slot) = probed p reg label leaf before slot word
+took_at p word (Scanning reg label leaf before count) = probed p reg label leaf before count word
 took_at p word (Scanned reg label leaf before) = answered p (allocation leaf reg label) (plain (none_free before word))
 took_at p word (Storing src f val slot) = stored p src f val slot word
 took_at p word Crossing = retiring p
@@ -160,20 +160,20 @@ left_of p buffer = left_at p buffer p.phase
 unfoldable pub step_of : Private → (word : ℕ) → (box : Contents) → Private
 step_of p word box = swapped_of (took_of p word) box
 
--- the slots below this one are those that a scan has still to come to, or has passed, by phase
-abbrev pub IsAhead : Phase → (slot : ℕ) → Type 0
-IsAhead (Scanning reg label leaf before at) slot = at ≤ slot
-IsAhead _ slot = Unit {0}
+-- a scan has made no more probes than so many, by phase
+abbrev pub IsAhead : Phase → (count : ℕ) → Type 0
+IsAhead (Scanning reg label leaf before probed) count = probed ≤ count
+IsAhead _ count = Unit {0}
 
--- a scan comes to this slot, or to its end, by phase: each probe between is a step
-unfoldable pub skipped_at : Private → (slot : ℕ) → Phase → Private
-skipped_at p slot (Scanning reg label leaf before at) =
-    record p { phase = if slot == p.slots then Scanned reg label leaf before else Scanning reg label leaf before slot; steps = p.steps + (slot - at) }
-skipped_at p slot _ = p
+-- a scan has made so many probes, by phase, and comes to the next one or to its end: each probe that it makes is a step
+unfoldable pub skipped_at : Private → (count : ℕ) → Phase → Private
+skipped_at p count (Scanning reg label leaf before probed) =
+    record p { phase = if count == p.slots then Scanned reg label leaf before else Scanning reg label leaf before count; steps = p.steps + (count - probed) }
+skipped_at p count _ = p
 
--- a scan comes to this slot, or to its end
-unfoldable pub skipped_to : Private → (slot : ℕ) → Private
-skipped_to p slot = skipped_at p slot p.phase
+-- a scan has made so many probes
+unfoldable pub skipped_to : Private → (count : ℕ) → Private
+skipped_to p count = skipped_at p count p.phase
 
 -- a mailbox is held, and its buffer is still to be swapped
 abbrev pub IsSwapping : Phase → Type 0

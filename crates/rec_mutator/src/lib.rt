@@ -19,8 +19,8 @@ mod phase;
 mod work;
 
 pub use laws::{
-    machine_finds_fitting_words, machine_makes_steps, machine_names_words, polls_have_causes,
-    refusals_have_causes,
+    failed_scans_claim_each_header_once, machine_finds_fitting_words, machine_makes_steps,
+    machine_names_words, polls_have_causes, refusals_have_causes,
 };
 pub use machine::Machine;
 pub use made::Made;

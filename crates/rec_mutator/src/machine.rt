@@ -1,6 +1,6 @@
 ghost use Rattle.std.specs.Prelude.{◌≡◌, ◌⊎◌, ◌+◌, ◌^◌, ◌<◌, ◌≤◌, ◌↔◌, ◌∷◌, ◌++◌, [], true, false, length, slice_set, IfOk, IfSome, IsNone, IsTrue};
 ghost use Rattle.rec_word.specs.Place.{place_of};
-ghost use Rattle.rec_mutator.specs.Private.{Private, opened, register, is_full, word_for, is_busy, work_of, answer_of, HasOperands, IsValid, limit_of, IsScan, IsStore, IsMachine, KeepsSizes};
+ghost use Rattle.rec_mutator.specs.Private.{Private, opened, register, is_full, word_for, probe_of, is_busy, work_of, answer_of, HasOperands, IsValid, limit_of, IsScan, IsStore, IsMachine, KeepsSizes};
 ghost use Rattle.rec_mutator.specs.Next.{next_of, begun_op, first_op, own_word, write_op};
 ghost use Rattle.rec_model.specs.Asking.{allocation, null_or_object, same, yes_or_no, plain};
 ghost use Rattle.rec_mutator.specs.Causes.{HasCause, PollHasCause};
@@ -21,7 +21,7 @@ use std::marker::Model;
 use std::mem;
 
 /// A mutator: its registers, its log, and how far its work has come. Its memory is taken when it is opened.
-#[derive(Debug, Drop)]
+#[derive(Drop)]
 pub struct Machine {
     number: u8,
     epoch: u32,
@@ -29,6 +29,8 @@ pub struct Machine {
     fields: u8,
     frame: Frame,
     log: Buffer,
+    // The slot with which a scan begins.
+    from: u16,
     phase: Phase,
     steps: u32,
 }
@@ -78,18 +80,21 @@ impl Machine {
             fields,
             frame,
             log,
+            from: 0,
             phase: Phase::Idle,
             steps: 0,
         })
     }
 
-    /// Begins a work. No step of it is made.
+    /// Begins a work. No step of it is made. A scan for a free slot is to begin with slot `from` and go round once; where the
+    /// work makes none, `from` says nothing.
     #[tactic(auto, unfolding(crate::specs::Took::begun_of))]
-    pub fn begin(&mut self, work: Work)
+    pub fn begin(&mut self, work: Work, from: u16)
         requires idle { is_busy self.old ≡ false }
         requires valid { IsValid self.old work }
+        requires from { from < self.old.slots }
 
-        ensures begun { self.new ≡ begun_of self.old work }
+        ensures begun { self.new ≡ begun_of self.old work from }
         ensures same { KeepsSizes self.old self.new }
 
         // It is the work now, and its steps are counted from here.
@@ -98,6 +103,7 @@ impl Machine {
         ensures steps { self.new.steps ≡ 0 }
         ensures kept { IsMachine self.new }
     {
+        self.from = from;
         self.phase = Phase::Begun { work };
         self.steps = 0;
     }
@@ -114,9 +120,9 @@ impl Machine {
             Phase::Scanning {
                 label,
                 leaf,
-                slot,
+                probed,
                 ..
-            } => Op::ClaimHeader(slot, header(leaf, label)),
+            } => Op::ClaimHeader(self.probe(probed), header(leaf, label)),
             Phase::Scanned { .. } => Op::LoadFreed,
             Phase::Storing {
                 field,
@@ -156,14 +162,14 @@ impl Machine {
         self.learn(word);
     }
 
-    /// Makes the probes of all slots below this one that a scan has still to come to: as many steps as there are such slots,
-    /// each of which has to be taken. Where no scan is under way nothing changes.
+    /// Makes the probes of a scan that come next, until it has made `count` of them: as many steps as it makes, each of which
+    /// has to find a taken slot. Where no scan is under way nothing changes.
     #[tactic(auto, unfolding(crate::specs::Took::skipped_to, crate::specs::Took::skipped_at))]
-    pub fn skip_to(&mut self, slot: u16)
-        requires ahead { IsAhead self.old.phase slot }
-        requires slots { slot ≤ self.old.slots }
+    pub fn skip_to(&mut self, count: u16)
+        requires ahead { IsAhead self.old.phase count }
+        requires slots { count ≤ self.old.slots }
 
-        ensures skipped { self.new ≡ skipped_to self.old slot }
+        ensures skipped { self.new ≡ skipped_to self.old count }
         ensures same { KeepsSizes self.old self.new }
         ensures busy { is_busy self.new ≡ is_busy self.old }
         ensures work { work_of self.new ≡ work_of self.old }
@@ -174,11 +180,11 @@ impl Machine {
             label,
             leaf,
             before,
-            slot: at,
+            probed,
         } = self.phase
         {
-            self.steps += u32::from(slot - at);
-            self.phase = if slot == self.slots {
+            self.steps += u32::from(count - probed);
+            self.phase = if count == self.slots {
                 Phase::Scanned {
                     reg,
                     label,
@@ -191,7 +197,7 @@ impl Machine {
                     label,
                     leaf,
                     before,
-                    slot,
+                    probed: count,
                 }
             };
         }
@@ -393,8 +399,8 @@ impl Machine {
                 label,
                 leaf,
                 before,
-                slot,
-            } => self.took_probe(reg, label, leaf, before, slot, word),
+                probed,
+            } => self.took_probe(reg, label, leaf, before, probed, word),
             Phase::Scanned {
                 reg,
                 label,
@@ -468,7 +474,7 @@ impl Machine {
                 label,
                 leaf,
                 before: word,
-                slot: 0,
+                probed: 0,
             };
             self.steps += 1;
         }
@@ -613,21 +619,22 @@ impl Machine {
         self.steps += 1;
     }
 
-    // A probe of a slot: it was free and is won, or the next one follows, if there is one.
-    fn took_probe(&mut self, reg: u8, label: u32, leaf: bool, before: u64, slot: u16, word: u64)
+    // A probe after so many others: the slot was free and is won, or the next one follows, until each was probed.
+    fn took_probe(&mut self, reg: u8, label: u32, leaf: bool, before: u64, count: u16, word: u64)
         requires scan { IsScan self.old reg }
-        requires slot { slot < self.old.slots }
-        requires steps { self.old.steps ≡ slot + 1 }
+        requires count { count < self.old.slots }
+        requires steps { self.old.steps ≡ count + 1 }
 
-        ensures took { self.new ≡ probed self.old reg label leaf before slot word }
+        ensures took { self.new ≡ probed self.old reg label leaf before count word }
         ensures kept { IsMachine self.new }
     {
         if word == 0 {
+            let slot = self.probe(count);
             self.frame.set(reg, slot);
             note(&mut self.log, Entry::Born { slot, leaf });
             self.phase = answered(allocation(leaf, reg, label), only(Answer::Done));
             self.steps += 1;
-        } else if slot + 1 == self.slots {
+        } else if count + 1 == self.slots {
             self.phase = Phase::Scanned {
                 reg,
                 label,
@@ -641,9 +648,24 @@ impl Machine {
                 label,
                 leaf,
                 before,
-                slot: slot + 1,
+                probed: count + 1,
             };
             self.steps += 1;
+        }
+    }
+
+    // The slot that a scan probes after so many others.
+    #[inline(always)]
+    fn probe(&self, count: u16) -> u16
+        requires { count < self.now.slots }
+        ensures { result ≡ probe_of self.now count }
+    {
+        // A division would take longer than all else that a probe does.
+        let behind = self.slots - self.from;
+        if count < behind {
+            self.from + count
+        } else {
+            count - behind
         }
     }
 
@@ -829,6 +851,3 @@ fn none_free(before: u64, after: u64) -> Answer
         Answer::Busy { before, after }
     }
 }
-
-#[cfg(test)]
-mod tests;

@@ -1,7 +1,7 @@
 use crate::{Made, Work};
 
 /// How far a mutator's work has come.
-#[derive(Clone, Copy, Debug, PartialEq, Eq)]
+#[derive(Clone, Copy)]
 pub enum Phase {
     /// No work was begun yet.
     Idle,
@@ -9,13 +9,13 @@ pub enum Phase {
     Begun {
         work: Work,
     },
-    /// An allocation, of a leaf or not, found this freed word, and probes this slot next; each slot below it was taken when it was probed.
+    /// An allocation, of a leaf or not, found this freed word, and has probed so many slots; each of them was taken when it was probed.
     Scanning {
         reg: u8,
         label: u32,
         leaf: bool,
         before: u64,
-        slot: u16,
+        probed: u16,
     },
     /// An allocation found this freed word and no free slot, and loads the freed word once more.
     Scanned {

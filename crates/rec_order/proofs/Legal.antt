@@ -54,10 +54,10 @@ has_homes w number apart (suc bound) =
     ]
 
 -- a mutator without work has met nothing
-idle_meets : (limits : Limits) (start : Moment) (events : List Event) (home : ℕ → ℕ) (next t : ℕ) (phase : Phase) → is_busy_at phase ≡ false → Meets limits start events home next t phase
-idle_meets limits start events home next t (at.Scanning reg label before slot) idle = cc
-idle_meets limits start events home next t (at.Scanned reg label before) idle = cc
-idle_meets limits start events home next t _ idle = tt
+idle_meets : (limits : Limits) (start : Moment) (events : List Event) (home : ℕ → ℕ) (next t from : ℕ) (phase : Phase) → is_busy_at phase ≡ false → Meets limits start events home next t from phase
+idle_meets limits start events home next t from (at.Scanning reg label leaf before probed) idle = cc
+idle_meets limits start events home next t from (at.Scanned reg label leaf before) idle = cc
+idle_meets limits start events home next t from _ idle = tt
 
 -- empty journals
 no_lines : (many i : ℕ) → [] ≡ slice_index_or (replicate {A = List Line} many []) i []
@@ -82,7 +82,7 @@ starts w heap number unfreed kept idle stands are =
           frees = λ _. refl;
           homes = λ s taken. homes s (taken_within (sight w) s taken) taken;
         };
-        meets = λ t is. idle_meets (limits_of w.config) (moment_of w heap unfreed) [] home (length heap.objects) t (mutator w t).phase (idle t is);
+        meets = λ t is. idle_meets (limits_of w.config) (moment_of w heap unfreed) [] home (length heap.objects) t (mutator w t).from (mutator w t).phase (idle t is);
         stamps = λ i v d there left. cc;
         done = λ t is.
             let same : slice_index_or (map (λ (p : Private). length p.log.entries) w.mutators) (t - 1) 0 ≡ log_length w t = get_or-map (λ (p : Private). length p.log.entries) w.mutators (t - 1) nobody in
@@ -100,7 +100,7 @@ swept_lines t n _ = refl
 
 -- the lines of a mutator are those of the answers of one move
 lines_in : (t : ℕ) (n : Naming) (w : Core) (m : Move) → filter_map (line_by t) (events_in n w m) ≡ filter_map (line_by t) (told_in w m)
-lines_in t n w (Move.Begins u work) = refl
+lines_in t n w (Move.Begins u work from) = refl
 lines_in t n w (Move.Steps u) = refl
 lines_in t n w Move.Turns = swept_lines t n (next_of w.collector)
 lines_in t n w Move.Offers = refl

@@ -48,14 +48,14 @@ allocation_fits limits w (commands.New reg label) _ full fewer = tt
 allocation_fits limits w _ answer full fewer = tt
 
 -- a scan that found none free has passed all slots
-found_none : (phase : Phase) (before : ℕ) → FoundNoneAt phase before → (reg : ℕ) × (label : ℕ) × (phase ≡ at.Scanned reg label before)
-found_none (at.Scanned reg label first) before is = (reg, label, ap (at.Scanned reg label) is)
+found_none : (phase : Phase) (before : ℕ) → FoundNoneAt phase before → (reg : ℕ) × (label : ℕ) × (leaf : Bool) × (phase ≡ at.Scanned reg label leaf before)
+found_none (at.Scanned reg label leaf first) before is = (reg, label, leaf, ap (at.Scanned reg label leaf) is)
 found_none _ before is = absurd is
 
 -- it looks at the freed word then
-looks_again : (w : Core) (t reg label before : ℕ) → (mutator w t).phase ≡ at.Scanned reg label before → found_by w t ≡ w.freed
+looks_again : (w : Core) (t reg label : ℕ) (leaf : Bool) (before : ℕ) → (mutator w t).phase ≡ at.Scanned reg label leaf before → found_by w t ≡ w.freed
 unfolding next_of next_at
-looks_again w t reg label before is = ap (λ (phase : Phase). cell (cells_of w) (next_at (mutator w t) phase)) is
+looks_again w t reg label leaf before is = ap (λ (phase : Phase). cell (cells_of w) (next_at (mutator w t) phase)) is
 
 -- the freed word moved, or was odd
 swept_meanwhile : (before after : ℕ) → before ≤ after → (IsStill before after → ⊥) → (before % 2 ≡ 1) ⊎ (before < after)
@@ -103,16 +103,18 @@ module _ (limits : Limits) (start : Moment) (lines : List (List Line)) (events :
       }
 
   -- a busy answer has its evidence
-  step_busy : Meets limits start events home n.next t (mutator w t).phase → (before after : ℕ) → told.answer ≡ answers.Busy before after
+  step_busy : Meets limits start events home n.next t (mutator w t).from (mutator w t).phase → (before after : ℕ) → told.answer ≡ answers.Busy before after
       → BusyFits limits start (events ++ Answers t (cmd, told) ∷ []) t (length events) before after
   step_busy meets before after answer =
       let (none, word, moves) = (cause.busy before after).0 answer in
-      let (reg, label, phase) = found_none (mutator w t).phase before none.scanned in
-      let has : HasMet limits start events home n.next t before limits.slots = subst (Meets limits start events home n.next t) phase meets in
-      let freed : found_by w t ≡ w.freed = looks_again w t reg label before phase in
-      let passed : HasPassed w.headers w.freed before w.config.slots = subst (IsScanning w.config.slots w.headers w.freed) phase (kept.scans t is) in
+      let (reg, label, leaf, phase) = found_none (mutator w t).phase before none.scanned in
+      let has : HasMet limits start events home n.next t (mutator w t).from before limits.slots = subst (Meets limits start events home n.next t (mutator w t).from) phase meets in
+      let freed : found_by w t ≡ w.freed = looks_again w t reg label leaf before phase in
+      let passed : HasPassed w.config.slots w.headers w.freed (mutator w t).from before w.config.slots = subst (IsScanning w.config.slots w.headers w.freed (mutator w t).from) phase (kept.scans t is) in
       let below : before ≤ w.freed = passed.0 in
-      met_all limits start events home n.next t before after (cmd, told) has
+      let own = (actor_of w t kept is).own in
+      let there : (mutator w t).from < limits.slots = subst (λ x. (mutator w t).from < x) (own.slots ∙ sym (ap (λ (l : Limits). l.slots) numbers)) own.machine.from in
+      met_all limits start events home n.next t (mutator w t).from before after (cmd, told) there has
       (swept_meanwhile before after (omega (arith, below, freed, word)) (λ still. moves (still.0, still.1 ∙ word)))
       (so.marks ∙ sym freed ∙ sym word)
 
@@ -138,7 +140,7 @@ module _ (limits : Limits) (start : Moment) (lines : List (List Line)) (events :
 
   -- So it may come.
   pub step_may_come : length lines ≡ w.config.mutators → IsSound (sight (stepped w t)) → log_length w t ≤ slice_index_or (after_all limits start events).done (t - 1) 0
-      → Meets limits start events home n.next t (mutator w t).phase → ((i v : ℕ) (d : Event) → slice_get events i ≡ Some d → left_by d ≡ Some v → HasEntry w (stamp_of v))
+      → Meets limits start events home n.next t (mutator w t).from (mutator w t).phase → ((i v : ℕ) (d : Event) → slice_get events i ≡ Some d → left_by d ≡ Some v → HasEntry w (stamp_of v))
       → MayCome limits start lines events (Answers t (cmd, told))
   step_may_come journals sound logged meets stamps =
       let new : StampsAnew events t (cmd, told) = step_anew stamps in

@@ -30,7 +30,7 @@ use Rattle.rec_core.specs.Asked.{told_by}
 use Rattle.rec_core.specs.Config.{IsMutator}
 use Rattle.rec_core.specs.Core.{Core, sight, mutator, nobody, log_length}
 use Rattle.rec_core.specs.Kept.{IsKept}
-use Rattle.rec_core.specs.Moves.{Move, Fits, AllFit, after_move, after_moves, stepped, turned, begun, offering}
+use Rattle.rec_core.specs.Moves.{Move, Fits, AllFit, after_move, after_moves, stepped, turned, begun_from, offering}
 use Rattle.rec_core.specs.Pending.{epoch_at}
 use Rattle.rec_core.specs.Shown.{IsDecided, entries_of}
 use Rattle.rec_core.specs.Swept.{SweepsNothing, IsSweep}
@@ -58,7 +58,7 @@ use Rattle.std.specs.Option.{IfSome}
 pub record Ordered (limits : Limits) (start : Moment) (lines : List (List Line)) (events : List Event) (w : Core) (n : Naming) (home : ℕ → ℕ) : Type 0 where
   pub legal : IsLegalOrder limits start lines events
   pub stands : Stands w (after_all limits start events) n home
-  pub meets : (t : ℕ) → IsMutator w.config t → Meets limits start events home n.next t (mutator w t).phase
+  pub meets : (t : ℕ) → IsMutator w.config t → Meets limits start events home n.next t (mutator w t).from (mutator w t).phase
   pub stamps : (i v : ℕ) (d : Event) → slice_get events i ≡ Some d → left_by d ≡ Some v → HasEntry w (stamp_of v)
   pub done : (t : ℕ) → IsMutator w.config t → log_length w t ≤ slice_index_or (after_all limits start events).done (t - 1) 0
   pub logs : length (after_all limits start events).done ≡ w.config.mutators
@@ -71,7 +71,7 @@ module _ (limits : Limits) (start : Moment) where
 
   -- a move that tells nothing
   untold_order : (lines : List (List Line)) (events : List Event) (w v : Core) (n : Naming) (home : ℕ → ℕ) → IsUntold w v → Stands v (after_all limits start events) n home
-      → ((t : ℕ) → IsMutator w.config t → Meets limits start events home n.next t (mutator v t).phase) → Ordered limits start lines events w n home → Ordered limits start lines events v n home
+      → ((t : ℕ) → IsMutator w.config t → Meets limits start events home n.next t (mutator v t).from (mutator v t).phase) → Ordered limits start lines events w n home → Ordered limits start lines events v n home
   untold_order lines events w v n home done stands meets so =
       record {
         legal = so.legal;
@@ -99,8 +99,8 @@ module _ (limits : Limits) (start : Moment) where
         stands = subst (λ (m : Moment). Stands v m n home) (sym last) stands;
         meets = λ t is.
             let same : mutator v t ≡ mutator w t = ap (λ (ps : List Private). slice_index_or ps (t - 1) nobody) mutators in
-            subst (λ (p : Private). Meets limits start (events ++ e ∷ []) home n.next t p.phase) (sym same)
-            (meets_grows limits start events home n.next t e (mutator w t).phase (nobody_ t) (so.meets t (subst (λ (c : Config). IsMutator c t) config is)));
+            subst (λ (p : Private). Meets limits start (events ++ e ∷ []) home n.next t p.from p.phase) (sym same)
+            (meets_grows limits start events home n.next t (mutator w t).from e (mutator w t).phase (nobody_ t) (so.meets t (subst (λ (c : Config). IsMutator c t) config is)));
         stamps = λ i word d there left. elim (get_cases events e i d there) [
           | inl old ↦ entry_stays w v (stamp_of word) untold.config untold.advances (so.stamps i word d old left)
           | inr new ↦ absurd (let none : left_by d ≡ None = ap left_by (sym new.1) ∙ no_word in cc)
@@ -147,7 +147,7 @@ module _ (limits : Limits) (start : Moment) where
           let none : events ++ swept_by n (next_of w.collector) ≡ events = ap (λ es. events ++ es) (swept_nothing n (next_of w.collector) nothing) ∙ append-nil events in
           subst P (sym none)
           (untold_order lines events w (turned w) n home (untold_same w (turned w) config (turned_mutators w)) (stands_rested w (turned w) (after_all limits start events) n home stands headers freed less so.stands)
-          (λ t is. subst (λ (ps : List Private). Meets limits start events home n.next t (slice_index_or ps (t - 1) nobody).phase) (sym (turned_mutators w)) (so.meets t is)) so)
+          (λ t is. subst (λ (ps : List Private). Meets limits start events home n.next t (slice_index_or ps (t - 1) nobody).from (slice_index_or ps (t - 1) nobody).phase) (sym (turned_mutators w)) (so.meets t is)) so)
       go (marks named headers freed freed_one none) =
           let P : List Event → Type 0 = λ es. Ordered limits start lines (events ++ es) (turned w) n home in
           let told : swept_by n (next_of w.collector) ≡ Marks ∷ [] = ap (swept_by n) named in
@@ -164,19 +164,19 @@ module _ (limits : Limits) (start : Moment) where
           (stands_freed limits w (turned w) (after_all limits start events) n home slot stands taken headers freed was so.stands) so)
 
   -- A work that begins.
-  begun_order : (lines : List (List Line)) (events : List Event) (w : Core) (n : Naming) (home : ℕ → ℕ) (t : ℕ) (work : Work) → IsKept w → IsMutator w.config t → is_busy (mutator w t) ≡ false
-      → Ordered limits start lines events w n home → Ordered limits start lines events (begun w t work) n home
+  begun_order : (lines : List (List Line)) (events : List Event) (w : Core) (n : Naming) (home : ℕ → ℕ) (t : ℕ) (work : Work) (from : ℕ) → IsKept w → IsMutator w.config t → is_busy (mutator w t) ≡ false
+      → Ordered limits start lines events w n home → Ordered limits start lines events (begun_from w t work from) n home
   unfolding begun_of
-  begun_order lines events w n home t work kept is idle so =
-      let q : Private = begun_of (mutator w t) work in
-      let here : mutator (begun w t work) t ≡ q = get_or-set_same w.mutators (t - 1) q nobody (in_list w t kept is) in
-      untold_order lines events w (begun w t work) n home (begun_untold w t work is (in_list w t kept is) idle)
-      (stands_unseen w (begun w t work) (after_all limits start events) n home (begun_sight w t work) refl (λ some. some) so.stands)
+  begun_order lines events w n home t work from kept is idle so =
+      let q : Private = begun_of (mutator w t) work from in
+      let here : mutator (begun_from w t work from) t ≡ q = get_or-set_same w.mutators (t - 1) q nobody (in_list w t kept is) in
+      untold_order lines events w (begun_from w t work from) n home (begun_untold w t work from is (in_list w t kept is) idle)
+      (stands_unseen w (begun_from w t work from) (after_all limits start events) n home (begun_sight w t work from) refl (λ some. some) so.stands)
       (λ s s_is. elim (cases_eq s t) [
         | inl same ↦
-            let P : ℕ → Type 0 = λ x. Meets limits start events home n.next x (mutator (begun w t work) x).phase in
-            subst P (sym same) (subst (λ (p : Private). Meets limits start events home n.next t p.phase) (sym here) tt)
-        | inr other ↦ subst (λ (p : Private). Meets limits start events home n.next s p.phase) (sym (mutator_other w.mutators t s q is.0 other s_is.0)) (so.meets s s_is)
+            let P : ℕ → Type 0 = λ x. Meets limits start events home n.next x (mutator (begun_from w t work from) x).from (mutator (begun_from w t work from) x).phase in
+            subst P (sym same) (subst (λ (p : Private). Meets limits start events home n.next t p.from p.phase) (sym here) tt)
+        | inr other ↦ subst (λ (p : Private). Meets limits start events home n.next s p.from p.phase) (sym (mutator_other w.mutators t s q is.0 other s_is.0)) (so.meets s s_is)
       ])
       so
 
@@ -195,23 +195,23 @@ module _ (limits : Limits) (start : Moment) where
         untold_order lines events w (stepped w t) n home done.untold (stands_unseen w (stepped w t) (after_all limits start events) n home done.seen done.freed (λ some. some) so.stands)
             (λ s s_is. elim (cases_eq s t) [
               | inl same ↦
-                  let R : ℕ → Type 0 = λ x. Meets limits start events home n.next x (mutator (stepped w t) x).phase in
+                  let R : ℕ → Type 0 = λ x. Meets limits start events home n.next x (mutator (stepped w t) x).from (mutator (stepped w t) x).phase in
                   subst R (sym same) (own_meets limits start events w n home t (ap (λ (l : Limits). l.slots) numbers) so.stands kept is busy (so.meets t is))
-              | inr other ↦ subst (λ (p : Private). Meets limits start events home n.next s p.phase) (sym (others_same w t s is.0 other s_is.0)) (so.meets s s_is)
+              | inr other ↦ subst (λ (p : Private). Meets limits start events home n.next s p.from p.phase) (sym (others_same w t s is.0 other s_is.0)) (so.meets s s_is)
             ])
             so,
       ))
 
   -- a finished scan meets nothing
-  finished_meets : (events : List Event) (home : ℕ → ℕ) (next t : ℕ) (phase : Phase) (made : Made) → answer_at phase ≡ Some made → Meets limits start events home next t phase
-  finished_meets events home next t (at.Finished work done) made is = tt
-  finished_meets events home next t _ made is = cc
+  finished_meets : (events : List Event) (home : ℕ → ℕ) (next t from : ℕ) (phase : Phase) (made : Made) → answer_at phase ≡ Some made → Meets limits start events home next t from phase
+  finished_meets events home next t from (at.Finished work done) made is = tt
+  finished_meets events home next t from _ made is = cc
 
   -- what another's scan has met goes on with the naming
-  names_meets : (events : List Event) (w v : Core) (n k : Naming) (home homes : ℕ → ℕ) (t s : ℕ) (cmd : Cmd) (told : Told) (phase : Phase) → NamesOn w t cmd told v n home k homes
-      → Meets limits start events home n.next s phase → Meets limits start events homes k.next s phase
-  names_meets events w v n k home homes t s cmd told phase (NamesOn.born slot birth place seen) has = meets_born limits start events home n.next s slot phase has
-  names_meets events w v n k home homes t s cmd told phase (NamesOn.same unborn) has = has
+  names_meets : (events : List Event) (w v : Core) (n k : Naming) (home homes : ℕ → ℕ) (t s from : ℕ) (cmd : Cmd) (told : Told) (phase : Phase) → NamesOn w t cmd told v n home k homes
+      → Meets limits start events home n.next s from phase → Meets limits start events homes k.next s from phase
+  names_meets events w v n k home homes t s from cmd told phase (NamesOn.born slot birth place seen) has = meets_born limits start events home n.next s from slot phase has
+  names_meets events w v n k home homes t s from cmd told phase (NamesOn.same unborn) has = has
 
   -- the entries that a command made are at most those counted
   few_entries : (cmd : Cmd) (answer : Answer) → entries_of cmd answer ≤ (if is_done answer then 1 else 0)
@@ -273,12 +273,12 @@ module _ (limits : Limits) (start : Moment) where
               (stands_answered limits w v m n home t cmd told (ap (λ (l : Limits). l.fields) numbers) kept.headers kept_after.sound refl said so.stands k homes names);
           meets = λ s s_is. elim (cases_eq s t) [
             | inl same ↦
-                let R : ℕ → Type 0 = λ x. Meets limits start (events ++ e ∷ []) homes k.next x (mutator v x).phase in
-                subst R (sym same) (finished_meets (events ++ e ∷ []) homes k.next t (mutator v t).phase (makes.Answered told) answer)
+                let R : ℕ → Type 0 = λ x. Meets limits start (events ++ e ∷ []) homes k.next x (mutator v x).from (mutator v x).phase in
+                subst R (sym same) (finished_meets (events ++ e ∷ []) homes k.next t (mutator v t).from (mutator v t).phase (makes.Answered told) answer)
             | inr other ↦
-                subst (λ (p : Private). Meets limits start (events ++ e ∷ []) homes k.next s p.phase) (sym (others_same w t s is.0 other s_is.0))
-                (names_meets (events ++ e ∷ []) w v n k home homes t s cmd told (mutator w s).phase names
-                (meets_grows limits start events home n.next s e (mutator w s).phase (ne_eqb t s (λ same. other (sym same))) (so.meets s s_is)))
+                subst (λ (p : Private). Meets limits start (events ++ e ∷ []) homes k.next s p.from p.phase) (sym (others_same w t s is.0 other s_is.0))
+                (names_meets (events ++ e ∷ []) w v n k home homes t s (mutator w s).from cmd told (mutator w s).phase names
+                (meets_grows limits start events home n.next s (mutator w s).from e (mutator w s).phase (ne_eqb t s (λ same. other (sym same))) (so.meets s s_is)))
           ];
           stamps = λ i word d there left. elim (get_cases events e i d there) [
             | inl old ↦ entry_stays w v (stamp_of word) refl advances (so.stamps i word d old left)
@@ -325,9 +325,9 @@ module _ (limits : Limits) (start : Moment) where
 
   -- One move more.
   move_order : (events : List Event) (w : Core) (n : Naming) (m : Move) → limits ≡ limits_of w.config → IsKept w → Fits w m → HasOrder events w n → HasOrder (events ++ events_in n w m) (after_move w m) (named_after n w m)
-  move_order events w n (Move.Begins t work) numbers kept fits (lines, home, so) =
-      let P : List Event → Type 0 = λ es. HasOrder es (begun w t work) n in
-      subst P (sym (append-nil events)) (lines, home, begun_order lines events w n home t work kept fits.0 fits.1 so)
+  move_order events w n (Move.Begins t work from) numbers kept fits (lines, home, so) =
+      let P : List Event → Type 0 = λ es. HasOrder es (begun_from w t work from) n in
+      subst P (sym (append-nil events)) (lines, home, begun_order lines events w n home t work from kept fits.0 fits.1 so)
   move_order events w n (Move.Steps t) numbers kept fits (lines, home, so) = step_order lines events w n home t numbers kept (move_kept w (Move.Steps t) kept fits) fits.0 fits.1 so
   move_order events w n Move.Turns numbers kept fits (lines, home, so) = (lines, home, turn_order lines events w n home kept so)
   move_order events w n Move.Offers numbers kept fits (lines, home, so) =

@@ -75,7 +75,7 @@ turned_made w = go (next_of w.collector)
 
 -- a move counts as many births as it names
 move_made : (n : Naming) (w : Core) (m : Move) → (named_after n w m).next + w.made ≡ n.next + (after_move w m).made
-move_made n w (Move.Begins t work) = refl
+move_made n w (Move.Begins t work from) = refl
 move_made n w (Move.Steps t) = let next : (named_by n (mutator_next.next_of (mutator w t)) (found_by w t)).next ≡ n.next + births_of (mutator_next.next_of (mutator w t)) (found_by w t) = named_next n (mutator_next.next_of (mutator w t)) (found_by w t) in omega (arith, next)
 move_made n w Move.Turns = ap (λ x. n.next + x) (sym (turned_made w))
 move_made n w Move.Offers = refl
@@ -183,15 +183,15 @@ works_on : (w v : Core) (t : ℕ) (work : Work) (n : Naming) → IsKept w → Is
     → WorksOn w done.last t work n
 unfolding begun_of
 works_on w v t work n kept is idle valid label done =
-    let fits : Fits w (Move.Begins t work) = (is, idle, valid, label) in
-    let here : mutator (begun w t work) t ≡ begun_of (mutator w t) work = mutator_left w t (begun_of (mutator w t) work) kept is in
-    let so : StepsOn (begun w t work) done.last t n = steps_on (begun w t work) t n done.last (move_kept w (Move.Begins t work) kept fits) is done.path done.busy in
+    let fits : Fits w (Move.Begins t work 0) = (is, idle, valid, label, kept.config.some_slots) in
+    let here : mutator (begun w t work) t ≡ begun_of (mutator w t) work 0 = mutator_left w t (begun_of (mutator w t) work 0) kept is in
+    let so : StepsOn (begun w t work) done.last t n = steps_on (begun w t work) t n done.last (move_kept w (Move.Begins t work 0) kept fits) is done.path done.busy in
     record {
-      run = runs_both w (begun w t work) done.last [] [] n n n (runs_one w (begun w t work) (Move.Begins t work) n fits refl) so.run;
+      run = runs_both w (begun w t work) done.last [] [] n n n (runs_one w (begun w t work) (Move.Begins t work 0) n fits refl) so.run;
       kept = so.kept;
       is = so.is;
       its = so.work ∙ ap work_of here;
-      seen = so.seen ∙ begun_sight w t work;
+      seen = so.seen ∙ begun_sight w t work 0;
     }
 
 -- A poll made to its end is a run that tells nothing, and nobody sees it.

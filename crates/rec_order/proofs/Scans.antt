@@ -11,6 +11,8 @@ use Rattle.rec_model.specs.Explained.{with_number}
 use Rattle.rec_model.proofs.Growing.{get_cases, moment-grow, moment-last, quiet_grow}
 use Rattle.rec_model.proofs.Members.{is_in-cons}
 use Rattle.rec_model.proofs.Standing.{with_number-other}
+use Rattle.rec_mutator.specs.Private.{slot_behind}
+use Rattle.rec_mutator.proofs.Around.{all_round}
 
 -- the moment at the old end
 moment-here : (limits : Limits) (start : Moment) (events : List Event) → moment limits start events (length events) ≡ after_all limits start events
@@ -59,40 +61,41 @@ since_grow limits start events t P e other since =
     absent (x ∷ es) zero d past is = omega arith
     absent (x ∷ es) (suc k) d past is = absent es k d (omega arith) is
 
--- What a scan that began at this freed word has met in the slots before this one, where objects below `next` were born, each in its home.
-pub record HasMet (limits : Limits) (start : Moment) (events : List Event) (home : ℕ → ℕ) (next t before slot : ℕ) : Type 0 where
+-- What a scan has met in its first probes that began with slot `from` at this freed word, where objects below `next` were born, each in
+-- its home.
+pub record HasMet (limits : Limits) (start : Moment) (events : List Event) (home : ℕ → ℕ) (next t from before probed : ℕ) : Type 0 where
   pub began : Since limits start events t (λ w. w.marks ≡ before)
-  pub met : (s : ℕ) → s < slot → (n : ℕ) × (home n ≡ s) × (n < next) × Since limits start events t (λ w. is_in n w.unfreed ≡ true)
+  pub met : (count : ℕ) → count < probed → (n : ℕ) × (home n ≡ slot_behind limits.slots from count) × (n < next) × Since limits start events t (λ w. is_in n w.unfreed ≡ true)
 
 -- a scan begins
-pub met_begins : (limits : Limits) (start : Moment) (events : List Event) (home : ℕ → ℕ) (next t before : ℕ) → (after_all limits start events).marks ≡ before → HasMet limits start events home next t before 0
-met_begins limits start events home next t before marks = record { began = since_now limits start events t (λ w. w.marks ≡ before) marks; met = λ s below. absurd (omega arith) }
+pub met_begins : (limits : Limits) (start : Moment) (events : List Event) (home : ℕ → ℕ) (next t from before : ℕ) → (after_all limits start events).marks ≡ before → HasMet limits start events home next t from before 0
+met_begins limits start events home next t from before marks = record { began = since_now limits start events t (λ w. w.marks ≡ before) marks; met = λ count below. absurd (omega arith) }
 
 -- a probe fails: the slot has an object that is unfreed now
-pub met_more : (limits : Limits) (start : Moment) (events : List Event) (home : ℕ → ℕ) (next t before slot n : ℕ) → home n ≡ slot → n < next → is_in n (after_all limits start events).unfreed ≡ true
-    → HasMet limits start events home next t before slot → HasMet limits start events home next t before (slot + 1)
-met_more limits start events home next t before slot n is below unfreed has =
+pub met_more : (limits : Limits) (start : Moment) (events : List Event) (home : ℕ → ℕ) (next t from before probed n : ℕ) → home n ≡ slot_behind limits.slots from probed → n < next → is_in n (after_all limits start events).unfreed ≡ true
+    → HasMet limits start events home next t from before probed → HasMet limits start events home next t from before (probed + 1)
+met_more limits start events home next t from before probed n is below unfreed has =
     record {
       began = has.began;
-      met = λ s passed. elim (cases_eq s slot) [
-        | inl same ↦ (n, is ∙ sym same, below, since_now limits start events t (λ w. is_in n w.unfreed ≡ true) unfreed)
-        | inr other ↦ has.met s (omega (arith, passed, other))
+      met = λ count passed. elim (cases_eq count probed) [
+        | inl same ↦ (n, is ∙ ap (slot_behind limits.slots from) (sym same), below, since_now limits start events t (λ w. is_in n w.unfreed ≡ true) unfreed)
+        | inr other ↦ has.met count (omega (arith, passed, other))
       ];
     }
 
 -- an event of another mutator, a freeing or a mark
-pub met_grows : (limits : Limits) (start : Moment) (events : List Event) (home : ℕ → ℕ) (next t before slot : ℕ) (e : Event) → is_by t e ≡ false
-    → HasMet limits start events home next t before slot → HasMet limits start (events ++ e ∷ []) home next t before slot
-met_grows limits start events home next t before slot e other has =
+pub met_grows : (limits : Limits) (start : Moment) (events : List Event) (home : ℕ → ℕ) (next t from before probed : ℕ) (e : Event) → is_by t e ≡ false
+    → HasMet limits start events home next t from before probed → HasMet limits start (events ++ e ∷ []) home next t from before probed
+met_grows limits start events home next t from before probed e other has =
     record {
       began = since_grow limits start events t (λ w. w.marks ≡ before) e other has.began;
       met = λ s passed. let (n, is, below, since) = has.met s passed in (n, is, below, since_grow limits start events t (λ w. is_in n w.unfreed ≡ true) e other since);
     }
 
 -- a birth: the object that is born next has its home in that slot
-pub met_born : (limits : Limits) (start : Moment) (events : List Event) (home : ℕ → ℕ) (next t before slot place : ℕ)
-    → HasMet limits start events home next t before slot → HasMet limits start events (with_number home next place) (next + 1) t before slot
-met_born limits start events home next t before slot place has =
+pub met_born : (limits : Limits) (start : Moment) (events : List Event) (home : ℕ → ℕ) (next t from before probed place : ℕ)
+    → HasMet limits start events home next t from before probed → HasMet limits start events (with_number home next place) (next + 1) t from before probed
+met_born limits start events home next t from before probed place has =
     record {
       began = has.began;
       met = λ s passed.
@@ -130,13 +133,14 @@ all_met home P (suc bound) met =
     )
 
 -- A scan that has met an object in each slot is the evidence of a busy answer that comes now.
-pub met_all : (limits : Limits) (start : Moment) (events : List Event) (home : ℕ → ℕ) (next t before later : ℕ) (line : Line) → HasMet limits start events home next t before limits.slots
+pub met_all : (limits : Limits) (start : Moment) (events : List Event) (home : ℕ → ℕ) (next t from before later : ℕ) (line : Line) → from < limits.slots → HasMet limits start events home next t from before limits.slots
     → (before % 2 ≡ 1) ⊎ (before < later) → (after_all limits start events).marks ≡ later → BusyFits limits start (events ++ Answers t line ∷ []) t (length events) before later
-met_all limits start events home next t before later line has sweep marks =
+met_all limits start events home next t from before later line there has sweep marks =
     let e : Event = Answers t line in
     let i : ℕ = length events in
     let long : length (events ++ e ∷ []) ≡ i + 1 = length_push events e in
-    let (ns, so) = all_met home (λ n. Since limits start events t (λ w. is_in n w.unfreed ≡ true)) limits.slots (λ s passed. let (n, is, below, since) = has.met s passed in (n, is, since)) in
+    let Met : ℕ → Type 0 = λ s. (n : ℕ) × (home n ≡ s) × Since limits start events t (λ w. is_in n w.unfreed ≡ true) in
+    let (ns, so) = all_met home (λ n. Since limits start events t (λ w. is_in n w.unfreed ≡ true)) limits.slots (all_round Met limits.slots from there (λ count passed. let (n, is, below, since) = has.met count passed in (n, is, since))) in
     let last : moment limits start (events ++ e ∷ []) (i + 1) ≡ after limits (after_all limits start events) e = moment-last limits start events e in
     record {
       sweep = sweep;

@@ -8,7 +8,7 @@ use Rattle.rec_model.specs.declared.told.Told.{Told}
 use Rattle.rec_model.specs.LegalOrder.{Event, Limits, Moment, after_all, is_by, is_birth}
 use Rattle.rec_model.specs.Sight.{IsTaken}
 use Rattle.rec_mutator.specs.Next.{next_of, next_at}
-use Rattle.rec_mutator.specs.Private.{Private, is_busy}
+use Rattle.rec_mutator.specs.Private.{Private, is_busy, probe_of, slot_behind}
 use Rattle.rec_mutator.specs.Step.{Step, Decides}
 use Rattle.rec_mutator.specs.Took.{step_of}
 use Rattle.rec_mutator.specs.declared.phase.Phase.{Phase}
@@ -29,45 +29,46 @@ use Rattle.rec_log.specs.declared.entry.Entry.{Entry}
 use Rattle.rec_model.specs.Explained.{with_number}
 
 -- what a scan has met, by phase
-abbrev pub Meets : Limits → Moment → List Event → (home : ℕ → ℕ) → (next t : ℕ) → Phase → Type 0
-Meets limits start events home next t (at.Scanning reg label before slot) = HasMet limits start events home next t before slot
-Meets limits start events home next t (at.Scanned reg label before) = HasMet limits start events home next t before limits.slots
-Meets limits start events home next t _ = Unit {0}
+abbrev pub Meets : Limits → Moment → List Event → (home : ℕ → ℕ) → (next t from : ℕ) → Phase → Type 0
+Meets limits start events home next t from (at.Scanning reg label leaf before probed) = HasMet limits start events home next t from before probed
+Meets limits start events home next t from (at.Scanned reg label leaf before) = HasMet limits start events home next t from before limits.slots
+Meets limits start events home next t from _ = Unit {0}
 
 -- an event that isn't the mutator's
-pub meets_grows : (limits : Limits) (start : Moment) (events : List Event) (home : ℕ → ℕ) (next t : ℕ) (e : Event) (phase : Phase) → is_by t e ≡ false
-    → Meets limits start events home next t phase → Meets limits start (events ++ e ∷ []) home next t phase
-meets_grows limits start events home next t e (at.Scanning reg label before slot) other has = met_grows limits start events home next t before slot e other has
-meets_grows limits start events home next t e (at.Scanned reg label before) other has = met_grows limits start events home next t before limits.slots e other has
-meets_grows limits start events home next t e _ other has = tt
+pub meets_grows : (limits : Limits) (start : Moment) (events : List Event) (home : ℕ → ℕ) (next t from : ℕ) (e : Event) (phase : Phase) → is_by t e ≡ false
+    → Meets limits start events home next t from phase → Meets limits start (events ++ e ∷ []) home next t from phase
+meets_grows limits start events home next t from e (at.Scanning reg label leaf before probed) other has = met_grows limits start events home next t from before probed e other has
+meets_grows limits start events home next t from e (at.Scanned reg label leaf before) other has = met_grows limits start events home next t from before limits.slots e other has
+meets_grows limits start events home next t from e _ other has = tt
 
 -- a birth
-pub meets_born : (limits : Limits) (start : Moment) (events : List Event) (home : ℕ → ℕ) (next t place : ℕ) (phase : Phase)
-    → Meets limits start events home next t phase → Meets limits start events (with_number home next place) (next + 1) t phase
-meets_born limits start events home next t place (at.Scanning reg label before slot) has = met_born limits start events home next t before slot place has
-meets_born limits start events home next t place (at.Scanned reg label before) has = met_born limits start events home next t before limits.slots place has
-meets_born limits start events home next t place _ has = tt
+pub meets_born : (limits : Limits) (start : Moment) (events : List Event) (home : ℕ → ℕ) (next t from place : ℕ) (phase : Phase)
+    → Meets limits start events home next t from phase → Meets limits start events (with_number home next place) (next + 1) t from phase
+meets_born limits start events home next t from place (at.Scanning reg label leaf before probed) has = met_born limits start events home next t from before probed place has
+meets_born limits start events home next t from place (at.Scanned reg label leaf before) has = met_born limits start events home next t from before limits.slots place has
+meets_born limits start events home next t from place _ has = tt
 
 -- A step of the mutator's own scan that answers nothing.
 module _ (limits : Limits) (start : Moment) (events : List Event) (w : Core) (n : Naming) (home : ℕ → ℕ) (t : ℕ) (same_slots : limits.slots ≡ w.config.slots) (so : Stands w (after_all limits start events) n home) where
-  abbrev MeetsAt : Phase → Type 0
-  MeetsAt phase = Meets limits start events home n.next t phase
+  abbrev MeetsAt : (from : ℕ) → Phase → Type 0
+  MeetsAt from phase = Meets limits start events home n.next t from phase
 
   -- a probe that found a header met the object of that slot
-  probe_meets : (before slot label word : ℕ) (op : Op) → op ≡ ops.ClaimHeader slot label → word ≡ cell (cells_of w) op → word ≢ 0 → HasMet limits start events home n.next t before slot → HasMet limits start events home n.next t before (slot + 1)
-  probe_meets before slot label word op its found some has =
+  probe_meets : (from before probed slot label word : ℕ) (op : Op) → slot ≡ slot_behind limits.slots from probed → op ≡ ops.ClaimHeader slot label → word ≡ cell (cells_of w) op → word ≢ 0 → HasMet limits start events home n.next t from before probed
+      → HasMet limits start events home n.next t from before (probed + 1)
+  probe_meets from before probed slot label word op there its found some has =
       let header : word ≡ slice_index_or w.headers slot 0 = found ∙ ap (cell (cells_of w)) its in
       let taken : IsTaken (sight w) slot = omega (arith, header, some) in
       let below : n.number slot < length (after_all limits start events).heap.objects = so.stands.there slot taken in
       let next : n.next ≡ length (after_all limits start events).heap.objects = so.next in
-      met_more limits start events home n.next t before slot (n.number slot) (so.homes slot taken) (omega (arith, below, next)) (so.unfreed.there slot taken) has
+      met_more limits start events home n.next t from before probed (n.number slot) (so.homes slot taken ∙ there) (omega (arith, below, next)) (so.unfreed.there slot taken) has
 
-  module _ (p : Private) (word : ℕ) (b : Contents) (op : Op) (q : Private) (many : p.slots ≡ w.config.slots) (found : word ≡ cell (cells_of w) op) (has : Meets limits start events home n.next t p.phase) where
+  module _ (p : Private) (word : ℕ) (b : Contents) (op : Op) (q : Private) (many : p.slots ≡ w.config.slots) (found : word ≡ cell (cells_of w) op) (has : Meets limits start events home n.next t p.from p.phase) where
     decided : {cmd : Cmd} {phase : Phase} {its_op : Op} {registers : List (Option ℕ)} {entries : List Entry} {told : Told} → Decides p op q cmd phase its_op registers entries told
-        → Meets limits start events home n.next t q.phase
-    decided d = subst (λ (x : Private). Meets limits start events home n.next t x.phase) (sym d.after) tt
+        → Meets limits start events home n.next t q.from q.phase
+    decided d = subst (λ (x : Private). Meets limits start events home n.next t x.from x.phase) (sym d.after) tt
 
-    pub meets_step : Step p word b op q → Meets limits start events home n.next t q.phase
+    pub meets_step : Step p word b op q → Meets limits start events home n.next t q.from q.phase
     meets_step (Step.null reg d) = decided d
     meets_step (Step.copy dst src d) = decided d
     meets_step (Step.compare x y d) = decided d
@@ -78,30 +79,30 @@ module _ (limits : Limits) (start : Moment) (events : List Event) (w : Core) (n 
     meets_step (Step.put src f val slot names room d) = decided d
     meets_step (Step.value_of_null reg names d) = decided d
     meets_step (Step.value reg slot names d) = decided d
-    meets_step (Step.new_refused reg label full d) = decided d
-    meets_step (Step.new_begins reg label room g) =
-        subst (λ (x : Private). Meets limits start events home n.next t x.phase) (sym g.after)
-        (met_begins limits start events home n.next t word (so.marks ∙ sym (found ∙ ap (cell (cells_of w)) g.operation)))
-    meets_step (Step.new_wins reg label before slot free d) = decided d
-    meets_step (Step.new_goes_on reg label before slot taken more g) =
-        subst (λ (x : Private). Meets limits start events home n.next t x.phase) (sym g.after)
-        (probe_meets before slot label word op g.operation found taken (subst MeetsAt g.phase has))
-    meets_step (Step.new_finds_none reg label before slot taken last g) =
-        subst (λ (x : Private). Meets limits start events home n.next t x.phase) (sym g.after)
-        (subst (HasMet limits start events home n.next t before) (last ∙ many ∙ sym same_slots) (probe_meets before slot label word op g.operation found taken (subst MeetsAt g.phase has)))
-    meets_step (Step.new_is_full reg label before still d) = decided d
-    meets_step (Step.new_is_busy reg label before moves d) = decided d
-    meets_step (Step.poll_stays own g) = subst (λ (x : Private). Meets limits start events home n.next t x.phase) (sym g.after) tt
-    meets_step (Step.poll_crosses other g) = subst (λ (x : Private). Meets limits start events home n.next t x.phase) (sym g.after) tt
-    meets_step (Step.take_box c) = subst (λ (x : Private). Meets limits start events home n.next t x.phase) (sym c.after) tt
-    meets_step (Step.give_box c) = subst (λ (x : Private). Meets limits start events home n.next t x.phase) (sym c.after) tt
+    meets_step (Step.new_refused reg label leaf full d) = decided d
+    meets_step (Step.new_begins reg label leaf room g) =
+        subst (λ (x : Private). Meets limits start events home n.next t x.from x.phase) (sym g.after)
+        (met_begins limits start events home n.next t p.from word (so.marks ∙ sym (found ∙ ap (cell (cells_of w)) g.operation)))
+    meets_step (Step.new_wins reg label leaf before probed free d) = decided d
+    meets_step (Step.new_goes_on reg label leaf before probed taken more g) =
+        subst (λ (x : Private). Meets limits start events home n.next t x.from x.phase) (sym g.after)
+        (probe_meets p.from before probed (probe_of p probed) label word op (ap (λ n. slot_behind n p.from probed) (many ∙ sym same_slots)) g.operation found taken (subst (MeetsAt p.from) g.phase has))
+    meets_step (Step.new_finds_none reg label leaf before probed taken last g) =
+        subst (λ (x : Private). Meets limits start events home n.next t x.from x.phase) (sym g.after)
+        (subst (HasMet limits start events home n.next t p.from before) (last ∙ many ∙ sym same_slots) (probe_meets p.from before probed (probe_of p probed) label word op (ap (λ n. slot_behind n p.from probed) (many ∙ sym same_slots)) g.operation found taken (subst (MeetsAt p.from) g.phase has)))
+    meets_step (Step.new_is_full reg label leaf before still d) = decided d
+    meets_step (Step.new_is_busy reg label leaf before moves d) = decided d
+    meets_step (Step.poll_stays own g) = subst (λ (x : Private). Meets limits start events home n.next t x.from x.phase) (sym g.after) tt
+    meets_step (Step.poll_crosses other g) = subst (λ (x : Private). Meets limits start events home n.next t x.from x.phase) (sym g.after) tt
+    meets_step (Step.take_box c) = subst (λ (x : Private). Meets limits start events home n.next t x.from x.phase) (sym c.after) tt
+    meets_step (Step.give_box c) = subst (λ (x : Private). Meets limits start events home n.next t x.from x.phase) (sym c.after) tt
 
 -- the mutator's own scan, over a step of the world
 pub own_meets : (limits : Limits) (start : Moment) (events : List Event) (w : Core) (n : Naming) (home : ℕ → ℕ) (t : ℕ) → limits.slots ≡ w.config.slots → Stands w (after_all limits start events) n home
-    → IsKept w → IsMutator w.config t → is_busy (mutator w t) ≡ true → Meets limits start events home n.next t (mutator w t).phase → Meets limits start events home n.next t (mutator (stepped w t) t).phase
+    → IsKept w → IsMutator w.config t → is_busy (mutator w t) ≡ true → Meets limits start events home n.next t (mutator w t).from (mutator w t).phase → Meets limits start events home n.next t (mutator (stepped w t) t).from (mutator (stepped w t) t).phase
 own_meets limits start events w n home t same_slots so kept is busy has =
     let own = (actor_of w t kept is).own in
-    subst (λ (x : Private). Meets limits start events home n.next t x.phase) (sym (stepped_mutator w t kept is))
+    subst (λ (x : Private). Meets limits start events home n.next t x.from x.phase) (sym (stepped_mutator w t kept is))
     (meets_step limits start events w n home t same_slots so (mutator w t) (found_by w t) (box w t) (next_of (mutator w t)) (step_of (mutator w t) (found_by w t) (box w t)) own.slots refl has
     (step_made (mutator w t) (found_by w t) (box w t) busy own.between))
 
@@ -121,12 +122,12 @@ same_names n w t made =
     unborn_names n (next_of (mutator w t)) (found_by w t) (let same : w.made + births_of (next_of (mutator w t)) (found_by w t) ≡ w.made = made in omega (arith, same))
 
 -- a scan claims the slot to which it has come
-claims_at : (p : Private) (slot : ℕ) → probed_at p.phase ≡ Some slot → (label : ℕ) × (next_of p ≡ ops.ClaimHeader slot label)
+claims_at : (p : Private) (slot : ℕ) → probed_at p p.phase ≡ Some slot → (label : ℕ) × (next_of p ≡ ops.ClaimHeader slot label)
 unfolding next_of next_at
 claims_at p slot probed = go p.phase probed
   where
-    go : (phase : Phase) → probed_at phase ≡ Some slot → (label : ℕ) × (next_at p phase ≡ ops.ClaimHeader slot label)
-    go (at.Scanning reg label before s) is = let same : s ≡ slot = cc in (label, ap (λ x. ops.ClaimHeader x label) same)
+    go : (phase : Phase) → probed_at p phase ≡ Some slot → (label : ℕ) × (next_at p phase ≡ ops.ClaimHeader slot label)
+    go (at.Scanning reg label leaf before probed) is = let same : probe_of p probed ≡ slot = cc in (label, ap (λ x. ops.ClaimHeader x label) same)
     go _ is = cc
 
 -- how the naming and the homes go on with a step that answers

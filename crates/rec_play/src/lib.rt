@@ -25,8 +25,3 @@ pub use laws::{orders_name_each_command, turns_are_drawn_as_told};
 pub use opening::{config_for, journals_for, order_for};
 pub use playing::{lengths_of, play};
 pub use schedule::{MOST_MUTATORS, Schedule};
-
-#[cfg(test)]
-mod cycle_tests;
-#[cfg(test)]
-mod tests;

@@ -18,13 +18,6 @@ unbuffered_rest s k = λ y h. k y (omega (arith, h, times_rest y s.free))
 pub unbuffered_swept : (s : State) (x : ℕ) → AreUnbuffered s → AreUnbuffered (swept s x)
 unbuffered_swept s x k = λ y h. field_kept (λ (w : Slot). w.buffered) s.slots x (swept_clean (slot_at s x)) refl y ∙ k y (omega (arith, h, times_rest y s.free))
 
--- a slot in no buffer is the only one of the free list
-pub unbuffered_one : (s : State) (x : ℕ) → (slot_at s x).buffered ≡ false → AreUnbuffered (record s { free = x ∷ [] })
-unbuffered_one s x b = λ y h. elim (eqb_tells y x) [
-  | inl q ↦ ap (λ z. (slot_at s z).buffered) q.1 ∙ b
-  | inr q ↦ let n : one (eqb y x) ≡ 0 = ap one q.0 in absurd (omega (arith, h, n, times-cons y x [], times-nil y))
-]
-
 -- nothing is swept yet
 swept_none : (s : State) → Swept s s []
 swept_none s = record { free = refl; slots = λ x. ap (λ n. swept_if (ltb 0 n) (slot_at s x)) (sym (times-nil x)); many = refl; roots = refl; sets = refl; marked = refl; work = refl; zeros = refl }

@@ -1,5 +1,5 @@
 /// The field that is exchanged next.
-#[derive(Clone, Copy, Debug, PartialEq, Eq)]
+#[derive(Clone, Copy)]
 pub struct At {
     /// The released slot at work.
     pub slot: u16,

@@ -16,7 +16,7 @@ use rec_word::{Op, place, target};
 use std::marker::Model;
 
 /// The freeing of a set that passed both tests. It takes no memory.
-#[derive(Debug, Drop)]
+#[derive(Drop)]
 pub struct CycleFree {
     fields: u8,
     at: Option<Member>,

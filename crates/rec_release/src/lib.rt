@@ -27,8 +27,6 @@ mod laws;
 mod release;
 mod sweep;
 mod take_off;
-#[cfg(test)]
-mod tests;
 
 pub use at::At;
 pub use cycle_free::CycleFree;

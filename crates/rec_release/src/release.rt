@@ -14,7 +14,7 @@ use rec_word::{Op, place, target};
 use std::marker::Model;
 
 /// The release of the zeros. It takes no memory.
-#[derive(Debug, Drop)]
+#[derive(Drop)]
 pub struct Release {
     fields: u8,
     at: Option<At>,

@@ -6,7 +6,7 @@ use rec_word::Op;
 use std::marker::Model;
 
 /// The sweep of the free list. It takes no memory.
-#[derive(Debug, Drop)]
+#[derive(Drop)]
 pub struct Sweep {
     due: Option<u16>,
 }

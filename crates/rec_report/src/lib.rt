@@ -77,6 +77,3 @@ pub fn text(
     text.add(totals)?;
     Ok(text)
 }
-
-#[cfg(test)]
-mod tests;

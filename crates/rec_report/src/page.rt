@@ -16,7 +16,7 @@ use std::marker::Model;
 const USUAL_LENGTH: usize = 16;
 
 /// A text, line by line: its bytes, and how many of them each line has. So a line takes no memory of its own.
-#[derive(Debug, Drop)]
+#[derive(Drop)]
 pub struct Text {
     bytes: Vec<u8>,
     lengths: Vec<usize>,

@@ -1,11 +1,11 @@
 -- The first word of a line tells which command it is.
-use Rattle.std.proofs.Common.{◌≡◌, ◌≢◌, ℕ, suc, ◌+◌, ◌*◌, ◌==◌, Bool, true, false, cond, List, ◌∷◌, length, get_or, map, refl, sym, ap, subst, ◌∙◌, arith}
-use Rattle.std.specs.Prelude.{codes, ◌↔◌, IsTrue}
+use Rattle.std.proofs.Common.{◌≡◌, ℕ, suc, ◌+◌, ◌*◌, ◌==◌, Bool, true, false, cond, List, ◌∷◌, length, get_or, map, refl, sym, ap, ◌∙◌, arith}
+use Rattle.std.specs.Prelude.{◌↔◌, IsTrue}
 use Rattle.std.specs.Fmt.{decimal}
 use Rattle.rec_model.specs.declared.command.Cmd.{Cmd}
 use Rattle.rec_model.specs.declared.command.Cmd.TheVariants.{New, Null, Copy, Get, Put, Value, Same}
 use Rattle.rec_script.specs.declared.error.Kind.{Kind}
-use Rattle.rec_script.specs.Script.{word_of, operands_of, limits_of, IsShaped, IsBadCommand}
+use Rattle.rec_script.specs.Script.{word_of, operands_of, limits_of, IsBadCommand}
 use Rattle.rec_script.specs.Operands.{AreMisread}
 
 -- the first two letters, which tell the words apart
@@ -59,22 +59,6 @@ bad_operands registers fields count cmd word operands _ e (AreMisread.number oth
 bad_operands registers fields count cmd word operands _ e (AreMisread.too_many same full) = IsBadCommand.too_many cmd (e, ap suc (same ∙ limits_length registers fields cmd)) full
 bad_operands registers fields count cmd word operands kind e (AreMisread.operand _ same room wrong) = IsBadCommand.operand cmd kind (e, ap suc (same ∙ limits_length registers fields cmd)) room wrong
 
--- the same where the limits are known by equations
-pub bad_operands_at : (registers fields count r f : ℕ) (cmd : Cmd) (word : List ℕ) (operands : List (List ℕ)) (kind : Kind) → r ≡ registers → f ≡ fields → word ≡ word_of cmd → AreMisread count (limits_of r f cmd) operands kind → IsBadCommand registers fields count (word ∷ operands) kind
-bad_operands_at registers fields count r f cmd word operands kind r-is f-is e h =
-    bad_operands registers fields count cmd word operands kind e (subst (λ (n : ℕ). AreMisread count (limits_of registers n cmd) operands kind) f-is (subst (λ (n : ℕ). AreMisread count (limits_of n f cmd) operands kind) r-is h))
-
 -- a test that gave false
 pub is_not : (b : Bool) (P : Type 0) → (IsTrue b ↔ P) → b ≡ false → P → ⊥
 is_not b P iff e p = let t : b ≡ true = iff.1 p in absurd (cc)
-
--- no command has another word
-pub other_word : (word : List ℕ) (operands : List (List ℕ)) → word ≢ codes "new" → word ≢ codes "null" → word ≢ codes "copy" → word ≢ codes "get" → word ≢ codes "put" → word ≢ codes "value" → word ≢ codes "same"
-    → (cmd : Cmd) → IsShaped (word ∷ operands) cmd → ⊥
-other_word word operands no-new no-null no-copy no-get no-put no-value no-same (New reg label) shape = no-new shape.0
-other_word word operands no-new no-null no-copy no-get no-put no-value no-same (Null reg) shape = no-null shape.0
-other_word word operands no-new no-null no-copy no-get no-put no-value no-same (Copy dst src) shape = no-copy shape.0
-other_word word operands no-new no-null no-copy no-get no-put no-value no-same (Get dst src field) shape = no-get shape.0
-other_word word operands no-new no-null no-copy no-get no-put no-value no-same (Put src field val) shape = no-put shape.0
-other_word word operands no-new no-null no-copy no-get no-put no-value no-same (Value reg) shape = no-value shape.0
-other_word word operands no-new no-null no-copy no-get no-put no-value no-same (Same a b) shape = no-same shape.0

@@ -1,8 +1,11 @@
 //! The line of a command.
 
-ghost use Rattle.std.specs.Prelude.{◌≡◌, ◌≢◌, ℕ, ◌<◌, ◌≤◌, List, [], ◌∷◌, IfOk, IfErr};
+ghost use Rattle.std.specs.Prelude.{◌≡◌, ◌≢◌, ◌<◌, ◌≤◌, ◌∷◌, map, IfOk, IfErr, IfSome, IfNone};
+ghost use Rattle.std.specs.Fmt.{decimal};
+ghost use Rattle.rec_model.specs.declared.command.Cmd.{Cmd};
 ghost use Rattle.rec_script.specs.Lines.{words};
-ghost use Rattle.rec_script.specs.Script.{IsCommand, IsBadCommand, command_line};
+ghost use Rattle.rec_script.specs.Operands.{AreMisread};
+ghost use Rattle.rec_script.specs.Script.{IsCommand, IsBadCommand, command_line, limits_of, operands_of, word_of};
 
 use crate::error::Kind;
 use crate::operand::{Limit, is_name, one_operand, three_operands, two_operands};
@@ -13,6 +16,113 @@ const LABEL: Limit = Limit {
     below: 1 << 32,
     past: Kind::BadNumber,
 };
+
+/// The command that a line with this first word spells, with zeros for its operands.
+fn named(word: &[u8]) -> Option<Cmd>
+    ensures none { IfNone result ((cmd : Cmd) → word.now ≢ word_of cmd) }
+    ensures some { IfSome result (λ cmd. word.now ≡ word_of cmd) }
+{
+    if is_name(word, b"new") {
+        Some(Cmd::New { reg: 0, label: 0 })
+    } else if is_name(word, b"null") {
+        Some(Cmd::Null { reg: 0 })
+    } else if is_name(word, b"copy") {
+        Some(Cmd::Copy { dst: 0, src: 0 })
+    } else if is_name(word, b"get") {
+        Some(Cmd::Get {
+            dst: 0,
+            src: 0,
+            field: 0,
+        })
+    } else if is_name(word, b"put") {
+        Some(Cmd::Put {
+            src: 0,
+            field: 0,
+            val: 0,
+        })
+    } else if is_name(word, b"value") {
+        Some(Cmd::Value { reg: 0 })
+    } else if is_name(word, b"same") {
+        Some(Cmd::Same { a: 0, b: 0 })
+    } else {
+        None
+    }
+}
+
+/// The command like this one with the operands that a line has behind its first word, in a mutator that has so many commands.
+fn with_operands(
+    named: Cmd,
+    registers: u32,
+    fields: u32,
+    count: usize,
+    rest: &[u8],
+) -> Result<Cmd, Kind>
+    requires few { count ≤ 200000 }
+    requires registers { registers ≤ 64 }
+    requires fields { fields ≤ 16 }
+    ensures word { IfOk result (λ cmd. word_of cmd ≡ word_of named) }
+    ensures right { IfOk result (λ cmd. words rest.now ≡ map decimal (operands_of cmd)) }
+    ensures in_range { IfOk result (λ cmd. IsCommand registers fields cmd) }
+    ensures room { IfOk result (λ cmd. count < 200000) }
+    ensures wrong { IfErr result (λ kind. AreMisread count
+        (limits_of registers fields named) (words rest.now) kind) }
+{
+    let register = Limit {
+        below: u64::from(registers),
+        past: Kind::Register,
+    };
+    let field = Limit {
+        below: u64::from(fields),
+        past: Kind::Field,
+    };
+    Ok(match named {
+        Cmd::New { .. } => {
+            let (reg, label) = two_operands(count, register, LABEL, rest)?;
+            Cmd::New {
+                reg: reg as u8,
+                label,
+            }
+        }
+        Cmd::Null { .. } => {
+            let reg = one_operand(count, register, rest)?;
+            Cmd::Null { reg: reg as u8 }
+        }
+        Cmd::Copy { .. } => {
+            let (dst, src) = two_operands(count, register, register, rest)?;
+            Cmd::Copy {
+                dst: dst as u8,
+                src: src as u8,
+            }
+        }
+        Cmd::Get { .. } => {
+            let (dst, src, field) = three_operands(count, register, register, field, rest)?;
+            Cmd::Get {
+                dst: dst as u8,
+                src: src as u8,
+                field: field as u8,
+            }
+        }
+        Cmd::Put { .. } => {
+            let (src, field, val) = three_operands(count, register, field, register, rest)?;
+            Cmd::Put {
+                src: src as u8,
+                field: field as u8,
+                val: val as u8,
+            }
+        }
+        Cmd::Value { .. } => {
+            let reg = one_operand(count, register, rest)?;
+            Cmd::Value { reg: reg as u8 }
+        }
+        Cmd::Same { .. } => {
+            let (a, b) = two_operands(count, register, register, rest)?;
+            Cmd::Same {
+                a: a as u8,
+                b: b as u8,
+            }
+        }
+    })
+}
 
 /// The command of a line with this first word and what is behind it, in a mutator that has so many.
 pub fn command(
@@ -31,46 +141,8 @@ pub fn command(
     ensures wrong { IfErr result (λ kind.
         IsBadCommand registers fields count (word.now ∷ words rest.now) kind) }
 {
-    let register = Limit {
-        below: u64::from(registers),
-        past: Kind::Register,
-    };
-    let field = Limit {
-        below: u64::from(fields),
-        past: Kind::Field,
-    };
-    if is_name(word, b"new") {
-        let (reg, label) = two_operands(count, register, LABEL, rest)?;
-        let reg = reg as u8;
-        return Ok(Cmd::New { reg, label });
+    match named(word) {
+        Some(named) => with_operands(named, registers, fields, count, rest),
+        None => Err(Kind::BadCommand),
     }
-    if is_name(word, b"null") {
-        let reg = one_operand(count, register, rest)? as u8;
-        return Ok(Cmd::Null { reg });
-    }
-    if is_name(word, b"copy") {
-        let (dst, src) = two_operands(count, register, register, rest)?;
-        let (dst, src) = (dst as u8, src as u8);
-        return Ok(Cmd::Copy { dst, src });
-    }
-    if is_name(word, b"get") {
-        let (dst, src, field) = three_operands(count, register, register, field, rest)?;
-        let (dst, src, field) = (dst as u8, src as u8, field as u8);
-        return Ok(Cmd::Get { dst, src, field });
-    }
-    if is_name(word, b"put") {
-        let (src, field, val) = three_operands(count, register, field, register, rest)?;
-        let (src, field, val) = (src as u8, field as u8, val as u8);
-        return Ok(Cmd::Put { src, field, val });
-    }
-    if is_name(word, b"value") {
-        let reg = one_operand(count, register, rest)? as u8;
-        return Ok(Cmd::Value { reg });
-    }
-    if is_name(word, b"same") {
-        let (a, b) = two_operands(count, register, register, rest)?;
-        let (a, b) = (a as u8, b as u8);
-        return Ok(Cmd::Same { a, b });
-    }
-    Err(Kind::BadCommand)
 }

@@ -20,7 +20,7 @@ use std::alloc::{AllocError, Global};
 use std::str::from_utf8;
 
 /// What the lines so far have spelled.
-#[derive(Debug, Drop)]
+#[derive(Drop)]
 pub enum Draft {
     Nothing,
     Header,

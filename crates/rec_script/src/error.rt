@@ -38,19 +38,19 @@ impl fmt::Display for Kind {
     ghost output = { λ kind. Some (name_of kind) };
 
     fn fmt<W: fmt::Write>(&self, f: &mut fmt::Formatter<W>) -> fmt::Result {
-        match self {
-            Kind::TooLong => write!(f, "TooLong"),
-            Kind::NotUtf8 => write!(f, "NotUtf8"),
-            Kind::NoHeader => write!(f, "NoHeader"),
-            Kind::BadHeap => write!(f, "BadHeap"),
-            Kind::NoMutator => write!(f, "NoMutator"),
-            Kind::BadCommand => write!(f, "BadCommand"),
-            Kind::TooManyMutators => write!(f, "TooManyMutators"),
-            Kind::TooManyCommands => write!(f, "TooManyCommands"),
-            Kind::BadNumber => write!(f, "BadNumber"),
-            Kind::Register => write!(f, "Register"),
-            Kind::Field => write!(f, "Field"),
-        }
+        f.write_str(match self {
+            Kind::TooLong => "TooLong",
+            Kind::NotUtf8 => "NotUtf8",
+            Kind::NoHeader => "NoHeader",
+            Kind::BadHeap => "BadHeap",
+            Kind::NoMutator => "NoMutator",
+            Kind::BadCommand => "BadCommand",
+            Kind::TooManyMutators => "TooManyMutators",
+            Kind::TooManyCommands => "TooManyCommands",
+            Kind::BadNumber => "BadNumber",
+            Kind::Register => "Register",
+            Kind::Field => "Field",
+        })
     }
 }
 

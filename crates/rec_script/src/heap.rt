@@ -8,7 +8,7 @@ ghost use Rattle.rec_script.specs.Script.{IsHeap, IsNumeralOf, heap_line};
 use crate::operand::{is_name, numeral, three_words};
 
 /// How large the heap of a script is.
-#[derive(Clone, Copy, Debug)]
+#[derive(Clone, Copy)]
 pub struct Heap {
     pub slots: u32,
     pub fields: u32,

@@ -21,8 +21,6 @@ mod operand;
 mod reading;
 mod script;
 mod spaced;
-#[cfg(test)]
-mod tests;
 
 pub use error::{Kind, ScriptError};
 pub use laws::{refusals_are_unique, refused_texts_spell_nothing, texts_spell_one_script};

@@ -35,7 +35,7 @@ pub fn numeral(word: &[u8]) -> Option<u32>
 }
 
 /// What an operand has to be below, and what is wrong with a numeral that isn't.
-#[derive(Clone, Copy, Debug)]
+#[derive(Clone, Copy)]
 pub struct Limit {
     pub below: u64,
     pub past: Kind,

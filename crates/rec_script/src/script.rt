@@ -10,7 +10,7 @@ use std::marker::Model;
 
 /// A script. Contracts see how large its heap is, and the commands of each mutator in turn.
 // The last mutator's commands stand apart, as they grow while a text is read.
-#[derive(Debug, Drop)]
+#[derive(Drop)]
 pub struct Script {
     slots: u32,
     fields: u32,

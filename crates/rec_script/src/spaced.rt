@@ -1,7 +1,7 @@
 //! Commands as most scripts spell them: one space between each two words, and an LF behind the last one. Such a line is
 //! read in one pass. Any other line has no answer here, right or wrong, and is read by its words.
 
-ghost use Rattle.std.specs.Prelude.{◌≡◌, ◌≢◌, ◌<◌, ◌≤◌, ◌++◌, ◌∷◌, slice_index, IfSome};
+ghost use Rattle.std.specs.Prelude.{◌≡◌, ◌≢◌, ℕ, ◌<◌, ◌≤◌, ◌^◌, ◌++◌, [], ◌∷◌, slice_index, IfSome};
 ghost use Rattle.std.specs.Fmt.{decimal};
 ghost use Rattle.rec_script.specs.Lines.{spaced};
 ghost use Rattle.rec_script.specs.Script.{IsCommand, command_line};
@@ -86,6 +86,55 @@ fn operand(below: u32, bytes: &[u8], end: u8) -> Option<(u8, &[u8])>
     }
 }
 
+/// Two operands below a limit that end a line, and what is behind it.
+#[inline(always)]
+fn two_operands(below: u32, bytes: &[u8]) -> Option<(u8, u8, &[u8])>
+    requires { below ≤ 64 }
+    ensures found { IfSome result (λ x. bytes.now ≡ spaced (decimal x.0 ∷ decimal x.1 ∷ []) x.2.now) }
+    ensures below { IfSome result (λ x. (x.0 < below) × (x.1 < below)) }
+{
+    let (first, rest) = operand(below, bytes, b' ')?;
+    let (second, rest) = operand(below, rest, b'\n')?;
+    Some((first, second, rest))
+}
+
+/// Three operands, each below its limit, that end a line, and what is behind it.
+#[inline(always)]
+fn three_operands(limits: (u32, u32, u32), bytes: &[u8]) -> Option<(u8, u8, u8, &[u8])>
+    requires { (limits.0 ≤ 64) × (limits.1 ≤ 64) × (limits.2 ≤ 64) }
+    ensures found { IfSome result (λ x.
+        bytes.now ≡ spaced (decimal x.0 ∷ decimal x.1 ∷ decimal x.2 ∷ []) x.3.now) }
+    ensures below { IfSome result (λ x. (x.0 < limits.0) × (x.1 < limits.1) × (x.2 < limits.2)) }
+{
+    let (first, rest) = operand(limits.0, bytes, b' ')?;
+    let (second, rest) = operand(limits.1, rest, b' ')?;
+    let (third, rest) = operand(limits.2, rest, b'\n')?;
+    Some((first, second, third, rest))
+}
+
+/// A register and a label that end a line, and what is behind it.
+#[inline(always)]
+fn birth(registers: u32, bytes: &[u8]) -> Option<(u8, u32, &[u8])>
+    requires { registers ≤ 64 }
+    ensures found { IfSome result (λ x. bytes.now ≡ spaced (decimal x.0 ∷ decimal x.1 ∷ []) x.2.now) }
+    ensures below { IfSome result (λ x. (x.0 < registers) × (x.1 < 2 ^ 32)) }
+{
+    let (reg, rest) = operand(registers, bytes, b' ')?;
+    let (label, rest) = numeral(rest, b'\n')?;
+    Some((reg, label, rest))
+}
+
+/// What is behind this byte at the front.
+#[inline(always)]
+fn behind(first: u8, bytes: &[u8]) -> Option<&[u8]>
+    ensures { IfSome result (λ rest. bytes.now ≡ first ∷ rest.now) }
+{
+    match bytes {
+        [byte, rest @ ..] if *byte == first => Some(rest),
+        _ => None,
+    }
+}
+
 /// A command at the front, spaced, and what is behind its line.
 #[inline(always)]
 pub fn spaced_command(registers: u32, fields: u32, bytes: &[u8]) -> Option<(Cmd, &[u8])>
@@ -94,42 +143,42 @@ pub fn spaced_command(registers: u32, fields: u32, bytes: &[u8]) -> Option<(Cmd,
     ensures found { IfSome result (λ x. bytes.now ≡ spaced (command_line x.0) x.1.now) }
     ensures in_range { IfSome result (λ x. IsCommand registers fields x.0) }
 {
-    match bytes {
-        [b'g', b'e', b't', b' ', rest @ ..] => {
-            let (dst, rest) = operand(registers, rest, b' ')?;
-            let (src, rest) = operand(registers, rest, b' ')?;
-            let (field, rest) = operand(fields, rest, b'\n')?;
-            Some((Cmd::Get { dst, src, field }, rest))
-        }
-        [b'p', b'u', b't', b' ', rest @ ..] => {
-            let (src, rest) = operand(registers, rest, b' ')?;
-            let (field, rest) = operand(fields, rest, b' ')?;
-            let (val, rest) = operand(registers, rest, b'\n')?;
-            Some((Cmd::Put { src, field, val }, rest))
-        }
-        [b'n', b'e', b'w', b' ', rest @ ..] => {
-            let (reg, rest) = operand(registers, rest, b' ')?;
-            let (label, rest) = numeral(rest, b'\n')?;
-            Some((Cmd::New { reg, label }, rest))
-        }
-        [b'n', b'u', b'l', b'l', b' ', rest @ ..] => {
-            let (reg, rest) = operand(registers, rest, b'\n')?;
-            Some((Cmd::Null { reg }, rest))
-        }
-        [b'c', b'o', b'p', b'y', b' ', rest @ ..] => {
-            let (dst, rest) = operand(registers, rest, b' ')?;
-            let (src, rest) = operand(registers, rest, b'\n')?;
-            Some((Cmd::Copy { dst, src }, rest))
-        }
-        [b'v', b'a', b'l', b'u', b'e', b' ', rest @ ..] => {
-            let (reg, rest) = operand(registers, rest, b'\n')?;
-            Some((Cmd::Value { reg }, rest))
-        }
-        [b's', b'a', b'm', b'e', b' ', rest @ ..] => {
-            let (a, rest) = operand(registers, rest, b' ')?;
-            let (b, rest) = operand(registers, rest, b'\n')?;
-            Some((Cmd::Same { a, b }, rest))
-        }
-        _ => None,
+    let (name, rest) = bytes.split_first_chunk::<4>()?;
+    if name == b"get " {
+        let (dst, src, field, rest) = three_operands((registers, registers, fields), rest)?;
+        Some((Cmd::Get { dst, src, field }, rest))
+    } else if name == b"put " {
+        let (src, field, val, rest) = three_operands((registers, fields, registers), rest)?;
+        Some((Cmd::Put { src, field, val }, rest))
+    } else if name == b"new " {
+        let (reg, label, rest) = birth(registers, rest)?;
+        Some((Cmd::New { reg, label }, rest))
+    } else {
+        longer(registers, name, rest)
+    }
+}
+
+/// The same of a command whose name has more than three letters, behind the first four.
+#[inline(always)]
+fn longer<'a>(registers: u32, name: &[u8; 4], rest: &'a [u8]) -> Option<(Cmd, &'a [u8])>
+    requires registers { registers ≤ 64 }
+    ensures found { IfSome result (λ x. name.now ++ rest.now ≡ spaced (command_line x.0) x.1.now) }
+    ensures in_range { (fields : ℕ) → IfSome result (λ x. IsCommand registers fields x.0) }
+{
+    if name == b"null" {
+        let (reg, rest) = operand(registers, behind(b' ', rest)?, b'\n')?;
+        Some((Cmd::Null { reg }, rest))
+    } else if name == b"copy" {
+        let (dst, src, rest) = two_operands(registers, behind(b' ', rest)?)?;
+        Some((Cmd::Copy { dst, src }, rest))
+    } else if name == b"valu" {
+        let rest = behind(b' ', behind(b'e', rest)?)?;
+        let (reg, rest) = operand(registers, rest, b'\n')?;
+        Some((Cmd::Value { reg }, rest))
+    } else if name == b"same" {
+        let (a, b, rest) = two_operands(registers, behind(b' ', rest)?)?;
+        Some((Cmd::Same { a, b }, rest))
+    } else {
+        None
     }
 }

@@ -3,4 +3,3 @@ pub mod Prepare
 pub mod Prepared
 pub mod Refurbish
 pub mod Settling
-pub mod Worked

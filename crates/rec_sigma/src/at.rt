@@ -1,7 +1,7 @@
 use rec_walk::Member;
 
 /// The field that is loaded next.
-#[derive(Clone, Copy, Debug, PartialEq, Eq)]
+#[derive(Clone, Copy)]
 pub struct At {
     /// The set at work, by its number.
     pub set: u16,

@@ -1,5 +1,5 @@
 /// Where a member of a refused set belongs.
-#[derive(Clone, Copy, Debug, PartialEq, Eq, Drop)]
+#[derive(Clone, Copy, Drop)]
 pub enum Fate {
     /// In the free list: it was released.
     Free,

@@ -22,8 +22,6 @@ mod judge;
 mod laws;
 mod prepare;
 mod renewal;
-#[cfg(test)]
-mod tests;
 
 pub use at::At;
 pub use fate::Fate;

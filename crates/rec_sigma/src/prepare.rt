@@ -13,7 +13,7 @@ use rec_word::{Op, place, target};
 use std::marker::Model;
 
 /// The preparation of all sets for their tests. It takes no memory.
-#[derive(Debug, Drop)]
+#[derive(Drop)]
 pub struct Prep {
     fields: u8,
     at: Option<At>,

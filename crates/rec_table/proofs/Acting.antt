@@ -4,11 +4,11 @@ use Rattle.atomic_table.specs.Seated.{TableId}
 use Rattle.rec_mutator.specs.Private.{Private}
 use Rattle.rec_mutator.specs.Step.{NamesSlots}
 use Rattle.rec_mutator.specs.Took.{begun_of}
-use Rattle.rec_mutator.specs.declared.work.Work.{Work}
 use Rattle.rec_core.specs.Core.{Core, mutator}
 use Rattle.rec_table.specs.Beats.{told, learnt}
 use Rattle.rec_table.specs.Held.{Held, held, has, IsOf}
 use Rattle.rec_table.specs.Rule.{ready, beats}
+use Rattle.rec_table.specs.declared.start.Start.{Start}
 use Rattle.rec_table.specs.declared.views.Beat.{Beat}
 use Rattle.rec_table.specs.declared.views.Beat.TheVariants.{Begins, Saw}
 use Rattle.rec_table.specs.declared.views.Seated.{Seated}
@@ -23,14 +23,14 @@ own_record z z' key o p t h is own at =
 pub opened_is : (z z' : TableId) (key : Core) (o : Private) (t : Seated) (h : Held) → held z' o t ≡ h → IsOf z key h → o ≡ mutator key t.number
 opened_is z z' key o t h is own = ap (λ (x : Held). x.opened) is ∙ own.2 ∙ ap (λ (x : Held). mutator key x.number) (sym is)
 
-pub told_beats : (p : Private) (bs : List Beat) (wk : Option Work) (word : ℕ) → told p (bs ++ beats wk word) ≡ learnt (ready (told p bs) wk) (Saw word)
+pub told_beats : (p : Private) (bs : List Beat) (wk : Option Start) (word : ℕ) → told p (bs ++ beats wk word) ≡ learnt (ready (told p bs) wk) (Saw word)
 told_beats p bs None word = told_both p bs (Saw word ∷ [])
-told_beats p bs (Some work) word = told_both p bs (Begins work ∷ Saw word ∷ [])
+told_beats p bs (Some start) word = told_both p bs (Begins start ∷ Saw word ∷ [])
 
 pub seen_record : (z z' : TableId) (key : Core) (o : Private) (t : Seated) (h : Held) → held z' o t ≡ h → IsOf z key h → has h ≡ told (mutator key t.number) t.log
 seen_record z z' key o t h is own = sym (ap has is) ∙ ap (λ q. told q t.log) (opened_is z z' key o t h is own)
 
-pub ready_names : (p : Private) (wk : Option Work) → NamesSlots p → NamesSlots (ready p wk)
+pub ready_names : (p : Private) (wk : Option Start) → NamesSlots p → NamesSlots (ready p wk)
 unfolding begun_of
 ready_names p None names = names
-ready_names p (Some work) names = names
+ready_names p (Some start) names = names

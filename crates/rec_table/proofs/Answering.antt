@@ -1,15 +1,16 @@
 -- The words that a command's steps found tell why it was answered so.
-use Rattle.std.proofs.Common.{◌≡◌, ℕ, Bool, true, false, true≢false, List, [], ◌∷◌, ◌++◌, Option, Some, None, refl, sym, ap, ◌∙◌, subst, append_assoc}
+use Rattle.std.proofs.Common.{◌≡◌, ◌≢◌, ℕ, ◌+◌, ◌<◌, ◌==◌, Bool, true, false, true≢false, if◌then◌else◌, List, [], ◌∷◌, ◌++◌, length, Option, Some, None, inl, inr, refl, sym, ap, ◌∙◌, subst, append_assoc, eq-eqb, ne_eqb, arith}
+use Rattle.std.proofs.lemmas.Bool.{cases_eq}
 use Rattle.std.specs.Prelude.{fold}
-use Rattle.std.proofs.lemmas.List.{map-append}
+use Rattle.std.proofs.lemmas.List.{length-append, map-append, nil_from_length}
 use Rattle.std.proofs.lemmas.List.Sums.{fold-append}
 use Rattle.rec_model.specs.declared.command.Cmd.{Cmd}
 use Rattle.rec_model.specs.declared.command.Cmd.TheVariants as commands
 use Rattle.rec_model.specs.declared.told.Told.{Told}
 use Rattle.rec_mutator.specs.Causes.{FoundNone, FoundNoneAt, HasCause}
-use Rattle.rec_mutator.specs.Private.{Private, IsMachine, answer_at, answer_of, is_busy, is_busy_at, work_at, work_of}
+use Rattle.rec_mutator.specs.Private.{IsAt, IsMachine, Private, answer_at, answer_of, is_busy, is_busy_at, limit_of, work_at, work_of}
 use Rattle.rec_mutator.specs.Scans.{FailsScan, ops_along}
-use Rattle.rec_mutator.specs.Took.{begun_of, spare, took_of}
+use Rattle.rec_mutator.specs.Took.{begun_of, moved, spare, step_of, swapped_at, swapped_of, took_at, took_of}
 use Rattle.rec_mutator.specs.declared.made.Made.{Made}
 use Rattle.rec_mutator.specs.declared.made.Made.TheVariants as makes
 use Rattle.rec_mutator.specs.declared.phase.Phase as phases
@@ -18,26 +19,29 @@ use Rattle.rec_mutator.specs.declared.work.Work.{Work}
 use Rattle.rec_mutator.specs.declared.work.Work.TheVariants as works
 use Rattle.rec_mutator.proofs.Refusals.{took_cause}
 use Rattle.rec_mutator.proofs.Steps.{TakesNone, here_same, none_between}
-use Rattle.rec_table.specs.Answered.{FailsProbes, IsAnswered, worked}
+use Rattle.rec_table.specs.Answered.{FailsProbes, IsAnswered, IsPolled, worked}
 use Rattle.rec_table.specs.Beats.{learnt, told}
 use Rattle.rec_table.specs.Scan.{saw_all}
+use Rattle.rec_table.specs.declared.start.Start.{Start}
 use Rattle.rec_table.specs.declared.views.Beat.{Beat}
 use Rattle.rec_table.specs.declared.views.Beat.TheVariants.{Begins, Saw}
 use Rattle.rec_table.proofs.Beats.{told_both}
 
 -- a work that was begun and went on step by step: the words that were found, and the record before the last step
-pub record Path (work : Work) (p : Private) (log log' : List Beat) (q : Private) : Type 0 where
+pub record Path (start : Start) (p : Private) (log log' : List Beat) (q : Private) : Type 0 where
   pub words : List ℕ
   pub last : ℕ
-  pub grows : log' ≡ log ++ worked work (words ++ last ∷ [])
+  pub grows : log' ≡ log ++ worked start (words ++ last ∷ [])
   pub before : Private
-  pub along : before ≡ told (begun_of p work) (saw_all words)
-  pub came : (cmd : Cmd) → work ≡ works.Command cmd → before ≡ fold took_of (begun_of p work) words
+  pub along : before ≡ told (begun_of p start.work start.from) (saw_all words)
+  pub came : (cmd : Cmd) → start.work ≡ works.Command cmd → before ≡ fold took_of (begun_of p start.work start.from) words
   pub machine : IsMachine before
   pub busy : is_busy before ≡ true
-  pub works_on : work_of before ≡ Some work
+  pub works_on : work_of before ≡ Some start.work
   pub slots : before.slots ≡ p.slots
   pub made : q ≡ learnt before (Saw last)
+  pub counted : before.steps ≡ length words
+  pub stepped : q.steps ≡ before.steps + 1
 
 is_poll : Option Work → Bool
 is_poll (Some works.Poll) = true
@@ -70,21 +74,25 @@ busy_still p work is none = by p.phase refl
     by at.Giving e = ap is_busy_at e
     by (at.Finished w made) e = absurd (none made (ap answer_at e))
 
-begun_at : (p : Private) (work : Work) → (begun_of p work).phase ≡ at.Begun work
+begun_at : (p : Private) (work : Work) (from : ℕ) → (begun_of p work from).phase ≡ at.Begun work
 unfolding begun_of
-begun_at p work = refl
+begun_at p work from = refl
 
-pub begun_slots : (p : Private) (work : Work) → (begun_of p work).slots ≡ p.slots
+pub begun_slots : (p : Private) (work : Work) (from : ℕ) → (begun_of p work from).slots ≡ p.slots
 unfolding begun_of
-begun_slots p work = refl
+begun_slots p work from = refl
 
-pub path_first : (work : Work) (p q : Private) (log log' : List Beat) (word : ℕ) → log' ≡ log ++ worked work (word ∷ []) → IsMachine (begun_of p work) → is_busy (begun_of p work) ≡ true → work_of (begun_of p work) ≡ Some work
-    → (begun_of p work).slots ≡ p.slots → q ≡ learnt (begun_of p work) (Saw word) → Path work p log log' q
-path_first work p q log log' word grows machine busy works_on slots made = record {
+begun_steps : (p : Private) (work : Work) (from : ℕ) → (begun_of p work from).steps ≡ 0
+unfolding begun_of
+begun_steps p work from = refl
+
+pub path_first : (start : Start) (p q : Private) (log log' : List Beat) (word : ℕ) → log' ≡ log ++ worked start (word ∷ []) → IsMachine (begun_of p start.work start.from) → is_busy (begun_of p start.work start.from) ≡ true → work_of (begun_of p start.work start.from) ≡ Some start.work
+    → (begun_of p start.work start.from).slots ≡ p.slots → q ≡ learnt (begun_of p start.work start.from) (Saw word) → q.steps ≡ (begun_of p start.work start.from).steps + 1 → Path start p log log' q
+path_first start p q log log' word grows machine busy works_on slots made stepped = record {
   words = [];
   last = word;
   grows = grows;
-  before = begun_of p work;
+  before = begun_of p start.work start.from;
   along = refl;
   came = λ cmd is. refl;
   machine = machine;
@@ -92,36 +100,45 @@ path_first work p q log log' word grows machine busy works_on slots made = recor
   works_on = works_on;
   slots = slots;
   made = made;
+  counted = begun_steps p start.work start.from;
+  stepped = stepped;
 }
 
 -- failing probes that found these words, and one step more
-pub path_on : (work : Work) (p q m r : Private) (log was on now : List Beat) (ws : List ℕ) (word : ℕ) → Path work p log was q → is_busy m ≡ true → work_of m ≡ Some work → on ≡ was ++ saw_all ws → m ≡ fold took_of q ws → m ≡ told q (saw_all ws) → now ≡ on ++ Saw word ∷ []
-    → IsMachine m → m.slots ≡ p.slots → r ≡ learnt m (Saw word) → Path work p log now r
-path_on work p q m r log was on now ws word path busy works_on passed came went more machine slots made =
+pub path_on : (start : Start) (p q m r : Private) (log was on now : List Beat) (ws : List ℕ) (word : ℕ) → Path start p log was q → is_busy m ≡ true → work_of m ≡ Some start.work → on ≡ was ++ saw_all ws → m ≡ fold took_of q ws → m ≡ told q (saw_all ws) → now ≡ on ++ Saw word ∷ []
+    → IsMachine m → m.slots ≡ p.slots → r ≡ learnt m (Saw word) → m.steps ≡ q.steps + length ws → r.steps ≡ m.steps + 1 → Path start p log now r
+path_on start p q m r log was on now ws word path busy works_on passed came went more machine slots made probed stepped =
     let first : List ℕ = path.words ++ path.last ∷ [] in
     let last : List Beat = Saw word ∷ [] in
-    let beats : worked work first ++ (saw_all ws ++ last) ≡ worked work ((first ++ ws) ++ word ∷ []) =
-    ap (λ (l : List Beat). Begins work ∷ l) (sym (append_assoc (saw_all first) (saw_all ws) last) ∙ ap (λ (l : List Beat). l ++ last) (sym (map-append (λ (n : ℕ). Saw n) first ws)) ∙ sym (map-append (λ (n : ℕ). Saw n) (first ++ ws) (word ∷ []))) in
+    let beats : worked start first ++ (saw_all ws ++ last) ≡ worked start ((first ++ ws) ++ word ∷ []) =
+    ap (λ (l : List Beat). Begins start ∷ l) (sym (append_assoc (saw_all first) (saw_all ws) last) ∙ ap (λ (l : List Beat). l ++ last) (sym (map-append (λ (n : ℕ). Saw n) first ws)) ∙ sym (map-append (λ (n : ℕ). Saw n) (first ++ ws) (word ∷ []))) in
     record {
       words = first ++ ws;
       last = word;
-      grows = more ∙ ap (λ (l : List Beat). l ++ last) passed ∙ (λ i. (path.grows i ++ saw_all ws) ++ last) ∙ append_assoc (log ++ worked work first) (saw_all ws) last ∙ append_assoc log (worked work first) (saw_all ws ++ last)
+      grows = more ∙ ap (λ (l : List Beat). l ++ last) passed ∙ (λ i. (path.grows i ++ saw_all ws) ++ last) ∙ append_assoc (log ++ worked start first) (saw_all ws) last ∙ append_assoc log (worked start first) (saw_all ws ++ last)
           ∙ ap (λ (l : List Beat). log ++ l) beats;
       before = m;
       along =
-          went ∙ ap (λ (x : Private). told x (saw_all ws)) (path.made ∙ ap (λ (x : Private). learnt x (Saw path.last)) path.along ∙ sym (told_both (begun_of p work) (saw_all path.words) (Saw path.last ∷ [])))
-          ∙ sym (told_both (begun_of p work) (saw_all path.words ++ Saw path.last ∷ []) (saw_all ws))
-          ∙ ap (told (begun_of p work)) (ap (λ (l : List Beat). l ++ saw_all ws) (sym (map-append (λ (n : ℕ). Saw n) path.words (path.last ∷ []))) ∙ sym (map-append (λ (n : ℕ). Saw n) first ws));
+          went ∙ ap (λ (x : Private). told x (saw_all ws)) (path.made ∙ ap (λ (x : Private). learnt x (Saw path.last)) path.along ∙ sym (told_both (begun_of p start.work start.from) (saw_all path.words) (Saw path.last ∷ [])))
+          ∙ sym (told_both (begun_of p start.work start.from) (saw_all path.words ++ Saw path.last ∷ []) (saw_all ws))
+          ∙ ap (told (begun_of p start.work start.from)) (ap (λ (l : List Beat). l ++ saw_all ws) (sym (map-append (λ (n : ℕ). Saw n) path.words (path.last ∷ []))) ∙ sym (map-append (λ (n : ℕ). Saw n) first ws));
       came = λ cmd is.
           let none : TakesNone path.before.phase = command_takes_none path.before cmd (path.works_on ∙ ap (λ (w : Work). Some w) is) in
-          let so_far : q ≡ fold took_of (begun_of p work) first = path.made ∙ here_same path.before path.last (spare (took_of path.before path.last)) path.busy none ∙ ap (λ (x : Private). took_of x path.last) (path.came cmd is)
-          ∙ sym (fold-append took_of (begun_of p work) path.words (path.last ∷ [])) in
-          came ∙ ap (λ (x : Private). fold took_of x ws) so_far ∙ sym (fold-append took_of (begun_of p work) first ws);
+          let so_far : q ≡ fold took_of (begun_of p start.work start.from) first = path.made ∙ here_same path.before path.last (spare (took_of path.before path.last)) path.busy none ∙ ap (λ (x : Private). took_of x path.last) (path.came cmd is)
+          ∙ sym (fold-append took_of (begun_of p start.work start.from) path.words (path.last ∷ [])) in
+          came ∙ ap (λ (x : Private). fold took_of x ws) so_far ∙ sym (fold-append took_of (begun_of p start.work start.from) first ws);
       machine = machine;
       busy = busy;
       works_on = works_on;
       slots = slots;
       made = made;
+      counted =
+          let counted = path.counted in
+          let before = path.stepped in
+          let one : length first ≡ length path.words + 1 = length-append path.words (path.last ∷ []) in
+          let all : length (first ++ ws) ≡ length first + length ws = length-append first ws in
+          omega (arith, counted, before, probed, one, all);
+      stepped = stepped;
     }
 
 cmd_of : Cmd → Option Work → Cmd
@@ -143,29 +160,174 @@ scanned_at q cmd before work found = by q.phase refl found
     by at.Giving e f = absurd f
     by (at.Finished w made) e f = absurd f
 
-fails_probes : (p q : Private) (cmd : Cmd) (before : ℕ) (words : List ℕ) → q ≡ fold took_of (begun_of p (works.Command cmd)) words → q.slots ≡ p.slots → work_of q ≡ Some (works.Command cmd) → FoundNone q before → FailsProbes p cmd before words
-fails_probes p q cmd before words came slots work found =
+fails_probes : (p q : Private) (cmd : Cmd) (from before : ℕ) (words : List ℕ) → q ≡ fold took_of (begun_of p (works.Command cmd) from) words → q.slots ≡ p.slots → work_of q ≡ Some (works.Command cmd) → FoundNone q before → FailsProbes p cmd from before words
+unfolding begun_of
+fails_probes p q cmd from before words came slots work found =
     let (reg, label, is) = scanned_at q cmd before work found.scanned in
     record {
       reg = reg;
       label = label;
       is = is;
-      fails = subst (λ n. FailsScan label n before (ops_along (begun_of p (works.Command cmd)) words) words) slots
-          (found.every (begun_of p (works.Command cmd)) words (record { reg = reg; label = label; begun = begun_at p (works.Command cmd) ∙ ap (λ (c : Cmd). at.Begun (works.Command c)) is; came = came }));
+      fails = subst (λ n. FailsScan label n from before (ops_along (begun_of p (works.Command cmd) from) words) words) slots
+          (found.every (begun_of p (works.Command cmd) from) words (record { reg = reg; label = label; begun = begun_at p (works.Command cmd) from ∙ ap (λ (c : Cmd). at.Begun (works.Command c)) is; came = came }));
     }
 
-pub answered : (p q : Private) (cmd : Cmd) (log log' : List Beat) (told : Told) → Path (works.Command cmd) p log log' q → answer_of q ≡ Some (makes.Answered told) → IsAnswered p cmd log log' q told
-answered p q cmd log log' told path answer =
+-- a command that goes on has steps left
+steps_left : (p : Private) (cmd : Cmd) → IsMachine p → is_busy p ≡ true → work_of p ≡ Some (works.Command cmd) → p.steps < limit_of p.slots (works.Command cmd)
+unfolding is_poll cmd_of
+steps_left p cmd machine busy work = by p.phase refl machine.now
+  where
+    no_poll : (phase : phases.Phase) → p.phase ≡ phase → work_at phase ≡ Some works.Poll → ⊥
+    no_poll phase is poll = true≢false (sym (ap is_poll (sym work ∙ ap work_at is ∙ poll)))
+
+    some : (cmd : Cmd) → 0 < limit_of p.slots (works.Command cmd)
+    some (commands.New reg label) = omega arith
+    some (commands.Null reg) = omega arith
+    some (commands.Copy dst src) = omega arith
+    some (commands.Get dst src f) = omega arith
+    some (commands.Put src f val) = omega arith
+    some (commands.Value reg) = omega arith
+    some (commands.Same a b) = omega arith
+
+    new : (reg label steps : ℕ) (phase : phases.Phase) → p.phase ≡ phase → work_at phase ≡ Some (works.Command (commands.New reg label)) → steps < p.slots + 2 → steps < limit_of p.slots (works.Command cmd)
+    new reg label steps phase e is lt = subst (λ (c : Cmd). steps < limit_of p.slots (works.Command c)) (sym (ap (cmd_of cmd) (sym work ∙ ap work_at e ∙ is))) lt
+
+    by : (phase : phases.Phase) → p.phase ≡ phase → IsAt p p.phase → p.steps < limit_of p.slots (works.Command cmd)
+    by at.Idle e now = absurd (true≢false (sym busy ∙ ap is_busy_at e))
+    by (at.Begun w) e now = let none : p.steps ≡ 0 = (subst (IsAt p) e now).1 in let left = some cmd in omega (arith, none, left)
+    by (at.Scanning reg label b probed) e now = let (scan, low, steps) = subst (IsAt p) e now in new reg label p.steps (at.Scanning reg label b probed) e refl (omega (arith, low, steps))
+    by (at.Scanned reg label b) e now = let steps = (subst (IsAt p) e now).1 in new reg label p.steps (at.Scanned reg label b) e refl (omega (arith, steps))
+    by at.Crossing e now = absurd (no_poll at.Crossing e refl)
+    by at.Swapping e now = absurd (no_poll at.Swapping e refl)
+    by at.Giving e now = absurd (no_poll at.Giving e refl)
+    by (at.Finished w made) e now = absurd (true≢false (sym busy ∙ ap is_busy_at e))
+
+pub answered : (p q : Private) (cmd : Cmd) (from : ℕ) (log log' : List Beat) (told : Told) → Path (record { work = works.Command cmd; from = from }) p log log' q → answer_of q ≡ Some (makes.Answered told) → IsAnswered p cmd log log' q told
+answered p q cmd from log log' told path answer =
     let pre : Private = path.before in
     let none : TakesNone pre.phase = command_takes_none pre cmd path.works_on in
     let took : q ≡ took_of pre path.last = path.made ∙ here_same pre path.last (spare (took_of pre path.last)) path.busy none in
     let cause : HasCause pre (took_of pre path.last) cmd path.last told.answer = took_cause pre path.last cmd told path.machine path.busy (none_between pre.phase none) path.works_on (ap answer_of (sym took) ∙ answer) in
-    let came : pre ≡ fold took_of (begun_of p (works.Command cmd)) path.words = path.came cmd refl in
+    let came : pre ≡ fold took_of (begun_of p (works.Command cmd) from) path.words = path.came cmd refl in
     record {
+      from = from;
       words = path.words;
       last = path.last;
       grows = path.grows;
+      few =
+          let left : pre.steps < limit_of p.slots (works.Command cmd) = subst (λ n. pre.steps < limit_of n (works.Command cmd)) path.slots (steps_left pre cmd path.machine path.busy path.works_on) in
+          let counted = path.counted in
+          omega (arith, left, counted);
       cause = subst (λ (y : Private × Private). HasCause y.0 y.1 cmd path.last told.answer) (λ i. (came i, sym took i)) cause;
-      full = λ is. let (before, found, still) = cause.full.0 is in (before, fails_probes p pre cmd before path.words came path.slots path.works_on found, still);
-      busy = λ before after is. let (found, same, still) = (cause.busy before after).0 is in (fails_probes p pre cmd before path.words came path.slots path.works_on found, same, still);
+      full = λ is. let (before, found, still) = cause.full.0 is in (before, fails_probes p pre cmd from before path.words came path.slots path.works_on found, still);
+      busy = λ before after is. let (found, same, still) = (cause.busy before after).0 is in (fails_probes p pre cmd from before path.words came path.slots path.works_on found, same, still);
     }
+
+-- what a poll comes to with its first step, by whether it found the own epoch
+abbrev looked : Private → (from : ℕ) → Bool → Private
+looked p from own = moved (begun_of p works.Poll from) (if own then at.Finished works.Poll (makes.Crossed None) else at.Crossing)
+
+looked_takes : (p : Private) (from word : ℕ) → took_of (begun_of p works.Poll from) word ≡ looked p from (word == p.epoch)
+unfolding begun_of took_of took_at
+looked_takes p from word = refl
+
+begun_takes_none : (p : Private) (work : Work) (from : ℕ) → TakesNone (begun_of p work from).phase
+unfolding begun_of
+begun_takes_none p work from = tt
+
+looks : (p : Private) (from word : ℕ) → is_busy (begun_of p works.Poll from) ≡ true → learnt (begun_of p works.Poll from) (Saw word) ≡ looked p from (word == p.epoch)
+looks p from word busy = here_same (begun_of p works.Poll from) word (spare (took_of (begun_of p works.Poll from) word)) busy (begun_takes_none p works.Poll from) ∙ looked_takes p from word
+
+-- a second step is made only where the mutator crosses, and keeps the epoch
+looked_again : (p : Private) (from word : ℕ) (own : Bool) → (learnt (looked p from own) (Saw word)).phase ≡ at.Giving → (own ≡ false) × ((learnt (looked p from own) (Saw word)).epoch ≡ p.epoch)
+unfolding step_of swapped_of swapped_at took_of took_at begun_of
+looked_again p from word true is = let bad : ◌≡◌ {A = Bool} false true = ap is_busy_at is in absurd (true≢false (sym bad))
+looked_again p from word false is = (refl, refl)
+
+-- while a mutator crosses no step answers
+crossing_goes_on : (p : Private) (word : ℕ) → p.phase ≡ at.Crossing → answer_of (learnt p (Saw word)) ≡ None
+unfolding step_of swapped_of swapped_at took_of took_at
+crossing_goes_on p word is = ap (λ (f : phases.Phase). answer_of (swapped_of (took_at p word f) (spare (took_at p word f)))) is
+
+swapping_goes_on : (p : Private) (word : ℕ) → p.phase ≡ at.Swapping → answer_of (learnt p (Saw word)) ≡ None
+unfolding step_of swapped_of swapped_at took_of took_at
+swapping_goes_on p word is = ap (λ (f : phases.Phase). answer_of (swapped_of (took_at p word f) (spare (took_at p word f)))) is
+
+-- and the last step answers with the next epoch
+giving_answers : (p : Private) (word : ℕ) → p.phase ≡ at.Giving → answer_of (learnt p (Saw word)) ≡ Some (makes.Crossed (Some (p.epoch + 1)))
+unfolding step_of swapped_of swapped_at took_of took_at
+giving_answers p word is = ap (λ (f : phases.Phase). answer_of (swapped_of (took_at p word f) (spare (took_at p word f)))) is
+
+crossed_in : Option Made → Option ℕ
+crossed_in (Some (makes.Crossed epoch)) = epoch
+crossed_in _ = None
+
+same_result : (a b : Option ℕ) → ◌≡◌ {A = Option Made} (Some (makes.Crossed a)) (Some (makes.Crossed b)) → a ≡ b
+unfolding crossed_in
+same_result a b is = ap crossed_in is
+
+two_words : (words : List ℕ) → length words ≡ 2 → (first : ℕ) × (second : ℕ) × (words ≡ first ∷ second ∷ [])
+two_words [] is = absurd (omega (arith, is))
+two_words (a ∷ []) is = absurd (omega (arith, is))
+two_words (a ∷ b ∷ []) is = (a, b, refl)
+two_words (a ∷ b ∷ c ∷ ds) is = absurd (omega (arith, is))
+
+-- why a poll answers so
+pub polled : (p q : Private) (from : ℕ) (log log' : List Beat) (result : Option ℕ) → Path (record { work = works.Poll; from = from }) p log log' q → is_busy (begun_of p works.Poll from) ≡ true → answer_of q ≡ Some (makes.Crossed result) → IsPolled p log log' result
+unfolding is_poll
+polled p q from log log' result path begun answer = by path.before.phase refl path.machine.now
+  where
+    pre : Private
+    pre = path.before
+
+    told_so : answer_of (learnt path.before (Saw path.last)) ≡ Some (makes.Crossed result)
+    told_so = ap answer_of (sym path.made) ∙ answer
+
+    no_command : (phase : phases.Phase) → path.before.phase ≡ phase → is_poll (work_at phase) ≡ false → ⊥
+    no_command phase is other = true≢false (ap is_poll (sym path.works_on) ∙ ap (λ (f : phases.Phase). is_poll (work_at f)) is ∙ other)
+
+    not_told : answer_of (learnt path.before (Saw path.last)) ≡ None → ⊥
+    not_told none = let bad : ◌≡◌ {A = Option Made} None (Some (makes.Crossed result)) = sym none ∙ told_so in cc
+
+    -- one step
+    at_once : path.words ≡ [] → IsPolled p log log' result
+    at_once none =
+        let is : path.before ≡ begun_of p works.Poll from = path.along ∙ ap (λ (ws : List ℕ). told (begun_of p works.Poll from) (saw_all ws)) none in
+        let after : learnt path.before (Saw path.last) ≡ looked p from (path.last == p.epoch) = ap (λ (x : Private). learnt x (Saw path.last)) is ∙ looks p from path.last begun in
+        let said : answer_of (looked p from (path.last == p.epoch)) ≡ Some (makes.Crossed result) = ap answer_of (sym after) ∙ told_so in
+        record {
+          from = from;
+          requested = path.last;
+          crossing = [];
+          grows = path.grows ∙ ap (λ (ws : List ℕ). log ++ worked (record { work = works.Poll; from = from }) (ws ++ path.last ∷ [])) none;
+          none = λ own. (refl, same_result result None (sym said ∙ ap (λ (b : Bool). answer_of (looked p from b)) (eq-eqb path.last p.epoch own)));
+          some = λ other. let bad : ◌≡◌ {A = Option Made} None (Some (makes.Crossed result)) = sym (ap (λ (b : Bool). answer_of (looked p from b)) (ne_eqb path.last p.epoch other)) ∙ said in absurd (cc);
+        }
+
+    -- three steps
+    across : path.before.phase ≡ at.Giving → path.before.steps ≡ 2 → IsPolled p log log' result
+    across giving two =
+        let counted = path.counted in
+        let (first, second, are) = two_words path.words (omega (arith, counted, two)) in
+        let went : path.before ≡ learnt (looked p from (first == p.epoch)) (Saw second) =
+        path.along ∙ ap (λ (ws : List ℕ). told (begun_of p works.Poll from) (saw_all ws)) are ∙ ap (λ (x : Private). learnt x (Saw second)) (looks p from first begun) in
+        let crosses = looked_again p from second (first == p.epoch) (ap (λ (x : Private). x.phase) (sym went) ∙ giving) in
+        let epoch : path.before.epoch ≡ p.epoch = ap (λ (x : Private). x.epoch) went ∙ crosses.1 in
+        record {
+          from = from;
+          requested = first;
+          crossing = second ∷ path.last ∷ [];
+          grows = path.grows ∙ ap (λ (ws : List ℕ). log ++ worked (record { work = works.Poll; from = from }) (ws ++ path.last ∷ [])) are;
+          none = λ own. absurd (true≢false (sym (eq-eqb first p.epoch own) ∙ crosses.0));
+          some = λ other. (refl, same_result result (Some (p.epoch + 1)) (sym told_so ∙ giving_answers path.before path.last giving ∙ ap (λ n. Some (makes.Crossed (Some (n + 1)))) epoch));
+        }
+
+    by : (phase : phases.Phase) → path.before.phase ≡ phase → IsAt path.before path.before.phase → IsPolled p log log' result
+    by at.Idle e now = absurd (true≢false (sym path.busy ∙ ap is_busy_at e))
+    by (at.Begun w) e now = at_once (nil_from_length path.words (sym path.counted ∙ (subst (IsAt path.before) e now).1))
+    by (at.Scanning reg label b probed) e now = absurd (no_command (at.Scanning reg label b probed) e refl)
+    by (at.Scanned reg label b) e now = absurd (no_command (at.Scanned reg label b) e refl)
+    by at.Crossing e now = absurd (not_told (crossing_goes_on path.before path.last e))
+    by at.Swapping e now = absurd (not_told (swapping_goes_on path.before path.last e))
+    by at.Giving e now = across e (subst (IsAt path.before) e now).0
+    by (at.Finished w made) e now = absurd (true≢false (sym path.busy ∙ ap is_busy_at e))

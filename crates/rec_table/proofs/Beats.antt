@@ -62,14 +62,14 @@ set_else l t x q ne a b = get_or-set_other l (t - 1) (x - 1) q nobody (λ e. ne 
 
 -- what a mutator has after a move is what the move tells of it
 pub told_in : (w : Core) (m : Move) (x : ℕ) → IsKept w → Fits w m → IsMutator w.config x → mutator (after_move w m) x ≡ told (mutator w x) (beats_in x w m)
-told_in w (Move.Begins t work) x kept fits is = dite (ℕ_discrete t x)
+told_in w (Move.Begins t work from) x kept fits is = dite (ℕ_discrete t x)
     (λ (e : t ≡ x).
-    set_here w.mutators t x (begun_of (mutator w t) work) e (in_list w x kept is)
-    ∙ ap (λ i. begun_of (mutator w i) work) e
-    ∙ sym (ap (λ b. told (mutator w x) (cond b (Begins work ∷ []) [])) (eq-eqb t x e)))
+    set_here w.mutators t x (begun_of (mutator w t) work from) e (in_list w x kept is)
+    ∙ ap (λ i. begun_of (mutator w i) work from) e
+    ∙ sym (ap (λ b. told (mutator w x) (cond b (Begins (record { work = work; from = from }) ∷ []) [])) (eq-eqb t x e)))
     (λ (ne : t ≢ x).
-    set_else w.mutators t x (begun_of (mutator w t) work) ne fits.0.0 is.0
-    ∙ sym (ap (λ b. told (mutator w x) (cond b (Begins work ∷ []) [])) (ne_eqb t x ne)))
+    set_else w.mutators t x (begun_of (mutator w t) work from) ne fits.0.0 is.0
+    ∙ sym (ap (λ b. told (mutator w x) (cond b (Begins (record { work = work; from = from }) ∷ []) [])) (ne_eqb t x ne)))
 told_in w (Move.Steps t) x kept fits is = dite (ℕ_discrete t x)
     (λ (e : t ≡ x).
     set_here w.mutators t x (step_of (mutator w t) (found_by w t) (box w t)) e (in_list w x kept is)

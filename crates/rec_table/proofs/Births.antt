@@ -60,14 +60,14 @@ stepped_one w t (suc n) low le = dite (ℕ_discrete t (n + 1))
     let none : births_told (mutator w (n + 1)) (beats_in (n + 1) w (Move.Steps t)) ≡ 0 = ap (λ (b : Bool). births_told (mutator w (n + 1)) (cond b (Saw (found_by w t) ∷ []) [])) (ne_eqb t (n + 1) ne) in
     omega (arith, rest, none))
 
-begun_none : (w : Core) (t n : ℕ) (work : Work) → moved_births w (Move.Begins t work) n ≡ 0
+begun_none : (w : Core) (t n : ℕ) (work : Work) (from : ℕ) → moved_births w (Move.Begins t work from) n ≡ 0
 unfolding moved_births
-begun_none w t zero work = refl
-begun_none w t (suc n) work =
-    let rest = begun_none w t n work in
-    let none : births_told (mutator w (n + 1)) (beats_in (n + 1) w (Move.Begins t work)) ≡ 0 = dite (ℕ_discrete t (n + 1))
-    (λ (e : t ≡ n + 1). ap (λ (b : Bool). births_told (mutator w (n + 1)) (cond b (Begins work ∷ []) [])) (eq-eqb t (n + 1) e))
-    (λ (ne : t ≢ n + 1). ap (λ (b : Bool). births_told (mutator w (n + 1)) (cond b (Begins work ∷ []) [])) (ne_eqb t (n + 1) ne)) in
+begun_none w t zero work from = refl
+begun_none w t (suc n) work from =
+    let rest = begun_none w t n work from in
+    let none : births_told (mutator w (n + 1)) (beats_in (n + 1) w (Move.Begins t work from)) ≡ 0 = dite (ℕ_discrete t (n + 1))
+    (λ (e : t ≡ n + 1). ap (λ (b : Bool). births_told (mutator w (n + 1)) (cond b (Begins (record { work = work; from = from }) ∷ []) [])) (eq-eqb t (n + 1) e))
+    (λ (ne : t ≢ n + 1). ap (λ (b : Bool). births_told (mutator w (n + 1)) (cond b (Begins (record { work = work; from = from }) ∷ []) [])) (ne_eqb t (n + 1) ne)) in
     omega (arith, rest, none)
 
 turned_none : (w : Core) (n : ℕ) → moved_births w Move.Turns n ≡ 0
@@ -88,7 +88,7 @@ turned_made w None = refl
 turned_made w (Some op) = refl
 
 move_made : (w : Core) (m : Move) → Fits w m → (after_move w m).made ≡ w.made + moved_births w m w.config.mutators
-move_made w (Move.Begins t work) fits = let none = begun_none w t w.config.mutators work in omega (arith, none)
+move_made w (Move.Begins t work from) fits = let none = begun_none w t w.config.mutators work from in omega (arith, none)
 move_made w (Move.Steps t) fits = let one = stepped_one w t w.config.mutators fits.0.0 fits.0.1 in omega (arith, one)
 move_made w Move.Turns fits = let none = turned_none w w.config.mutators in let same = turned_made w (collector_next.next_of w.collector) in omega (arith, none, same)
 move_made w Move.Offers fits = let none = offered_none w w.config.mutators in omega (arith, none)

@@ -74,9 +74,9 @@ none_told t b le = ap (λ x. cond x (b ∷ []) []) (ne_eqb t 0 (λ e. omega (ari
 pub collector_after : (w : Core) (ms : List Move) → IsWorld w → AllFit w ms → Offerless ms → (after_moves w ms).collector ≡ gathered_all w.collector (beats_of 0 w ms)
 collector_after w [] world fit none = refl
 collector_after w (Move.Offers ∷ ms) world fit none = absurd none
-collector_after w (Move.Begins t work ∷ ms) world fit none =
-    collector_after (after_move w (Move.Begins t work)) ms (moved_world w (Move.Begins t work) world fit.0) fit.1 none
-    ∙ sym (ap (λ l. gathered_all w.collector (l ++ beats_of 0 (after_move w (Move.Begins t work)) ms)) (none_told t (Begins work) fit.0.0.0))
+collector_after w (Move.Begins t work from ∷ ms) world fit none =
+    collector_after (after_move w (Move.Begins t work from)) ms (moved_world w (Move.Begins t work from) world fit.0) fit.1 none
+    ∙ sym (ap (λ l. gathered_all w.collector (l ++ beats_of 0 (after_move w (Move.Begins t work from)) ms)) (none_told t (Begins (record { work = work; from = from })) fit.0.0.0))
 collector_after w (Move.Steps t ∷ ms) world fit none =
     collector_after (after_move w (Move.Steps t)) ms (moved_world w (Move.Steps t) world fit.0) fit.1 none
     ∙ sym (ap (λ l. gathered_all w.collector (l ++ beats_of 0 (after_move w (Move.Steps t)) ms)) (none_told t (Saw (found_by w t)) fit.0.0.0))

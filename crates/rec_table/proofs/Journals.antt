@@ -53,9 +53,9 @@ other_line t x None answer other = refl
 
 -- the lines of one move
 move_lines : (w : Core) (m : Move) (x : ℕ) → IsWorld w → Fits w m → IsMutator w.config x → filter_map (line_by x) (told_in w m) ≡ journal (mutator w x) (beats_in x w m)
-move_lines w (Move.Begins t work) x world fits is = go (t == x)
+move_lines w (Move.Begins t work from) x world fits is = go (t == x)
   where
-    go : (b : Bool) → [] ≡ journal (mutator w x) (if b then Begins work ∷ [] else [])
+    go : (b : Bool) → [] ≡ journal (mutator w x) (if b then Begins (record { work = work; from = from }) ∷ [] else [])
     go true = refl
     go false = refl
 move_lines w (Move.Steps t) x world fits is = elim (cases_eq t x) [

@@ -12,6 +12,7 @@ use Rattle.rec_mutator.specs.declared.work.Work.TheVariants as works
 use Rattle.rec_table.specs.Beats.{learnt, told}
 use Rattle.rec_table.specs.Journals.{Tells, journal, line_in, line_of}
 use Rattle.rec_table.specs.Scan.{saw_all}
+use Rattle.rec_table.specs.declared.start.Start.{Start}
 use Rattle.rec_table.specs.declared.views.Beat.{Beat}
 use Rattle.rec_table.specs.declared.views.Beat.TheVariants.{Begins, Saw}
 use Rattle.rec_table.proofs.Answering.{Path}
@@ -59,19 +60,19 @@ quiet p (word ∷ words) busy =
     ap (λ (l : List Line). l ++ journal q (saw_all words)) (none_told q (work_of p) (busy_before q words busy)) ∙ quiet q words busy
 
 -- A work tells its answer, once.
-pub tells : (p q : Private) (work : Work) (log log' : List Beat) (made : Made) → Path work p log log' q → answer_of q ≡ Some made → Tells p log log' (line_of (Some work) (Some made))
-tells p q work log log' made path answer =
-    let start : Private = begun_of p work in
+pub tells : (p q : Private) (start : Start) (log log' : List Beat) (made : Made) → Path start p log log' q → answer_of q ≡ Some made → Tells p log log' (line_of (Some start.work) (Some made))
+tells p q start log log' made path answer =
+    let first : Private = begun_of p start.work start.from in
     let last : List Beat = Saw path.last ∷ [] in
-    let busy : is_busy (told start (saw_all path.words)) ≡ true = ap is_busy (sym path.along) ∙ path.busy in
+    let busy : is_busy (told first (saw_all path.words)) ≡ true = ap is_busy (sym path.along) ∙ path.busy in
     record {
-      beats = Begins work ∷ saw_all (path.words ++ path.last ∷ []);
+      beats = Begins start ∷ saw_all (path.words ++ path.last ∷ []);
       grows = path.grows;
-      tells = ap (journal start) (map-append (λ (n : ℕ). Saw n) path.words (path.last ∷ []))
-          ∙ journal_both start (saw_all path.words) last
-          ∙ ap (λ (l : List Line). l ++ journal (told start (saw_all path.words)) last) (quiet start path.words busy)
+      tells = ap (journal first) (map-append (λ (n : ℕ). Saw n) path.words (path.last ∷ []))
+          ∙ journal_both first (saw_all path.words) last
+          ∙ ap (λ (l : List Line). l ++ journal (told first (saw_all path.words)) last) (quiet first path.words busy)
           ∙ ap (λ (x : Private). journal x last) (sym path.along)
           ∙ append-nil (line_in path.before (Saw path.last))
           ∙ (λ i. line_of (path.works_on i) (answer_of (sym path.made i)))
-          ∙ ap (line_of (Some work)) answer;
+          ∙ ap (line_of (Some start.work)) answer;
     }

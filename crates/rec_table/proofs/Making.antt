@@ -22,6 +22,7 @@ use Rattle.rec_log.specs.declared.entry.Entry.{Entry}
 use Rattle.rec_core.specs.Cells.{births_of}
 use Rattle.rec_table.specs.Held.{Held, IsTold, Works}
 use Rattle.rec_table.specs.Scan.{HasScanned, saw_all}
+use Rattle.rec_table.specs.declared.start.Start.{Start}
 use Rattle.rec_table.specs.declared.views.Beat.{Beat}
 use Rattle.rec_core.specs.Core.{Core, mutator}
 use Rattle.rec_core.proofs.Words.{IsOwnOp, learns_taken, own_next}
@@ -107,16 +108,16 @@ plain_hand hand x at.Crossing is = absurd is
 plain_hand hand x _ is = refl
 
 -- a plain step
-pub allows_plain : (key : Core) (slots id i : ℕ) (me : Me (Option Contents) View) (op : Op) (wk picked : Option Work) (p : Private) (f : ℕ → ℕ) (st : Step (Option Contents))
+pub allows_plain : (key : Core) (slots id i : ℕ) (me : Me (Option Contents) View) (op : Op) (wk picked : Option Start) (p : Private) (f : ℕ → ℕ) (st : Step (Option Contents))
     → me ≡ (Mutates (seated_of me.0), hands (seated_of me.0) (ready p wk)) → p ≡ told (mutator key (seated_of me.0).number) (seated_of me.0).log → picked ≡ wk → MayGo p wk → IsPlain (ready p wk).phase
     → op ≡ next_of (ready p wk) → i ≡ index_of (length key.words) (length key.headers) op → ((n : ℕ) → f n ≡ written op n)
     → Allows (Holds key) slots id me i f (MadeBy p picked st me)
 allows_plain key slots id i me op wk picked p f st is is_p picks may calm is_op at does =
     let t : Seated = seated_of me.0 in
     let all = steps key slots id t (hands t (ready p wk)) wk p op f st is_p may calm is_op does in
-    subst (λ (y : Me (Option Contents) View × ℕ × Option Work). Allows (Holds key) slots id y.0 y.1 f (MadeBy p y.2 st y.0)) (λ k. (sym is k, sym at k, sym picks k)) all
+    subst (λ (y : Me (Option Contents) View × ℕ × Option Start). Allows (Holds key) slots id y.0 y.1 f (MadeBy p y.2 st y.0)) (λ k. (sym is k, sym at k, sym picks k)) all
 
-pub made_plain : (t : Seated) (p : Private) (wk picked : Option Work) (word : ℕ) (me me' : Me (Option Contents) View)
+pub made_plain : (t : Seated) (p : Private) (wk picked : Option Start) (word : ℕ) (me me' : Me (Option Contents) View)
     → me ≡ (Mutates t, hands t (ready p wk)) → picked ≡ wk → IsPlain (ready p wk).phase → me' ≡ (adds me.0 (beats picked word), me.1) → me' ≡ me_after t (ready p wk) wk word
 made_plain t p wk picked word me me' is picks calm now =
     let q : Private = ready p wk in
@@ -128,9 +129,9 @@ is_begun : phases.Phase → Bool
 is_begun (at.Begun work) = true
 is_begun _ = false
 
-begun_phase : (p : Private) (work : Work) → is_begun (begun_of p work).phase ≡ true
+begun_phase : (p : Private) (work : Work) (from : ℕ) → is_begun (begun_of p work from).phase ≡ true
 unfolding begun_of is_begun
-begun_phase p work = refl
+begun_phase p work from = refl
 
 not_crossing : (phase : phases.Phase) → phase ≡ at.Crossing → is_begun phase ≡ true → ⊥
 unfolding is_begun
@@ -141,7 +142,7 @@ unfolding is_begun
 not_giving_begun phase e b = true≢false (sym b ∙ ap is_begun e)
 
 -- a step that takes the mailbox
-pub allows_taking : (key : Core) (slots id i : ℕ) (me : Me (Option Contents) View) (op : Op) (wk : Option Work) (p : Private) (f : ℕ → ℕ) (st : Step (Option Contents))
+pub allows_taking : (key : Core) (slots id i : ℕ) (me : Me (Option Contents) View) (op : Op) (wk : Option Start) (p : Private) (f : ℕ → ℕ) (st : Step (Option Contents))
     → me ≡ (Mutates (seated_of me.0), hands (seated_of me.0) (ready p wk)) → p ≡ told (mutator key (seated_of me.0).number) (seated_of me.0).log → MayGo p wk → (ready p wk).phase ≡ at.Crossing
     → op ≡ next_of (ready p wk) → i ≡ index_of (length key.words) (length key.headers) op → ((n : ℕ) → f n ≡ written op n)
     → Allows (Holds key) slots id me i f (TakenBy p st me)
@@ -149,9 +150,9 @@ allows_taking key slots id i me op None p f st is is_p may crossing is_op at doe
     let t : Seated = seated_of me.0 in
     let all = takes_box key slots id t p op f st is_p may crossing is_op does in
     subst (λ (y : Me (Option Contents) View × ℕ). Allows (Holds key) slots id y.0 y.1 f (TakenBy p st y.0)) (λ k. (sym (is ∙ (λ j. (Mutates t, hands_at t.hand p.number (crossing j)))) k, sym at k)) all
-allows_taking key slots id i me op (Some work) p f st is is_p may crossing is_op at does = absurd (not_crossing (begun_of p work).phase crossing (begun_phase p work))
+allows_taking key slots id i me op (Some start) p f st is is_p may crossing is_op at does = absurd (not_crossing (begun_of p start.work start.from).phase crossing (begun_phase p start.work start.from))
 
-pub made_taking : (t : Seated) (p : Private) (op : Op) (wk : Option Work) (st : Step (Option Contents)) (word : ℕ) (me me' : Me (Option Contents) View)
+pub made_taking : (t : Seated) (p : Private) (op : Op) (wk : Option Start) (st : Step (Option Contents)) (word : ℕ) (me me' : Me (Option Contents) View)
     → me ≡ (Mutates t, hands t (ready p wk)) → (ready p wk).phase ≡ at.Crossing → op ≡ next_of (ready p wk) → TakenBy p st me word me'
     → (me' ≡ me_after t (ready p wk) wk word) × IsFound (ready p wk) op word × NamesSlots (learnt (ready p wk) (Saw word))
 made_taking t p op None st word me me' is crossing is_op (now, found, names) = (
@@ -162,10 +163,10 @@ made_taking t p op None st word me me' is crossing is_op (now, found, names) = (
   subst (λ (o : Op). IsFound p o word) (sym is_op) found,
   names,
 )
-made_taking t p op (Some work) st word me me' is crossing is_op by = absurd (not_crossing (begun_of p work).phase crossing (begun_phase p work))
+made_taking t p op (Some start) st word me me' is crossing is_op by = absurd (not_crossing (begun_of p start.work start.from).phase crossing (begun_phase p start.work start.from))
 
 -- a step that gives it back
-pub allows_giving : (key : Core) (slots id i : ℕ) (me : Me (Option Contents) View) (op : Op) (wk : Option Work) (p : Private) (f : ℕ → ℕ) (st : Step (Option Contents))
+pub allows_giving : (key : Core) (slots id i : ℕ) (me : Me (Option Contents) View) (op : Op) (wk : Option Start) (p : Private) (f : ℕ → ℕ) (st : Step (Option Contents))
     → me ≡ (Mutates (seated_of me.0), hands (seated_of me.0) (ready p wk)) → p ≡ told (mutator key (seated_of me.0).number) (seated_of me.0).log → MayGo p wk → (ready p wk).phase ≡ at.Giving
     → op ≡ next_of (ready p wk) → i ≡ index_of (length key.words) (length key.headers) op → ((n : ℕ) → f n ≡ written op n)
     → Allows (Holds key) slots id me i f (GivenBy p st me)
@@ -173,9 +174,9 @@ allows_giving key slots id i me op None p f st is is_p may giving is_op at does 
     let t : Seated = seated_of me.0 in
     let all = gives_box key slots id t p op f st is_p may giving is_op does in
     subst (λ (y : Me (Option Contents) View × ℕ). Allows (Holds key) slots id y.0 y.1 f (GivenBy p st y.0)) (λ k. (sym (is ∙ (λ j. (Mutates t, hands_at t.hand p.number (giving j)))) k, sym at k)) all
-allows_giving key slots id i me op (Some work) p f st is is_p may giving is_op at does = absurd (not_giving_begun (begun_of p work).phase giving (begun_phase p work))
+allows_giving key slots id i me op (Some start) p f st is is_p may giving is_op at does = absurd (not_giving_begun (begun_of p start.work start.from).phase giving (begun_phase p start.work start.from))
 
-pub made_giving : (t : Seated) (p : Private) (op : Op) (wk : Option Work) (st : Step (Option Contents)) (word : ℕ) (me me' : Me (Option Contents) View)
+pub made_giving : (t : Seated) (p : Private) (op : Op) (wk : Option Start) (st : Step (Option Contents)) (word : ℕ) (me me' : Me (Option Contents) View)
     → me ≡ (Mutates t, hands t (ready p wk)) → (ready p wk).phase ≡ at.Giving → op ≡ next_of (ready p wk) → GivenBy p st me word me'
     → (me' ≡ me_after t (ready p wk) wk word) × IsFound (ready p wk) op word × NamesSlots (learnt (ready p wk) (Saw word))
 made_giving t p op None st word me me' is giving is_op (now, found, names) = (
@@ -186,7 +187,7 @@ made_giving t p op None st word me me' is giving is_op (now, found, names) = (
   subst (λ (o : Op). IsFound p o word) (sym is_op) found,
   names,
 )
-made_giving t p op (Some work) st word me me' is giving is_op by = absurd (not_giving_begun (begun_of p work).phase giving (begun_phase p work))
+made_giving t p op (Some start) st word me me' is giving is_op by = absurd (not_giving_begun (begun_of p start.work start.from).phase giving (begun_phase p start.work start.from))
 
 pub is_plain_load : (op : Op) → IsLoad op → IsPlainOp op
 is_plain_load op (inl (x, e)) = subst IsPlainOp (sym e) tt
@@ -319,18 +320,18 @@ pub crossing_takes : (p : Private) (op : Op) → p.phase ≡ at.Crossing → op 
 crossing_takes p op is is_op no_take = no_take p.number (p.epoch + 1) (is_op ∙ takes_op p is)
 
 -- At the calls of a step.
-pub ready_hands : (t : Seated) (p : Private) (wk : Option Work) → MayGo p wk → hands t p ≡ hands t (ready p wk)
+pub ready_hands : (t : Seated) (p : Private) (wk : Option Start) → MayGo p wk → hands t p ≡ hands t (ready p wk)
 ready_hands t p None may = refl
-ready_hands t p (Some work) may =
-    no_hands t.hand p.number p.phase (λ e. true≢false (sym (ap is_busy_at e) ∙ may.0)) ∙ sym (no_hands t.hand (begun_of p work).number (begun_of p work).phase (λ e. not_giving_begun (begun_of p work).phase e (begun_phase p work)))
+ready_hands t p (Some start) may =
+    no_hands t.hand p.number p.phase (λ e. true≢false (sym (ap is_busy_at e) ∙ may.0)) ∙ sym (no_hands t.hand (begun_of p start.work start.from).number (begun_of p start.work start.from).phase (λ e. not_giving_begun (begun_of p start.work start.from).phase e (begun_phase p start.work start.from)))
 
-begun_between : (p : Private) (work : Work) → IsBetween (begun_of p work).phase
+begun_between : (p : Private) (work : Work) (from : ℕ) → IsBetween (begun_of p work from).phase
 unfolding begun_of
-begun_between p work = tt
+begun_between p work from = tt
 
-pub ready_between : (p : Private) (wk : Option Work) → IsBetween p.phase → IsBetween (ready p wk).phase
+pub ready_between : (p : Private) (wk : Option Start) → IsBetween p.phase → IsBetween (ready p wk).phase
 ready_between p None is = is
-ready_between p (Some work) is = begun_between p work
+ready_between p (Some start) is = begun_between p start.work start.from
 
 hand_twice : (hand x : Contents) (phase : phases.Phase) → hand_after hand x phase ≡ hand_after (hand_after hand x phase) x phase
 hand_twice hand x at.Idle = refl
@@ -343,21 +344,21 @@ hand_twice hand x at.Giving = refl
 hand_twice hand x (at.Finished work made) = refl
 
 -- what the seat has between the operation and what is learnt
-pub made_out : (t : Seated) (p q : Private) (wk : Option Work) (word : ℕ) (me : Me (Option Contents) View) → me ≡ me_after t q wk word → p ≡ q → me.1 ≡ taken_by p word p.phase
+pub made_out : (t : Seated) (p q : Private) (wk : Option Start) (word : ℕ) (me : Me (Option Contents) View) → me ≡ me_after t q wk word → p ≡ q → me.1 ≡ taken_by p word p.phase
 made_out t p q wk word me is same = (λ k. (is k).1) ∙ (λ k. taken_by (sym same k) word (sym same k).phase)
 
-pub made_hand : (t : Seated) (p q : Private) (wk : Option Work) (word : ℕ) (me : Me (Option Contents) View) → me ≡ me_after t q wk word → p ≡ q
+pub made_hand : (t : Seated) (p q : Private) (wk : Option Start) (word : ℕ) (me : Me (Option Contents) View) → me ≡ me_after t q wk word → p ≡ q
     → (seated_of me.0).hand ≡ hand_after (seated_of me.0).hand (took_of p word).log p.phase
 made_hand t p q wk word me is same =
     (λ k. (seated_of (is k).0).hand) ∙ hand_twice t.hand (took_of q word).log q.phase ∙ (λ k. hand_after (seated_of (sym is k).0).hand (took_of (sym same k) word).log (sym same k).phase)
 
-pub made_me : (t : Seated) (q m : Private) (wk : Option Work) (word : ℕ) (me me' : Me (Option Contents) View) → me ≡ me_after t q wk word → me' ≡ (me.0, hands (seated_of me.0) m)
+pub made_me : (t : Seated) (q m : Private) (wk : Option Start) (word : ℕ) (me me' : Me (Option Contents) View) → me ≡ me_after t q wk word → me' ≡ (me.0, hands (seated_of me.0) m)
     → me' ≡ (Mutates (seated_of me'.0), hands (seated_of me'.0) m)
 made_me t q m wk word me me' is now =
     let e : me' ≡ (Mutates (seated_after t q wk word), hands (seated_after t q wk word) m) = now ∙ (λ k. ((is k).0, hands (seated_of (is k).0) m)) in
     e ∙ (λ k. (Mutates (seated_of (sym e k).0), hands (seated_of (sym e k).0) m))
 
-pub made_told : (o p q m : Private) (t : Seated) (wk : Option Work) (word : ℕ) (me me' : Me (Option Contents) View) → p ≡ told o t.log → q ≡ ready p wk → m ≡ learnt q (Saw word)
+pub made_told : (o p q m : Private) (t : Seated) (wk : Option Start) (word : ℕ) (me me' : Me (Option Contents) View) → p ≡ told o t.log → q ≡ ready p wk → m ≡ learnt q (Saw word)
     → me ≡ me_after t q wk word → me' ≡ (me.0, hands (seated_of me.0) m) → m ≡ told o (seated_of me'.0).log
 made_told o p q m t wk word me me' at is learns seat now =
     learns ∙ ap (λ x. learnt x (Saw word)) (is ∙ ap (λ x. ready x wk) at) ∙ sym (told_beats o t.log wk word) ∙ sym ((λ k. told o (seated_of (now k).0).log) ∙ (λ k. told o (seated_of (seat k).0).log))
@@ -420,24 +421,24 @@ step_told (MutatorStep.give_box c) = crossing_told tt c
 pub learnt_told : (p : Private) (word : ℕ) → is_busy p ≡ true → IsBetween p.phase → IsTold (learnt p (Saw word)).phase
 learnt_told p word busy between = step_told (learnt_step p word busy between)
 
-ready_busy : (p : Private) (wk : Option Work) → MayGo p wk → is_busy (ready p wk) ≡ true
+ready_busy : (p : Private) (wk : Option Start) → MayGo p wk → is_busy (ready p wk) ≡ true
 unfolding begun_of
 ready_busy p None may = may
-ready_busy p (Some work) may = refl
+ready_busy p (Some start) may = refl
 
-ready_keeps : (p : Private) (wk : Option Work) → KeepsSizes p (ready p wk)
+ready_keeps : (p : Private) (wk : Option Start) → KeepsSizes p (ready p wk)
 unfolding begun_of
 ready_keeps p None = record { number = refl; slots = refl; fields = refl; registers = refl; capacity = refl }
-ready_keeps p (Some work) = record { number = refl; slots = refl; fields = refl; registers = refl; capacity = refl }
+ready_keeps p (Some start) = record { number = refl; slots = refl; fields = refl; registers = refl; capacity = refl }
 
 -- all of it, of a step that may begin a work first
-pub record Counted (p : Private) (wk : Option Work) (word : ℕ) : Type 0 where
+pub record Counted (p : Private) (wk : Option Start) (word : ℕ) : Type 0 where
   pub steps : (learnt (ready p wk) (Saw word)).steps ≡ (ready p wk).steps + 1
   pub work : work_of (learnt (ready p wk) (Saw word)) ≡ work_of (ready p wk)
   pub same : KeepsSizes p (learnt (ready p wk) (Saw word))
   pub told : IsTold (learnt (ready p wk) (Saw word)).phase
 
-pub counted : (p : Private) (wk : Option Work) (word : ℕ) → MayGo p wk → IsBetween p.phase → Counted p wk word
+pub counted : (p : Private) (wk : Option Start) (word : ℕ) → MayGo p wk → IsBetween p.phase → Counted p wk word
 counted p wk word may between =
     let q : Private = ready p wk in
     let busy : is_busy q ≡ true = ready_busy p wk may in
@@ -456,11 +457,11 @@ pub births_both : (p : Private) (cs bs : List Beat) → births_told p (cs ++ bs)
 births_both p [] bs = omega arith
 births_both p (c ∷ cs) bs = let rest = births_both (learnt p c) cs bs in omega (arith, rest)
 
-births_beats : (p : Private) (wk : Option Work) (word : ℕ) → births_told p (beats wk word) ≡ births_of (next_of (ready p wk)) word
+births_beats : (p : Private) (wk : Option Start) (word : ℕ) → births_told p (beats wk word) ≡ births_of (next_of (ready p wk)) word
 births_beats p None word = omega arith
-births_beats p (Some work) word = omega arith
+births_beats p (Some start) word = omega arith
 
-pub births_more : (o p : Private) (log : List Beat) (wk : Option Work) (word now then_ : ℕ) → p ≡ told o log → now ≡ births_told o log % 2 ^ 64 → then_ ≡ (now + births_of (next_of (ready p wk)) word) % 2 ^ 64
+pub births_more : (o p : Private) (log : List Beat) (wk : Option Start) (word now then_ : ℕ) → p ≡ told o log → now ≡ births_told o log % 2 ^ 64 → then_ ≡ (now + births_of (next_of (ready p wk)) word) % 2 ^ 64
     → then_ ≡ births_told o (log ++ beats wk word) % 2 ^ 64
 births_more o p log wk word now then_ is was more =
     let all = births_both o log (beats wk word) in
@@ -468,17 +469,17 @@ births_more o p log wk word now then_ is was more =
     omega (arith, was, more, all, one)
 
 -- A work and its steps.
-pub begun_work : (p : Private) (work : Work) → work_of (begun_of p work) ≡ Some work
+pub begun_work : (p : Private) (work : Work) (from : ℕ) → work_of (begun_of p work from) ≡ Some work
 unfolding begun_of
-begun_work p work = refl
+begun_work p work from = refl
 
 pub keeps_on : (a b d : Private) → KeepsSizes a b → KeepsSizes b d → KeepsSizes a d
 keeps_on a b d x y = record { number = y.number ∙ x.number; slots = y.slots ∙ x.slots; fields = y.fields ∙ x.fields; registers = y.registers ∙ x.registers; capacity = y.capacity ∙ x.capacity }
 
-pub works_first : (h h' : Held) (work : Work) (word : ℕ) → h' ≡ record h { log = h.log ++ beats (Some work) word } → Works work h.log h'.log × (h' ≡ record h { log = h'.log })
-works_first h h' work word e =
-    let logs : h'.log ≡ h.log ++ beats (Some work) word = ap (λ (x : Held). x.log) e in
-    (subst (Works work h.log) (sym logs) (Works.first word), e ∙ (λ k. record h { log = sym logs k }))
+pub works_first : (h h' : Held) (work : Work) (from word : ℕ) → h' ≡ record h { log = h.log ++ beats (Some (record { work = work; from = from })) word } → Works work h.log h'.log × (h' ≡ record h { log = h'.log })
+works_first h h' work from word e =
+    let logs : h'.log ≡ h.log ++ beats (Some (record { work = work; from = from })) word = ap (λ (x : Held). x.log) e in
+    (subst (Works work h.log) (sym logs) (Works.first from word), e ∙ (λ k. record h { log = sym logs k }))
 
 -- failing probes, and one step more
 probed : (work : Work) (log was : List Beat) (words : List ℕ) → Works work log was → Works work log (was ++ saw_all words)

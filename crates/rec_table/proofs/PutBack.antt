@@ -62,7 +62,7 @@ swapped_epoch c buffer = go c.phase
 
 returning_epoch : (c : Private) (t : ℕ) (b : Beat) → c.phase ≡ Returning t → (gathered c b).epoch ≡ c.epoch
 unfolding step_of
-returning_epoch c t (Begins work) is = refl
+returning_epoch c t (Begins start) is = refl
 returning_epoch c t (Saw word) is = took_returning c t word is
 returning_epoch c t (Took word buffer) is = swapped_epoch (took_of c word) buffer ∙ took_returning c t word is
 

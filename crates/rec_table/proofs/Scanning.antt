@@ -8,13 +8,14 @@ use Rattle.rec_word.specs.declared.op.Op.TheVariants as ops
 use Rattle.rec_model.specs.declared.command.Cmd.TheVariants as commands
 use Rattle.rec_log.specs.declared.contents.Contents.{Contents}
 use Rattle.rec_mutator.specs.Next.{next_of, next_at, begun_op, own_word, read_op, write_op, label_op}
-use Rattle.rec_mutator.specs.Private.{Private, IsAt, IsMachine, register, is_full}
+use Rattle.rec_mutator.specs.Private.{Private, IsAt, IsMachine, register, is_full, probe_of, slot_behind}
 use Rattle.rec_mutator.specs.Step.{NamesSlots}
 use Rattle.rec_mutator.specs.Took.{spare, took_of, skipped_to, skipped_at, IsBetween}
 use Rattle.rec_mutator.specs.declared.phase.Phase as phases
 use Rattle.rec_mutator.specs.declared.phase.Phase.TheVariants as at
 use Rattle.rec_mutator.specs.declared.work.Work.{Work}
 use Rattle.rec_mutator.specs.declared.work.Work.TheVariants as works
+use Rattle.rec_mutator.proofs.Around.{behind_below, behind_further, behind_wraps}
 use Rattle.rec_mutator.proofs.Skips.{skipped_next, skipped_none, skipped_further, skipped_busy}
 use Rattle.rec_mutator.proofs.Steps.{TakesNone, here_same}
 use Rattle.rec_core.specs.Cells.{births_of}
@@ -68,7 +69,9 @@ pub record Claims (p : Private) (slot : ℕ) : Type 0 where
   pub reg : ℕ
   pub label : ℕ
   pub before : ℕ
-  pub phase : p.phase ≡ at.Scanning reg label before slot
+  pub probed : ℕ
+  pub phase : p.phase ≡ at.Scanning reg label before probed
+  pub comes : slot ≡ probe_of p probed
 
 pub claims : (p : Private) (slot label : ℕ) → next_of p ≡ ops.ClaimHeader slot label → Claims p slot
 unfolding next_of next_at slot_of
@@ -80,17 +83,19 @@ claims p slot label is = by p.phase refl
     by : (phase : phases.Phase) → p.phase ≡ phase → Claims p slot
     by at.Idle e = no at.Idle e (λ x. x)
     by (at.Begun work) e = no (at.Begun work) e (begun_claims p work)
-    by (at.Scanning reg label' before from) e =
-        let same : from ≡ slot = ap slot_of (sym (ap (next_at p) e) ∙ is) in
-        record { reg = reg; label = label'; before = before; phase = e ∙ ap (λ n. at.Scanning reg label' before n) same }
+    by (at.Scanning reg label' before probed) e =
+        let same : probe_of p probed ≡ slot = ap slot_of (sym (ap (next_at p) e) ∙ is) in
+        record { reg = reg; label = label'; before = before; probed = probed; phase = e; comes = sym same }
     by (at.Scanned reg label' before) e = no (at.Scanned reg label' before) e (λ x. x)
     by at.Crossing e = no at.Crossing e (λ x. x)
     by at.Swapping e = no at.Swapping e (λ x. x)
     by at.Giving e = no at.Giving e (λ x. x)
     by (at.Finished work made) e = no (at.Finished work made) e (λ x. x)
 
-pub claims_slot : (p : Private) (slot : ℕ) → IsMachine p → Claims p slot → slot < p.slots
-claims_slot p slot machine k = (subst (IsAt p) k.phase machine.now).1
+pub claims_slot : (p : Private) (slot : ℕ) → IsMachine p → (k : Claims p slot) → (k.probed < p.slots) × (p.steps ≡ k.probed + 1) × (slot < p.slots)
+claims_slot p slot machine k =
+    let at = subst (IsAt p) k.phase machine.now in
+    (at.1, at.2, subst (λ n. n < p.slots) (sym k.comes) (behind_below p.slots p.from k.probed machine.first_slot))
 
 -- steps that found these words led from one record to another, and made no object
 pub record Walks (q : Private) (words : List ℕ) (r : Private) : Type 0 where
@@ -138,8 +143,8 @@ module _ (p : Private) (reg label before from : ℕ) (scans : p.phase ≡ at.Sca
   pub skipped_names : (slot : ℕ) → NamesSlots p → NamesSlots (skipped_to p slot)
   skipped_names slot names = subst NamesSlots (sym (came_to slot)) names
 
-  pub skipped_steps : (slot : ℕ) → p.steps ≤ (skipped_to p slot).steps
-  skipped_steps slot = let e : (skipped_to p slot).steps ≡ p.steps + (slot - from) = ap (λ (q : Private). q.steps) (came_to slot) in omega (arith, e)
+  pub skipped_steps : (slot : ℕ) → (skipped_to p slot).steps ≡ p.steps + (slot - from)
+  skipped_steps slot = ap (λ (q : Private). q.steps) (came_to slot)
 
   goes_on : (b : Bool) (slot number : ℕ) (hand : Contents) (phase : phases.Phase) → phase ≡ (if b then at.Scanned reg label before else at.Scanning reg label before slot) → IsBetween phase × (hands_at hand number phase ≡ [])
   goes_on true slot number hand phase is = (subst IsBetween (sym is) tt, ap (hands_at hand number) is)
@@ -177,12 +182,12 @@ passed_both t from slot to me me' one two =
       grows = two.grows ∙ (λ k. (Mutates (longer (seated_of (one.grows k).0) cs), [])) ∙ (λ k. (Mutates (record t { log = logs k }), []));
     }
 
-module _ (key : Core) (slot from many : ℕ) (t : Seated) (me : Me (Option Contents) View) (passed : Passed t from slot me) (scan : ScansFrom (told (mutator key t.number) t.log) from many) (lt : slot < many) where
+module _ (key : Core) (count probed slot many : ℕ) (t : Seated) (me : Me (Option Contents) View) (passed : Passed t probed count me) (scan : ScansFrom (told (mutator key t.number) t.log) probed slot many) (lt : count < many) where
   -- the record that its list makes up by then
   q : Private
-  q = skipped_to (told (mutator key t.number) t.log) slot
+  q = skipped_to (told (mutator key t.number) t.log) count
 
-  few : slot < (told (mutator key t.number) t.log).slots
+  few : count < (told (mutator key t.number) t.log).slots
   few = let all = scan.many in omega (arith, lt, all)
 
   is_q : q ≡ told (mutator key t.number) (longer t (saw_all passed.words)).log
@@ -191,30 +196,51 @@ module _ (key : Core) (slot from many : ℕ) (t : Seated) (me : Me (Option Conte
       let p : Private = told (mutator key t.number) t.log in
       let there = scan.there in
       let all = scan.many in
-      let w : Walks p passed.words q = walked p scan.reg scan.label scan.before from scan.phase passed.words slot (omega (arith, there, all)) passed.every (let le = few in omega (arith, le)) passed.taken in
+      let w : Walks p passed.words q = walked p scan.reg scan.label scan.before probed scan.phase passed.words count (omega (arith, there, all)) passed.every (let le = few in omega (arith, le)) passed.taken in
       sym w.told ∙ sym (told_both (mutator key t.number) t.log (saw_all passed.words))
 
-  pub scans_on : ScansFrom (told (mutator key (seated_of me.0).number) (seated_of me.0).log) slot many
+  -- the slot that it comes to is so many slots further on
+  pub comes_to : slot + (count - probed) < many → slot + (count - probed) ≡ probe_of (told (mutator key t.number) t.log) count
+  comes_to near =
+      let p : Private = told (mutator key t.number) t.log in
+      let all : p.slots ≡ many = scan.many in
+      let here : slot ≡ probe_of p probed = scan.comes in
+      let on : probed + (count - probed) ≡ count = (let every = passed.every in omega (arith, every)) in
+      let further : slot_behind p.slots p.from (probed + (count - probed)) ≡ slot_behind p.slots p.from probed + (count - probed) = behind_further p.slots p.from probed (count - probed) (omega (arith, near, all, here)) in
+      ap (λ n. n + (count - probed)) here ∙ sym further ∙ ap (slot_behind p.slots p.from) on
+
+  -- or the first one, where all up to the last one were probed
+  pub comes_round : slot + (count - probed) ≡ many → 0 ≡ probe_of (told (mutator key t.number) t.log) count
+  comes_round ends =
+      let p : Private = told (mutator key t.number) t.log in
+      let all : p.slots ≡ many = scan.many in
+      let here : slot ≡ probe_of p probed = scan.comes in
+      let on : probed + (count - probed) ≡ count = (let every = passed.every in omega (arith, every)) in
+      sym (behind_wraps p.slots p.from probed (count - probed) (omega (arith, ends, all, here))) ∙ ap (slot_behind p.slots p.from) on
+
+  pub scans_on : (next : ℕ) → next ≡ probe_of (told (mutator key t.number) t.log) count → ScansFrom (told (mutator key (seated_of me.0).number) (seated_of me.0).log) count next many
   unfolding q
-  scans_on =
+  scans_on next its =
       let p : Private = told (mutator key t.number) t.log in
       let is : q ≡ told (mutator key (seated_of me.0).number) (seated_of me.0).log = is_q ∙ sym (λ k. told (mutator key (seated_of (passed.grows k).0).number) (seated_of (passed.grows k).0).log) in
-      subst (λ (r : Private). ScansFrom r slot many) is (record {
+      let came = came_to p scan.reg scan.label scan.before probed scan.phase count in
+      subst (λ (r : Private). ScansFrom r count next many) is (record {
         reg = scan.reg;
         label = scan.label;
         before = scan.before;
-        phase = there_phase p scan.reg scan.label scan.before from scan.phase slot few;
-        many = ap (λ (r : Private). r.slots) (came_to p scan.reg scan.label scan.before from scan.phase slot) ∙ scan.many;
+        phase = there_phase p scan.reg scan.label scan.before probed scan.phase count few;
+        comes = its ∙ sym (ap (λ (r : Private). probe_of r count) came);
+        many = ap (λ (r : Private). r.slots) came ∙ scan.many;
         there = lt;
       })
 
-  pub allows_pass : (slots id i : ℕ) (st : Step (Option Contents)) → i ≡ length key.words + slot → Allows (Holds key) slots id me i (λ n. n) (PassedBy st me)
+  pub allows_pass : (slots id i : ℕ) (st : Step (Option Contents)) → i ≡ length key.words + probe_of (told (mutator key t.number) t.log) count → Allows (Holds key) slots id me i (λ n. n) (PassedBy st me)
   unfolding q
   allows_pass slots id i st at =
       let p : Private = told (mutator key t.number) t.log in
-      let plain : IsPlain q.phase = subst IsPlain (sym (there_phase p scan.reg scan.label scan.before from scan.phase slot few)) tt in
-      let all = probes key slots id slot scan.label (longer t (saw_all passed.words)) [] q (ops.ClaimHeader slot scan.label) st is_q (skipped_busy p scan.reg scan.label scan.before from scan.phase slot) plain
-      (sym (skipped_next p scan.reg scan.label scan.before from scan.phase slot few)) refl in
+      let plain : IsPlain q.phase = subst IsPlain (sym (there_phase p scan.reg scan.label scan.before probed scan.phase count few)) tt in
+      let all = probes key slots id (probe_of p count) scan.label (longer t (saw_all passed.words)) [] q (ops.ClaimHeader (probe_of p count) scan.label) st is_q (skipped_busy p scan.reg scan.label scan.before probed scan.phase count) plain
+      (sym (skipped_next p scan.reg scan.label scan.before probed scan.phase count few)) refl in
       subst (λ (y : Me (Option Contents) View × ℕ). Allows (Holds key) slots id y.0 y.1 (λ n. n) (PassedBy st y.0)) (λ k. (sym passed.grows k, sym at k)) all
 
 -- At the skip: what the machine and the seat are as the scan ends, or comes to a free header.
@@ -225,24 +251,27 @@ pub record Ends (o p r : Private) (t : Seated) (me : Me (Option Contents) View) 
   pub between : IsBetween r.phase
   pub births : births_told o (seated_of me.0).log ≡ births_told o t.log
   pub learns : r ≡ fold took_of p words
-  pub steps : p.steps ≤ r.steps
+  pub steps : r.steps ≡ p.steps + length words
 
-pub ends : (o p r : Private) (t : Seated) (from slot : ℕ) (me : Me (Option Contents) View) → (passed : Passed t from slot me) → p ≡ told o t.log → Claims p from → from < p.slots → slot ≤ p.slots → r ≡ skipped_to p slot → NamesSlots p
+pub ends : (o p r : Private) (t : Seated) (slot count : ℕ) (me : Me (Option Contents) View) → p ≡ told o t.log → (k : Claims p slot) → (passed : Passed t k.probed count me) → k.probed < p.slots → count ≤ p.slots → r ≡ skipped_to p count → NamesSlots p
     → Ends o p r t me passed.words
-ends o p r t from slot me passed is k first few skips names =
+ends o p r t slot count me is k passed first few skips names =
     let bs : List Beat = saw_all passed.words in
-    let w : Walks p passed.words (skipped_to p slot) = walked p k.reg k.label k.before from k.phase passed.words slot first passed.every few passed.taken in
+    let w : Walks p passed.words (skipped_to p count) = walked p k.reg k.label k.before k.probed k.phase passed.words count first passed.every few passed.taken in
     let log : (seated_of me.0).log ≡ t.log ++ bs = λ j. (seated_of (passed.grows j).0).log in
-    let rests = skipped_rests p k.reg k.label k.before from k.phase slot (seated_of me.0) in
+    let rests = skipped_rests p k.reg k.label k.before k.probed k.phase count (seated_of me.0) in
     let none : [] ≡ hands (seated_of me.0) r = sym (ap (hands (seated_of me.0)) skips ∙ rests.1) in
     let all = births_both o t.log bs in
     let born : births_told (told o t.log) bs ≡ 0 = ap (λ (q : Private). births_told q bs) (sym is) ∙ w.births in
     record {
       seat = passed.grows ∙ (λ j. (Mutates (seated_of (sym passed.grows j).0), none j));
       told = skips ∙ sym w.told ∙ ap (λ (q : Private). told q bs) is ∙ sym (told_both o t.log bs) ∙ ap (told o) (sym log);
-      names = subst NamesSlots (sym skips) (skipped_names p k.reg k.label k.before from k.phase slot names);
+      names = subst NamesSlots (sym skips) (skipped_names p k.reg k.label k.before k.probed k.phase count names);
       between = subst (λ (q : Private). IsBetween q.phase) (sym skips) rests.0;
       births = ap (births_told o) log ∙ (let e : births_told o (t.log ++ bs) ≡ births_told o t.log = omega (arith, all, born) in e);
       learns = skips ∙ w.learns;
-      steps = subst (λ (q : Private). p.steps ≤ q.steps) (sym skips) (skipped_steps p k.reg k.label k.before from k.phase slot);
+      steps =
+          let so : r.steps ≡ p.steps + (count - k.probed) = ap (λ (q : Private). q.steps) skips ∙ skipped_steps p k.reg k.label k.before k.probed k.phase count in
+          let every = passed.every in
+          omega (arith, so, every);
     }

@@ -22,7 +22,7 @@ seat_send = seats.the_send _ _ mailbox_send
 
 -- each field of a mutator's end may
 each : AllSend (fields actor.TheInside.the_type)
-each = (search (mutators.machine_send, sendable), (search (sendable, crosses), (seat_send, (search sendable, tt))))
+each = (search (mutators.machine_send, sendable), (search (sendable, crosses), (seat_send, (search sendable, (search sendable, tt)))))
 
 actor_send : IsSend actor.the_row
 actor_send = view_send _ _ _ _ _ (recorded_send _ _ _ (actor.TheInside.the_type).to_one (struct_send (shape actor.TheInside.the_type) each))

@@ -12,7 +12,7 @@ use Rattle.rec_model.specs.declared.command.Cmd.{Cmd}
 use Rattle.rec_model.specs.declared.command.Cmd.TheVariants as commands
 use Rattle.rec_log.specs.declared.contents.Contents.{Contents}
 use Rattle.rec_mutator.specs.Next.{next_of, next_at, read_op, write_op, label_op, own_word}
-use Rattle.rec_mutator.specs.Private.{Private, is_busy, is_full, register}
+use Rattle.rec_mutator.specs.Private.{Private, is_busy, is_full, register, probe_of}
 use Rattle.rec_mutator.specs.Step.{NamesSlots}
 use Rattle.rec_model.specs.Asking.{plain as plain_told}
 use Rattle.rec_mutator.specs.Took.{begun_of, took_of, took_at, read_by, written_by, answered, moved, born_in, spare, left_of, step_of, IsFound}
@@ -29,19 +29,20 @@ use Rattle.rec_core.specs.Config.{IsMutator}
 use Rattle.rec_core.specs.Core.{Core, cells_of, mutator, nobody, box}
 use Rattle.rec_core.specs.Kept.{IsKept}
 use Rattle.rec_core.specs.Met.{MayStep}
-use Rattle.rec_core.specs.Moves.{Move, AllFit, after_moves, found_by, stepped, begun}
+use Rattle.rec_core.specs.Moves.{Move, AllFit, after_moves, found_by, stepped, begun_from}
 use Rattle.rec_core.specs.Cells.{Cells, IsWithin, cell, with_cell}
 use Rattle.rec_world.specs.World.{IsWorld}
 use Rattle.rec_core.specs.declared.config.Config.{Config}
 use Rattle.rec_world.proofs.Calls.{world_kept, moved_world}
 use Rattle.rec_core.proofs.Crossings.{left_same}
-use Rattle.rec_core.proofs.Steps.{in_list, fields_many}
+use Rattle.rec_core.proofs.Steps.{actor_of, in_list, fields_many}
 use Rattle.rec_core.proofs.Words.{may_step, names_slots}
 use Rattle.std.proofs.lemmas.List.{set-get_or}
 use Rattle.rec_table.specs.Beats.{beats_of, told, learnt, Offerless}
 use Rattle.rec_table.specs.Homes.{homes_of}
 use Rattle.rec_core.specs.Row.{row, index_of}
 use Rattle.rec_table.specs.Rule.{Fits, Holds, ready, MayGo, beats, longer, MadeBy, IsPlain}
+use Rattle.rec_table.specs.declared.start.Start.{Start}
 use Rattle.rec_table.specs.declared.views.Beat.TheVariants.{Begins, Saw}
 use Rattle.rec_table.specs.declared.views.Seated.{Seated}
 use Rattle.rec_table.specs.declared.views.View.{View}
@@ -51,84 +52,88 @@ use Rattle.rec_order.proofs.Runs.{after_both, fit_both}
 use Rattle.rec_table.proofs.Beats.{beats_both, world_after, config_after, mutator_after, step_same}
 
 -- the moves of a step, with the work that begins first
-moves_of : (t : ℕ) → Option Work → List Move
+moves_of : (t : ℕ) → Option Start → List Move
 moves_of t None = Move.Steps t ∷ []
-moves_of t (Some work) = Move.Begins t work ∷ Move.Steps t ∷ []
+moves_of t (Some start) = Move.Begins t start.work start.from ∷ Move.Steps t ∷ []
 
 -- the state in which the step is made
-pub before : Core → (t : ℕ) → Option Work → Core
+pub before : Core → (t : ℕ) → Option Start → Core
 before w t None = w
-before w t (Some work) = begun w t work
+before w t (Some start) = begun_from w t start.work start.from
 
 pub before_none : (w : Core) (t : ℕ) → before w t None ≡ w
 unfolding before
 before_none w t = refl
 
-ready_is : (w : Core) (t : ℕ) (wk : Option Work) → IsKept w → IsMutator w.config t → mutator (before w t wk) t ≡ ready (mutator w t) wk
+ready_is : (w : Core) (t : ℕ) (wk : Option Start) → IsKept w → IsMutator w.config t → mutator (before w t wk) t ≡ ready (mutator w t) wk
 unfolding before
 ready_is w t None kept is = refl
-ready_is w t (Some work) kept is = get_or-set_same w.mutators (t - 1) (begun_of (mutator w t) work) nobody (in_list w t kept is)
+ready_is w t (Some start) kept is = get_or-set_same w.mutators (t - 1) (begun_of (mutator w t) start.work start.from) nobody (in_list w t kept is)
 
-pub begun_busy : (p : Private) (work : Work) → is_busy (begun_of p work) ≡ true
+pub begun_busy : (p : Private) (work : Work) (from : ℕ) → is_busy (begun_of p work from) ≡ true
 unfolding begun_of
-begun_busy p work = refl
+begun_busy p work from = refl
 
-before_world : (w : Core) (t : ℕ) (wk : Option Work) → IsWorld w → IsMutator w.config t → MayGo (mutator w t) wk → IsWorld (before w t wk)
+-- a slot of the mutator is one of the heap
+starts : (w : Core) (t from : ℕ) → IsKept w → IsMutator w.config t → from < (mutator w t).slots → from < w.config.slots
+starts w t from kept is there = subst (λ n. from < n) (actor_of w t kept is).own.slots there
+
+before_world : (w : Core) (t : ℕ) (wk : Option Start) → IsWorld w → IsMutator w.config t → MayGo (mutator w t) wk → IsWorld (before w t wk)
 unfolding before
 before_world w t None world is may = world
-before_world w t (Some work) world is may = moved_world w (Move.Begins t work) world (is, may.0, may.1, may.2)
+before_world w t (Some start) world is may = moved_world w (Move.Begins t start.work start.from) world (is, may.0, may.1, may.2, starts w t start.from (world_kept w world) is may.3)
 
-before_busy : (w : Core) (t : ℕ) (wk : Option Work) → IsKept w → IsMutator w.config t → MayGo (mutator w t) wk → is_busy (mutator (before w t wk) t) ≡ true
+before_busy : (w : Core) (t : ℕ) (wk : Option Start) → IsKept w → IsMutator w.config t → MayGo (mutator w t) wk → is_busy (mutator (before w t wk) t) ≡ true
 unfolding before
 before_busy w t None kept is may = may
-before_busy w t (Some work) kept is may = ap is_busy (ready_is w t (Some work) kept is) ∙ begun_busy (mutator w t) work
+before_busy w t (Some start) kept is may = ap is_busy (ready_is w t (Some start) kept is) ∙ begun_busy (mutator w t) start.work start.from
 
-before_config : (w : Core) (t : ℕ) (wk : Option Work) → (before w t wk).config ≡ w.config
+before_config : (w : Core) (t : ℕ) (wk : Option Start) → (before w t wk).config ≡ w.config
 unfolding before
 before_config w t None = refl
-before_config w t (Some work) = refl
+before_config w t (Some start) = refl
 
-before_cells : (w : Core) (t : ℕ) (wk : Option Work) → cells_of (before w t wk) ≡ cells_of w
+before_cells : (w : Core) (t : ℕ) (wk : Option Start) → cells_of (before w t wk) ≡ cells_of w
 unfolding before
 before_cells w t None = refl
-before_cells w t (Some work) = refl
+before_cells w t (Some start) = refl
 
-before_boxes : (w : Core) (t : ℕ) (wk : Option Work) → (before w t wk).boxes ≡ w.boxes
+before_boxes : (w : Core) (t : ℕ) (wk : Option Start) → (before w t wk).boxes ≡ w.boxes
 unfolding before
 before_boxes w t None = refl
-before_boxes w t (Some work) = refl
+before_boxes w t (Some start) = refl
 
-all_fit : (w : Core) (t : ℕ) (wk : Option Work) → IsKept w → IsMutator w.config t → MayGo (mutator w t) wk → AllFit w (moves_of t wk)
+all_fit : (w : Core) (t : ℕ) (wk : Option Start) → IsKept w → IsMutator w.config t → MayGo (mutator w t) wk → AllFit w (moves_of t wk)
 unfolding moves_of before
 all_fit w t None kept is may = ((is, may), tt)
-all_fit w t (Some work) kept is may = ((is, may.0, may.1, may.2), ((is, before_busy w t (Some work) kept is may), tt))
+all_fit w t (Some start) kept is may = ((is, may.0, may.1, may.2, starts w t start.from kept is may.3), ((is, before_busy w t (Some start) kept is may), tt))
 
-after_is : (w : Core) (t : ℕ) (wk : Option Work) → after_moves w (moves_of t wk) ≡ stepped (before w t wk) t
+after_is : (w : Core) (t : ℕ) (wk : Option Start) → after_moves w (moves_of t wk) ≡ stepped (before w t wk) t
 unfolding moves_of before
 after_is w t None = refl
-after_is w t (Some work) = refl
+after_is w t (Some start) = refl
 
-own_beats : (w : Core) (t : ℕ) (wk : Option Work) → beats_of t w (moves_of t wk) ≡ beats wk (found_by (before w t wk) t)
+own_beats : (w : Core) (t : ℕ) (wk : Option Start) → beats_of t w (moves_of t wk) ≡ beats wk (found_by (before w t wk) t)
 unfolding moves_of before
 own_beats w t None = ap (λ b. cond b (Saw (found_by w t) ∷ []) [] ++ []) (eq-eqb t t refl)
-own_beats w t (Some work) = ap (λ b. cond b (Begins work ∷ []) [] ++ (cond b (Saw (found_by (begun w t work) t) ∷ []) [] ++ [])) (eq-eqb t t refl)
+own_beats w t (Some start) = ap (λ b. cond b (Begins start ∷ []) [] ++ (cond b (Saw (found_by (begun_from w t start.work start.from) t) ∷ []) [] ++ [])) (eq-eqb t t refl)
 
-no_beats : (w : Core) (t x : ℕ) (wk : Option Work) → t ≢ x → beats_of x w (moves_of t wk) ≡ []
+no_beats : (w : Core) (t x : ℕ) (wk : Option Start) → t ≢ x → beats_of x w (moves_of t wk) ≡ []
 unfolding moves_of
 no_beats w t x None ne = ap (λ b. cond b (Saw (found_by w t) ∷ []) [] ++ []) (ne_eqb t x ne)
-no_beats w t x (Some work) ne = ap (λ b. cond b (Begins work ∷ []) [] ++ (cond b (Saw (found_by (begun w t work) t) ∷ []) [] ++ [])) (ne_eqb t x ne)
+no_beats w t x (Some start) ne = ap (λ b. cond b (Begins start ∷ []) [] ++ (cond b (Saw (found_by (begun_from w t start.work start.from) t) ∷ []) [] ++ [])) (ne_eqb t x ne)
 
 pub offerless_both : (ms ns : List Move) → Offerless ms → Offerless ns → Offerless (ms ++ ns)
 offerless_both [] ns a b = b
-offerless_both (Move.Begins t work ∷ ms) ns a b = offerless_both ms ns a b
+offerless_both (Move.Begins t work from ∷ ms) ns a b = offerless_both ms ns a b
 offerless_both (Move.Steps t ∷ ms) ns a b = offerless_both ms ns a b
 offerless_both (Move.Turns ∷ ms) ns a b = offerless_both ms ns a b
 offerless_both (Move.Offers ∷ ms) ns a b = absurd a
 
-moves_offerless : (t : ℕ) (wk : Option Work) → Offerless (moves_of t wk)
+moves_offerless : (t : ℕ) (wk : Option Start) → Offerless (moves_of t wk)
 unfolding moves_of
 moves_offerless t None = tt
-moves_offerless t (Some work) = tt
+moves_offerless t (Some start) = tt
 
 -- an operation that moves no mailbox
 abbrev pub IsPlainOp : Op → Type 0
@@ -218,7 +223,7 @@ fits_set key run made gone owner views id w others mine j v e =
     (λ (x : (j ≢ id) × (get_elem? views j ≡ some v)). others j v x.0 x.1)
     (at_set views id j w v e)
 
-other_beats : (key : Core) (run : List Move) (t x : ℕ) (wk : Option Work) → t ≢ x → beats_of x key run ≡ beats_of x key (run ++ moves_of t wk)
+other_beats : (key : Core) (run : List Move) (t x : ℕ) (wk : Option Start) → t ≢ x → beats_of x key run ≡ beats_of x key (run ++ moves_of t wk)
 other_beats key run t x wk ne =
     sym (beats_both x key run (moves_of t wk) ∙ ap (λ l. beats_of x key run ++ l) (no_beats (after_moves key run) t x wk ne) ∙ append-nil (beats_of x key run))
 
@@ -229,13 +234,13 @@ else_private l t x q d ne a b = get_or-set_other l (t - 1) (x - 1) q d (λ e. ne
 else_box : (l : List Contents) (t x : ℕ) (q d : Contents) → t ≢ x → 1 ≤ t → 1 ≤ x → get_or (set l (t - 1) q) (x - 1) d ≡ get_or l (x - 1) d
 else_box l t x q d ne a b = get_or-set_other l (t - 1) (x - 1) q d (λ e. ne (omega (arith, e)))
 
-before_else : (w : Core) (t x : ℕ) (wk : Option Work) → t ≢ x → 1 ≤ t → 1 ≤ x → mutator (before w t wk) x ≡ mutator w x
+before_else : (w : Core) (t x : ℕ) (wk : Option Start) → t ≢ x → 1 ≤ t → 1 ≤ x → mutator (before w t wk) x ≡ mutator w x
 unfolding before
 before_else w t x None ne a b = refl
-before_else w t x (Some work) ne a b = else_private w.mutators t x (begun_of (mutator w t) work) nobody ne a b
+before_else w t x (Some start) ne a b = else_private w.mutators t x (begun_of (mutator w t) start.work start.from) nobody ne a b
 
 -- the hand of another
-hand_stays : (now : Core) (t x : ℕ) (wk : Option Work) (hand : Contents) → t ≢ x → 1 ≤ t → 1 ≤ x → ((mutator now x).phase ≡ at.Giving → hand ≡ box now x)
+hand_stays : (now : Core) (t x : ℕ) (wk : Option Start) (hand : Contents) → t ≢ x → 1 ≤ t → 1 ≤ x → ((mutator now x).phase ≡ at.Giving → hand ≡ box now x)
     → (mutator (stepped (before now t wk) t) x).phase ≡ at.Giving → hand ≡ box (stepped (before now t wk) t) x
 hand_stays now t x wk hand ne a b f giving =
     let v : Core = before now t wk in
@@ -245,7 +250,7 @@ hand_stays now t x wk hand ne a b f giving =
     ∙ sym (else_box v.boxes t x (left_of (took_of (mutator v t) (found_by v t)) (box v t)) (collectors.blank 0 0) ne a b)
 
 -- another's view, after a step of t
-fits_on : (key : Core) (run : List Move) (made gone : ℕ) (owner : ℕ → ℕ) (t : ℕ) (wk : Option Work) (id j : ℕ) → owner t ≡ id → gone < t → j ≢ id
+fits_on : (key : Core) (run : List Move) (made gone : ℕ) (owner : ℕ → ℕ) (t : ℕ) (wk : Option Start) (id j : ℕ) → owner t ≡ id → gone < t → j ≢ id
     → (v : View) → Fits key run made gone owner j v → Fits key (run ++ moves_of t wk) made gone owner j v
 fits_on key run made gone owner t wk id j own low ne (Collects c) f =
     (f.0, f.1, f.2, f.3 ∙ other_beats key run t 0 wk (λ e. omega (arith, e)), λ k lt. f.4 k lt ∙ other_beats key run t (k + 1) wk (λ e. omega (arith, e)))
@@ -262,7 +267,7 @@ fits_on key run made gone owner t wk id j own low ne (Mutates u) f =
 fits_on key run made gone owner t wk id j own low ne Spent f = tt
 
 -- What is known as mutator t makes a step: `now` is the end of the run so far, and `v` the state in which the step is made.
-pub record Here (key : Core) (s : State (Option Contents) View) (h : Holds key s) (t : Seated) (wk : Option Work) (p : Private) (op : Op) : Type 0 where
+pub record Here (key : Core) (s : State (Option Contents) View) (h : Holds key s) (t : Seated) (wk : Option Start) (p : Private) (op : Op) : Type 0 where
   pub goes : MayGo (mutator (after_moves key h.run) t.number) wk
   pub now_world : IsWorld (after_moves key h.run)
   pub now_here : IsMutator (after_moves key h.run).config t.number
@@ -277,7 +282,7 @@ pub record Here (key : Core) (s : State (Option Contents) View) (h : Holds key s
   pub may : IsFound (ready p wk) op (get_or s.words (index_of (length key.words) (length key.headers) op) 0)
   pub names : NamesSlots (learnt (ready p wk) (Saw (get_or s.words (index_of (length key.words) (length key.headers) op) 0)))
 
-pub here_at : (key : Core) (s : State (Option Contents) View) (h : Holds key s) (id : ℕ) (t : Seated) (wk : Option Work) (p : Private) (op : Op)
+pub here_at : (key : Core) (s : State (Option Contents) View) (h : Holds key s) (id : ℕ) (t : Seated) (wk : Option Start) (p : Private) (op : Op)
     → get_elem? s.views id ≡ some (Mutates t) → p ≡ told (mutator key t.number) t.log → MayGo p wk → op ≡ next_of (ready p wk) → Here key s h t wk p op
 here_at key s h id t wk p op fit is_p may is_op =
     let x : ℕ = t.number in
@@ -329,7 +334,7 @@ here_at key s h id t wk p op fit is_p may is_op =
     }
 
 -- the rule after the step, with these mailboxes at home
-pub goes_on : (key : Core) (s : State (Option Contents) View) (h : Holds key s) (id : ℕ) (t : Seated) (wk : Option Work) (p : Private) (op : Op) (z : ℕ) (homes' : List (maybe.Option (Option Contents))) (hand : Contents)
+pub goes_on : (key : Core) (s : State (Option Contents) View) (h : Holds key s) (id : ℕ) (t : Seated) (wk : Option Start) (p : Private) (op : Op) (z : ℕ) (homes' : List (maybe.Option (Option Contents))) (hand : Contents)
     → get_elem? s.views id ≡ some (Mutates t) → (here : Here key s h t wk p op)
     → z ≡ written op (get_or s.words (index_of (length key.words) (length key.headers) op) 0)
     → homes' ≡ homes_of (stepped (before (after_moves key h.run) t.number wk) t.number).crossing (stepped (before (after_moves key h.run) t.number wk) t.number).boxes
@@ -365,7 +370,7 @@ goes_on key s h id t wk p op z homes' hand fit here does homes_are holds_it =
           (mine.0, mine.1, mine.2, longer_, subst (λ (c : Core). (mutator c x).phase ≡ at.Giving → hand ≡ box c x) (sym ends) holds_it);
     }
 
-pub stepped_learns : (key : Core) (s : State (Option Contents) View) (h : Holds key s) (t : Seated) (wk : Option Work) (p : Private) (op : Op) → (here : Here key s h t wk p op)
+pub stepped_learns : (key : Core) (s : State (Option Contents) View) (h : Holds key s) (t : Seated) (wk : Option Start) (p : Private) (op : Op) → (here : Here key s h t wk p op)
     → mutator (stepped (before (after_moves key h.run) t.number wk) t.number) t.number ≡ learnt (ready p wk) (Saw (get_or s.words (index_of (length key.words) (length key.headers) op) 0))
 stepped_learns key s h t wk p op here =
     let x : ℕ = t.number in
@@ -401,9 +406,9 @@ not_giving p word phase plain = by phase plain
     by (at.Begun (works.Command (commands.Get dst src f))) is = read (commands.Get dst src f) dst (register p src)
     by (at.Begun (works.Command (commands.Put src f val))) is = wrote (commands.Put src f val) f val (register p src) (is_full p)
     by (at.Begun works.Poll) is = goes (eqb word p.epoch) (at.Finished works.Poll (makes.Crossed None)) at.Crossing refl refl
-    by (at.Scanning reg label before_ slot) is =
-        new (born_in p reg label slot) (moved p (cond (eqb (slot + 1) p.slots) (at.Scanned reg label before_) (at.Scanning reg label before_ (slot + 1)))) (eqb word 0) refl
-        (goes (eqb (slot + 1) p.slots) (at.Scanned reg label before_) (at.Scanning reg label before_ (slot + 1)) refl refl)
+    by (at.Scanning reg label before_ probed) is =
+        new (born_in p reg label (probe_of p probed)) (moved p (cond (eqb (probed + 1) p.slots) (at.Scanned reg label before_) (at.Scanning reg label before_ (probed + 1)))) (eqb word 0) refl
+        (goes (eqb (probed + 1) p.slots) (at.Scanned reg label before_) (at.Scanning reg label before_ (probed + 1)) refl refl)
     by at.Crossing is = absurd is
     by at.Swapping is = absurd is
     by at.Giving is = absurd is
@@ -417,7 +422,7 @@ left_plain p word plain busy giving =
     let yes : is_giving (took_of p word).phase ≡ true = ap is_giving (ap (λ (q : Private). q.phase) (sym same) ∙ giving) in
     true≢false (sym yes ∙ no)
 
-pub steps : (key : Core) (slots id : ℕ) (t : Seated) (hs : List (ℕ × Option Contents)) (wk : Option Work) (p : Private) (op : Op) (f : ℕ → ℕ) (st : Step (Option Contents))
+pub steps : (key : Core) (slots id : ℕ) (t : Seated) (hs : List (ℕ × Option Contents)) (wk : Option Start) (p : Private) (op : Op) (f : ℕ → ℕ) (st : Step (Option Contents))
     → p ≡ told (mutator key t.number) t.log → MayGo p wk → IsPlain (ready p wk).phase → op ≡ next_of (ready p wk) → ((n : ℕ) → f n ≡ written op n)
     → Allows (Holds key) slots id (Mutates t, hs) (index_of (length key.words) (length key.headers) op) f (MadeBy p wk st (Mutates t, hs))
 steps key slots id t hs wk p op f st is_p may plain is_op does s h len at_id fit =

@@ -1,38 +1,52 @@
 -- Why a command was answered so, said of the mutator's list.
-use Rattle.std.specs.Prelude.{◌≡◌, ℕ, List, [], ◌∷◌, ◌++◌, fold, map}
+use Rattle.std.specs.Prelude.{◌≡◌, ◌≢◌, ℕ, ◌+◌, ◌<◌, Option, None, Some, List, [], ◌∷◌, ◌++◌, fold, length, map}
 use Rattle.rec_model.specs.declared.answer.Answer.TheVariants as answers
 use Rattle.rec_model.specs.declared.command.Cmd.{Cmd}
 use Rattle.rec_model.specs.declared.command.Cmd.TheVariants as commands
 use Rattle.rec_model.specs.declared.told.Told.{Told}
 use Rattle.rec_mutator.specs.Causes.{HasCause}
-use Rattle.rec_mutator.specs.Private.{Private}
+use Rattle.rec_mutator.specs.Private.{Private, limit_of}
 use Rattle.rec_mutator.specs.Scans.{FailsScan, ops_along}
 use Rattle.rec_mutator.specs.Step.{IsStill}
 use Rattle.rec_mutator.specs.Took.{begun_of, took_of}
-use Rattle.rec_mutator.specs.declared.work.Work.{Work}
 use Rattle.rec_mutator.specs.declared.work.Work.TheVariants as works
+use Rattle.rec_table.specs.declared.start.Start.{Start}
 use Rattle.rec_table.specs.declared.views.Beat.{Beat}
 use Rattle.rec_table.specs.declared.views.Beat.TheVariants.{Begins, Saw}
 
--- a work and the words that its steps found
-abbrev pub worked : Work → (words : List ℕ) → List Beat
-worked work words = Begins work ∷ map (λ word. Saw word) words
+-- a work that began so, and the words that its steps found
+abbrev pub worked : Start → (words : List ℕ) → List Beat
+worked start words = Begins start ∷ map (λ word. Saw word) words
 
 -- Every probe of an allocation failed: its first step found `before` in the freed word; then the header of each slot was claimed, one
--- after another, and each was found taken. These are all its steps but the last.
-pub record FailsProbes (p : Private) (cmd : Cmd) (before : ℕ) (words : List ℕ) : Type 0 where
+-- after another, once round from slot `from` on, and each was found taken. These are all its steps but the last.
+pub record FailsProbes (p : Private) (cmd : Cmd) (from before : ℕ) (words : List ℕ) : Type 0 where
   pub reg : ℕ
   pub label : ℕ
   pub is : cmd ≡ commands.New reg label
-  pub fails : FailsScan label p.slots before (ops_along (begun_of p (works.Command cmd)) words) words
+  pub fails : FailsScan label p.slots from before (ops_along (begun_of p (works.Command cmd) from) words) words
 
 -- The list grew by the command and the words that its steps found, and each refusal has its cause there.
 pub record IsAnswered (p : Private) (cmd : Cmd) (log log' : List Beat) (q : Private) (told : Told) : Type 0 where
+  -- the slot with which its scan began, if it made one
+  pub from : ℕ
   pub words : List ℕ
   pub last : ℕ
-  pub grows : log' ≡ log ++ worked (works.Command cmd) (words ++ last ∷ [])
-  pub cause : HasCause (fold took_of (begun_of p (works.Command cmd)) words) q cmd last told.answer
+  pub grows : log' ≡ log ++ worked (record { work = works.Command cmd; from = from }) (words ++ last ∷ [])
+  -- it took no more steps than such a command takes at most
+  pub few : length words < limit_of p.slots (works.Command cmd)
+  pub cause : HasCause (fold took_of (begun_of p (works.Command cmd) from) words) q cmd last told.answer
   -- Full: the last step found the freed word as the first one had, and it was even
-  pub full : told.answer ≡ answers.Full → (before : ℕ) × FailsProbes p cmd before words × IsStill before last
+  pub full : told.answer ≡ answers.Full → (before : ℕ) × FailsProbes p cmd from before words × IsStill before last
   -- Busy tells both words, where that is not so
-  pub busy : (before after : ℕ) → told.answer ≡ answers.Busy before after → FailsProbes p cmd before words × (after ≡ last) × (IsStill before last → ⊥)
+  pub busy : (before after : ℕ) → told.answer ≡ answers.Busy before after → FailsProbes p cmd from before words × (after ≡ last) × (IsStill before last → ⊥)
+
+-- The list grew by a poll and the words that its steps found: the requested epoch, and, where the mutator isn't in it, those of two steps
+-- by which it crosses into the next one.
+pub record IsPolled (p : Private) (log log' : List Beat) (result : Option ℕ) : Type 0 where
+  pub from : ℕ
+  pub requested : ℕ
+  pub crossing : List ℕ
+  pub grows : log' ≡ log ++ worked (record { work = works.Poll; from = from }) (requested ∷ crossing)
+  pub none : requested ≡ p.epoch → (crossing ≡ []) × (result ≡ None)
+  pub some : requested ≢ p.epoch → (length crossing ≡ 2) × (result ≡ Some (p.epoch + 1))

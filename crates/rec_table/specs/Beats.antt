@@ -28,7 +28,7 @@ turn_at w (Some op) = looked w (cell (cells_of w) op) w.collector.phase ∷ []
 
 -- what an actor records of a move: mutators are numbered from 1, and 0 is the collector
 abbrev pub beats_in : (x : ℕ) → Core → Move → List Beat
-beats_in x w (Move.Begins t work) = if t == x then Begins work ∷ [] else []
+beats_in x w (Move.Begins t work from) = if t == x then Begins (record { work = work; from = from }) ∷ [] else []
 beats_in x w (Move.Steps t) = if t == x then Saw (found_by w t) ∷ [] else []
 beats_in x w Move.Turns = if x == 0 then turn_at w (collector_next.next_of w.collector) else []
 beats_in x w Move.Offers = []
@@ -40,7 +40,7 @@ beats_of x w (m ∷ ms) = beats_in x w m ++ beats_of x (after_move w m) ms
 
 -- what a beat makes of a mutator's private record: the mailbox that it takes holds a spare
 abbrev pub learnt : Private → Beat → Private
-learnt p (Begins work) = begun_of p work
+learnt p (Begins start) = begun_of p start.work start.from
 learnt p (Saw word) = step_of p word (spare (took_of p word))
 learnt p (Took word b) = p
 
@@ -51,7 +51,7 @@ told p (b ∷ bs) = told (learnt p b) bs
 
 -- what a beat makes of the collector's record: only where it took a mailbox is a buffer swapped
 abbrev pub gathered : collectors.Private → Beat → collectors.Private
-gathered c (Begins work) = c
+gathered c (Begins start) = c
 gathered c (Saw word) = collector_took.took_of c word
 gathered c (Took word b) = collector_took.step_of c word b
 

@@ -63,9 +63,9 @@ IsTold (at.Finished works.Poll (makes.Answered told)) = ⊥
 IsTold (at.Finished works.Poll (makes.Crossed epoch)) = Unit {0}
 IsTold _ = Unit {0}
 
--- the list grew by this work and steps
+-- the list grew by this work, which began with some slot as its scan's first one, and by steps
 pub data Works (work : Work) (log : List Beat) : List Beat → Type 0 where
-  first : (word : ℕ) → Works work log (log ++ beats (Some work) word)
+  first : (from word : ℕ) → Works work log (log ++ beats (Some (record { work = work; from = from })) word)
   then : (log' : List Beat) (word : ℕ) → Works work log log' → Works work log (log' ++ beats None word)
 
 -- what clauses see of the collector on the table

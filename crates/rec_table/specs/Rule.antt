@@ -26,6 +26,7 @@ use Rattle.rec_world.specs.World.{IsWorld}
 use Rattle.rec_table.specs.Beats.{beats_of, learnt, Offerless}
 use Rattle.rec_table.specs.Homes.{homes_of}
 use Rattle.rec_core.specs.Row.{row}
+use Rattle.rec_table.specs.declared.start.Start.{Start}
 use Rattle.rec_table.specs.declared.views.Beat.{Beat}
 use Rattle.rec_table.specs.declared.views.Beat.TheVariants.{Begins, Saw, Took}
 use Rattle.rec_table.specs.declared.views.Seated.{Seated}
@@ -57,18 +58,22 @@ pub record Holds (key : Core) (s : State (Option Contents) View) : Type 0 where
   pub each : (id : ℕ) (v : View) → get_elem? s.views id ≡ some v → Fits key run made gone owner id v
 
 -- the record with which a step is made: a work may begin first
-abbrev pub ready : Private → Option Work → Private
+abbrev pub ready : Private → Option Start → Private
 ready p None = p
-ready p (Some work) = begun_of p work
+ready p (Some start) = begun_of p start.work start.from
 
--- a work begins where none is unfinished, and a step needs one that is
-abbrev pub MayGo : Private → Option Work → Type 0
+-- a work may begin where none is unfinished
+abbrev pub MayBegin : Private → Work → Type 0
+MayBegin p work = (is_busy p ≡ false) × IsValid p work × HasLabel work
+
+-- a work begins where none is unfinished, with any slot as its scan's first one, and a step needs one that is
+abbrev pub MayGo : Private → Option Start → Type 0
 MayGo p None = is_busy p ≡ true
-MayGo p (Some work) = (is_busy p ≡ false) × IsValid p work × HasLabel work
+MayGo p (Some start) = (is_busy p ≡ false) × IsValid p start.work × HasLabel start.work × (start.from < p.slots)
 
-abbrev pub beats : Option Work → (word : ℕ) → List Beat
+abbrev pub beats : Option Start → (word : ℕ) → List Beat
 beats None word = Saw word ∷ []
-beats (Some work) word = Begins work ∷ Saw word ∷ []
+beats (Some start) word = Begins start ∷ Saw word ∷ []
 
 abbrev pub longer : Seated → List Beat → Seated
 longer t bs = record t { log = t.log ++ bs }
@@ -85,7 +90,7 @@ seated_of Spent = record { number = 0; log = []; hand = collectors.blank 0 0 }
 
 -- A step without a mailbox was made by the mutator of this record: it is in the seat's list with the word found, which is one
 -- that the machine may find; and the registers that the step leaves name slots of the heap.
-abbrev pub MadeBy : Private → Option Work → Step (Option Contents) → Me (Option Contents) View → ℕ → Me (Option Contents) View → Type 0
+abbrev pub MadeBy : Private → Option Start → Step (Option Contents) → Me (Option Contents) View → ℕ → Me (Option Contents) View → Type 0
 MadeBy p work st me word me' = (me' ≡ (adds me.0 (beats work word), me.1)) × IsFound (ready p work) (next_of (ready p work)) word × NamesSlots (learnt (ready p work) (Saw word))
 
 abbrev pub first_view : View
@@ -159,10 +164,10 @@ abbrev pub taken_by : Private → (word : ℕ) → phases.Phase → List (ℕ ×
 taken_by p word at.Crossing = (p.number - 1, Some (spare (took_of p word))) ∷ []
 taken_by p word _ = []
 
-abbrev pub seated_after : Seated → Private → Option Work → (word : ℕ) → Seated
+abbrev pub seated_after : Seated → Private → Option Start → (word : ℕ) → Seated
 seated_after t p wk word = record t { log = t.log ++ beats wk word; hand = hand_after t.hand (took_of p word).log p.phase }
 
-abbrev pub me_after : Seated → Private → Option Work → (word : ℕ) → Me (Option Contents) View
+abbrev pub me_after : Seated → Private → Option Start → (word : ℕ) → Me (Option Contents) View
 me_after t p wk word = (Mutates (seated_after t p wk word), taken_by p word p.phase)
 
 -- the mailbox that the collector has out between two turns, by phase: a spare lies in it
@@ -192,7 +197,7 @@ NotLooking (turn_at.Looking t) = ⊥
 NotLooking _ = Unit {0}
 
 abbrev pub word_of : Beat → ℕ
-word_of (Begins work) = 0
+word_of (Begins start) = 0
 word_of (Saw word) = word
 word_of (Took word b) = word
 

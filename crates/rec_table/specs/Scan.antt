@@ -2,7 +2,7 @@
 use Rattle.std.specs.Prelude.{◌≡◌, ℕ, ◌+◌, ◌<◌, Option, List, [], ◌++◌, length, map, fold, All}
 use Rattle.atomic_table.specs.Table.{Me}
 use Rattle.rec_log.specs.declared.contents.Contents.{Contents}
-use Rattle.rec_mutator.specs.Private.{Private}
+use Rattle.rec_mutator.specs.Private.{Private, probe_of}
 use Rattle.rec_mutator.specs.Took.{took_of}
 use Rattle.rec_mutator.specs.declared.phase.Phase.TheVariants.{Scanning}
 use Rattle.rec_table.specs.Held.{Held, has}
@@ -17,20 +17,21 @@ use Rattle.rec_table.specs.declared.views.View.TheVariants.{Mutates}
 abbrev pub saw_all : (words : List ℕ) → List Beat
 saw_all words = map (λ word. Saw word) words
 
--- a scan of so many slots has come to this one
-pub record ScansFrom (p : Private) (slot slots : ℕ) : Type 0 where
+-- a scan of so many slots has made so many probes, and so has come to this slot
+pub record ScansFrom (p : Private) (probed slot slots : ℕ) : Type 0 where
   pub reg : ℕ
   pub label : ℕ
   pub before : ℕ
-  pub phase : p.phase ≡ Scanning reg label before slot
+  pub phase : p.phase ≡ Scanning reg label before probed
+  pub comes : slot ≡ probe_of p probed
   pub many : p.slots ≡ slots
-  pub there : slot < slots
+  pub there : probed < slots
 
--- The seat's list grew by a word of each header from one slot on and below another, in order, each of a taken header.
-pub record Passed (t : Seated) (from slot : ℕ) (me : Me (Option Contents) View) : Type 0 where
+-- The seat's list grew by the word of each probe from one on and before another, in order, each of a taken header.
+pub record Passed (t : Seated) (probed count : ℕ) (me : Me (Option Contents) View) : Type 0 where
   pub words : List ℕ
   pub taken : All (λ word. 0 < word) words
-  pub every : from + length words ≡ slot
+  pub every : probed + length words ≡ count
   pub grows : me ≡ (Mutates (longer t (saw_all words)), [])
 
 -- The mutator's list grew by the words of failing probes, each of a taken header, and its record learnt them one after another.
@@ -39,3 +40,4 @@ pub record HasScanned (h h' : Held) : Type 0 where
   pub taken : All (λ word. 0 < word) words
   pub grows : h' ≡ record h { log = h.log ++ saw_all words }
   pub learns : has h' ≡ fold took_of (has h) words
+  pub steps : (has h').steps ≡ (has h).steps + length words

@@ -7,7 +7,7 @@ ghost use Rattle.rec_mutator.specs.Took.{IsFound, IsBetween, spare, took_of};
 ghost use Rattle.rec_table.specs.Held.{held, has, IsOf};
 ghost use Rattle.rec_table.specs.Beats.{told, learnt};
 ghost use Rattle.rec_core.specs.Row.{index_of};
-ghost use Rattle.rec_table.specs.Rule.{ready, MayGo, IsPlain, beats, longer, seated_of, hands, me_after, taken_by, hand_after};
+ghost use Rattle.rec_table.specs.Rule.{ready, MayBegin, MayGo, IsPlain, beats, longer, seated_of, hands, me_after, taken_by, hand_after};
 ghost use Rattle.rec_table.specs.declared.views.Beat.TheVariants.{Saw};
 ghost use Rattle.rec_table.specs.declared.views.View.TheVariants.{Mutates};
 ghost use Rattle.rec_core.specs.Core.{mutator};
@@ -17,6 +17,7 @@ ghost use Rattle.rec_world.specs.World.{IsWorld};
 use crate::board::Board;
 use crate::rule::{Doing, Gives, Makes, Takes};
 use crate::scan::first_free;
+use crate::start::Start;
 use crate::views::View;
 use atomic_table::Seat;
 use rec_log::Buffer;
@@ -34,6 +35,8 @@ pub struct Actor {
     seat: Seat<Option<Buffer>, View>,
     // How many objects it made, which no other thread counts.
     births: u64,
+    // Where its next scan begins: behind the slot that it claimed last, or with slot 0, if no slot is behind that.
+    cursor: u16,
 }
 
 impl Model for Actor {
@@ -58,7 +61,7 @@ fn make<W: Doing>(
     board: &Board,
     seat: &mut Seat<Option<Buffer>, View>,
     op: Op,
-    work: Option<Work>,
+    work: Option<Start>,
 ) -> u64
     requires table { seat.old.table_id ≡ board.now.table.shared.table_id }
     requires seat { seat.old.me ≡ (Mutates (seated_of seat.old.me.0), hands (seated_of seat.old.me.0) (ready W.actor work)) }
@@ -129,15 +132,15 @@ fn learn(
     }
 }
 
-fn prepare(machine: &mut Machine, work: Option<Work>)
+fn prepare(machine: &mut Machine, work: Option<Start>)
     requires may { MayGo machine.old work }
     ensures ready { machine.new ≡ ready machine.old work }
     ensures busy { is_busy machine.new ≡ true }
     ensures same { KeepsSizes machine.old machine.new }
     ensures kept { IsMachine machine.new }
 {
-    if let Some(work) = work {
-        machine.begin(work);
+    if let Some(start) = work {
+        machine.begin(start.work, start.from);
     }
     let _steps = machine.steps();
 }
@@ -152,24 +155,33 @@ fn births(op: Op, found: u64) -> u64
     }
 }
 
+// Where the next scan begins after this step: behind the slot that it claimed.
+fn cursor_after(op: Op, cursor: u16) -> u16 {
+    match op {
+        Op::ClaimHeader(slot, _) => slot.wrapping_add(1),
+        _ => cursor,
+    }
+}
+
 impl Actor {
-    ghost use Rattle.std.specs.Prelude.{◌+◌, ◌%◌, ◌^◌, ◌≤◌, false, Some, IfSome};
+    ghost use Rattle.std.specs.Prelude.{◌+◌, ◌%◌, ◌^◌, ◌≤◌, ℕ, false, Some, IfSome};
     ghost use Rattle.rec_table.specs.Beats.{births_told};
     ghost use Rattle.rec_mutator.specs.Private.{work_of, answer_of, limit_of};
     ghost use Rattle.rec_model.specs.declared.command.Cmd.{Cmd as Command};
     ghost use Rattle.rec_model.specs.declared.told.Told.{Told as Answers};
     ghost use Rattle.rec_mutator.specs.declared.made.Made.TheVariants as makes;
     ghost use Rattle.rec_mutator.specs.declared.work.Work.TheVariants as works;
-    ghost use Rattle.rec_table.specs.Answered.{IsAnswered};
+    ghost use Rattle.rec_table.specs.Answered.{IsAnswered, IsPolled};
     ghost use Rattle.rec_table.specs.Held.{IsTold, Works};
     ghost use Rattle.rec_table.specs.Journals.{Tells, line_of};
     ghost use Rattle.rec_table.specs.Scan.{HasScanned};
 
-    // The actor of a mutator as the heap is started.
+    // The actor of a mutator as the heap is started, and where its first scan begins.
     pub(crate) fn sat(
         machine: Machine,
         opened: Snapshot<Machine>,
         seat: Seat<Option<Buffer>, View>,
+        cursor: u16,
     ) -> Actor
         requires seat { (seat.me ≡ (Mutates (seated_of seat.me.0), [])) × ((seated_of seat.me.0).log ≡ []) }
         requires machine { (machine ≡ opened.value) × (is_busy machine ≡ false) × NamesSlots machine }
@@ -180,6 +192,7 @@ impl Actor {
             opened,
             seat,
             births: 0,
+            cursor,
         }
     }
 
@@ -196,12 +209,13 @@ impl Actor {
             opened: _,
             seat,
             births,
+            cursor: _,
         } = self;
         (machine, births, seat)
     }
 
     /// One step, which begins a work first, or goes on with one.
-    pub fn step(&mut self, board: &Board, work: Option<Work>) -> u64
+    pub fn step(&mut self, board: &Board, work: Option<Start>) -> u64
         requires own { IsOf board.now.table.shared.table_id board.now.table.shared.key.value self.old }
         requires world { IsWorld board.now.table.shared.key.value }
         requires may { MayGo (has self.old) work }
@@ -220,6 +234,7 @@ impl Actor {
         let word = make::<Brand>(board, &mut self.seat, op, work);
         learn(board, &mut self.seat, &mut self.machine, op, word);
         self.births = self.births.wrapping_add(births(op, word));
+        self.cursor = cursor_after(op, self.cursor);
         let _steps = self.machine.steps();
         word
     }
@@ -236,11 +251,35 @@ impl Actor {
         ensures work { work_of (has self.new) ≡ work_of (has self.old) }
         ensures same { KeepsSizes (has self.old) (has self.new) }
     {
-        let _steps = self.machine.steps();
-        if let Op::ClaimHeader(from, _) = self.machine.next() {
-            let slot = first_free(board, &mut self.seat, usize::from(from));
-            self.machine.skip_to(slot as u16);
+        let steps = self.machine.steps();
+        if let Op::ClaimHeader(slot, _) = self.machine.next() {
+            // Behind the last claim a header is mostly free, and then no probe fails.
+            if board.finds_free(slot) {
+                return;
+            }
+            // The first step loaded the freed word, and each other one was a probe.
+            let probed = steps as usize - 1;
+            let count = first_free(board, &mut self.seat, probed, usize::from(slot));
+            self.machine.skip_to(count as u16);
         }
+    }
+
+    // A work, and where its scan is to begin, if it makes one.
+    fn start(&self, board: &Board, work: Work) -> Start
+        requires own { IsOf board.now.table.shared.table_id board.now.table.shared.key.value self.now }
+        requires world { IsWorld board.now.table.shared.key.value }
+
+        ensures work { result.work ≡ work }
+        ensures from { result.from < (has self.now).slots }
+    {
+        let _steps = self.machine.steps();
+        if usize::from(self.cursor) < board.slots {
+            return Start {
+                work,
+                from: self.cursor,
+            };
+        }
+        Start { work, from: 0 }
     }
 
     // What came of the last work, if it is finished.
@@ -283,7 +322,7 @@ impl Actor {
     pub fn work(&mut self, board: &Board, work: Work) -> Made
         requires own { IsOf board.now.table.shared.table_id board.now.table.shared.key.value self.old }
         requires world { IsWorld board.now.table.shared.key.value }
-        requires may { MayGo (has self.old) (Some work) }
+        requires may { MayBegin (has self.old) work }
 
         ensures grows { Works work self.old.log self.new.log × (self.new ≡ record self.old { log = self.new.log }) }
         ensures answer { answer_of (has self.new) ≡ Some result }
@@ -294,8 +333,10 @@ impl Actor {
         ensures same { KeepsSizes (has self.old) (has self.new) }
         // A command's refusals have their causes in the list.
         ensures causes { (cmd : Command) (told : Answers) → work ≡ works.Command cmd → result ≡ makes.Answered told → IsAnswered (has self.old) cmd self.old.log self.new.log (has self.new) told }
+        ensures polled { (epoch : Option ℕ) → work ≡ works.Poll → result ≡ makes.Crossed epoch → IsPolled (has self.old) self.old.log self.new.log epoch }
     {
-        self.step(board, Some(work));
+        let start = self.start(board, work);
+        self.step(board, Some(start));
         loop {
             if let Some(made) = self.answer() {
                 return made;

@@ -54,6 +54,14 @@ impl Board {
         }
     }
 
+    // Whether the header of a slot is found free, by a look that is no step and tells nothing.
+    #[inline(always)]
+    pub(crate) fn finds_free(&self, slot: u16) -> bool
+        requires { slot < self.now.slots }
+    {
+        self.table.shared.peek(self.places + usize::from(slot)) == 0
+    }
+
     /// Puts the words and the mailboxes of a world on a table. Where memory is short all comes back.
     pub(crate) fn open(
         alloc: Global,

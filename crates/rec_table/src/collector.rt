@@ -264,6 +264,7 @@ impl Collector {
         board: &Board,
         machine: Mutators,
         opened: Snapshot<Mutators>,
+        cursor: u16,
     ) -> Actor
         requires own { IsOwn board.now.table.shared.table_id board.now.table.shared.key.value self.old }
         requires world { IsWorld board.now.table.shared.key.value }
@@ -275,7 +276,7 @@ impl Collector {
         ensures is { self.new ≡ record self.old { crew = record self.old.crew { made = self.old.crew.made + 1 } } }
     {
         let seat = board.table.shared.split_seat::<Seats>(&mut self.seat);
-        Actor::sat(machine, opened, seat)
+        Actor::sat(machine, opened, seat, cursor)
     }
 
     // Takes in the list of the next mutator, and gives its machine and its births.

@@ -22,8 +22,7 @@ mod rule;
 mod scan;
 mod seating;
 mod spare;
-#[cfg(test)]
-mod tests;
+mod start;
 mod views;
 
 pub use collector::Collector;
@@ -32,4 +31,5 @@ pub use mutator::Mutator;
 pub use rule::{
     Doing, Gives, Glanced, Looked, Makes, Passes, Returned, Running, Takes, Turned, Turning,
 };
+pub use start::Start;
 pub use views::{Beat, Crew, Seated, View};

@@ -3,7 +3,7 @@ ghost use Rattle.std.specs.Prelude.{◌≡◌, ◌<◌, ℕ, Some, false, length
 ghost use Rattle.rec_mutator.specs.Private.{is_busy, answer_of, register, IsValid, KeepsSizes};
 ghost use Rattle.rec_mutator.specs.declared.made.Made.TheVariants as makes;
 ghost use Rattle.rec_mutator.specs.declared.work.Work.TheVariants as works;
-ghost use Rattle.rec_table.specs.Answered.{IsAnswered};
+ghost use Rattle.rec_table.specs.Answered.{IsAnswered, IsPolled};
 ghost use Rattle.rec_table.specs.Held.{has, IsMutatorOf, Works};
 ghost use Rattle.rec_table.specs.Journals.{Tells};
 ghost use Rattle.rec_core.specs.Config.{HasLabel};
@@ -61,7 +61,8 @@ impl Mutator {
         ensures answer { answer_of (has self.new) ≡ Some (makes.Answered result) }
 
         // Each refusal has its cause in the list: Full and Busy come where each probe found a taken header, between the first and the
-        // last look at the freed word.
+        // last look at the freed word. The list also tells that an allocation takes at most two steps more than there are slots, and each
+        // other command one.
         ensures causes { IsAnswered (has self.old) cmd self.old.log self.new.log (has self.new) result }
         ensures line { Tells (has self.old) self.old.log self.new.log ((cmd, result) ∷ []) }
         ensures idle { is_busy (has self.new) ≡ false }
@@ -83,6 +84,8 @@ impl Mutator {
         ensures grows { Works works.Poll self.old.log self.new.log }
         ensures is { self.new ≡ record self.old { log = self.new.log } }
         ensures answer { answer_of (has self.new) ≡ Some (makes.Crossed result) }
+        // The answer has its cause in the list: a poll takes one step, and three where it crosses.
+        ensures causes { IsPolled (has self.old) self.old.log self.new.log result }
         ensures line { Tells (has self.old) self.old.log self.new.log [] }
         ensures idle { is_busy (has self.new) ≡ false }
         ensures same { KeepsSizes (has self.old) (has self.new) }

@@ -21,11 +21,11 @@ impl TableRule<Option<Buffer>, View, Snapshot<World>> for Running {
 pub trait Doing {
     ghost use Rattle.std.specs.Prelude.{Option};
     ghost use Rattle.rec_mutator.specs.Private.{Private};
-    ghost use Rattle.rec_mutator.specs.declared.work.Work.{Work};
+    ghost use Rattle.rec_table.specs.declared.start.Start.{Start};
 
     ghost actor: { Private };
 
-    ghost work: { Option Work };
+    ghost work: { Option Start };
 }
 
 impl Doing for Brand {

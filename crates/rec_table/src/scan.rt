@@ -1,5 +1,5 @@
 //! The failing probes of a scan.
-ghost use Rattle.std.specs.Prelude.{◌≡◌, ◌+◌, ◌≤◌, []};
+ghost use Rattle.std.specs.Prelude.{◌≡◌, ◌+◌, ◌<◌, ◌≤◌, []};
 ghost use Rattle.rec_core.specs.Core.{mutator};
 ghost use Rattle.rec_table.specs.Beats.{told};
 ghost use Rattle.rec_table.specs.Rule.{seated_of};
@@ -16,51 +16,93 @@ use rec_log::Buffer;
 // two of them.
 const STRIDE: usize = 16;
 
-/// The first slot from this one on whose header is found free, or the number of slots. Each load of a taken header is a step.
-/// A load takes the header's line from no other thread, and no record is written between two of them.
-pub(crate) fn first_free(board: &Board, seat: &mut Seat<Option<Buffer>, View>, from: usize) -> usize
+/// Passes taken headers, from the slot to which a scan has come after so many probes, until one is free or the scan has gone round.
+/// The answer is how many probes it has made then. Each load of a taken header is a step. A load takes the header's line from no
+/// other thread, and no record is written between two of them. Behind the last slot the first one follows, so there are two runs of
+/// slots at most.
+pub(crate) fn first_free(
+    board: &Board,
+    seat: &mut Seat<Option<Buffer>, View>,
+    probed: usize,
+    slot: usize,
+) -> usize
     requires table { seat.old.table_id ≡ board.now.table.shared.table_id }
     requires seat { seat.old.me ≡ (Mutates (seated_of seat.old.me.0), []) }
-    requires scan { ScansFrom (told (mutator board.now.table.shared.key.value (seated_of seat.old.me.0).number) (seated_of seat.old.me.0).log) from board.now.slots }
+    requires scan { ScansFrom (told (mutator board.now.table.shared.key.value (seated_of seat.old.me.0).number) (seated_of seat.old.me.0).log) probed slot board.now.slots }
+    requires slot { slot < board.now.slots }
 
     ensures seat { (seat.new.table_id ≡ seat.old.table_id) × (seat.new.id ≡ seat.old.id) }
-    ensures passed { Passed (seated_of seat.old.me.0) from result seat.new.me }
+    ensures passed { Passed (seated_of seat.old.me.0) probed result seat.new.me }
     ensures few { result ≤ board.now.slots }
 {
-    let mut slot = from;
-    while slot + STRIDE < board.slots {
-        let free = first_free_of(board, seat, slot, STRIDE);
-        if free < slot + STRIDE {
-            return free;
-        }
-        slot += STRIDE;
+    let left = board.slots - probed;
+    let ahead = board.slots - slot;
+    if left <= ahead {
+        return probed + first_free_of_run(board, seat, probed, slot, left);
     }
-    first_free_of(board, seat, slot, board.slots - slot)
+    let count = first_free_of_run(board, seat, probed, slot, ahead);
+    if count < ahead {
+        return probed + count;
+    }
+    probed + ahead + first_free_of_run(board, seat, probed + ahead, 0, left - ahead)
 }
 
-// The same of so many slots alone. Where none of them is free, the answer is the slot behind them.
+// The same within one run of slots. The answer is how many of them it passes.
+fn first_free_of_run(
+    board: &Board,
+    seat: &mut Seat<Option<Buffer>, View>,
+    probed: usize,
+    slot: usize,
+    many: usize,
+) -> usize
+    requires table { seat.old.table_id ≡ board.now.table.shared.table_id }
+    requires seat { seat.old.me ≡ (Mutates (seated_of seat.old.me.0), []) }
+    requires scan { ScansFrom (told (mutator board.now.table.shared.key.value (seated_of seat.old.me.0).number) (seated_of seat.old.me.0).log) probed slot board.now.slots }
+    requires some { 0 < many }
+    requires slots { slot + many ≤ board.now.slots }
+    requires probes { probed + many ≤ board.now.slots }
+
+    ensures seat { (seat.new.table_id ≡ seat.old.table_id) × (seat.new.id ≡ seat.old.id) }
+    ensures passed { Passed (seated_of seat.old.me.0) probed (probed + result) seat.new.me }
+    ensures few { result ≤ many }
+{
+    let mut done = 0;
+    while done + STRIDE < many {
+        let count = first_free_of(board, seat, probed + done, slot + done, STRIDE);
+        if count < STRIDE {
+            return done + count;
+        }
+        done += STRIDE;
+    }
+    done + first_free_of(board, seat, probed + done, slot + done, many - done)
+}
+
+// The same of a few slots.
 #[inline(always)]
 fn first_free_of(
     board: &Board,
     seat: &mut Seat<Option<Buffer>, View>,
-    from: usize,
-    count: usize,
+    probed: usize,
+    slot: usize,
+    many: usize,
 ) -> usize
     requires table { seat.old.table_id ≡ board.now.table.shared.table_id }
     requires seat { seat.old.me ≡ (Mutates (seated_of seat.old.me.0), []) }
-    requires scan { ScansFrom (told (mutator board.now.table.shared.key.value (seated_of seat.old.me.0).number) (seated_of seat.old.me.0).log) from board.now.slots }
-    requires count { from + count ≤ board.now.slots }
+    requires scan { ScansFrom (told (mutator board.now.table.shared.key.value (seated_of seat.old.me.0).number) (seated_of seat.old.me.0).log) probed slot board.now.slots }
+    requires slots { slot + many ≤ board.now.slots }
+    requires probes { probed + many ≤ board.now.slots }
 
     ensures seat { (seat.new.table_id ≡ seat.old.table_id) × (seat.new.id ≡ seat.old.id) }
-    ensures passed { Passed (seated_of seat.old.me.0) from result seat.new.me }
-    ensures few { result ≤ from + count }
+    ensures passed { Passed (seated_of seat.old.me.0) probed (probed + result) seat.new.me }
+    ensures few { result ≤ many }
 {
+    let _ = probed;
     let shared = &board.table.shared;
-    let first_header = board.places + from;
-    for index in 0..count {
+    let first_header = board.places + slot;
+    for index in 0..many {
         if shared.load::<Passes>(seat, first_header + index) == 0 {
-            return from + index;
+            return index;
         }
     }
-    from + count
+    many
 }

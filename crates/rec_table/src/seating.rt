@@ -32,10 +32,15 @@ pub fn seat_all(
     ensures each { (k : ℕ) (d : MutatorHeld) → k < length mutators.new.items → slice_index_or mutators.new.items k d ≡ fresh (started board.now.table.shared.table_id board.now.table.shared.key.value) (k + 1) }
     ensures collector { collector.new ≡ record collector.old { crew = record collector.old.crew { made = length machines.items } } }
 {
+    // Each mutator's first scan begins with a share of the slots of its own.
+    let share = (board.slots / machines.len().max(1)) as u16;
     while !machines.is_empty() {
         let machine = machines.remove(0);
         let opened = Snapshot::of(&machine);
-        let actor = collector.seat_next(board, machine, opened);
+        let cursor = u16::from(machine.number())
+            .wrapping_sub(1)
+            .wrapping_mul(share);
+        let actor = collector.seat_next(board, machine, opened, cursor);
         mutators.push_reserved(Mutator::of(actor));
     }
     machines

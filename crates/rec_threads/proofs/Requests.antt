@@ -1,5 +1,5 @@
 -- A turn requests at most one epoch more.
-use Rattle.std.proofs.Common.{◌≡◌, ℕ, ◌+◌, ◌<◌, ◌≤◌, ◌==◌, Bool, true, false, if◌then◌else◌, List, [], ◌∷◌, ◌++◌, Option, None, Some, length, refl, sym, ap, ◌∙◌, arith, append_assoc}
+use Rattle.std.proofs.Common.{◌≡◌, ℕ, ◌+◌, ◌<◌, ◌≤◌, ◌==◌, Bool, true, false, if◌then◌else◌, List, [], ◌∷◌, ◌++◌, Option, None, Some, inl, inr, length, refl, sym, ap, ◌∙◌, arith, append_assoc}
 use Rattle.std.proofs.lemmas.List.{append-nil, length-append}
 use Rattle.rec_collector.specs.Followed.{Next, followed, worked}
 use Rattle.rec_collector.specs.Next.{is_spent, next_of}
@@ -15,7 +15,7 @@ use Rattle.rec_table.specs.Beats.{gathered}
 use Rattle.rec_table.specs.Held.{Gathers, gathers_now}
 use Rattle.rec_table.specs.Rule.{crew_more}
 use Rattle.rec_table.proofs.PutBack.{ended_epoch, swapped_epoch}
-use Rattle.rec_threads.specs.Done.{HasCollected}
+use Rattle.rec_threads.specs.Done.{HasCollected, HasTurned}
 use Rattle.rec_table.specs.declared.views.Beat.{Beat}
 use Rattle.rec_table.specs.declared.views.Beat.TheVariants.{Begins, Saw, Took}
 
@@ -43,32 +43,24 @@ took_epoch p word = took_rises p word p.phase
 
 pub gathered_epoch : (p : Private) (b : Beat) → (gathered p b).epoch ≤ p.epoch + 1
 unfolding step_of
-gathered_epoch p (Begins work) = omega arith
+gathered_epoch p (Begins start) = omega arith
 gathered_epoch p (Saw word) = took_epoch p word
 gathered_epoch p (Took word b) = let e = swapped_epoch (took_of p word) b in let t = took_epoch p word in omega (arith, e, t)
-
--- what the collector has done after so many turns
-pub record HasTurned (turns : ℕ) (g g' : Gathers) : Type 0 where
-  pub beats : List Beat
-  pub grows : g' ≡ record g { crew = record g.crew { log = g.crew.log ++ beats } }
-  pub most : length beats ≤ turns
-  pub requested : (gathers_now g').epoch ≤ (gathers_now g).epoch + turns
 
 -- none yet
 pub no_turn : (g : Gathers) → HasTurned 0 g g
 no_turn g = record {
   beats = [];
   grows = λ i. record g { crew = record g.crew { log = sym (append-nil g.crew.log) i } };
-  most = omega arith;
+  each = inl refl;
   requested = omega arith;
 }
 
-pub turned_so : (turns : ℕ) (g g' : Gathers) → HasCollected turns g g' → HasTurned turns g g'
-turned_so turns g g' c = record { beats = c.beats; grows = c.grows; most = c.most; requested = c.requested }
-
--- a longer limit
-pub more_turns : (turns more : ℕ) (g g' : Gathers) → turns ≤ more → HasCollected turns g g' → HasCollected more g g'
-more_turns turns more g g' le c = record { beats = c.beats; grows = c.grows; most = let m = c.most in omega (arith, m, le); some = c.some; requested = let r = c.requested in omega (arith, r, le) }
+at_most : (turns : ℕ) (g g' : Gathers) (so : HasTurned turns g g') → length so.beats ≤ turns
+at_most turns g g' so = elim so.each [
+  | inl all ↦ omega (arith, all)
+  | inr spent ↦ spent.1
+]
 
 -- who made no turn where one comes next is as before
 none_made : (g a : Gathers) (beats : List Beat) (op : Op) → a ≡ record g { crew = record g.crew { log = g.crew.log ++ beats } } → next_of (gathers_now a) ≡ None → next_of (gathers_now g) ≡ Some op → 0 < length beats
@@ -77,19 +69,34 @@ none_made g a [] op grows none some =
     let bad : ◌≡◌ {A = Option Op} None (Some op) = sym none ∙ ap (λ (x : Gathers). next_of (gathers_now x)) same ∙ some in cc
 none_made g a (b ∷ bs) op grows none some = omega arith
 
+-- Turns within a bound, where one was made.
+pub within : (turns most : ℕ) (g g' : Gathers) → 0 < turns → turns ≤ most → HasTurned turns g g' → HasCollected most g g'
+within turns most g g' some le so =
+    let few : length so.beats ≤ turns = at_most turns g g' so in
+    record {
+      beats = so.beats;
+      grows = so.grows;
+      most = omega (arith, few, le);
+      some = λ op next. elim so.each [
+        | inl all ↦ omega (arith, all, some)
+        | inr spent ↦ none_made g g' so.beats op so.grows spent.0 next
+      ];
+      requested = let r = so.requested in omega (arith, r, le);
+    }
+
 -- One turn more.
 pub one_turn : (turns : ℕ) (g a b : Gathers) → HasTurned turns g a → (next_of (gathers_now a) ≡ None → b ≡ a)
-    → ((op : Op) → next_of (gathers_now a) ≡ Some op → (beat : Beat) × (b ≡ record a { crew = crew_more a.crew beat }) × (gathers_now b ≡ gathered (gathers_now a) beat)) → HasCollected (turns + 1) g b
+    → ((op : Op) → next_of (gathers_now a) ≡ Some op → (beat : Beat) × (b ≡ record a { crew = crew_more a.crew beat }) × (gathers_now b ≡ gathered (gathers_now a) beat)) → HasTurned (turns + 1) g b
 one_turn turns g a b so spent turned = by (next_of (gathers_now a)) refl
   where
-    by : (next : Option Op) → next_of (gathers_now a) ≡ next → HasCollected (turns + 1) g b
+    by : (next : Option Op) → next_of (gathers_now a) ≡ next → HasTurned (turns + 1) g b
     by None e =
         let same : b ≡ a = spent e in
+        let few : length so.beats ≤ turns = at_most turns g a so in
         record {
           beats = so.beats;
           grows = same ∙ so.grows;
-          most = let m = so.most in omega (arith, m);
-          some = λ op some. none_made g a so.beats op so.grows e some;
+          each = inr (ap (λ (x : Gathers). next_of (gathers_now x)) same ∙ e, omega (arith, few));
           requested = let r = so.requested in let n : (gathers_now b).epoch ≡ (gathers_now a).epoch = ap (λ (x : Gathers). (gathers_now x).epoch) same in omega (arith, r, n);
         }
     by (Some op) e =
@@ -99,8 +106,10 @@ one_turn turns g a b so spent turned = by (next_of (gathers_now a)) refl
         record {
           beats = so.beats ++ beat ∷ [];
           grows = more ∙ (λ i. record (so.grows i) { crew = crew_more (so.grows i).crew beat }) ∙ (λ i. record g { crew = crew i });
-          most = let m = so.most in omega (arith, m, many);
-          some = λ op some. omega (arith, many);
+          each = elim so.each [
+            | inl all ↦ inl (omega (arith, all, many))
+            | inr none ↦ let bad : ◌≡◌ {A = Option Op} None (Some op) = sym none.0 ∙ e in cc
+          ];
           requested =
               let r = so.requested in
               let n : (gathers_now b).epoch ≡ (gathered (gathers_now a) beat).epoch = ap (λ (p : Private). p.epoch) now in

@@ -1,14 +1,18 @@
 -- What a crew has to be for a script, and what is done once its commands are carried out.
-use Rattle.std.specs.Prelude.{◌≡◌, ℕ, ◌+◌, ◌<◌, ◌≤◌, Bool, MatchBool, Some, List, [], ◌++◌, length, map, slice_index_or}
+use Rattle.std.specs.Prelude.{◌≡◌, ℕ, ◌⊎◌, ◌+◌, ◌<◌, ◌≤◌, Bool, MatchBool, None, Some, List, [], ◌∷◌, ◌++◌, length, map, replicate, slice_index_or}
+use Rattle.std.specs.List.{flat_map}
 use Rattle.rec_model.specs.LegalOrder.{Line}
 use Rattle.rec_model.specs.declared.command.Cmd.{Cmd}
 use Rattle.rec_mutator.specs.Private.{KeepsSizes}
+use Rattle.rec_mutator.specs.declared.work.Work.{Work}
+use Rattle.rec_mutator.specs.declared.work.Work.TheVariants as works
 use Rattle.rec_word.specs.declared.op.Op.{Op}
 use Rattle.rec_collector.specs.Next.{next_of}
 use Rattle.rec_script.specs.Script.{Contents}
 use Rattle.rec_table.specs.Held.{Gathers, Held, Started, IsCollectorOf, IsMutatorOf, gathers_now, has}
 use Rattle.rec_table.specs.Journals.{Tells}
 use Rattle.rec_table.specs.declared.views.Beat.{Beat}
+use Rattle.rec_table.specs.declared.views.Beat.TheVariants as beats
 use Rattle.rec_world.specs.Journal.{Notes, no_notes}
 use Rattle.rec_threads.specs.declared.crew.Crew.{Crew}
 use Rattle.rec_threads.specs.declared.worker.Worker.{Worker}
@@ -44,22 +48,56 @@ pub record IsCrewFor (h : Started) (script : Contents) (crew : Crew) : Type 0 wh
   pub ready : AreReady h script crew.mutators.items crew.journals.items
   pub collector : IsCollectorOf h crew.collector
 
--- The worker carried out these commands, each once and in order. Its journal grew by them with what was told, and these are the lines
--- that the mutator's list tells since.
-pub record HasDone (cmds : List Cmd) (was now : Worker) : Type 0 where
+-- the works that a list begins, in order
+abbrev pub begun_by : Beat → List Work
+begun_by (beats.Begins start) = start.work ∷ []
+begun_by _ = []
+
+abbrev pub begun : List Beat → List Work
+begun = flat_map begun_by
+
+-- a poll, and a command behind it
+abbrev pub turn : Cmd → List Work
+turn cmd = works.Poll ∷ works.Command cmd ∷ []
+
+-- a poll before each of these commands
+abbrev pub polled_before : List Cmd → List Work
+polled_before = flat_map turn
+
+-- The driving rule: a poll before each command, and so many behind the last one.
+abbrev pub driving_rule : List Cmd → (polls : ℕ) → List Work
+driving_rule cmds polls = polled_before cmds ++ replicate polls works.Poll
+
+-- The worker's mutator made these works, of which these commands are answered, each once and in order. Its journal grew by them with
+-- what was told, and these are the lines that the mutator's list tells since.
+pub record HasMade (cmds : List Cmd) (done : List Work) (was now : Worker) : Type 0 where
   pub lines : List Line
   pub commands : map (λ line. line.0) lines ≡ cmds
   pub noted : now.journal.lines ≡ was.journal.lines ++ lines
   pub room : now.journal.room + length cmds ≡ was.journal.room
   pub told : Tells (has was.mutator) was.mutator.log now.mutator.log lines
+  pub begins : begun told.beats ≡ done
   pub mutator : now.mutator ≡ record was.mutator { log = now.mutator.log }
   pub sizes : KeepsSizes (has was.mutator) (has now.mutator)
+
+-- The worker carried out these commands by the rule: it polled once before each, and at most 65,536 times behind the last one.
+pub record HasDone (cmds : List Cmd) (was now : Worker) : Type 0 where
+  pub polls : ℕ
+  pub few : polls ≤ 65536
+  pub made : HasMade cmds (driving_rule cmds polls) was now
 
 -- each mutator's worker carried out that mutator's commands
 pub record HaveDone (commands : List (List Cmd)) (mutators : List Held) (journals : List Notes) (mutators' : List Held) (journals' : List Notes) : Type 0 where
   pub mutators_all : length mutators' ≡ length mutators
   pub journals_all : length journals' ≡ length journals
   pub each : (k : ℕ) (d : Held) → k < length mutators → HasDone (commands_at commands k) (worker_at mutators journals k d) (worker_at mutators' journals' k d)
+
+-- The collector made so many turns: each is a beat of its list, but where the epochs were spent, and then no turn is one any more.
+pub record HasTurned (turns : ℕ) (g g' : Gathers) : Type 0 where
+  pub beats : List Beat
+  pub grows : g' ≡ record g { crew = record g.crew { log = g.crew.log ++ beats } }
+  pub each : (length beats ≡ turns) ⊎ ((next_of (gathers_now g') ≡ None) × (length beats ≤ turns))
+  pub requested : (gathers_now g').epoch ≤ (gathers_now g).epoch + turns
 
 -- The collector made at most so many turns, and one at least where the epochs weren't spent; and the requested epoch rose by at most as
 -- many.

@@ -1,8 +1,8 @@
 //! The worker of the collector.
 
-ghost use Rattle.std.specs.Prelude.{◌≡◌};
+ghost use Rattle.std.specs.Prelude.{◌≡◌, ◌⊎◌, true};
 ghost use Rattle.rec_table.specs.Held.{IsCollectorOf};
-ghost use Rattle.rec_threads.specs.Done.{HasCollected};
+ghost use Rattle.rec_threads.specs.Done.{HasCollected, HasTurned};
 
 use crate::gate::Gate;
 use crate::pause::Pause;
@@ -13,28 +13,46 @@ use rec_table::{Collector, Heap};
 // The collector makes at most so many turns.
 const MOST_TURNS: u32 = 10_000_000;
 
-/// Makes turns, each behind the gate, until every mutator's last command is answered.
+/// The collector as its worker leaves it: after how many turns, and whether every mutator's last command was answered by then.
+#[derive(Drop)]
+pub struct Collected {
+    pub collector: Collector,
+    pub turns: u32,
+    pub all_done: bool,
+}
+
+/// Makes turns, each behind the gate, until every mutator's last command is answered, or its turns are spent.
 pub fn collect<G: Gate>(
     heap: &Heap,
     mutators: u8,
     gate: &G,
     signals: &Signals,
     mut collector: Collector,
-) -> Collector
+) -> Collected
     requires { IsCollectorOf heap.now collector }
-    ensures own { IsCollectorOf heap.now result }
-    ensures collected { HasCollected 10000000 collector result }
+    ensures own { IsCollectorOf heap.now result.collector }
+    ensures turned { HasTurned result.turns collector result.collector }
+    ensures ended { (result.all_done ≡ true) ⊎ (result.turns ≡ 10000000) }
+    ensures collected { HasCollected 10000000 collector result.collector }
 {
     let mut pause = Pause::new();
     for turns in 0..MOST_TURNS {
         gate.turn(turns + 1);
         let turn = collector.turn(heap);
         if signals.are_done(mutators) {
-            break;
+            return Collected {
+                collector,
+                turns: turns + 1,
+                all_done: true,
+            };
         }
         pace(signals, turn, &mut pause);
     }
-    collector
+    Collected {
+        collector,
+        turns: MOST_TURNS,
+        all_done: false,
+    }
 }
 
 // Where the turn waits, tells for whom, and lets others run; where it waits no more, tells that.

@@ -175,7 +175,7 @@ fn begin<'e, R: Wait, G: Gate>(
     if !signals.begin(&orders) {
         return (crew, orders);
     }
-    crew.collector = collect(heap, script.mutators(), gate, signals, crew.collector);
+    crew.collector = collect(heap, script.mutators(), gate, signals, crew.collector).collector;
     signals.tell_over();
     (crew, orders)
 }

@@ -56,8 +56,9 @@ pub fn follow<'a, R: Wait, G: Gate>(
     if !signals.begin(&orders) {
         return Report { worker, orders };
     }
+    let was = Snapshot::of(&worker);
     worker.carry_out(heap, commands, gate);
-    signals.tell_done();
+    signals.tell_done(&was, &worker, commands);
     worker.attend(rt, heap, signals);
     Report { worker, orders }
 }

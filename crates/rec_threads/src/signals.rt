@@ -1,7 +1,11 @@
 //! What workers tell one another.
 
-ghost use Rattle.std.specs.Prelude.{◌≡◌};
+ghost use Rattle.std.specs.Prelude.{◌≡◌, ◌↔◌, ◌≤◌, IsTrue};
+ghost use Rattle.rec_threads.specs.Done.{HasMade, polled_before};
 
+use crate::worker::Worker;
+use rec_model::Cmd;
+use std::snapshot::Snapshot;
 use std::sync::atomic::{AtomicBool, AtomicU8, Ordering};
 use std::sync::{OnceLock, OnceToken, Wait};
 
@@ -52,14 +56,16 @@ impl Signals {
         *self.orders.value(orders)
     }
 
-    /// One mutator more has had its last command answered.
-    pub fn tell_done(&self) {
+    /// One mutator more has had its last command answered: since it was so, its worker polled and carried out each of these.
+    pub fn tell_done(&self, _was: &Snapshot<Worker>, _worker: &Worker, _commands: &[Cmd])
+        requires { HasMade _commands.now (polled_before _commands.now) _was.now.value _worker.now }
+    {
         self.done.fetch_add(1, Ordering::SeqCst);
     }
 
     /// Whether so many mutators have had their last commands answered.
     pub fn are_done(&self, mutators: u8) -> bool {
-        self.done.load(Ordering::SeqCst) >= mutators
+        is_all(self.done.load(Ordering::SeqCst), mutators)
     }
 
     /// The collector waits for this mutator; 0 is nobody.
@@ -81,4 +87,11 @@ impl Signals {
     pub fn is_over(&self) -> bool {
         self.over.load(Ordering::SeqCst)
     }
+}
+
+// Whether so many are all of these.
+fn is_all(done: u8, mutators: u8) -> bool
+    ensures { IsTrue result ↔ mutators ≤ done }
+{
+    done >= mutators
 }

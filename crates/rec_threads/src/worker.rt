@@ -1,9 +1,10 @@
 //! The worker of a mutator.
 
-ghost use Rattle.std.specs.Prelude.{◌<◌, ◌≤◌, ◌∷◌, [], length, All};
+ghost use Rattle.std.specs.Prelude.{◌<◌, ◌≤◌, ◌∷◌, [], length, replicate, All};
 ghost use Rattle.rec_mutator.specs.Private.{HasOperands};
+ghost use Rattle.rec_mutator.specs.declared.work.Work.TheVariants as works;
 ghost use Rattle.rec_table.specs.Held.{has, IsMutatorOf};
-ghost use Rattle.rec_threads.specs.Done.{HasDone};
+ghost use Rattle.rec_threads.specs.Done.{HasMade, polled_before, turn};
 
 use crate::gate::Gate;
 use crate::signals::Signals;
@@ -31,7 +32,7 @@ impl Worker {
         requires valid { All (HasOperands (has self.old.mutator)) commands.now }
         requires few { length commands.now ≤ 200000 }
 
-        ensures { HasDone commands.now self.old self.new }
+        ensures { HasMade commands.now (polled_before commands.now) self.old self.new }
     {
         let number = self.mutator.number();
         for index in 0..commands.len() {
@@ -46,41 +47,42 @@ impl Worker {
         requires room { 0 < self.old.journal.room }
         requires valid { HasOperands (has self.old.mutator) cmd }
 
-        ensures { HasDone (cmd ∷ []) self.old self.new }
+        ensures { HasMade (cmd ∷ []) (turn cmd) self.old self.new }
     {
         self.mutator.poll(heap);
         let told = self.mutator.command(heap, cmd);
         self.journal.note(cmd, told);
     }
 
-    /// Polls where the collector waits for it, and lets others run, until the collector's worker has ended.
-    pub fn attend<R: Wait>(&mut self, rt: &R, heap: &Heap, signals: &Signals)
+    /// Polls where the collector waits for it, and lets others run, until the collector's worker has ended. It tells how often it polled.
+    pub fn attend<R: Wait>(&mut self, rt: &R, heap: &Heap, signals: &Signals) -> u32
         requires own { IsMutatorOf heap.now self.old.mutator }
 
-        ensures { HasDone [] self.old self.new }
+        ensures few { result ≤ 65536 }
+        ensures made { HasMade [] (replicate result works.Poll) self.old self.new }
     {
         let mut polls = 0;
         for _ in rt.forever() {
             if signals.is_over() || polls >= MOST_POLLS {
                 break;
             }
-            if self.poll_if_awaited(heap, signals) {
-                polls += 1;
-            }
+            polls += self.poll_if_awaited(heap, signals);
             yield_now();
         }
+        polls
     }
 
-    // Polls if the collector waits for it, and says whether it did.
-    fn poll_if_awaited(&mut self, heap: &Heap, signals: &Signals) -> bool
+    // Polls if the collector waits for it, and tells how often it did: once, or not at all.
+    fn poll_if_awaited(&mut self, heap: &Heap, signals: &Signals) -> u32
         requires own { IsMutatorOf heap.now self.old.mutator }
 
-        ensures { HasDone [] self.old self.new }
+        ensures few { result ≤ 1 }
+        ensures made { HasMade [] (replicate result works.Poll) self.old self.new }
     {
         if !signals.is_awaited(self.mutator.number()) {
-            return false;
+            return 0;
         }
         self.mutator.poll(heap);
-        true
+        1
     }
 }

@@ -22,6 +22,5 @@ pub mod AtWork
 pub mod Readings
 pub mod Whole
 pub mod Exactly
-pub mod Worked
 pub mod Witnesses
 pub mod Sends

@@ -21,8 +21,6 @@ mod laws;
 mod marking;
 mod phase;
 mod scanning;
-#[cfg(test)]
-mod tests;
 mod trial;
 
 pub use laws::{trial_ends, trial_is_careful, trial_is_exact, trial_is_whole, trial_is_witnessed};

@@ -1,5 +1,5 @@
 /// What a trial is about.
-#[derive(Clone, Copy, Debug, PartialEq, Eq, Drop)]
+#[derive(Clone, Copy, Drop)]
 pub enum Phase {
     /// Nothing: no trial is at work.
     Idle,

@@ -16,7 +16,7 @@ use rec_word::{Op, place, target};
 use std::marker::Model;
 
 /// Trial deletion. It takes no memory.
-#[derive(Debug, Drop)]
+#[derive(Drop)]
 pub struct Trial {
     fields: u8,
     phase: Phase,

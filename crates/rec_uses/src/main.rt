@@ -12,7 +12,12 @@ mod cycle;
 mod ring;
 mod threads;
 
+ghost use Rattle.std.specs.Prelude.{◌≡◌, ◌%◌, All};
+ghost use Rattle.rec_core.specs.Worked.{AreIdle};
+ghost use Rattle.rec_uses.specs.Ready.{IsReady};
+
 use rec_settle::settle;
+use rec_world::World;
 use std::alloc::Global;
 use std::thread::Threads;
 
@@ -26,16 +31,45 @@ fn main(rt: HostRuntime) -> anyhow::Result<()> {
 
 // A world that one thread drives, watched turn by turn.
 fn on_one_thread(out: &impl Print, alloc: Global) -> anyhow::Result<()> {
-    let mut world = cycle::open(alloc)?;
-    ring::make(&mut world);
-    cycle::watch(out, &mut world)?;
+    match cycle::open(alloc) {
+        Ok(mut world) => make_and_watch(out, &mut world),
+        Err(error) => Err(error.into()),
+    }
+}
+
+fn make_and_watch(out: &impl Print, world: &mut World) -> anyhow::Result<()>
+    requires { IsReady world.old }
+{
+    ring::make(world);
+    cycle::watch(out, world)?;
     Ok(())
 }
 
 // A running heap, settled once its threads have ended: how many objects were born, and how many live.
 fn on_three_threads<R: Threads + Sync>(rt: &R, alloc: Global) -> anyhow::Result<(u64, u32)> {
-    let started = cycle::open_for_two(alloc)?;
-    let mut stopped = threads::run(rt, alloc, started)?;
-    let settled = settle(&mut stopped)?;
-    Ok((stopped.made(), settled.live))
+    match cycle::open_for_two(alloc) {
+        Ok(world) => run_and_settle(rt, alloc, world),
+        Err(error) => Err(error.into()),
+    }
+}
+
+fn run_and_settle<R: Threads + Sync>(
+    rt: &R,
+    alloc: Global,
+    world: World,
+) -> anyhow::Result<(u64, u32)>
+    requires idle { AreIdle world }
+    requires home { All (λ word. word % 2 ≡ 0) world.crossing }
+{
+    match threads::run(rt, alloc, world) {
+        Ok(mut stopped) => born_and_live(&mut stopped),
+        Err(error) => Err(error.into()),
+    }
+}
+
+fn born_and_live(world: &mut World) -> anyhow::Result<(u64, u32)>
+    requires { AreIdle world.old }
+{
+    let settled = settle(world)?;
+    Ok((world.made(), settled.live))
 }

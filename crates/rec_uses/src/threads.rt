@@ -2,10 +2,11 @@
 
 ghost use Rattle.std.specs.Prelude.{◌≡◌, ◌%◌, All, IfOk};
 ghost use Rattle.rec_core.specs.Worked.{AreIdle};
+ghost use Rattle.rec_table.specs.Held.{AreMutatorsOf, IsCollectorOf};
 ghost use Rattle.rec_uses.specs.Ran.{Ran};
 
 use crate::crew::work;
-use rec_table::Heap;
+use rec_table::{Collector, Heap, Mutator};
 use rec_world::World;
 use std::alloc::{AllocError as NoMemory, Global};
 use std::thread::Threads;
@@ -18,13 +19,27 @@ pub fn run<R: Threads + Sync>(rt: &R, alloc: Global, world: World) -> Result<Wor
     ensures idle { IfOk result AreIdle }
 {
     match Heap::start(alloc, world) {
-        Ok((heap, mutators, collector)) => {
-            let (mutators, collector) = work(rt, &heap, mutators, collector);
-            match heap.stop(alloc, mutators, collector) {
-                Ok(world) => Ok(world),
-                Err((_, _, _, error)) => Err(error),
-            }
-        }
+        Ok((heap, mutators, collector)) => Ok(work_through(rt, alloc, heap, mutators, collector)),
         Err((_, error)) => Err(error),
+    }
+}
+
+// The same, of a heap that was started.
+fn work_through<R: Threads + Sync>(
+    rt: &R,
+    alloc: Global,
+    heap: Heap,
+    mutators: Vec<Mutator>,
+    collector: Collector,
+) -> World
+    requires mutators { AreMutatorsOf heap mutators.items }
+    requires collector { IsCollectorOf heap collector }
+    ensures ran { Ran heap.world result }
+    ensures idle { AreIdle result }
+{
+    let (mutators, collector) = work(rt, &heap, mutators, collector);
+    match heap.stop(alloc, mutators, collector) {
+        Ok(world) => world,
+        Err(_) => unreachable!(), // stopping takes no memory
     }
 }

@@ -2,7 +2,7 @@ ghost use Rattle.std.specs.Prelude.{◌≡◌, ◌<◌, ◌≤◌, ◌^◌, None
 ghost use Rattle.rec_walk.specs.Walk.{first_in, next_field, next_member};
 
 /// Where a walk stands: a field of a member of its list.
-#[derive(Clone, Copy, Debug, PartialEq, Eq)]
+#[derive(Clone, Copy)]
 pub struct Member {
     /// The member, by its place in the list, from 0.
     pub index: u16,
@@ -58,31 +58,5 @@ impl Member {
             });
         }
         None
-    }
-}
-
-#[cfg(test)]
-mod tests {
-    use super::*;
-
-    #[test]
-    fn each_field_of_each_slot_once_and_in_order(rt: HostRuntime) {
-        let slots: [u16; 2] = [7, 3];
-        let mut at = Member::first(&slots).expect(&rt, "a first member");
-        assert!(rt; at.index == 0 && at.slot == 7 && at.field == 0);
-        assert!(rt; at.next_field(2));
-        assert!(rt; at.index == 0 && at.slot == 7 && at.field == 1);
-        assert!(rt; !at.next_field(2) && at.field == 1);
-        let mut at = at.next_member(&slots).expect(&rt, "the next member");
-        assert!(rt; at.index == 1 && at.slot == 3 && at.field == 0);
-        assert!(rt; at.next_field(2));
-        assert!(rt; at.index == 1 && at.slot == 3 && at.field == 1);
-        assert!(rt; !at.next_field(2));
-        assert_eq!(rt; at.next_member(&slots), None);
-    }
-
-    #[test]
-    fn an_empty_list_has_no_first_member(rt: HostRuntime) {
-        assert_eq!(rt; Member::first(&[]), None);
     }
 }

@@ -11,8 +11,6 @@
 mod laws;
 mod moves;
 mod stage;
-#[cfg(test)]
-mod tests;
 mod turns;
 mod walk;
 

@@ -12,15 +12,3 @@ pub fn place(slot: u16, field: u8, fields: u8) -> u32
 {
     u32::from(slot) * u32::from(fields) + u32::from(field)
 }
-
-#[cfg(test)]
-mod tests {
-    use super::*;
-
-    #[test]
-    fn fields_of_an_object_stand_together(rt: HostRuntime) {
-        assert_eq!(rt; place(0, 0, 2), 0);
-        assert_eq!(rt; place(3, 1, 2), 7);
-        assert_eq!(rt; place(65_534, 15, 16), 1_048_559);
-    }
-}

@@ -63,31 +63,3 @@ pub fn stamp(word: u64) -> Stamp
         index: (word / INDEX_UNIT) as u32,
     }
 }
-
-#[cfg(test)]
-mod tests {
-    use super::*;
-
-    #[test]
-    fn worked_words(rt: HostRuntime) {
-        let first = Stamp {
-            writer: 1,
-            epoch: 1,
-            index: 0,
-        };
-        let greatest = Stamp {
-            writer: 63,
-            epoch: 16_777_215,
-            index: 262_143,
-        };
-        for (to, by, word) in [
-            (Some(0), first, 1_099_511_693_313),
-            (Some(65_534), greatest, u64::MAX),
-        ] {
-            assert_eq!(rt; pack(to, by), word);
-            assert_eq!(rt; target(word), to);
-            assert_eq!(rt; stamp(word), by);
-        }
-        assert_eq!(rt; target(0), None);
-    }
-}

@@ -28,8 +28,8 @@ use Rattle.rec_world.proofs.OneStep.{made_step_is}
 use Rattle.rec_world.proofs.Skipping.{GoesOn, goes_on, path_both, path_waits}
 
 -- the mutator that began
-began : (w : Core) (t : ℕ) (work : Work) → IsKept w → IsMutator w.config t → mutator (begun w t work) t ≡ begun_of (mutator w t) work
-began w t work kept is = mutator_left w t (begun_of (mutator w t) work) kept is
+began : (w : Core) (t : ℕ) (work : Work) → IsKept w → IsMutator w.config t → mutator (begun w t work) t ≡ begun_of (mutator w t) work 0
+began w t work kept is = mutator_left w t (begun_of (mutator w t) work 0) kept is
 
 -- it is busy, with this work
 began_busy : (w : Core) (t : ℕ) (work : Work) → IsKept w → IsMutator w.config t → is_busy (mutator (begun w t work) t) ≡ true
@@ -46,26 +46,26 @@ pub record MayBegin (inside : Inside) (t : ℕ) (work : Work) : Type 0 where
   pub world : IsWorld (begun (core inside) t work)
   pub kept : IsKept (begun (core inside) t work)
   pub busy : is_busy (mutator (begun (core inside) t work) t) ≡ true
-  pub began : mutator (begun (core inside) t work) t ≡ begun_of (mutator (core inside) t) work
+  pub began : mutator (begun (core inside) t work) t ≡ begun_of (mutator (core inside) t) work 0
   pub may : MayStep (begun (core inside) t work) t
-  pub fits : Fits (core inside) (Move.Begins t work)
+  pub fits : Fits (core inside) (Move.Begins t work 0)
 
 pub may_begin : (inside : Inside) (old : Core) (t : ℕ) (work : Work) → IsWhole inside → core inside ≡ old → IsMutator old.config t → IsWork old.config work → is_busy (mutator old t) ≡ false → HasLabel work → MayBegin inside t work
 may_begin inside old t work whole view is fits idle label =
     let was : Ready inside t = ready inside old t whole view is in
     let w : Core = core inside in
     let its_work : IsWork w.config work = subst (λ (x : Core). IsWork x.config work) (sym view) fits in
-    let may : Fits w (Move.Begins t work) = (was.is, ap (λ (x : Core). is_busy (mutator x t)) view ∙ idle, own_work w t work was.kept was.is its_work, label) in
-    let world : IsWorld (begun w t work) = moved_world w (Move.Begins t work) whole.world may in
+    let may : Fits w (Move.Begins t work 0) = (was.is, ap (λ (x : Core). is_busy (mutator x t)) view ∙ idle, own_work w t work was.kept was.is its_work, label, was.kept.config.some_slots) in
+    let world : IsWorld (begun w t work) = moved_world w (Move.Begins t work 0) whole.world may in
     let kept : IsKept (begun w t work) = world_kept (begun w t work) world in
     let busy : is_busy (mutator (begun w t work) t) ≡ true = began_busy w t work was.kept was.is in
     record { was = was; world = world; kept = kept; busy = busy; began = began w t work was.kept was.is; may = may_step (begun w t work) t kept was.is busy; fits = may }
 
 -- the machine that began is the mutator
-pub began_read : (inside : Inside) (t i : ℕ) (work : Work) (p q : Private) → IsWhole inside → MayBegin inside t work → i ≡ t → p ≡ slice_index_or (core inside).mutators (i - 1) p → q ≡ begun_of p work
+pub began_read : (inside : Inside) (t i : ℕ) (work : Work) (p q : Private) → IsWhole inside → MayBegin inside t work → i ≡ t → p ≡ slice_index_or (core inside).mutators (i - 1) p → q ≡ begun_of p work 0
     → q ≡ mutator (begun (core inside) t work) t
 began_read inside t i work p q whole may at read begins =
-    begins ∙ ap (λ x. begun_of x work) (mutator_read (core inside) t i p whole.world.shaped may.was.is at read) ∙ sym may.began
+    begins ∙ ap (λ x. begun_of x work 0) (mutator_read (core inside) t i p whole.world.shaped may.was.is at read) ∙ sym may.began
 
 -- the machine that began, as it is read again
 began_again : (inside : Inside) (t i : ℕ) (work : Work) (q : Private) → MayBegin inside t work → i ≡ t → q ≡ mutator (begun (core inside) t work) t → q ≡ slice_index_or (begun (core inside) t work).mutators (i - 1) q
@@ -84,7 +84,7 @@ pub first_step_is : (inside : Inside) (t i births : ℕ) (work : Work) (q new : 
 first_step_is inside t i births work q new mailbox left cells may at read its_box makes leaves gives counts =
     let w : Core = core inside in
     let make : List Private → Core = λ ms. record w { headers = cells.headers; words = cells.words; epoch = cells.epoch; freed = cells.freed; crossing = cells.crossing; mutators = ms; boxes = map held (slice_set inside.boxes.items (i - 1) left); made = inside.made + births } in
-    ap make (sym (set-set w.mutators (i - 1) (begun_of (mutator w t) work) new) ∙ ap (λ n. slice_set (slice_set w.mutators (n - 1) (begun_of (mutator w t) work)) (i - 1) new) at)
+    ap make (sym (set-set w.mutators (i - 1) (begun_of (mutator w t) work 0) new) ∙ ap (λ n. slice_set (slice_set w.mutators (n - 1) (begun_of (mutator w t) work 0)) (i - 1) new) at)
     ∙ made_step_is (begun w t work) t i births inside.boxes.items q new mailbox left cells may.world.shaped may.was.is refl may.was.boxed at (began_again inside t i work q may at read) its_box makes leaves gives counts
 
 -- a work that was finished by its first step

@@ -87,11 +87,11 @@ own_work w t (works.Command cmd) kept is fits = let own = (actor_of w t kept is)
 own_work w t works.Poll kept is fits = tt
 
 -- what the begin of a work leaves
-pub begun_is : (w : Core) (t i : ℕ) (work : Work) (p new : Private) → IsShaped w → IsMutator w.config t → i ≡ t → p ≡ slice_index_or w.mutators (i - 1) p → new ≡ begun_of p work
+pub begun_is : (w : Core) (t i : ℕ) (work : Work) (p new : Private) → IsShaped w → IsMutator w.config t → i ≡ t → p ≡ slice_index_or w.mutators (i - 1) p → new ≡ begun_of p work 0
     → ◌≡◌ {A = Core} (record w { mutators = slice_set w.mutators (i - 1) new }) (begun w t work)
 begun_is w t i work p new shaped is at read begins =
     let make : ℕ → Private → Core = λ n x. record w { mutators = slice_set w.mutators (n - 1) x } in
-    ap (λ n. make n new) at ∙ ap (make t) (begins ∙ ap (λ x. begun_of x work) (mutator_read w t i p shaped is at read))
+    ap (λ n. make n new) at ∙ ap (make t) (begins ∙ ap (λ x. begun_of x work 0) (mutator_read w t i p shaped is at read))
 
 -- a mailbox that was read from those of a world
 pub box_read : (boxes : List (Option Contents)) (t i : ℕ) (mailbox : Option Contents) → i ≡ t → t - 1 < length boxes → mailbox ≡ slice_index_or boxes (i - 1) mailbox → held mailbox ≡ slice_index_or (map held boxes) (t - 1) (collectors.blank 0 0)
@@ -213,9 +213,9 @@ opened_parts config cells boxes mutators collector is are own counts =
     ∙ ap (λ c. make first (replicate config.mutators (spare_of config)) (opened_mutators config config.mutators) c) counts
 
 -- a work that was begun has found nothing yet
-pub begun_found : (w : Core) (t : ℕ) (work : Work) → IsKept w → IsMutator w.config t → HasFound (begun w t work) (mutator (begun w t work) t).phase
+pub begun_found : (w : Core) (t : ℕ) (work : Work) → IsKept w → IsMutator w.config t → HasFound (begun w t work) (mutator (begun w t work) t).from (mutator (begun w t work) t).phase
 unfolding begun_of
-begun_found w t work kept is = subst (λ (p : Private). HasFound (begun w t work) p.phase) (sym (mutator_left w t (begun_of (mutator w t) work) kept is)) tt
+begun_found w t work kept is = subst (λ (p : Private). HasFound (begun w t work) p.from p.phase) (sym (mutator_left w t (begun_of (mutator w t) work 0) kept is)) refl
 
 -- what the last state before the end of a work keeps
 pub finished_kept : (w b v : Core) (t : ℕ) (work : Work) (made : Made) → b ≡ begun w t work → (f : IsFinished b t made v) → IsKept f.last

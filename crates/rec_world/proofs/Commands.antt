@@ -14,7 +14,7 @@ use Rattle.rec_model.specs.declared.told.Told.{Told}
 use Rattle.rec_log.specs.declared.contents.Contents.{Contents}
 use Rattle.rec_mutator.specs.Causes.{HasCause, LacksObject, MakesEntry, FoundNone, FoundNoneAt, is_refusal, is_giving}
 use Rattle.rec_mutator.specs.Next.{next_of, next_at}
-use Rattle.rec_mutator.specs.Private.{Private, IsAt, is_busy, work_of, work_at, answer_of}
+use Rattle.rec_mutator.specs.Private.{Private, IsAt, is_busy, work_of, work_at, answer_of, probe_of}
 use Rattle.rec_mutator.specs.Step.{IsLogFull as IsLogFullOf}
 use Rattle.rec_mutator.specs.Took.{step_of}
 use Rattle.rec_mutator.specs.declared.made.Made.{Made}
@@ -34,7 +34,7 @@ use Rattle.rec_core.specs.Shown.{may_answer, sight_told, probed_at, IsBirthplace
 use Rattle.rec_core.specs.Unfinished.{OnlyWorks, IsQuiet, HasFound, Waits}
 use Rattle.rec_core.specs.declared.config.Config.{Config}
 use Rattle.rec_core.proofs.Crossings.{giving_of}
-use Rattle.rec_core.proofs.Showing.{Says, mutator_other, stepped_mutator, step_says, step_caused, works_sight}
+use Rattle.rec_core.proofs.Showing.{Says, mutator_other, stepped_mutator, step_says, step_caused, works_sight, in_order}
 use Rattle.rec_core.proofs.Steps.{actor_of}
 use Rattle.rec_core.proofs.Unfinished.{works_both, works_quiet, quiet_both, begun_works, waits_quiet, mutator_there, waits_epoch, answered_idle}
 use Rattle.rec_world.specs.World.{IsLogFull, FindsNone, IsFull, IsBusy, IsLowestFree, IsFinished, IsCrossed}
@@ -44,7 +44,7 @@ record Answering (w : Core) (t : ℕ) (cmd : Cmd) (told : Told) (v : Core) : Typ
   pub kept : IsKept w
   pub is : IsMutator w.config t
   pub work : work_of (mutator w t) ≡ Some (works.Command cmd)
-  pub found : HasFound w (mutator w t).phase
+  pub found : HasFound w (mutator w t).from (mutator w t).phase
   pub said : IsDecided w t cmd told v
   pub cause : HasCause (mutator w t) (mutator v t) cmd (found_by w t) told.answer
   pub refused : is_refusal told.answer ≡ true → OnlyWorks w v t
@@ -68,7 +68,7 @@ allocates reg label false = refl
 found_filled : {w : Core} {t : ℕ} {cmd : Cmd} {told : Told} {v : Core} (before : ℕ) → Answering w t cmd told v → FoundNone (mutator w t) before → FoundFilled w t cmd before
 found_filled {w = w} {t = t} {cmd = cmd} before a none = go (mutator w t).phase refl (actor_of w t a.kept a.is).own.machine.now a.work a.found none.scanned
   where
-    go : (phase : Phase) → (mutator w t).phase ≡ phase → IsAt (mutator w t) phase → work_at phase ≡ Some (works.Command cmd) → HasFound w phase → FoundNoneAt phase before → FoundFilled w t cmd before
+    go : (phase : Phase) → (mutator w t).phase ≡ phase → IsAt (mutator w t) phase → work_at phase ≡ Some (works.Command cmd) → HasFound w (mutator w t).from phase → FoundNoneAt phase before → FoundFilled w t cmd before
     go Idle its at work found none = absurd none
     go (Begun begun) its at work found none = absurd none
     go (Scanning reg label leaf first slot) its at work found none = absurd none
@@ -224,19 +224,20 @@ busy_along : (w v : Core) (t : ℕ) (cmd : Cmd) → log_length v t ≡ log_lengt
 busy_along w v t cmd entries config headers freed is = record { none = finds_along w v t cmd entries config headers is.none; odd = ap (λ n. n % 2) freed ∙ is.odd }
 
 -- each slot below the one that a scan has come to is taken
-probed_lower : (w : Core) (phase : Phase) (slot : ℕ) → HasFound w phase → probed_at phase ≡ Some slot → (s : ℕ) → s < slot → IsTaken (sight w) s
-probed_lower w (Scanning reg label leaf before at) slot found is s below =
-    let same : ◌≡◌ {A = Option ℕ} (Some at) (Some slot) = is in
-    let here : at ≡ slot = cc in
-    found.1 s (omega arith)
-probed_lower w _ slot found is s below = let not_so : ◌≡◌ {A = Option ℕ} None (Some slot) = is in (cc)
+probed_lower : (w : Core) (t : ℕ) (phase : Phase) (slot : ℕ) → IsKept w → IsMutator w.config t → (mutator w t).phase ≡ phase → HasFound w (mutator w t).from phase → probed_at (mutator w t) phase ≡ Some slot → (s : ℕ) → s < slot → IsTaken (sight w) s
+probed_lower w t (Scanning reg label leaf before at) slot kept there phase found is s below =
+    let same : ◌≡◌ {A = Option ℕ} (Some (probe_of (mutator w t) at)) (Some slot) = is in
+    let comes : probe_of (mutator w t) at ≡ slot = cc in
+    let here : at ≡ slot = sym (in_order w t reg label leaf before at kept there phase found.0) ∙ comes in
+    found.2 s (omega arith)
+probed_lower w t _ slot kept there phase found is s below = let not_so : ◌≡◌ {A = Option ℕ} None (Some slot) = is in (cc)
 
 -- the free slot that a scan has come to is the lowest one
 lowest : {w : Core} {t : ℕ} {cmd : Cmd} {told : Told} {v : Core} (slot : ℕ) → Answering w t cmd told v → IsBirthplace w t slot → IsLowestFree (sight w) slot
 lowest {w = w} {t = t} slot a place =
     let headers : length w.headers ≡ w.config.slots = a.kept.headers in
     let below : slot < w.config.slots = place.there in
-    record { there = omega arith; free = place.free; lower = probed_lower w (mutator w t).phase slot a.found place.probed }
+    record { there = omega arith; free = place.free; lower = probed_lower w t (mutator w t).phase slot a.kept a.is refl a.found place.probed }
 
 -- what is said of the command, from its last step
 answers_all : (w last v : Core) (t : ℕ) (cmd : Cmd) (told : Told) → IsKept w → IsMutator w.config t → OnlyWorks w last t → v ≡ stepped last t → answer_of (mutator v t) ≡ Some (makes.Answered told)
@@ -321,7 +322,7 @@ decided_of w v t q cmd told work answer (Says.crossed crossed poll phase still e
     (cc)
 
 -- a command never holds the mailbox
-command_works : (before w : Core) (t : ℕ) (cmd : Cmd) → Waits before w t → work_of (mutator w t) ≡ Some (works.Command cmd) → OnlyWorks before w t × HasFound w (mutator w t).phase
+command_works : (before w : Core) (t : ℕ) (cmd : Cmd) → Waits before w t → work_of (mutator w t) ≡ Some (works.Command cmd) → OnlyWorks before w t × HasFound w (mutator w t).from (mutator w t).phase
 command_works before w t cmd (Waits.works only found) work = (only, found)
 command_works before w t cmd (Waits.holds phase still epoch) work =
     let not_so : ◌≡◌ {A = Option Work} (Some works.Poll) (Some (works.Command cmd)) = sym (ap work_at phase) ∙ work in
@@ -336,7 +337,7 @@ end_says before v t made is f kept =
 pub command_said : (w b v : Core) (t : ℕ) (cmd : Cmd) (told : Told) → IsKept w → IsMutator w.config t → b ≡ begun w t (works.Command cmd) → work_of (mutator b t) ≡ Some (works.Command cmd)
     → (f : IsFinished b t (makes.Answered told) v) → IsKept f.last → IsAnswered w v t cmd told
 command_said w b v t cmd told kept is begins its f last_kept =
-    let here : OnlyWorks w b t = subst (λ (x : Core). OnlyWorks w x t) (sym begins) (begun_works w t (works.Command cmd) kept is) in
+    let here : OnlyWorks w b t = subst (λ (x : Core). OnlyWorks w x t) (sym begins) (begun_works w t (works.Command cmd) 0 kept is) in
     let there : IsMutator b.config t = subst (λ (x : Core). IsMutator x.config t) (sym begins) is in
     let work : work_of (mutator f.last t) ≡ Some (works.Command cmd) = f.work ∙ its in
     let waited = command_works b f.last t cmd f.waits work in
@@ -467,7 +468,7 @@ poll_said w b v t crossed kept is begins its f last_kept =
     last_there = mutator_there b f.last t f.waits (subst (λ (x : Core). IsMutator x.config t) (sym begins) is)
 
     here : OnlyWorks w b t
-    here = subst (λ (x : Core). OnlyWorks w x t) (sym begins) (begun_works w t works.Poll kept is)
+    here = subst (λ (x : Core). OnlyWorks w x t) (sym begins) (begun_works w t works.Poll 0 kept is)
 
     quiet : IsQuiet w f.last t
     quiet = quiet_both w b f.last t (works_quiet w b t is.0 here) (waits_quiet b f.last t is.0 f.waits)

@@ -7,10 +7,11 @@ use Rattle.rec_word.specs.declared.op.Op.TheVariants as ops
 use Rattle.rec_model.specs.Sight.{IsTaken}
 use Rattle.rec_log.specs.declared.contents.Contents.{Contents}
 use Rattle.rec_mutator.specs.Next.{next_of}
-use Rattle.rec_mutator.specs.Private.{Private, is_busy, work_of, answer_of}
+use Rattle.rec_mutator.specs.Private.{Private, is_busy, work_of, answer_of, slot_behind}
 use Rattle.rec_mutator.specs.Took.{took_of, step_of, swapped_of, left_of, skipped_to, skipped_at, IsAhead}
 use Rattle.rec_mutator.specs.declared.phase.Phase.{Phase}
 use Rattle.rec_mutator.specs.declared.phase.Phase.TheVariants.{Idle, Begun, Scanning, Scanned, Storing, Crossing, Swapping, Giving, Finished}
+use Rattle.rec_mutator.proofs.Around.{behind_first}
 use Rattle.rec_mutator.proofs.Skips.{skipped_next, skipped_none, skipped_further, skipped_alone, skipped_busy}
 use Rattle.rec_mutator.proofs.Refusals.{at_phase}
 use Rattle.rec_mutator.proofs.Polls.{busy_none}
@@ -30,7 +31,7 @@ use Rattle.rec_world.specs.World.{IsShaped, IsWorld}
 use Rattle.rec_world.proofs.Calls.{world_kept, moved_world, mutator_read}
 use Rattle.rec_word.specs.Header.{header_word}
 
--- the mutator's scan comes to this slot
+-- the mutator's scan has made so many probes, and so comes to this slot where it began with slot 0
 abbrev pub skipping : Core → (t slot : ℕ) → Core
 skipping w t slot = with_mutator w t (skipped_to (mutator w t) slot)
 
@@ -48,7 +49,7 @@ claim_fails w t slot claimed q r taken =
     ∙ ap (λ bs. make w.headers (slice_set w.mutators (t - 1) r) bs (w.made + 0)) (set-get_or w.boxes (t - 1) _)
     ∙ ap (make w.headers (slice_set w.mutators (t - 1) r) w.boxes) (omega arith)
 
-module _ (w : Core) (t : ℕ) (kept : IsKept w) (is : IsMutator w.config t) (reg label : ℕ) (leaf : Bool) (before at : ℕ) (scans : (mutator w t).phase ≡ Scanning reg label leaf before at) where
+module _ (w : Core) (t : ℕ) (kept : IsKept w) (is : IsMutator w.config t) (reg label : ℕ) (leaf : Bool) (before at : ℕ) (scans : (mutator w t).phase ≡ Scanning reg label leaf before at) (first : (mutator w t).from ≡ 0) where
   many : (mutator w t).slots ≡ w.config.slots
   many = (actor_of w t kept is).own.slots
 
@@ -64,7 +65,8 @@ module _ (w : Core) (t : ℕ) (kept : IsKept w) (is : IsMutator w.config t) (reg
       let within : slot < (mutator w t).slots = omega (arith, many, there) in
       let make : Op → ℕ → Private → Core = λ op found m. performed v t op found (step_of m found (box w t)) (left_of (took_of m found) (box w t)) in
       let left : mutator v t ≡ q = mutator_left w t q kept is in
-      let names : next_of (mutator v t) ≡ claim = ap next_of left ∙ skipped_next (mutator w t) reg label leaf before at scans slot within in
+      let names : next_of (mutator v t) ≡ claim = ap next_of left ∙ skipped_next (mutator w t) reg label leaf before at scans slot within
+      ∙ ap (λ n. ops.ClaimHeader n label) (ap (λ n. slot_behind (mutator w t).slots n slot) first ∙ behind_first (mutator w t).slots slot within) in
       let finds : found_by v t ≡ header = ap (cell (cells_of v)) names in
       let further : took_of q header ≡ r = skipped_further (mutator w t) reg label leaf before at scans slot header ahead within (λ e. omega (arith, e, taken)) in
       let alone = skipped_alone (mutator w t) reg label leaf before at scans (slot + 1) (box w t) in
@@ -96,40 +98,40 @@ module _ (w : Core) (t : ℕ) (kept : IsKept w) (is : IsMutator w.config t) (reg
 stays : (w : Core) (t slot : ℕ) → skipped_to (mutator w t) slot ≡ mutator w t → StepsTo w t (skipping w t slot)
 stays w t slot same = StepsTo.here (skipping w t slot) (ap (with_mutator w t) same ∙ ap (λ ms. let x : Core = record w { mutators = ms } in x) (set-get_or w.mutators (t - 1) nobody))
 
-skip_path_at : (w : Core) (t slot : ℕ) (phase : Phase) → IsKept w → IsMutator w.config t → (mutator w t).phase ≡ phase → IsAhead phase slot → slot ≤ w.config.slots
+skip_path_at : (w : Core) (t slot : ℕ) (phase : Phase) → IsKept w → IsMutator w.config t → (mutator w t).phase ≡ phase → HasFound w (mutator w t).from phase → IsAhead phase slot → slot ≤ w.config.slots
     → ((s : ℕ) → s < slot → IsTaken (sight w) s) → StepsTo w t (skipping w t slot)
 unfolding skipped_to skipped_at
-skip_path_at w t slot (Scanning reg label leaf before at) kept is scans ahead few taken =
+skip_path_at w t slot (Scanning reg label leaf before at) kept is scans found ahead few taken =
     let own = (actor_of w t kept is).own in
     let there : at < (mutator w t).slots = (at_phase (mutator w t) (Scanning reg label leaf before at) own.machine scans).1 in
     let ends : at + (slot - at) ≡ slot = omega (arith, ahead) in
     subst (λ n. StepsTo w t (skipping w t n)) ends
-    (many_more w t kept is reg label leaf before at scans (slot - at) (omega (arith, own.slots, there)) (omega (arith, ends, few)) (λ s below. taken s (omega (arith, ends, below))))
-skip_path_at w t slot Idle kept is phase ahead few taken = stays w t slot (ap (skipped_at (mutator w t) slot) phase)
-skip_path_at w t slot (Begun work) kept is phase ahead few taken = stays w t slot (ap (skipped_at (mutator w t) slot) phase)
-skip_path_at w t slot (Scanned reg label leaf before) kept is phase ahead few taken = stays w t slot (ap (skipped_at (mutator w t) slot) phase)
+    (many_more w t kept is reg label leaf before at scans found.0 (slot - at) (omega (arith, own.slots, there)) (omega (arith, ends, few)) (λ s below. taken s (omega (arith, ends, below))))
+skip_path_at w t slot Idle kept is phase found ahead few taken = stays w t slot (ap (skipped_at (mutator w t) slot) phase)
+skip_path_at w t slot (Begun work) kept is phase found ahead few taken = stays w t slot (ap (skipped_at (mutator w t) slot) phase)
+skip_path_at w t slot (Scanned reg label leaf before) kept is phase found ahead few taken = stays w t slot (ap (skipped_at (mutator w t) slot) phase)
 skip_path_at w t slot (Storing src f val at) kept is phase ahead few taken = stays w t slot (ap (skipped_at (mutator w t) slot) phase)
-skip_path_at w t slot Crossing kept is phase ahead few taken = stays w t slot (ap (skipped_at (mutator w t) slot) phase)
-skip_path_at w t slot Swapping kept is phase ahead few taken = stays w t slot (ap (skipped_at (mutator w t) slot) phase)
-skip_path_at w t slot Giving kept is phase ahead few taken = stays w t slot (ap (skipped_at (mutator w t) slot) phase)
-skip_path_at w t slot (Finished work made) kept is phase ahead few taken = stays w t slot (ap (skipped_at (mutator w t) slot) phase)
+skip_path_at w t slot Crossing kept is phase found ahead few taken = stays w t slot (ap (skipped_at (mutator w t) slot) phase)
+skip_path_at w t slot Swapping kept is phase found ahead few taken = stays w t slot (ap (skipped_at (mutator w t) slot) phase)
+skip_path_at w t slot Giving kept is phase found ahead few taken = stays w t slot (ap (skipped_at (mutator w t) slot) phase)
+skip_path_at w t slot (Finished work made) kept is phase found ahead few taken = stays w t slot (ap (skipped_at (mutator w t) slot) phase)
 
 -- skips past taken slots are steps
-skip_path : (w : Core) (t slot : ℕ) → IsKept w → IsMutator w.config t → IsAhead (mutator w t).phase slot → slot ≤ w.config.slots
+skip_path : (w : Core) (t slot : ℕ) → IsKept w → IsMutator w.config t → HasFound w (mutator w t).from (mutator w t).phase → IsAhead (mutator w t).phase slot → slot ≤ w.config.slots
     → ((s : ℕ) → s < slot → IsTaken (sight w) s) → StepsTo w t (skipping w t slot)
-skip_path w t slot kept is ahead few taken = skip_path_at w t slot (mutator w t).phase kept is refl ahead few taken
+skip_path w t slot kept is found ahead few taken = skip_path_at w t slot (mutator w t).phase kept is refl found ahead few taken
 
 -- a scan has passed taken slots alone, so a free slot is ahead of it, and so is the end
-free_ahead : (w : Core) (t slot : ℕ) → IsKept w → IsMutator w.config t → HasFound w (mutator w t).phase → slot ≤ w.config.slots
+free_ahead : (w : Core) (t slot : ℕ) → IsKept w → IsMutator w.config t → HasFound w (mutator w t).from (mutator w t).phase → slot ≤ w.config.slots
     → (slot < w.config.slots → slice_index_or w.headers slot 0 ≡ 0) → IsAhead (mutator w t).phase slot
 free_ahead w t slot kept is found few free = go (mutator w t).phase refl found
   where
-    go : (phase : Phase) → (mutator w t).phase ≡ phase → HasFound w phase → IsAhead phase slot
+    go : (phase : Phase) → (mutator w t).phase ≡ phase → HasFound w (mutator w t).from phase → IsAhead phase slot
     go (Scanning reg label leaf before at) scans its_found =
         let own = (actor_of w t kept is).own in
         let there : at < (mutator w t).slots = (at_phase (mutator w t) (Scanning reg label leaf before at) own.machine scans).1 in
         elim (cases_lt slot at) [
-          | inl behind ↦ absurd (omega (arith, its_found.1 slot behind, free (omega (arith, behind, there, own.slots))))
+          | inl behind ↦ absurd (omega (arith, its_found.2 slot behind, free (omega (arith, behind, there, own.slots))))
           | inr ahead ↦ ahead
         ]
     go Idle phase its_found = tt
@@ -190,25 +192,25 @@ pub record MaySkip (w : Core) (t slot : ℕ) : Type 0 where
   pub ahead : IsAhead (mutator w t).phase slot
   pub path : StepsTo w t (skipping w t slot)
 
-pub may_skip : (w : Core) (t slot : ℕ) → IsKept w → IsMutator w.config t → HasFound w (mutator w t).phase → slot ≤ length w.headers → ((s : ℕ) → s < slot → 0 < slice_index_or w.headers s 0)
+pub may_skip : (w : Core) (t slot : ℕ) → IsKept w → IsMutator w.config t → HasFound w (mutator w t).from (mutator w t).phase → slot ≤ length w.headers → ((s : ℕ) → s < slot → 0 < slice_index_or w.headers s 0)
     → (slot < length w.headers → slice_index_or w.headers slot 0 ≡ 0) → MaySkip w t slot
 may_skip w t slot kept is found few taken free =
     let own = (actor_of w t kept is).own in
     let within : slot ≤ w.config.slots = omega (arith, few, kept.headers) in
     let ahead : IsAhead (mutator w t).phase slot = free_ahead w t slot kept is found within (λ there. free (omega (arith, there, kept.headers))) in
-    record { few = omega (arith, within, own.slots); ahead = ahead; path = skip_path w t slot kept is ahead within taken }
+    record { few = omega (arith, within, own.slots); ahead = ahead; path = skip_path w t slot kept is found ahead within taken }
 
 -- What is known where a step of a work has finished nothing, and where a skip came behind it.
 pub record GoesOn (before v : Core) (t : ℕ) : Type 0 where
   pub world : IsWorld v
   pub is : IsMutator v.config t
   pub waits : Waits before v t
-  pub found : HasFound v (mutator v t).phase
+  pub found : HasFound v (mutator v t).from (mutator v t).phase
 
 -- a machine that goes on has found what its scan says, if its next step isn't a poll's last
-pub found_of : (before v : Core) (t : ℕ) → Waits before v t → HasFound v (mutator v t).phase
+pub found_of : (before v : Core) (t : ℕ) → Waits before v t → HasFound v (mutator v t).from (mutator v t).phase
 found_of before v t (Waits.works only found) = found
-found_of before v t (Waits.holds phase still epoch) = subst (HasFound v) (sym phase) tt
+found_of before v t (Waits.holds phase still epoch) = subst (HasFound v (mutator v t).from) (sym phase) tt
 
 pub goes_on : (before w v : Core) (t : ℕ) → IsWorld w → IsMutator before.config t → Waits before w t → is_busy (mutator w t) ≡ true → v ≡ stepped w t → answer_of (mutator v t) ≡ None → GoesOn before v t
 goes_on before w v t world is waits busy steps none =

@@ -5,7 +5,7 @@ use std::alloc::{AllocError as NoMemory, Global};
 use std::marker::Model;
 
 /// What one mutator was told, command by command. Its memory is taken when it is opened.
-#[derive(Debug, Drop)]
+#[derive(Drop)]
 pub struct Journal {
     lines: Vec<(Cmd, Told)>,
     room: u32,

@@ -13,7 +13,7 @@ use std::marker::Model;
 
 /// The shared words of a heap in one row: the fields by place, a header for each slot, the epoch word, the freed word, and a
 /// crossing word for each mutator.
-#[derive(Debug, Drop)]
+#[derive(Drop)]
 pub struct Memory {
     row: Vec<u64>,
     places: usize,

@@ -13,7 +13,7 @@ use std::marker::Model;
 
 /// The slots that registers reach, numbered from 1: by the registers in order, then by the fields of each numbered slot
 /// in order, each slot where it is first met.
-#[derive(Debug, Drop)]
+#[derive(Drop)]
 pub struct Numbering {
     list: Vec<u16>,
     /// For each slot its number, 0 where it isn't in the list.

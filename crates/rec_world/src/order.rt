@@ -4,7 +4,7 @@ use std::alloc::{AllocError as NoMemory, Global};
 use std::marker::Model;
 
 /// The mutators in the order of their commands. Its memory is taken when it is opened.
-#[derive(Debug, Drop)]
+#[derive(Drop)]
 pub struct Order {
     list: Vec<u8>,
     room: u32,

@@ -5,7 +5,7 @@ use rec_log::Buffer;
 use rec_mutator::Machine;
 
 /// What a heap is made of, for one whose steps are made by other means.
-#[derive(Debug, Drop)]
+#[derive(Drop)]
 pub struct Parts {
     /// The numbers that it was opened with.
     pub config: Config,

@@ -47,7 +47,7 @@ use std::alloc::{AllocError as NoMemory, Global};
 use std::marker::Model;
 
 /// A heap on which the commands of one to eight mutators run, and the turns of its collector, step by step, in any order.
-#[derive(Debug, Drop)]
+#[derive(Drop)]
 pub struct World {
     config: Config,
     memory: Memory,
@@ -152,7 +152,7 @@ impl World {
         are_idle(self.machines.as_slice())
     }
 
-    /// Begins a work of mutator `t`. No step of it is made.
+    /// Begins a work of mutator `t`. No step of it is made. A scan for a free slot begins with slot 0.
     pub fn begin(&mut self, t: u8, work: Work)
         requires mutator { IsMutator self.old.config t }
         requires work { IsWork self.old.config work }
@@ -166,7 +166,7 @@ impl World {
         ensures kept { IsWorld self.new }
     {
         see_label(work);
-        self.machines[usize::from(t) - 1].begin(work);
+        self.machines[usize::from(t) - 1].begin(work, 0);
     }
 
     /// Makes one step of the work of mutator `t`: the operation that its machine names, on the word that this names. The
@@ -591,7 +591,7 @@ impl World {
         see_label(work);
         let own = usize::from(t) - 1;
         let machine = &mut self.machines[own];
-        machine.begin(work);
+        machine.begin(work, 0);
         self.made += make_step(machine, &mut self.memory, &mut self.boxes[own]);
         machine.answer()
     }
@@ -599,7 +599,7 @@ impl World {
     // Steps of mutator `t` until its work is finished, and what came of it.
     fn finish(&mut self, t: u8) -> Made
         requires mutator { IsMutator self.old.config t }
-        requires begun { HasFound self.old (mutator self.old t).phase }
+        requires begun { HasFound self.old (mutator self.old t).from (mutator self.old t).phase }
         requires busy { is_busy (mutator self.old t) ≡ true }
         requires world { IsWorld self.old }
 
@@ -619,7 +619,7 @@ impl World {
     fn skip_taken(&mut self, t: u8)
         requires mutator { IsMutator self.old.config t }
         requires busy { is_busy (mutator self.old t) ≡ true }
-        requires found { HasFound self.old (mutator self.old t).phase }
+        requires found { HasFound self.old (mutator self.old t).from (mutator self.old t).phase }
 
         ensures path { StepsTo self.old t self.new }
         ensures busy { is_busy (mutator self.new t) ≡ true }

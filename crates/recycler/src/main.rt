@@ -1,31 +1,12 @@
-//! The Recycler's program, from bytes to bytes.
+//! The Recycler at a terminal: its words, standard input and standard output.
 //!
-//! `run` reads a script, carries out its commands on a heap, settles the heap, and writes what was told, the listing of
-//! the settled heap and the totals, or a summary of them. Asked to make a script, it writes one that is drawn from a seed.
-//! The rule that it keeps: each printed answer is the one that a heap that never frees gives to the same commands in one
-//! order; an allocation is answered full only where no slot was free; and after settling just the objects that registers
-//! reach hold slots, listed with true counts. A run that is done left nothing behind in the sink.
-//! The layer above is a person at a terminal: `main` gives `run` the words, standard input and standard output.
-//! The form of a script and of its answer is this project's profile (`docs/PROFILE.md`).
+//! `main` gives `run` what a person called the program with. What comes of a run, and what its answer says, is the contract of `run`
+//! (`rec_run`); how it ended is told by the exit status and, where it isn't done, by a line on standard error.
 #![tactic(auto)]
 
-mod answer;
-mod command_line;
-mod driving;
-mod finish;
-mod outcome;
-mod playing;
-mod reading;
-mod run;
-mod status;
-#[cfg(test)]
-mod summary_tests;
-mod writing;
-
 use rec_io::{StdSink, StdSource};
+use rec_run::{Status, run};
 use rec_threads::OpenGate;
-use run::run;
-use status::Status;
 use std::env;
 use std::io::{self, BufWriter, ErrorKind, Input};
 use std::process::ExitCode;

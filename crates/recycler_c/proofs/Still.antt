@@ -3,7 +3,7 @@ use Rattle.std.proofs.Common.{◌≡◌, ℕ, zero, suc, ◌+◌, ◌-◌, ◌%�
 use Rattle.rec_collector.specs.Next as collector_next
 use Rattle.rec_core.specs.Config.{IsMutator}
 use Rattle.rec_core.specs.Core.{Core}
-use Rattle.rec_core.specs.Moves.{Move, AllFit, after_moves, begun, stepped, turned, turned_at, found_by}
+use Rattle.rec_core.specs.Moves.{Move, AllFit, after_moves, begun_from, stepped, turned, turned_at, found_by}
 use Rattle.rec_word.specs.declared.op.Op.{Op}
 use Rattle.rec_table.proofs.Closing.{none_out_where_even}
 use Rattle.rec_table.specs.Beats.{beats_of, turn_at, Offerless}
@@ -39,8 +39,8 @@ numbered t w ms there each =
 -- a run of which no list tells
 no_moves : (w : Core) (ms : List Move) → AllFit w ms → Offerless ms → beats_of 0 w ms ≡ [] → ((k : ℕ) → k < w.config.mutators → beats_of (k + 1) w ms ≡ []) → after_moves w ms ≡ w
 no_moves w [] fit off none each = refl
-no_moves w (Move.Begins t work ∷ ms) fit off none each =
-    absurd (own_beat t (Begins work) (beats_of t (begun w t work) ms) (numbered t w (Move.Begins t work ∷ ms) fit.0.0 each))
+no_moves w (Move.Begins t work from ∷ ms) fit off none each =
+    absurd (own_beat t (Begins (record { work = work; from = from })) (beats_of t (begun_from w t work from) ms) (numbered t w (Move.Begins t work from ∷ ms) fit.0.0 each))
 no_moves w (Move.Steps t ∷ ms) fit off none each =
     absurd (own_beat t (Saw (found_by w t)) (beats_of t (stepped w t) ms) (numbered t w (Move.Steps t ∷ ms) fit.0.0 each))
 no_moves w (Move.Turns ∷ ms) fit off none each =

@@ -20,7 +20,7 @@ use Rattle.rec_mutator.specs.Private.{IsValid, answer_of}
 use Rattle.rec_mutator.specs.declared.made.Made.TheVariants as makes
 use Rattle.rec_mutator.specs.declared.work.Work.TheVariants as works
 use Rattle.rec_settle.specs.Collecting.{IsSettling, taken_slots}
-use Rattle.rec_table.specs.Answered.{IsAnswered}
+use Rattle.rec_table.specs.Answered.{IsAnswered, IsPolled}
 use Rattle.rec_table.specs.Beats.{gathered}
 use Rattle.rec_table.specs.Ends.{IsStopped}
 use Rattle.rec_table.specs.Held.{Gathers, Held, Started, Works, fresh, fresh_collector, gathers_now, has}
@@ -286,6 +286,7 @@ pub record HasPolled (h h' : Option End) (crossed : ℕ) : Type 0 where
   pub epoch : Option ℕ
   pub grows : Works works.Poll before.mutator.log after.mutator.log
   pub answered : answer_of (has after.mutator) ≡ Some (makes.Crossed epoch)
+  pub cause : IsPolled (has before.mutator) before.mutator.log after.mutator.log epoch
   pub line : Tells (has before.mutator) before.mutator.log after.mutator.log []
   pub told_so : crossed ≡ unwrap_or epoch 0
 

@@ -35,3 +35,10 @@ impl Handle {
         self.full = true;
     }
 }
+
+/// Lets a box hold this, and lets go what it held.
+pub fn fill(whole: &mut Box<End>, end: End)
+    ensures { whole.new.value ≡ end }
+{
+    drop(Box::replace(whole, end));
+}

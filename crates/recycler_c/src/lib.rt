@@ -21,8 +21,6 @@ mod owned;
 mod recycler;
 mod running;
 mod seating;
-#[cfg(test)]
-mod tests;
 mod told;
 
 pub use code::Code;

@@ -6,7 +6,7 @@ ghost use Rattle.recycler_c.specs.Standing.{can_collect};
 
 use crate::code::Code;
 use crate::end::{End, Resting};
-use crate::handle::Handle;
+use crate::handle::{Handle, fill};
 use crate::told::{Settled, Slot, Totals, show_slot};
 use rec_settle::settle;
 use rec_world::World;
@@ -22,7 +22,7 @@ pub fn settle_in(alloc: Global, handle: &mut Handle, told: &mut Settled) -> Code
     }
     let mut whole = handle.take(alloc);
     let (end, code) = settle_end(Box::replace(&mut whole, End::Vacant), told);
-    let _vacant = Box::replace(&mut whole, end);
+    fill(&mut whole, end);
     handle.put(whole);
     code
 }

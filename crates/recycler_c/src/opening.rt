@@ -55,10 +55,7 @@ fn make(alloc: Global, config: Config) -> Result<(Box<End>, Vec<Box<End>>), Open
 fn boxed(alloc: Global, end: End) -> Result<Box<End>, NoMemory>
     ensures { IfOk result (λ whole. whole.value ≡ end) }
 {
-    match Box::new(alloc, end) {
-        Ok(whole) => Ok(whole),
-        Err(_) => Err(NoMemory),
-    }
+    Ok(Box::new(alloc, end)?)
 }
 
 fn make_seats(alloc: Global, count: usize) -> Result<Vec<Box<End>>, NoMemory>

@@ -11,7 +11,7 @@ ghost use Rattle.recycler_c.specs.declared.handle.Handle.{Handle as Handles};
 
 use crate::code::Code;
 use crate::end::{Collecting, End, Resting};
-use crate::handle::Handle;
+use crate::handle::{Handle, fill};
 use crate::seating::{gather, hand_out};
 use rec_table::{Collector, Heap, Mutator};
 use rec_world::World;
@@ -33,7 +33,7 @@ pub fn start(alloc: Global, collector: &mut Handle, mutators: &mut [Handle]) -> 
     }
     let mut whole = collector.take(alloc);
     let (end, code) = start_in(alloc, Box::replace(&mut whole, End::Vacant), mutators);
-    let _vacant = Box::replace(&mut whole, end);
+    fill(&mut whole, end);
     collector.put(whole);
     code
 }
@@ -178,7 +178,7 @@ pub fn stop(alloc: Global, collector: &mut Handle, mutators: &mut [Handle]) -> C
     }
     let mut whole = collector.take(alloc);
     let (end, code) = stop_in(alloc, Box::replace(&mut whole, End::Vacant), mutators);
-    let _vacant = Box::replace(&mut whole, end);
+    fill(&mut whole, end);
     collector.put(whole);
     code
 }

@@ -10,7 +10,7 @@ ghost use Rattle.recycler_c.specs.declared.end.Mutating.{Mutating as Out};
 ghost use Rattle.recycler_c.specs.declared.handle.Handle.{Handle as Handles};
 
 use crate::end::{End, Mutating};
-use crate::handle::Handle;
+use crate::handle::{Handle, fill};
 use rec_table::{Heap, Mutator};
 use std::alloc::Global;
 use std::sync::Arc;
@@ -39,13 +39,6 @@ pub fn hand_out(
         fill(&mut seat, End::Mutating(Mutating { heap, mutator }));
         handles[own].put(seat);
     }
-}
-
-// Lets a box hold this.
-fn fill(seat: &mut Box<End>, end: End)
-    ensures { seat.new.value ≡ end }
-{
-    let _was = Box::replace(seat, end);
 }
 
 /// The mutators that are out come home, in order of number.

@@ -1,61 +1,112 @@
 //! A heap as a graph, in the language of `dot`.
 
-use crate::state::{Slot, State};
+use crate::state::{Mutator, Slot, State};
+use std::alloc::{AllocError as NoMemory, Global};
+use std::fmt::Write as _;
 use std::io::{self, Write};
 
+// What stands before the nodes.
+const HEAD: &str =
+    "digraph heap {\n  rankdir=LR;\n  node [shape=box, style=filled, fontname=monospace];\n";
+
 /// Draws a heap: slots, what their fields lead to, registers by mutator, and sets as clusters.
-pub fn write_graph<W: Write>(out: &mut W, state: &State) -> io::Result<()> {
-    writeln!(out, "digraph heap {{\n  rankdir=LR;")?;
-    writeln!(out, "  node [shape=box, style=filled, fontname=monospace];")?;
+pub fn write_graph<W: Write>(out: &mut W, alloc: Global, state: &State) -> io::Result<()> {
+    out.write_all(HEAD.as_bytes())?;
     for seen in &state.slots {
-        draw_slot(out, seen)?;
-        draw_arrows(out, 's', u32::from(seen.slot), &seen.fields)?;
+        write_node(out, drawn_slot(alloc, seen)?)?;
     }
-    for seen in &state.mutators {
-        let (t, epoch, mailbox) = (seen.mutator, seen.epoch, seen.mailbox);
-        writeln!(
-            out,
-            "  m{t} [label=\"mutator {t}\\nepoch {epoch}\\nmailbox {mailbox}\", shape=ellipse, fillcolor=white];"
-        )?;
-        draw_arrows(out, 'm', u32::from(t), &seen.registers)?;
+    write_mutators(out, alloc, &state.mutators)?;
+    write_sets(out, alloc, &state.lists.sets)?;
+    out.write_all(b"}\n")
+}
+
+fn write_mutators<W: Write>(out: &mut W, alloc: Global, mutators: &[Mutator]) -> io::Result<()> {
+    for seen in mutators {
+        write_node(out, drawn_mutator(alloc, seen)?)?;
     }
-    for (number, members) in state.lists.sets.iter().enumerate() {
-        draw_set(out, number, members)?;
+    Ok(())
+}
+
+fn write_sets<W: Write>(out: &mut W, alloc: Global, sets: &[Vec<u16>]) -> io::Result<()> {
+    for (number, members) in sets.iter().enumerate() {
+        write_node(out, drawn_set(alloc, number, members)?)?;
     }
-    writeln!(out, "}}")
+    Ok(())
+}
+
+fn write_node<W: Write>(out: &mut W, node: String) -> io::Result<()> {
+    out.write_all(node.as_bytes())
+}
+
+// A slot, with an arrow for each of its fields.
+fn drawn_slot(alloc: Global, seen: &Slot) -> Result<String, NoMemory> {
+    let mut text = String::new(alloc);
+    add_slot(&mut text, seen)?;
+    add_arrows(&mut text, 's', u32::from(seen.slot), &seen.fields)?;
+    Ok(text)
 }
 
 // A box with label, counts and colour, or a dotted one where the slot is free.
-fn draw_slot<W: Write>(out: &mut W, seen: &Slot) -> io::Result<()> {
-    let (slot, count, cyclic, colour) = (seen.slot, seen.count, seen.cyclic, seen.colour);
-    let Some(label) = seen.label else {
-        return writeln!(out, "  s{slot} [label=\"#{slot}\\nfree\", style=dotted];");
-    };
+fn add_slot(text: &mut String, seen: &Slot) -> Result<(), NoMemory> {
+    let slot = seen.slot;
+    match seen.label {
+        None => writeln!(text, "  s{slot} [label=\"#{slot}\\nfree\", style=dotted];"),
+        Some(label) => {
+            write!(text, "  s{slot} [label=\"#{slot} label {label}\\n")?;
+            add_object(text, seen)
+        }
+    }
+}
+
+// The rest of the box of an object.
+fn add_object(text: &mut String, seen: &Slot) -> Result<(), NoMemory> {
+    let (count, cyclic, colour) = (seen.count, seen.cyclic, seen.colour);
     let is_dark = colour == "Black" || colour == "Purple";
     let ink = if is_dark { "white" } else { "black" };
     let released = if seen.released { "\\nreleased" } else { "" };
-    writeln!(
-        out,
-        "  s{slot} [label=\"#{slot} label {label}\\ncount {count} cyclic {cyclic}\\n{colour}{released}\", fillcolor={colour}, fontcolor={ink}];"
-    )
+    write!(text, "count {count} cyclic {cyclic}\\n{colour}{released}\"")?;
+    writeln!(text, ", fillcolor={colour}, fontcolor={ink}];")
+}
+
+// A mutator, with an arrow for each of its registers.
+fn drawn_mutator(alloc: Global, seen: &Mutator) -> Result<String, NoMemory> {
+    let mut text = String::new(alloc);
+    let (t, epoch, mailbox) = (seen.mutator, seen.epoch, seen.mailbox);
+    write!(
+        text,
+        "  m{t} [label=\"mutator {t}\\nepoch {epoch}\\nmailbox {mailbox}\""
+    )?;
+    text.push_str(", shape=ellipse, fillcolor=white];\n")?;
+    add_arrows(&mut text, 'm', u32::from(t), &seen.registers)?;
+    Ok(text)
 }
 
 // An arrow for each field of a slot, or each register of a mutator, that names an object. Those of registers are dashed.
-fn draw_arrows<W: Write>(out: &mut W, kind: char, from: u32, to: &[Option<u16>]) -> io::Result<()> {
+fn add_arrows(
+    text: &mut String,
+    kind: char,
+    from: u32,
+    to: &[Option<u16>],
+) -> Result<(), NoMemory> {
     let style = if kind == 'm' { ", style=dashed" } else { "" };
     for (index, target) in to.iter().enumerate() {
         if let Some(slot) = target {
-            writeln!(out, "  {kind}{from} -> s{slot} [label={index}{style}];")?;
+            writeln!(text, "  {kind}{from} -> s{slot} [label={index}{style}];")?;
         }
     }
     Ok(())
 }
 
 // A cluster for a set that waits for its tests.
-fn draw_set<W: Write>(out: &mut W, number: usize, members: &[u16]) -> io::Result<()> {
-    write!(out, " subgraph cluster_{number} {{ label=\"set {number}\";")?;
+fn drawn_set(alloc: Global, number: usize, members: &[u16]) -> Result<String, NoMemory> {
+    let mut text = String::new(alloc);
+    write!(
+        text,
+        " subgraph cluster_{number} {{ label=\"set {number}\";"
+    )?;
     for member in members {
-        write!(out, " s{member};")?;
+        write!(text, " s{member};")?;
     }
-    writeln!(out, " }}")
+    text.push_str(" }\n")?;
+    Ok(text)
 }

@@ -1,6 +1,6 @@
 //! See the collector work: a script is played as `recycler play` does, and what happens is shown, move by move.
-//! The run is that of `rec_watch`, which proves it to be the one that `play` and `settle` make. Of what is written of it no more is
-//! promised than that it is written safely, and that the program ends.
+//! The run is that of `rec_watch`, which proves it to be the one that `play` and `settle` make, and `walk_asked` opens it as it is asked.
+//! Of what is written of it no more is promised than that it is written safely, and that the program ends.
 #![tactic(auto)]
 
 mod graph;
@@ -11,11 +11,21 @@ mod state;
 mod tell;
 mod words;
 
+ghost use Rattle.std.specs.Prelude.{◌≡◌, IfOk};
+ghost use Rattle.rec_core.specs.Core.{opened};
+ghost use Rattle.rec_play.specs.Numbers.{config_of};
+ghost use Rattle.rec_play.specs.Played.{lengths_of};
+ghost use Rattle.rec_play.specs.Playing.{generator_of};
+ghost use Rattle.rec_watch.specs.Watched.{IsWatched};
+ghost use Rattle.rec_watch.specs.declared.stage.Stage.TheVariants.{Playing};
+
 use anyhow::Context;
-use rec_script::{MOST_BYTES, ScriptError, read};
+use clap::ArgMatches;
+use rec_script::{MOST_BYTES, Script, ScriptError, read};
 use rec_watch::Walk;
+use rec_world::OpenError;
 use refusal::refusal;
-use request::{Request, command, what_is_asked};
+use request::{Asked, Request, command, what_is_asked};
 use std::alloc::Global;
 use std::io::{self, BufWriter, ErrorKind, Input, IsTerminal, Read, Write};
 use std::process::ExitCode;
@@ -25,11 +35,8 @@ use tell::Teller;
 
 fn main(rt: HostRuntime) -> anyhow::Result<ExitCode> {
     let alloc = rt.alloc();
-    let arguments: Vec<String> = env::args(&rt)?.collect(alloc)?;
-    let words: Vec<&str> = arguments.iter().map(|word| word.as_str()).collect(alloc)?;
-    // A note on how far a run has come would stand among what is told on the same terminal.
-    let is_free = !rt.stdout().is_terminal() || words.get(1).copied() == Some("page");
-    let terminal = (is_free && rt.stderr().is_terminal()).then_some(rt.stderr());
+    let words: Vec<String> = env::args(&rt)?.collect(alloc)?;
+    let terminal = free_terminal(&rt, &words);
     match run(&rt, alloc, &words, terminal) {
         Ok(status) => Ok(ExitCode::from(status)),
         Err(error) => {
@@ -39,43 +46,99 @@ fn main(rt: HostRuntime) -> anyhow::Result<ExitCode> {
     }
 }
 
+// The terminal that may be told how far a run has come. Such a note would stand among what is told on the same terminal.
+fn free_terminal(rt: &HostRuntime, words: &[String]) -> Option<Stderr> {
+    let is_page = words.get(1).is_some_and(|word| word.as_str() == "page");
+    let is_free = is_page || !rt.stdout().is_terminal();
+    (is_free && rt.stderr().is_terminal()).then_some(rt.stderr())
+}
+
 // Does what the words ask. What they ask wrongly is told on standard error.
 fn run<R: Files + AllocGlobal + Input + Print + Eprint>(
     rt: &R,
     alloc: Global,
-    words: &[&str],
+    words: &[String],
     terminal: Option<Stderr>,
 ) -> anyhow::Result<u8> {
-    let matches = match command(alloc)?.try_get_matches_from(words) {
-        Ok(matches) => matches,
+    match command(alloc)?.try_get_matches_from(words) {
+        Ok(matches) => answer(rt, alloc, &matches, terminal),
         Err(error) => {
             error.print(rt)?;
-            return Ok(u8::try_from(error.exit_code())?);
+            Ok(u8::try_from(error.exit_code())?)
         }
-    };
-    let asked = what_is_asked(&matches).context("no such word")?;
+    }
+}
+
+// Does what was matched.
+fn answer<R: Files + AllocGlobal + Input + Print + Eprint>(
+    rt: &R,
+    alloc: Global,
+    matches: &ArgMatches<'_>,
+    terminal: Option<Stderr>,
+) -> anyhow::Result<u8> {
+    let asked = what_is_asked(matches).context("no such word")?;
     if asked.from > asked.to {
         eprintln!(rt; "recycler_watch: --from is past --to, so there is no move to tell")?;
         return Ok(2); // as for other words that ask for nothing
     }
     let bytes = read_bytes(rt, alloc, asked.script).context(asked.script)?;
-    let script = match read(alloc, &bytes) {
-        Ok(script) => script,
+    tell_bytes(rt, alloc, asked, &bytes, terminal)
+}
+
+// Tells the run of a script, or why the bytes are none.
+fn tell_bytes<R: Files + Print + Eprint>(
+    rt: &R,
+    alloc: Global,
+    asked: Asked<'_>,
+    bytes: &[u8],
+    terminal: Option<Stderr>,
+) -> anyhow::Result<u8> {
+    match read(alloc, bytes) {
+        Ok(script) => tell_script(rt, alloc, asked, &script, terminal),
         Err(ScriptError::Bad { line, kind }) => {
-            rt.eprintln(&refusal(alloc, asked.script, &bytes, line, kind)?)?;
-            return Ok(3); // as `recycler` has it
+            rt.eprintln(&refusal(alloc, asked.script, bytes, line, kind)?)?;
+            Ok(3) // as `recycler` has it
         }
-        Err(error) => return Err(error.into()),
-    };
-    let walk = Walk::open(alloc, &script, asked.seed, asked.turns)?;
-    let mut teller = Teller {
-        alloc,
-        asked,
-        walk,
-        moves: 0,
-        terminal,
-    };
-    watch(rt, &mut teller)
+        Err(error) => Err(error.into()),
+    }
+}
+
+fn tell_script<R: Files + Print + Eprint>(
+    rt: &R,
+    alloc: Global,
+    asked: Asked<'_>,
+    script: &Script,
+    terminal: Option<Stderr>,
+) -> anyhow::Result<u8> {
+    match walk_asked(alloc, asked, script) {
+        Ok(walk) => {
+            let mut teller = Teller {
+                alloc,
+                asked,
+                walk,
+                moves: 0,
+                terminal,
+            };
+            watch(rt, &mut teller)
+        }
+        Err(error) => Err(error.into()),
+    }
+}
+
+// The walk that is asked: the run of the script at its opening, with the seed and the most drawn turns that the words name.
+fn walk_asked<'a>(
+    alloc: Global,
+    asked: Asked<'_>,
+    script: &'a Script,
+) -> Result<Walk<'a>, OpenError>
+    ensures script { IfOk result (λ walk. walk.script ≡ script.now) }
+    ensures rule { IfOk result (λ walk. walk.rule ≡ record { left = lengths_of script.now; generator = generator_of asked.entry.seed; turns = asked.entry.turns }) }
+    ensures rest { IfOk result (λ walk. walk.rest ≡ walk.rule) }
+    ensures stage { IfOk result (λ walk. walk.stage ≡ Playing) }
+    ensures world { IfOk result (λ walk. walk.world ≡ opened (config_of script.now)) }
+    ensures watched { IfOk result IsWatched }
+{
+    Walk::open(alloc, script, asked.seed, asked.turns)
 }
 
 // Tells a run, and says how many moves it has where it ends before the window.

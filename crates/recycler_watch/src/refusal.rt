@@ -2,6 +2,7 @@
 
 use rec_script::Kind;
 use std::alloc::{AllocError as NoMemory, Global};
+use std::fmt::Write;
 
 /// A refusal of the text in a file, at this line; line 0 is the text as a whole.
 pub fn refusal(
@@ -11,36 +12,81 @@ pub fn refusal(
     line: u32,
     kind: Kind,
 ) -> Result<String, NoMemory> {
-    let sentence = sentence_on(kind);
-    let Some(number) = line.checked_sub(1) else {
-        return format!(in alloc; "{file}: {kind}: {sentence}");
-    };
-    let mut lines = bytes.split(|byte| *byte == b'\n');
-    let spelled = lines.nth(number as usize).unwrap_or(&[]);
-    let spelled = spelled.strip_suffix(b"\r").unwrap_or(spelled);
-    let word = wrong_word(spelled, registers_of(bytes), kind);
-    let (place, shown) = (word.0.saturating_add(1), marked(alloc, spelled, word)?);
-    format!(in alloc; "{file}:{line}:{place}: {kind}: {sentence}\n{line:>5} | {shown}")
-}
-
-// A hundred bytes around a word, and a line with a mark under the word. Tabs are in both lines, so that the mark stands there
-// wherever a terminal has its stops. What isn't printable ASCII could be wider than a byte, or do anything, and is a `?`.
-fn marked(alloc: Global, line: &[u8], word: (usize, &str)) -> Result<String, NoMemory> {
-    let (column, end) = (word.0, word.0.saturating_add(word.1.len()));
-    let before = column.saturating_sub(50);
-    let (mut shown, mut mark) = (String::new(alloc), String::new(alloc));
-    for (at, byte) in line.iter().enumerate().skip(before).take(100) {
-        let blank = if *byte == b'\t' { '\t' } else { ' ' };
-        let is_shown = byte.is_ascii_graphic() || *byte == b' ' || *byte == b'\t';
-        shown.push(if is_shown { char::from(*byte) } else { '?' })?;
-        if at < end {
-            mark.push(if at < column { blank } else { '^' })?;
+    match line.checked_sub(1) {
+        None => format!(in alloc; "{file}: {kind}: {}", sentence_on(kind)),
+        Some(index) => {
+            let spelled = nth_line(bytes, index as usize);
+            let word = wrong_word(spelled, registers_of(bytes), kind);
+            let mut text = reason(alloc, file, line, word.0, kind)?;
+            add_marked(&mut text, line, spelled, word)?;
+            Ok(text)
         }
     }
-    if mark.is_empty() {
-        mark.push('^')?;
+}
+
+// The line of a text behind so many others.
+fn nth_line(bytes: &[u8], index: usize) -> &[u8] {
+    let mut lines = bytes.split(|byte| *byte == b'\n');
+    let spelled = lines.nth(index).unwrap_or(&[]);
+    spelled.strip_suffix(b"\r").unwrap_or(spelled)
+}
+
+// The place of a word behind so many bytes, and what is wrong with it.
+fn reason(
+    alloc: Global,
+    file: &str,
+    line: u32,
+    column: usize,
+    kind: Kind,
+) -> Result<String, NoMemory> {
+    let (place, sentence) = (column.saturating_add(1), sentence_on(kind));
+    format!(in alloc; "{file}:{line}:{place}: {kind}: {sentence}\n")
+}
+
+// A hundred bytes around a word, and a line with a mark under the word.
+fn add_marked(
+    text: &mut String,
+    number: u32,
+    line: &[u8],
+    word: (usize, &str),
+) -> Result<(), NoMemory> {
+    let (column, end) = (word.0, word.0.saturating_add(word.1.len()));
+    let before = column.saturating_sub(50);
+    write!(text, "{number:>5} | ")?;
+    add_shown(text, line, before)?;
+    text.push_str("\n      | ")?;
+    add_mark(text, line, before, column, end)
+}
+
+// What isn't printable ASCII could be wider than a byte, or do anything, and is a `?`.
+fn add_shown(text: &mut String, line: &[u8], before: usize) -> Result<(), NoMemory> {
+    for byte in line.iter().skip(before).take(100) {
+        let is_shown = byte.is_ascii_graphic() || *byte == b' ' || *byte == b'\t';
+        text.push(if is_shown { char::from(*byte) } else { '?' })?;
     }
-    format!(in alloc; "{shown}\n      | {mark}")
+    Ok(())
+}
+
+// Tabs are in both lines, so that the mark stands under the word wherever a terminal has its stops.
+fn add_mark(
+    text: &mut String,
+    line: &[u8],
+    before: usize,
+    column: usize,
+    end: usize,
+) -> Result<(), NoMemory> {
+    let mut is_empty = true;
+    for (at, byte) in line.iter().enumerate().skip(before).take(100) {
+        let blank = if *byte == b'\t' { '\t' } else { ' ' };
+        if at < end {
+            text.push(if at < column { blank } else { '^' })?;
+            is_empty = false;
+        }
+    }
+    if is_empty {
+        text.push('^')?;
+    }
+    Ok(())
 }
 
 fn sentence_on(kind: Kind) -> &'static str {

@@ -23,37 +23,73 @@ pub struct Asked<'a> {
     pub to: u64,
 }
 
+// What stands behind a word of the program.
+#[derive(Clone, Copy)]
+enum Part {
+    Script,
+    Seed,
+    Turns,
+    From,
+    To,
+    Json,
+    Output,
+}
+
+// A word of the program: what it does, what its help tells at the end, and what stands behind it.
+#[derive(Clone, Copy)]
+struct Word {
+    name: &'static str,
+    about: &'static str,
+    more: &'static str,
+    parts: &'static [Part],
+}
+
+const WORDS: [Word; 3] = [
+    Word {
+        name: "trace",
+        about: "Tells each move in a line",
+        more: "Example: recycler_watch trace --to 20 examples/cycle.script",
+        parts: &[
+            Part::Script,
+            Part::Seed,
+            Part::Turns,
+            Part::From,
+            Part::To,
+            Part::Json,
+        ],
+    },
+    Word {
+        name: "graph",
+        about: "Draws the heap after the moves, for `dot`",
+        more: "Example: recycler_watch graph --to 16 examples/cycle.script | dot -Tsvg",
+        parts: &[Part::Script, Part::Seed, Part::Turns, Part::To],
+    },
+    Word {
+        name: "page",
+        about: "Writes a page for a browser",
+        more: "Example: recycler_watch page -o cycle.html examples/cycle.script\n\nA page has 100,000 moves at most; --from shows later ones.",
+        parts: &[
+            Part::Script,
+            Part::Seed,
+            Part::Turns,
+            Part::From,
+            Part::To,
+            Part::Output,
+        ],
+    },
+];
+
 /// The program's command, with the help that it prints.
 pub fn command<'a>(alloc: Global) -> Result<Command<'a>, NoMemory> {
-    let json = Arg::new(alloc, "json")
-        .long("json")
-        .help("Tell the moves as data, a line of JSON a move")
-        .action(ArgAction::SetTrue);
-    let output = Arg::new(alloc, "output")
-        .short('o')
-        .long("output")
-        .value_name("FILE")
-        .help("Write the page into this file")
-        .required(true);
-    let from = || number(alloc, "from", "Begin with this move").default_value("1");
-    let to = || number(alloc, "to", "End with this move");
-    let trace = word(alloc, "trace", "Tells each move in a line")?.after_help(
-        "Example: recycler_watch trace --to 20 examples/cycle.script",
-    );
-    let graph = word(alloc, "graph", "Draws the heap after the moves, for `dot`")?.after_help(
-        "Example: recycler_watch graph --to 16 examples/cycle.script | dot -Tsvg",
-    );
-    let page = word(alloc, "page", "Writes a page for a browser")?.after_help(
-        "Example: recycler_watch page -o cycle.html examples/cycle.script\n\nA page has 100,000 moves at most; --from shows later ones.",
-    );
-    Command::new(alloc, "recycler_watch")
+    let mut command = Command::new(alloc, "recycler_watch")
         .version("1")
         .about("Plays a script as `recycler play` does, and shows what happens, move by move.")
         .subcommand_required(true)
-        .arg_required_else_help(true)
-        .subcommand(trace.arg(from())?.arg(to())?.arg(json)?)?
-        .subcommand(graph.arg(to())?)?
-        .subcommand(page.arg(from())?.arg(to())?.arg(output)?)
+        .arg_required_else_help(true);
+    for word in &WORDS {
+        command = command.subcommand(subcommand(alloc, *word)?)?;
+    }
+    Ok(command)
 }
 
 /// What the matches ask for.
@@ -75,21 +111,55 @@ pub fn what_is_asked<'a>(matches: &ArgMatches<'a>) -> Option<Asked<'a>> {
     })
 }
 
-// A subcommand on a script, with the options on its order.
-fn word<'a>(alloc: Global, name: &'a str, about: &'a str) -> Result<Command<'a>, NoMemory> {
-    let script = Arg::new(alloc, "script")
+fn subcommand<'a>(alloc: Global, word: Word) -> Result<Command<'a>, NoMemory> {
+    let mut command = Command::new(alloc, word.name)
+        .about(word.about)
+        .after_help(word.more);
+    for part in word.parts {
+        command = command.arg(arg(alloc, *part))?;
+    }
+    Ok(command)
+}
+
+fn arg<'a>(alloc: Global, part: Part) -> Arg<'a> {
+    match part {
+        Part::Script => script(alloc),
+        Part::Seed => number(alloc, "seed", "Draw the order from this seed").default_value("0"),
+        Part::Turns => turns(alloc),
+        Part::From => number(alloc, "from", "Begin with this move").default_value("1"),
+        Part::To => number(alloc, "to", "End with this move"),
+        Part::Json => json(alloc),
+        Part::Output => output(alloc),
+    }
+}
+
+fn script<'a>(alloc: Global) -> Arg<'a> {
+    Arg::new(alloc, "script")
         .value_name("SCRIPT")
         .help("The script's file, or - for standard input")
-        .required(true);
-    let seed = number(alloc, "seed", "Draw the order from this seed");
-    let turns = number(alloc, "turns", "Draw so many turns at most, up to 10000000").value_parser(
-        value_parser!(u32).range(0..=10_000_000),
-    );
-    Command::new(alloc, name)
-        .about(about)
-        .arg(script)?
-        .arg(seed.default_value("0"))?
-        .arg(turns.default_value("1000000"))
+        .required(true)
+}
+
+fn turns<'a>(alloc: Global) -> Arg<'a> {
+    number(alloc, "turns", "Draw so many turns at most, up to 10000000")
+        .value_parser(value_parser!(u32).range(0..=10_000_000))
+        .default_value("1000000")
+}
+
+fn json<'a>(alloc: Global) -> Arg<'a> {
+    Arg::new(alloc, "json")
+        .long("json")
+        .help("Tell the moves as data, a line of JSON a move")
+        .action(ArgAction::SetTrue)
+}
+
+fn output<'a>(alloc: Global) -> Arg<'a> {
+    Arg::new(alloc, "output")
+        .short('o')
+        .long("output")
+        .value_name("FILE")
+        .help("Write the page into this file")
+        .required(true)
 }
 
 fn number<'a>(alloc: Global, name: &'a str, help: &'a str) -> Arg<'a> {

@@ -1,7 +1,10 @@
 //! A heap as it is seen between two moves. Text, data, graph and page are all made from it.
 
+ghost use Rattle.std.specs.Prelude.{◌<◌, length};
+ghost use Rattle.rec_core.specs.Config.{IsMutator};
+
 use rec_collector::Phase;
-use rec_counts::Colour;
+use rec_counts::{Colour, Counts};
 use rec_log::{Buffer, Entry};
 use rec_watch::{Stage, Walk};
 use rec_word::target;
@@ -79,21 +82,11 @@ impl State {
     /// What is seen of the heap of a run.
     pub fn of(alloc: Global, walk: &Walk<'_>) -> Result<State, NoMemory> {
         let (world, fields) = (walk.world(), walk.script().fields());
-        let sets = world.sets();
         Ok(State {
             slots: slots_of(alloc, world, fields as usize)?,
             mutators: mutators_of(alloc, world, fields)?,
-            collector: Collector {
-                settles: walk.stage() != Stage::Playing,
-                phase: phase_name(world.collector().phase()),
-                epoch: world.epoch(),
-                collections: world.collections(),
-                swept: world.freed(),
-                sets_freed: sets.freed,
-                sets_touched: sets.delta,
-                sets_held: sets.sigma,
-            },
-            lists: lists_of(alloc, world)?,
+            collector: collector_of(world, walk.stage()),
+            lists: lists_of(alloc, world.collector().counts())?,
             fields,
         })
     }
@@ -105,49 +98,81 @@ impl State {
     }
 }
 
+fn collector_of(world: &World, stage: Stage) -> Collector {
+    let sets = world.sets();
+    Collector {
+        settles: stage != Stage::Playing,
+        phase: phase_name(world.collector().phase()),
+        epoch: world.epoch(),
+        collections: world.collections(),
+        swept: world.freed(),
+        sets_freed: sets.freed,
+        sets_touched: sets.delta,
+        sets_held: sets.sigma,
+    }
+}
+
 fn slots_of(alloc: Global, world: &World, fields: usize) -> Result<Vec<Slot>, NoMemory> {
     let counts = world.collector().counts();
     let mut words = world.words().chunks(fields.max(1));
     let mut slots = Vec::with_capacity(alloc, usize::from(world.slots()))?;
     for slot in 0..world.slots().min(counts.slots()) {
         let words = words.next().unwrap_or(&[]);
-        slots.push(Slot {
-            slot,
-            label: world.label(slot),
-            count: counts.count(slot),
-            cyclic: counts.cyclic(slot),
-            colour: colour_name(counts.colour(slot)),
-            root: counts.buffered(slot) && counts.set_of(slot).is_none(),
-            released: counts.released(slot),
-            set: counts.set_of(slot),
-            fields: words.iter().map(|word| target(*word)).collect(alloc)?,
-        })?;
+        let fields = words.iter().map(|word| target(*word)).collect(alloc)?;
+        slots.push(slot_of(counts, slot, world.label(slot), fields))?;
     }
     Ok(slots)
 }
 
+fn slot_of(counts: &Counts, slot: u16, label: Option<u32>, fields: Vec<Option<u16>>) -> Slot
+    requires { slot < length counts.now.slots }
+{
+    let set = counts.set_of(slot);
+    Slot {
+        slot,
+        label,
+        count: counts.count(slot),
+        cyclic: counts.cyclic(slot),
+        colour: colour_name(counts.colour(slot)),
+        root: counts.buffered(slot) && set.is_none(),
+        released: counts.released(slot),
+        set,
+        fields,
+    }
+}
+
 fn mutators_of(alloc: Global, world: &World, fields: u32) -> Result<Vec<Mutator>, NoMemory> {
-    let (newer, older) = (world.collector().newer(), world.collector().older());
-    let length_of = |buffer: Option<&Buffer>| buffer.map_or(0, |buffer| buffer.entries().len());
     let mut mutators = Vec::new(alloc);
-    for index in 0..world.mutators() {
-        let (mutator, place) = (index + 1, usize::from(index));
-        let entries = world.mutator(mutator).entries();
-        let crossing = world.crossing().get(place).copied().unwrap_or(0);
-        let mailbox = world.mailboxes().get(place).and_then(Option::as_ref);
-        mutators.push(Mutator {
-            mutator,
-            epoch: world.epoch_of(mutator),
-            mailbox: MAILBOXES[(crossing % 4) as usize],
-            posted: length_of(mailbox),
-            newer: length_of(newer.get(place)),
-            older: length_of(older.get(place)),
-            registers: world.registers(mutator).to_vec(alloc)?,
-            logged: entries.len(),
-            log: last_of(alloc, entries, fields)?,
-        })?;
+    for t in 1..=world.mutators() {
+        mutators.push(mutator_of(alloc, world, t, fields)?)?;
     }
     Ok(mutators)
+}
+
+fn mutator_of(alloc: Global, world: &World, t: u8, fields: u32) -> Result<Mutator, NoMemory>
+    requires { IsMutator world.now.config t }
+{
+    let place = usize::from(t - 1);
+    let entries = world.mutator(t).entries();
+    let crossing = world.crossing().get(place).copied().unwrap_or(0);
+    let mailbox = world.mailboxes().get(place).and_then(Option::as_ref);
+    let registers = world.registers(t).to_vec(alloc)?;
+    let log = last_of(alloc, entries, fields)?;
+    Ok(Mutator {
+        mutator: t,
+        epoch: world.epoch_of(t),
+        mailbox: MAILBOXES[(crossing % 4) as usize],
+        posted: length_of(mailbox),
+        newer: length_of(world.collector().newer().get(place)),
+        older: length_of(world.collector().older().get(place)),
+        registers,
+        logged: entries.len(),
+        log,
+    })
+}
+
+fn length_of(buffer: Option<&Buffer>) -> usize {
+    buffer.map_or(0, |buffer| buffer.entries().len())
 }
 
 // The last sixteen entries of a log, in words.
@@ -155,18 +180,26 @@ fn last_of(alloc: Global, entries: &[Entry], fields: u32) -> Result<Vec<String>,
     let mut last = Vec::new(alloc);
     let before = entries.len().saturating_sub(16);
     for entry in entries.iter().skip(before) {
-        let mut text = String::new(alloc);
-        match *entry {
-            Entry::Born { slot } => write!(text, "#{slot} born")?,
-            Entry::Put { place, new, old } => {
-                add_field(&mut text, "", place, fields)?;
-                add_target(&mut text, ": ", target(old))?;
-                add_target(&mut text, " -> ", target(new))?;
-            }
-        }
-        last.push(text)?;
+        last.push(entry_text(alloc, *entry, fields)?)?;
     }
     Ok(last)
+}
+
+fn entry_text(alloc: Global, entry: Entry, fields: u32) -> Result<String, NoMemory> {
+    let mut text = String::new(alloc);
+    add_entry(&mut text, entry, fields)?;
+    Ok(text)
+}
+
+fn add_entry(text: &mut String, entry: Entry, fields: u32) -> Result<(), NoMemory> {
+    match entry {
+        Entry::Born { slot } => write!(text, "#{slot} born"),
+        Entry::Put { place, new, old } => {
+            add_field(text, "", place, fields)?;
+            add_target(text, ": ", target(old))?;
+            add_target(text, " -> ", target(new))
+        }
+    }
 }
 
 /// An object, or null, behind some words.
@@ -183,20 +216,23 @@ pub fn add_field(text: &mut String, words: &str, place: u32, fields: u32) -> Res
     write!(text, "{words}#{}.{}", place / fields, place % fields)
 }
 
-fn lists_of(alloc: Global, world: &World) -> Result<Lists, NoMemory> {
-    let counts = world.collector().counts();
-    let mut sets = Vec::new(alloc);
-    for number in 0..counts.sets() {
-        sets.push(counts.set(number).to_vec(alloc)?)?;
-    }
+fn lists_of(alloc: Global, counts: &Counts) -> Result<Lists, NoMemory> {
     Ok(Lists {
         roots: counts.roots().to_vec(alloc)?,
         marked: counts.marked().to_vec(alloc)?,
         work: counts.work().to_vec(alloc)?,
         zeros: counts.zeros().to_vec(alloc)?,
         free: counts.free_list().to_vec(alloc)?,
-        sets,
+        sets: sets_of(alloc, counts)?,
     })
+}
+
+fn sets_of(alloc: Global, counts: &Counts) -> Result<Vec<Vec<u16>>, NoMemory> {
+    let mut sets = Vec::new(alloc);
+    for number in 0..counts.sets() {
+        sets.push(counts.set(number).to_vec(alloc)?)?;
+    }
+    Ok(sets)
 }
 
 fn phase_name(phase: &Phase) -> &'static str {

@@ -7,10 +7,21 @@ use crate::state::{Collector, Lists, Mutator, Slot, State};
 use crate::words::{answer_text, command_text, says};
 use rec_watch::{Move, Walk};
 use serde::Serialize;
-use serde_json::json;
 use std::alloc::{AllocError as NoMemory, Global};
 use std::io::{self, Write};
 use std::rt::Stderr;
+
+// What is watched, and how. Names are in the order of their letters.
+#[derive(Clone, Copy, Serialize)]
+struct Head<'a> {
+    fields: u32,
+    mutators: u8,
+    registers: u32,
+    script: &'a str,
+    seed: u64,
+    slots: u32,
+    turns: u32,
+}
 
 // A move, with the parts of the heap that it changed. The line before the first move has the whole heap.
 #[derive(Drop, Serialize)]
@@ -18,10 +29,26 @@ struct Line<'a> {
     #[serde(rename = "move")]
     number: u64,
     mutator: Option<u8>,
+    command: &'a Option<String>,
+    answer: &'a Option<String>,
+    says: &'a str,
+    collector: Collector,
+    slots: Vec<&'a Slot>,
+    mutators: Vec<&'a Mutator>,
+    lists: Option<&'a Lists>,
+}
+
+// What a mutator asked, if the move was one of a mutator, and what it was told.
+#[derive(Drop)]
+struct Asking {
+    mutator: Option<u8>,
     command: Option<String>,
     answer: Option<String>,
-    says: String,
-    collector: Collector,
+}
+
+// The parts of a heap that are told.
+#[derive(Drop)]
+struct Parts<'a> {
     slots: Vec<&'a Slot>,
     mutators: Vec<&'a Mutator>,
     lists: Option<&'a Lists>,
@@ -40,28 +67,39 @@ pub struct Teller<'a> {
 impl Teller<'_> {
     /// Makes the moves up to the end of the window, writes what is asked of them, and tells whether the run came to the window.
     pub fn tell<W: Write>(&mut self, out: &mut W) -> io::Result<bool> {
-        let asked = self.asked;
-        let before = match asked.request {
-            Request::Graph => asked.to,
-            _ => asked.from.saturating_sub(1),
+        self.pass();
+        match self.asked.request {
+            Request::Text | Request::Data => self.tell_moves(out, self.asked.to)?,
+            Request::Graph => self.draw(out)?,
+            Request::Page(_) => self.tell_page(out)?,
+        }
+        out.flush()?;
+        Ok(self.moves >= self.asked.from)
+    }
+
+    // Makes the moves before the window.
+    fn pass(&mut self) {
+        let before = match self.asked.request {
+            Request::Graph => self.asked.to,
+            _ => self.asked.from.saturating_sub(1),
         };
         for _ in 0..before {
             if self.make_move().is_none() {
                 break;
             }
         }
-        match asked.request {
-            Request::Text | Request::Data => self.tell_moves(out, asked.to)?,
-            Request::Graph => write_graph(out, &State::of(self.alloc, &self.walk)?)?,
-            Request::Page(_) => {
-                out.write_all(HEAD.as_bytes())?;
-                let most = self.moves.saturating_add(100_000);
-                self.tell_moves(out, asked.to.min(most))?;
-                out.write_all(TAIL.as_bytes())?;
-            }
-        }
-        out.flush()?;
-        Ok(self.moves >= asked.from)
+    }
+
+    fn draw<W: Write>(&self, out: &mut W) -> io::Result<()> {
+        let seen = State::of(self.alloc, &self.walk)?;
+        write_graph(out, self.alloc, &seen)
+    }
+
+    fn tell_page<W: Write>(&mut self, out: &mut W) -> io::Result<()> {
+        out.write_all(HEAD.as_bytes())?;
+        let most = self.moves.saturating_add(100_000);
+        self.tell_moves(out, self.asked.to.min(most))?;
+        out.write_all(TAIL.as_bytes())
     }
 
     // Makes the next move. A terminal is told of every ten thousandth.
@@ -76,25 +114,61 @@ impl Teller<'_> {
         Some(made)
     }
 
-    // Makes the moves from here on up to this one, and tells each; before data a line of what is watched, and the whole heap.
+    // Makes the moves from here on up to this one, and tells each.
     fn tell_moves<W: Write>(&mut self, out: &mut W, to: u64) -> io::Result<()> {
-        let mut was = State::of(self.alloc, &self.walk)?;
-        if self.asked.request != Request::Text {
-            self.write_head(out)?;
-            self.write_line(out, None, &was)?;
-        }
+        let mut seen = State::of(self.alloc, &self.walk)?;
+        self.begin(out, &seen)?;
         for _ in self.moves..to {
-            let Some(made) = self.make_move() else {
+            if !self.tell_next(out, &mut seen)? {
                 break;
-            };
-            let is = State::of(self.alloc, &self.walk)?;
-            match self.asked.request {
-                Request::Text => self.write_text(out, made, &was, &is)?,
-                _ => self.write_line(out, Some((made, &was)), &is)?,
             }
-            was = is;
         }
         Ok(())
+    }
+
+    // Makes the next move and tells it, if there is one. The heap was seen before it, and is seen again behind it.
+    fn tell_next<W: Write>(&mut self, out: &mut W, seen: &mut State) -> io::Result<bool> {
+        let Some(made) = self.make_move() else {
+            return Ok(false);
+        };
+        let is = State::of(self.alloc, &self.walk)?;
+        self.write_move(out, made, seen, &is)?;
+        *seen = is;
+        Ok(true)
+    }
+
+    // What stands before the moves: where they are data a line of what is watched, and the whole heap.
+    fn begin<W: Write>(&self, out: &mut W, is: &State) -> io::Result<()> {
+        if self.asked.request == Request::Text {
+            return Ok(());
+        }
+        self.write_head(out)?;
+        let nobody = Asking {
+            mutator: None,
+            command: None,
+            answer: None,
+        };
+        let whole = parts_of(self.alloc, &[], &[], Some(&is.lists), is)?;
+        self.write_line(
+            out,
+            &nobody,
+            "the whole heap as it is here",
+            is.collector,
+            whole,
+        )
+    }
+
+    fn write_move<W: Write>(
+        &self,
+        out: &mut W,
+        made: Move,
+        was: &State,
+        is: &State,
+    ) -> io::Result<()> {
+        match self.asked.request {
+            Request::Text => self.write_text(out, made, was, is),
+            _ => self.write_data(out, made, was, is),
+        }
     }
 
     // A move in a line, between headings for what begins with it.
@@ -105,69 +179,122 @@ impl Teller<'_> {
         was: &State,
         is: &State,
     ) -> io::Result<()> {
-        if is.collector.settles && !was.collector.settles {
-            writeln!(out, "== the commands are made, the heap settles")?;
-        }
-        if is.collector.epoch != was.collector.epoch {
-            writeln!(out, "== epoch {}", is.collector.epoch)?;
-        }
-        let (number, text) = (self.moves, says(self.alloc, made, was, is)?);
-        match made {
-            Move::Command { mutator, .. } => write!(out, "{number:>5} mutator {mutator}")?,
-            Move::Step { .. } => write!(out, "{number:>5} collector")?,
-        }
-        writeln!(out, "  {text}")?;
+        write_headings(out, &was.collector, &is.collector)?;
+        let says = says(self.alloc, made, was, is)?;
+        write_sentence(out, self.moves, made, &says)?;
         write_phase(out, was.collector.phase, is.collector.phase)
+    }
+
+    fn write_data<W: Write>(
+        &self,
+        out: &mut W,
+        made: Move,
+        was: &State,
+        is: &State,
+    ) -> io::Result<()> {
+        let says = says(self.alloc, made, was, is)?;
+        let asking = asking_of(self.alloc, made)?;
+        let lists = (was.lists != is.lists).then_some(&is.lists);
+        let changed = parts_of(self.alloc, &was.slots, &was.mutators, lists, is)?;
+        self.write_line(out, &asking, &says, is.collector, changed)
     }
 
     fn write_head<W: Write>(&self, out: &mut W) -> io::Result<()> {
         let (asked, script) = (self.asked, self.walk.script());
-        let head = json!(in self.alloc; {
-            "script": asked.script,
-            "seed": asked.seed,
-            "turns": asked.turns,
-            "slots": script.slots(),
-            "fields": script.fields(),
-            "registers": script.registers(),
-            "mutators": script.mutators(),
-        })?;
+        let head = Head {
+            fields: script.fields(),
+            mutators: script.mutators(),
+            registers: script.registers(),
+            script: asked.script,
+            seed: asked.seed,
+            slots: script.slots(),
+            turns: asked.turns,
+        };
+        let text = text_of(self.alloc, &head)?;
         // A `<` in the file's name would begin a tag of a page.
-        let text = head.to_string(self.alloc)?;
         writeln!(out, "{}", text.replace(self.alloc, '<', "\\u003c")?)
     }
 
-    // A move and the heap before it, or the whole heap where there is none.
-    fn write_line<W: Write>(
+    fn write_line<'l, W: Write>(
         &self,
         out: &mut W,
-        made: Option<(Move, &State)>,
-        is: &State,
+        asking: &'l Asking,
+        says: &'l str,
+        collector: Collector,
+        told: Parts<'l>,
     ) -> io::Result<()> {
-        let was = made.map(|(_, was)| was);
-        let words = match made {
-            Some((made, was)) => says(self.alloc, made, was, is)?,
-            None => format!(in self.alloc; "the whole heap as it is here")?,
-        };
-        let (mut actor, mut command, mut answer) = (None, None, None);
-        if let Some((Move::Command { mutator, cmd, told }, _)) = made {
-            actor = Some(mutator);
-            command = Some(command_text(self.alloc, cmd)?);
-            answer = Some(answer_text(self.alloc, told.answer)?);
-        }
+        let Parts {
+            slots,
+            mutators,
+            lists,
+        } = told;
         let line = Line {
             number: self.moves,
-            mutator: actor,
-            command,
-            answer,
-            says: words,
-            collector: is.collector,
-            slots: others_of(self.alloc, was.map(|was| &was.slots), &is.slots)?,
-            mutators: others_of(self.alloc, was.map(|was| &was.mutators), &is.mutators)?,
-            lists: (was.map(|was| &was.lists) != Some(&is.lists)).then_some(&is.lists),
+            mutator: asking.mutator,
+            command: &asking.command,
+            answer: &asking.answer,
+            says,
+            collector,
+            slots,
+            mutators,
+            lists,
         };
-        // Only memory can be short: nothing here nests deep, and nothing is a float.
-        let text = serde_json::to_string(self.alloc, &line).map_err(|_| NoMemory)?;
+        let text = text_of(self.alloc, &line)?;
         writeln!(out, "{text}")
+    }
+}
+
+// Data in a line. Only memory can be short: nothing here nests deep, and nothing is a float.
+fn text_of<T: Serialize>(alloc: Global, data: &T) -> Result<String, NoMemory> {
+    serde_json::to_string(alloc, data).map_err(|_| NoMemory)
+}
+
+// What a mutator asked with a move, and was told.
+fn asking_of(alloc: Global, made: Move) -> Result<Asking, NoMemory> {
+    match made {
+        Move::Command { mutator, cmd, told } => Ok(Asking {
+            mutator: Some(mutator),
+            command: Some(command_text(alloc, cmd)?),
+            answer: Some(answer_text(alloc, told.answer)?),
+        }),
+        Move::Step { .. } => Ok(Asking {
+            mutator: None,
+            command: None,
+            answer: None,
+        }),
+    }
+}
+
+// The slots and mutators that aren't as these are, and these lists.
+fn parts_of<'a>(
+    alloc: Global,
+    slots: &[Slot],
+    mutators: &[Mutator],
+    lists: Option<&'a Lists>,
+    is: &'a State,
+) -> Result<Parts<'a>, NoMemory> {
+    Ok(Parts {
+        slots: others_of(alloc, slots, &is.slots)?,
+        mutators: others_of(alloc, mutators, &is.mutators)?,
+        lists,
+    })
+}
+
+// Headings for what begins with a move.
+fn write_headings<W: Write>(out: &mut W, was: &Collector, is: &Collector) -> io::Result<()> {
+    if is.settles && !was.settles {
+        writeln!(out, "== the commands are made, the heap settles")?;
+    }
+    if is.epoch != was.epoch {
+        writeln!(out, "== epoch {}", is.epoch)?;
+    }
+    Ok(())
+}
+
+fn write_sentence<W: Write>(out: &mut W, number: u64, made: Move, says: &str) -> io::Result<()> {
+    match made {
+        Move::Command { mutator, .. } => writeln!(out, "{number:>5} mutator {mutator}  {says}"),
+        Move::Step { .. } => writeln!(out, "{number:>5} collector  {says}"),
     }
 }
 
@@ -182,12 +309,12 @@ fn write_phase<W: Write>(out: &mut W, was: &str, is: &str) -> io::Result<()> {
 // What isn't as it was; all, where nothing was.
 fn others_of<'a, T: PartialEq>(
     alloc: Global,
-    was: Option<&Vec<T>>,
+    was: &[T],
     is: &'a [T],
 ) -> Result<Vec<&'a T>, NoMemory> {
     let mut others = Vec::new(alloc);
     for (index, seen) in is.iter().enumerate() {
-        if was.and_then(|was| was.get(index)) != Some(seen) {
+        if was.get(index) != Some(seen) {
             others.push(seen)?;
         }
     }

@@ -43,33 +43,61 @@ pub fn answer_text(alloc: Global, answer: Answer) -> Result<String, NoMemory> {
 /// A move, and what it changed, in a sentence.
 pub fn says(alloc: Global, made: Move, was: &State, is: &State) -> Result<String, NoMemory> {
     let mut text = String::new(alloc);
+    add_move(&mut text, alloc, made, was, is)?;
+    Ok(text)
+}
+
+fn add_move(
+    text: &mut String,
+    alloc: Global,
+    made: Move,
+    was: &State,
+    is: &State,
+) -> Result<(), NoMemory> {
+    let epoch = crossed(was, is);
     match made {
         Move::Command { mutator, cmd, told } => {
-            if let Some(epoch) = crossed(was, is) {
-                write!(text, "crosses into epoch {epoch}; ")?;
+            if let Some(epoch) = epoch {
+                add_number(text, "crosses into epoch ", epoch, "; ")?;
             }
-            let (command, answer) = (command_text(alloc, cmd)?, answer_text(alloc, told.answer)?);
-            write!(text, "{command}: {answer}")?;
-            add_outcome(&mut text, mutator, cmd, told, is)?;
+            add_answer(text, alloc, cmd, told)?;
+            add_outcome(text, mutator, cmd, told, is)
         }
         Move::Step { seen, turn } => {
-            add_step(&mut text, seen, is)?;
-            match turn {
-                Turn::Waiting { .. } => text.push_str(", and waits: it hasn't crossed")?,
-                Turn::Collected { epoch, freed } => {
-                    write!(text, "; epoch {epoch} is collected, ")?;
-                    write!(text, "{freed} slots were swept")?;
-                }
-                Turn::Moved | Turn::EpochsSpent => {}
+            add_step(text, seen, is)?;
+            add_turn(text, turn)?;
+            if let Some(epoch) = epoch {
+                add_number(text, "; it polls, and crosses into epoch ", epoch, "")?;
             }
-            if let Some(epoch) = crossed(was, is) {
-                write!(text, "; it polls, and crosses into epoch {epoch}")?;
-            }
-            add_sets(&mut text, &was.collector, &is.collector)?;
-            add_changes(&mut text, was, is)?;
+            add_sets(text, &was.collector, &is.collector)?;
+            add_changes(text, was, is)
         }
     }
-    Ok(text)
+}
+
+// A number between words.
+fn add_number(text: &mut String, before: &str, number: u32, behind: &str) -> Result<(), NoMemory> {
+    write!(text, "{before}{number}{behind}")
+}
+
+// A command, and what it was told.
+fn add_answer(text: &mut String, alloc: Global, cmd: Cmd, told: Told) -> Result<(), NoMemory> {
+    let (command, answer) = (command_text(alloc, cmd)?, answer_text(alloc, told.answer)?);
+    write!(text, "{command}: {answer}")
+}
+
+// What came of a turn of the collector.
+fn add_turn(text: &mut String, turn: Turn) -> Result<(), NoMemory> {
+    match turn {
+        Turn::Waiting { .. } => text.push_str(", and waits: it hasn't crossed"),
+        Turn::Collected { epoch, freed } => {
+            write!(
+                text,
+                "; epoch {epoch} is collected, {freed} slots were swept"
+            )
+        }
+        Turn::Moved | Turn::EpochsSpent => Ok(()),
+    }
 }
 
 // The epoch into which a mutator crossed with this move.
@@ -103,25 +131,43 @@ fn add_step(text: &mut String, seen: Option<(Op, u64)>, is: &State) -> Result<()
         return text.push_str("finds the epochs spent");
     };
     match op {
-        Op::StoreEpoch(epoch) => write!(text, "requests epoch {epoch}"),
-        Op::LookBox(t, _) => write!(text, "looks at mutator {t}'s mailbox"),
-        Op::ReturnBox(t, _) if usize::from(t) == is.mutators.len() => {
-            write!(text, "gives mutator {t}'s mailbox back, applies the batch")
-        }
-        Op::ReturnBox(t, _) => write!(text, "gives mutator {t}'s mailbox back"),
-        Op::LoadChild(place) => {
-            add_field(text, "loads ", place, is.fields)?;
-            add_target(text, ", which is ", target(found))
-        }
-        Op::ClearField(place) => {
-            add_field(text, "clears ", place, is.fields)?;
-            add_target(text, ", which was ", target(found))
-        }
-        Op::FreeHeader(slot) => write!(text, "sweeps #{slot}, whose slot is free now"),
+        Op::StoreEpoch(epoch) => add_number(text, "requests epoch ", epoch, ""),
+        Op::LookBox(t, _) => add_number(text, "looks at mutator ", u32::from(t), "'s mailbox"),
+        Op::ReturnBox(t, _) => add_number(text, "gives mutator ", u32::from(t), returned(t, is)),
+        Op::LoadChild(place) => add_found(text, "loads ", place, ", which is ", found, is),
+        Op::ClearField(place) => add_found(text, "clears ", place, ", which was ", found, is),
+        Op::FreeHeader(slot) => add_number(
+            text,
+            "sweeps #",
+            u32::from(slot),
+            ", whose slot is free now",
+        ),
         Op::AddFreed if found % 2 == 0 => text.push_str("begins a sweep"),
         Op::AddFreed => text.push_str("ends the sweep"),
         _ => text.push_str("makes a step"),
     }
+}
+
+// What is said of a mailbox that is given back. Behind the last one comes the batch.
+fn returned(t: u8, is: &State) -> &'static str {
+    if usize::from(t) == is.mutators.len() {
+        "'s mailbox back, applies the batch"
+    } else {
+        "'s mailbox back"
+    }
+}
+
+// A field with its place, and the word that was found in it, behind some words each.
+fn add_found(
+    text: &mut String,
+    words: &str,
+    place: u32,
+    between: &str,
+    found: u64,
+    is: &State,
+) -> Result<(), NoMemory> {
+    add_field(text, words, place, is.fields)?;
+    add_target(text, between, target(found))
 }
 
 // The slots of which the collector keeps something else now, each with what that is.
@@ -154,13 +200,8 @@ fn add_sets(text: &mut String, was: &Collector, is: &Collector) -> Result<(), No
 }
 
 fn add_change(text: &mut String, before: &Slot, after: &Slot) -> Result<(), NoMemory> {
-    write!(text, "; #{}", after.slot)?;
-    if before.count != after.count {
-        write!(text, " count {} -> {}", before.count, after.count)?;
-    }
-    if before.cyclic != after.cyclic {
-        write!(text, " cyclic {} -> {}", before.cyclic, after.cyclic)?;
-    }
+    add_number(text, "; #", u32::from(after.slot), "")?;
+    add_counts(text, before, after)?;
     if before.colour != after.colour {
         write!(text, " {} -> {}", before.colour, after.colour)?;
     }
@@ -170,9 +211,24 @@ fn add_change(text: &mut String, before: &Slot, after: &Slot) -> Result<(), NoMe
     if after.fields != before.fields {
         text.push_str(" loses a reference")?;
     }
+    add_membership(text, before, after)
+}
+
+fn add_counts(text: &mut String, before: &Slot, after: &Slot) -> Result<(), NoMemory> {
+    if before.count != after.count {
+        write!(text, " count {} -> {}", before.count, after.count)?;
+    }
+    if before.cyclic != after.cyclic {
+        write!(text, " cyclic {} -> {}", before.cyclic, after.cyclic)?;
+    }
+    Ok(())
+}
+
+// Whether the slot came into a set or among the roots, or left them.
+fn add_membership(text: &mut String, before: &Slot, after: &Slot) -> Result<(), NoMemory> {
     match (before.set, after.set) {
-        (None, Some(set)) => write!(text, " joins set {set}")?,
-        (Some(set), None) => write!(text, " leaves set {set}")?,
+        (None, Some(set)) => add_number(text, " joins set ", u32::from(set), "")?,
+        (Some(set), None) => add_number(text, " leaves set ", u32::from(set), "")?,
         _ => {}
     }
     match (before.root, after.root) {

@@ -205,7 +205,7 @@ on_step first t w on busy = go (mutator w t).phase refl on.own.polls
     go Idle at polls = absurd polls
     go (Begun (works.Command cmd)) at polls = absurd polls
     go (Begun works.Poll) at polls = on_begun first t w on busy at
-    go (Scanning reg label leaf before slot) at polls = absurd polls
+    go (Scanning reg label leaf before probed) at polls = absurd polls
     go (Scanned reg label leaf before) at polls = absurd polls
     go (Storing src f val slot) at polls = absurd polls
     go Crossing at polls = on_crossing first t w on busy at
@@ -217,10 +217,10 @@ on_step first t w on busy = go (mutator w t).phase refl on.own.polls
 on_begin : (first t : ℕ) (w : Core) → IsKept w → IsMutator w.config t → AreQuiet first w → PollsOn first t (begun w t works.Poll)
 unfolding begun_of
 on_begin first t w kept is quiet =
-    let p : Private = begun_of (mutator w t) works.Poll in
+    let p : Private = begun_of (mutator w t) works.Poll 0 in
     let own = quiet t is in
     let begins : begun w t works.Poll ≡ with_actor w t p (crossing_of w t) (box w t) = sym (same_actor w t p) in
-    let kept_so : IsKept (with_actor w t p (crossing_of w t) (box w t)) = subst IsKept begins (begun_kept w t works.Poll kept is own.idle tt tt) in
+    let kept_so : IsKept (with_actor w t p (crossing_of w t) (box w t)) = subst IsKept begins (begun_kept w t works.Poll 0 kept is own.idle tt tt kept.config.some_slots) in
     subst (PollsOn first t) (sym begins) (polls_changed first t w p (crossing_of w t) (box w t) kept is (λ s there other. quiet s there) kept_so
     (record { polls = tt; log = own.log; box = own.box; held = λ early gives. absurd (begun_gives gives); newer = own.newer; older = own.older }))
   where

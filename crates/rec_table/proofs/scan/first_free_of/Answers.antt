@@ -1,31 +1,39 @@
-use Rattle.std.proofs.Common.{◌≡◌, ◌+◌, ◌<◌, ℕ, arith, subst, ◌∙◌}
+use Rattle.std.proofs.Common.{◌≡◌, ◌+◌, ◌-◌, ◌<◌, ℕ, arith, sym, subst, ◌∙◌}
 use mathlib.Core.Option.{none}
 use Rattle.atomic_table.specs.Table.{step}
 use Rattle.rec_table.specs.Rule.{seated_of}
 use Rattle.rec_table.specs.Scan.{Passed}
-use Rattle.rec_table.proofs.Scanning.{allows_pass, passed_one}
+use Rattle.rec_mutator.specs.Private.{probe_of}
+use Rattle.rec_core.specs.Core.{mutator}
+use Rattle.rec_table.specs.Beats.{told}
+use Rattle.rec_table.proofs.Scanning.{allows_pass, comes_to, passed_one}
 use Rattle.rec_table.proofs.scan.first_free_of.Goals as goal
 
 pub load-requires : goal.load-requires
 load-requires c =
     let i = c.loop-index.invariant in
     let wide = c.args.board.now.wide in
-    let slot : ℕ = c.args.from + c.loop-index.index in
-    let lt : slot < c.args.board.now.slots = omega (arith, c.loop-index-test.true, c.requires.count) in (
+    let key = c.args.board.now.table.shared.key.value in
+    let t = seated_of c.args.seat.now.me.0 in
+    let count : ℕ = c.args.probed + c.loop-index.index in
+    let lt : count < c.args.board.now.slots = omega (arith, c.loop-index-test.true, c.requires.probes) in
+    let on : c.args.slot + (count - c.args.probed) ≡ c.args.slot + c.loop-index.index = omega arith in
+    let near : c.args.slot + (count - c.args.probed) < c.args.board.now.slots = omega (arith, c.loop-index-test.true, c.requires.slots) in
+    let comes : c.args.slot + c.loop-index.index ≡ probe_of (told (mutator key t.number) t.log) count = sym on ∙ comes_to key count c.args.probed c.args.slot c.args.board.now.slots t c.loop-index.seat.me i.passed c.requires.scan lt near in (
       i.table ∙ c.requires.table,
-      omega (arith, wide.0, wide.1, wide.2, lt),
-      allows_pass c.args.board.now.table.shared.key.value slot c.args.from c.args.board.now.slots (seated_of c.args.seat.now.me.0) c.loop-index.seat.me i.passed c.requires.scan lt _ _ _
-          (step c.args.board.now.table.shared.table_id.slots (c.args.board.now.places + c.args.from + c.loop-index.index) 0 0 none) (omega (arith, wide.0)),
+      omega (arith, wide.0, wide.1, wide.2, near),
+      allows_pass key count c.args.probed c.args.slot c.args.board.now.slots t c.loop-index.seat.me i.passed c.requires.scan lt _ _ _
+          (step c.args.board.now.table.shared.table_id.slots (c.args.board.now.places + c.args.slot + c.loop-index.index) 0 0 none) (omega (arith, wide.0, comes)),
     )
 
 pub loop-index-preserved : goal.loop-index-preserved
 loop-index-preserved c =
     let i = c.loop-index.invariant in
-    let next : c.args.from + c.loop-index.index + 1 ≡ c.args.from + (c.loop-index.index + 1) = omega arith in
+    let next : c.args.probed + c.loop-index.index + 1 ≡ c.args.probed + (c.loop-index.index + 1) = omega arith in
     record {
       table = c.load.ensures.0 ∙ i.table;
       id = c.load.ensures.1 ∙ i.id;
-      passed = subst (λ (n : ℕ). Passed (seated_of c.args.seat.now.me.0) c.args.from n c.load.new.seat.me) next
-          (passed_one (seated_of c.args.seat.now.me.0) c.args.from (c.args.from + c.loop-index.index) c.load.result c.loop-index.seat.me c.load.new.seat.me i.passed c.if-load-eq0.false (c.load.ensures.2.0 c.if-load-eq0.false));
+      passed = subst (λ (n : ℕ). Passed (seated_of c.args.seat.now.me.0) c.args.probed n c.load.new.seat.me) next
+          (passed_one (seated_of c.args.seat.now.me.0) c.args.probed (c.args.probed + c.loop-index.index) c.load.result c.loop-index.seat.me c.load.new.seat.me i.passed c.if-load-eq0.false (c.load.ensures.2.0 c.if-load-eq0.false));
       few = omega (arith, c.loop-index-test.true);
     }

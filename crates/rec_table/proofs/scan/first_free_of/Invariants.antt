@@ -7,6 +7,6 @@ abbrev pub invariant-loop-index : goal.invariant-loop-index
 invariant-loop-index l = record {
   table : l.seat.table_id ≡ l.initial.seat.table_id;
   id : l.seat.id ≡ l.initial.seat.id;
-  passed : Passed (seated_of l.initial.seat.me.0) l.from (l.from + l.index) l.seat.me;
-  few : l.index ≤ l.count;
+  passed : Passed (seated_of l.initial.seat.me.0) l.probed (l.probed + l.index) l.seat.me;
+  few : l.index ≤ l.many;
 }

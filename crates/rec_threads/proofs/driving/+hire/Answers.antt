@@ -54,8 +54,7 @@ spawn_with-report-requires-clause-own g t c κs within =
     let w : Worker = together c.in-Some.mutator c.in-Some-pop.journal in
     let ready : IsReady c.args.heap.now c.args.script.now (length c.pop.new.self.items) w = (rest_ready c.args.heap.now c.args.script.now c.args.crew rest w c.in-Some.ensures.items c.in-Some-pop.ensures.items c.requires.ready).1 in
     let err = c.in-Err.ensures.err in
-    let back = sym err in
-    subst (λ (x : Started × Held). IsMutatorOf x.0 x.1) (λ i. ((back i).1.now, (back i).4.mutator)) ready.own
+    subst (λ (x : Started × Held). IsMutatorOf x.0 x.1) (sym (λ i. ((err i).1.now, (err i).4.mutator))) ready.own
 
 pub spawn_with-report-requires-clause-room : goal.spawn_with-report-requires-clause-room
 spawn_with-report-requires-clause-room g t c κs within =
@@ -65,8 +64,7 @@ spawn_with-report-requires-clause-room g t c κs within =
     let ready : IsReady c.args.heap.now c.args.script.now k w = (rest_ready c.args.heap.now c.args.script.now c.args.crew rest w c.in-Some.ensures.items c.in-Some-pop.ensures.items c.requires.ready).1 in
     let cmds : commands_at c.args.script.now.commands k ≡ c.commands-commands.result.now = own_commands c.args.script.now.commands k c.number.result c.commands-commands.result.now (c.number.ensures.number ∙ ready.named) c.commands-commands.ensures.value in
     let err = c.in-Err.ensures.err in
-    let back = sym err in
-    subst (λ (x : List Cmd × ℕ). length x.0 ≤ x.1) (λ i. ((back i).5.now, (back i).4.journal.room)) (subst (λ (done : List Cmd). length done ≤ w.journal.room) cmds ready.room)
+    subst (λ (x : List Cmd × ℕ). length x.0 ≤ x.1) (sym (λ i. ((err i).5.now, (err i).4.journal.room))) (subst (λ (done : List Cmd). length done ≤ w.journal.room) cmds ready.room)
 
 pub spawn_with-report-requires-clause-valid : goal.spawn_with-report-requires-clause-valid
 spawn_with-report-requires-clause-valid g t c κs within =
@@ -74,8 +72,7 @@ spawn_with-report-requires-clause-valid g t c κs within =
     let w : Worker = together c.in-Some.mutator c.in-Some-pop.journal in
     let ready : IsReady c.args.heap.now c.args.script.now (length c.pop.new.self.items) w = (rest_ready c.args.heap.now c.args.script.now c.args.crew rest w c.in-Some.ensures.items c.in-Some-pop.ensures.items c.requires.ready).1 in
     let err = c.in-Err.ensures.err in
-    let back = sym err in
-    subst (λ (x : List Cmd × Held). All (HasOperands (has x.1)) x.0) (λ i. ((back i).5.now, (back i).4.mutator))
+    subst (λ (x : List Cmd × Held). All (HasOperands (has x.1)) x.0) (sym (λ i. ((err i).5.now, (err i).4.mutator)))
     (all_operands c.args.script.now.registers c.args.script.now.fields (has w.mutator) c.commands-commands.result.now ready.registers ready.fields c.commands-commands.ensures.valid.in_range)
 
 pub returns-in-Ok-clause-ended : goal.returns-in-Ok-clause-ended

@@ -13,6 +13,7 @@ returns-in-Mutating c = record {
   epoch = c.poll-epoch.result;
   grows = c.poll-epoch.ensures.grows;
   answered = c.poll-epoch.ensures.answer;
+  cause = c.poll-epoch.ensures.causes;
   line = c.poll-epoch.ensures.line;
   told_so = c.unwrap_or.ensures;
 }

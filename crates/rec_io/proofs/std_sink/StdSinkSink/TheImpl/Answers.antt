@@ -1,5 +1,5 @@
 -- A sink over std tells nothing of what it holds, so it promises what each sink does of bytes that are told.
-use Rattle.std.proofs.Common.{List, ℕ, None, take}
+use Rattle.std.proofs.Common.{◌≡◌, ◌≢◌, List, ℕ, None, refl, take}
 use Rattle.rec_io.specs.declared.sink.Taken.{Taken}
 use Rattle.rec_io.specs.declared.sink.Taken.TheVariants.{Bytes, Failed}
 use Rattle.rec_io.specs.Sink.{IfTaken, OnWriteFailed, Appends}
@@ -15,6 +15,11 @@ kept_untold : (answer : Taken) → OnWriteFailed answer (KeepsTold None None)
 kept_untold (Bytes n) = tt
 kept_untold Failed = untold _
 
+-- what stays after a write that takes bytes stays after each that didn't fail
+uncounted : (answer : Taken) (P : Type 0) → IfTaken answer (λ n. P) → answer ≢ Failed → P
+uncounted (Bytes n) P same other = same
+uncounted Failed P same other = absurd (other refl)
+
 pub write-tells : goal.write-tells
 write-tells g c = record {
   some = c.ensures.some;
@@ -22,6 +27,7 @@ write-tells g c = record {
   appends = appends_untold c.result c.args.piece.now;
   kept = kept_untold c.result;
   rose = c.ensures.rose;
+  uncounted = uncounted c.result _ c.ensures.after_bytes;
   never_falls = c.ensures.never_falls;
   within_count = c.ensures.within_count;
   stays_told = λ told. told;

@@ -1,5 +1,5 @@
 -- A source over std tells no rest, so it promises what each source does of the rest that is told.
-use Rattle.std.proofs.Common.{List, ℕ, None}
+use Rattle.std.proofs.Common.{◌≡◌, ◌≢◌, List, ℕ, None, refl}
 use Rattle.rec_io.specs.declared.source.Given.{Given}
 use Rattle.rec_io.specs.declared.source.Given.TheVariants.{Bytes, End, Failed}
 use Rattle.rec_io.specs.Source.{IfGiven, OnEnd, OnReadFailed, GivesFront, IsSpent}
@@ -22,6 +22,12 @@ kept_untold (Bytes n) = tt
 kept_untold End = tt
 kept_untold Failed = untold _
 
+-- what stays after a read that gives bytes, and after the end, stays after each that didn't fail
+uncounted : (answer : Given) (P : Type 0) → IfGiven answer (λ n. P) → OnEnd answer P → answer ≢ Failed → P
+uncounted (Bytes n) P given ended other = given
+uncounted End P given ended other = ended
+uncounted Failed P given ended other = absurd (other refl)
+
 pub read-tells : goal.read-tells
 read-tells g c = record {
   some = c.ensures.some;
@@ -30,6 +36,7 @@ read-tells g c = record {
   ended = ended_untold c.result;
   kept = kept_untold c.result;
   rose = c.ensures.rose;
+  uncounted = uncounted c.result _ c.ensures.after_bytes c.ensures.after_end;
   never_falls = c.ensures.never_falls;
   within_count = c.ensures.within_count;
   stays_told = λ told. told;

@@ -19,6 +19,7 @@ read-tells g c = record {
   ended = c.ensures.ended;
   kept = never_failed _ c.result c.ensures.never_fails;
   rose = never_failed _ c.result c.ensures.never_fails;
+  uncounted = λ other. refl;
   never_falls = omega arith;
   within_count = omega arith;
   stays_told = λ told. told;

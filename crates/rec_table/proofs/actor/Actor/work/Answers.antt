@@ -1,12 +1,17 @@
-use Rattle.std.proofs.Common.{◌≡◌, ◌∙◌, ap, sym, subst}
+use Rattle.std.proofs.Common.{◌≡◌, ◌+◌, ◌++◌, ℕ, ◌∙◌, ap, sym, subst}
 use Rattle.std.proofs.Common.{Some}
-use Rattle.rec_mutator.specs.Private.{KeepsSizes}
+use Rattle.rec_mutator.specs.Private.{Private, KeepsSizes, IsMachine, IsValid, work_of}
 use Rattle.rec_mutator.specs.declared.made.Made.{Made}
 use Rattle.rec_mutator.specs.declared.work.Work.{Work}
+use Rattle.rec_mutator.specs.declared.work.Work.TheVariants as works
+use Rattle.rec_core.specs.Config.{HasLabel}
+use Rattle.rec_table.specs.declared.start.Start.{Start}
+use Rattle.rec_table.specs.declared.views.Beat.TheVariants.{Saw}
+use Rattle.rec_table.specs.Rule.{beats, ready}
 use Rattle.rec_table.specs.Held.{Held}
 use Rattle.rec_table.proofs.Steps.{begun_busy}
-use Rattle.rec_table.proofs.Answering.{Path, answered, begun_slots, busy_still, path_first, path_on}
-use Rattle.rec_table.specs.Beats.{told}
+use Rattle.rec_table.proofs.Answering.{Path, answered, begun_slots, busy_still, path_first, path_on, polled}
+use Rattle.rec_table.specs.Beats.{told, learnt}
 use Rattle.rec_table.specs.Held.{has}
 use Rattle.rec_table.specs.Scan.{HasScanned, saw_all}
 use Rattle.rec_table.proofs.Beats.{told_both}
@@ -16,16 +21,30 @@ use Rattle.rec_table.proofs.actor.Actor.work.Goals as goal
 
 pub loop-made-init : goal.loop-made-init
 loop-made-init c =
-    let w = works_first c.args.self.now c.step.new.self c.args.work c.step.result c.step.ensures.grows in
+    let p : Private = has c.args.self.now in
+    let from : ℕ = c.start-start.result.from in
+    let start : Start = record { work = c.args.work; from = from } in
+    let is : c.start-start.result ≡ start = (let P : Work → Start = λ work. record { work = work; from = from } in ap P c.start-start.ensures.work) in
+    let w = works_first c.args.self.now c.step.new.self c.args.work from c.step.result (c.step.ensures.grows ∙ ap (λ (s : Start). record c.args.self.now { log = c.args.self.now.log ++ beats (Some s) c.step.result }) is) in
     record {
       grows = w.0;
       is = w.1;
-      work = c.step.ensures.work ∙ begun_work (has c.args.self.now) c.args.work;
+      work = c.step.ensures.work ∙ ap (λ (s : Start). work_of (ready p (Some s))) is ∙ begun_work p c.args.work from;
       told = c.step.ensures.told;
-      path = path_first c.args.work (has c.args.self.now) (has c.step.new.self) c.args.self.now.log c.step.new.self.log c.step.result (ap (λ (h : Held). h.log) c.step.ensures.grows) c.step.ensures.machine
-          (begun_busy (has c.args.self.now) c.args.work) (begun_work (has c.args.self.now) c.args.work) (begun_slots (has c.args.self.now) c.args.work) c.step.ensures.learns;
+      path = (
+        from,
+        path_first start p (has c.step.new.self) c.args.self.now.log c.step.new.self.log c.step.result (ap (λ (h : Held). h.log) c.step.ensures.grows ∙ ap (λ (s : Start). c.args.self.now.log ++ beats (Some s) c.step.result) is)
+            (subst (λ (s : Start). IsMachine (ready p (Some s))) is c.step.ensures.machine) (begun_busy p c.args.work from) (begun_work p c.args.work from) (begun_slots p c.args.work from)
+            (c.step.ensures.learns ∙ ap (λ (s : Start). learnt (ready p (Some s)) (Saw c.step.result)) is)
+            (c.step.ensures.steps ∙ ap (λ (s : Start). (ready p (Some s)).steps + 1) is),
+      );
       same = c.step.ensures.same;
     }
+
+pub step-requires-clause-may : goal.step-requires-clause-may
+step-requires-clause-may c =
+    let p : Private = has c.args.self.now in
+    (c.requires.may.0, subst (IsValid p) (sym c.start-start.ensures.work) c.requires.may.1, subst HasLabel (sym c.start-start.ensures.work) c.requires.may.2, c.start-start.ensures.from)
 
 pub scan-requires-clause-busy : goal.scan-requires-clause-busy
 scan-requires-clause-busy c = busy_still (has c.loop-made.self) c.args.work c.loop-made.invariant.work (λ m e. c.in_default.not-Some m (c.answer.ensures.answer ∙ e))
@@ -46,19 +65,29 @@ loop-made-preserved c =
       is = w.1;
       work = e.work ∙ s.work ∙ i.work;
       told = e.told;
-      path = path_on c.args.work (has c.args.self.now) (has c.loop-made.self) (has c.scan.new.self) (has c.step-in-loop-made.new.self) c.args.self.now.log c.loop-made.self.log c.scan.new.self.log c.step-in-loop-made.new.self.log s.scanned.words c.step-in-loop-made.result i.path
-          s.busy (s.work ∙ i.work) (ap (λ (h : Held). h.log) s.scanned.grows) s.scanned.learns (went c.loop-made.self c.scan.new.self s.scanned) (ap (λ (h : Held). h.log) e.grows) e.machine same.slots e.learns;
+      path = (
+        i.path.0,
+        path_on (record { work = c.args.work; from = i.path.0 }) (has c.args.self.now) (has c.loop-made.self) (has c.scan.new.self) (has c.step-in-loop-made.new.self) c.args.self.now.log c.loop-made.self.log c.scan.new.self.log c.step-in-loop-made.new.self.log s.scanned.words c.step-in-loop-made.result i.path.1
+            s.busy (s.work ∙ i.work) (ap (λ (h : Held). h.log) s.scanned.grows) s.scanned.learns (went c.loop-made.self c.scan.new.self s.scanned) (ap (λ (h : Held). h.log) e.grows) e.machine same.slots e.learns s.scanned.steps e.steps,
+      );
       same = keeps_on (has c.args.self.now) (has c.scan.new.self) (has c.step-in-loop-made.new.self) same e.same;
     }
 
 pub returns-in-Some-clause-causes : goal.returns-in-Some-clause-causes
 returns-in-Some-clause-causes c = λ cmd told is made.
     let i = c.loop-made.invariant in
-    answered (has c.args.self.now) (has c.loop-made.self) cmd c.args.self.now.log c.loop-made.self.log told
-    (subst (λ (work : Work). Path work (has c.args.self.now) c.args.self.now.log c.loop-made.self.log (has c.loop-made.self)) is i.path)
+    answered (has c.args.self.now) (has c.loop-made.self) cmd i.path.0 c.args.self.now.log c.loop-made.self.log told
+    (subst (λ (work : Work). Path (record { work = work; from = i.path.0 }) (has c.args.self.now) c.args.self.now.log c.loop-made.self.log (has c.loop-made.self)) is i.path.1)
     (sym c.answer.ensures.answer ∙ c.in-Some.is ∙ ap (λ (m : Made). Some m) made)
+
+pub returns-in-Some-clause-polled : goal.returns-in-Some-clause-polled
+returns-in-Some-clause-polled c = λ epoch is made.
+    let i = c.loop-made.invariant in
+    polled (has c.args.self.now) (has c.loop-made.self) i.path.0 c.args.self.now.log c.loop-made.self.log epoch
+    (subst (λ (work : Work). Path (record { work = work; from = i.path.0 }) (has c.args.self.now) c.args.self.now.log c.loop-made.self.log (has c.loop-made.self)) is i.path.1)
+    (begun_busy (has c.args.self.now) works.Poll i.path.0) (sym c.answer.ensures.answer ∙ c.in-Some.is ∙ ap (λ (m : Made). Some m) made)
 
 pub returns-in-Some-clause-line : goal.returns-in-Some-clause-line
 returns-in-Some-clause-line c =
     let i = c.loop-made.invariant in
-    tells (has c.args.self.now) (has c.loop-made.self) c.args.work c.args.self.now.log c.loop-made.self.log c.in-Some.made i.path (sym c.answer.ensures.answer ∙ c.in-Some.is)
+    tells (has c.args.self.now) (has c.loop-made.self) (record { work = c.args.work; from = i.path.0 }) c.args.self.now.log c.loop-made.self.log c.in-Some.made i.path.1 (sym c.answer.ensures.answer ∙ c.in-Some.is)

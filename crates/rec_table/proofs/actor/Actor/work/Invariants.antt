@@ -1,5 +1,5 @@
 -- The steps so far are the work's, and a work ends in time.
-use Rattle.std.proofs.Common.{◌≡◌, ◌-◌, Some}
+use Rattle.std.proofs.Common.{◌≡◌, ◌-◌, ℕ, Some}
 use Rattle.rec_mutator.specs.Private.{KeepsSizes, work_of, limit_of}
 use Rattle.rec_table.specs.Held.{has, IsTold, Works}
 use Rattle.rec_table.proofs.Answering.{Path}
@@ -11,7 +11,7 @@ invariant-loop-made l = record {
   is : l.self ≡ record l.fn.self { log = l.self.log };
   work : work_of (has l.self) ≡ Some l.fn.work;
   told : IsTold (has l.self).phase;
-  path : Path l.fn.work (has l.fn.self) l.fn.self.log l.self.log (has l.self);
+  path : (from : ℕ) × Path (record { work = l.fn.work; from = from }) (has l.fn.self) l.fn.self.log l.self.log (has l.self);
   same : KeepsSizes (has l.fn.self) (has l.self);
 }
 

@@ -1,12 +1,20 @@
-use Rattle.std.proofs.Common.{[]}
-use Rattle.rec_threads.proofs.Works.{done_none, done_on, still_own}
+use Rattle.std.proofs.Common.{List, [], replicate, subst, arith}
+use Rattle.std.proofs.lemmas.List.{replicate-append-replicate}
+use Rattle.rec_mutator.specs.declared.work.Work.{Work}
+use Rattle.rec_mutator.specs.declared.work.Work.TheVariants as works
+use Rattle.rec_threads.specs.Done.{HasMade}
+use Rattle.rec_threads.proofs.Works.{made_none, made_on, still_own}
 use Rattle.rec_threads.proofs.worker.Worker.attend.Goals as goal
 
 pub loop-init : goal.loop-init
-loop-init g c = done_none c.args.self.now
+loop-init g c = record { few = omega arith; made = made_none c.args.self.now }
 
-pub poll_if_awaited-requires : goal.poll_if_awaited-requires
-poll_if_awaited-requires g c = record { own = still_own c.args.heap.now c.args.self.now.mutator c.loop.self.mutator c.loop.invariant.mutator c.requires.own }
+pub poll_if_awaited-polls-requires : goal.poll_if_awaited-polls-requires
+poll_if_awaited-polls-requires g c = record { own = still_own c.args.heap.now c.args.self.now.mutator c.loop.self.mutator c.loop.invariant.made.mutator c.requires.own }
 
 pub loop-preserved : goal.loop-preserved
-loop-preserved g c = done_on [] [] c.args.self.now c.loop.self c.poll_if_awaited.new.self c.loop.invariant c.poll_if_awaited.ensures
+loop-preserved g c = record {
+  few = let once = c.poll_if_awaited-polls.ensures.few in omega (arith, once);
+  made = subst (λ (done : List Work). HasMade [] done c.args.self.now c.poll_if_awaited-polls.new.self) (replicate-append-replicate c.loop.polls c.poll_if_awaited-polls.result works.Poll)
+      (made_on [] [] (replicate c.loop.polls works.Poll) (replicate c.poll_if_awaited-polls.result works.Poll) c.args.self.now c.loop.self c.poll_if_awaited-polls.new.self c.loop.invariant.made c.poll_if_awaited-polls.ensures.made);
+}

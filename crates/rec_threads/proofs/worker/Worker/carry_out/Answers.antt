@@ -1,13 +1,15 @@
 use Rattle.std.proofs.Common.{◌≡◌, ◌+◌, ◌<◌, ℕ, List, [], ◌∷◌, ◌++◌, length, slice_index_or, take, sym, subst, arith}
 use Rattle.std.proofs.lemmas.List.{length-take-le, take_all, take_more}
+use Rattle.std.proofs.lemmas.Grind.{flat_map-append}
 use Rattle.rec_model.specs.declared.command.Cmd.{Cmd}
+use Rattle.rec_mutator.specs.declared.work.Work.{Work}
 use Rattle.rec_table.specs.Held.{has}
-use Rattle.rec_threads.specs.Done.{HasDone}
-use Rattle.rec_threads.proofs.Works.{done_none, done_on, operands_kept, still_own}
+use Rattle.rec_threads.specs.Done.{HasMade, polled_before, turn}
+use Rattle.rec_threads.proofs.Works.{made_none, made_on, operands_kept, still_own}
 use Rattle.rec_threads.proofs.worker.Worker.carry_out.Goals as goal
 
 pub loop-index-init : goal.loop-index-init
-loop-index-init g c = done_none c.args.self.now
+loop-index-init g c = made_none c.args.self.now
 
 pub go_on-requires-clause-own : goal.go_on-requires-clause-own
 go_on-requires-clause-own g c = still_own c.args.heap.now c.args.self.now.mutator c.loop-index.self.mutator c.loop-index.invariant.mutator c.requires.own
@@ -28,8 +30,11 @@ more cmds i d lt = sym (take_more cmds i d lt)
 
 pub loop-index-preserved : goal.loop-index-preserved
 loop-index-preserved g c =
-    subst (λ (done : List Cmd). HasDone done c.args.self.now c.go_on.new.self) (more c.args.commands.now c.loop-index.index _ (omega arith))
-    (done_on (take c.loop-index.index c.args.commands.now) _ c.args.self.now c.loop-index.self c.go_on.new.self c.loop-index.invariant c.go_on.ensures)
+    let so_far : List Cmd = take c.loop-index.index c.args.commands.now in
+    let cmd : Cmd = slice_index_or c.args.commands.now c.loop-index.index _ in
+    subst (λ (done : List Cmd). HasMade done (polled_before done) c.args.self.now c.go_on.new.self) (more c.args.commands.now c.loop-index.index _ (omega arith))
+    (subst (λ (done : List Work). HasMade (so_far ++ cmd ∷ []) done c.args.self.now c.go_on.new.self) (sym (flat_map-append turn so_far (cmd ∷ [])))
+    (made_on so_far (cmd ∷ []) (polled_before so_far) (turn cmd) c.args.self.now c.loop-index.self c.go_on.new.self c.loop-index.invariant c.go_on.ensures))
 
 pub returns : goal.returns
-returns g c = subst (λ (done : List Cmd). HasDone done c.args.self.now c.loop-index.self) (take_all c.loop-index.index c.args.commands.now (omega arith)) c.loop-index.invariant
+returns g c = subst (λ (done : List Cmd). HasMade done (polled_before done) c.args.self.now c.loop-index.self) (take_all c.loop-index.index c.args.commands.now (omega arith)) c.loop-index.invariant

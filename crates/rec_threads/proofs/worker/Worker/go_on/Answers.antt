@@ -1,7 +1,8 @@
 use Rattle.std.proofs.Common.{[], ◌∷◌, refl}
+use Rattle.rec_mutator.specs.declared.work.Work.TheVariants as works
 use Rattle.rec_threads.specs.declared.worker.Worker.{Worker}
 use Rattle.rec_threads.proofs.Lists.{together}
-use Rattle.rec_threads.proofs.Works.{commanded, done_on, polled}
+use Rattle.rec_threads.proofs.Works.{commanded, made_on, polled}
 use Rattle.rec_threads.proofs.worker.Worker.go_on.Goals as goal
 
 pub returns : goal.returns
@@ -11,5 +12,5 @@ returns c =
     let after : Worker = together c.command-told.new.self c.note.new.self in
     let poll = c.poll.ensures in
     let told = c.command-told.ensures in
-    done_on [] (c.args.cmd ∷ []) before between after (polled before between refl poll.is poll.line poll.same)
-    (commanded c.args.cmd c.command-told.result between after c.note.ensures.lines c.note.ensures.room c.requires.room told.is told.line told.same)
+    made_on [] (c.args.cmd ∷ []) (works.Poll ∷ []) (works.Command c.args.cmd ∷ []) before between after (polled before between refl poll.grows poll.is poll.line poll.same)
+    (commanded c.args.cmd c.command-told.result between after c.note.ensures.lines c.note.ensures.room c.requires.room told.grows told.is told.line told.same)

@@ -6,6 +6,7 @@ use Rattle.rec_mutator.specs.Private.{Private, answer_of, IsValid}
 use Rattle.rec_core.specs.Cells.{cell, births_of}
 use Rattle.rec_core.specs.Core.{Core, cells_of, mutator}
 use Rattle.rec_core.specs.Moves.{Move, begun, stepped}
+use Rattle.rec_core.proofs.Steps.{actor_of}
 use Rattle.rec_world.specs.Inside.{core}
 use Rattle.rec_world.specs.Mailbox.{held}
 use Rattle.rec_world.specs.World.{IsWorld}
@@ -27,6 +28,12 @@ pub begin-requires-clause-valid : goal.begin-requires-clause-valid
 begin-requires-clause-valid c =
     let may : MayBegin c.self.inside c.args.t c.args.work = may_begin c.self.inside c.args.self.now c.args.t c.args.work c.self.invariant c.self.view_is c.requires.mutator c.requires.work c.requires.idle c.see_label.ensures in
     subst (λ (p : Private). IsValid p c.args.work) (sym (mutator_read (core c.self.inside) c.args.t c.from-own.result c.index_mut-machine.result.now c.self.invariant.world.shaped may.was.is c.from-own.ensures c.index_mut-machine.ensures.value)) may.fits.2
+
+pub begin-requires-clause-from : goal.begin-requires-clause-from
+begin-requires-clause-from c =
+    let may : MayBegin c.self.inside c.args.t c.args.work = may_begin c.self.inside c.args.self.now c.args.t c.args.work c.self.invariant c.self.view_is c.requires.mutator c.requires.work c.requires.idle c.see_label.ensures in
+    subst (λ (p : Private). 0 < p.slots) (sym (mutator_read (core c.self.inside) c.args.t c.from-own.result c.index_mut-machine.result.now c.self.invariant.world.shaped may.was.is c.from-own.ensures c.index_mut-machine.ensures.value))
+    (actor_of (core c.self.inside) c.args.t may.was.kept may.was.is).own.machine.first_slot
 
 pub index_mut-requires : goal.index_mut-requires
 index_mut-requires c =

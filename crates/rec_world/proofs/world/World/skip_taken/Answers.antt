@@ -23,7 +23,7 @@ asked c = mutator_read (core c.self.inside) c.args.t c.from.result c.index_mut.r
 -- the skip may be made
 may : (c : After-index_mut) → MaySkip (core c.self.inside) c.args.t c.lowest_free-slot.result
 may c =
-    may_skip (core c.self.inside) c.args.t c.lowest_free-slot.result (begins c).kept (begins c).is (subst (λ (x : Core). HasFound x (mutator x c.args.t).phase) (sym c.self.view_is) c.requires.found)
+    may_skip (core c.self.inside) c.args.t c.lowest_free-slot.result (begins c).kept (begins c).is (subst (λ (x : Core). HasFound x (mutator x c.args.t).from (mutator x c.args.t).phase) (sym c.self.view_is) c.requires.found)
     c.lowest_free-slot.ensures.there c.lowest_free-slot.ensures.lower c.lowest_free-slot.ensures.free
 
 pub skip_to-requires-clause-ahead : goal.skip_to-requires-clause-ahead
@@ -51,7 +51,7 @@ left c = skipping_is (core c.self.inside) c.args.t c.from.result c.lowest_free-s
 path : (c : After-skip_to) → StepsTo (core c.self.inside) c.args.t (after c)
 path c =
     subst (StepsTo (core c.self.inside) c.args.t) (sym (left c))
-    (may_skip (core c.self.inside) c.args.t c.lowest_free-slot.result (ends c).kept (ends c).is (subst (λ (x : Core). HasFound x (mutator x c.args.t).phase) (sym c.self.view_is) c.requires.found)
+    (may_skip (core c.self.inside) c.args.t c.lowest_free-slot.result (ends c).kept (ends c).is (subst (λ (x : Core). HasFound x (mutator x c.args.t).from (mutator x c.args.t).phase) (sym c.self.view_is) c.requires.found)
     c.lowest_free-slot.ensures.there c.lowest_free-slot.ensures.lower c.lowest_free-slot.ensures.free).path
 
 world : (c : After-skip_to) → IsWorld (after c)

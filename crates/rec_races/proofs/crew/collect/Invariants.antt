@@ -1,5 +1,0 @@
-use Rattle.rec_table.specs.Held.{IsCollectorOf}
-use Rattle.rec_races.proofs.crew.collect.Given as goal
-
-abbrev pub invariant-loop : goal.invariant-loop
-invariant-loop l = IsCollectorOf l.heap l.collector

@@ -1,9 +1,0 @@
-use Rattle.std.proofs.Common.{◌≡◌}
-use Rattle.rec_table.specs.Held.{IsMutatorOf}
-use Rattle.rec_races.proofs.crew.go_through.Given as goal
-
-abbrev pub invariant-loop-cmd : goal.invariant-loop-cmd
-invariant-loop-cmd l = record {
-  own : IsMutatorOf l.heap l.mutator;
-  is : l.mutator ≡ record l.fn.mutator { log = l.mutator.log };
-}

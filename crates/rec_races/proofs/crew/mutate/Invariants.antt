@@ -1,9 +1,0 @@
-use Rattle.std.proofs.Common.{◌≡◌}
-use Rattle.rec_table.specs.Held.{IsMutatorOf}
-use Rattle.rec_races.proofs.crew.mutate.Given as goal
-
-abbrev pub invariant-loop : goal.invariant-loop
-invariant-loop l = record {
-  own : IsMutatorOf l.heap l.mutator;
-  is : l.mutator ≡ record l.fn.mutator { log = l.mutator.log };
-}

@@ -1,0 +1,8 @@
+use Rattle.rec_table.specs.Held.{AreMutatorsOf, IsCollectorOf}
+use Rattle.rec_rows.proofs.running.go_on.Given as goal
+
+abbrev pub invariant-steps : goal.invariant-steps
+invariant-steps l = record {
+  mutators : AreMutatorsOf l.heap l.mutators.items;
+  collector : IsCollectorOf l.heap l.collector;
+}

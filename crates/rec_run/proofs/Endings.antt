@@ -1,0 +1,254 @@
+-- How a run ends, from what its parts tell.
+use Rattle.std.proofs.Common.{◌≡◌, ◌≢◌, ◌⊎◌, inl, inr, ℕ, ◌+◌, ◌<◌, ◌≤◌, List, [], ◌++◌, Option, None, Some, Result, Ok, Err, length, refl, sym, ap, subst, ◌∙◌, arith}
+use Rattle.std.specs.Result.{IfOk}
+use Rattle.std.proofs.lemmas.Bool.{cases_lt}
+use Rattle.std.proofs.lemmas.List.{append-nil, length-append}
+use Rattle.rec_io.specs.Faults.{Rose}
+use Rattle.rec_io.specs.Sink.{Appends}
+use Rattle.rec_io.specs.Source.{Passes}
+use Rattle.rec_io.specs.Told.{KeepsTold}
+use Rattle.rec_io.proofs.Faults.{rose_since}
+use Rattle.rec_io.proofs.Told.{untold}
+use Rattle.rec_model.specs.LegalOrder.{Line, Event, actors}
+use Rattle.rec_model.specs.Listing.{Row, ListsSlots}
+use Rattle.rec_model.specs.Sight.{StandsFor}
+use Rattle.rec_model.proofs.Listed.{listing_carried}
+use Rattle.rec_core.specs.Settled.{IsSettled}
+use Rattle.rec_world.specs.World.{Core, sight}
+use Rattle.rec_settle.specs.Collecting.{IsSettling}
+use Rattle.rec_run.specs.declared.status.Status.{Status}
+use Rattle.rec_run.specs.declared.status.Status.TheVariants as statuses
+use Rattle.rec_script.specs.declared.error.Kind.{Kind}
+use Rattle.rec_script.specs.declared.error.ScriptError.{ScriptError}
+use Rattle.rec_script.specs.declared.error.ScriptError.TheVariants.{Bad}
+use Rattle.rec_run.specs.CommandLine.{ReadsScript}
+use Rattle.rec_run.specs.Ends.{Passage, Failed, Ends, passage}
+use Rattle.rec_run.specs.Headline.{Are, HasRead, IsAnswer, Answers, AnswersTo, HasRun, WroteAnswer, WroteFront, IsReadPast, ReadNoScript, is_summary, printed, printed_order}
+use Rattle.rec_play.specs.Played.{last_moment}
+use Rattle.rec_script.proofs.Refusing.{refused_no_text}
+use Rattle.rec_script.proofs.Uniqueness.{refused_once}
+use Rattle.rec_run.specs.declared.command_line.How.{How}
+use Rattle.rec_run.specs.declared.command_line.Request.{Request}
+use Rattle.rec_run.specs.declared.command_line.Request.TheVariants as requests
+use Rattle.rec_script.specs.Script.{Contents, IsText, IsRefused}
+use Rattle.rec_run.specs.Whole.{IsAtEnd}
+
+-- one value in two options
+pub some_same : {X : Type 0} (x y : X) → ◌≡◌ {A = Option X} (Some x) (Some y) → x ≡ y
+some_same x y is = cc
+
+-- what was read up to the end is all that was told
+pub all_read : (rest left : Option (List ℕ)) (bytes : List ℕ) → Passes rest left bytes → IsAtEnd rest left → Are rest bytes
+all_read rest left bytes passes end whole told =
+    let passed = passes whole told in
+    let none : passed.left ≡ [] = some_same passed.left [] (sym passed.told ∙ end whole told) in
+    passed.front ∙ ap (λ (more : List ℕ). bytes ++ more) none ∙ append-nil bytes
+
+-- bytes that were refused past the limit are refused with all that follow
+past_limit : (bytes more rest : List ℕ) (line : ℕ) (kind : Kind) → 16777216 < length bytes → rest ≡ bytes ++ more → IsRefused bytes line kind → IsRefused rest line kind
+past_limit bytes more rest line kind long is refused =
+    let longer : length rest ≡ length bytes + length more = ap length is ∙ length-append bytes more in
+    elim refused [
+      | inl whole ↦ inl (record { many = omega arith; whole = whole.whole; named = whole.named })
+      | inr stopped ↦ absurd (let few : length bytes ≤ 16777216 = stopped.few in omega arith)
+    ]
+
+-- bytes that were refused, read to the end or past the limit
+pub no_script : (rest left : Option (List ℕ)) (bytes : List ℕ) (line : ℕ) (kind : Kind) → Passes rest left bytes → (length bytes ≤ 16777216 → IsAtEnd rest left)
+    → length bytes ≤ 16777216 + 65536 → IsRefused bytes line kind → ReadNoScript rest left line kind
+no_script None left bytes line kind passes end few refused =
+    record {
+      bytes = bytes;
+      read = λ whole told. untold (λ w. w ≡ bytes) whole told;
+      ended = λ whole told. untold (λ w. (left ≡ Some []) ⊎ IsReadPast w left) whole told;
+      refused = refused;
+    }
+no_script (Some rest) left bytes line kind passes end few refused =
+    let passed = passes rest refl in
+    elim (cases_lt 16777216 (length bytes)) [
+      | inl long ↦
+          record {
+            bytes = rest;
+            read = λ whole told. sym (some_same rest whole told);
+            ended = λ whole told. inr (subst (λ w. IsReadPast w left) (some_same rest whole told) (record { bytes = bytes; passed = passed; many = long; few = few }));
+            refused = past_limit bytes passed.left rest line kind long passed.front refused;
+          }
+      | inr short ↦
+          record {
+            bytes = bytes;
+            read = all_read (Some rest) left bytes passes (end short);
+            ended = λ whole told. inl (end short whole told);
+            refused = refused;
+          }
+    ]
+
+-- no write failed in a run whose end is no fault of writing
+pub none_failed : {K : Type 0} (faults : K → ℕ) (status result : Status) (old wrote new : K) → (status ≢ statuses.WriteFault → faults wrote ≡ faults old)
+    → (status ≡ statuses.Done → (result ≡ statuses.Done) ⊎ ((result ≡ statuses.WriteFault) × Rose (faults wrote) (faults new)))
+    → (result ≡ statuses.Done → faults new ≡ faults wrote) → (status ≢ statuses.Done → (result ≡ status) × (new ≡ wrote)) → result ≢ statuses.WriteFault
+    → faults new ≡ faults old
+none_failed faults statuses.Done result old wrote new writes done faultless other no_fault = elim (done refl) [
+  | inl is ↦ faultless is ∙ writes (λ bad. cc)
+  | inr (is, rose) ↦ absurd (no_fault is)
+]
+none_failed faults statuses.WriteFault result old wrote new writes done faultless other no_fault = absurd (no_fault (other (λ bad. cc)).0)
+none_failed faults statuses.Usage result old wrote new writes done faultless other no_fault = ap faults (other (λ bad. cc)).1 ∙ writes (λ bad. cc)
+none_failed faults (statuses.BadScript line kind) result old wrote new writes done faultless other no_fault = ap faults (other (λ bad. cc)).1 ∙ writes (λ bad. cc)
+none_failed faults statuses.ReadFault result old wrote new writes done faultless other no_fault = ap faults (other (λ bad. cc)).1 ∙ writes (λ bad. cc)
+none_failed faults statuses.NoMemory result old wrote new writes done faultless other no_fault = ap faults (other (λ bad. cc)).1 ∙ writes (λ bad. cc)
+
+-- what a source that was read to its end, or past a limit that a script keeps, gave
+read_out : (how : How) (rest left : Option (List ℕ)) (bytes text : List ℕ) → Passes rest left bytes → (length bytes ≤ 16777216 → IsAtEnd rest left) → AnswersTo bytes how text
+    → HasRead (requests.Answer how) rest left bytes
+read_out how rest left bytes text passes end answer = (all_read rest left bytes passes (end answer.short), end answer.short)
+
+-- a text was written whole
+pub wrote_answer : (how : How) (rest left before after : Option (List ℕ)) (bytes text : List ℕ) → Passes rest left bytes → (length bytes ≤ 16777216 → IsAtEnd rest left)
+    → AnswersTo bytes how text → Appends before after text → WroteAnswer (requests.Answer how) rest left before after
+wrote_answer how rest left before after bytes text passes end answer appends =
+    record { bytes = bytes; read = read_out how rest left bytes text passes end answer; text = text; answer = answer; written = appends }
+
+-- a front of a text was written
+pub wrote_front : (how : How) (rest left before after : Option (List ℕ)) (bytes text : List ℕ) → Passes rest left bytes → (length bytes ≤ 16777216 → IsAtEnd rest left)
+    → AnswersTo bytes how text → (front back : List ℕ) × (text ≡ front ++ back) × Appends before after front
+    → WroteFront (requests.Answer how) rest left before after
+wrote_front how rest left before after bytes text passes end answer (front, back, cut, appends) =
+    record { bytes = bytes; read = read_out how rest left bytes text passes end answer; text = text; answer = answer; front = front; back = back; cut = cut; written = appends }
+
+-- what was written stays written when it is passed on
+appends_kept : (before after later : Option (List ℕ)) (bytes : List ℕ) → Appends before after bytes → KeepsTold after later → Appends before later bytes
+appends_kept before after later bytes appends keeps written told = keeps (written ++ bytes) (appends written told)
+
+-- the whole answer is a front of it
+all_front : (request : Request) (rest left before after : Option (List ℕ)) → WroteAnswer request rest left before after → WroteFront request rest left before after
+all_front request rest left before after wrote =
+    record {
+      bytes = wrote.bytes;
+      read = wrote.read;
+      text = wrote.text;
+      answer = wrote.answer;
+      front = wrote.text;
+      back = [];
+      cut = sym (append-nil wrote.text);
+      written = wrote.written;
+    }
+
+-- a run is done, or it isn't
+done_or_not : (status : Status) → (status ≡ statuses.Done) ⊎ (status ≢ statuses.Done)
+done_or_not statuses.Done = inl refl
+done_or_not statuses.Usage = inr (λ is. cc)
+done_or_not (statuses.BadScript line kind) = inr (λ is. cc)
+done_or_not statuses.ReadFault = inr (λ is. cc)
+done_or_not statuses.WriteFault = inr (λ is. cc)
+done_or_not statuses.NoMemory = inr (λ is. cc)
+
+-- A run that was done and passed on what it wrote is done, and one that could not has a fault of writing.
+passed_on : (request : Request) (result : Status) (source sink : Passage) (wrote : Option (List ℕ)) (faults : ℕ)
+    → WroteAnswer request source.before source.after sink.before wrote → sink.faults ≤ faults
+    → (result ≡ statuses.Done) ⊎ ((result ≡ statuses.WriteFault) × Rose faults sink.faults_after)
+    → KeepsTold wrote sink.after
+    → Ends request result source sink
+passed_on request result source sink wrote faults answered rises fault kept =
+    let whole : WroteAnswer request source.before source.after sink.before sink.after =
+    record {
+      bytes = answered.bytes;
+      read = answered.read;
+      text = answered.text;
+      answer = answered.answer;
+      written = appends_kept sink.before wrote sink.after answered.text answered.written kept;
+    } in
+    elim fault [
+      | inl done ↦ subst (λ r. Ends request r source sink) (sym done) whole
+      | inr (failed, rose) ↦
+          subst (λ r. Ends request r source sink) (sym failed)
+          (rose_since sink.faults faults sink.faults_after rises rose, all_front request source.before source.after sink.before sink.after whole)
+    ]
+
+-- So ends a run that was done, once the sink has passed on what it held. Every other end stays.
+pub finished : {K : Type 0} (told : K → Option (List ℕ)) (faults : K → ℕ) (request : Request) (status result : Status) (source : Passage) (old wrote new : K)
+    → Ends request status source (passage told faults old wrote) → faults old ≤ faults wrote
+    → (status ≡ statuses.Done → (result ≡ statuses.Done) ⊎ ((result ≡ statuses.WriteFault) × Rose (faults wrote) (faults new)))
+    → (status ≡ statuses.Done → KeepsTold (told wrote) (told new))
+    → (status ≢ statuses.Done → (result ≡ status) × (new ≡ wrote))
+    → Ends request result source (passage told faults old new)
+finished told faults request status result source old wrote new ends rises fault kept other =
+    elim (done_or_not status) [
+      | inl done ↦
+          passed_on request result source (passage told faults old new) (told wrote) (faults wrote)
+          (subst (λ s. Ends request s source (passage told faults old wrote)) done ends) rises (fault done) (kept done)
+      | inr not_done ↦
+          let same = other not_done in
+          subst (λ r. Ends request r source (passage told faults old new)) (sym same.0)
+          (subst (λ k. Ends request status source (passage told faults old k)) (sym same.1) ends)
+    ]
+
+-- a script that is told is answered, unless a call fails or memory runs out
+pub completes : (request : Request) (status : Status) (source sink : Passage) → Ends request status source sink
+    → (bytes : List ℕ) → source.before ≡ Some bytes → IsText bytes → (Failed source → ⊥) → (Failed sink → ⊥)
+    → (status ≡ statuses.Done) ⊎ (status ≡ statuses.NoMemory)
+completes request statuses.Done source sink ends bytes told text no_read no_write = inl refl
+completes request statuses.NoMemory source sink ends bytes told text no_read no_write = inr refl
+completes request statuses.Usage source sink ends bytes told text no_read no_write = absurd ends
+completes request statuses.ReadFault source sink ends bytes told text no_read no_write = absurd (no_read ends.1)
+completes request statuses.WriteFault source sink ends bytes told text no_read no_write = absurd (no_write ends.0)
+completes request (statuses.BadScript line kind) source sink ends bytes told text no_read no_write =
+    let refused = ends.1 in
+    absurd (refused_no_text refused.bytes line kind refused.refused (subst IsText (refused.read bytes told) text))
+
+-- what is answered is the text of a script
+answered_text : (request : Request) (rest left : Option (List ℕ)) (bytes text told : List ℕ) → ReadsScript request → HasRead request rest left bytes → IsAnswer request bytes text
+    → rest ≡ Some told → IsText told
+answered_text (requests.Answer how) rest left bytes text told reads read answer is = subst IsText (sym (read.0 told is)) (answer.script, answer.short, answer.spelled)
+answered_text (requests.Make make) rest left bytes text told reads read answer is = absurd reads
+
+-- a text that is told and is no script's is refused with its line and kind, unless a read fails or memory runs out
+pub refuses : (request : Request) (status : Status) (source sink : Passage) → Ends request status source sink → ReadsScript request
+    → (bytes : List ℕ) (line : ℕ) (kind : Kind) → source.before ≡ Some bytes → IsRefused bytes line kind → (Failed source → ⊥)
+    → (status ≡ statuses.BadScript line kind) ⊎ (status ≡ statuses.NoMemory)
+refuses request statuses.NoMemory source sink ends is_read bytes line kind told refused no_read = inr refl
+refuses request statuses.Usage source sink ends is_read bytes line kind told refused no_read = absurd ends
+refuses request statuses.ReadFault source sink ends is_read bytes line kind told refused no_read = absurd (no_read ends.1)
+refuses request statuses.Done source sink wrote is_read bytes line kind told refused no_read =
+    absurd (refused_no_text bytes line kind refused (answered_text request source.before source.after wrote.bytes wrote.text bytes is_read wrote.read wrote.answer told))
+refuses request statuses.WriteFault source sink ends is_read bytes line kind told refused no_read =
+    let wrote = ends.1 in
+    absurd (refused_no_text bytes line kind refused (answered_text request source.before source.after wrote.bytes wrote.text bytes is_read wrote.read wrote.answer told))
+refuses request (statuses.BadScript l k) source sink ends is_read bytes line kind told refused no_read =
+    let found = ends.1 in
+    let same = refused_once bytes l line k kind (subst (λ all. IsRefused all l k) (sym (found.read bytes told)) found.refused) refused in
+    inl (ap (λ n. statuses.BadScript n k) same.0 ∙ ap (statuses.BadScript line) same.1)
+
+-- a fact of each value that was made
+pub if_ok : {T E : Type 0} (r : Result T E) (P Q : T → Type 0) → ((x : T) → P x → Q x) → IfOk r P → IfOk r Q
+if_ok (Ok x) P Q step held = step x held
+if_ok (Err e) P Q step held = held
+
+-- what was run, settled and listed is the answer
+pub answers_script : (script : Contents) (how : How) (journals : List (List Line)) (events : List Event) (end world : Core) (rows : List Row) (text : List ℕ)
+    → HasRun script how journals events end → IsSettling end world → IsSettled world → StandsFor (last_moment script events).heap (sight world)
+    → length world.headers ≡ script.slots → ListsSlots (sight world) rows
+    → text ≡ printed (is_summary how) journals (printed_order how (actors events)) rows (length (last_moment script events).heap.objects) world → Answers script how text
+answers_script script how journals events end world rows text has_run settles settled stands room listed written =
+    record {
+      journals = journals;
+      events = events;
+      end = end;
+      has_run = has_run;
+      rows = rows;
+      settled = record {
+        world = world;
+        settles = settles;
+        settled = settled;
+        stands = stands;
+        room = room;
+        listing = listing_carried (last_moment script events).heap (sight world) rows stands settled.collected listed;
+      };
+      written = written;
+    }
+
+-- the line and the kind that are passed on
+pub bad_same : {T : Type 0} (e : ScriptError) (l m : ℕ) (j k : Kind) → e ≡ Bad l j → statuses.BadScript l j ≡ statuses.BadScript m k → ◌≡◌ {A = Result T ScriptError} (Err e) (Err (Bad m k))
+bad_same e l m j k e_is is =
+    let lines : l ≡ m = (cc) in
+    let kinds : j ≡ k = (cc) in
+    (cc)

@@ -1,0 +1,51 @@
+-- What was run, settled and written is the answer.
+use Rattle.std.proofs.Common.{◌∙◌, ℕ, Bool, List, Option, option_map, refl, sym, ap}
+use Rattle.std.specs.List.{flat_map}
+use Rattle.rec_model.specs.LegalOrder.{Line, actors}
+use Rattle.rec_core.specs.Core.{Core}
+use Rattle.rec_core.specs.declared.config.Config.{Config}
+use Rattle.rec_play.specs.Played.{last_moment, lines_of}
+use Rattle.rec_script.specs.Script.{Contents}
+use Rattle.rec_world.specs.Order.{Turns}
+use Rattle.rec_run.specs.Headline.{Answers, is_summary, printed, printed_order}
+use Rattle.rec_run.specs.declared.command_line.How.{How}
+use Rattle.rec_run.proofs.Endings.{if_ok, answers_script}
+use Rattle.rec_run.proofs.Outcomes.{in_order, many, room}
+use Rattle.rec_run.proofs.answer.answer_script.Goals as goal
+
+pub write_text-requires-clause-journals : goal.write_text-requires-clause-journals
+write_text-requires-clause-journals g c =
+    let o = c.in_ok-outcome.outcome in
+    let is = c.in_ok-outcome.ensures.outcome in
+    many c.args.script.now (lines_of o.journals.items) is.events o.world c.args.how is.has_run o.journals.items refl ∙ sym (ap (λ (k : Config). k.mutators) (c.settle.ensures.config ∙ is.config))
+
+pub write_text-requires-clause-order : goal.write_text-requires-clause-order
+write_text-requires-clause-order g c =
+    let o = c.in_ok-outcome.outcome in
+    let is = c.in_ok-outcome.ensures.outcome in
+    in_order c.args.script.now (lines_of o.journals.items) is.events o.world c.args.how is.has_run o.order is.order
+
+pub write_text-requires-clause-room : goal.write_text-requires-clause-room
+write_text-requires-clause-room g c =
+    let o = c.in_ok-outcome.outcome in
+    let is = c.in_ok-outcome.ensures.outcome in
+    room c.args.script.now (lines_of o.journals.items) is.events o.world c.args.how is.has_run
+
+pub returns : goal.returns
+returns g c =
+    let script : Contents = c.args.script.now in
+    let how : How = c.args.how in
+    let o = c.in_ok-outcome.outcome in
+    let is = c.in_ok-outcome.ensures.outcome in
+    let journals : List (List Line) = lines_of o.journals.items in
+    let world : Core = c.settle.new.world in
+    let (number, by) = is.stands in
+    if_ok c.write_text.result _ (λ text. Answers script how (flat_map (λ line. line) text))
+    (λ text (rows, listed, told). answers_script script how journals is.events o.world world rows (flat_map (λ line. line) text) is.has_run
+    c.in-Ok.ensures.settles c.in-Ok.ensures.settled (number, c.settle.ensures.stands (last_moment script is.events).heap number by)
+    (c.settle.ensures.kept.shaped.headers ∙ ap (λ (k : Config). k.slots) (c.settle.ensures.config ∙ is.config))
+    listed
+    (told ∙ ap (λ (s : Bool). printed s journals (option_map (λ (turns : Turns). turns.list) o.order) rows world.made world) c.wants_summary.ensures
+    ∙ ap (λ (order : Option (List ℕ)). printed (is_summary how) journals order rows world.made world) is.order
+    ∙ ap (λ (n : ℕ). printed (is_summary how) journals (printed_order how (actors is.events)) rows n world) (c.settle.ensures.made ∙ is.made)))
+    c.write_text.ensures

@@ -1,0 +1,52 @@
+-- What a heap that was set running leaves as it is stopped is told by one order.
+use Rattle.std.proofs.Common.{◌≡◌, ◌∙◌, ◌≤◌, ℕ, List, ◌++◌, length, option_map, refl, sym, ap, subst, arith}
+use Rattle.rec_core.specs.Core.{Core, opened}
+use Rattle.rec_world.specs.Journal.{Notes}
+use Rattle.rec_world.specs.Order.{Turns}
+use Rattle.rec_table.specs.Held.{Gathers, Held, Started, fresh, fresh_collector}
+use Rattle.rec_table.specs.declared.views.Beat.{Beat}
+use Rattle.rec_threads.specs.Done.{HasCollected, HaveDone}
+use Rattle.rec_table.proofs.Beats.{config_after}
+use Rattle.rec_order.specs.Naming.{first_naming, named_after_all}
+use Rattle.rec_play.specs.Played.{config_of}
+use Rattle.rec_script.specs.Script.{Contents}
+use Rattle.rec_run.proofs.Driven.{was_driven}
+use Rattle.rec_run.specs.Running.{IsSetRunning}
+use Rattle.rec_run.proofs.driving.drive_script.Goals as goal
+
+-- a new collector's list has the turns that it made
+few_turns : (s : Started) (g g' : Gathers) → g ≡ fresh_collector s → HasCollected 10000000 g g' → length g'.crew.log ≤ 10000000
+few_turns s g g' new did =
+    let list : g'.crew.log ≡ did.beats = ap (λ (x : Gathers). x.crew.log) did.grows ∙ ap (λ (x : Gathers). x.crew.log ++ did.beats) new in
+    subst (λ (l : List Beat). length l ≤ 10000000) (sym list) did.most
+
+pub returns-clause-outcome : goal.returns-clause-outcome
+returns-clause-outcome g c =
+    let so : IsSetRunning c.args.script.now c.in_ok-heap.heap c.in_ok-heap.crew = c.in_ok-heap.ensures.running in
+    let script : Contents = c.args.script.now in
+    let ms : List Held = c.in_ok-heap.crew.mutators.items in
+    let js : List Notes = c.in_ok-heap.crew.journals.items in
+    let one_each = so.whole.ready.one_each in
+    let (events, driven, made) = was_driven script c.in_ok-heap.heap ms c.in-Ok.crew.mutators.items js c.stop.result.journals.items c.in-Ok.crew.collector.crew.log c.stop.result.world
+    (record {
+      opens = so.opens;
+      some_slots = so.config.some_slots;
+      all = so.whole.all ∙ sym so.whole.script_all;
+      one_each = one_each;
+      fresh_all = so.fresh_mutators;
+      empty = λ k lt. (so.whole.ready.each k (fresh c.in_ok-heap.heap 1) (omega (arith, lt, one_each))).empty;
+      turns = few_turns c.in_ok-heap.heap c.in_ok-heap.crew.collector c.in-Ok.crew.collector so.fresh_collector c.in-Ok.ensures.collected;
+      done = subst (λ (ns : List Notes). HaveDone script.commands ms js c.in-Ok.crew.mutators.items ns) (sym c.stop.ensures.journals) c.in-Ok.ensures.done;
+      stopped = c.stop.ensures.stopped;
+    }) in
+    let run = c.stop.ensures.stopped.run in
+    let number : ℕ → ℕ = (named_after_all first_naming (opened (config_of script)) driven.interleaved.run).number in
+    record {
+      events = events;
+      has_run = driven;
+      stands = (number, driven.stands);
+      made = made;
+      order = ap (option_map (λ (turns : Turns). turns.list)) c.stop.ensures.order;
+      config = ap (λ (w : Core). w.config) (sym run.ends) ∙ config_after c.in_ok-heap.heap.world run.run ∙ ap (λ (w : Core). w.config) so.opens;
+      idle = c.stop.ensures.idle;
+    }

@@ -1,0 +1,30 @@
+-- The heap is started as the script's opening, with mutators and a collector that are new.
+use Rattle.std.proofs.Common.{◌≡◌, ◌∙◌, sym, ap, subst}
+use Rattle.rec_mutator.specs.Private.{is_busy}
+use Rattle.rec_core.specs.Core.{Core, opened}
+use Rattle.rec_core.specs.Config.{IsConfig}
+use Rattle.rec_core.specs.Worked.{AreIdle}
+use Rattle.rec_core.specs.declared.config.Config.{Config}
+use Rattle.rec_core.proofs.OpenedMutators.{mutator_opened}
+use Rattle.rec_play.specs.Played.{config_of}
+use Rattle.rec_run.proofs.driving.start.Goals as goal
+
+-- nobody works in a newly opened heap
+idle_opened : (config : Config) (w : Core) → w ≡ opened config → AreIdle w
+idle_opened config w is = subst AreIdle (sym is) (λ t there. ap is_busy (mutator_opened config t there))
+
+pub start-requires-clause-idle : goal.start-requires-clause-idle
+start-requires-clause-idle c = idle_opened (config_of c.args.script.now) c.in_ok-world.world c.in_ok-world.ensures.opened
+
+pub returns : goal.returns
+returns c =
+    record {
+      started = record {
+        config = subst (λ (w : Core). IsConfig w.config) c.in_ok-world.ensures.opened c.in_ok-world.ensures.config;
+        opens = c.in-Ok.ensures.started ∙ c.in_ok-world.ensures.opened;
+        all = c.in-Ok.ensures.mutators;
+        fresh_mutators = c.in-Ok.ensures.fresh;
+        own = c.in-Ok.ensures.collector.0;
+        fresh_collector = c.in-Ok.ensures.collector.1;
+      };
+    }

@@ -1,0 +1,31 @@
+-- Each clause is read off the end of the request, which stays an end when the sink has passed on what it held.
+use Rattle.std.proofs.Common.{subst}
+use Rattle.rec_run.specs.Ends.{Ends, passage}
+use Rattle.rec_run.proofs.Endings.{completes, finished, none_failed, refuses}
+use Rattle.rec_run.proofs.Requests.{asked_to_read}
+use Rattle.rec_run.proofs.running.run.Goals as goal
+
+pub returns-in-Ok-clause-front : goal.returns-in-Ok-clause-front
+returns-in-Ok-clause-front g c = λ is.
+    let ends = finished g.K.Sink.written g.K.Sink.faults c.in-Ok.request c.carry_out-status.result c.finish.result
+    (passage g.S.Source.rest g.S.Source.faults c.args.source.now c.carry_out-status.new.source) c.args.sink.now c.carry_out-status.new.sink c.finish.new.sink
+    c.carry_out-status.ensures.ends c.carry_out-status.ensures.never_falls c.finish.ensures.fault c.finish.ensures.written c.finish.ensures.other in
+    (c.in-Ok.request, c.in-Ok.ensures.asked, (subst (λ status. Ends c.in-Ok.request status (passage g.S.Source.rest g.S.Source.faults c.args.source.now c.carry_out-status.new.source) (passage g.K.Sink.written g.K.Sink.faults c.args.sink.now c.finish.new.sink)) is ends).1)
+
+pub returns-in-Ok-clause-complete : goal.returns-in-Ok-clause-complete
+returns-in-Ok-clause-complete g c = λ reads.
+    let ends = finished g.K.Sink.written g.K.Sink.faults c.in-Ok.request c.carry_out-status.result c.finish.result
+    (passage g.S.Source.rest g.S.Source.faults c.args.source.now c.carry_out-status.new.source) c.args.sink.now c.carry_out-status.new.sink c.finish.new.sink
+    c.carry_out-status.ensures.ends c.carry_out-status.ensures.never_falls c.finish.ensures.fault c.finish.ensures.written c.finish.ensures.other in
+    completes c.in-Ok.request c.finish.result (passage g.S.Source.rest g.S.Source.faults c.args.source.now c.carry_out-status.new.source) (passage g.K.Sink.written g.K.Sink.faults c.args.sink.now c.finish.new.sink) ends
+
+pub returns-in-Ok-clause-refuses : goal.returns-in-Ok-clause-refuses
+returns-in-Ok-clause-refuses g c = λ reads.
+    let ends = finished g.K.Sink.written g.K.Sink.faults c.in-Ok.request c.carry_out-status.result c.finish.result
+    (passage g.S.Source.rest g.S.Source.faults c.args.source.now c.carry_out-status.new.source) c.args.sink.now c.carry_out-status.new.sink c.finish.new.sink
+    c.carry_out-status.ensures.ends c.carry_out-status.ensures.never_falls c.finish.ensures.fault c.finish.ensures.written c.finish.ensures.other in
+    refuses c.in-Ok.request c.finish.result (passage g.S.Source.rest g.S.Source.faults c.args.source.now c.carry_out-status.new.source) (passage g.K.Sink.written g.K.Sink.faults c.args.sink.now c.finish.new.sink) ends (asked_to_read _ c.in-Ok.request c.in-Ok.ensures.asked reads)
+
+pub returns-in-Ok-clause-writes : goal.returns-in-Ok-clause-writes
+returns-in-Ok-clause-writes g c = none_failed g.K.Sink.faults c.carry_out-status.result c.finish.result c.args.sink.now c.carry_out-status.new.sink c.finish.new.sink
+    c.carry_out-status.ensures.writes c.finish.ensures.fault c.finish.ensures.faultless c.finish.ensures.other

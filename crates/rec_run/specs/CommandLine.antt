@@ -1,0 +1,114 @@
+-- Which words are a command line, and what they ask for.
+use Rattle.std.specs.Prelude.{◌≡◌, ⊤, ℕ, ◌≤◌, Bool, true, false, List, [], ◌∷◌, Option, None, Some, codes}
+use Rattle.std.specs.Str.{bytes_eq}
+use Rattle.std.specs.Str.Parse.{IsNumeral, without_leading_plus, digits_value}
+use Rattle.clap.specs.Words.{App, Row, Rule, Shape, Text, fault_of, first_of, new_rule, subcommand_of}
+use Rattle.clap.specs.Simple.{new_shape}
+use Rattle.clap.specs.declared.builder.action.ArgAction.TheVariants.{SetTrue}
+use Rattle.rec_run.specs.declared.command_line.How.{How}
+use Rattle.rec_run.specs.declared.command_line.How.TheVariants as hows
+use Rattle.rec_run.specs.declared.command_line.Make.{Make}
+use Rattle.rec_run.specs.declared.command_line.Play.{Play}
+use Rattle.rec_run.specs.declared.command_line.Request.{Request}
+use Rattle.rec_run.specs.declared.command_line.Request.TheVariants as requests
+
+-- an option with a value, named by this word behind two dashes
+abbrev pub option : Text → Rule
+option name = record (new_rule name) { long = Some name }
+
+-- a flag, which has no value
+abbrev pub flag : Text → Rule
+flag name = record (option name) { action = Some SetTrue }
+
+-- the subcommand `play` and its options
+abbrev pub play : Shape
+play = record (new_shape (codes "play")) { rules = option (codes "seed") ∷ option (codes "turns") ∷ flag (codes "summary") ∷ [] }
+
+-- the subcommand `threads`, which has no options
+abbrev pub threads : Shape
+threads = new_shape (codes "threads")
+
+-- the subcommand `make` and its options
+abbrev pub make : Shape
+make = record (new_shape (codes "make")) { rules = option (codes "seed") ∷ option (codes "mutators") ∷ option (codes "commands") ∷ [] }
+
+-- a command without subcommands
+abbrev pub app_with : Shape → App
+app_with shape = record { top = shape; subs = [] }
+
+-- the program's command: a subcommand is required, and there is neither help nor a version
+abbrev pub recycler : App
+recycler =
+    record {
+      top =
+          record (new_shape (codes "recycler")) {
+            is_leaf = false;
+            disable_help_flag = true;
+            disable_help_subcommand = true;
+            disable_version_flag = true;
+            subcommand_required = true;
+          };
+      subs = play ∷ threads ∷ make ∷ [];
+    }
+
+-- An option says a number up to this most: a plus or none, and then decimal digits. Where it isn't given it says its default.
+abbrev pub Says : Option Text → (default most n : ℕ) → Type 0
+Says None default most n = n ≡ default
+Says (Some text) default most n = IsNumeral 10 (without_leading_plus text) × (n ≡ digits_value 10 (without_leading_plus text)) × (n ≤ most)
+
+-- whether a flag is set: where it stands among the words its value is true, and where it doesn't stand there it is false
+abbrev pub is_set : Option Text → Bool
+is_set None = false
+is_set (Some text) = bytes_eq text (codes "true")
+
+-- what the options of `play` ask for: a seed of 64 bits, at most ten million turns, and a summary or the whole text
+pub record AsksPlay (options : List Row) (asked : Play) : Type 0 where
+  pub seeded : Says (first_of (codes "seed") options) 0 18446744073709551615 asked.seed
+  pub limited : Says (first_of (codes "turns") options) 1000000 10000000 asked.turns
+  pub summed : asked.summary ≡ is_set (first_of (codes "summary") options)
+
+-- what the options of `make` ask for: a seed of 64 bits, one to eight mutators, and at most 200,000 commands of each
+pub record AsksMake (options : List Row) (asked : Make) : Type 0 where
+  pub seeded : Says (first_of (codes "seed") options) 0 18446744073709551615 asked.seed
+  pub some : 1 ≤ asked.mutators
+  pub few : Says (first_of (codes "mutators") options) 2 8 asked.mutators
+  pub limited : Says (first_of (codes "commands") options) 1000 200000 asked.commands
+
+-- what a subcommand with its options asks for, if there is one
+abbrev pub AsksBy : Option (Text × List Row) → Request → Type 0
+AsksBy None request = ⊥
+AsksBy (Some (name, options)) (requests.Answer (hows.Play asked)) = (name ≡ codes "play") × AsksPlay options asked
+AsksBy (Some (name, options)) (requests.Answer hows.Threads) = name ≡ codes "threads"
+AsksBy (Some (name, options)) (requests.Make asked) = (name ≡ codes "make") × AsksMake options asked
+
+-- The command takes the words, the first of which is the program's name, and they ask for this.
+pub record Asks (words : List Text) (request : Request) : Type 0 where
+  pub taken : fault_of recycler words ≡ []
+  pub asked : AsksBy (subcommand_of recycler words) request
+
+-- the turns of a played run are in their range
+abbrev pub HasFewTurns : How → Type 0
+HasFewTurns (hows.Play asked) = asked.turns ≤ 10000000
+HasFewTurns hows.Threads = ⊤
+
+-- each number of a request is in its range
+abbrev pub IsInRange : Request → Type 0
+IsInRange (requests.Answer how) = HasFewTurns how
+IsInRange (requests.Make asked) = (1 ≤ asked.mutators) × (asked.mutators ≤ 8) × (asked.commands ≤ 200000)
+
+-- a request that a script is read for
+abbrev pub ReadsScript : Request → Type 0
+ReadsScript (requests.Answer how) = ⊤
+ReadsScript (requests.Make asked) = ⊥
+
+-- The command takes the words, and each number is in its range.
+abbrev pub IsCommandLine : List Text → Type 0
+IsCommandLine words = (request : Request) × Asks words request
+
+-- The words are a command line that asks for what a script is read for.
+abbrev pub AsksToRead : List Text → Type 0
+AsksToRead words = (request : Request) × Asks words request × ReadsScript request
+
+-- The words are a command line that asks for a made script.
+abbrev pub AsksToMake : List Text → Type 0
+AsksToMake words = (asked : Make) × Asks words (requests.Make asked)

@@ -1,0 +1,37 @@
+-- What each status says of the bytes that a request read and wrote.
+use Rattle.std.specs.Prelude.{⊤, ℕ, List, Option}
+use Rattle.rec_io.specs.Faults.{Rose}
+use Rattle.rec_run.specs.declared.command_line.Request.{Request}
+use Rattle.rec_run.specs.declared.status.Status.{Status}
+use Rattle.rec_run.specs.declared.status.Status.TheVariants.{Done, Usage, BadScript, ReadFault, WriteFault, NoMemory}
+use Rattle.rec_run.specs.CommandLine.{ReadsScript}
+use Rattle.rec_run.specs.Headline.{WroteAnswer, WroteFront, ReadNoScript}
+
+-- What became of a source or a sink: the bytes that it tells of, and how many of its calls failed, before and after.
+pub record Passage : Type 0 where
+  pub before : Option (List ℕ)
+  pub after : Option (List ℕ)
+  pub faults : ℕ
+  pub faults_after : ℕ
+
+-- what a run made of a source or a sink of some type
+abbrev pub passage : {X : Type 0} (told : X → Option (List ℕ)) (faults : X → ℕ) (old new : X) → Passage
+passage told faults old new = record { before = told old; after = told new; faults = faults old; faults_after = faults new }
+
+-- a source that nothing was read from, whatever it tells
+abbrev pub untouched : (told : Option (List ℕ)) (faults : ℕ) → Passage
+untouched told faults = record { before = told; after = told; faults = faults; faults_after = faults }
+
+-- a call of it failed
+abbrev pub Failed : Passage → Type 0
+Failed passage = Rose passage.faults passage.faults_after
+
+-- Done: the whole answer was written. A script that is bad was read, and it is none; a read or a write failed, and then a front
+-- of the answer was written. Whoever carries out a request never finds its words wrong.
+abbrev pub Ends : Request → Status → (source sink : Passage) → Type 0
+Ends request Done source sink = WroteAnswer request source.before source.after sink.before sink.after
+Ends request Usage source sink = ⊥
+Ends request (BadScript line kind) source sink = ReadsScript request × ReadNoScript source.before source.after line kind
+Ends request ReadFault source sink = ReadsScript request × Failed source
+Ends request WriteFault source sink = Failed sink × WroteFront request source.before source.after sink.before sink.after
+Ends request NoMemory source sink = ⊤

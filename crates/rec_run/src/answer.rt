@@ -1,0 +1,114 @@
+//! The answer to a script: its commands are carried out on a heap of its own, which is then settled and listed.
+ghost use Rattle.std.specs.Prelude.{◌≡◌, ◌≤◌, List, map, length, option_map, IfOk, IfSome};
+ghost use Rattle.std.specs.List.{flat_map};
+ghost use Rattle.rec_model.specs.LegalOrder.{NoLogFull};
+ghost use Rattle.rec_model.specs.Listing.{Row, ListsSlots};
+ghost use Rattle.rec_core.specs.Config.{IsConfig};
+ghost use Rattle.rec_core.specs.Settled.{IsSettled};
+ghost use Rattle.rec_report.specs.Report.{AreFor};
+ghost use Rattle.rec_report.specs.Text.{IsOrderOf};
+ghost use Rattle.rec_world.specs.World.{opened, sight};
+ghost use Rattle.rec_play.specs.Played.{config_of, lines_of};
+ghost use Rattle.rec_run.specs.CommandLine.{HasFewTurns};
+ghost use Rattle.rec_run.specs.Headline.{Answers, is_summary, printed};
+ghost use Rattle.rec_run.specs.Outcome.{IsOutcome};
+
+use crate::command_line::How;
+use crate::driving::drive_script;
+use crate::outcome::Outcome;
+use crate::playing::play_script;
+use rec_play::config_for;
+use rec_report::{Text, summary, text};
+use rec_script::Script;
+use rec_settle::settle;
+use rec_threads::Gate;
+use rec_world::{OpenError, World};
+use std::alloc::{AllocError as NoMemory, Global};
+use std::sync::Wait;
+use std::thread::Threads;
+
+/// The answer to a script that is run so: the whole text, or a summary.
+pub fn answer_script<R: Threads + Wait + Sync, G: Gate>(
+    rt: &R,
+    alloc: Global,
+    script: &Script,
+    how: How,
+    gate: &G,
+) -> Result<Text, NoMemory>
+    requires { HasFewTurns how }
+    ensures { IfOk result (λ text. Answers script.now how (flat_map (λ line. line) text)) }
+{
+    let mut outcome = carry_out(rt, alloc, script, how, gate)?;
+    // There are epochs enough left to settle.
+    let Ok(_) = settle(&mut outcome.world) else {
+        unreachable!();
+    };
+    write_text(alloc, script, wants_summary(how), &outcome)
+}
+
+// Carries out a script's commands on a heap of its own.
+fn carry_out<R: Threads + Wait + Sync, G: Gate>(
+    rt: &R,
+    alloc: Global,
+    script: &Script,
+    how: How,
+    gate: &G,
+) -> Result<Outcome, NoMemory>
+    requires { HasFewTurns how }
+    ensures outcome { IfOk result (IsOutcome script.now how) }
+    ensures epochs { IfOk result (λ outcome. outcome.world.epoch ≤ 10000001) }
+{
+    match how {
+        How::Play(play) => play_script(alloc, script, play),
+        How::Threads => drive_script(rt, alloc, script, gate),
+    }
+}
+
+// Whether a summary is written in place of the whole text.
+fn wants_summary(how: How) -> bool
+    ensures { result ≡ is_summary how }
+{
+    match how {
+        How::Play(play) => play.summary,
+        How::Threads => false,
+    }
+}
+
+// The whole text of a run whose heap is settled, or its summary. Both ways of running end here: one writer, with one caller, is put
+// into it by the compiler.
+fn write_text(
+    alloc: Global,
+    script: &Script,
+    is_summary: bool,
+    outcome: &Outcome,
+) -> Result<Text, NoMemory>
+    requires script { AreFor script.now outcome.now.world }
+    requires journals { length outcome.now.journals.items ≡ outcome.now.world.config.mutators }
+    requires order { IfSome outcome.now.order (λ order. IsOrderOf (lines_of outcome.now.journals.items) order.list) }
+    requires settled { IsSettled outcome.now.world }
+    requires room { NoLogFull (lines_of outcome.now.journals.items) }
+
+    ensures { IfOk result (λ text. (rows : List Row) × ListsSlots (sight outcome.now.world) rows
+        × (flat_map (λ line. line) text ≡ printed is_summary (lines_of outcome.now.journals.items) (option_map (λ order. order.list) outcome.now.order) rows outcome.now.world.made outcome.now.world)) }
+{
+    let journals = outcome.journals.as_slice();
+    let order = outcome.order.as_ref();
+    if is_summary {
+        summary(alloc, script, journals, order, &outcome.world)
+    } else {
+        text(alloc, script, journals, order, &outcome.world)
+    }
+}
+
+/// The heap of a script.
+pub fn open_world(alloc: Global, script: &Script) -> Result<World, NoMemory>
+    ensures opened { IfOk result (λ world. world ≡ opened (config_of script.now)) }
+    ensures config { IfOk result (λ world. IsConfig world.config) }
+{
+    match World::open(alloc, config_for(script)) {
+        Ok(world) => Ok(world),
+        Err(OpenError::NoMemory) => Err(NoMemory),
+        // A script's numbers are those of a heap.
+        Err(OpenError::Config { .. }) => unreachable!(),
+    }
+}

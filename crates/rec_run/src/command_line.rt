@@ -1,0 +1,215 @@
+//! The words that the program is called with.
+ghost use Rattle.std.specs.Prelude.{◌≡◌, ◌≢◌, ◌≤◌, ℕ, [], map, option_map, Err, IfOk, IfSome, IfNone};
+ghost use Rattle.clap.specs.Words.{app_of, fault_of, found_of, rows_of, subcommand_of, subcommand_rows_of};
+ghost use Rattle.rec_run.specs.CommandLine.{app_with, make as make_shape, play as play_shape, recycler, is_set, Says, AsksPlay, AsksMake, AsksBy, Asks, IsCommandLine};
+ghost use Rattle.rec_run.specs.declared.command_line.Make.{Make as Making};
+ghost use Rattle.rec_run.specs.declared.command_line.Play.{Play as Playing};
+ghost use Rattle.rec_run.specs.declared.command_line.Request.{Request as Asking};
+
+use clap::error::ErrorKind;
+use clap::{Arg, ArgAction, ArgMatches, Command};
+use std::alloc::{AllocError as NoMemory, Global};
+
+/// The seed where none is given.
+const SEED: u64 = 0;
+
+/// How many turns are drawn where no number is given, and at most.
+const TURNS: u64 = 1_000_000;
+
+const MOST_TURNS: u64 = 10_000_000;
+
+/// How many mutators a made script has where no number is given, and at most.
+const MUTATORS: u64 = 2;
+
+const MOST_MUTATORS: u64 = rec_script::MOST_MUTATORS as u64;
+
+/// How many commands each mutator of a made script has where no number is given, and at most.
+const COMMANDS: u64 = 1_000;
+
+const MOST_COMMANDS: u64 = rec_script::MOST_COMMANDS as u64;
+
+/// What a command line asks for.
+#[derive(Clone, Copy)]
+pub enum Request {
+    /// Answer the script that is read, which is run so.
+    Answer(How),
+    /// Write a script.
+    Make(Make),
+}
+
+/// How a script is run.
+#[derive(Clone, Copy)]
+pub enum How {
+    /// One thread carries everything out, in an order that is drawn.
+    Play(Play),
+    /// Each mutator and the collector have a thread of their own.
+    Threads,
+}
+
+/// How a script is played, and what is written of it.
+#[derive(Clone, Copy)]
+pub struct Play {
+    /// What the order of the commands is drawn from.
+    pub seed: u64,
+    /// How many draws there are at most, up to 10,000,000.
+    pub turns: u32,
+    /// Whether a summary is written in place of the whole text.
+    pub summary: bool,
+}
+
+/// Which script is made.
+#[derive(Clone, Copy)]
+pub struct Make {
+    /// What the commands are drawn from.
+    pub seed: u64,
+    /// How many mutators it has, from 1 to 8.
+    pub mutators: u8,
+    /// How many commands each of them has, up to 200,000.
+    pub commands: u32,
+}
+
+/// Why words ask for nothing.
+#[derive(Clone, Copy)]
+pub enum Refusal {
+    /// They are no command line.
+    Usage,
+    /// Memory ran out.
+    NoMemory,
+}
+
+/// What the words ask for. The first is the program's name.
+pub fn read_words(alloc: Global, words: &[&str]) -> Result<Request, Refusal>
+    ensures asked { IfOk result (λ request. Asks (map (λ word. word.now) words.now) request) }
+    ensures usage { result ≡ Err Refusal.Usage → ¬ IsCommandLine (map (λ word. word.now) words.now) }
+{
+    let matches = matches_of(alloc, words)?;
+    asked(&matches).ok_or(Refusal::Usage)
+}
+
+// What the program's command finds in the words.
+fn matches_of<'a>(alloc: Global, words: &'a [&'a str]) -> Result<ArgMatches<'a>, Refusal>
+    ensures taken { IfOk result (λ matches. fault_of recycler (map (λ word. word.now) words.entry.now) ≡ []) }
+    ensures found { IfOk result (λ matches. subcommand_rows_of matches ≡ subcommand_of recycler (map (λ word. word.now) words.entry.now)) }
+    ensures usage { result ≡ Err Refusal.Usage → fault_of recycler (map (λ word. word.now) words.entry.now) ≢ [] }
+{
+    let Ok(command) = command(alloc) else {
+        return Err(Refusal::NoMemory);
+    };
+    match command.try_get_matches_from(words) {
+        Ok(matches) => Ok(matches),
+        Err(error) if error.kind() == ErrorKind::OutOfMemory => Err(Refusal::NoMemory),
+        Err(_) => Err(Refusal::Usage),
+    }
+}
+
+// The program's command.
+fn command<'a>(alloc: Global) -> Result<Command<'a>, NoMemory>
+    ensures { IfOk result (λ command. app_of command ≡ recycler) }
+{
+    let play = play_command(alloc)?;
+    let make = make_command(alloc)?;
+    Command::new(alloc, "recycler")
+        .disable_help_flag(true)
+        .disable_help_subcommand(true)
+        .disable_version_flag(true)
+        .subcommand_required(true)
+        .subcommand(play)?
+        .subcommand(Command::new(alloc, "threads"))?
+        .subcommand(make)
+}
+
+// The subcommand that plays a script.
+fn play_command<'a>(alloc: Global) -> Result<Command<'a>, NoMemory>
+    ensures { IfOk result (λ command. app_of command ≡ app_with play_shape) }
+{
+    let seed = Arg::new(alloc, "seed").long("seed");
+    let turns = Arg::new(alloc, "turns").long("turns");
+    let summary = Arg::new(alloc, "summary")
+        .long("summary")
+        .action(ArgAction::SetTrue);
+    Command::new(alloc, "play")
+        .arg(seed)?
+        .arg(turns)?
+        .arg(summary)
+}
+
+// The subcommand that makes a script.
+fn make_command<'a>(alloc: Global) -> Result<Command<'a>, NoMemory>
+    ensures { IfOk result (λ command. app_of command ≡ app_with make_shape) }
+{
+    let seed = Arg::new(alloc, "seed").long("seed");
+    let mutators = Arg::new(alloc, "mutators").long("mutators");
+    let commands = Arg::new(alloc, "commands").long("commands");
+    Command::new(alloc, "make")
+        .arg(seed)?
+        .arg(mutators)?
+        .arg(commands)
+}
+
+// What the subcommand that was found asks for.
+fn asked(matches: &ArgMatches) -> Option<Request>
+    ensures some { IfSome result (AsksBy (subcommand_rows_of matches.now)) }
+    ensures none { IfNone result ((request : Asking) → ¬ AsksBy (subcommand_rows_of matches.now) request) }
+{
+    match matches.subcommand() {
+        Some(("play", options)) => play_options(options).map(How::Play).map(Request::Answer),
+        Some(("threads", _)) => Some(Request::Answer(How::Threads)),
+        Some(("make", options)) => make_options(options).map(Request::Make),
+        _ => None,
+    }
+}
+
+// What the options of `play` ask for, where their numbers are in range.
+fn play_options(options: &ArgMatches) -> Option<Play>
+    ensures some { IfSome result (AsksPlay (rows_of (found_of options.now))) }
+    ensures none { IfNone result ((play : Playing) → ¬ AsksPlay (rows_of (found_of options.now)) play) }
+{
+    let seed = number(options.get_str("seed"), SEED, u64::MAX)?;
+    let turns = number(options.get_str("turns"), TURNS, MOST_TURNS)?;
+    let summary = is_flag_set(options.get_str("summary"));
+    Some(Play {
+        seed,
+        turns: turns as u32,
+        summary,
+    })
+}
+
+// What the options of `make` ask for, where their numbers are in range.
+fn make_options(options: &ArgMatches) -> Option<Make>
+    ensures some { IfSome result (AsksMake (rows_of (found_of options.now))) }
+    ensures none { IfNone result ((made : Making) → ¬ AsksMake (rows_of (found_of options.now)) made) }
+{
+    let seed = number(options.get_str("seed"), SEED, u64::MAX)?;
+    let mutators = number(options.get_str("mutators"), MUTATORS, MOST_MUTATORS)?;
+    let commands = number(options.get_str("commands"), COMMANDS, MOST_COMMANDS)?;
+    if mutators == 0 {
+        return None;
+    }
+    Some(Make {
+        seed,
+        mutators: mutators as u8,
+        commands: commands as u32,
+    })
+}
+
+// Whether a flag is set, by the value that was found for it.
+fn is_flag_set(text: Option<&str>) -> bool
+    ensures { result ≡ is_set (option_map (λ text. text.now) text.entry) }
+{
+    text == Some("true")
+}
+
+// The number that an option says, or its default where it isn't given.
+fn number(text: Option<&str>, default: u64, most: u64) -> Option<u64>
+    requires { default ≤ most }
+
+    ensures some { IfSome result (λ n. Says (option_map (λ text. text.now) text.entry) default most n) }
+    ensures most { IfSome result (λ n. n ≤ most) }
+    ensures none { IfNone result ((n : ℕ) → ¬ Says (option_map (λ text. text.now) text.entry) default most n) }
+{
+    let Some(text) = text else {
+        return Some(default);
+    };
+    let number = text.parse::<u64>().ok()?;
+    (number <= most).then_some(number)
+}

@@ -1,0 +1,183 @@
+//! The top call: from words, and the bytes of a script, to the bytes of an answer.
+ghost use Rattle.std.specs.Prelude.{◌≡◌, ◌≢◌, ◌⊎◌, ℕ, ◌≤◌, false, List, Option, Some, map, IfOk};
+ghost use Rattle.std.specs.List.{flat_map};
+ghost use Rattle.rec_io.specs.Faults.{Rose};
+ghost use Rattle.rec_io.specs.Source.{Passes};
+ghost use Rattle.rec_io.specs.Told.{KeepsTold};
+ghost use Rattle.rec_script.specs.Script.{IsText, IsRefused};
+ghost use Rattle.rec_script.specs.declared.error.Kind.{Kind};
+ghost use Rattle.rec_run.specs.CommandLine.{Asks, AsksToMake, AsksToRead, HasFewTurns, IsCommandLine, IsInRange, ReadsScript};
+ghost use Rattle.rec_run.specs.Ends.{Ends, passage, untouched};
+ghost use Rattle.rec_run.specs.Headline.{AnswersTo, WroteAnswer, WroteFront, ReadNoScript};
+ghost use Rattle.rec_run.specs.Status.{may_write};
+ghost use Rattle.rec_run.specs.declared.command_line.Request.{Request as Asked};
+
+use crate::answer::answer_script;
+use crate::command_line::{How, Make, Refusal, Request, read_words};
+use crate::finish::finish;
+use crate::reading::{ReadStop, read_all};
+use crate::status::Status;
+use crate::writing::{write_lines, write_text};
+use rec_io::{Flush, Sink, Source};
+use rec_report::Text;
+use rec_script::{ScriptError, read};
+use rec_threads::Gate;
+use std::alloc::Global;
+use std::sync::Wait;
+use std::thread::Threads;
+
+/// Does what a command line asks, and tells how it ended. Everything is computed before the first byte is written.
+pub fn run<R: Threads + Wait + Sync, S: Source, K: Flush, G: Gate>(
+    rt: &R,
+    alloc: Global,
+    words: &[&str],
+    source: &mut S,
+    sink: &mut K,
+    gate: &G,
+) -> Status
+    // The headline: the script was read to its end, and its whole answer to what the words ask was written.
+    ensures done { result ≡ Status.Done → (request : Asked) × Asks (map (λ word. word.now) words.now) request
+        × WroteAnswer request (S.rest source.old) (S.rest source.new) (K.written sink.old) (K.written sink.new) }
+
+    // Nothing of it stayed behind: the sink passed on all that was written.
+    ensures passed { result ≡ Status.Done → KeepsTold (K.written sink.new) (K.passed_on sink.new) }
+
+    // When each other status comes. Words that are no command line give Usage, or memory ran out. A made script is read from
+    // no source, so it is never bad and no read of it fails.
+    ensures usage { result ≡ Status.Usage → ¬ IsCommandLine (map (λ word. word.now) words.now) }
+    ensures words { ¬ IsCommandLine (map (λ word. word.now) words.now) → (result ≡ Status.Usage) ⊎ (result ≡ Status.NoMemory) }
+    ensures bad_script { (line : ℕ) (kind : Kind) → result ≡ Status.BadScript line kind → AsksToRead (map (λ word. word.now) words.now)
+        × ReadNoScript (S.rest source.old) (S.rest source.new) line kind }
+    ensures read_fault { result ≡ Status.ReadFault → AsksToRead (map (λ word. word.now) words.now) × Rose (S.faults source.old) (S.faults source.new) }
+    ensures write_fault { result ≡ Status.WriteFault → Rose (K.faults sink.old) (K.faults sink.new) }
+
+    // A fault ends the run: with every other status no read or no write failed.
+    ensures reads { result ≢ Status.ReadFault → S.faults source.new ≡ S.faults source.old }
+    ensures writes { result ≢ Status.WriteFault → K.faults sink.new ≡ K.faults sink.old }
+
+    // What is left of the source stood there behind the bytes that were read, whatever the status.
+    ensures left { (bytes : List ℕ) × Passes (S.rest source.old) (S.rest source.new) bytes }
+
+    // What each leaves: a front of the answer, or nothing written, or nothing read either.
+    ensures front { result ≡ Status.WriteFault → (request : Asked) × Asks (map (λ word. word.now) words.now) request
+        × WroteFront request (S.rest source.old) (S.rest source.new) (K.written sink.old) (K.written sink.new) }
+    ensures unwritten { may_write result ≡ false → sink.new ≡ sink.old }
+    ensures unread { result ≡ Status.Usage → source.new ≡ source.old }
+    ensures made_unread { AsksToMake (map (λ word. word.now) words.now) → source.new ≡ source.old }
+
+    // A script that is told is answered, unless a count rises or memory runs out.
+    ensures complete { AsksToRead (map (λ word. word.now) words.now) → (bytes : List ℕ) → S.rest source.old ≡ Some bytes → IsText bytes
+        → ¬ Rose (S.faults source.old) (S.faults source.new) → ¬ Rose (K.faults sink.old) (K.faults sink.new)
+        → (result ≡ Status.Done) ⊎ (result ≡ Status.NoMemory) }
+
+    // A text that is told and is no script's is refused with its line and kind, unless a read fails or memory runs out.
+    ensures refuses { AsksToRead (map (λ word. word.now) words.now) → (bytes : List ℕ) (line : ℕ) (kind : Kind) → S.rest source.old ≡ Some bytes
+        → IsRefused bytes line kind → ¬ Rose (S.faults source.old) (S.faults source.new)
+        → (result ≡ Status.BadScript line kind) ⊎ (result ≡ Status.NoMemory) }
+
+    // A made script is written, unless a write fails or memory runs out.
+    ensures made { AsksToMake (map (λ word. word.now) words.now) → ¬ Rose (K.faults sink.old) (K.faults sink.new)
+        → (result ≡ Status.Done) ⊎ (result ≡ Status.NoMemory) }
+{
+    match read_words(alloc, words) {
+        Ok(request) => {
+            let status = carry_out(rt, alloc, request, source, sink, gate);
+            finish(status, sink)
+        }
+        Err(Refusal::Usage) => Status::Usage,
+        Err(Refusal::NoMemory) => Status::NoMemory,
+    }
+}
+
+// Does what a request asks.
+fn carry_out<R: Threads + Wait + Sync, S: Source, K: Sink, G: Gate>(
+    rt: &R,
+    alloc: Global,
+    request: Request,
+    source: &mut S,
+    sink: &mut K,
+    gate: &G,
+) -> Status
+    requires { IsInRange request }
+    ensures ends { Ends request result (passage S.rest S.faults source.old source.new) (passage K.written K.faults sink.old sink.new) }
+    ensures unwritten { may_write result ≡ false → sink.new ≡ sink.old }
+    ensures unread { ¬ ReadsScript request → source.new ≡ source.old }
+    ensures reads { result ≢ Status.ReadFault → S.faults source.new ≡ S.faults source.old }
+    ensures writes { result ≢ Status.WriteFault → K.faults sink.new ≡ K.faults sink.old }
+    ensures left { (bytes : List ℕ) × Passes (S.rest source.old) (S.rest source.new) bytes }
+    ensures never_falls { K.faults sink.old ≤ K.faults sink.new }
+{
+    match request {
+        Request::Answer(how) => answer_source(rt, alloc, how, source, sink, gate),
+        Request::Make(make) => write_made(alloc, make, sink),
+    }
+}
+
+// Reads a script to its end, runs it, and writes its answer.
+fn answer_source<R: Threads + Wait + Sync, S: Source, K: Sink, G: Gate>(
+    rt: &R,
+    alloc: Global,
+    how: How,
+    source: &mut S,
+    sink: &mut K,
+    gate: &G,
+) -> Status
+    requires { HasFewTurns how }
+    ensures ends { Ends (Request.Answer how) result (passage S.rest S.faults source.old source.new) (passage K.written K.faults sink.old sink.new) }
+    ensures unwritten { may_write result ≡ false → sink.new ≡ sink.old }
+    ensures reads { result ≢ Status.ReadFault → S.faults source.new ≡ S.faults source.old }
+    ensures writes { result ≢ Status.WriteFault → K.faults sink.new ≡ K.faults sink.old }
+    ensures left { (bytes : List ℕ) × Passes (S.rest source.old) (S.rest source.new) bytes }
+    ensures never_falls { K.faults sink.old ≤ K.faults sink.new }
+{
+    let bytes = match read_all(alloc, source) {
+        Ok(bytes) => bytes,
+        Err(ReadStop::Fault) => return Status::ReadFault,
+        Err(ReadStop::NoMemory) => return Status::NoMemory,
+    };
+    let text = match answer(rt, alloc, how, bytes, gate) {
+        Ok(text) => text,
+        Err(ScriptError::Bad { line, kind }) => return Status::BadScript { line, kind },
+        Err(ScriptError::NoMemory) => return Status::NoMemory,
+    };
+    match write_lines(sink, &text) {
+        Ok(()) => Status::Done,
+        Err(_) => Status::WriteFault,
+    }
+}
+
+// The answer of the script in the bytes.
+fn answer<R: Threads + Wait + Sync, G: Gate>(
+    rt: &R,
+    alloc: Global,
+    how: How,
+    bytes: Vec<u8>,
+    gate: &G,
+) -> Result<Text, ScriptError>
+    requires { HasFewTurns how }
+    ensures answer { IfOk result (λ text. AnswersTo bytes.items how (flat_map (λ line. line) text)) }
+    ensures refused { (line : ℕ) (kind : Kind) → result ≡ Err (ScriptError.Bad line kind) → IsRefused bytes.items line kind }
+{
+    let script = read(alloc, &bytes)?;
+    // The bytes are needed no more: their room is given back before the journals take theirs.
+    drop(bytes);
+    answer_script(rt, alloc, &script, how, gate).map_err(|_| ScriptError::NoMemory)
+}
+
+// Writes a made script. Whatever source there is, nothing is read from it.
+fn write_made<K: Sink>(alloc: Global, make: Make, sink: &mut K) -> Status
+    requires mutators { (1 ≤ make.mutators) × (make.mutators ≤ 8) }
+    requires commands { make.commands ≤ 200000 }
+    ensures ends { (rest : Option (List ℕ)) (faults : ℕ) → Ends (Request.Make make) result (untouched rest faults) (passage K.written K.faults sink.old sink.new) }
+    ensures unwritten { may_write result ≡ false → sink.new ≡ sink.old }
+    ensures writes { result ≢ Status.WriteFault → K.faults sink.new ≡ K.faults sink.old }
+    ensures never_falls { K.faults sink.old ≤ K.faults sink.new }
+{
+    let Ok(text) = rec_script::make(alloc, make.seed, make.mutators, make.commands) else {
+        return Status::NoMemory;
+    };
+    match write_text(sink, &text) {
+        Ok(()) => Status::Done,
+        Err(_) => Status::WriteFault,
+    }
+}

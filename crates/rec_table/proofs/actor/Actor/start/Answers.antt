@@ -1,0 +1,25 @@
+-- The cursor is a slot of the heap, or slot 0 is taken in its place.
+use Rattle.std.proofs.Common.{◌≡◌, ℕ, arith, sym, ap, subst, ◌∙◌}
+use Rattle.rec_mutator.specs.Private.{Private}
+use Rattle.rec_core.specs.Config.{IsMutator}
+use Rattle.rec_core.specs.Core.{Core, mutator}
+use Rattle.rec_core.proofs.Steps.{actor_of}
+use Rattle.rec_world.proofs.Calls.{world_kept}
+use Rattle.rec_table.specs.Held.{Held, has}
+use Rattle.rec_table.specs.Rule.{seated_of}
+use Rattle.rec_table.specs.declared.views.Seated.{Seated}
+use Rattle.rec_table.proofs.Acting.{opened_is}
+use Rattle.rec_table.proofs.actor.Actor.start.Goals as goal
+
+pub returns-then-from-board-clause-from : goal.returns-then-from-board-clause-from
+returns-then-from-board-clause-from c =
+    let key : Core = c.args.board.now.table.shared.key.value in
+    let t : Seated = seated_of c.self.inside.seat.me.0 in
+    let opened : c.self.inside.opened.value ≡ mutator key t.number = opened_is c.args.board.now.table.shared.table_id c.self.inside.seat.table_id key c.self.inside.opened.value t c.args.self.now c.self.view_is c.requires.own in
+    let is : IsMutator key.config t.number = subst (λ (n : ℕ). IsMutator key.config n) (sym (ap (λ (x : Held). x.number) c.self.view_is)) c.requires.own.1 in
+    let kept = world_kept key c.requires.world in
+    let own = (actor_of key t.number kept is).own in
+    let was : c.self.inside.machine ≡ has c.args.self.now = c.self.invariant.1 ∙ ap has c.self.view_is in
+    let many : (has c.args.self.now).slots ≡ c.args.board.now.slots
+    = sym (ap (λ (p : Private). p.slots) was) ∙ c.self.invariant.3.slots ∙ ap (λ (p : Private). p.slots) opened ∙ own.slots ∙ sym kept.headers ∙ sym c.args.board.now.wide.1 in
+    omega (arith, many, c.from.ensures, c.if-from-board.true)

@@ -1,0 +1,5 @@
+use Rattle.rec_table.specs.Held.{IsCollectorOf}
+use Rattle.rec_tests.proofs.crew.collect.Given as goal
+
+abbrev pub invariant-loop : goal.invariant-loop
+invariant-loop l = IsCollectorOf l.heap l.collector

@@ -1,0 +1,9 @@
+use Rattle.std.proofs.Common.{◌≡◌}
+use Rattle.rec_table.specs.Held.{IsMutatorOf}
+use Rattle.rec_tests.proofs.crew.mutate.Given as goal
+
+abbrev pub invariant-loop : goal.invariant-loop
+invariant-loop l = record {
+  own : IsMutatorOf l.heap l.mutator;
+  is : l.mutator ≡ record l.fn.mutator { log = l.mutator.log };
+}

@@ -1,0 +1,51 @@
+//! What no clause says, and no row of data shows of a built program.
+//!
+//! Races on a running heap, its mutators and its collector on threads of their own, a thousand times over:
+//! - `births`: two mutators make an object each at once, and take two slots.
+//! - `mixed`: two and four mutators carry out commands of all kinds over shared fields, each its own, beside the collector.
+//! - `rings`: two mutators make rings and drop them, while the collector frees them and their slots are claimed again.
+//!
+//! No clause says which answers come on threads, or that a thread gets on. So the races look at what is left afterwards: the world
+//! that `stop` gives settles, to just the slots that registers reach, with counts that a test sums anew. Every loop ends by a count,
+//! and every thread is joined.
+//!
+//! The program's run, from bytes to bytes:
+//! - `failures`: sources and sinks fail at every place, and the run says so.
+//! - `workers`: mutators' workers are held until others have come on, and so is one until the collector has.
+//!
+//! On one thread:
+//! - `cycles`: played scripts leave garbage cycles, and some collections later each is gone.
+//! - `adapters`: a reader and a writer of std that fail are passed on.
+//! - `words`, `refused_set`: worked values from outside.
+//!
+//! This crate holds tests alone, and nothing stands on it.
+#![tactic(auto)]
+
+#[cfg(test)]
+mod adapters;
+#[cfg(test)]
+mod births;
+#[cfg(test)]
+mod crew;
+#[cfg(test)]
+mod cycles;
+#[cfg(test)]
+mod failures;
+#[cfg(test)]
+mod mixed;
+#[cfg(test)]
+mod program;
+#[cfg(test)]
+mod race;
+#[cfg(test)]
+mod refused_set;
+#[cfg(test)]
+mod rings;
+#[cfg(test)]
+mod settled;
+#[cfg(test)]
+mod signals;
+#[cfg(test)]
+mod words;
+#[cfg(test)]
+mod workers;
