@@ -15,7 +15,6 @@ pub mod CyclesWait
 pub mod Cycling
 pub mod Freed
 pub mod Freeing
-pub mod Headers
 pub mod Landed
 pub mod Landings
 pub mod Lasting

@@ -51,7 +51,7 @@ module _ (cells : Cells) where
   row_read (ops.LoadChild place) is = get_or_append_left cells.words _ 0 place is
   row_read (ops.ClearField place) is = get_or_append_left cells.words _ 0 place is
   row_read (ops.LoadHeader slot) is = read_header slot is
-  row_read (ops.ClaimHeader slot header) is = read_header slot is
+  row_read (ops.ClaimHeader slot header) is = read_header slot is.0
   row_read (ops.FreeHeader slot) is = read_header slot is
   row_read ops.LoadEpoch is = read_tail 0 (length cells.words + length cells.headers) (omega arith)
   row_read (ops.StoreEpoch e) is = read_tail 0 (length cells.words + length cells.headers) (omega arith)
@@ -85,7 +85,7 @@ module _ (cells : Cells) where
   row_write (ops.LoadChild place) x is = set-append_left cells.words _ place x is
   row_write (ops.ClearField place) x is = set-append_left cells.words _ place x is
   row_write (ops.LoadHeader slot) x is = write_header slot x is
-  row_write (ops.ClaimHeader slot header) x is = write_header slot x is
+  row_write (ops.ClaimHeader slot header) x is = write_header slot x is.0
   row_write (ops.FreeHeader slot) x is = write_header slot x is
   row_write ops.LoadEpoch x is = write_tail 0 (length cells.words + length cells.headers) x (omega arith)
   row_write (ops.StoreEpoch e) x is = write_tail 0 (length cells.words + length cells.headers) x (omega arith)
@@ -108,6 +108,7 @@ module _ (cells : Cells) where
   row_within (ops.GiveBox t e) is = omega (arith, is.0, is.1)
   row_within (ops.LookBox t e) is = omega (arith, is.0, is.1)
   row_within (ops.ReturnBox t e) is = omega (arith, is.0, is.1)
+  row_within (ops.ClaimHeader slot header) is = omega (arith, is.0)
   row_within _ is = omega (arith, is)
 
 -- what a row holds that was laid out

@@ -43,7 +43,7 @@ use Rattle.rec_core.proofs.Shapes.{after_cross, after_field, after_header, after
 use Rattle.rec_word.proofs.Packing.{target_of-packed}
 use Rattle.rec_core.proofs.Steps.{Makes, actor_of, in_list, register_taken, target_taken, taken_slot, held_stays, emptied_stays, changed_kept, moved_accounts, answers, answered_actor, unchanged, sets, goes_on, about_to_cross, registers_stay, registers_set, Answers}
 use Rattle.rec_word.specs.Header.{header_word, is_leaf}
-use Rattle.rec_core.proofs.Headers.{header_is, header_taken}
+use Rattle.rec_word.proofs.Headers.{header_is, header_taken}
 
 -- the epoch of a word is that of its stamp
 pub epoch_of_stamp : (x : ℕ) (s : Stamp) → stamp_of x ≡ s → epoch_of x ≡ s.epoch

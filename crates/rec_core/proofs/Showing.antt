@@ -45,7 +45,7 @@ use Rattle.rec_core.proofs.Rules.{word_found, probe_found, scanned, leads_to, la
 use Rattle.rec_core.proofs.Shapes.{after_cross, after_field, after_header, after_epoch, after_freed, after_probe, after_swap, after_claim, after_take, after_give}
 use Rattle.rec_core.proofs.Steps.{actor_of, in_list, own_register, registers_stay, registers_set}
 use Rattle.rec_word.specs.Header.{header_word, is_leaf, label_of}
-use Rattle.rec_core.proofs.Headers.{header_is}
+use Rattle.rec_word.proofs.Headers.{header_is}
 
 -- What is said of a step after which mutator `t` is `q`: it decides a command, and a refusal changes nothing but the work; or the
 -- work goes on; or the mutator holds its mailbox now; or a poll finishes, in the same epoch or in the next one.

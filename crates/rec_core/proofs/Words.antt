@@ -92,7 +92,7 @@ pub own_within : (w : Core) (t : ℕ) (op : Op) → IsKept w → IsMutator w.con
 own_within w t (ops.LoadField place) kept is own names = let o = (actor_of w t kept is).own in subst (λ n. place < n) (fields_many w (mutator w t).slots (mutator w t).fields kept o.slots o.fields) names
 own_within w t (ops.SwapField place word) kept is own names = let o = (actor_of w t kept is).own in subst (λ n. place < n) (fields_many w (mutator w t).slots (mutator w t).fields kept o.slots o.fields) names
 own_within w t (ops.LoadHeader slot) kept is own names = subst (λ n. slot < n) ((actor_of w t kept is).own.slots ∙ sym kept.headers) names
-own_within w t (ops.ClaimHeader slot header) kept is own names = subst (λ n. slot < n) ((actor_of w t kept is).own.slots ∙ sym kept.headers) names
+own_within w t (ops.ClaimHeader slot header) kept is own names = (subst (λ n. slot < n) ((actor_of w t kept is).own.slots ∙ sym kept.headers) names.0, names.1)
 own_within w t (ops.LoadCross n) kept is own names = crossing_within w t n kept is (own ∙ (actor_of w t kept is).own.number)
 own_within w t (ops.TakeBox n e) kept is own names = crossing_within w t n kept is (own ∙ (actor_of w t kept is).own.number)
 own_within w t (ops.GiveBox n e) kept is own names = crossing_within w t n kept is (own ∙ (actor_of w t kept is).own.number)

@@ -38,8 +38,9 @@ with_word cells Epoch x = record cells { epoch = x }
 with_word cells Freed x = record cells { freed = x }
 with_word cells (Crossing t) x = record cells { crossing = slice_set cells.crossing (t - 1) x }
 
--- the word that the operation names is there
+-- the word that the operation names is there, and what a claim puts there is no free slot's header
 abbrev pub IsWithin : Cells → Op → Type 0
+IsWithin cells (ClaimHeader slot header) = (slot < length cells.headers) × (0 < header)
 IsWithin cells op = IsThere cells (cell_of op)
 
 -- the word that the operation names

@@ -52,7 +52,7 @@ names_at : (p : Private) (phase : Phase) → IsMachine p → IsAt p phase → Na
 unfolding next_at
 names_at p Idle kept at there = tt
 names_at p (Begun work) kept at there = begun_names p work at.0 there
-names_at p (Scanning reg label leaf before probed) kept at there = behind_below p.slots p.from probed kept.first_slot
+names_at p (Scanning reg label leaf before probed) kept at there = (behind_below p.slots p.from probed kept.first_slot, omega arith)
 names_at p (Scanned reg label leaf before) kept at there = tt
 names_at p (Finished work made) kept at there = tt
 names_at p (Storing src f val slot) kept at there = place_within p.slots p.fields slot f (there src slot at.0.source) at.0.operands.1

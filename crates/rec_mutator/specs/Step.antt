@@ -117,7 +117,7 @@ abbrev pub NamesWord : (slots fields : ℕ) → Op → Type 0
 NamesWord slots fields (ops.LoadField place) = place < slots * fields
 NamesWord slots fields (ops.SwapField place word) = place < slots * fields
 NamesWord slots fields (ops.LoadHeader slot) = slot < slots
-NamesWord slots fields (ops.ClaimHeader slot header) = slot < slots
+NamesWord slots fields (ops.ClaimHeader slot header) = (slot < slots) × (0 < header)
 NamesWord slots fields (ops.TakeBox t e) = e < 2 ^ 24
 NamesWord slots fields (ops.GiveBox t e) = e < 2 ^ 24
 NamesWord slots fields _ = Unit {0}

@@ -15,7 +15,7 @@ use crate::{Made, Work};
 use rec_frame::Frame;
 use rec_log::{Buffer, Entry};
 use rec_model::{Answer, Cmd, Told};
-use rec_word::{Op, Stamp, header, is_leaf, label, pack, place, target};
+use rec_word::{Header, Op, Stamp, pack, place, target};
 use std::alloc::{AllocError as NoMemory, Global};
 use std::marker::Model;
 use std::mem;
@@ -122,7 +122,7 @@ impl Machine {
                 leaf,
                 probed,
                 ..
-            } => Op::ClaimHeader(self.probe(probed), header(leaf, label)),
+            } => Op::ClaimHeader(self.probe(probed), Header { label, leaf }.pack()),
             Phase::Scanned { .. } => Op::LoadFreed,
             Phase::Storing {
                 field,
@@ -535,6 +535,7 @@ impl Machine {
     fn took_put(&mut self, src: u8, field: u8, val: u8, word: u64)
         requires valid { HasOperands self.old (Cmd.Put src field val) }
         requires first { self.old.steps ≡ 0 }
+        requires found { IsFound self.old (first_op self.old (Cmd.Put src field val)) word }
 
         ensures took { self.new ≡ first_by self.old word (Cmd.Put src field val) }
         ensures kept { IsMachine self.new }
@@ -550,7 +551,7 @@ impl Machine {
             self.steps += 1;
             return;
         }
-        if is_leaf(word) {
+        if Header::unpack(word).leaf {
             self.phase = answered(cmd, only(Answer::NoField));
         } else {
             self.phase = Phase::Storing {
@@ -599,7 +600,7 @@ impl Machine {
         ensures kept { IsMachine self.new }
     {
         let answer = match self.frame.read(reg) {
-            Some(_) => Answer::Value(label(word)),
+            Some(_) => Answer::Value(Header::unpack(word).label),
             None => Answer::NoObject,
         };
         self.phase = answered(Cmd::Value { reg }, only(answer));

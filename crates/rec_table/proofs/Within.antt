@@ -27,7 +27,7 @@ within : (key : Core) (t : ℕ) (p : Private) (op : Op) → IsMutator key.config
 within key t p (ops.LoadField place) is z own names = subst (λ n. place < n) z.places names
 within key t p (ops.SwapField place word) is z own names = subst (λ n. place < n) z.places names
 within key t p (ops.LoadHeader slot) is z own names = subst (λ n. slot < n) z.slots names
-within key t p (ops.ClaimHeader slot label) is z own names = subst (λ n. slot < n) z.slots names
+within key t p (ops.ClaimHeader slot header) is z own names = (subst (λ n. slot < n) z.slots names.0, names.1)
 within key t p (ops.LoadCross n) is z own names = (omega (arith, own, z.number, is.0), omega (arith, own, z.number, z.crossing))
 within key t p (ops.TakeBox n e) is z own names = (omega (arith, own, z.number, is.0), omega (arith, own, z.number, z.crossing))
 within key t p (ops.GiveBox n e) is z own names = (omega (arith, own, z.number, is.0), omega (arith, own, z.number, z.crossing))

@@ -1,5 +1,5 @@
 -- What an operation names, what it does there, and what it leaves.
-use Rattle.std.specs.Prelude.{ℕ, ◌+◌, Option, None, Some}
+use Rattle.std.specs.Prelude.{ℕ, Option, None, Some}
 use Rattle.rec_word.specs.Atom.{leaves}
 use Rattle.rec_word.specs.Mailbox.{crossing_word}
 use Rattle.rec_word.specs.declared.atom.Atom.{Atom}

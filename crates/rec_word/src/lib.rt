@@ -10,7 +10,7 @@
 
 mod atom;
 mod cell;
-mod headers;
+mod header;
 mod mailbox;
 mod op;
 mod places;
@@ -19,7 +19,7 @@ mod word;
 
 pub use atom::Atom;
 pub use cell::Cell;
-pub use headers::{header, is_leaf, label};
+pub use header::Header;
 pub use mailbox::{Mailbox, crossing};
 pub use op::Op;
 pub use places::place;
