@@ -63,7 +63,7 @@ scans_on (w ∷ ws) q reg label leaf before probed first e h =
           let lost : took_of q w ≡ moved q (if probed + 1 == q.slots then Scanned reg label leaf before else Scanning reg label leaf before (probed + 1)) = ap (took_at q w) e ∙ cond-false (w == 0) _ _ (ne_eqb w 0 taken) in
           let slots : (took_of q w).slots ≡ q.slots = ap (λ (x : Private). x.slots) lost in
           let from : (took_of q w).from ≡ q.from = ap (λ (x : Private). x.from) lost in
-          let same : claims label (took_of q w).slots (took_of q w).from (probed + 1) ws ≡ claims label q.slots q.from (probed + 1) ws = ap (λ n. claims label n (took_of q w).from (probed + 1) ws) slots ∙ ap (λ n. claims label q.slots n (probed + 1) ws) from in
+          let same : claims (header_word leaf label) (took_of q w).slots (took_of q w).from (probed + 1) ws ≡ claims (header_word leaf label) q.slots q.from (probed + 1) ws = ap (λ n. claims (header_word leaf label) n (took_of q w).from (probed + 1) ws) slots ∙ ap (λ n. claims (header_word leaf label) q.slots n (probed + 1) ws) from in
           let some : 0 < w = omega (arith, taken) in
           elim (cases_eq (probed + 1) q.slots) [
             | inl last ↦
@@ -103,7 +103,7 @@ scans start p before (first ∷ found) s h = elim (cases_Bool (is_full start)) [
       record {
         found = found;
         words_are = ap (λ n. n ∷ found) r.same;
-        made_are = ap (λ (op : Op). op ∷ ops_along (took_of start first) found) loads ∙ ap (λ (its : List Op). LoadFreed ∷ its) (r.made ∙ ap (λ n. claims s.label n (took_of start first).from 0 found) slots ∙ ap (λ n. claims s.label p.slots n 0 found) from);
+        made_are = ap (λ (op : Op). op ∷ ops_along (took_of start first) found) loads ∙ ap (λ (its : List Op). LoadFreed ∷ its) (r.made ∙ ap (λ n. claims (header_word s.leaf s.label) n (took_of start first).from 0 found) slots ∙ ap (λ n. claims (header_word s.leaf s.label) p.slots n 0 found) from);
         every = omega (arith, r.every, r.slots, ap (λ (x : Private). x.slots) s.came);
         taken = r.taken;
       }

@@ -39,7 +39,7 @@ pub record FailsScan (header slots from before : ℕ) (made : List Op) (words : 
 
 -- whether an operation claims the header of this slot
 abbrev pub is_claim_of : (slot : ℕ) → Op → Bool
-is_claim_of slot (ClaimHeader other label) = slot == other
+is_claim_of slot (ClaimHeader other header) = slot == other
 is_claim_of slot _ = false
 
 -- how often the header of this slot was claimed

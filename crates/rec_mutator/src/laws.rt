@@ -35,7 +35,7 @@ pub fn refusals_have_causes()
 
 /// A scan that fails has claimed the header of each slot once, whichever slot it began with.
 pub fn failed_scans_claim_each_header_once()
-    ensures { (label slots from before : ℕ) (made : List Op) (words : List ℕ) → from < slots → FailsScan label slots from before made words → (slot : ℕ) → slot < slots → claims_of slot made ≡ 1 }
+    ensures { (header slots from before : ℕ) (made : List Op) (words : List ℕ) → from < slots → FailsScan header slots from before made words → (slot : ℕ) → slot < slots → claims_of slot made ≡ 1 }
 {}
 
 /// A poll tells that it crossed nowhere exactly where the epoch word was the own epoch; else it tells the epoch after the own
