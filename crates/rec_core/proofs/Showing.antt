@@ -290,12 +290,11 @@ says {w = w} {t = t} {word = word} {op = op} {q = q} m (Step.new_refused reg lab
 says {w = w} {t = t} {word = word} {op = op} {q = q} m (Step.new_begins reg label leaf room g) =
     let freed : word ≡ w.freed = m.found ∙ ap (cell (cells_of w)) g.operation in
     after_freed (Says w t q) w t word q op g.operation m.found (going_on m refl (λ first. (first, freed, λ s below. absurd (omega (arith, below)))) g)
-says {w = w} {t = t} {word = word} {op = op} {q = q} m (Step.new_wins reg label true before slot free d) =
+says {w = w} {t = t} {word = word} {op = op} {q = q} m (Step.new_wins reg label true before probed free d) =
     let p : Private = mutator w t in
-    let own = (actor_of w t m.kept m.is).own in
-    let slots : p.slots ≡ w.config.slots = own.slots in
+    let slot : ℕ = probe_of p probed in
     let headers : length w.headers ≡ w.config.slots = m.kept.headers in
-    let there : slot < p.slots = (at_phase p (at.Scanning reg label true before slot) own.machine d.phase).1 in
+    let there : slot < w.config.slots = (probes w t probed m.kept m.is).1 in
     let header : slice_index_or w.headers slot 0 ≡ 0 = sym (probe_found w word slot (header_word true label) op m.found d.operation) ∙ free in
     let grown : Sight = sight_with_header (sight w) slot (header_word true label) in
     let v : Core = record (with_mutator w t q) { headers = slice_set w.headers slot (header_word true label); made = w.made + 1 } in
@@ -303,8 +302,8 @@ says {w = w} {t = t} {word = word} {op = op} {q = q} m (Step.new_wins reg label 
     let saw : sight v ≡ after = ap (λ (rss : List (List (Option ℕ))). let s : Sight = record grown { registers = rss } in s) (registers_set w t reg (Some slot) q (registers_left d)) in
     let telling : IsTelling w t (commands.Leaf reg label) (plain answers.Done) (p.log.entries ++ entries_.Born slot true ∷ []) (w.made + 1) slot after
     = record {
-      explained = birth_explained (sight w) t reg label slot (header_word true label) true m.kept.sound (omega arith) header (header_is true label (label_at w t (at.Scanning reg label true before slot) m.kept m.is d.phase));
-      leaves = record { seen = refl; birth = λ _. record { there = omega arith; free = header; probed = ap probed_at d.phase } };
+      explained = birth_explained (sight w) t reg label slot (header_word true label) true m.kept.sound (omega arith) header (header_is true label (label_at w t (at.Scanning reg label true before probed) m.kept m.is d.phase));
+      leaves = record { seen = refl; birth = λ _. record { there = there; free = header; probed = ap (probed_at p) d.phase } };
       kind = refl;
       full = λ is. cc;
       births = refl;
@@ -324,7 +323,7 @@ says {w = w} {t = t} {word = word} {op = op} {q = q} m (Step.new_wins reg label 
     let saw : sight v ≡ after = ap (λ (rss : List (List (Option ℕ))). let s : Sight = record grown { registers = rss } in s) (registers_set w t reg (Some slot) q (registers_left d)) in
     let telling : IsTelling w t (commands.New reg label) (plain answers.Done) (p.log.entries ++ entries_.Born slot false ∷ []) (w.made + 1) slot after
     = record {
-      explained = birth_explained (sight w) t reg label slot (header_word false label) false m.kept.sound (omega arith) header (header_is false label (label_at w t (at.Scanning reg label false before slot) m.kept m.is d.phase));
+      explained = birth_explained (sight w) t reg label slot (header_word false label) false m.kept.sound (omega arith) header (header_is false label (label_at w t (at.Scanning reg label false before probed) m.kept m.is d.phase));
       leaves = record { seen = refl; birth = λ _. record { there = there; free = header; probed = ap (probed_at p) d.phase } };
       kind = refl;
       full = λ is. cc;
