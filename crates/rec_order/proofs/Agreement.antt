@@ -1,5 +1,6 @@
 -- A heap stands by any numbering that agrees on the taken slots.
-use Rattle.std.proofs.Common.{◌≡◌, ℕ, ◌+◌, ◌<◌, length, sym, ap, subst, ◌∙◌}
+use Rattle.std.proofs.Common.{◌≡◌, ℕ, ◌<◌, length, slice_index_or, sym, ap, subst, ◌∙◌}
+use Rattle.rec_word.specs.Header.{IsHeaderOf}
 use Rattle.rec_model.specs.Explained.{GoesOnBy}
 use Rattle.rec_model.specs.Heap.{Heap, object}
 use Rattle.rec_model.specs.Sight.{Sight, IsTaken, words_of, StandsBy, IsSound}
@@ -11,7 +12,7 @@ agree_stands heap w number next sound agree by =
     record {
       one_to_one = λ s t s_taken t_taken same. by.one_to_one s t s_taken t_taken (agree s s_taken ∙ same ∙ sym (agree t t_taken));
       there = λ s taken. subst (λ n. n < length heap.objects) (agree s taken) (by.there s taken);
-      label = λ s taken. by.label s taken ∙ ap (λ n. (object heap n).label + 1) (agree s taken);
+      header = λ s taken. subst (λ n. IsHeaderOf (object heap n).leaf (object heap n).label (slice_index_or w.headers s 0)) (agree s taken) (by.header s taken);
       registers = by.registers ∙ registers_agree number next w.registers (λ n there. agree n (sound.registers n there));
       fields = λ s reached.
           let taken : IsTaken w s = reached_is_taken w sound s reached in

@@ -1,5 +1,5 @@
 -- An answer of a step may come next in the order.
-use Rattle.std.proofs.Common.{◌≡◌, ◌⊎◌, inl, inr, ℕ, ◌-◌, ◌%◌, ◌<◌, ◌≤◌, ◌&&◌, List, [], ◌∷◌, ◌++◌, Some, true, length, slice_index_or, refl, sym, ap, subst, ◌∙◌, arith}
+use Rattle.std.proofs.Common.{◌≡◌, ◌⊎◌, inl, inr, ℕ, ◌-◌, ◌%◌, ◌<◌, ◌≤◌, ◌&&◌, List, [], ◌∷◌, ◌++◌, Some, Bool, true, length, slice_index_or, refl, sym, ap, subst, ◌∙◌, arith}
 use Rattle.std.specs.List.{slice_get}
 use Rattle.std.specs.Option.{IfSome}
 use Rattle.std.proofs.lemmas.Bool.{cases_eq}
@@ -11,7 +11,7 @@ use Rattle.rec_model.specs.declared.answer.Answer.{Answer}
 use Rattle.rec_model.specs.declared.answer.Answer.TheVariants as answers
 use Rattle.rec_model.specs.declared.told.Told.{Told}
 use Rattle.rec_model.specs.Asking.{is_done}
-use Rattle.rec_model.specs.LegalOrder.{Line, Event, Limits, Moment, after_all, is_new, AllocationFits, AnswerFits, word_left, left_by, BusyFits}
+use Rattle.rec_model.specs.LegalOrder.{Line, Event, Limits, Moment, after_all, is_new, NewFits, AllocationFits, AnswerFits, word_left, left_by, BusyFits}
 use Rattle.rec_model.specs.LegalOrder.Event.{Answers}
 use Rattle.rec_model.specs.Sight.{IsSound}
 use Rattle.rec_model.proofs.Growing.{MayCome, StampsAnew, same_answer}
@@ -40,11 +40,15 @@ use Rattle.rec_order.proofs.Stands.{Stands, explained}
 use Rattle.rec_order.proofs.Steps.{Meets}
 
 -- an allocation's answer fits
+new_fits : (limits : Limits) (w : Moment) (answer : Answer) → (answer ≡ answers.Full → length w.unfreed ≡ limits.slots) → (is_done answer ≡ true → length w.unfreed < limits.slots) → NewFits limits w answer
+new_fits limits w answers.Done full fewer = fewer refl
+new_fits limits w answers.Full full fewer = full refl
+new_fits limits w _ full fewer = tt
+
 allocation_fits : (limits : Limits) (w : Moment) (cmd : Cmd) (answer : Answer) → (answer ≡ answers.Full → length w.unfreed ≡ limits.slots)
     → (is_new cmd && is_done answer ≡ true → length w.unfreed < limits.slots) → AllocationFits limits w cmd answer
-allocation_fits limits w (commands.New reg label) answers.Done full fewer = fewer refl
-allocation_fits limits w (commands.New reg label) answers.Full full fewer = full refl
-allocation_fits limits w (commands.New reg label) _ full fewer = tt
+allocation_fits limits w (commands.New reg label) answer full fewer = new_fits limits w answer full fewer
+allocation_fits limits w (commands.Leaf reg label) answer full fewer = new_fits limits w answer full fewer
 allocation_fits limits w _ answer full fewer = tt
 
 -- a scan that found none free has passed all slots

@@ -216,8 +216,10 @@ module _ (limits : Limits) (start : Moment) where
   -- the entries that a command made are at most those counted
   few_entries : (cmd : Cmd) (answer : Answer) → entries_of cmd answer ≤ (if is_done answer then 1 else 0)
   few_entries (commands.New reg label) answers.Done = omega arith
+  few_entries (commands.Leaf reg label) answers.Done = omega arith
   few_entries (commands.Put src f val) answers.Done = omega arith
   few_entries (commands.New reg label) _ = omega arith
+  few_entries (commands.Leaf reg label) _ = omega arith
   few_entries (commands.Put src f val) _ = omega arith
   few_entries _ _ = omega arith
 

@@ -2,10 +2,11 @@
 use Rattle.std.proofs.Common.{◌≡◌, inl, inr, ℕ, ◌+◌, ◌%◌, ◌<◌, Bool, true, false, if◌then◌else◌, length, slice_index_or, slice_set, refl, sym, ap, subst, ◌∙◌, arith}
 use Rattle.std.proofs.lemmas.Bool.{cases_eq, false≢true}
 use Rattle.std.proofs.lemmas.List.{get_or-set_same, get_or-set_other}
+use Rattle.rec_word.specs.Header.{header_word}
 use Rattle.rec_model.specs.declared.command.Cmd.{Cmd}
 use Rattle.rec_model.specs.declared.command.Cmd.TheVariants as commands
 use Rattle.rec_model.specs.declared.told.Told.{Told}
-use Rattle.rec_model.specs.Asking.{asked, IsTold}
+use Rattle.rec_model.specs.Asking.{asked, is_done, IsTold}
 use Rattle.rec_model.specs.Explained.{GoesOnBy, with_number}
 use Rattle.rec_model.specs.Heap.{Heap}
 use Rattle.rec_model.specs.LegalOrder.{Limits, Moment, after_answer, after as moment_after, is_birth, Fits}
@@ -97,21 +98,22 @@ stands_freed limits w v m n home slot stands taken headers freed was so =
       homes = λ s now. so.homes s (was s now);
     }
 
+birth_header : (w : Sight) (slot t reg label : ℕ) (leaf done : Bool) → done ≡ true → (header : ℕ) × (0 < header) × ((if done then sight_with_birth w t reg slot (header_word leaf label) else w).headers ≡ slice_set w.headers slot header)
+birth_header w slot t reg label leaf done birth = (header_word leaf label, omega arith, ap (λ (b : Bool). (if b then sight_with_birth w t reg slot (header_word leaf label) else w).headers) birth)
+
 -- the header that a birth leaves
-birth_headers : (w : Sight) (slot t : ℕ) (cmd : Cmd) (told : Told) → is_birth (cmd, told) ≡ true → (label : ℕ) × ((sight_told w slot t cmd told).headers ≡ slice_set w.headers slot (label + 1))
-birth_headers w slot t (commands.New reg label) told birth = (label, ap (λ (b : Bool). (sight_new b).headers) birth)
-  where
-    sight_new : Bool → Sight
-    sight_new b = if b then sight_with_birth w t reg slot label else w
+birth_headers : (w : Sight) (slot t : ℕ) (cmd : Cmd) (told : Told) → is_birth (cmd, told) ≡ true → (header : ℕ) × (0 < header) × ((sight_told w slot t cmd told).headers ≡ slice_set w.headers slot header)
+birth_headers w slot t (commands.New reg label) told birth = birth_header w slot t reg label false (is_done told.answer) birth
+birth_headers w slot t (commands.Leaf reg label) told birth = birth_header w slot t reg label true (is_done told.answer) birth
 birth_headers w slot t _ told birth = cc
 
 -- the slot of a birth is taken then
 pub born_taken : (w v : Core) (slot t : ℕ) (cmd : Cmd) (told : Told) → length w.headers ≡ w.config.slots → is_birth (cmd, told) ≡ true → IsBirthplace w t slot → sight v ≡ sight_told (sight w) slot t cmd told → IsTaken (sight v) slot
 born_taken w v slot t cmd told headers birth place seen =
-    let (label, left) = birth_headers (sight w) slot t cmd told birth in
-    let now : v.headers ≡ slice_set w.headers slot (label + 1) = ap (λ (x : Sight). x.headers) seen ∙ left in
-    let is : slice_index_or v.headers slot 0 ≡ label + 1 = ap (λ hs. slice_index_or hs slot 0) now ∙ get_or-set_same w.headers slot (label + 1) 0 (subst (λ x. slot < x) (sym headers) place.there) in
-    omega (arith, is)
+    let (header, some, left) = birth_headers (sight w) slot t cmd told birth in
+    let now : v.headers ≡ slice_set w.headers slot header = ap (λ (x : Sight). x.headers) seen ∙ left in
+    let is : slice_index_or v.headers slot 0 ≡ header = ap (λ hs. slice_index_or hs slot 0) now ∙ get_or-set_same w.headers slot header 0 (subst (λ x. slot < x) (sym headers) place.there) in
+    omega (arith, is, some)
 
 -- How the naming and the homes go on with an answer: a birth in this slot, or none.
 pub data NamesOn (w : Core) (t : ℕ) (cmd : Cmd) (told : Told) (v : Core) (n : Naming) (home : ℕ → ℕ) : Naming → (ℕ → ℕ) → Type 0 where
@@ -135,9 +137,9 @@ module _ (limits : Limits) (w v : Core) (m : Moment) (n : Naming) (home : ℕ �
   born_here slot s birth seen taken new = elim (cases_eq s slot) [
     | inl is ↦ is
     | inr other ↦
-        let (label, left) = birth_headers (sight w) slot t cmd told birth in
-        let now : v.headers ≡ slice_set w.headers slot (label + 1) = ap (λ (x : Sight). x.headers) seen ∙ left in
-        absurd (new (subst (λ x. 0 < x) (ap (λ hs. slice_index_or hs s 0) now ∙ get_or-set_other w.headers slot s (label + 1) 0 other) taken))
+        let (header, some, left) = birth_headers (sight w) slot t cmd told birth in
+        let now : v.headers ≡ slice_set w.headers slot header = ap (λ (x : Sight). x.headers) seen ∙ left in
+        absurd (new (subst (λ x. 0 < x) (ap (λ hs. slice_index_or hs s 0) now ∙ get_or-set_other w.headers slot s header 0 other) taken))
   ]
 
   -- after an answer

@@ -1,5 +1,6 @@
 -- What a step of a mutator does to a scan, to the naming, to the stamps that are left behind, and to the log.
 use Rattle.std.proofs.Common.{◌≡◌, ◌≢◌, ℕ, ◌+◌, ◌<◌, ◌==◌, List, [], ◌∷◌, ◌++◌, Option, Some, Bool, true, false, if◌then◌else◌, length, slice_index_or, refl, sym, ap, subst, ◌∙◌, arith}
+use Rattle.rec_word.specs.Header.{header_word}
 use Rattle.rec_word.specs.declared.op.Op.{Op}
 use Rattle.rec_word.specs.declared.op.Op.TheVariants as ops
 use Rattle.rec_log.specs.declared.contents.Contents.{Contents}
@@ -54,9 +55,9 @@ module _ (limits : Limits) (start : Moment) (events : List Event) (w : Core) (n 
   MeetsAt from phase = Meets limits start events home n.next t from phase
 
   -- a probe that found a header met the object of that slot
-  probe_meets : (from before probed slot label word : ℕ) (op : Op) → slot ≡ slot_behind limits.slots from probed → op ≡ ops.ClaimHeader slot label → word ≡ cell (cells_of w) op → word ≢ 0 → HasMet limits start events home n.next t from before probed
+  probe_meets : (from before probed slot put word : ℕ) (op : Op) → slot ≡ slot_behind limits.slots from probed → op ≡ ops.ClaimHeader slot put → word ≡ cell (cells_of w) op → word ≢ 0 → HasMet limits start events home n.next t from before probed
       → HasMet limits start events home n.next t from before (probed + 1)
-  probe_meets from before probed slot label word op there its found some has =
+  probe_meets from before probed slot put word op there its found some has =
       let header : word ≡ slice_index_or w.headers slot 0 = found ∙ ap (cell (cells_of w)) its in
       let taken : IsTaken (sight w) slot = omega (arith, header, some) in
       let below : n.number slot < length (after_all limits start events).heap.objects = so.stands.there slot taken in
@@ -76,7 +77,9 @@ module _ (limits : Limits) (start : Moment) (events : List Event) (w : Core) (n 
     meets_step (Step.get dst src f slot names d) = decided d
     meets_step (Step.put_of_null src f val names d) = decided d
     meets_step (Step.put_refused src f val slot names full d) = decided d
-    meets_step (Step.put src f val slot names room d) = decided d
+    meets_step (Step.put_into_leaf src f val slot names room leaf d) = decided d
+    meets_step (Step.put_begins src f val slot names room unmarked g) = subst (λ (x : Private). Meets limits start events home n.next t x.from x.phase) (sym g.after) tt
+    meets_step (Step.put src f val slot d) = decided d
     meets_step (Step.value_of_null reg names d) = decided d
     meets_step (Step.value reg slot names d) = decided d
     meets_step (Step.new_refused reg label leaf full d) = decided d
@@ -86,10 +89,10 @@ module _ (limits : Limits) (start : Moment) (events : List Event) (w : Core) (n 
     meets_step (Step.new_wins reg label leaf before probed free d) = decided d
     meets_step (Step.new_goes_on reg label leaf before probed taken more g) =
         subst (λ (x : Private). Meets limits start events home n.next t x.from x.phase) (sym g.after)
-        (probe_meets p.from before probed (probe_of p probed) label word op (ap (λ n. slot_behind n p.from probed) (many ∙ sym same_slots)) g.operation found taken (subst (MeetsAt p.from) g.phase has))
+        (probe_meets p.from before probed (probe_of p probed) (header_word leaf label) word op (ap (λ n. slot_behind n p.from probed) (many ∙ sym same_slots)) g.operation found taken (subst (MeetsAt p.from) g.phase has))
     meets_step (Step.new_finds_none reg label leaf before probed taken last g) =
         subst (λ (x : Private). Meets limits start events home n.next t x.from x.phase) (sym g.after)
-        (subst (HasMet limits start events home n.next t p.from before) (last ∙ many ∙ sym same_slots) (probe_meets p.from before probed (probe_of p probed) label word op (ap (λ n. slot_behind n p.from probed) (many ∙ sym same_slots)) g.operation found taken (subst (MeetsAt p.from) g.phase has)))
+        (subst (HasMet limits start events home n.next t p.from before) (last ∙ many ∙ sym same_slots) (probe_meets p.from before probed (probe_of p probed) (header_word leaf label) word op (ap (λ n. slot_behind n p.from probed) (many ∙ sym same_slots)) g.operation found taken (subst (MeetsAt p.from) g.phase has)))
     meets_step (Step.new_is_full reg label leaf before still d) = decided d
     meets_step (Step.new_is_busy reg label leaf before moves d) = decided d
     meets_step (Step.poll_stays own g) = subst (λ (x : Private). Meets limits start events home n.next t x.from x.phase) (sym g.after) tt
@@ -109,7 +112,7 @@ own_meets limits start events w n home t same_slots so kept is busy has =
 -- The naming.
 -- an operation that is no birth leaves it
 unborn_names : (n : Naming) (op : Op) (found : ℕ) → births_of op found ≡ 0 → named_by n op found ≡ n
-unborn_names n (ops.ClaimHeader slot label) found none = go (found == 0) none
+unborn_names n (ops.ClaimHeader slot header) found none = go (found == 0) none
   where
     go : (b : Bool) → ◌≡◌ {A = ℕ} (if b then 1 else 0) 0 → (if b then born_in n slot else n) ≡ n
     go true not = absurd (omega (arith, not))
@@ -122,12 +125,12 @@ same_names n w t made =
     unborn_names n (next_of (mutator w t)) (found_by w t) (let same : w.made + births_of (next_of (mutator w t)) (found_by w t) ≡ w.made = made in omega (arith, same))
 
 -- a scan claims the slot to which it has come
-claims_at : (p : Private) (slot : ℕ) → probed_at p p.phase ≡ Some slot → (label : ℕ) × (next_of p ≡ ops.ClaimHeader slot label)
+claims_at : (p : Private) (slot : ℕ) → probed_at p p.phase ≡ Some slot → (header : ℕ) × (next_of p ≡ ops.ClaimHeader slot header)
 unfolding next_of next_at
 claims_at p slot probed = go p.phase probed
   where
-    go : (phase : Phase) → probed_at p phase ≡ Some slot → (label : ℕ) × (next_at p phase ≡ ops.ClaimHeader slot label)
-    go (at.Scanning reg label leaf before probed) is = let same : probe_of p probed ≡ slot = cc in (label, ap (λ x. ops.ClaimHeader x label) same)
+    go : (phase : Phase) → probed_at p phase ≡ Some slot → (header : ℕ) × (next_at p phase ≡ ops.ClaimHeader slot header)
+    go (at.Scanning reg label leaf before probed) is = let same : probe_of p probed ≡ slot = cc in (header_word leaf label, ap (λ x. ops.ClaimHeader x (header_word leaf label)) same)
     go _ is = cc
 
 -- how the naming and the homes go on with a step that answers
