@@ -1,6 +1,7 @@
 -- What a command and a poll are told, from what their steps say.
 use Rattle.std.proofs.Common.{◌≡◌, ◌≢◌, ◌↔◌, ℕ, ◌+◌, ◌%◌, ◌<◌, ◌≤◌, ◌&&◌, if◌then◌else◌, Bool, Option, None, Some, IfSome, true, false, List, length, slice_index_or, refl, sym, ap, subst, ◌∙◌, arith}
 use Rattle.std.proofs.lemmas.Bool.{false≢true}
+use Rattle.rec_word.specs.Header.{is_leaf}
 use Rattle.rec_word.specs.Word.{stamp_of}
 use Rattle.rec_model.specs.Asking.{is_done, refuses_new, allocation}
 use Rattle.rec_model.specs.Explained.{IsExplained}
@@ -37,12 +38,14 @@ use Rattle.rec_core.proofs.Crossings.{giving_of}
 use Rattle.rec_core.proofs.Showing.{Says, mutator_other, stepped_mutator, step_says, step_caused, works_sight, in_order}
 use Rattle.rec_core.proofs.Steps.{actor_of}
 use Rattle.rec_core.proofs.Unfinished.{works_both, works_quiet, quiet_both, begun_works, waits_quiet, mutator_there, waits_epoch, answered_idle}
-use Rattle.rec_world.specs.World.{IsLogFull, FindsNone, IsFull, IsBusy, IsLowestFree, IsFinished, IsCrossed}
+use Rattle.rec_world.proofs.IntoLeaves.{allocates, into_leaf}
+use Rattle.rec_world.specs.World.{IsLogFull, WritesLeaf, FindsNone, IsFull, IsBusy, IsLowestFree, IsFinished, IsCrossed}
 
 -- A step that answers a command, in a heap in which nothing else moved since its begin.
 record Answering (w : Core) (t : ℕ) (cmd : Cmd) (told : Told) (v : Core) : Type 0 where
   pub kept : IsKept w
   pub is : IsMutator w.config t
+  pub busy : is_busy (mutator w t) ≡ true
   pub work : work_of (mutator w t) ≡ Some (works.Command cmd)
   pub found : HasFound w (mutator w t).from (mutator w t).phase
   pub said : IsDecided w t cmd told v
@@ -59,11 +62,6 @@ record FoundFilled (w : Core) (t : ℕ) (cmd : Cmd) (before : ℕ) : Type 0 wher
   pub none : FindsNone w t cmd
   pub first : before ≡ w.freed
   pub last : found_by w t ≡ w.freed
-
--- an allocation is new
-allocates : (reg label : ℕ) (leaf : Bool) → is_new (allocation leaf reg label) ≡ true
-allocates reg label true = refl
-allocates reg label false = refl
 
 found_filled : {w : Core} {t : ℕ} {cmd : Cmd} {told : Told} {v : Core} (before : ℕ) → Answering w t cmd told v → FoundNone (mutator w t) before → FoundFilled w t cmd before
 found_filled {w = w} {t = t} {cmd = cmd} before a none = go (mutator w t).phase refl (actor_of w t a.kept a.is).own.machine.now a.work a.found none.scanned
@@ -191,6 +189,7 @@ pub record IsAnswered (w v : Core) (t : ℕ) (cmd : Cmd) (told : Told) : Type 0 
   pub explained : IsExplained (sight w) t cmd told (sight v)
   pub log_full : (told.answer ≡ answers.LogFull) ↔ IsLogFull w t cmd
   pub no_object : (told.answer ≡ answers.NoObject) ↔ LacksObject (mutator w t) cmd
+  pub no_field : (told.answer ≡ answers.NoField) ↔ WritesLeaf w t cmd
   pub full : (told.answer ≡ answers.Full) ↔ IsFull w t cmd
   pub busy : (before after : ℕ) → (told.answer ≡ answers.Busy before after) ↔ (IsBusy w t cmd × (before ≡ w.freed) × (after ≡ w.freed))
   pub refused : is_refusal told.answer ≡ true → OnlyWorks w v t
@@ -223,6 +222,13 @@ full_along w v t cmd entries config headers freed is = record { none = finds_alo
 busy_along : (w v : Core) (t : ℕ) (cmd : Cmd) → log_length v t ≡ log_length w t → v.config ≡ w.config → v.headers ≡ w.headers → v.freed ≡ w.freed → IsBusy w t cmd → IsBusy v t cmd
 busy_along w v t cmd entries config headers freed is = record { none = finds_along w v t cmd entries config headers is.none; odd = ap (λ n. n % 2) freed ∙ is.odd }
 
+-- a write into a leaf, in another heap with the same headers, and with the same registers and as many entries of this mutator
+writes_along : (w v : Core) (t : ℕ) (cmd : Cmd) → (mutator v t).registers ≡ (mutator w t).registers → log_length v t ≡ log_length w t → v.config ≡ w.config → v.headers ≡ w.headers → WritesLeaf w t cmd → WritesLeaf v t cmd
+writes_along w v t (commands.Put src f val) registers entries config headers (slot, names, leaf, room) =
+    let many : v.config.log_entries ≡ w.config.log_entries = ap (λ (c : Config). c.log_entries) config in
+    (slot, ap (λ (rs : List (Option ℕ)). slice_index_or rs src None) registers ∙ names, ap (λ (hs : List ℕ). is_leaf (slice_index_or hs slot 0)) headers ∙ leaf, omega (arith, many, entries, room))
+writes_along w v t _ registers entries config headers writes = absurd writes
+
 -- each slot below the one that a scan has come to is taken
 probed_lower : (w : Core) (t : ℕ) (phase : Phase) (slot : ℕ) → IsKept w → IsMutator w.config t → (mutator w t).phase ≡ phase → HasFound w (mutator w t).from phase → probed_at (mutator w t) phase ≡ Some slot → (s : ℕ) → s < slot → IsTaken (sight w) s
 probed_lower w t (Scanning reg label leaf before at) slot kept there phase found is s below =
@@ -245,6 +251,7 @@ answers_all : (w last v : Core) (t : ℕ) (cmd : Cmd) (told : Told) → IsKept w
 answers_all w last v t cmd told kept is only steps answer a =
     let p : Private = mutator w t in
     let entries : log_length last t ≡ log_length w t = ap (λ (x : Private). length x.log.entries) only.own in
+    let registers : (mutator last t).registers ≡ p.registers = ap (λ (x : Private). x.registers) only.own in
     let epoch : (mutator last t).epoch ≡ p.epoch = ap (λ (x : Private). x.epoch) only.own in
     let capacity : p.log.capacity ≡ w.config.log_entries = (actor_of w t kept is).own.capacity in
     let config : last.config ≡ w.config = ap (λ (x : Core). x.config) only.others in
@@ -269,6 +276,10 @@ answers_all w last v t cmd told kept is only steps answer a =
       no_object = (
         λ none. (lacks_same p phase steps_made cmd).0 (subst (λ (x : Private). LacksObject x cmd) only.own (a.cause.no_object.0 none)),
         λ none. a.cause.no_object.1 (subst (λ (x : Private). LacksObject x cmd) (sym only.own) ((lacks_same p phase steps_made cmd).1 none)),
+      );
+      no_field = (
+        λ refused. writes_along last w t cmd (sym registers) (sym entries) (sym config) (sym headers) ((into_leaf last t cmd a.kept a.is a.busy a.work).0 (a.cause.no_field.0 refused)),
+        λ writes. a.cause.no_field.1 ((into_leaf last t cmd a.kept a.is a.busy a.work).1 (writes_along w last t cmd registers entries config headers writes)),
       );
       full = (
         λ full. full_along last w t cmd (sym entries) (sym config) (sym headers) (sym freed) (told_full a full),
@@ -347,7 +358,7 @@ command_said w b v t cmd told kept is begins its f last_kept =
     let cause : HasCause (mutator f.last t) (mutator v t) cmd (found_by f.last t) told.answer
     = subst (λ (x : Core). HasCause (mutator f.last t) (mutator x t) cmd (found_by f.last t) told.answer) (sym f.steps) (step_caused f.last t cmd told last_kept last_there f.busy work answer) in
     answers_all w f.last v t cmd told kept is (works_both w b f.last t here waited.0) f.steps f.answer
-    (record { kept = last_kept; is = last_there; work = work; found = waited.1; said = decided.0; cause = cause; refused = decided.1 })
+    (record { kept = last_kept; is = last_there; busy = f.busy; work = work; found = waited.1; said = decided.0; cause = cause; refused = decided.1 })
 
 -- a command never ends as a poll does
 pub command_crosses : (w b v : Core) (t : ℕ) (cmd : Cmd) (crossed : Option ℕ) → IsKept w → IsMutator w.config t → b ≡ begun w t (works.Command cmd) → work_of (mutator b t) ≡ Some (works.Command cmd)

@@ -5,6 +5,7 @@ pub mod Commands
 pub mod Filled
 pub mod Frees
 pub mod Indexed
+pub mod IntoLeaves
 pub mod Mailboxes
 pub mod Names
 pub mod Numbers

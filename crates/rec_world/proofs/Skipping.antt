@@ -66,7 +66,7 @@ module _ (w : Core) (t : ℕ) (kept : IsKept w) (is : IsMutator w.config t) (reg
       let make : Op → ℕ → Private → Core = λ op found m. performed v t op found (step_of m found (box w t)) (left_of (took_of m found) (box w t)) in
       let left : mutator v t ≡ q = mutator_left w t q kept is in
       let names : next_of (mutator v t) ≡ claim = ap next_of left ∙ skipped_next (mutator w t) reg label leaf before at scans slot within
-      ∙ ap (λ n. ops.ClaimHeader n label) (ap (λ n. slot_behind (mutator w t).slots n slot) first ∙ behind_first (mutator w t).slots slot within) in
+      ∙ ap (λ n. ops.ClaimHeader n (header_word leaf label)) (ap (λ n. slot_behind (mutator w t).slots n slot) first ∙ behind_first (mutator w t).slots slot within) in
       let finds : found_by v t ≡ header = ap (cell (cells_of v)) names in
       let further : took_of q header ≡ r = skipped_further (mutator w t) reg label leaf before at scans slot header ahead within (λ e. omega (arith, e, taken)) in
       let alone = skipped_alone (mutator w t) reg label leaf before at scans (slot + 1) (box w t) in
@@ -110,7 +110,7 @@ skip_path_at w t slot (Scanning reg label leaf before at) kept is scans found ah
 skip_path_at w t slot Idle kept is phase found ahead few taken = stays w t slot (ap (skipped_at (mutator w t) slot) phase)
 skip_path_at w t slot (Begun work) kept is phase found ahead few taken = stays w t slot (ap (skipped_at (mutator w t) slot) phase)
 skip_path_at w t slot (Scanned reg label leaf before) kept is phase found ahead few taken = stays w t slot (ap (skipped_at (mutator w t) slot) phase)
-skip_path_at w t slot (Storing src f val at) kept is phase ahead few taken = stays w t slot (ap (skipped_at (mutator w t) slot) phase)
+skip_path_at w t slot (Storing src f val at) kept is phase found ahead few taken = stays w t slot (ap (skipped_at (mutator w t) slot) phase)
 skip_path_at w t slot Crossing kept is phase found ahead few taken = stays w t slot (ap (skipped_at (mutator w t) slot) phase)
 skip_path_at w t slot Swapping kept is phase found ahead few taken = stays w t slot (ap (skipped_at (mutator w t) slot) phase)
 skip_path_at w t slot Giving kept is phase found ahead few taken = stays w t slot (ap (skipped_at (mutator w t) slot) phase)

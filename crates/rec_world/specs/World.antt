@@ -2,13 +2,14 @@
 use Rattle.std.specs.Prelude.{◌≡◌, ◌≢◌, ◌==◌, ℕ, ◌+◌, ◌%◌, ◌^◌, ◌<◌, ◌≤◌, if◌then◌else◌, true, Option, None, Some, All, length, slice_index_or}
 use Rattle.rec_word.specs.Mailbox.{crossing_word}
 use Rattle.rec_word.specs.declared.mailbox.Mailbox.TheVariants.{Retired}
-use Rattle.rec_word.specs.Header.{label_of as label_in}
+use Rattle.rec_word.specs.Header.{is_leaf, label_of as label_in}
 use Rattle.rec_word.specs.declared.op.Op.{Op}
 use Rattle.rec_model.specs.declared.command.Cmd.{Cmd}
+use Rattle.rec_model.specs.declared.command.Cmd.TheVariants as commands
 use Rattle.rec_model.specs.LegalOrder.{is_new}
 use Rattle.rec_model.specs.Sight.{Sight, IsSound, IsTaken}
 use Rattle.rec_mutator.specs.Causes.{MakesEntry}
-use Rattle.rec_mutator.specs.Private.{is_busy, work_of, answer_of}
+use Rattle.rec_mutator.specs.Private.{register, is_busy, work_of, answer_of}
 use Rattle.rec_mutator.specs.declared.made.Made.{Made}
 use Rattle.rec_collector.specs.Next.{next_of}
 use Rattle.rec_collector.specs.declared.phase.Phase.TheVariants.{Idle, Looking}
@@ -48,6 +49,11 @@ label_of header = if header == 0 then None else Some (label_in header)
 -- the command needs a log entry, and there is none left
 abbrev pub IsLogFull : Core → ℕ → Cmd → Type 0
 IsLogFull w t cmd = (log_length w t ≡ w.config.log_entries) × MakesEntry (mutator w t) cmd
+
+-- the command writes a field of an object that is a leaf, and the log has room
+abbrev pub WritesLeaf : Core → (t : ℕ) → Cmd → Type 0
+WritesLeaf w t (commands.Put src f val) = (slot : ℕ) × (register (mutator w t) src ≡ Some slot) × (is_leaf (slice_index_or w.headers slot 0) ≡ true) × (log_length w t < w.config.log_entries)
+WritesLeaf w t _ = ⊥
 
 -- the command is an allocation that the log has room for, and every slot holds an object
 pub record FindsNone (w : Core) (t : ℕ) (cmd : Cmd) : Type 0 where

@@ -1,4 +1,5 @@
 ghost use Rattle.std.specs.Prelude.{◌≡◌, ◌≢◌, ℕ, ◌+◌, ◌*◌, ◌%◌, ◌^◌, ◌<◌, ◌≤◌, ◌↔◌, if◌then◌else◌, true, false, None, Some, All, is_none, length, map, slice_index_or, IsTrue, IsNone, IsSome, IfOk, IfErr, IfSome};
+ghost use Rattle.rec_word.specs.Header.{is_leaf};
 ghost use Rattle.rec_word.specs.Mailbox.{crossing_word};
 ghost use Rattle.rec_word.specs.declared.mailbox.Mailbox.TheVariants.{Retired};
 ghost use Rattle.rec_word.specs.declared.op.Op.TheVariants.{FreeHeader};
@@ -33,7 +34,7 @@ ghost use Rattle.rec_core.specs.Unfinished.{HasFound, IsQuiet, OnlyWorks};
 ghost use Rattle.rec_core.specs.Worked.{AreIdle, StepsTo, IsWorked};
 ghost use Rattle.rec_world.specs.Mailbox.{held};
 ghost use Rattle.rec_world.specs.Stepping.{MakesStep};
-ghost use Rattle.rec_world.specs.World.{IsWorld, label_of, IsLogFull, IsFull, IsBusy, IsLowestFree, IsFinished, IsCrossed, TurnHasCause, step_seen};
+ghost use Rattle.rec_world.specs.World.{IsWorld, label_of, IsLogFull, WritesLeaf, IsFull, IsBusy, IsLowestFree, IsFinished, IsCrossed, TurnHasCause, step_seen};
 
 use crate::mailbox::{gather, open_boxes, swap_own};
 use crate::memory::Memory;
@@ -42,7 +43,7 @@ use rec_collector::{Machine as Collector, Sets, Turn};
 use rec_log::Buffer;
 use rec_model::{Cmd, Told};
 use rec_mutator::{Machine, Made, Work};
-use rec_word::{Op, label};
+use rec_word::{Header, Op};
 use std::alloc::{AllocError as NoMemory, Global};
 use std::marker::Model;
 
@@ -307,6 +308,7 @@ impl World {
         ensures full { (result.answer ≡ answers.Full) ↔ IsFull self.old t cmd }
         ensures busy { (before after : ℕ) → (result.answer ≡ answers.Busy before after) ↔ (IsBusy self.old t cmd × (before ≡ self.old.freed) × (after ≡ self.old.freed)) }
         ensures no_object { (result.answer ≡ answers.NoObject) ↔ LacksObject (mutator self.old t) cmd }
+        ensures no_field { (result.answer ≡ answers.NoField) ↔ WritesLeaf self.old t cmd }
         ensures refused { is_refusal result.answer ≡ true → OnlyWorks self.old self.new t }
 
         // What changes: a birth takes the lowest free slot, and a write leaves the stamp of its log entry.
@@ -379,8 +381,19 @@ impl World {
         if header == 0 {
             None
         } else {
-            Some(label(header))
+            Some(Header::unpack(header).label)
         }
+    }
+
+    /// Whether the object in the slot is a leaf: then its fields are null for good. There is none in a free slot.
+    pub fn leaf(&self, slot: u16) -> bool
+        requires { slot < self.now.config.slots }
+
+        ensures leaf { result ≡ is_leaf (slice_index_or self.now.headers slot 0) }
+        ensures taken { IsTrue result → IsTaken (sight self.now) slot }
+    {
+        let header = self.memory.header(slot);
+        header != 0 && Header::unpack(header).leaf
     }
 
     /// The word of the field with this place.

@@ -85,8 +85,8 @@ pub invariant_of-self : goal.invariant_of-self
 invariant_of-self c =
     let at : c.self.inside.places + c.from-in-ClaimHeader.result ≡ index_of c.self.inside.places c.self.inside.slots c.args.op = grind (arith, c.in-ClaimHeader.is, c.from-in-ClaimHeader.ensures) in
     let is : IsWithin (cells c.self.inside) c.args.op = subst (λ (k : Cells). IsWithin k c.args.op) (sym c.self.view_is) c.requires in
-    let claims : (c.in-ClaimHeader.slot < length (cells c.self.inside).headers) × (0 < c.in-ClaimHeader.header) = subst (IsWithin (cells c.self.inside)) c.in-ClaimHeader.is is in
-    let some : 0 < c.in-ClaimHeader.header = claims.1 in
+    let claims : (c.in-ClaimHeader.slot < length (cells c.self.inside).headers) × (0 < c.in-ClaimHeader.field-1) = subst (IsWithin (cells c.self.inside)) c.in-ClaimHeader.is is in
+    let some : 0 < c.in-ClaimHeader.field-1 = claims.1 in
     laid_again c.self.inside c.self.invariant c.args.self.now c.self.view_is c.args.op c.requires (c.self.inside.places + c.from-in-ClaimHeader.result) at c.written.result c.remove.new.self
     (subst (λ o. Finds (with_cell (cells c.self.inside) o c.written.result).headers c.remove.new.self) (sym c.in-ClaimHeader.is)
     (finds_replaced (cells c.self.inside).headers c.self.inside.free c.self.invariant.free c.remove.new.self c.in-ClaimHeader.slot c.written.result 0 claims.0 (some_chosen c.written.result (λ e. absurd (omega (arith, e, some, c.written.ensures)))) c.remove.ensures))

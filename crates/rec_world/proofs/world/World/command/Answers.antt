@@ -36,6 +36,9 @@ returns-clause-log_full c = (said c).log_full
 pub returns-clause-no_object : goal.returns-clause-no_object
 returns-clause-no_object c = (said c).no_object
 
+pub returns-clause-no_field : goal.returns-clause-no_field
+returns-clause-no_field c = (said c).no_field
+
 pub returns-clause-full : goal.returns-clause-full
 returns-clause-full c = (said c).full
 
