@@ -84,8 +84,7 @@ tidy_mark s (Some x) (i, c) =
     let buffered : (y : ℕ) → (slot_at (with_slot s x v) y).buffered ≡ (slot_at s y).buffered = field_kept (λ (w : Slot). w.buffered) s.slots x v refl in
     let released : (y : ℕ) → (slot_at (with_slot s x v) y).released ≡ (slot_at s y).released = field_kept (λ (w : Slot). w.released) s.slots x v refl in
     let count : (y : ℕ) → (slot_at (with_slot s x v) y).count ≡ (slot_at s y).count = field_kept (λ (w : Slot). w.count) s.slots x v refl in
-    let counted_still : AreCounted (with_slot s x v) = λ y r. omega (arith, count y, c y (sym (released y) ∙ r)) in
-    (
+    let counted_still : AreCounted (with_slot s x v) = λ y r. omega (arith, count y, c y (sym (released y) ∙ r)) in (
       record {
         untried = untried_moved s (with_slot s x v) refl (marked_lowers s x) i.untried;
         apart = apart_on s (with_slot s x v) refl refl (unlike_was s x v (λ o. cc)) i.apart;

@@ -171,16 +171,15 @@ pub next_come : {w : Core} {crossing words : List ℕ} {v : Parts} (fields : ℕ
 next_come {w} {crossing} {words} {v} fields lowers h ready =
     each_next (λ at u. HasCome w crossing words (record { parts = with_counts v u; phase = begun_at fields lowers at }))
     (λ u z zs is r green c.
-        let first : FirstZero u z zs = first_zero u z zs is r in
-        let t : State = without_first (z ∷ zs) u in
-        let came : HasCome w crossing words (still (with_counts v t)) = first_come z zs None is c r refl (λ f within. inr (leaf_empty c.landed z f within green)) in
-        let gone : IsReady (emptied t z) = ready_gone u z zs is r in
-        let many : length t.slots ≡ length u.slots = first_length (z ∷ zs) u in
-        listed_come (emptied t z) came (emptied_alike t z) (emptied_sets t z) gone.free (emptied_kept t z (omega (arith, first.in_range, many)) first.unlisted came.landed.counts))
+    let first : FirstZero u z zs = first_zero u z zs is r in
+    let t : State = without_first (z ∷ zs) u in
+    let came : HasCome w crossing words (still (with_counts v t)) = first_come z zs None is c r refl (λ f within. inr (leaf_empty c.landed z f within green)) in
+    let gone : IsReady (emptied t z) = ready_gone u z zs is r in
+    let many : length t.slots ≡ length u.slots = first_length (z ∷ zs) u in
+    listed_come (emptied t z) came (emptied_alike t z) (emptied_sets t z) gone.free (emptied_kept t z (omega (arith, first.in_range, many)) first.unlisted came.landed.counts))
     (λ u z zs is r other c. first_come z zs (begun_at fields lowers (Some (record { slot = z; field = 0 }))) is c r refl (λ f within. inl (refl, omega arith)))
     v.counts.zeros v.counts refl ready h
 
 pub zeros_come : {w : Core} {crossing words : List ℕ} {v : Parts} (lowers : Bool) → HasCome w crossing words (still v) → IsReady v.counts → HasCome w crossing words (zeros_released lowers v)
 unfolding started_of
 zeros_come {v = v} lowers h ready = next_come v.fields lowers h ready
-

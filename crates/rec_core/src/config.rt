@@ -50,7 +50,8 @@ impl Config {
         ensures { IsTrue result ↔ HasOperands self.now cmd.now }
     {
         match *cmd {
-            Cmd::New { reg, .. } | Cmd::Leaf { reg, .. } | Cmd::Null { reg } | Cmd::Value { reg } => self.has_register(reg),
+            Cmd::New { reg, .. } | Cmd::Leaf { reg, .. } | Cmd::Null { reg } | Cmd::Value { reg } =>
+                self.has_register(reg),
             Cmd::Copy { dst, src } => self.has_register(dst) && self.has_register(src),
             Cmd::Get { dst, src, field } => {
                 self.has_register(dst) && self.has_register(src) && self.has_field(field)

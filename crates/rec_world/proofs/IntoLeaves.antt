@@ -1,8 +1,7 @@
 -- A write is answered NoField exactly where its object is a leaf and the log has room.
-use Rattle.std.proofs.Common.{◌≡◌, ◌↔◌, ℕ, ◌≤◌, Bool, true, false, Option, None, Some, length, slice_index_or, refl, sym, ap, subst, ◌∙◌, arith}
+use Rattle.std.proofs.Common.{◌≡◌, ◌↔◌, ℕ, ◌≤◌, Bool, true, false, Option, Some, length, slice_index_or, refl, sym, ap, subst, ◌∙◌, arith}
 use Rattle.std.proofs.lemmas.Bool.{false≢true, ne_eqb}
 use Rattle.rec_word.specs.Header.{is_leaf}
-use Rattle.rec_word.specs.declared.op.Op.TheVariants as ops
 use Rattle.rec_model.specs.Asking.{allocation}
 use Rattle.rec_model.specs.LegalOrder.{is_new}
 use Rattle.rec_model.specs.declared.command.Cmd.{Cmd}
@@ -18,7 +17,7 @@ use Rattle.rec_mutator.specs.declared.work.Work.TheVariants as works
 use Rattle.rec_mutator.proofs.Refusals.{at_phase, same_command}
 use Rattle.rec_core.specs.Cells.{cell}
 use Rattle.rec_core.specs.Config.{IsMutator}
-use Rattle.rec_core.specs.Core.{Core, cells_of, mutator, log_length}
+use Rattle.rec_core.specs.Core.{Core, cells_of, mutator}
 use Rattle.rec_core.specs.Kept.{IsKept, IsScanning}
 use Rattle.rec_core.specs.Moves.{found_by}
 use Rattle.rec_core.proofs.Steps.{actor_of}
