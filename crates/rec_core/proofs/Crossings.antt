@@ -37,7 +37,7 @@ use Rattle.rec_core.specs.Cells.{cell}
 use Rattle.rec_core.specs.Config.{IsMutator, HasLabel}
 use Rattle.rec_core.specs.Core.{Core, cells_of, sight, mutator, box, crossing_of, spare_of, with_mutator}
 use Rattle.rec_core.specs.CyclesAt.{HasCyclesAt}
-use Rattle.rec_core.specs.Kept.{IsSettledIn, HasLabelAt, IsOwn, IsBufferOf, Stand, stand_at, IsBehind, IsCrossing, IsHandshake, IsActor, IsScanning, entries_made, IsKept, HasMutators, IsMadeIn, freeing_due, IsHeader}
+use Rattle.rec_core.specs.Kept.{IsSettledIn, HasLabelAt, IsOwn, IsBufferOf, Stand, stand_at, IsBehind, IsCrossing, IsHandshake, IsActor, HasLearnt, entries_made, IsKept, HasMutators, IsMadeIn, freeing_due, IsHeader}
 use Rattle.rec_core.specs.Moves.{performed, found_by, stepped, begun_from}
 use Rattle.rec_core.specs.Pending.{epoch_at, applied_at, pending}
 use Rattle.rec_core.proofs.Actors.{own_stepped, epoch_here, handshake_stays, unsettled_due, spare_buffer, others_stay}
@@ -45,7 +45,7 @@ use Rattle.rec_core.proofs.Cycling.{cycles_moved, machine_alive}
 use Rattle.rec_core.proofs.Moves.{same_pending, crossing_amid, crossing_drops}
 use Rattle.rec_core.proofs.Rules.{performed_kept}
 use Rattle.rec_core.proofs.Shapes.{after_take, after_give}
-use Rattle.rec_core.proofs.Steps.{Makes, actor_of, in_list, its_box, register_taken, taken_slot, scans_stay, entries_stay, registers_stay, quiet_kept}
+use Rattle.rec_core.proofs.Steps.{Makes, actor_of, in_list, its_box, register_taken, taken_slot, learnt_stays, entries_stay, registers_stay, quiet_kept}
 
 -- a step that takes the own mailbox
 pub takes : (p : Private) (word : ℕ) (b : Contents) → p.phase ≡ at.Crossing → Crosses p (next_of p) (step_of p word b) at.Crossing (ops.TakeBox p.number (p.epoch + 1)) p.epoch b at.Giving
@@ -156,7 +156,7 @@ taken_kept w t kept is busy may phase =
           (others_stay t q (crossing_word (p.epoch + 1) WithMutator) b kept.mutators is q_actor);
       collector = kept.collector;
       sweeps = kept.sweeps;
-      scans = scans_stay w t q w.headers kept is (subst (IsScanning w.config.slots w.headers w.freed q.from) (sym q_phase) tt) (λ s taken. refl);
+      learnt = learnt_stays w t q w.headers kept is (subst (HasLearnt w.config.slots w.headers w.freed q.from) (sym q_phase) tt) (λ s taken. refl);
       made = subst (λ (n : ℕ). n ≤ 1 + sum_by (entries_made w.config) (slice_set w.mutators (t - 1) q)) (add-zero w.made) (entries_stay w t 0 q kept is more);
       sound = subst (λ (rss : List (List (Option ℕ))). IsSound (record (sight w) { registers = rss })) (sym (registers_stay w t q q_registers)) kept.sound;
       greens = kept.greens;
@@ -216,7 +216,7 @@ given_kept w t kept is busy may phase same =
           (others_stay t q (crossing_word (p.epoch + 1) Retired) (box w t) kept.mutators is q_actor));
       collector = kept.collector;
       sweeps = kept.sweeps;
-      scans = scans_stay w t q w.headers kept is (subst (IsScanning w.config.slots w.headers w.freed q.from) (sym q_phase) tt) (λ s taken. refl);
+      learnt = learnt_stays w t q w.headers kept is (subst (HasLearnt w.config.slots w.headers w.freed q.from) (sym q_phase) tt) (λ s taken. refl);
       made = subst (λ (n : ℕ). n ≤ 1 + sum_by (entries_made w.config) (slice_set w.mutators (t - 1) q)) (add-zero w.made) (entries_stay w t 0 q kept is (omega (arith, entries)));
       sound = subst (λ (rss : List (List (Option ℕ))). IsSound (record (sight w) { registers = rss })) (sym (registers_stay w t q q_registers)) kept.sound;
       greens = kept.greens;

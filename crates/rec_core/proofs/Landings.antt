@@ -388,7 +388,7 @@ module _ (w : Core) (crossing words : List ℕ) (q : collectors.Private) (machin
           emptied = l.emptied;
         };
         sweeps = record { odd = l.kept.sweeps.odd ∙ l.still ∙ sym on.still; few = omega (arith, l.kept.sweeps.few, l.still); some = on.some };
-        scans = l.kept.scans;
+        learnt = l.kept.learnt;
         made = l.kept.made;
         sound = l.sound;
         greens = l.greens;
@@ -433,7 +433,7 @@ module _ (w : Core) (crossing words : List ℕ) (q : collectors.Private) (machin
           emptied = l.emptied;
         };
         sweeps = record { odd = l.kept.sweeps.odd ∙ l.still; few = omega (arith, l.kept.sweeps.few, l.still); some = tt };
-        scans = l.kept.scans;
+        learnt = l.kept.learnt;
         made = l.kept.made;
         sound = l.sound;
         greens = l.greens;

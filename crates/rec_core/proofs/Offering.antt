@@ -39,7 +39,7 @@ offering_kept w k = record {
     emptied = k.collector.emptied;
   };
   sweeps = k.sweeps;
-  scans = k.scans;
+  learnt = k.learnt;
   made = k.made;
   sound = k.sound;
   greens = k.greens;

@@ -31,7 +31,7 @@ use Rattle.rec_collector.proofs.Opening.{opened_keeps}
 use Rattle.rec_collector.proofs.Following.{none_released}
 use Rattle.rec_core.specs.Config.{IsConfig, IsMutator}
 use Rattle.rec_core.specs.Core.{Core, spare_of, opened, nobody, opened_mutator, opened_mutators}
-use Rattle.rec_core.specs.Kept.{IsOwn, IsBufferOf, IsMadeIn, IsActor, HasCollector, IsScanning, IsKept, IsHeader}
+use Rattle.rec_core.specs.Kept.{IsOwn, IsBufferOf, IsMadeIn, IsActor, HasCollector, HasLearnt, IsKept, IsHeader}
 use Rattle.rec_core.specs.Pending.{Filed, buffers, writes_in, births_in, dated_names, dated_all, epoch_at, pending}
 use Rattle.rec_core.specs.declared.config.Config.{Config}
 use Rattle.rec_core.proofs.Actors.{spare_buffer}
@@ -283,7 +283,7 @@ opened_kept config is =
       };
       collector = collector_opened config is;
       sweeps = record { odd = refl; few = omega arith; some = tt };
-      scans = λ t there. subst (λ (p : Private). IsScanning config.slots (opened config).headers 0 p.from p.phase) (sym (one_of config t there)) tt;
+      learnt = λ t there. subst (λ (p : Private). HasLearnt config.slots (opened config).headers 0 p.from p.phase) (sym (one_of config t there)) tt;
       made = omega arith;
       greens = λ x green. absurd (false≢true (sym (opened_black config x) ∙ green));
       sound = rw (registers_opened config config.mutators) (opening_sound config.slots config.fields config.registers config.mutators slots);

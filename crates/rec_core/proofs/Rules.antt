@@ -31,7 +31,7 @@ use Rattle.rec_mutator.proofs.Refusals.{at_phase}
 use Rattle.rec_core.specs.Cells.{cell}
 use Rattle.rec_core.specs.Config.{IsMutator, HasLabel}
 use Rattle.rec_core.specs.Core.{Core, cells_of, sight, mutator, box, crossing_of, with_mutator}
-use Rattle.rec_core.specs.Kept.{HasLabelAt, HasPassed, IsScanning, entries_made, IsKept, IsActor, IsHeader}
+use Rattle.rec_core.specs.Kept.{HasLabelAt, HasPassed, HasLearnt, entries_made, IsKept, IsActor, IsHeader}
 use Rattle.rec_core.specs.Moves.{performed}
 use Rattle.rec_core.specs.Pending.{code, epoch_at, pending}
 use Rattle.rec_core.proofs.Actors.{one_entry, epoch_here}
@@ -119,7 +119,7 @@ module _ {w : Core} {t word : ℕ} {op : Op} {q : Private} (m : Makes w t word o
       let holds : Holds (pending w) (epoch_at p) (slot + 1) = names_held w t src slot m.kept m.is from names in
       subst (λ (n : ℕ). IsKept (record (with_mutator w t q) { words = slice_set w.words place left; made = n })) (add-zero w.made)
       (changed_kept w t q w.headers (slice_set w.words place left) 0 m.kept m.is (answered_actor a (one_entry w.config (epoch_at p) p.log _ actor.log free in_epoch)) refl m.kept.labels
-      (emptied_stays w slot f left m.kept in_range (held_stays w t slot m.kept below holds)) (a.scans w.config.slots w.freed w.headers) (λ s is. refl)
+      (emptied_stays w slot f left m.kept in_range (held_stays w t slot m.kept below holds)) (a.learnt w.config.slots w.freed w.headers) (λ s is. refl)
       (let more = entries_grow p.registers _ a in omega (arith, more))
       (subst (λ (rss : List (List (Option ℕ))). IsSound (record (sight_with_word (sight w) slot f left) { registers = rss })) (sym (registers_stay w t q a.registers_are))
       (write_sound (sight w) slot f left in_range taken unmarked (λ n is. register_taken w m.kept t val n (sym leads ∙ is)) m.kept.sound))
@@ -150,7 +150,7 @@ module _ {w : Core} {t word : ℕ} {op : Op} {q : Private} (m : Makes w t word o
       let seen : Sight = sight_with_header (sight w) slot (header_word leaf label) in
       let taken : IsTaken seen slot = (let is : slice_index_or (slice_set w.headers slot (header_word leaf label)) slot 0 ≡ header_word leaf label = get_or-set_same w.headers slot (header_word leaf label) 0 inside in omega (arith, is)) in
       changed_kept w t q (slice_set w.headers slot (header_word leaf label)) w.words 1 m.kept m.is (answered_actor a (one_entry w.config (epoch_at p) p.log _ actor.log room tt)) (length-set w.headers slot (header_word leaf label))
-      (All-set IsHeader w.headers slot (header_word leaf label) (λ _. header_taken leaf label fits) m.kept.labels) m.kept.collector (a.scans w.config.slots w.freed (slice_set w.headers slot (header_word leaf label))) (still slot (header_word leaf label) empty)
+      (All-set IsHeader w.headers slot (header_word leaf label) (λ _. header_taken leaf label fits) m.kept.labels) m.kept.collector (a.learnt w.config.slots w.freed (slice_set w.headers slot (header_word leaf label))) (still slot (header_word leaf label) empty)
       (entries_grow (slice_set p.registers reg (Some slot)) (entries.Born slot leaf ∷ []) a)
       (subst (λ (rss : List (List (Option ℕ))). IsSound (record seen { registers = rss })) (sym (registers_set w t reg (Some slot) q a.registers_are))
       (register_sound seen t reg (Some slot) (λ n is. subst (IsTaken seen) (same_Some slot n is) taken) (birth_sound (sight w) slot (header_word leaf label) inside empty m.kept.sound)))
@@ -163,8 +163,8 @@ module _ {w : Core} {t word : ℕ} {op : Op} {q : Private} (m : Makes w t word o
       still x header free s some = get_or-set_other w.headers x s header 0 (λ same. omega (arith, some, free, ap (λ n. slice_index_or w.headers n 0) same))
 
 -- what is known of a scan's slot
-pub scanned : (w : Core) (t : ℕ) (phase : phases.Phase) → IsKept w → IsMutator w.config t → (mutator w t).phase ≡ phase → IsScanning w.config.slots w.headers w.freed (mutator w t).from phase
-scanned w t phase kept is at = subst (IsScanning w.config.slots w.headers w.freed (mutator w t).from) at (kept.scans t is)
+pub scanned : (w : Core) (t : ℕ) (phase : phases.Phase) → IsKept w → IsMutator w.config t → (mutator w t).phase ≡ phase → HasLearnt w.config.slots w.headers w.freed (mutator w t).from phase
+scanned w t phase kept is at = subst (HasLearnt w.config.slots w.headers w.freed (mutator w t).from) at (kept.learnt t is)
 
 -- a probe's word
 pub probe_found : (w : Core) (word slot header : ℕ) (op : Op) → word ≡ cell (cells_of w) op → op ≡ ops.ClaimHeader slot header → word ≡ slice_index_or w.headers slot 0

@@ -43,7 +43,7 @@ use Rattle.rec_core.specs.Cells.{cell}
 use Rattle.rec_core.specs.Config.{IsMutator}
 use Rattle.rec_core.specs.Core.{Core, cells_of, sight, mutator, box, crossing_of, nobody, with_mutator}
 use Rattle.rec_core.specs.CyclesAt.{HasCyclesAt}
-use Rattle.rec_core.specs.Kept.{IsSettledIn, HasLabelAt, IsHandshake, stand_at, IsOwn, IsBufferOf, IsActor, HasCollector, IsScanning, HasScans, entries_made, freeing_due, IsKept, IsHeader}
+use Rattle.rec_core.specs.Kept.{IsSettledIn, HasLabelAt, IsHandshake, stand_at, IsOwn, IsBufferOf, IsActor, HasCollector, HasLearnt, HaveLearnt, entries_made, freeing_due, IsKept, IsHeader}
 use Rattle.rec_core.specs.Pending.{code, epoch_at, slot_of, pending}
 use Rattle.rec_core.specs.declared.config.Config.{Config}
 use Rattle.rec_core.proofs.Actors.{own_stepped, settled_here, epoch_here, behind_due, actor_stays, mutator_changes}
@@ -153,22 +153,22 @@ emptied_stays w slot f new kept in_range unreleased =
     }
 
 -- the scans of all mutators, where one goes on
-pub scans_stay : (w : Core) (t : ℕ) (q : Private) (headers : List ℕ) → IsKept w → IsMutator w.config t → IsScanning w.config.slots headers w.freed q.from q.phase
-    → ((s : ℕ) → 0 < slice_index_or w.headers s 0 → slice_index_or headers s 0 ≡ slice_index_or w.headers s 0) → HasScans w.config headers w.freed (slice_set w.mutators (t - 1) q)
-scans_stay w t q headers kept is scans still s there = elim (cases_eq s t) [
+pub learnt_stays : (w : Core) (t : ℕ) (q : Private) (headers : List ℕ) → IsKept w → IsMutator w.config t → HasLearnt w.config.slots headers w.freed q.from q.phase
+    → ((s : ℕ) → 0 < slice_index_or w.headers s 0 → slice_index_or headers s 0 ≡ slice_index_or w.headers s 0) → HaveLearnt w.config headers w.freed (slice_set w.mutators (t - 1) q)
+learnt_stays w t q headers kept is learnt still s there = elim (cases_eq s t) [
   | inl same ↦
       let here : slice_index_or (slice_set w.mutators (t - 1) q) (s - 1) nobody ≡ q
       = ap (λ n. slice_index_or (slice_set w.mutators (t - 1) q) (n - 1) nobody) same ∙ get_or-set_same w.mutators (t - 1) q nobody (in_list w t kept is) in
-      subst (λ (p : Private). IsScanning w.config.slots headers w.freed p.from p.phase) (sym here) scans
+      subst (λ (p : Private). HasLearnt w.config.slots headers w.freed p.from p.phase) (sym here) learnt
   | inr other ↦
       let apart : (s - 1) ≢ (t - 1) = λ e. other (omega (arith, is.0, there.0)) in
-      subst (λ (p : Private). IsScanning w.config.slots headers w.freed p.from p.phase) (sym (get_or-set_other w.mutators (t - 1) (s - 1) q nobody apart)) (grown (mutator w s).from (mutator w s).phase refl (kept.scans s there))
+      subst (λ (p : Private). HasLearnt w.config.slots headers w.freed p.from p.phase) (sym (get_or-set_other w.mutators (t - 1) (s - 1) q nobody apart)) (grown (mutator w s).from (mutator w s).phase refl (kept.learnt s there))
 ]
   where
     more : (z : ℕ) → 0 < slice_index_or w.headers z 0 → 0 < slice_index_or headers z 0
     more z some = omega (arith, some, still z some)
 
-    grown : (from : ℕ) (phase : phases.Phase) → (mutator w s).phase ≡ phase → IsScanning w.config.slots w.headers w.freed from phase → IsScanning w.config.slots headers w.freed from phase
+    grown : (from : ℕ) (phase : phases.Phase) → (mutator w s).phase ≡ phase → HasLearnt w.config.slots w.headers w.freed from phase → HasLearnt w.config.slots headers w.freed from phase
     grown from at.Idle here is = tt
     grown from (at.Begun work) here is = tt
     grown from (at.Scanning reg label leaf before probed) here is = (is.0, λ same even count below. more (slot_behind w.config.slots from count) (is.1 same even count below))
@@ -198,12 +198,12 @@ leaf_some header leaf = grind (arith, nat_tests, leaf)
 -- A heap in which a mutator has moved, with headers, words and births, is kept where each part of it is.
 pub changed_kept : (w : Core) (t : ℕ) (q : Private) (headers words : List ℕ) (births : ℕ) → IsKept w → IsMutator w.config t → IsActor w.config w.epoch w.collector.phase t q (crossing_of w t) (box w t)
     → length headers ≡ length w.headers → All IsHeader headers → HasCollector w.config w.epoch words w.collector
-    → IsScanning w.config.slots headers w.freed q.from q.phase → ((s : ℕ) → 0 < slice_index_or w.headers s 0 → slice_index_or headers s 0 ≡ slice_index_or w.headers s 0)
+    → HasLearnt w.config.slots headers w.freed q.from q.phase → ((s : ℕ) → 0 < slice_index_or w.headers s 0 → slice_index_or headers s 0 ≡ slice_index_or w.headers s 0)
     → entries_made w.config (mutator w t) + births ≤ entries_made w.config q
     → IsSound (sight (record (with_mutator w t q) { headers = headers; words = words }))
     → HasAccounts w (pending (record (with_mutator w t q) { headers = headers; words = words; made = w.made + births }))
     → IsKept (record (with_mutator w t q) { headers = headers; words = words; made = w.made + births })
-changed_kept w t q headers words births kept is actor same labels collector scans still entries sound accounts =
+changed_kept w t q headers words births kept is actor same labels collector learnt still entries sound accounts =
     record {
       config = kept.config;
       headers = same ∙ kept.headers;
@@ -211,7 +211,7 @@ changed_kept w t q headers words births kept is actor same labels collector scan
       mutators = mutator_changes t q kept.mutators is actor;
       collector = collector;
       sweeps = kept.sweeps;
-      scans = scans_stay w t q headers kept is scans still;
+      learnt = learnt_stays w t q headers kept is learnt still;
       made = entries_stay w t births q kept is entries;
       sound = sound;
       greens = λ x green. ap is_leaf (still x (leaf_some (slice_index_or w.headers x 0) (kept.greens x green))) ∙ kept.greens x green;
@@ -252,12 +252,12 @@ same_entries config p q epoch log =
 
 -- A step that changes nothing but how far a work has come.
 pub quiet_kept : (w : Core) (t : ℕ) (q : Private) → IsKept w → IsMutator w.config t → IsOwn w.config t q → is_giving (mutator w t).phase ≡ false → is_giving q.phase ≡ false → q.epoch ≡ (mutator w t).epoch
-    → IsActor w.config w.epoch w.collector.phase t q (crossing_of w t) (box w t) → q.log ≡ (mutator w t).log → q.registers ≡ (mutator w t).registers → IsScanning w.config.slots w.headers w.freed q.from q.phase
+    → IsActor w.config w.epoch w.collector.phase t q (crossing_of w t) (box w t) → q.log ≡ (mutator w t).log → q.registers ≡ (mutator w t).registers → HasLearnt w.config.slots w.headers w.freed q.from q.phase
     → IsKept (with_mutator w t q)
-quiet_kept w t q kept is own here stays epoch actor log registers scans =
+quiet_kept w t q kept is own here stays epoch actor log registers learnt =
     let same : epoch_at q ≡ epoch_at (mutator w t) = epoch_here q stays ∙ epoch ∙ sym (epoch_here (mutator w t) here) in
     subst (λ (n : ℕ). IsKept (record (with_mutator w t q) { made = n })) (add-zero w.made)
-    (changed_kept w t q w.headers w.words 0 kept is actor refl kept.labels kept.collector scans (λ s taken. refl) (same_entries w.config (mutator w t) q same log)
+    (changed_kept w t q w.headers w.words 0 kept is actor refl kept.labels kept.collector learnt (λ s taken. refl) (same_entries w.config (mutator w t) q same log)
     (subst (λ (rss : List (List (Option ℕ))). IsSound (record (sight w) { registers = rss })) (sym (registers_stay w t q registers)) kept.sound)
     (stayed_accounts w _ kept (same_pending w t q log registers same)))
 
@@ -266,7 +266,7 @@ abbrev IsAnswered : phases.Phase → Type 0
 IsAnswered (at.Finished work made) = Unit {0}
 IsAnswered _ = ⊥
 
-answered_parts : (slots freed from : ℕ) (headers : List ℕ) (phase : phases.Phase) → IsAnswered phase → IsSettledIn phase × (HasLabelAt phase × IsScanning slots headers freed from phase)
+answered_parts : (slots freed from : ℕ) (headers : List ℕ) (phase : phases.Phase) → IsAnswered phase → IsSettledIn phase × (HasLabelAt phase × HasLearnt slots headers freed from phase)
 answered_parts slots freed from headers (at.Finished work made) is = (tt, (tt, tt))
 answered_parts slots freed from headers _ is = absurd is
 
@@ -274,7 +274,7 @@ answered_parts slots freed from headers _ is = absurd is
 pub record Answers {w : Core} {t word : ℕ} {op : Op} {q : Private} (m : Makes w t word op q) (registers : List (Option ℕ)) (entries : List Entry) : Type 0 where
   pub here : is_giving (mutator w t).phase ≡ false
   pub settled : IsSettledIn q.phase
-  pub scans : (slots freed : ℕ) (headers : List ℕ) → IsScanning slots headers freed q.from q.phase
+  pub learnt : (slots freed : ℕ) (headers : List ℕ) → HasLearnt slots headers freed q.from q.phase
   pub own : IsOwn w.config t q
   pub epoch : q.epoch ≡ (mutator w t).epoch
   pub same : epoch_at q ≡ epoch_at (mutator w t)
@@ -291,7 +291,7 @@ answers {w = w} {t = t} {q = q} gives m d =
     record {
       here = here;
       settled = settled;
-      scans = λ slots freed headers. (answered_parts slots freed q.from headers q.phase done).1.1;
+      learnt = λ slots freed headers. (answered_parts slots freed q.from headers q.phase done).1.1;
       own = own_stepped (actor_of w t m.kept m.is).own (its_box w t m.kept m.is) m.may m.step (answered_parts 0 0 0 [] q.phase done).1.0;
       epoch = epoch;
       same = epoch_here q (settled_here q.phase settled) ∙ epoch ∙ sym (epoch_here (mutator w t) here);
@@ -312,7 +312,7 @@ pub unchanged : {w : Core} {t word : ℕ} {op : Op} {q : Private} {cmd : Cmd} {a
 unchanged {w = w} {t = t} {q = q} gives m d =
     let a = answers gives m d in
     let actor = actor_of w t m.kept m.is in
-    quiet_kept w t q m.kept m.is a.own a.here (settled_here q.phase a.settled) a.epoch (answered_actor a actor.log) a.log a.registers_are (a.scans w.config.slots w.freed w.headers)
+    quiet_kept w t q m.kept m.is a.own a.here (settled_here q.phase a.settled) a.epoch (answered_actor a actor.log) a.log a.registers_are (a.learnt w.config.slots w.freed w.headers)
 
 -- an answer that sets a register to null, to what the mutator holds, or to what it finds in a field
 pub sets : {w : Core} {t word : ℕ} {op : Op} {q : Private} {cmd : Cmd} {at : phases.Phase} {its_op : Op} {told : Told} (r : ℕ) (x : Option ℕ)
@@ -323,14 +323,14 @@ sets {w = w} {t = t} {q = q} r x gives m within may value d =
     let a = answers gives m d in
     let actor = actor_of w t m.kept m.is in
     subst (λ (n : ℕ). IsKept (record (with_mutator w t q) { made = n })) (add-zero w.made)
-    (changed_kept w t q w.headers w.words 0 m.kept m.is (answered_actor a actor.log) refl m.kept.labels m.kept.collector (a.scans w.config.slots w.freed w.headers) (λ s taken. refl) (same_entries w.config (mutator w t) q a.same a.log)
+    (changed_kept w t q w.headers w.words 0 m.kept m.is (answered_actor a actor.log) refl m.kept.labels m.kept.collector (a.learnt w.config.slots w.freed w.headers) (λ s taken. refl) (same_entries w.config (mutator w t) q a.same a.log)
     (subst (λ (rss : List (List (Option ℕ))). IsSound (record (sight w) { registers = rss })) (sym (registers_set w t r x q a.registers_are)) (register_sound (sight w) t r x may m.kept.sound))
     (moved_accounts w _ m.kept (Move.register (register_moves w t r x q (in_list w t m.kept m.is) within a.registers_are a.log a.same value)) tt tt))
 
 -- a step after which the work goes on, in a settled phase
 pub goes_on : {w : Core} {t word : ℕ} {op : Op} {q : Private} {at : phases.Phase} {its_op : Op} {next_phase : phases.Phase}
-    → is_giving at ≡ false → (m : Makes w t word op q) → IsSettledIn next_phase → HasLabelAt next_phase → IsScanning w.config.slots w.headers w.freed (mutator w t).from next_phase → GoesOn (mutator w t) op q at its_op next_phase → IsKept (with_mutator w t q)
-goes_on {w = w} {t = t} {q = q} gives m settled label scans g =
+    → is_giving at ≡ false → (m : Makes w t word op q) → IsSettledIn next_phase → HasLabelAt next_phase → HasLearnt w.config.slots w.headers w.freed (mutator w t).from next_phase → GoesOn (mutator w t) op q at its_op next_phase → IsKept (with_mutator w t q)
+goes_on {w = w} {t = t} {q = q} gives m settled label learnt g =
     let here : is_giving (mutator w t).phase ≡ false = ap is_giving g.phase ∙ gives in
     let phase = ap (λ (x : Private). x.phase) g.after in
     let q_settled : IsSettledIn q.phase = subst IsSettledIn (sym phase) settled in
@@ -340,7 +340,7 @@ goes_on {w = w} {t = t} {q = q} gives m settled label scans g =
     let own : IsOwn w.config t q = own_stepped actor.own (its_box w t m.kept m.is) m.may m.step (subst HasLabelAt (sym phase) label) in
     quiet_kept w t q m.kept m.is own here (settled_here q.phase q_settled) epoch
     (actor_stays actor own here q_settled epoch (subst (IsBufferOf w.config (epoch_at (mutator w t))) (sym log) actor.log) (ap (λ (b : Contents). named b.snapshot) log ∙ actor.unwritten))
-    log (ap (λ (x : Private). x.registers) g.after) (subst (λ (x : Private). IsScanning w.config.slots w.headers w.freed x.from x.phase) (sym g.after) scans)
+    log (ap (λ (x : Private). x.registers) g.after) (subst (λ (x : Private). HasLearnt w.config.slots w.headers w.freed x.from x.phase) (sym g.after) learnt)
 
 -- a poll that found the next epoch: the mutator is about to cross, and its mailbox is home with a spare
 pub about_to_cross : {w : Core} {t word : ℕ} {op : Op} {q : Private} → (m : Makes w t word op q) → word ≢ (mutator w t).epoch → GoesOn (mutator w t) op q (at.Begun works.Poll) ops.LoadEpoch at.Crossing → IsKept (with_mutator w t q)
@@ -364,4 +364,4 @@ about_to_cross {w = w} {t = t} {word = word} {q = q} m other g =
       handshake = subst (IsHandshake w.config w.epoch q (crossing_of w t) (box w t)) (sym due)
           (inl (record { epoch = ap (λ n. n + 1) epoch ∙ behind.epoch; word = behind.word ∙ ap (λ n. crossing_word n Spare) (sym epoch); here = stays; spare = behind.spare }));
     })
-    log (ap (λ (x : Private). x.registers) g.after) (subst (IsScanning w.config.slots w.headers w.freed q.from) (sym phase) tt)
+    log (ap (λ (x : Private). x.registers) g.after) (subst (HasLearnt w.config.slots w.headers w.freed q.from) (sym phase) tt)

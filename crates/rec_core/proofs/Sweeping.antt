@@ -44,7 +44,7 @@ use Rattle.rec_core.specs.Config.{IsMutator}
 use Rattle.rec_core.specs.Core.{Core, sight, nobody}
 use Rattle.rec_core.specs.Cycles.{SetsWait}
 use Rattle.rec_core.specs.CyclesAt.{HasCyclesAt}
-use Rattle.rec_core.specs.Kept.{freeing_due, IsBufferOf, Stand, stand_at, HasPassed, IsScanning, HasScans, one_if_sweeping, IsSomeSwept, IsKept, IsHeader}
+use Rattle.rec_core.specs.Kept.{freeing_due, IsBufferOf, Stand, stand_at, HasPassed, HasLearnt, HaveLearnt, one_if_sweeping, IsSomeSwept, IsKept, IsHeader}
 use Rattle.rec_core.specs.Pending.{dated_all, epoch_at, older_at, applied_at, pending}
 use Rattle.rec_core.specs.declared.config.Config.{Config}
 use Rattle.rec_core.proofs.Counts.{slot_in, accounts_with, emptied_leads}
@@ -56,10 +56,10 @@ use Rattle.rec_word.specs.Header.{is_leaf}
 use Rattle.rec_counts.specs.Colour.{is_green}
 
 -- as a sweep begins or ends, a scan that has begun before knows nothing more
-scans_change : (config : Config) (headers later : List ℕ) (freed next : ℕ) (mutators : List Private) → ((from before probed : ℕ) → HasPassed config.slots headers freed from before probed → HasPassed config.slots later next from before probed) → ((slot : ℕ) → is_leaf (slice_index_or headers slot 0) ≡ false → is_leaf (slice_index_or later slot 0) ≡ false) → HasScans config headers freed mutators → HasScans config later next mutators
-scans_change config headers later freed next mutators change unmarked scans t is = go (slice_index_or mutators (t - 1) nobody).from (slice_index_or mutators (t - 1) nobody).phase (scans t is)
+learnt_change : (config : Config) (headers later : List ℕ) (freed next : ℕ) (mutators : List Private) → ((from before probed : ℕ) → HasPassed config.slots headers freed from before probed → HasPassed config.slots later next from before probed) → ((slot : ℕ) → is_leaf (slice_index_or headers slot 0) ≡ false → is_leaf (slice_index_or later slot 0) ≡ false) → HaveLearnt config headers freed mutators → HaveLearnt config later next mutators
+learnt_change config headers later freed next mutators change unmarked learnt t is = go (slice_index_or mutators (t - 1) nobody).from (slice_index_or mutators (t - 1) nobody).phase (learnt t is)
   where
-    go : (from : ℕ) (phase : phases.Phase) → IsScanning config.slots headers freed from phase → IsScanning config.slots later next from phase
+    go : (from : ℕ) (phase : phases.Phase) → HasLearnt config.slots headers freed from phase → HasLearnt config.slots later next from phase
     go from at.Idle s = tt
     go from (at.Begun work) s = tt
     go from (at.Scanning reg label leaf before probed) s = change from before probed s
@@ -113,7 +113,7 @@ module _ (w : Core) (due : Option ℕ) (kept : IsKept w) (phase : w.collector.ph
           emptied = emptied_in w Opening kept phase;
         };
         sweeps = record { odd = odd_next w.freed (kept.sweeps.odd ∙ still); few = omega (arith, kept.sweeps.few, still); some = tt };
-        scans = scans_change w.config w.headers w.headers w.freed (w.freed + 1) w.mutators (passed_more w.config.slots w.headers w.freed) (λ slot unmarked. unmarked) kept.scans;
+        learnt = learnt_change w.config w.headers w.headers w.freed (w.freed + 1) w.mutators (passed_more w.config.slots w.headers w.freed) (λ slot unmarked. unmarked) kept.learnt;
         made = kept.made;
         sound = kept.sound;
         greens = kept.greens;
@@ -167,7 +167,7 @@ module _ (w : Core) (swept_ : ℕ) (kept : IsKept w) (phase : w.collector.phase 
           emptied = emptied_in w (Closing swept_) kept phase;
         };
         sweeps = record { odd = even_next w.freed (kept.sweeps.odd ∙ odd); few = omega (arith, kept.sweeps.few, odd); some = tt };
-        scans = scans_change w.config w.headers w.headers w.freed (w.freed + 1) w.mutators (passed_more w.config.slots w.headers w.freed) (λ slot unmarked. unmarked) kept.scans;
+        learnt = learnt_change w.config w.headers w.headers w.freed (w.freed + 1) w.mutators (passed_more w.config.slots w.headers w.freed) (λ slot unmarked. unmarked) kept.learnt;
         made = kept.made;
         sound = kept.sound;
         greens = kept.greens;
@@ -330,9 +330,9 @@ module _ (w : Core) (done : ℕ) (x : ℕ) (kept : IsKept w) (phase : w.collecto
       | inl same ↦ absurd (unheld s (subst (λ m. is_in m (targets_of (sight w) s) ≡ true) same there))
       | inr other ↦ still_taken n other (kept.sound.fields s n (was_taken s taken).1 there)
     ];
-    free = λ s there open_slot. elim (cases_eq s x) [
+    free = λ s there offered. elim (cases_eq s x) [
       | inl same ↦ ap (words_of (sight w)) same ∙ null_words
-      | inr other ↦ kept.sound.free s (subst (λ n. s < n) (length-set w.headers x 0) there) (λ taken. open_slot (still_taken s other taken))
+      | inr other ↦ kept.sound.free s (subst (λ n. s < n) (length-set w.headers x 0) there) (λ taken. offered (still_taken s other taken))
     ];
     leaves = λ s leaf. elim (cases_eq s x) [
       | inl same ↦ ap (words_of (sight w)) same ∙ null_words
@@ -450,7 +450,7 @@ module _ (w : Core) (done : ℕ) (x : ℕ) (kept : IsKept w) (phase : w.collecto
           ];
         };
         sweeps = record { odd = kept.sweeps.odd ∙ odd ∙ sym on.sweeping; few = omega (arith, kept.sweeps.few, odd, on.sweeping); some = on.some };
-        scans = scans_change w.config w.headers (slice_set w.headers x 0) w.freed w.freed w.mutators (λ from before probed is. (is.0, λ now even. absurd (omega (arith, odd, kept.sweeps.odd, ap (λ n. n % 2) now, even)))) (swept_unmarked w.headers x (omega (arith, swept_below, headers))) kept.scans;
+        learnt = learnt_change w.config w.headers (slice_set w.headers x 0) w.freed w.freed w.mutators (λ from before probed is. (is.0, λ now even. absurd (omega (arith, odd, kept.sweeps.odd, ap (λ n. n % 2) now, even)))) (swept_unmarked w.headers x (omega (arith, swept_below, headers))) kept.learnt;
         made = kept.made;
         sound = sound;
         greens = λ y green. elim (cases_eq y x) [

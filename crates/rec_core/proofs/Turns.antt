@@ -188,7 +188,7 @@ module _ (w : Core) (c : collectors.Private) (kept : IsKept w) (idle : w.collect
           emptied = emptied_in w Idle kept idle;
         };
         sweeps = record { odd = kept.sweeps.odd ∙ none; few = omega (arith, kept.sweeps.few, none); some = tt };
-        scans = kept.scans;
+        learnt = kept.learnt;
         made = kept.made;
         sound = kept.sound;
         greens = kept.greens;
@@ -383,7 +383,7 @@ module _ (w : Core) (t : ℕ) (kept : IsKept w) (phase : w.collector.phase ≡ L
           emptied = emptied_in w (Looking t) kept phase;
         };
         sweeps = record { odd = kept.sweeps.odd ∙ none; few = omega (arith, kept.sweeps.few, none); some = tt };
-        scans = kept.scans;
+        learnt = kept.learnt;
         made = kept.made;
         sound = kept.sound;
         greens = kept.greens;
@@ -451,7 +451,7 @@ module _ (w : Core) (t : ℕ) (kept : IsKept w) (phase : w.collector.phase ≡ R
           emptied = emptied_in w (Returning t) kept phase;
         };
         sweeps = record { odd = kept.sweeps.odd ∙ none; few = omega (arith, kept.sweeps.few, none); some = tt };
-        scans = kept.scans;
+        learnt = kept.learnt;
         made = kept.made;
         sound = kept.sound;
         greens = kept.greens;

@@ -187,16 +187,16 @@ pub record HasSweeps (freed : ℕ) (collections : ℕ) (phase : Phase) : Type 0 
 abbrev pub HasPassed : (slots : ℕ) → (headers : List ℕ) → (freed from before probed : ℕ) → Type 0
 HasPassed slots headers freed from before probed = (before ≤ freed) × (before ≡ freed → before % 2 ≡ 0 → (count : ℕ) → count < probed → 0 < slice_index_or headers (slot_behind slots from count) 0)
 
--- what is known of an allocation's scan, by phase; and of a write that goes on, that its object is no leaf
-abbrev pub IsScanning : (slots : ℕ) → (headers : List ℕ) → (freed from : ℕ) → phases.Phase → Type 0
-IsScanning slots headers freed from (at.Scanning reg label leaf before probed) = HasPassed slots headers freed from before probed
-IsScanning slots headers freed from (at.Scanned reg label leaf before) = HasPassed slots headers freed from before slots
-IsScanning slots headers freed from (at.Storing src f val slot) = is_leaf (slice_index_or headers slot 0) ≡ false
-IsScanning slots headers freed from _ = Unit {0}
+-- what is known of a work, by phase: of an allocation, which slots its scan has found taken; of a write that goes on, that its object is no leaf
+abbrev pub HasLearnt : (slots : ℕ) → (headers : List ℕ) → (freed from : ℕ) → phases.Phase → Type 0
+HasLearnt slots headers freed from (at.Scanning reg label leaf before probed) = HasPassed slots headers freed from before probed
+HasLearnt slots headers freed from (at.Scanned reg label leaf before) = HasPassed slots headers freed from before slots
+HasLearnt slots headers freed from (at.Storing src f val slot) = is_leaf (slice_index_or headers slot 0) ≡ false
+HasLearnt slots headers freed from _ = Unit {0}
 
--- what is known of all scans
-abbrev pub HasScans : Config → (headers : List ℕ) → (freed : ℕ) → (mutators : List Private) → Type 0
-HasScans config headers freed mutators = (t : ℕ) → IsMutator config t → IsScanning config.slots headers freed (slice_index_or mutators (t - 1) nobody).from (slice_index_or mutators (t - 1) nobody).phase
+-- what is known of the works of all mutators
+abbrev pub HaveLearnt : Config → (headers : List ℕ) → (freed : ℕ) → (mutators : List Private) → Type 0
+HaveLearnt config headers freed mutators = (t : ℕ) → IsMutator config t → HasLearnt config.slots headers freed (slice_index_or mutators (t - 1) nobody).from (slice_index_or mutators (t - 1) nobody).phase
 
 -- the entries that a mutator has made at most since the opening: a full log for each epoch that it left, and those of its log
 abbrev pub entries_made : Config → Private → ℕ
@@ -218,7 +218,7 @@ pub record IsKept (w : Core) : Type 0 where
   pub mutators : HasMutators w.config w.epoch w.collector.phase w.mutators w.crossing w.boxes
   pub collector : HasCollector w.config w.epoch w.words w.collector
   pub sweeps : HasSweeps w.freed w.collector.collections w.collector.phase
-  pub scans : HasScans w.config w.headers w.freed w.mutators
+  pub learnt : HaveLearnt w.config w.headers w.freed w.mutators
   pub made : w.made ≤ 1 + sum_by (entries_made w.config) w.mutators
   pub sound : IsSound (sight w)
   pub greens : HasGreens w.headers w.collector.counts

@@ -26,7 +26,7 @@ use Rattle.rec_mutator.specs.declared.work.Work.TheVariants as works
 use Rattle.rec_core.specs.Cells.{cell}
 use Rattle.rec_core.specs.Config.{IsMutator}
 use Rattle.rec_core.specs.Core.{Core, sight, cells_of, mutator, log_length}
-use Rattle.rec_core.specs.Kept.{IsKept, IsScanning, HasPassed}
+use Rattle.rec_core.specs.Kept.{IsKept, HasLearnt, HasPassed}
 use Rattle.rec_core.specs.Moves.{found_by, stepped}
 use Rattle.rec_core.specs.Pending.{epoch_at}
 use Rattle.rec_core.specs.Shown.{IsDecided, IsFilled, IsBirthplace}
@@ -114,7 +114,7 @@ module _ (limits : Limits) (start : Moment) (lines : List (List Line)) (events :
       let (reg, label, leaf, phase) = found_none (mutator w t).phase before none.scanned in
       let has : HasMet limits start events home n.next t (mutator w t).from before limits.slots = subst (Meets limits start events home n.next t (mutator w t).from) phase meets in
       let freed : found_by w t ≡ w.freed = looks_again w t reg label leaf before phase in
-      let passed : HasPassed w.config.slots w.headers w.freed (mutator w t).from before w.config.slots = subst (IsScanning w.config.slots w.headers w.freed (mutator w t).from) phase (kept.scans t is) in
+      let passed : HasPassed w.config.slots w.headers w.freed (mutator w t).from before w.config.slots = subst (HasLearnt w.config.slots w.headers w.freed (mutator w t).from) phase (kept.learnt t is) in
       let below : before ≤ w.freed = passed.0 in
       let own = (actor_of w t kept is).own in
       let there : (mutator w t).from < limits.slots = subst (λ x. (mutator w t).from < x) (own.slots ∙ sym (ap (λ (l : Limits). l.slots) numbers)) own.machine.from in

@@ -18,7 +18,7 @@ use Rattle.rec_mutator.proofs.Refusals.{at_phase, same_command}
 use Rattle.rec_core.specs.Cells.{cell}
 use Rattle.rec_core.specs.Config.{IsMutator}
 use Rattle.rec_core.specs.Core.{Core, cells_of, mutator}
-use Rattle.rec_core.specs.Kept.{IsKept, IsScanning}
+use Rattle.rec_core.specs.Kept.{IsKept, HasLearnt}
 use Rattle.rec_core.specs.Moves.{found_by}
 use Rattle.rec_core.proofs.Steps.{actor_of}
 use Rattle.rec_world.specs.World.{WritesLeaf}
@@ -57,7 +57,7 @@ first_step w t src f val slot kept is busy work names leaf = go (mutator w t).ph
         let store : IsStore (mutator w t) object field value at = (at_phase (mutator w t) (Storing object field value at) (actor_of w t kept is).own.machine its).0 in
         let both : ◌≡◌ {A = Option ℕ} (Some at) (Some slot) = sym store.source ∙ ap (register (mutator w t)) sources ∙ names in
         let same : at ≡ slot = cc in
-        let unmarked : is_leaf (slice_index_or w.headers at 0) ≡ false = subst (IsScanning w.config.slots w.headers w.freed (mutator w t).from) its (kept.scans t is) in
+        let unmarked : is_leaf (slice_index_or w.headers at 0) ≡ false = subst (HasLearnt w.config.slots w.headers w.freed (mutator w t).from) its (kept.learnt t is) in
         absurd (false≢true (sym unmarked ∙ ap (λ n. is_leaf (slice_index_or w.headers n 0)) same ∙ leaf))
     go Crossing its busy work = cc
     go Swapping its busy work = cc

@@ -42,9 +42,9 @@ use Rattle.rec_core.specs.Settling.{word_in, heap_sum, offered_slots, seen_in, I
 use Rattle.rec_core.proofs.Counts.{counted_slot}
 use Rattle.rec_core.proofs.Landed.{landed_pending, HasLanded}
 use Rattle.rec_core.proofs.Reach.{sight_is}
-use Rattle.rec_core.proofs.Rest.SettlingFinds.{garbage_unheld, open_other, open_unreleased, trial_finds_garbage}
+use Rattle.rec_core.proofs.Rest.SettlingFinds.{garbage_unheld, offered_other, offered_unreleased, trial_finds_garbage}
 use Rattle.rec_core.proofs.Rest.SettlingPrepared.{loads_begun}
-use Rattle.rec_core.proofs.Rest.SettlingSets.{found_counts, found_lead_back, references_in_words, seen_from, seen_other}
+use Rattle.rec_core.proofs.Rest.SettlingSets.{found_counts, found_lead_back, references_in_words, led_where_seen, seen_is_other}
 use Rattle.rec_core.proofs.Steps.{fields_many, taken_slot}
 use Rattle.rec_core.proofs.Trying.{loaded_leads}
 use Rattle.rec_core.proofs.Turns.{now_at}
@@ -132,13 +132,13 @@ module _ {w : Core} {crossing words : List ℕ} {v : Parts} (l : HasLanded w cro
       let long : length words ≡ length t.slots * fields = words_landed ∙ ap (λ n. n * fields) (sym keeps.rest.slots) in
       let leaves : AreLeaves fields words t = λ place inside green. leaves_landed place inside (sym (offers.green (place / fields)) ∙ green) in (
         record {
-          seeds = λ x e. offers.seeds x (sym (keeps.rest.released x) ∙ open_unreleased (slot_at t x) e) (sym (offers.green x) ∙ open_other (slot_at t x) e);
+          seeds = λ x e. offers.seeds x (sym (keeps.rest.released x) ∙ offered_unreleased (slot_at t x) e) (sym (offers.green x) ∙ offered_other (slot_at t x) e);
           counted = λ x e.
-              let there : x < w.config.slots = omega (arith, unreleased_within t x (open_unreleased (slot_at t x) e), keeps.rest.slots, l.slots) in
-              let words_of : references fields (seen_in fields words t) (offered_slots t) x ≡ heap_sum words x = references_in_words fields words t x l.kept.config.some_fields long empty leaves (open_other (slot_at t x) e) in
+              let there : x < w.config.slots = omega (arith, unreleased_within t x (offered_unreleased (slot_at t x) e), keeps.rest.slots, l.slots) in
+              let words_of : references fields (seen_in fields words t) (offered_slots t) x ≡ heap_sum words x = references_in_words fields words t x l.kept.config.some_fields long empty leaves (offered_other (slot_at t x) e) in
               keeps.counts x ∙ counted x there ∙ ap (λ n. n + holds (sight w) x) (sym words_of);
           held = λ x h. keeps.rest.released x ∙ held_unreleased x h;
-          shown = λ n field x within leads. (not_green n field x within leads (is_green (slot_at t n).colour) refl, seen_other t (word_in fields words n field) x leads);
+          shown = λ n field x within leads. (not_green n field x within leads (is_green (slot_at t n).colour) refl, seen_is_other t (word_in fields words n field) x leads);
         },
         empty,
         leaves,
@@ -147,7 +147,7 @@ module _ {w : Core} {crossing words : List ℕ} {v : Parts} (l : HasLanded w cro
       not_green : (n field x : ℕ) → field < w.config.fields → target_of (seen_in w.config.fields words (with_offers v).counts n field) ≡ Some x → (b : Bool) → is_green (slot_at (with_offers v).counts n).colour ≡ b → b ≡ false
       not_green n field x within leads false e = refl
       not_green n field x within leads true e =
-          let raw : target_of (word_in w.config.fields words n field) ≡ Some x = seen_from (with_offers v).counts (word_in w.config.fields words n field) x leads in
+          let raw : target_of (word_in w.config.fields words n field) ≡ Some x = led_where_seen (with_offers v).counts (word_in w.config.fields words n field) x leads in
           let none : word_in w.config.fields words n field ≡ 0 = leaf_empty l n field within (sym ((offers_whole v asked l.counts none_sets).0.green n) ∙ e) in
           let null : target_of 0 ≡ None = refl in
           let not_so : ◌≡◌ {A = Option ℕ} None (Some x) = sym null ∙ (ap target_of (sym none) ∙ raw) in
@@ -241,7 +241,7 @@ trial_rests_more w m place kept phase named h =
 -- a path of words that the trial sees is one of words
 raw_path : (fields : ℕ) (words : List ℕ) (s : State) (held : ℕ → ℕ) {x : ℕ} → IsReachable fields (seen_in fields words s) held x → IsReachable fields (word_in fields words) held x
 raw_path fields words s held (IsReachable.held h) = IsReachable.held h
-raw_path fields words s held (IsReachable.along {n = n} {x = x} p field within leads) = IsReachable.along (raw_path fields words s held p) field within (seen_from s (word_in fields words n field) x leads)
+raw_path fields words s held (IsReachable.along {n = n} {x = x} p field within leads) = IsReachable.along (raw_path fields words s held p) field within (led_where_seen s (word_in fields words n field) x leads)
 
 -- The trial is over: it found what is not within reach, and its sets are to be prepared.
 pub prep_rests_begun : {w : Core} {crossing words : List ℕ} (v : Parts) (m : Machine) → HasLanded w crossing words (still v) → TrialRests w words (record { machine = m; counts = v.counts }) → trial_next m ≡ None

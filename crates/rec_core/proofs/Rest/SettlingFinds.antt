@@ -22,22 +22,22 @@ use Rattle.rec_core.specs.Settling as settling
 use Rattle.rec_core.proofs.Rest.SettlingSums.{sum_by_alike, times-range, times-filter}
 
 -- what is offered is not released, and not Green
-pub open_unreleased : (v : Slot) → stays v ≡ false → v.released ≡ false
-open_unreleased v e = by v.released e
+pub offered_unreleased : (v : Slot) → stays v ≡ false → v.released ≡ false
+offered_unreleased v e = by v.released e
   where
     by : (b : Bool) → (b || is_green v.colour) ≡ false → b ≡ false
     by true h = absurd (false≢true (sym h))
     by false h = refl
 
-pub open_other : (v : Slot) → stays v ≡ false → is_green v.colour ≡ false
-open_other v e = by v.released e
+pub offered_other : (v : Slot) → stays v ≡ false → is_green v.colour ≡ false
+offered_other v e = by v.released e
   where
     by : (b : Bool) → (b || is_green v.colour) ≡ false → is_green v.colour ≡ false
     by true h = absurd (false≢true (sym h))
     by false h = h
 
-pub open_both : (v : Slot) → v.released ≡ false → is_green v.colour ≡ false → stays v ≡ false
-open_both v r g = ap (λ b. b || is_green v.colour) r ∙ g
+pub offered_where : (v : Slot) → v.released ≡ false → is_green v.colour ≡ false → stays v ≡ false
+offered_where v r g = ap (λ b. b || is_green v.colour) r ∙ g
 
 -- each stands once among them
 pub times_offered : (s : State) (x : ℕ) → times x (offered_slots s) ≡ one (not (stays (slot_at s x)))
@@ -48,14 +48,14 @@ times_offered s x = times-filter x (λ n. not (stays (slot_at s n))) (range_with
 
     go : (b : Bool) → stays (slot_at s x) ≡ b → only_if (not b) (times x (range_with_len 0 (length s.slots))) ≡ one (not b)
     go true e = refl
-    go false e = times-range x 0 (length s.slots) ∙ inside x (length s.slots) (unreleased_within s x (open_unreleased (slot_at s x) e))
+    go false e = times-range x 0 (length s.slots) ∙ inside x (length s.slots) (unreleased_within s x (offered_unreleased (slot_at s x) e))
 
 pub offered_inside : (s : State) (x : ℕ) → 0 < times x (offered_slots s) → x < length s.slots
 offered_inside s x h = go (stays (slot_at s x)) refl
   where
     go : (b : Bool) → stays (slot_at s x) ≡ b → x < length s.slots
     go true e = let n : times x (offered_slots s) ≡ 0 = times_offered s x ∙ ap (λ b. one (not b)) e in absurd (omega (arith, n, h))
-    go false e = unreleased_within s x (open_unreleased (slot_at s x) e)
+    go false e = unreleased_within s x (offered_unreleased (slot_at s x) e)
 
 module _ {fields : ℕ} {before : State} {r : Run} {marked : List ℕ} (word : ℕ → ℕ → ℕ) (holds : ℕ → ℕ) (o : IsOver fields before r marked) (exact : IsExact fields word before r marked) (a : IsOffered fields word holds before) where
   -- what is neither released nor Green was marked
@@ -66,8 +66,8 @@ module _ {fields : ℕ} {before : State} {r : Run} {marked : List ℕ} (word : �
   seed_other : (n : ℕ) → IsSeed before n → is_green (slot_at before n).colour ≡ false
   seed_other n e = ap is_green e.purple
 
-  marked_open : (n : ℕ) → 0 < times n marked → stays (slot_at before n) ≡ false
-  marked_open n m = open_both (slot_at before n) (o.marked_unreleased n m) (by (exact.marked_reached n m))
+  marked_offered : (n : ℕ) → 0 < times n marked → stays (slot_at before n) ≡ false
+  marked_offered n m = offered_where (slot_at before n) (o.marked_unreleased n m) (by (exact.marked_reached n m))
     where
       by : {x : ℕ} → IsReached fields word before x → is_green (slot_at before x).colour ≡ false
       by (still.IsReached.seed {x} e) = seed_other x e
@@ -81,7 +81,7 @@ module _ {fields : ℕ} {before : State} {r : Run} {marked : List ℕ} (word : �
         where
           none : (k : ℕ) → times n marked ≡ k → times n marked ≡ 0
           none zero z = z
-          none (suc k) z = absurd (false≢true (sym (marked_open n (omega (arith, z))) ∙ e))
+          none (suc k) z = absurd (false≢true (sym (marked_offered n (omega (arith, z))) ∙ e))
       go false e = let u : times n (offered_slots before) ≡ 1 = times_offered before n ∙ ap (λ b. one (not b)) e in omega (arith, u, o.marked_once n, all_marked n e)
 
   -- so the rest of a slot is how often it is held
@@ -92,23 +92,23 @@ module _ {fields : ℕ} {before : State} {r : Run} {marked : List ℕ} (word : �
       omega (arith, same, a.counted n e)
 
   reachable : {n : ℕ} → IsHeld fields word marked before n → IsReachable fields word holds n
-  reachable (still.IsHeld.rests {x} m h) = settling.IsReachable.held (omega (arith, rest_is x (marked_open x m), h))
+  reachable (still.IsHeld.rests {x} m h) = settling.IsReachable.held (omega (arith, rest_is x (marked_offered x m), h))
   reachable (still.IsHeld.along p field l t) = settling.IsReachable.along (reachable p) field l t
 
   -- a path to a slot that isn't Green has no Green slot on it
   held : {n : ℕ} → is_green (slot_at before n).colour ≡ false → IsReachable fields word holds n → IsHeld fields word marked before n
   held g (settling.IsReachable.held {x} h) =
-      let open_slot : stays (slot_at before x) ≡ false = open_both (slot_at before x) (a.held x h) g in
-      still.IsHeld.rests (all_marked x open_slot) (omega (arith, rest_is x open_slot, h))
+      let offered : stays (slot_at before x) ≡ false = offered_where (slot_at before x) (a.held x h) g in
+      still.IsHeld.rests (all_marked x offered) (omega (arith, rest_is x offered, h))
   held g (settling.IsReachable.along {n = k} {x} p field l t) = still.IsHeld.along (held (a.shown k field x l t).0 p) field l t
 
   found : FindsGarbage fields word holds before r.work.counts
   found = record {
     only = λ n m.
         let marked_there : 0 < times n marked = omega (arith, o.members_marked n, m) in
-        let other : is_green (slot_at before n).colour ≡ false = open_other (slot_at before n) (marked_open n marked_there) in
+        let other : is_green (slot_at before n).colour ≡ false = offered_other (slot_at before n) (marked_offered n marked_there) in
         record { unreleased = o.marked_unreleased n marked_there; other = other; unreached = λ p. exact.members_unheld n m (held other p) };
-    all = λ n g. exact.unheld_members n (all_marked n (open_both (slot_at before n) g.unreleased g.other)) (λ p. g.unreached (reachable p));
+    all = λ n g. exact.unheld_members n (all_marked n (offered_where (slot_at before n) g.unreleased g.other)) (λ p. g.unreached (reachable p));
   }
 
 -- A trial on words that do not change, which was offered each slot that is not released: the members of its sets are exactly the

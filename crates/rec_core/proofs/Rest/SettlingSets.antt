@@ -24,7 +24,7 @@ use Rattle.rec_trial.specs.Still as still
 use Rattle.rec_trial.specs.Tried.{IsOver, is_of, loaded, edges, members}
 use Rattle.rec_trial.specs.Trial.{next_of}
 use Rattle.rec_core.specs.Settling.{offered_slots, seen_in, IsOffered, LeadsToEarlier, LeadsFromMembers, word_in, leading, heap_sum, AreEmptied, LeadBack}
-use Rattle.rec_core.proofs.Rest.SettlingFinds.{all_marked, garbage_unheld, times_offered, trial_finds_garbage, offered_inside, open_both}
+use Rattle.rec_core.proofs.Rest.SettlingFinds.{all_marked, garbage_unheld, times_offered, trial_finds_garbage, offered_inside, offered_where}
 use Rattle.rec_core.proofs.Rest.SettlingSums.{sum_at_same-from_get_or, sum_of_slots}
 use Rattle.rec_counts.specs.Slot.{stays}
 use Rattle.rec_trial.specs.Rules.{visible, visible_if}
@@ -72,7 +72,7 @@ only_members_lead_to_members : (fields : ℕ) (before : State) (words : List ℕ
 only_members_lead_to_members fields before words r word holds t none m b a n g x below unreleased leads to =
     let e = t.exact word none m b in
     let exact : IsExact fields word before r e.0 = e.2 in
-    exact.unheld_members n (all_marked word holds e.1 exact a n (open_both (slot_at before n) (sym (t.careful.released n) ∙ unreleased) (a.shown n g x below leads).0)) (λ p. exact.members_unheld x to (still.IsHeld.along p g below leads))
+    exact.unheld_members n (all_marked word holds e.1 exact a n (offered_where (slot_at before n) (sym (t.careful.released n) ∙ unreleased) (a.shown n g x below leads).0)) (λ p. exact.members_unheld x to (still.IsHeld.along p g below leads))
 
 -- what a trial sees of a word leads to the same slot, where that isn't Green
 pub seen_leads : (s : State) (word x : ℕ) → is_green (slot_at s x).colour ≡ false → is_slot x (target_of (visible s word)) ≡ is_slot x (target_of word)
@@ -89,16 +89,16 @@ seen_leads s word x other = by (target_of word) refl
     by (Some y) e = by_colour y (is_green (slot_at s y).colour) refl e
 
 -- so it leads there where the word does,
-pub seen_to : (s : State) (word x : ℕ) → is_green (slot_at s x).colour ≡ false → target_of word ≡ Some x → target_of (visible s word) ≡ Some x
-seen_to s word x other e = slot_target x (target_of (visible s word)) (seen_leads s word x other ∙ leads_yes x (target_of word) e)
+pub seen_where_led : (s : State) (word x : ℕ) → is_green (slot_at s x).colour ≡ false → target_of word ≡ Some x → target_of (visible s word) ≡ Some x
+seen_where_led s word x other e = slot_target x (target_of (visible s word)) (seen_leads s word x other ∙ leads_yes x (target_of word) e)
   where
     slot_target : (x : ℕ) (t : Option ℕ) → is_slot x t ≡ true → t ≡ Some x
     slot_target x None h = absurd (false≢true h)
     slot_target x (Some y) h = ap Some (sym (eqb-true x y h))
 
 -- and the word does where it does
-pub seen_from : (s : State) (word x : ℕ) → target_of (visible s word) ≡ Some x → target_of word ≡ Some x
-seen_from s word x e = by (target_of word) refl e
+pub led_where_seen : (s : State) (word x : ℕ) → target_of (visible s word) ≡ Some x → target_of word ≡ Some x
+led_where_seen s word x e = by (target_of word) refl e
   where
     by_colour : (y : ℕ) (b : Bool) → target_of word ≡ Some y → target_of (if b then 0 else word) ≡ Some x → target_of word ≡ Some x
     by_colour y false g h = h
@@ -109,8 +109,8 @@ seen_from s word x e = by (target_of word) refl e
     by (Some y) g h = by_colour y (is_green (slot_at s y).colour) g h
 
 -- which isn't Green then
-pub seen_other : (s : State) (word x : ℕ) → target_of (visible s word) ≡ Some x → is_green (slot_at s x).colour ≡ false
-seen_other s word x e = by (target_of word) refl e
+pub seen_is_other : (s : State) (word x : ℕ) → target_of (visible s word) ≡ Some x → is_green (slot_at s x).colour ≡ false
+seen_is_other s word x e = by (target_of word) refl e
   where
     by_colour : (y : ℕ) (b : Bool) → is_green (slot_at s y).colour ≡ b → target_of word ≡ Some y → target_of (if b then 0 else word) ≡ Some x → is_green (slot_at s x).colour ≡ false
     by_colour y false g i h = ap (λ z. is_green (slot_at s z).colour) (same_Some x y (sym h ∙ i)) ∙ g
@@ -177,7 +177,7 @@ module _ (fields : ℕ) (before : State) (words : List ℕ) (heap : List ℕ) (r
   shown : (p x i : ℕ) → (slot_at after x).set ≡ Some i → target_of (get_or heap p 0) ≡ Some x → target_of (seen_in fields heap before (p / fields) (p % fields)) ≡ Some x
   shown p x i e h =
       let g = (trial_finds_garbage fields before words r (seen_in fields heap before) holds t none marks blacks a).only x (is_member x i e) in
-      seen_to before (word_in fields heap (p / fields) (p % fields)) x g.other (ap target_of (there p) ∙ h)
+      seen_where_led before (word_in fields heap (p / fields) (p % fields)) x g.other (ap target_of (there p) ∙ h)
 
   -- So once a trial is over that was offered every slot, its sets lead back.
   pub found_lead_back : LeadBack fields heap [] r.work.counts
@@ -196,4 +196,4 @@ module _ (fields : ℕ) (before : State) (words : List ℕ) (heap : List ℕ) (r
   pub found_counts : (x i : ℕ) → (slot_at r.work.counts x).set ≡ Some i → (slot_at r.work.counts x).count ≡ heap_sum heap x
   found_counts x i e =
       let g = (trial_finds_garbage fields before words r (seen_in fields heap before) holds t none marks blacks a).only x (is_member x i e) in
-      omega (arith, t.careful.counts x, a.counted x (open_both (slot_at before x) g.unreleased g.other), garbage_unheld fields (seen_in fields heap before) holds before x g, references_in_words fields heap before x t.wide long empty leaves g.other)
+      omega (arith, t.careful.counts x, a.counted x (offered_where (slot_at before x) g.unreleased g.other), garbage_unheld fields (seen_in fields heap before) holds before x g, references_in_words fields heap before x t.wide long empty leaves g.other)
