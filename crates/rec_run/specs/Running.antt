@@ -17,10 +17,7 @@ pub record IsStarted (script : Contents) (heap : Started) (mutators : List Held)
   pub own : IsCollectorOf heap collector
   pub fresh_collector : collector ≡ fresh_collector heap
 
--- The heap is the script's opening, and the crew may carry out the script's commands on it. Nobody of the crew made a step yet.
+-- And the crew may carry out the script's commands on it.
 pub record IsSetRunning (script : Contents) (heap : Started) (crew : Crew) : Type 0 where
-  pub config : IsConfig (config_of script)
-  pub opens : heap.world ≡ opened (config_of script)
+  pub started : IsStarted script heap crew.mutators.items crew.collector
   pub whole : IsCrewFor heap script crew
-  pub fresh_mutators : (k : ℕ) (d : Held) → k < length crew.mutators.items → slice_index_or crew.mutators.items k d ≡ fresh heap (k + 1)
-  pub fresh_collector : crew.collector ≡ fresh_collector heap

@@ -1,6 +1,5 @@
 -- The words that a command's steps found tell why it was answered so.
-use Rattle.std.proofs.Common.{◌≡◌, ◌≢◌, ℕ, ◌+◌, ◌<◌, ◌==◌, Bool, true, false, true≢false, if◌then◌else◌, List, [], ◌∷◌, ◌++◌, length, Option, Some, None, inl, inr, refl, sym, ap, ◌∙◌, subst, append_assoc, eq-eqb, ne_eqb, arith}
-use Rattle.std.proofs.lemmas.Bool.{cases_eq}
+use Rattle.std.proofs.Common.{◌≡◌, ℕ, ◌+◌, ◌<◌, ◌==◌, Bool, true, false, true≢false, if◌then◌else◌, List, [], ◌∷◌, ◌++◌, length, Option, Some, None, refl, sym, ap, ◌∙◌, subst, append_assoc, eq-eqb, ne_eqb, arith}
 use Rattle.std.specs.Prelude.{fold}
 use Rattle.std.proofs.lemmas.List.{length-append, map-append, nil_from_length}
 use Rattle.std.proofs.lemmas.List.Sums.{fold-append}
@@ -244,19 +243,13 @@ unfolding step_of swapped_of swapped_at took_of took_at begun_of
 looked_again p from word true is = let bad : ◌≡◌ {A = Bool} false true = ap is_busy_at is in absurd (true≢false (sym bad))
 looked_again p from word false is = (refl, refl)
 
--- while a mutator crosses no step answers
-crossing_goes_on : (p : Private) (word : ℕ) → p.phase ≡ at.Crossing → answer_of (learnt p (Saw word)) ≡ None
-unfolding step_of swapped_of swapped_at took_of took_at
-crossing_goes_on p word is = ap (λ (f : phases.Phase). answer_of (swapped_of (took_at p word f) (spare (took_at p word f)))) is
+-- what is answered by the step after a phase
+abbrev answered_at : Private → (word : ℕ) → phases.Phase → Option Made
+answered_at p word phase = answer_of (swapped_of (took_at p word phase) (spare (took_at p word phase)))
 
-swapping_goes_on : (p : Private) (word : ℕ) → p.phase ≡ at.Swapping → answer_of (learnt p (Saw word)) ≡ None
-unfolding step_of swapped_of swapped_at took_of took_at
-swapping_goes_on p word is = ap (λ (f : phases.Phase). answer_of (swapped_of (took_at p word f) (spare (took_at p word f)))) is
-
--- and the last step answers with the next epoch
-giving_answers : (p : Private) (word : ℕ) → p.phase ≡ at.Giving → answer_of (learnt p (Saw word)) ≡ Some (makes.Crossed (Some (p.epoch + 1)))
-unfolding step_of swapped_of swapped_at took_of took_at
-giving_answers p word is = ap (λ (f : phases.Phase). answer_of (swapped_of (took_at p word f) (spare (took_at p word f)))) is
+answers_at : (p : Private) (word : ℕ) (phase : phases.Phase) → p.phase ≡ phase → answer_of (learnt p (Saw word)) ≡ answered_at p word phase
+unfolding step_of took_of
+answers_at p word phase is = ap (answered_at p word) is
 
 crossed_in : Option Made → Option ℕ
 crossed_in (Some (makes.Crossed epoch)) = epoch
@@ -274,12 +267,9 @@ two_words (a ∷ b ∷ c ∷ ds) is = absurd (omega (arith, is))
 
 -- why a poll answers so
 pub polled : (p q : Private) (from : ℕ) (log log' : List Beat) (result : Option ℕ) → Path (record { work = works.Poll; from = from }) p log log' q → is_busy (begun_of p works.Poll from) ≡ true → answer_of q ≡ Some (makes.Crossed result) → IsPolled p log log' result
-unfolding is_poll
+unfolding is_poll swapped_of swapped_at took_at
 polled p q from log log' result path begun answer = by path.before.phase refl path.machine.now
   where
-    pre : Private
-    pre = path.before
-
     told_so : answer_of (learnt path.before (Saw path.last)) ≡ Some (makes.Crossed result)
     told_so = ap answer_of (sym path.made) ∙ answer
 
@@ -319,7 +309,7 @@ polled p q from log log' result path begun answer = by path.before.phase refl pa
           crossing = second ∷ path.last ∷ [];
           grows = path.grows ∙ ap (λ (ws : List ℕ). log ++ worked (record { work = works.Poll; from = from }) (ws ++ path.last ∷ [])) are;
           none = λ own. absurd (true≢false (sym (eq-eqb first p.epoch own) ∙ crosses.0));
-          some = λ other. (refl, same_result result (Some (p.epoch + 1)) (sym told_so ∙ giving_answers path.before path.last giving ∙ ap (λ n. Some (makes.Crossed (Some (n + 1)))) epoch));
+          some = λ other. (refl, same_result result (Some (p.epoch + 1)) (sym told_so ∙ answers_at path.before path.last at.Giving giving ∙ ap (λ n. Some (makes.Crossed (Some (n + 1)))) epoch));
         }
 
     by : (phase : phases.Phase) → path.before.phase ≡ phase → IsAt path.before path.before.phase → IsPolled p log log' result
@@ -327,7 +317,7 @@ polled p q from log log' result path begun answer = by path.before.phase refl pa
     by (at.Begun w) e now = at_once (nil_from_length path.words (sym path.counted ∙ (subst (IsAt path.before) e now).1))
     by (at.Scanning reg label b probed) e now = absurd (no_command (at.Scanning reg label b probed) e refl)
     by (at.Scanned reg label b) e now = absurd (no_command (at.Scanned reg label b) e refl)
-    by at.Crossing e now = absurd (not_told (crossing_goes_on path.before path.last e))
-    by at.Swapping e now = absurd (not_told (swapping_goes_on path.before path.last e))
+    by at.Crossing e now = absurd (not_told (answers_at path.before path.last at.Crossing e))
+    by at.Swapping e now = absurd (not_told (answers_at path.before path.last at.Swapping e))
     by at.Giving e now = across e (subst (IsAt path.before) e now).0
     by (at.Finished w made) e now = absurd (true≢false (sym path.busy ∙ ap is_busy_at e))

@@ -20,6 +20,7 @@ use Rattle.rec_model.specs.declared.command.Cmd.{Cmd}
 use Rattle.rec_model.specs.declared.told.Told.{Told}
 use Rattle.rec_log.specs.declared.entry.Entry.{Entry}
 use Rattle.rec_core.specs.Cells.{births_of}
+use Rattle.rec_core.specs.Kept.{IsSettledIn}
 use Rattle.rec_table.specs.Held.{Held, IsTold, Works}
 use Rattle.rec_table.specs.Scan.{HasScanned, saw_all}
 use Rattle.rec_table.specs.declared.start.Start.{Start}
@@ -28,7 +29,7 @@ use Rattle.rec_core.specs.Core.{Core, mutator}
 use Rattle.rec_core.proofs.Words.{IsOwnOp, learns_taken, own_next}
 use Rattle.rec_table.specs.Beats.{told, learnt, births_told}
 use Rattle.rec_core.specs.Row.{index_of}
-use Rattle.rec_table.specs.Rule.{Holds, ready, MayGo, MadeBy, TakenBy, GivenBy, IsPlain, beats, adds, takes_view, seated_of, hands, hands_at, hand_after, taken_by, seated_after, me_after}
+use Rattle.rec_table.specs.Rule.{Holds, ready, MayGo, MadeBy, TakenBy, GivenBy, beats, adds, takes_view, seated_of, hands, hands_at, hand_after, taken_by, seated_after, me_after}
 use Rattle.rec_table.specs.declared.views.Beat.TheVariants.{Saw}
 use Rattle.rec_table.specs.declared.views.Seated.{Seated}
 use Rattle.rec_table.specs.declared.views.View.{View}
@@ -55,11 +56,11 @@ not_give (ops.GiveBox t e) is give = is
 not_give _ is give = give
 
 -- the phase is told by the operation
-pub plain_phase : (p : Private) (op : Op) → op ≡ next_of p → IsBetween p.phase → IsPlainOp op → IsPlain p.phase
+pub plain_phase : (p : Private) (op : Op) → op ≡ next_of p → IsBetween p.phase → IsPlainOp op → IsSettledIn p.phase
 unfolding next_of next_at
 plain_phase p op is between plain_op = by p.phase between (subst IsPlainOp is plain_op)
   where
-    by : (phase : phases.Phase) → IsBetween phase → IsPlainOp (next_at p phase) → IsPlain phase
+    by : (phase : phases.Phase) → IsBetween phase → IsPlainOp (next_at p phase) → IsSettledIn phase
     by at.Idle b o = tt
     by (at.Begun work) b o = tt
     by (at.Scanning reg label before slot) b o = tt
@@ -73,43 +74,43 @@ pub crossing_phase : (p : Private) (op : Op) → op ≡ next_of p → IsBetween 
 unfolding next_of next_at
 crossing_phase p op is between take = by p.phase refl between
   where
-    no : IsPlain p.phase → ⊥
+    no : IsSettledIn p.phase → ⊥
     no calm = not_take (next_of p) (plain_next p calm) (subst IsTakeOp is take)
 
     by : (phase : phases.Phase) → p.phase ≡ phase → IsBetween phase → p.phase ≡ at.Crossing
     by at.Crossing e b = e
     by at.Swapping e b = absurd b
     by at.Giving e b = absurd (subst IsTakeOp (is ∙ ap (next_at p) e) take)
-    by _ e b = absurd (no (subst IsPlain (sym e) tt))
+    by _ e b = absurd (no (subst IsSettledIn (sym e) tt))
 
 pub giving_phase : (p : Private) (op : Op) → op ≡ next_of p → IsBetween p.phase → IsGiveOp op → p.phase ≡ at.Giving
 unfolding next_of next_at
 giving_phase p op is between give = by p.phase refl between
   where
-    no : IsPlain p.phase → ⊥
+    no : IsSettledIn p.phase → ⊥
     no calm = not_give (next_of p) (plain_next p calm) (subst IsGiveOp is give)
 
     by : (phase : phases.Phase) → p.phase ≡ phase → IsBetween phase → p.phase ≡ at.Giving
     by at.Crossing e b = absurd (subst IsGiveOp (is ∙ ap (next_at p) e) give)
     by at.Swapping e b = absurd b
     by at.Giving e b = e
-    by _ e b = absurd (no (subst IsPlain (sym e) tt))
+    by _ e b = absurd (no (subst IsSettledIn (sym e) tt))
 
-plain_hands : (hand : Contents) (number : ℕ) (phase : phases.Phase) → IsPlain phase → hands_at hand number phase ≡ []
+plain_hands : (hand : Contents) (number : ℕ) (phase : phases.Phase) → IsSettledIn phase → hands_at hand number phase ≡ []
 plain_hands hand number at.Giving is = absurd is
 plain_hands hand number _ is = refl
 
-plain_taken : (p : Private) (word : ℕ) (phase : phases.Phase) → IsPlain phase → taken_by p word phase ≡ []
+plain_taken : (p : Private) (word : ℕ) (phase : phases.Phase) → IsSettledIn phase → taken_by p word phase ≡ []
 plain_taken p word at.Crossing is = absurd is
 plain_taken p word _ is = refl
 
-plain_hand : (hand x : Contents) (phase : phases.Phase) → IsPlain phase → hand_after hand x phase ≡ hand
+plain_hand : (hand x : Contents) (phase : phases.Phase) → IsSettledIn phase → hand_after hand x phase ≡ hand
 plain_hand hand x at.Crossing is = absurd is
 plain_hand hand x _ is = refl
 
 -- a plain step
 pub allows_plain : (key : Core) (slots id i : ℕ) (me : Me (Option Contents) View) (op : Op) (wk picked : Option Start) (p : Private) (f : ℕ → ℕ) (st : Step (Option Contents))
-    → me ≡ (Mutates (seated_of me.0), hands (seated_of me.0) (ready p wk)) → p ≡ told (mutator key (seated_of me.0).number) (seated_of me.0).log → picked ≡ wk → MayGo p wk → IsPlain (ready p wk).phase
+    → me ≡ (Mutates (seated_of me.0), hands (seated_of me.0) (ready p wk)) → p ≡ told (mutator key (seated_of me.0).number) (seated_of me.0).log → picked ≡ wk → MayGo p wk → IsSettledIn (ready p wk).phase
     → op ≡ next_of (ready p wk) → i ≡ index_of (length key.words) (length key.headers) op → ((n : ℕ) → f n ≡ written op n)
     → Allows (Holds key) slots id me i f (MadeBy p picked st me)
 allows_plain key slots id i me op wk picked p f st is is_p picks may calm is_op at does =
@@ -118,7 +119,7 @@ allows_plain key slots id i me op wk picked p f st is is_p picks may calm is_op 
     subst (λ (y : Me (Option Contents) View × ℕ × Option Start). Allows (Holds key) slots id y.0 y.1 f (MadeBy p y.2 st y.0)) (λ k. (sym is k, sym at k, sym picks k)) all
 
 pub made_plain : (t : Seated) (p : Private) (wk picked : Option Start) (word : ℕ) (me me' : Me (Option Contents) View)
-    → me ≡ (Mutates t, hands t (ready p wk)) → picked ≡ wk → IsPlain (ready p wk).phase → me' ≡ (adds me.0 (beats picked word), me.1) → me' ≡ me_after t (ready p wk) wk word
+    → me ≡ (Mutates t, hands t (ready p wk)) → picked ≡ wk → IsSettledIn (ready p wk).phase → me' ≡ (adds me.0 (beats picked word), me.1) → me' ≡ me_after t (ready p wk) wk word
 made_plain t p wk picked word me me' is picks calm now =
     let q : Private = ready p wk in
     now
@@ -213,14 +214,14 @@ no_hands hand number _ ne = refl
 never_gives : (p : Private) (word : ℕ) → is_busy p ≡ true → TakesNone p.phase → (took_of p word).phase ≡ at.Giving → ⊥
 never_gives p word busy none = by p.phase refl none
   where
-    plain_case : IsPlain p.phase → (took_of p word).phase ≡ at.Giving → ⊥
+    plain_case : IsSettledIn p.phase → (took_of p word).phase ≡ at.Giving → ⊥
     plain_case calm giving = left_plain p word calm busy (ap (λ (q : Private). q.phase) (here_same p word (spare (took_of p word)) busy none) ∙ giving)
 
     by : (phase : phases.Phase) → p.phase ≡ phase → TakesNone phase → (took_of p word).phase ≡ at.Giving → ⊥
     by at.Crossing e n = absurd n
     by at.Swapping e n = absurd n
     by at.Giving e n = λ giving. true≢false (ap is_giving (sym giving) ∙ ap (λ (q : Private). is_giving q.phase) (crosses p word e))
-    by _ e n = plain_case (subst IsPlain (sym e) tt)
+    by _ e n = plain_case (subst IsSettledIn (sym e) tt)
 
 -- what the machine and the seat are then
 pub learns_word : (p q : Private) (t : Seated) (word : ℕ) (me : Me (Option Contents) View) → is_busy p ≡ true → TakesNone p.phase → q ≡ took_of p word → me.1 ≡ taken_by p word p.phase

@@ -12,16 +12,17 @@ use Rattle.rec_log.specs.declared.contents.Contents.{Contents}
 use Rattle.rec_mutator.specs.Next.{next_of}
 use Rattle.rec_mutator.specs.Private.{Private, is_busy}
 use Rattle.rec_core.specs.Core.{Core, mutator}
+use Rattle.rec_core.specs.Kept.{IsSettledIn}
 use Rattle.rec_table.specs.Beats.{told}
 use Rattle.rec_core.specs.Row.{index_of}
-use Rattle.rec_table.specs.Rule.{Holds, PassedBy, IsPlain}
+use Rattle.rec_table.specs.Rule.{Holds, PassedBy}
 use Rattle.rec_table.specs.declared.views.Seated.{Seated}
 use Rattle.rec_table.specs.declared.views.View.{View}
 use Rattle.rec_table.specs.declared.views.View.TheVariants.{Mutates}
 use Rattle.rec_table.proofs.Steps.{steps}
 
 pub probes : (key : Core) (slots id slot label : ℕ) (t : Seated) (hs : List (ℕ × Option Contents)) (p : Private) (op : Op) (st : Step (Option Contents))
-    → p ≡ told (mutator key t.number) t.log → is_busy p ≡ true → IsPlain p.phase → op ≡ next_of p → op ≡ ops.ClaimHeader slot label
+    → p ≡ told (mutator key t.number) t.log → is_busy p ≡ true → IsSettledIn p.phase → op ≡ next_of p → op ≡ ops.ClaimHeader slot label
     → Allows (Holds key) slots id (Mutates t, hs) (index_of (length key.words) (length key.headers) op) (λ n. n) (PassedBy st (Mutates t, hs))
 probes key slots id slot label t hs p op st is_p busy plain is_op claims s h len at_id fit =
     let i : ℕ = index_of (length key.words) (length key.headers) op in

@@ -20,8 +20,9 @@ use Rattle.rec_mutator.proofs.Skips.{skipped_next, skipped_none, skipped_further
 use Rattle.rec_mutator.proofs.Steps.{TakesNone, here_same}
 use Rattle.rec_core.specs.Cells.{births_of}
 use Rattle.rec_core.specs.Core.{Core, mutator}
+use Rattle.rec_core.specs.Kept.{IsSettledIn}
 use Rattle.rec_table.specs.Beats.{told, learnt, births_told}
-use Rattle.rec_table.specs.Rule.{Holds, PassedBy, IsPlain, adds, beats, longer, seated_of, hands, hands_at}
+use Rattle.rec_table.specs.Rule.{Holds, PassedBy, adds, beats, longer, seated_of, hands, hands_at}
 use Rattle.rec_table.specs.Scan.{Passed, ScansFrom, saw_all}
 use Rattle.rec_table.specs.declared.views.Beat.{Beat}
 use Rattle.rec_table.specs.declared.views.Beat.TheVariants.{Saw}
@@ -238,7 +239,7 @@ module _ (key : Core) (count probed slot many : ℕ) (t : Seated) (me : Me (Opti
   unfolding q
   allows_pass slots id i st at =
       let p : Private = told (mutator key t.number) t.log in
-      let plain : IsPlain q.phase = subst IsPlain (sym (there_phase p scan.reg scan.label scan.before probed scan.phase count few)) tt in
+      let plain : IsSettledIn q.phase = subst IsSettledIn (sym (there_phase p scan.reg scan.label scan.before probed scan.phase count few)) tt in
       let all = probes key slots id (probe_of p count) scan.label (longer t (saw_all passed.words)) [] q (ops.ClaimHeader (probe_of p count) scan.label) st is_q (skipped_busy p scan.reg scan.label scan.before probed scan.phase count) plain
       (sym (skipped_next p scan.reg scan.label scan.before probed scan.phase count few)) refl in
       subst (λ (y : Me (Option Contents) View × ℕ). Allows (Holds key) slots id y.0 y.1 (λ n. n) (PassedBy st y.0)) (λ k. (sym passed.grows k, sym at k)) all

@@ -27,7 +27,7 @@ use Rattle.rec_mutator.proofs.Steps.{TakesNone, here_same, learnt_made, step_bet
 use Rattle.rec_collector.specs.Private as collectors
 use Rattle.rec_core.specs.Config.{IsMutator}
 use Rattle.rec_core.specs.Core.{Core, cells_of, mutator, nobody, box}
-use Rattle.rec_core.specs.Kept.{IsKept}
+use Rattle.rec_core.specs.Kept.{IsKept, IsSettledIn}
 use Rattle.rec_core.specs.Met.{MayStep}
 use Rattle.rec_core.specs.Moves.{Move, AllFit, after_moves, found_by, stepped, begun_from}
 use Rattle.rec_core.specs.Cells.{Cells, IsWithin, cell, with_cell}
@@ -41,7 +41,7 @@ use Rattle.std.proofs.lemmas.List.{set-get_or}
 use Rattle.rec_table.specs.Beats.{beats_of, told, learnt, Offerless}
 use Rattle.rec_table.specs.Homes.{homes_of}
 use Rattle.rec_core.specs.Row.{row, index_of}
-use Rattle.rec_table.specs.Rule.{Fits, Holds, ready, MayGo, beats, longer, MadeBy, IsPlain}
+use Rattle.rec_table.specs.Rule.{Fits, Holds, ready, MayGo, beats, longer, MadeBy}
 use Rattle.rec_table.specs.declared.start.Start.{Start}
 use Rattle.rec_table.specs.declared.views.Beat.TheVariants.{Begins, Saw}
 use Rattle.rec_table.specs.declared.views.Seated.{Seated}
@@ -143,7 +143,7 @@ IsPlainOp (ops.LookBox t e) = ⊥
 IsPlainOp (ops.ReturnBox t e) = ⊥
 IsPlainOp _ = Unit {0}
 
-pub plain_next : (p : Private) → IsPlain p.phase → IsPlainOp (next_of p)
+pub plain_next : (p : Private) → IsSettledIn p.phase → IsPlainOp (next_of p)
 unfolding next_of next_at
 plain_next p plain = by p.phase plain
   where
@@ -164,7 +164,7 @@ plain_next p plain = by p.phase plain
     new true = tt
     new false = tt
 
-    by : (phase : phases.Phase) → IsPlain phase → IsPlainOp (next_at p phase)
+    by : (phase : phases.Phase) → IsSettledIn phase → IsPlainOp (next_at p phase)
     by (at.Begun (works.Command (commands.New reg label))) is = new (is_full p)
     by (at.Begun (works.Command (commands.Get dst src f))) is = read f (register p src)
     by (at.Begun (works.Command (commands.Put src f val))) is = wrote f val (register p src) (is_full p)
@@ -182,14 +182,14 @@ plain_crossing cells (ops.LookBox t e) is = absurd is
 plain_crossing cells (ops.ReturnBox t e) is = absurd is
 plain_crossing cells _ is = refl
 
-pub plain_takes_none : (phase : phases.Phase) → IsPlain phase → TakesNone phase
+pub plain_takes_none : (phase : phases.Phase) → IsSettledIn phase → TakesNone phase
 plain_takes_none at.Crossing is = absurd is
 plain_takes_none at.Swapping is = absurd is
 plain_takes_none at.Giving is = absurd is
 plain_takes_none _ is = tt
 
 -- such a step leaves every mailbox where it is
-plain_homes : (w : Core) (t : ℕ) → is_busy (mutator w t) ≡ true → IsPlain (mutator w t).phase → homes_of (stepped w t).crossing (stepped w t).boxes ≡ homes_of w.crossing w.boxes
+plain_homes : (w : Core) (t : ℕ) → is_busy (mutator w t) ≡ true → IsSettledIn (mutator w t).phase → homes_of (stepped w t).crossing (stepped w t).boxes ≡ homes_of w.crossing w.boxes
 plain_homes w t busy plain =
     let p : Private = mutator w t in
     let b : Contents = box w t in
@@ -380,7 +380,7 @@ stepped_learns key s h t wk p op here =
     ∙ (λ j. learnt (here.is j) (Saw (sym here.found j)))
 
 -- what a step that takes no mailbox leads to isn't the phase in which one is given back
-not_giving : (p : Private) (word : ℕ) (phase : phases.Phase) → IsPlain phase → is_giving (took_at p word phase).phase ≡ false
+not_giving : (p : Private) (word : ℕ) (phase : phases.Phase) → IsSettledIn phase → is_giving (took_at p word phase).phase ≡ false
 unfolding took_at
 not_giving p word phase plain = by phase plain
   where
@@ -401,7 +401,7 @@ not_giving p word phase plain = by phase plain
     goes true x y a c = a
     goes false x y a c = c
 
-    by : (at_phase : phases.Phase) → IsPlain at_phase → is_giving (took_at p word at_phase).phase ≡ false
+    by : (at_phase : phases.Phase) → IsSettledIn at_phase → is_giving (took_at p word at_phase).phase ≡ false
     by (at.Begun (works.Command (commands.New reg label))) is = new (answered p (commands.New reg label) (plain_told answers.LogFull)) (moved p (at.Scanning reg label word 0)) (is_full p) refl refl
     by (at.Begun (works.Command (commands.Get dst src f))) is = read (commands.Get dst src f) dst (register p src)
     by (at.Begun (works.Command (commands.Put src f val))) is = wrote (commands.Put src f val) f val (register p src) (is_full p)
@@ -414,7 +414,7 @@ not_giving p word phase plain = by phase plain
     by at.Giving is = absurd is
     by _ is = refl
 
-pub left_plain : (p : Private) (word : ℕ) → IsPlain p.phase → is_busy p ≡ true → (learnt p (Saw word)).phase ≡ at.Giving → ⊥
+pub left_plain : (p : Private) (word : ℕ) → IsSettledIn p.phase → is_busy p ≡ true → (learnt p (Saw word)).phase ≡ at.Giving → ⊥
 unfolding took_of
 left_plain p word plain busy giving =
     let same : learnt p (Saw word) ≡ took_of p word = here_same p word (spare (took_of p word)) busy (plain_takes_none p.phase plain) in
@@ -423,14 +423,14 @@ left_plain p word plain busy giving =
     true≢false (sym yes ∙ no)
 
 pub steps : (key : Core) (slots id : ℕ) (t : Seated) (hs : List (ℕ × Option Contents)) (wk : Option Start) (p : Private) (op : Op) (f : ℕ → ℕ) (st : Step (Option Contents))
-    → p ≡ told (mutator key t.number) t.log → MayGo p wk → IsPlain (ready p wk).phase → op ≡ next_of (ready p wk) → ((n : ℕ) → f n ≡ written op n)
+    → p ≡ told (mutator key t.number) t.log → MayGo p wk → IsSettledIn (ready p wk).phase → op ≡ next_of (ready p wk) → ((n : ℕ) → f n ≡ written op n)
     → Allows (Holds key) slots id (Mutates t, hs) (index_of (length key.words) (length key.headers) op) f (MadeBy p wk st (Mutates t, hs))
 steps key slots id t hs wk p op f st is_p may plain is_op does s h len at_id fit =
     let x : ℕ = t.number in
     let here : Here key s h t wk p op = here_at key s h id t wk p op at_id is_p may is_op in
     let v : Core = before (after_moves key h.run) x wk in
     let n : ℕ = get_or s.words (index_of (length key.words) (length key.headers) op) 0 in
-    let plain' : IsPlain (mutator v x).phase = subst (λ (q : Private). IsPlain q.phase) (sym here.is) plain in
+    let plain' : IsSettledIn (mutator v x).phase = subst (λ (q : Private). IsSettledIn q.phase) (sym here.is) plain in
     let never : (mutator (stepped v x) x).phase ≡ at.Giving → t.hand ≡ box (stepped v x) x = λ giving. absurd (left_plain (ready p wk) n plain (ap is_busy (sym here.is) ∙ here.busy)
     (ap (λ (q : Private). q.phase) (sym (stepped_learns key s h t wk p op here)) ∙ giving)) in (
       Mutates (longer t (beats wk n)),

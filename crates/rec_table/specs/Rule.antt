@@ -96,13 +96,6 @@ MadeBy p work st me word me' = (me' ≡ (adds me.0 (beats work word), me.1)) × 
 abbrev pub first_view : View
 first_view = Collects (record { log = []; made = 0; known = [] })
 
--- a phase whose step takes no mailbox and gives none back
-abbrev pub IsPlain : phases.Phase → Type 0
-IsPlain at.Crossing = ⊥
-IsPlain at.Swapping = ⊥
-IsPlain at.Giving = ⊥
-IsPlain _ = Unit {0}
-
 -- The own mailbox was taken: it holds a spare, and what was retired is left in it.
 abbrev pub takes_view : View → Contents → List Beat → View
 takes_view (Mutates t) hand bs = Mutates (record t { log = t.log ++ bs; hand = hand })

@@ -7,7 +7,7 @@ ghost use Rattle.rec_mutator.specs.Took.{IsFound, IsBetween, spare, took_of};
 ghost use Rattle.rec_table.specs.Held.{held, has, IsOf};
 ghost use Rattle.rec_table.specs.Beats.{told, learnt};
 ghost use Rattle.rec_core.specs.Row.{index_of};
-ghost use Rattle.rec_table.specs.Rule.{ready, MayBegin, MayGo, IsPlain, beats, longer, seated_of, hands, me_after, taken_by, hand_after};
+ghost use Rattle.rec_table.specs.Rule.{ready, MayBegin, MayGo, beats, longer, seated_of, hands, me_after, taken_by, hand_after};
 ghost use Rattle.rec_table.specs.declared.views.Beat.TheVariants.{Saw};
 ghost use Rattle.rec_table.specs.declared.views.View.TheVariants.{Mutates};
 ghost use Rattle.rec_core.specs.Core.{mutator};

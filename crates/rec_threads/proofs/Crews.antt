@@ -1,15 +1,14 @@
 -- A crew with one worker more.
-use Rattle.std.proofs.Common.{◌≡◌, ℕ, ◌+◌, ◌-◌, ◌<◌, Bool, MatchBool, true, false, List, [], ◌∷◌, ◌++◌, Some, length, slice_get, slice_index_or, sym, ap, subst, ◌∙◌, arith}
+use Rattle.std.proofs.Common.{◌≡◌, ℕ, ◌+◌, ◌-◌, Bool, MatchBool, true, false, List, [], ◌∷◌, ◌++◌, Some, length, slice_get, sym, ap, subst, ◌∙◌, arith}
 use Rattle.std.proofs.lemmas.Option.{get_or_from_slice_get}
 use Rattle.rec_model.specs.declared.command.Cmd.{Cmd}
 use Rattle.rec_script.specs.Script.{Contents}
-use Rattle.rec_table.specs.Held.{Gathers, Held, Started, AreMutatorsOf, IsCollectorOf}
+use Rattle.rec_table.specs.Held.{Gathers, Held, Started, IsCollectorOf}
 use Rattle.rec_world.specs.Journal.{Notes}
-use Rattle.rec_threads.specs.Done.{AreReady, HasCollected, HasDone, HasEnded, HaveDone, IsCrewFor, IsReady, commands_at}
+use Rattle.rec_threads.specs.Done.{AreReady, HasCollected, HasDone, HasEnded, HaveDone, IsReady, commands_at}
 use Rattle.rec_threads.specs.declared.crew.Crew.{Crew}
 use Rattle.rec_threads.specs.declared.worker.Worker.{Worker}
 use Rattle.rec_threads.proofs.Lists.{done_more, earlier_ready, last_ready}
-use Rattle.rec_threads.proofs.Works.{still_own}
 
 pub one_more : (b : Bool) (h : Started) (cmds : List (List Cmd)) (crew rest back all : Crew) (w v : Worker) → crew.mutators.items ≡ rest.mutators.items ++ w.mutator ∷ [] → crew.journals.items ≡ rest.journals.items ++ w.journal ∷ [] → rest.collector ≡ crew.collector
     → length rest.journals.items ≡ length rest.mutators.items → HasEnded b h cmds rest back → MatchBool b (HasDone (commands_at cmds (length rest.mutators.items)) w v) (v ≡ w)

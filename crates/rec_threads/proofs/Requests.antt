@@ -1,5 +1,5 @@
 -- A turn requests at most one epoch more.
-use Rattle.std.proofs.Common.{◌≡◌, ℕ, ◌+◌, ◌<◌, ◌≤◌, ◌==◌, Bool, true, false, if◌then◌else◌, List, [], ◌∷◌, ◌++◌, Option, None, Some, inl, inr, length, refl, sym, ap, ◌∙◌, arith, append_assoc}
+use Rattle.std.proofs.Common.{◌≡◌, ℕ, ◌+◌, ◌≤◌, ◌==◌, Bool, true, false, if◌then◌else◌, [], ◌∷◌, ◌++◌, Option, None, Some, inl, inr, length, refl, sym, ap, ◌∙◌, arith, append_assoc}
 use Rattle.std.proofs.lemmas.List.{append-nil, length-append}
 use Rattle.rec_collector.specs.Followed.{Next, followed, worked}
 use Rattle.rec_collector.specs.Next.{is_spent, next_of}
@@ -15,7 +15,7 @@ use Rattle.rec_table.specs.Beats.{gathered}
 use Rattle.rec_table.specs.Held.{Gathers, gathers_now}
 use Rattle.rec_table.specs.Rule.{crew_more}
 use Rattle.rec_table.proofs.PutBack.{ended_epoch, swapped_epoch}
-use Rattle.rec_threads.specs.Done.{HasCollected, HasTurned}
+use Rattle.rec_threads.specs.Done.{HasTurned}
 use Rattle.rec_table.specs.declared.views.Beat.{Beat}
 use Rattle.rec_table.specs.declared.views.Beat.TheVariants.{Begins, Saw, Took}
 
@@ -56,33 +56,11 @@ no_turn g = record {
   requested = omega arith;
 }
 
-at_most : (turns : ℕ) (g g' : Gathers) (so : HasTurned turns g g') → length so.beats ≤ turns
+pub at_most : (turns : ℕ) (g g' : Gathers) (so : HasTurned turns g g') → length so.beats ≤ turns
 at_most turns g g' so = elim so.each [
   | inl all ↦ omega (arith, all)
   | inr spent ↦ spent.1
 ]
-
--- who made no turn where one comes next is as before
-none_made : (g a : Gathers) (beats : List Beat) (op : Op) → a ≡ record g { crew = record g.crew { log = g.crew.log ++ beats } } → next_of (gathers_now a) ≡ None → next_of (gathers_now g) ≡ Some op → 0 < length beats
-none_made g a [] op grows none some =
-    let same : a ≡ g = grows ∙ (λ i. record g { crew = record g.crew { log = append-nil g.crew.log i } }) in
-    let bad : ◌≡◌ {A = Option Op} None (Some op) = sym none ∙ ap (λ (x : Gathers). next_of (gathers_now x)) same ∙ some in cc
-none_made g a (b ∷ bs) op grows none some = omega arith
-
--- Turns within a bound, where one was made.
-pub within : (turns most : ℕ) (g g' : Gathers) → 0 < turns → turns ≤ most → HasTurned turns g g' → HasCollected most g g'
-within turns most g g' some le so =
-    let few : length so.beats ≤ turns = at_most turns g g' so in
-    record {
-      beats = so.beats;
-      grows = so.grows;
-      most = omega (arith, few, le);
-      some = λ op next. elim so.each [
-        | inl all ↦ omega (arith, all, some)
-        | inr spent ↦ none_made g g' so.beats op so.grows spent.0 next
-      ];
-      requested = let r = so.requested in omega (arith, r, le);
-    }
 
 -- One turn more.
 pub one_turn : (turns : ℕ) (g a b : Gathers) → HasTurned turns g a → (next_of (gathers_now a) ≡ None → b ≡ a)

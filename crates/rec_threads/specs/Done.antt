@@ -1,12 +1,11 @@
 -- What a crew has to be for a script, and what is done once its commands are carried out.
-use Rattle.std.specs.Prelude.{◌≡◌, ℕ, ◌⊎◌, ◌+◌, ◌<◌, ◌≤◌, Bool, MatchBool, None, Some, List, [], ◌∷◌, ◌++◌, length, map, replicate, slice_index_or}
+use Rattle.std.specs.Prelude.{◌≡◌, ℕ, ◌⊎◌, ◌+◌, ◌<◌, ◌≤◌, Bool, MatchBool, None, List, [], ◌∷◌, ◌++◌, length, map, replicate, slice_index_or}
 use Rattle.std.specs.List.{flat_map}
 use Rattle.rec_model.specs.LegalOrder.{Line}
 use Rattle.rec_model.specs.declared.command.Cmd.{Cmd}
 use Rattle.rec_mutator.specs.Private.{KeepsSizes}
 use Rattle.rec_mutator.specs.declared.work.Work.{Work}
 use Rattle.rec_mutator.specs.declared.work.Work.TheVariants as works
-use Rattle.rec_word.specs.declared.op.Op.{Op}
 use Rattle.rec_collector.specs.Next.{next_of}
 use Rattle.rec_script.specs.Script.{Contents}
 use Rattle.rec_table.specs.Held.{Gathers, Held, Started, IsCollectorOf, IsMutatorOf, gathers_now, has}
@@ -99,14 +98,12 @@ pub record HasTurned (turns : ℕ) (g g' : Gathers) : Type 0 where
   pub each : (length beats ≡ turns) ⊎ ((next_of (gathers_now g') ≡ None) × (length beats ≤ turns))
   pub requested : (gathers_now g').epoch ≤ (gathers_now g).epoch + turns
 
--- The collector made at most so many turns, and one at least where the epochs weren't spent; and the requested epoch rose by at most as
--- many.
-pub record HasCollected (turns : ℕ) (g g' : Gathers) : Type 0 where
-  pub beats : List Beat
-  pub grows : g' ≡ record g { crew = record g.crew { log = g.crew.log ++ beats } }
-  pub most : length beats ≤ turns
-  pub some : (op : Op) → next_of (gathers_now g) ≡ Some op → 0 < length beats
-  pub requested : (gathers_now g').epoch ≤ (gathers_now g).epoch + turns
+-- The collector made one turn at least, and at most so many.
+pub record HasCollected (most : ℕ) (g g' : Gathers) : Type 0 where
+  pub turns : ℕ
+  pub some : 0 < turns
+  pub few : turns ≤ most
+  pub turned : HasTurned turns g g'
 
 -- the crew is as it was
 pub record IsSame (crew crew' : Crew) : Type 0 where

@@ -1,24 +1,25 @@
 //! The worker of the collector.
 
-ghost use Rattle.std.specs.Prelude.{◌≡◌, ◌⊎◌, true};
+ghost use Rattle.std.specs.Prelude.{◌≡◌, ◌⊎◌, IsSome};
 ghost use Rattle.rec_table.specs.Held.{IsCollectorOf};
 ghost use Rattle.rec_threads.specs.Done.{HasCollected, HasTurned};
 
 use crate::gate::Gate;
 use crate::pause::Pause;
-use crate::signals::Signals;
+use crate::signals::{AllDone, Signals};
 use rec_collector::Turn;
 use rec_table::{Collector, Heap};
 
 // The collector makes at most so many turns.
 const MOST_TURNS: u32 = 10_000_000;
 
-/// The collector as its worker leaves it: after how many turns, and whether every mutator's last command was answered by then.
+/// The collector as its worker leaves it: after how many turns, and the evidence that every mutator's last command was answered by
+/// then, where it was.
 #[derive(Drop)]
 pub struct Collected {
     pub collector: Collector,
     pub turns: u32,
-    pub all_done: bool,
+    pub all_done: Option<AllDone>,
 }
 
 /// Makes turns, each behind the gate, until every mutator's last command is answered, or its turns are spent.
@@ -32,18 +33,18 @@ pub fn collect<G: Gate>(
     requires { IsCollectorOf heap.now collector }
     ensures own { IsCollectorOf heap.now result.collector }
     ensures turned { HasTurned result.turns collector result.collector }
-    ensures ended { (result.all_done ≡ true) ⊎ (result.turns ≡ 10000000) }
+    ensures ended { IsSome result.all_done ⊎ (result.turns ≡ 10000000) }
     ensures collected { HasCollected 10000000 collector result.collector }
 {
     let mut pause = Pause::new();
     for turns in 0..MOST_TURNS {
         gate.turn(turns + 1);
         let turn = collector.turn(heap);
-        if signals.are_done(mutators) {
+        if let Some(all_done) = signals.all_done(mutators) {
             return Collected {
                 collector,
                 turns: turns + 1,
-                all_done: true,
+                all_done: Some(all_done),
             };
         }
         pace(signals, turn, &mut pause);
@@ -51,7 +52,7 @@ pub fn collect<G: Gate>(
     Collected {
         collector,
         turns: MOST_TURNS,
-        all_done: false,
+        all_done: None,
     }
 }
 

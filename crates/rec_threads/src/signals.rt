@@ -9,6 +9,10 @@ use std::snapshot::Snapshot;
 use std::sync::atomic::{AtomicBool, AtomicU8, Ordering};
 use std::sync::{OnceLock, OnceToken, Wait};
 
+/// Every mutator's last command is answered. `Signals::all_done` alone makes one.
+#[derive(Drop)]
+pub struct AllDone(());
+
 /// What the workers of one drive tell one another.
 #[derive(Drop)]
 pub struct Signals {
@@ -63,9 +67,13 @@ impl Signals {
         self.done.fetch_add(1, Ordering::SeqCst);
     }
 
-    /// Whether so many mutators have had their last commands answered.
-    pub fn are_done(&self, mutators: u8) -> bool {
-        is_all(self.done.load(Ordering::SeqCst), mutators)
+    /// Tells whether so many mutators have had their last commands answered.
+    pub fn all_done(&self, mutators: u8) -> Option<AllDone> {
+        if is_all(self.done.load(Ordering::SeqCst), mutators) {
+            Some(AllDone(()))
+        } else {
+            None
+        }
     }
 
     /// The collector waits for this mutator; 0 is nobody.

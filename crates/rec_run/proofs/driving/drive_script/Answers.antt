@@ -1,5 +1,5 @@
 -- What a heap that was set running leaves as it is stopped is told by one order.
-use Rattle.std.proofs.Common.{◌≡◌, ◌∙◌, ◌≤◌, ℕ, List, ◌++◌, length, option_map, refl, sym, ap, subst, arith}
+use Rattle.std.proofs.Common.{◌≡◌, ◌∙◌, ◌≤◌, ℕ, List, ◌++◌, length, option_map, sym, ap, subst, arith}
 use Rattle.rec_core.specs.Core.{Core, opened}
 use Rattle.rec_world.specs.Journal.{Notes}
 use Rattle.rec_world.specs.Order.{Turns}
@@ -7,6 +7,7 @@ use Rattle.rec_table.specs.Held.{Gathers, Held, Started, fresh, fresh_collector}
 use Rattle.rec_table.specs.declared.views.Beat.{Beat}
 use Rattle.rec_threads.specs.Done.{HasCollected, HaveDone}
 use Rattle.rec_table.proofs.Beats.{config_after}
+use Rattle.rec_threads.proofs.Requests.{at_most}
 use Rattle.rec_order.specs.Naming.{first_naming, named_after_all}
 use Rattle.rec_play.specs.Played.{config_of}
 use Rattle.rec_script.specs.Script.{Contents}
@@ -17,8 +18,11 @@ use Rattle.rec_run.proofs.driving.drive_script.Goals as goal
 -- a new collector's list has the turns that it made
 few_turns : (s : Started) (g g' : Gathers) → g ≡ fresh_collector s → HasCollected 10000000 g g' → length g'.crew.log ≤ 10000000
 few_turns s g g' new did =
-    let list : g'.crew.log ≡ did.beats = ap (λ (x : Gathers). x.crew.log) did.grows ∙ ap (λ (x : Gathers). x.crew.log ++ did.beats) new in
-    subst (λ (l : List Beat). length l ≤ 10000000) (sym list) did.most
+    let turned = did.turned in
+    let list : g'.crew.log ≡ turned.beats = ap (λ (x : Gathers). x.crew.log) turned.grows ∙ ap (λ (x : Gathers). x.crew.log ++ turned.beats) new in
+    let many : length turned.beats ≤ did.turns = at_most did.turns g g' turned in
+    let few = did.few in
+    subst (λ (l : List Beat). length l ≤ 10000000) (sym list) (omega (arith, many, few))
 
 pub returns-clause-outcome : goal.returns-clause-outcome
 returns-clause-outcome g c =
@@ -29,13 +33,13 @@ returns-clause-outcome g c =
     let one_each = so.whole.ready.one_each in
     let (events, driven, made) = was_driven script c.in_ok-heap.heap ms c.in-Ok.crew.mutators.items js c.stop.result.journals.items c.in-Ok.crew.collector.crew.log c.stop.result.world
     (record {
-      opens = so.opens;
-      some_slots = so.config.some_slots;
+      opens = so.started.opens;
+      some_slots = so.started.config.some_slots;
       all = so.whole.all ∙ sym so.whole.script_all;
       one_each = one_each;
-      fresh_all = so.fresh_mutators;
+      fresh_all = so.started.fresh_mutators;
       empty = λ k lt. (so.whole.ready.each k (fresh c.in_ok-heap.heap 1) (omega (arith, lt, one_each))).empty;
-      turns = few_turns c.in_ok-heap.heap c.in_ok-heap.crew.collector c.in-Ok.crew.collector so.fresh_collector c.in-Ok.ensures.collected;
+      turns = few_turns c.in_ok-heap.heap c.in_ok-heap.crew.collector c.in-Ok.crew.collector so.started.fresh_collector c.in-Ok.ensures.collected;
       done = subst (λ (ns : List Notes). HaveDone script.commands ms js c.in-Ok.crew.mutators.items ns) (sym c.stop.ensures.journals) c.in-Ok.ensures.done;
       stopped = c.stop.ensures.stopped;
     }) in
@@ -47,6 +51,6 @@ returns-clause-outcome g c =
       stands = (number, driven.stands);
       made = made;
       order = ap (option_map (λ (turns : Turns). turns.list)) c.stop.ensures.order;
-      config = ap (λ (w : Core). w.config) (sym run.ends) ∙ config_after c.in_ok-heap.heap.world run.run ∙ ap (λ (w : Core). w.config) so.opens;
+      config = ap (λ (w : Core). w.config) (sym run.ends) ∙ config_after c.in_ok-heap.heap.world run.run ∙ ap (λ (w : Core). w.config) so.started.opens;
       idle = c.stop.ensures.idle;
     }

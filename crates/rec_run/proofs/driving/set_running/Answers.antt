@@ -50,8 +50,7 @@ returns c =
     let one_each = journals.one_each in
     record {
       running = record {
-        config = is.config;
-        opens = is.opens;
+        started = is;
         whole = record {
           all = is.all.all;
           script_all = sym (ap (λ (w : Core). w.config.mutators) is.opens);
@@ -62,7 +61,5 @@ returns c =
           };
           collector = is.own;
         };
-        fresh_mutators = is.fresh_mutators;
-        fresh_collector = is.fresh_collector;
       };
     }

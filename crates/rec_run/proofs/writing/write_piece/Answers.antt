@@ -1,4 +1,4 @@
-use Rattle.std.proofs.Common.{ℕ, ◌++◌, take, append_assoc, sym, ap, ◌∙◌, List, arith}
+use Rattle.std.proofs.Common.{ℕ, ◌++◌, take, append_assoc, sym, ap, ◌∙◌, List}
 use Rattle.std.proofs.lemmas.List.{take-append-drop}
 use Rattle.rec_io.proofs.Writing.{appends_more}
 use Rattle.rec_run.proofs.writing.write_piece.Goals as goal

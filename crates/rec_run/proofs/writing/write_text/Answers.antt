@@ -1,5 +1,5 @@
 -- Each line stands behind what was written, and where a write fails a front of it does.
-use Rattle.std.proofs.Common.{ℕ, ◌++◌, List, take, drop, append_assoc, sym, subst, ap, ◌∙◌, arith}
+use Rattle.std.proofs.Common.{ℕ, ◌++◌, List, take, drop, append_assoc, sym, subst, ap, ◌∙◌}
 use Rattle.std.proofs.lemmas.List.{take-append-drop}
 use Rattle.std.proofs.lemmas.Result.{err_from_is_err_and}
 use Rattle.rec_io.specs.Sink.{Appends}

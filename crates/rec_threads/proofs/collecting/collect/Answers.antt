@@ -1,6 +1,5 @@
 use Rattle.std.proofs.Common.{◌+◌, arith}
-use Rattle.rec_threads.specs.Done.{HasTurned}
-use Rattle.rec_threads.proofs.Requests.{no_turn, one_turn, within}
+use Rattle.rec_threads.proofs.Requests.{no_turn, one_turn}
 use Rattle.rec_threads.proofs.collecting.collect.Goals as goal
 
 pub loop-turns-init : goal.loop-turns-init
@@ -15,14 +14,17 @@ loop-turns-preserved g c = record {
   turned = one_turn c.loop-turns.turns c.args.collector c.loop-turns.collector c.turn-turn.new.self c.loop-turns.invariant.turned (λ none. (c.turn-turn.ensures.spent none).0) (λ op e. let x = c.turn-turn.ensures.turned op e in (x.0, x.1, x.2));
 }
 
-pub returns-then-are_done-clause-turned : goal.returns-then-are_done-clause-turned
-returns-then-are_done-clause-turned g c =
+pub returns-in-Some-clause-turned : goal.returns-in-Some-clause-turned
+returns-in-Some-clause-turned g c =
     one_turn c.loop-turns.turns c.args.collector c.loop-turns.collector c.turn-turn.new.self c.loop-turns.invariant.turned (λ none. (c.turn-turn.ensures.spent none).0) (λ op e. let x = c.turn-turn.ensures.turned op e in (x.0, x.1, x.2))
 
-pub returns-then-are_done-clause-collected : goal.returns-then-are_done-clause-collected
-returns-then-are_done-clause-collected g c =
-    let now : HasTurned (c.loop-turns.turns + 1) c.args.collector c.turn-turn.new.self = one_turn c.loop-turns.turns c.args.collector c.loop-turns.collector c.turn-turn.new.self c.loop-turns.invariant.turned (λ none. (c.turn-turn.ensures.spent none).0) (λ op e. let x = c.turn-turn.ensures.turned op e in (x.0, x.1, x.2)) in
-    within (c.loop-turns.turns + 1) 10000000 c.args.collector c.turn-turn.new.self (omega arith) (omega arith) now
+pub returns-in-Some-clause-collected : goal.returns-in-Some-clause-collected
+returns-in-Some-clause-collected g c = record {
+  turns = c.loop-turns.turns + 1;
+  some = omega arith;
+  few = omega arith;
+  turned = one_turn c.loop-turns.turns c.args.collector c.loop-turns.collector c.turn-turn.new.self c.loop-turns.invariant.turned (λ none. (c.turn-turn.ensures.spent none).0) (λ op e. let x = c.turn-turn.ensures.turned op e in (x.0, x.1, x.2));
+}
 
 pub returns-clause-collected : goal.returns-clause-collected
-returns-clause-collected g c = within c.loop-turns.turns 10000000 c.args.collector c.loop-turns.collector (omega arith) (omega arith) c.loop-turns.invariant.turned
+returns-clause-collected g c = record { turns = c.loop-turns.turns; some = omega arith; few = omega arith; turned = c.loop-turns.invariant.turned }
