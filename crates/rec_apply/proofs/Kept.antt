@@ -7,10 +7,10 @@ use Rattle.rec_counts.specs.Rest.{AreZeros}
 use Rattle.rec_counts.specs.Slot.{raised}
 use Rattle.rec_counts.proofs.Decrementing.{decremented_kept}
 use Rattle.rec_counts.proofs.Keeping.{keep_slot}
-use Rattle.rec_apply.specs.Batch.{CanFall, all_counted, all_down, all_marked, all_up, mark_targets, batch, counted_down, counted_up, down_targets, up_targets}
+use Rattle.rec_apply.specs.Batch.{CanFall, all_counted, all_down, all_greened, all_up, leaf_targets, batch, counted_down, counted_up, down_targets, up_targets}
 use Rattle.rec_apply.specs.declared.way.Way.TheVariants.{Up}
 use Rattle.rec_apply.proofs.Falling.{fall_first, fall_right}
-use Rattle.rec_apply.proofs.Marking.{marks_kept}
+use Rattle.rec_apply.proofs.Greening.{greens_kept}
 use Rattle.rec_apply.proofs.Resting.{all_keep}
 
 -- increments and decrements one after another
@@ -28,6 +28,6 @@ all_down_kept s [] c k = k
 all_down_kept s (t ∷ ts) c k = all_down_kept (counted_down s t) ts (fall_right s (t ∷ []) ts c) (down_kept s t (fall_first s t ts c).0 c.zeros k)
 
 -- a batch
-pub batch_kept : (s : State) (newer older : List Contents) → CanFall (all_up (all_marked s (flat_map mark_targets newer)) (flat_map up_targets newer)) (flat_map down_targets older) → IsKept s → IsKept (batch s newer older)
-batch_kept s newer older c k = all_down_kept (all_up (all_marked s (flat_map mark_targets newer)) (flat_map up_targets newer)) (flat_map down_targets older) c
-    (all_keep Up IsKept up_kept (all_marked s (flat_map mark_targets newer)) (flat_map up_targets newer) (marks_kept s (flat_map mark_targets newer) k))
+pub batch_kept : (s : State) (newer older : List Contents) → CanFall (all_up (all_greened s (flat_map leaf_targets newer)) (flat_map up_targets newer)) (flat_map down_targets older) → IsKept s → IsKept (batch s newer older)
+batch_kept s newer older c k = all_down_kept (all_up (all_greened s (flat_map leaf_targets newer)) (flat_map up_targets newer)) (flat_map down_targets older) c
+    (all_keep Up IsKept up_kept (all_greened s (flat_map leaf_targets newer)) (flat_map up_targets newer) (greens_kept s (flat_map leaf_targets newer) k))

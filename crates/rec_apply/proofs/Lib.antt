@@ -1,6 +1,6 @@
 pub mod Falling
 pub mod Kept
-pub mod Marking
+pub mod Greening
 pub mod Naming
 pub mod Resting
 pub mod Rising

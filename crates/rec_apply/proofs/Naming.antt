@@ -9,7 +9,7 @@ use Rattle.rec_counts.specs.Lists.{one}
 use Rattle.rec_log.specs.declared.contents.Contents.{Contents}
 use Rattle.rec_log.specs.declared.entry.Entry.{Entry}
 use Rattle.rec_apply.specs.Targets.{named, added, taken, leaf_born, leaves, new_target, old_target}
-use Rattle.rec_apply.specs.Batch.{up_targets, down_targets, mark_targets}
+use Rattle.rec_apply.specs.Batch.{up_targets, down_targets, leaf_targets}
 
 pub named-nil : (x : ℕ) → named x [] ≡ 0
 unfolding named
@@ -45,20 +45,20 @@ pub added_is : (x : ℕ) (bs : List Contents) → named x (flat_map up_targets b
 added_is x bs = named_parts x up_targets bs ∙ named_halves x new_target bs
 
 -- what is taken off is what the decrements name
-leaves_part : (x : ℕ) (bs : List Contents) → sum_by (λ (b : Contents). named x (mark_targets b)) bs ≡ leaves x bs
+leaves_part : (x : ℕ) (bs : List Contents) → sum_by (λ (b : Contents). named x (leaf_targets b)) bs ≡ leaves x bs
 leaves_part x [] = refl
 leaves_part x (b ∷ bs) =
     omega (
       arith,
-      sum_by-cons (λ (b : Contents). named x (mark_targets b)) b bs,
+      sum_by-cons (λ (b : Contents). named x (leaf_targets b)) b bs,
       sum_by-cons (λ (b : Contents). named x (map leaf_born b.entries)) b bs,
       ap (named x) (append-nil (map leaf_born b.entries)),
       leaves_part x bs,
     )
 
 -- so are births of leaves
-pub leaves_is : (x : ℕ) (bs : List Contents) → named x (flat_map mark_targets bs) ≡ leaves x bs
-leaves_is x bs = named_parts x mark_targets bs ∙ leaves_part x bs
+pub leaves_is : (x : ℕ) (bs : List Contents) → named x (flat_map leaf_targets bs) ≡ leaves x bs
+leaves_is x bs = named_parts x leaf_targets bs ∙ leaves_part x bs
 
 pub taken_is : (x : ℕ) (bs : List Contents) → named x (flat_map down_targets bs) ≡ taken x bs
 taken_is x bs = named_parts x down_targets bs ∙ named_halves x old_target bs

@@ -3,10 +3,10 @@ use Rattle.std.proofs.Common.{◌≡◌, ℕ, ◌+◌, ◌<◌, Option, None, If
 use Rattle.std.proofs.lemmas.List.Sums.{fold-append, fold_more}
 use Rattle.rec_counts.specs.Counts.{State}
 use Rattle.rec_apply.specs.declared.way.Way.{Way}
-use Rattle.rec_apply.specs.declared.way.Way.TheVariants.{Up, Down, Mark}
+use Rattle.rec_apply.specs.declared.way.Way.TheVariants.{Up, Down, Leaves}
 use Rattle.rec_apply.specs.Batch.{CanChange, CanCount, all_counted, counted}
 use Rattle.rec_apply.proofs.Falling.{fall_change, fall_left, fall_right}
-use Rattle.rec_apply.proofs.Marking.{mark_first, mark_left, mark_right}
+use Rattle.rec_apply.proofs.Greening.{green_first, green_left, green_right}
 use Rattle.rec_apply.proofs.Naming.{split_at}
 use Rattle.rec_apply.proofs.Rising.{rise_first, rise_left, rise_right}
 
@@ -26,17 +26,17 @@ count_append way s ts us = fold-append (counted way) s ts us
 pub count_left : (way : Way) (s : State) (ts us : List (Option ℕ)) → CanCount way s (ts ++ us) → CanCount way s ts
 count_left Up s ts us k = rise_left s ts us k
 count_left Down s ts us k = fall_left s ts us k
-count_left Mark s ts us k = mark_left s ts us k
+count_left Leaves s ts us k = green_left s ts us k
 
 pub count_right : (way : Way) (s : State) (ts us : List (Option ℕ)) → CanCount way s (ts ++ us) → CanCount way (all_counted way s ts) us
 count_right Up s ts us k = rise_right s ts us k
 count_right Down s ts us k = fall_right s ts us k
-count_right Mark s ts us k = mark_right s ts us k
+count_right Leaves s ts us k = green_right s ts us k
 
 count_first : (way : Way) (s : State) (t : Option ℕ) (ts : List (Option ℕ)) → CanCount way s (t ∷ ts) → IfSome t (λ x. CanChange way s x)
 count_first Up s t ts k = rise_first s t ts k
 count_first Down s t ts k = fall_change s t ts k
-count_first Mark s t ts k = mark_first s t ts k
+count_first Leaves s t ts k = green_first s t ts k
 
 -- at each place of the list
 pub count_at : (way : Way) (s : State) (ts : List (Option ℕ)) (i : ℕ) → CanCount way s ts → i < length ts → IfSome (get_or ts i None) (λ x. CanChange way (all_counted way s (take i ts)) x)

@@ -5,7 +5,7 @@ use Rattle.rec_counts.specs.Counts.{State, slot_at, with_slot, decremented}
 use Rattle.rec_counts.specs.Rest.{AreZeros}
 use Rattle.rec_counts.specs.Slot.{raised}
 use Rattle.rec_apply.specs.declared.way.Way.{Way}
-use Rattle.rec_apply.specs.declared.way.Way.TheVariants.{Up, Down, Mark}
+use Rattle.rec_apply.specs.declared.way.Way.TheVariants.{Up, Down, Leaves}
 use Rattle.rec_counts.specs.Lists.{times}
 use Rattle.rec_log.specs.declared.contents.Contents.{Contents}
 use Rattle.rec_apply.specs.Targets.{entry_target, named}
@@ -14,7 +14,7 @@ use Rattle.rec_apply.specs.Targets.{entry_target, named}
 abbrev pub changed : Way → State → ℕ → State
 changed Up s x = with_slot s x (raised (slot_at s x))
 changed Down s x = decremented s x
-changed Mark s x = with_slot s x (record (slot_at s x) { colour = Green })
+changed Leaves s x = with_slot s x (record (slot_at s x) { colour = Green })
 
 -- what is named is counted; null counts for nothing
 abbrev pub counted : Way → State → Option ℕ → State
@@ -31,7 +31,7 @@ counted_down s t = counted Down s t
 abbrev pub snapshot_of : Way → Contents → List (Option ℕ)
 snapshot_of Up b = b.snapshot
 snapshot_of Down b = b.snapshot
-snapshot_of Mark b = []
+snapshot_of Leaves b = []
 
 -- what a buffer names: for increments the new targets of its entries, for decrements what they replaced or bore, and then
 -- the snapshot; and the leaves that they bore
@@ -44,8 +44,8 @@ up_targets b = targets_of Up b
 abbrev pub down_targets : Contents → List (Option ℕ)
 down_targets b = targets_of Down b
 
-abbrev pub mark_targets : Contents → List (Option ℕ)
-mark_targets b = targets_of Mark b
+abbrev pub leaf_targets : Contents → List (Option ℕ)
+leaf_targets b = targets_of Leaves b
 
 -- these are counted, one after another
 unfoldable pub all_counted : Way → State → List (Option ℕ) → State
@@ -57,12 +57,12 @@ all_up s targets = all_counted Up s targets
 abbrev pub all_down : State → List (Option ℕ) → State
 all_down s targets = all_counted Down s targets
 
-abbrev pub all_marked : State → List (Option ℕ) → State
-all_marked s targets = all_counted Mark s targets
+abbrev pub all_greened : State → List (Option ℕ) → State
+all_greened s targets = all_counted Leaves s targets
 
 -- the newer buffers' leaves, then their increments in order of mutator, and then the older buffers' decrements
 abbrev pub batch : State → (newer older : List Contents) → State
-batch s newer older = all_down (all_up (all_marked s (flat_map mark_targets newer)) (flat_map up_targets newer)) (flat_map down_targets older)
+batch s newer older = all_down (all_up (all_greened s (flat_map leaf_targets newer)) (flat_map up_targets newer)) (flat_map down_targets older)
 
 -- these increments name slots that are there, and no count passes the greatest
 pub record CanRise (s : State) (targets : List (Option ℕ)) : Type 0 where
@@ -81,10 +81,10 @@ CanMark s targets = (x : ℕ) → length s.slots ≤ x → named x targets ≡ 0
 abbrev pub CanCount : Way → State → List (Option ℕ) → Type 0
 CanCount Up s targets = CanRise s targets
 CanCount Down s targets = CanFall s targets
-CanCount Mark s targets = CanMark s targets
+CanCount Leaves s targets = CanMark s targets
 
 -- this slot is there, and its count fits one more; or it has a count, and is not in the zeros
 abbrev pub CanChange : Way → State → ℕ → Type 0
 CanChange Up s x = (x < length s.slots) × ((slot_at s x).count + 1 < 2 ^ 64)
 CanChange Down s x = (x < length s.slots) × (0 < (slot_at s x).count) × (times x s.zeros ≡ 0)
-CanChange Mark s x = x < length s.slots
+CanChange Leaves s x = x < length s.slots

@@ -2,7 +2,7 @@
 use Rattle.std.specs.Prelude.{ℕ, ◌+◌, true, Option, None, Some, List, map, count_by, sum_by}
 use Rattle.rec_word.specs.Word.{target_of, is_slot}
 use Rattle.rec_apply.specs.declared.way.Way.{Way}
-use Rattle.rec_apply.specs.declared.way.Way.TheVariants.{Up, Down, Mark}
+use Rattle.rec_apply.specs.declared.way.Way.TheVariants.{Up, Down, Leaves}
 use Rattle.rec_log.specs.declared.contents.Contents.{Contents}
 use Rattle.rec_log.specs.declared.entry.Entry.{Entry}
 use Rattle.rec_log.specs.declared.entry.Entry.TheVariants.{Put, Born}
@@ -26,7 +26,7 @@ leaf_born _ = None
 abbrev pub entry_target : Way → Entry → Option ℕ
 entry_target Up entry = new_target entry
 entry_target Down entry = old_target entry
-entry_target Mark entry = leaf_born entry
+entry_target Leaves entry = leaf_born entry
 
 -- how often the slot stands among these targets
 unfoldable pub named : ℕ → List (Option ℕ) → ℕ

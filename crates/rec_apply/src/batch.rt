@@ -28,7 +28,7 @@ pub fn apply(counts: &mut Counts, newer: &[Buffer], older: &[Buffer])
     ensures all_zeros { AllZeros counts.old → AllZeros counts.new }
     ensures rest { KeepsRest counts.old counts.new }
 {
-    count_all(counts, newer, Way::Mark);
+    count_all(counts, newer, Way::Leaves);
     count_all(counts, newer, Way::Up);
     count_all(counts, older, Way::Down);
 }

@@ -35,7 +35,7 @@ fn snapshot(buffer: &Buffer, way: Way) -> &[Option<u16>]
 {
     match way {
         Way::Up | Way::Down => buffer.snapshot(),
-        Way::Mark => &[],
+        Way::Leaves => &[],
     }
 }
 
@@ -68,7 +68,7 @@ fn count_target(counts: &mut Counts, target: Option<u16>, way: Way)
         match way {
             Way::Up => counts.increment(slot),
             Way::Down => counts.decrement(slot),
-            Way::Mark => counts.set_colour(slot, Colour::Green),
+            Way::Leaves => counts.set_colour(slot, Colour::Green),
         }
     }
 }

@@ -14,7 +14,7 @@ pub(crate) fn entry_target(entry: Entry, way: Way) -> Option<u16>
     match way {
         Way::Up => new_target(entry),
         Way::Down => old_target(entry),
-        Way::Mark => leaf_born(entry),
+        Way::Leaves => leaf_born(entry),
     }
 }
 

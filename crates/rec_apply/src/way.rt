@@ -1,10 +1,10 @@
-/// Which way a batch changes counts, or that it marks leaves.
+/// What a pass of a batch does to each slot that the logs name.
 #[derive(Clone, Copy, Drop)]
 pub enum Way {
-    /// Up, by increments: what is referred to from now on.
+    /// Counts go up, by increments: what is referred to from now on.
     Up,
-    /// Down, by decrements: what is no longer referred to.
+    /// Counts go down, by decrements: what is no longer referred to.
     Down,
-    /// Neither: each leaf that was born becomes Green.
-    Mark,
+    /// No count changes: each leaf that was born becomes Green.
+    Leaves,
 }

@@ -13,10 +13,10 @@ use Rattle.rec_counts.specs.Slot.{raised}
 use Rattle.rec_counts.proofs.Decrementing.{rest_decremented}
 use Rattle.rec_counts.proofs.Keeping.{field_kept}
 use Rattle.rec_counts.proofs.Times.{times-nil}
-use Rattle.rec_apply.specs.Batch.{all_counted, CanFall, all_down, all_up, batch, counted_down, counted_up, down_targets, up_targets, CanRise, all_marked, counted, mark_targets}
+use Rattle.rec_apply.specs.Batch.{all_counted, CanFall, all_down, all_up, batch, counted_down, counted_up, down_targets, up_targets, CanRise, all_greened, counted, leaf_targets}
 use Rattle.rec_apply.proofs.Falling.{fall_first, fall_right, fall_zeros_all}
 use Rattle.rec_apply.proofs.Resting.{rest_all_up, all_keep}
-use Rattle.rec_apply.proofs.Whole.{batch_rests, batch_falls, batch_rises, marked_by}
+use Rattle.rec_apply.proofs.Whole.{batch_rests, batch_falls, batch_rises, greened_by}
 use Rattle.rec_apply.proofs.Kept.{batch_kept}
 use Rattle.rec_release.specs.Release.{IsReady}
 use Rattle.rec_release.specs.TakenOff.{AllZerosButOrange}
@@ -48,8 +48,8 @@ use Rattle.rec_collector.proofs.Testing.{tested_clear, clear_counted, clear_list
 use Rattle.rec_release.specs.CycleFree as frees
 use Rattle.rec_release.specs.Release as releases
 use Rattle.rec_trial.specs.Trial as trials
-use Rattle.rec_apply.specs.declared.way.Way.TheVariants.{Mark}
-use Rattle.rec_apply.proofs.Marking.{rest_all_marked}
+use Rattle.rec_apply.specs.declared.way.Way.TheVariants.{Leaves}
+use Rattle.rec_apply.proofs.Greening.{rest_all_greened}
 use Rattle.rec_counts.specs.declared.colour.Colour.TheVariants.{Green}
 use Rattle.rec_collector.specs.Zeros.{AreCounted}
 
@@ -77,9 +77,9 @@ tidy_up s (Some x) at i =
     }
 
 -- A leaf becomes Green, where each slot has a count.
-tidy_mark : {fields : ℕ} → (s : State) (t : Option ℕ) → IsTidy fields s None × AreCounted s → IsTidy fields (counted Mark s t) None × AreCounted (counted Mark s t)
-tidy_mark s None i = i
-tidy_mark s (Some x) (i, c) =
+tidy_greened : {fields : ℕ} → (s : State) (t : Option ℕ) → IsTidy fields s None × AreCounted s → IsTidy fields (counted Leaves s t) None × AreCounted (counted Leaves s t)
+tidy_greened s None i = i
+tidy_greened s (Some x) (i, c) =
     let v : Slot = record (slot_at s x) { colour = Green } in
     let buffered : (y : ℕ) → (slot_at (with_slot s x v) y).buffered ≡ (slot_at s y).buffered = field_kept (λ (w : Slot). w.buffered) s.slots x v refl in
     let released : (y : ℕ) → (slot_at (with_slot s x v) y).released ≡ (slot_at s y).released = field_kept (λ (w : Slot). w.released) s.slots x v refl in
@@ -97,8 +97,8 @@ tidy_mark s (Some x) (i, c) =
       counted_still,
     )
 
-tidy_marks : {fields : ℕ} → (s : State) (ts : List (Option ℕ)) → IsTidy fields s None → AreCounted s → IsTidy fields (all_marked s ts) None
-tidy_marks {fields} s ts i c = (all_keep Mark (λ u. IsTidy fields u None × AreCounted u) tidy_mark s ts (i, c)).0
+tidy_all_greened : {fields : ℕ} → (s : State) (ts : List (Option ℕ)) → IsTidy fields s None → AreCounted s → IsTidy fields (all_greened s ts) None
+tidy_all_greened {fields} s ts i c = (all_keep Leaves (λ u. IsTidy fields u None × AreCounted u) tidy_greened s ts (i, c)).0
 
 tidy_all_up : {fields : ℕ} → (s : State) (ts : List (Option ℕ)) (at : Option At) → IsTidy fields s at → IsTidy fields (all_up s ts) at
 unfolding all_counted
@@ -134,15 +134,15 @@ tidy_all_down s [] at c r i = i
 tidy_all_down s (t ∷ ts) at c r i = tidy_all_down (counted_down s t) ts at (fall_right s (t ∷ []) ts c) (released_down s t r) (tidy_down s t ts at c r i)
 
 -- counts that are tidy stay so, where nothing is at work
-pub batched_clear : (fields : ℕ) (s : State) (newer older : List Contents) → CanFall (all_up (marked_by s newer) (flat_map up_targets newer)) (flat_map down_targets older) → IsTidy fields s None → AreCounted s → IsReady s → s.work ≡ [] →
+pub batched_clear : (fields : ℕ) (s : State) (newer older : List Contents) → CanFall (all_up (greened_by s newer) (flat_map up_targets newer)) (flat_map down_targets older) → IsTidy fields s None → AreCounted s → IsReady s → s.work ≡ [] →
     IsTidy fields (batch s newer older) None × IsReady (batch s newer older)
 batched_clear fields s newer older c tidy counted r none =
-    let marked : State = marked_by s newer in
+    let marked : State = greened_by s newer in
     let up : State = all_up marked (flat_map up_targets newer) in
     let k : KeepsRest s (batch s newer older) = batch_rests s newer older in
     let released : AreReleased s = record { free = r.free; work = λ x h. nowhere s.work x none h } in (
-      tidy_all_down up (flat_map down_targets older) None c (released_rests marked up (rest_all_up marked (flat_map up_targets newer)) (released_rests s marked (rest_all_marked s (flat_map mark_targets newer)) released))
-          (tidy_all_up marked (flat_map up_targets newer) None (tidy_marks s (flat_map mark_targets newer) tidy counted)),
+      tidy_all_down up (flat_map down_targets older) None c (released_rests marked up (rest_all_up marked (flat_map up_targets newer)) (released_rests s marked (rest_all_greened s (flat_map leaf_targets newer)) released))
+          (tidy_all_up marked (flat_map up_targets newer) None (tidy_all_greened s (flat_map leaf_targets newer) tidy counted)),
       record { zeros = fall_zeros_all up (flat_map down_targets older) c.zeros; free = (released_rests s (batch s newer older) k released).free },
     )
 
@@ -269,9 +269,9 @@ freed_has p m word k e c =
     }
 
 -- a batch can be applied, and the counts are then tidy
-covered_falls : (s : State) (newer older : List Contents) → s.zeros ≡ [] → IsCovered s newer older → CanFall (all_up (marked_by s newer) (flat_map up_targets newer)) (flat_map down_targets older)
+covered_falls : (s : State) (newer older : List Contents) → s.zeros ≡ [] → IsCovered s newer older → CanFall (all_up (greened_by s newer) (flat_map up_targets newer)) (flat_map down_targets older)
 covered_falls s newer older z c =
-    let rises : CanRise (marked_by s newer) (flat_map up_targets newer) = batch_rises s newer older c.in_range c.fits in
+    let rises : CanRise (greened_by s newer) (flat_map up_targets newer) = batch_rises s newer older c.in_range c.fits in
     batch_falls s newer older z rises c.covered
 
 -- its zeros are to be released

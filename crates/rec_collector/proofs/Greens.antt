@@ -13,9 +13,9 @@ use Rattle.rec_counts.specs.Groups.{last_set}
 use Rattle.rec_counts.specs.Lists.{one, times}
 use Rattle.rec_counts.specs.Slot.{is_in, raised, swept_clean, unbuffered_if}
 use Rattle.rec_counts.proofs.Decrementing.{green_kept}
-use Rattle.rec_apply.specs.Batch.{all_counted, all_down, all_marked, all_up, batch, counted, counted_down, counted_up, down_targets, mark_targets, up_targets}
+use Rattle.rec_apply.specs.Batch.{all_counted, all_down, all_greened, all_up, batch, counted, counted_down, counted_up, down_targets, leaf_targets, up_targets}
 use Rattle.rec_apply.specs.Targets.{leaves, named}
-use Rattle.rec_apply.specs.declared.way.Way.TheVariants.{Down, Mark, Up}
+use Rattle.rec_apply.specs.declared.way.Way.TheVariants.{Down, Leaves, Up}
 use Rattle.rec_apply.proofs.Naming.{leaves_is, named-cons}
 use Rattle.rec_apply.proofs.Resting.{all_keep}
 use Rattle.rec_release.specs.CycleFree as frees
@@ -117,18 +117,18 @@ ups_greens s ts = all_keep Up (KeepsGreens s) (λ u t k x g. k x (up_greens u t 
 downs_greens : (s : State) (ts : List (Option ℕ)) → KeepsGreens s (all_down s ts)
 downs_greens s ts = all_keep Down (KeepsGreens s) (λ u t k x g. k x (down_greens u t x g)) s ts (λ x g. g)
 
-mark_green : (s : State) (t : Option ℕ) (x : ℕ) → is_green (slot_at (counted Mark s t) x).colour ≡ true → (is_green (slot_at s x).colour ≡ true) ⊎ (is_slot x t ≡ true)
-mark_green s None x g = inl g
-mark_green s (Some y) x g = elim (written s y (record (slot_at s y) { colour = Green }) x) [
+leaf_green : (s : State) (t : Option ℕ) (x : ℕ) → is_green (slot_at (counted Leaves s t) x).colour ≡ true → (is_green (slot_at s x).colour ≡ true) ⊎ (is_slot x t ≡ true)
+leaf_green s None x g = inl g
+leaf_green s (Some y) x g = elim (written s y (record (slot_at s y) { colour = Green }) x) [
   | inl q ↦ inr (eq-eqb x y q.0)
   | inr q ↦ inl (ap (λ (w : Slot). is_green w.colour) (sym q) ∙ g)
 ]
 
-marks_green : (s : State) (ts : List (Option ℕ)) (x : ℕ) → is_green (slot_at (all_marked s ts) x).colour ≡ true → (is_green (slot_at s x).colour ≡ true) ⊎ (0 < named x ts)
+leaves_green : (s : State) (ts : List (Option ℕ)) (x : ℕ) → is_green (slot_at (all_greened s ts) x).colour ≡ true → (is_green (slot_at s x).colour ≡ true) ⊎ (0 < named x ts)
 unfolding all_counted
-marks_green s [] x g = inl g
-marks_green s (t ∷ ts) x g = elim (marks_green (counted Mark s t) ts x g) [
-  | inl before ↦ elim (mark_green s t x before) [
+leaves_green s [] x g = inl g
+leaves_green s (t ∷ ts) x g = elim (leaves_green (counted Leaves s t) ts x g) [
+  | inl before ↦ elim (leaf_green s t x before) [
     | inl old ↦ inl old
     | inr here ↦ inr (omega (arith, named-cons x t ts, ap one here))
   ]
@@ -137,9 +137,9 @@ marks_green s (t ∷ ts) x g = elim (marks_green (counted Mark s t) ts x g) [
 
 pub batch_greens : (s : State) (newer older : List Contents) (x : ℕ) → is_green (slot_at (batch s newer older) x).colour ≡ true → (is_green (slot_at s x).colour ≡ true) ⊎ (0 < leaves x newer)
 batch_greens s newer older x g =
-    let marked : State = all_marked s (flat_map mark_targets newer) in
+    let marked : State = all_greened s (flat_map leaf_targets newer) in
     let up : State = all_up marked (flat_map up_targets newer) in
-    elim (marks_green s (flat_map mark_targets newer) x (ups_greens marked (flat_map up_targets newer) x (downs_greens up (flat_map down_targets older) x g))) [
+    elim (leaves_green s (flat_map leaf_targets newer) x (ups_greens marked (flat_map up_targets newer) x (downs_greens up (flat_map down_targets older) x g))) [
       | inl old ↦ inl old
       | inr born ↦ inr (omega (arith, born, leaves_is x newer))
     ]

@@ -22,7 +22,7 @@ use Rattle.rec_counts.specs.Slot.{is_in, lessened, lessened_if, lowered, due_of,
 use Rattle.rec_counts.proofs.Keeping.{set_there}
 use Rattle.rec_counts.proofs.Decrementing.{rest_decremented, stays_released}
 use Rattle.rec_walk.specs.Load.{Load}
-use Rattle.rec_apply.specs.Batch.{all_counted, all_down, all_up, batch, counted_down, counted_up, down_targets, up_targets, all_marked, counted, mark_targets}
+use Rattle.rec_apply.specs.Batch.{all_counted, all_down, all_up, batch, counted_down, counted_up, down_targets, up_targets, all_greened, counted, leaf_targets}
 use Rattle.rec_apply.specs.Targets.{added, named, taken, leaves}
 use Rattle.rec_apply.proofs.Naming.{added_is, named-cons, named-nil, taken_is, leaves_is}
 use Rattle.rec_apply.proofs.Resting.{rest_all_up}
@@ -43,8 +43,8 @@ use Rattle.rec_collector.specs.Kept.{IsAt, IsMachine}
 use Rattle.rec_collector.specs.Private.{Private}
 use Rattle.rec_collector.specs.declared.phase.Phase.{Phase}
 use Rattle.rec_collector.specs.declared.phase.Phase.TheVariants.{Looking, Swapping, Returning, Releasing, Freeing, Trying, Preparing}
-use Rattle.rec_apply.specs.declared.way.Way.TheVariants.{Mark}
-use Rattle.rec_apply.proofs.Marking.{rest_all_marked}
+use Rattle.rec_apply.specs.declared.way.Way.TheVariants.{Leaves}
+use Rattle.rec_apply.proofs.Greening.{rest_all_greened}
 use Rattle.rec_release.proofs.Keeping.{each_zero}
 
 -- the member was one before, and so many references were taken off its counts
@@ -257,9 +257,9 @@ lessened_unlike true l v e r o = absurd (false≢true (sym r ∙ stays_released 
 lessened_unlike false true v e r o = cc
 lessened_unlike false false v e r o = cc
 
-mark_names : (s : State) (name : Option ℕ) (y : ℕ) → Names s (counted Mark s name) name y
-mark_names s None y = record { lost = λ e. absurd (false≢true e); kept = λ _. refl }
-mark_names s (Some x) y = written_names s x (record (slot_at s x) { colour = Green }) y (λ _ o. cc)
+leaf_names : (s : State) (name : Option ℕ) (y : ℕ) → Names s (counted Leaves s name) name y
+leaf_names s None y = record { lost = λ e. absurd (false≢true e); kept = λ _. refl }
+leaf_names s (Some x) y = written_names s x (record (slot_at s x) { colour = Green }) y (λ _ o. cc)
 
 up_names : (s : State) (name : Option ℕ) (y : ℕ) → Names s (counted_up s name) name y
 up_names s None y = record { lost = λ e. absurd (false≢true e); kept = λ _. refl }
@@ -298,10 +298,10 @@ first_spares s t u name n m y f r e = go (is_slot y name) refl
         let w : one (is_slot y name) ≡ 0 = ap one q in
         record { before = λ o. omega (arith, e, w, r.before o); same = λ z. r.same (omega (arith, z, e, w)) ∙ f.kept q }
 
-marks_spare : (s : State) (names : List (Option ℕ)) (y : ℕ) → Spares s (all_marked s names) (named y names) y
+leaves_spare : (s : State) (names : List (Option ℕ)) (y : ℕ) → Spares s (all_greened s names) (named y names) y
 unfolding all_counted
-marks_spare s [] y = record { before = λ o. named-nil y; same = λ _. refl }
-marks_spare s (t ∷ ts) y = first_spares s (counted Mark s t) (all_marked (counted Mark s t) ts) t (named y ts) (named y (t ∷ ts)) y (mark_names s t y) (marks_spare (counted Mark s t) ts y) (named-cons y t ts)
+leaves_spare s [] y = record { before = λ o. named-nil y; same = λ _. refl }
+leaves_spare s (t ∷ ts) y = first_spares s (counted Leaves s t) (all_greened (counted Leaves s t) ts) t (named y ts) (named y (t ∷ ts)) y (leaf_names s t y) (leaves_spare (counted Leaves s t) ts y) (named-cons y t ts)
 
 ups_spare : (s : State) (names : List (Option ℕ)) (y : ℕ) → Spares s (all_up s names) (named y names) y
 unfolding all_counted
@@ -317,19 +317,19 @@ downs_spare s (t ∷ ts) y r =
 -- a whole batch
 module _ (s : State) (newer older : List Contents) (y : ℕ) (r : (slot_at s y).released ≡ false) where
   abbrev marked : State
-  marked = all_marked s (flat_map mark_targets newer)
+  marked = all_greened s (flat_map leaf_targets newer)
 
   abbrev up : State
   up = all_up marked (flat_map up_targets newer)
 
-  marks : Spares s marked (named y (flat_map mark_targets newer)) y
-  marks = marks_spare s (flat_map mark_targets newer) y
+  marks : Spares s marked (named y (flat_map leaf_targets newer)) y
+  marks = leaves_spare s (flat_map leaf_targets newer) y
 
   ups : Spares marked up (named y (flat_map up_targets newer)) y
   ups = ups_spare marked (flat_map up_targets newer) y
 
   downs : Spares up (batch s newer older) (named y (flat_map down_targets older)) y
-  downs = downs_spare up (flat_map down_targets older) y ((rest_all_up marked (flat_map up_targets newer)).released y ∙ (rest_all_marked s (flat_map mark_targets newer)).released y ∙ r)
+  downs = downs_spare up (flat_map down_targets older) y ((rest_all_up marked (flat_map up_targets newer)).released y ∙ (rest_all_greened s (flat_map leaf_targets newer)).released y ∙ r)
 
   -- a slot that is Orange after a batch is as it was, and nothing of the batch names it
   pub batch_same : (slot_at (batch s newer older) y).colour ≡ Orange → (slot_at (batch s newer older) y ≡ slot_at s y) × (added y newer + taken y older + leaves y newer ≡ 0)
@@ -337,7 +337,7 @@ module _ (s : State) (newer older : List Contents) (y : ℕ) (r : (slot_at s y).
       let none_down : named y (flat_map down_targets older) ≡ 0 = downs.before o in
       let after_ups : (slot_at up y).colour ≡ Orange = ap (λ (w : Slot). w.colour) (sym (downs.same none_down)) ∙ o in
       let none_up : named y (flat_map up_targets newer) ≡ 0 = ups.before after_ups in
-      let none_marked : named y (flat_map mark_targets newer) ≡ 0 = marks.before (ap (λ (w : Slot). w.colour) (sym (ups.same none_up)) ∙ after_ups) in
+      let none_marked : named y (flat_map leaf_targets newer) ≡ 0 = marks.before (ap (λ (w : Slot). w.colour) (sym (ups.same none_up)) ∙ after_ups) in
       (downs.same none_down ∙ ups.same none_up ∙ marks.same none_marked, omega (arith, none_up, none_down, none_marked, added_is y newer, taken_is y older, leaves_is y newer))
 
   pub batch_touches : ((slot_at (batch s newer older) y).colour ≡ Orange) ↔ (((slot_at s y).colour ≡ Orange) × (added y newer + taken y older + leaves y newer ≡ 0))

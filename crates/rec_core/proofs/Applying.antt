@@ -25,7 +25,7 @@ use Rattle.rec_counts.specs.declared.slot.Slot.{Slot}
 use Rattle.rec_apply.specs.Batch.{batch, up_targets, down_targets, all_up, CanRise, CanFall}
 use Rattle.rec_apply.specs.Targets as targets
 use Rattle.rec_apply.proofs.Falling.{fall_zeros_all}
-use Rattle.rec_apply.proofs.Whole.{batch_rises, batch_falls, batch_counts, batch_rests, marked_by}
+use Rattle.rec_apply.proofs.Whole.{batch_rises, batch_falls, batch_counts, batch_rests, greened_by}
 use Rattle.rec_mutator.specs.Private.{Private}
 use Rattle.rec_collector.specs.Given.{IsCovered}
 use Rattle.rec_collector.specs.Private as collectors
@@ -354,20 +354,20 @@ module _ (w : Core) (t : ℕ) (kept : IsKept w) (phase : w.collector.phase ≡ R
   abbrev pub counted : State
   counted = batch c.counts c.newer c.older
 
-  rises : CanRise (marked_by c.counts c.newer) (flat_map up_targets c.newer)
+  rises : CanRise (greened_by c.counts c.newer) (flat_map up_targets c.newer)
   rises = batch_rises c.counts c.newer c.older covered.in_range covered.fits
 
   zeros_before : c.counts.zeros ≡ []
   zeros_before = (now_at w (Returning t) kept phase).rest.zeros
 
-  pub falls : CanFall (all_up (marked_by c.counts c.newer) (flat_map up_targets c.newer)) (flat_map down_targets c.older)
+  pub falls : CanFall (all_up (greened_by c.counts c.newer) (flat_map up_targets c.newer)) (flat_map down_targets c.older)
   falls = batch_falls c.counts c.newer c.older zeros_before rises covered.covered
 
   pub counted_rest : KeepsRest c.counts counted
   counted_rest = batch_rests c.counts c.newer c.older
 
   pub counted_zeros : AreZeros counted
-  counted_zeros = fall_zeros_all (all_up (marked_by c.counts c.newer) (flat_map up_targets c.newer)) (flat_map down_targets c.older) falls.zeros
+  counted_zeros = fall_zeros_all (all_up (greened_by c.counts c.newer) (flat_map up_targets c.newer)) (flat_map down_targets c.older) falls.zeros
 
   -- no register is of an epoch that is applied
   all_crossed : sum_by (is_up_to (applied_at w.epoch c.phase + 1)) (registers_of w) ≡ 0

@@ -18,43 +18,43 @@ use Rattle.rec_counts.specs.Lists.{one, times}
 use Rattle.rec_counts.specs.Slot.{absent, raised}
 use Rattle.rec_log.specs.declared.contents.Contents.{Contents}
 use Rattle.rec_apply.specs.Targets.{added, named}
-use Rattle.rec_apply.specs.Batch.{all_counted, all_down, all_marked, all_up, batch, counted, counted_down, counted_up, down_targets, mark_targets, up_targets}
+use Rattle.rec_apply.specs.Batch.{all_counted, all_down, all_greened, all_up, batch, counted, counted_down, counted_up, down_targets, leaf_targets, up_targets}
 use Rattle.rec_apply.proofs.Naming.{added_is, named-nil, named-cons}
 use Rattle.rec_release.proofs.Orange.{not_orange_at}
 use Rattle.rec_core.specs.Cycles.{is_member, is_member_of, word_loaded, word_seen, SetsWait, SetsTest}
 use Rattle.rec_core.proofs.CyclesLess.{TestsLess, in_use_other, member_before, less_same, less_on, less_slot, less_decremented}
 use Rattle.rec_core.proofs.CyclesTest.{counted_less}
-use Rattle.rec_apply.specs.declared.way.Way.TheVariants.{Mark}
-use Rattle.rec_apply.proofs.Whole.{marked_by}
+use Rattle.rec_apply.specs.declared.way.Way.TheVariants.{Leaves}
+use Rattle.rec_apply.proofs.Whole.{greened_by}
 
 raised_black : (v : Slot) → (raised v).colour ≡ Orange → ⊥
 raised_black v o = in_use_other v.colour o
 
 -- a leaf is not Orange
-mark_first : (s : State) (t : Option ℕ) (y : ℕ) → (slot_at (counted Mark s t) y).colour ≡ Orange → slot_at (counted Mark s t) y ≡ slot_at s y
-mark_first s None y o = refl
-mark_first s (Some x) y o =
+green_first : (s : State) (t : Option ℕ) (y : ℕ) → (slot_at (counted Leaves s t) y).colour ≡ Orange → slot_at (counted Leaves s t) y ≡ slot_at s y
+green_first s None y o = refl
+green_first s (Some x) y o =
     let v : Slot = record (slot_at s x) { colour = Green } in
     elim (eqb_tells y x) [
       | inl q ↦ absurd (not_orange_at s x v (λ e. cc) (ap (λ z. (slot_at (with_slot s x v) z).colour) (sym q.1) ∙ o))
       | inr q ↦ get_or-set_other s.slots x y v absent q.1
     ]
 
-mark_same : (s : State) (ts : List (Option ℕ)) (y : ℕ) → (slot_at (all_marked s ts) y).colour ≡ Orange → slot_at (all_marked s ts) y ≡ slot_at s y
+green_same : (s : State) (ts : List (Option ℕ)) (y : ℕ) → (slot_at (all_greened s ts) y).colour ≡ Orange → slot_at (all_greened s ts) y ≡ slot_at s y
 unfolding all_counted
-mark_same s [] y o = refl
-mark_same s (t ∷ ts) y o =
-    let rest = mark_same (counted Mark s t) ts y o in
-    rest ∙ mark_first s t y (ap (λ (w : Slot). w.colour) (sym rest) ∙ o)
+green_same s [] y o = refl
+green_same s (t ∷ ts) y o =
+    let rest = green_same (counted Leaves s t) ts y o in
+    rest ∙ green_first s t y (ap (λ (w : Slot). w.colour) (sym rest) ∙ o)
 
-mark_eases : (s : State) (t : Option ℕ) → TestsLess s (counted Mark s t)
-mark_eases s None = less_same s
-mark_eases s (Some x) = less_slot s x (record (slot_at s x) { colour = Green }) (record { set = refl; orange = λ o. cc; exact = λ o r. cc })
+leaf_eases : (s : State) (t : Option ℕ) → TestsLess s (counted Leaves s t)
+leaf_eases s None = less_same s
+leaf_eases s (Some x) = less_slot s x (record (slot_at s x) { colour = Green }) (record { set = refl; orange = λ o. cc; exact = λ o r. cc })
 
-less_marked : (s : State) (ts : List (Option ℕ)) → TestsLess s (all_marked s ts)
+less_marked : (s : State) (ts : List (Option ℕ)) → TestsLess s (all_greened s ts)
 unfolding all_counted
 less_marked s [] = less_same s
-less_marked s (t ∷ ts) = less_on (mark_eases s t) (less_marked (counted Mark s t) ts)
+less_marked s (t ∷ ts) = less_on (leaf_eases s t) (less_marked (counted Leaves s t) ts)
 
 -- a slot that is still Orange was not incremented
 up_first : (s : State) (t : Option ℕ) (y : ℕ) → (slot_at (counted_up s t) y).colour ≡ Orange → (is_slot y t ≡ false) × (slot_at (counted_up s t) y ≡ slot_at s y)
@@ -94,17 +94,17 @@ less_down s (t ∷ ts) = less_on (down_eases s t) (less_down (counted_down s t) 
 
 less_batch : (s : State) (newer older : List Contents) → TestsLess s (batch s newer older)
 less_batch s newer older =
-    let marked : State = marked_by s newer in
-    less_on (less_on (less_marked s (flat_map mark_targets newer)) (less_up marked (flat_map up_targets newer))) (less_down (all_up marked (flat_map up_targets newer)) (flat_map down_targets older))
+    let marked : State = greened_by s newer in
+    less_on (less_on (less_marked s (flat_map leaf_targets newer)) (less_up marked (flat_map up_targets newer))) (less_down (all_up marked (flat_map up_targets newer)) (flat_map down_targets older))
 
 -- a slot that is Orange after a batch was so before, and was named by none of its increments
-batch_unadded : (s : State) (newer older : List Contents) (x : ℕ) → (slot_at (batch s newer older) x).colour ≡ Orange → (added x newer ≡ 0) × (slot_at (all_up (marked_by s newer) (flat_map up_targets newer)) x ≡ slot_at s x)
+batch_unadded : (s : State) (newer older : List Contents) (x : ℕ) → (slot_at (batch s newer older) x).colour ≡ Orange → (added x newer ≡ 0) × (slot_at (all_up (greened_by s newer) (flat_map up_targets newer)) x ≡ slot_at s x)
 batch_unadded s newer older x o =
     let ups : List (Option ℕ) = flat_map up_targets newer in
-    let marked : State = marked_by s newer in
+    let marked : State = greened_by s newer in
     let u : (named x ups ≡ 0) × (slot_at (all_up marked ups) x ≡ slot_at marked x) = up_unnamed marked ups x ((less_down (all_up marked ups) (flat_map down_targets older)).orange x o) in
     let still : (slot_at marked x).colour ≡ Orange = ap (λ (w : Slot). w.colour) (sym u.1) ∙ (less_down (all_up marked ups) (flat_map down_targets older)).orange x o in
-    (sym (added_is x newer) ∙ u.0, u.1 ∙ mark_same s (flat_map mark_targets newer) x still)
+    (sym (added_is x newer) ∙ u.0, u.1 ∙ green_same s (flat_map leaf_targets newer) x still)
 
 -- What the next batch of `w` makes of the counts: less is left to be tested, and it adds nothing to a slot that is Orange after it.
 pub record IsBatchOf (w : Pending) (s t : State) : Type 0 where

@@ -7,7 +7,7 @@ use Rattle.rec_log.specs.declared.contents.Contents.{Contents}
 use Rattle.rec_log.specs.declared.entry.Entry.{Entry}
 use Rattle.rec_counts.specs.Counts.{State, slot_at}
 use Rattle.rec_counts.specs.Rest.{KeepsRest}
-use Rattle.rec_apply.specs.Batch.{batch, down_targets, up_targets, all_counted, all_down, all_marked, all_up, mark_targets}
+use Rattle.rec_apply.specs.Batch.{batch, down_targets, up_targets, all_counted, all_down, all_greened, all_up, leaf_targets}
 use Rattle.rec_apply.specs.Targets.{new_target, old_target, named, leaf_born}
 use Rattle.rec_apply.proofs.Naming.{named-nil, added_is, taken_is}
 use Rattle.rec_release.specs.Release.{started_of, IsReady, emptied, next_from, without_first}
@@ -124,11 +124,11 @@ greens_released w words lowers v ready leaves zeros rest =
     by (Some a) e r = let not_so : ◌≡◌ {A = Option At} (Some a) None = e in absurd (cc)
 
 -- buffers without entries bear no leaves
-nothing_born : (bs : List Contents) → ((i : ℕ) → i < length bs → (buffer_at bs i).entries ≡ []) → flat_map mark_targets bs ≡ []
+nothing_born : (bs : List Contents) → ((i : ℕ) → i < length bs → (buffer_at bs i).entries ≡ []) → flat_map leaf_targets bs ≡ []
 nothing_born [] none = refl
 nothing_born (b ∷ bs) none =
     let first : b.entries ≡ [] = none 0 (omega arith) in
-    ap (λ (es : List Entry). (map leaf_born es ++ []) ++ flat_map mark_targets bs) first ∙ nothing_born bs (λ i below. none (suc i) (omega (arith, below)))
+    ap (λ (es : List Entry). (map leaf_born es ++ []) ++ flat_map leaf_targets bs) first ∙ nothing_born bs (λ i below. none (suc i) (omega (arith, below)))
 
 -- what a buffer without entries adds and takes off is what its snapshot names
 added_by : (x : ℕ) (registers : List (Option ℕ)) (b : Contents) → IsRetired registers b → named x registers ≡ 0 → named x (map new_target b.entries) + named x b.snapshot ≡ 0
@@ -174,22 +174,22 @@ module _ (w : Core) (t : ℕ) (kept : IsKept w) (phase : w.collector.phase ≡ R
       taken_by x (mutator w (place + 1)).registers (buffer_at c.older place) own (unnamed x i (place + 1) is there))
 
   -- nothing was born
-  no_marks : s ≡ all_down (all_up c.counts (flat_map up_targets c.newer)) (flat_map down_targets c.older)
+  no_leaves : s ≡ all_down (all_up c.counts (flat_map up_targets c.newer)) (flat_map down_targets c.older)
   unfolding all_counted
-  no_marks = ap (λ ts. all_down (all_up (all_marked c.counts ts) (flat_map up_targets c.newer)) (flat_map down_targets c.older)) (nothing_born c.newer (λ place below.
+  no_leaves = ap (λ ts. all_down (all_up (all_greened c.counts ts) (flat_map up_targets c.newer)) (flat_map down_targets c.older)) (nothing_born c.newer (λ place below.
       let there : IsMutator w.config (place + 1) = numbered place (omega (arith, below, kept.collector.mutators)) in
       let at : place + 1 - 1 ≡ place = omega arith in
       subst (λ n. (buffer_at c.newer n).entries ≡ []) at (retired (place + 1) there).0.entries))
 
   same_green : (x : ℕ) → is_green (slot_at s x).colour ≡ is_green (slot_at c.counts x).colour
-  same_green x = ap (λ t. is_green (slot_at t x).colour) no_marks ∙ same_counted c.counts (flat_map up_targets c.newer) (flat_map down_targets c.older) x
+  same_green x = ap (λ t. is_green (slot_at t x).colour) no_leaves ∙ same_counted c.counts (flat_map up_targets c.newer) (flat_map down_targets c.older) x
 
   keeps : KeepsRest c.counts s
   keeps = counted_rest w t kept phase last
 
   rested_then : SetsRest w w.words [] s
   rested_then = record {
-    unheld = subst (AreUnheld w.config.fields w.words []) (sym no_marks) (unheld_batch w.config.fields w.words [] c.counts (flat_map up_targets c.newer) (flat_map down_targets c.older) outside_up outside_down rested.unheld);
+    unheld = subst (AreUnheld w.config.fields w.words []) (sym no_leaves) (unheld_batch w.config.fields w.words [] c.counts (flat_map up_targets c.newer) (flat_map down_targets c.older) outside_up outside_down rested.unheld);
     found = λ x unreleased other none. rested.found x (sym (keeps.released x) ∙ unreleased) (sym (same_green x) ∙ other) (sym (keeps.set x) ∙ none);
     unnamed = λ x i is. rested.unnamed x i (sym (keeps.set x) ∙ is);
   }

@@ -59,8 +59,8 @@ offered_inside s x h = go (stays (slot_at s x)) refl
 
 module _ {fields : ℕ} {before : State} {r : Run} {marked : List ℕ} (word : ℕ → ℕ → ℕ) (holds : ℕ → ℕ) (o : IsOver fields before r marked) (exact : IsExact fields word before r marked) (a : IsOffered fields word holds before) where
   -- what is neither released nor Green was marked
-  pub all_marked : (n : ℕ) → stays (slot_at before n) ≡ false → 0 < times n marked
-  all_marked n e = exact.reached_marked n (still.IsReached.seed (a.seeds n e))
+  pub all_greened : (n : ℕ) → stays (slot_at before n) ≡ false → 0 < times n marked
+  all_greened n e = exact.reached_marked n (still.IsReached.seed (a.seeds n e))
 
   -- and nothing else: a seed is Purple, and no word that the trial sees leads to a Green slot
   seed_other : (n : ℕ) → IsSeed before n → is_green (slot_at before n).colour ≡ false
@@ -82,7 +82,7 @@ module _ {fields : ℕ} {before : State} {r : Run} {marked : List ℕ} (word : �
           none : (k : ℕ) → times n marked ≡ k → times n marked ≡ 0
           none zero z = z
           none (suc k) z = absurd (false≢true (sym (marked_offered n (omega (arith, z))) ∙ e))
-      go false e = let u : times n (offered_slots before) ≡ 1 = times_offered before n ∙ ap (λ b. one (not b)) e in omega (arith, u, o.marked_once n, all_marked n e)
+      go false e = let u : times n (offered_slots before) ≡ 1 = times_offered before n ∙ ap (λ b. one (not b)) e in omega (arith, u, o.marked_once n, all_greened n e)
 
   -- so the rest of a slot is how often it is held
   rest_is : (n : ℕ) → stays (slot_at before n) ≡ false → rest fields word marked before n ≡ holds n
@@ -99,7 +99,7 @@ module _ {fields : ℕ} {before : State} {r : Run} {marked : List ℕ} (word : �
   held : {n : ℕ} → is_green (slot_at before n).colour ≡ false → IsReachable fields word holds n → IsHeld fields word marked before n
   held g (settling.IsReachable.held {x} h) =
       let offered : stays (slot_at before x) ≡ false = offered_where (slot_at before x) (a.held x h) g in
-      still.IsHeld.rests (all_marked x offered) (omega (arith, rest_is x offered, h))
+      still.IsHeld.rests (all_greened x offered) (omega (arith, rest_is x offered, h))
   held g (settling.IsReachable.along {n = k} {x} p field l t) = still.IsHeld.along (held (a.shown k field x l t).0 p) field l t
 
   found : FindsGarbage fields word holds before r.work.counts
@@ -108,7 +108,7 @@ module _ {fields : ℕ} {before : State} {r : Run} {marked : List ℕ} (word : �
         let marked_there : 0 < times n marked = omega (arith, o.members_marked n, m) in
         let other : is_green (slot_at before n).colour ≡ false = offered_other (slot_at before n) (marked_offered n marked_there) in
         record { unreleased = o.marked_unreleased n marked_there; other = other; unreached = λ p. exact.members_unheld n m (held other p) };
-    all = λ n g. exact.unheld_members n (all_marked n (offered_where (slot_at before n) g.unreleased g.other)) (λ p. g.unreached (reachable p));
+    all = λ n g. exact.unheld_members n (all_greened n (offered_where (slot_at before n) g.unreleased g.other)) (λ p. g.unreached (reachable p));
   }
 
 -- A trial on words that do not change, which was offered each slot that is not released: the members of its sets are exactly the

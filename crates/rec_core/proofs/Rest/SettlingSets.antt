@@ -24,7 +24,7 @@ use Rattle.rec_trial.specs.Still as still
 use Rattle.rec_trial.specs.Tried.{IsOver, is_of, loaded, edges, members}
 use Rattle.rec_trial.specs.Trial.{next_of}
 use Rattle.rec_core.specs.Settling.{offered_slots, seen_in, IsOffered, LeadsToEarlier, LeadsFromMembers, word_in, leading, heap_sum, AreEmptied, LeadBack}
-use Rattle.rec_core.proofs.Rest.SettlingFinds.{all_marked, garbage_unheld, times_offered, trial_finds_garbage, offered_inside, offered_where}
+use Rattle.rec_core.proofs.Rest.SettlingFinds.{all_greened, garbage_unheld, times_offered, trial_finds_garbage, offered_inside, offered_where}
 use Rattle.rec_core.proofs.Rest.SettlingSums.{sum_at_same-from_get_or, sum_of_slots}
 use Rattle.rec_counts.specs.Slot.{stays}
 use Rattle.rec_trial.specs.Rules.{visible, visible_if}
@@ -72,7 +72,7 @@ only_members_lead_to_members : (fields : ℕ) (before : State) (words : List ℕ
 only_members_lead_to_members fields before words r word holds t none m b a n g x below unreleased leads to =
     let e = t.exact word none m b in
     let exact : IsExact fields word before r e.0 = e.2 in
-    exact.unheld_members n (all_marked word holds e.1 exact a n (offered_where (slot_at before n) (sym (t.careful.released n) ∙ unreleased) (a.shown n g x below leads).0)) (λ p. exact.members_unheld x to (still.IsHeld.along p g below leads))
+    exact.unheld_members n (all_greened word holds e.1 exact a n (offered_where (slot_at before n) (sym (t.careful.released n) ∙ unreleased) (a.shown n g x below leads).0)) (λ p. exact.members_unheld x to (still.IsHeld.along p g below leads))
 
 -- what a trial sees of a word leads to the same slot, where that isn't Green
 pub seen_leads : (s : State) (word x : ℕ) → is_green (slot_at s x).colour ≡ false → is_slot x (target_of (visible s word)) ≡ is_slot x (target_of word)
