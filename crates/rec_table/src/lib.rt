@@ -18,6 +18,7 @@ mod board;
 mod collector;
 mod heap;
 mod mutator;
+mod operating;
 mod rule;
 mod scan;
 mod seating;
