@@ -1,6 +1,6 @@
 -- What an operation makes of the run, and that it keeps the rule.
-use Rattle.std.proofs.Common.{◌≡◌, ◌≢◌, ℕ, if◌then◌else◌, Bool, eq-eqb, ne_eqb, Option, None, List, [], ◌∷◌, ◌++◌, refl, sym, ap, ◌∙◌, subst, append-nil, append_assoc}
-use Rattle.atomic_table.specs.Table.{Me, Allows}
+use Rattle.std.proofs.Common.{◌≡◌, ◌≢◌, ℕ, if◌then◌else◌, Bool, eq-eqb, ne_eqb, Option, None, List, [], ◌∷◌, ◌++◌, get_or, refl, sym, ap, ◌∙◌, subst, append-nil, append_assoc}
+use Rattle.atomic_table.specs.Table.{State, Me, Allows}
 use Rattle.rec_word.specs.Mailbox.{crossing_word}
 use Rattle.rec_word.specs.Op.{written}
 use Rattle.rec_word.specs.declared.mailbox.Mailbox.TheVariants.{Retired}
@@ -8,21 +8,25 @@ use Rattle.rec_word.specs.declared.op.Op.{Op}
 use Rattle.rec_log.specs.declared.contents.Contents.{Contents}
 use Rattle.rec_core.specs.Core.{Core}
 use Rattle.rec_core.specs.Moves.{Move, after_move, after_moves}
-use Rattle.rec_table.specs.Operations.{Kind, Operation, Adds, AreMade, Grows, Operates, Ran, actor_at, moves_made, operation, step_in, steps_in}
-use Rattle.rec_table.specs.Rule.{Holds}
+use Rattle.rec_table.specs.Operations.{Kind, Operation, Adds, AreMade, Grows, Operates, Ran, Runs, Stays, actor_at, moves_made, operation, step_in, steps_in}
 use Rattle.rec_table.specs.declared.views.View.{View}
 
 pub steps_both : (w : Core) (ms ns : List Move) → steps_in w (ms ++ ns) ≡ steps_in w ms ++ steps_in (after_moves w ms) ns
 steps_both w [] ns = refl
 steps_both w (m ∷ ms) ns = ap (λ l. step_in w m ++ l) (steps_both (after_move w m) ms ns) ∙ sym (append_assoc (step_in w m) (steps_in (after_move w m) ms) (steps_in (after_moves (after_move w m) ms) ns))
 
--- such an operation keeps the rule
-pub allows : (key : Core) (kind : Kind) (slots id : ℕ) (me : Me (Option Contents) View) (i : ℕ) (f : ℕ → ℕ) (tells : ℕ → Me (Option Contents) View → Type 0) → Operates key kind slots id me i f tells → Allows (Holds key) slots id me i f tells
-allows key kind slots id me i f tells operates s h len at_id fit =
-    let all = operates s h len at_id fit in
-    (all.0, all.1, all.2, all.3, all.5)
+-- Such an operation keeps the rule, and is the last one of those that made the run.
+pub allows : (key : Core) (kind : Kind) (slots id : ℕ) (me : Me (Option Contents) View) (i : ℕ) (f : ℕ → ℕ) (tells : ℕ → Me (Option Contents) View → Type 0) → Operates key kind slots id me i f tells → Allows (Runs key) slots id me i f tells
+allows key kind slots id me i f tells operates s r len at_id fit =
+    let all = operates s r.holds len at_id fit in
+    let o : Operation = operation me.0 kind i f (get_or s.words i 0) in
+    (all.0, all.1, all.2, record { holds = all.3; operations = r.operations ++ o ∷ []; ran = Ran.next r.operations o r.holds.run all.3.run r.ran all.4 }, all.5)
 
--- Each step of a run was made by one operation.
+-- no operation is needed for other views
+pub stays : (key : Core) (s : State (Option Contents) View) (r : Runs key s) (views : List View) → Stays key s r.holds views → Runs key (record { words = s.words; homes = s.homes; views = views })
+stays key s r views still = record { holds = still.0; operations = r.operations; ran = subst (Ran key r.operations) (sym still.1) r.ran }
+
+-- Each step of the run was made by one operation.
 pub each_made : (key : Core) (os : List Operation) (run : List Move) → Ran key os run → AreMade key os (steps_in key run)
 each_made key os run Ran.opens = AreMade.opens
 each_made key os run (Ran.next before o was now ran g) = by (moves_made (after_moves key was) o) g.steps (each_made key before was ran)
@@ -30,6 +34,9 @@ each_made key os run (Ran.next before o was now ran g) = by (moves_made (after_m
     by : (ms : List Move) → Adds key o ms (steps_in key was) (steps_in key now) → AreMade key before (steps_in key was) → AreMade key (before ++ o ∷ []) (steps_in key now)
     by [] same all = subst (AreMade key (before ++ o ∷ [])) (sym same) (AreMade.idle before o (steps_in key was) all)
     by (m ∷ ms) (op, more, is) all = subst (AreMade key (before ++ o ∷ [])) (sym more) (AreMade.step before o (steps_in key was) op all is)
+
+pub all_made : (key : Core) (s : State (Option Contents) View) (r : Runs key s) → AreMade key r.operations (steps_in key r.holds.run)
+all_made key s r = each_made key r.operations r.holds.run r.ran
 
 -- the moves are known
 grows : (key : Core) (o : Operation) (run run' ms : List Move) → moves_made (after_moves key run) o ≡ ms → run' ≡ run ++ ms → Adds key o ms (steps_in key run) (steps_in key run') → Grows key o run run'

@@ -18,7 +18,7 @@ use Rattle.rec_core.specs.Moves.{Move, after_moves}
 use Rattle.rec_world.specs.World.{IsWorld}
 use Rattle.rec_table.specs.Beats.{beats_of, told}
 use Rattle.rec_table.specs.Homes.{homes_of}
-use Rattle.rec_table.specs.Operations.{SplitsIdly, JoinsIdly}
+use Rattle.rec_table.specs.Operations.{SplitsIdly, JoinsIdly, Ran, Runs}
 use Rattle.rec_core.specs.Row.{row}
 use Rattle.rec_table.specs.Rule.{Fits, Holds, first_view, without, newcomer, joined}
 use Rattle.rec_table.specs.declared.views.Beat.{Beat}
@@ -37,7 +37,7 @@ all_home [] (b ∷ bs) e even = absurd (omega arith)
 all_home (w ∷ ws) [] e even = absurd (omega arith)
 all_home (w ∷ ws) (b ∷ bs) e even = λ i. home_even w b (even 0 0 (omega arith)) i ∷ all_home ws bs (omega arith) (λ k d lt. even (suc k) d (omega (arith, lt))) i
 
-pub opens : (key : Core) (ws : List ℕ) (xs : List (Option Contents)) → IsWorld key → ws ≡ row (cells_of key) → map some xs ≡ homes_of key.crossing key.boxes → (h : Holds key (opening ws xs first_view)) × (h.run ≡ [])
+opens : (key : Core) (ws : List ℕ) (xs : List (Option Contents)) → IsWorld key → ws ≡ row (cells_of key) → map some xs ≡ homes_of key.crossing key.boxes → (h : Holds key (opening ws xs first_view)) × (h.run ≡ [])
 opens key ws xs world words home = (
   record {
     run = [];
@@ -60,6 +60,12 @@ opens key ws xs world words home = (
     one : (id : ℕ) (v : View) → get_elem? (first_view ∷ []) id ≡ some v → Fits key [] 0 0 (λ _. 0) id v
     one zero v e = subst (Fits key [] 0 0 (λ _. 0) 0) (some-injective first_view v e) (refl, refl, refl, refl, λ k lt. absurd (omega arith))
     one (suc id) v e = absurd (some-ne-none v (sym e))
+
+-- and no operation has been made
+pub starts : (key : Core) (ws : List ℕ) (xs : List (Option Contents)) → IsWorld key → ws ≡ row (cells_of key) → map some xs ≡ homes_of key.crossing key.boxes → Runs key (opening ws xs first_view)
+starts key ws xs world words home =
+    let h = opens key ws xs world words home in
+    record { holds = h.0; operations = []; ran = subst (Ran key []) (sym h.1) Ran.opens }
 
 at_snoc_at : (l : List View) (a b : View) (j : ℕ) → get_elem? (l ++ a ∷ []) j ≡ some b → (get_elem? l j ≡ some b) ⊎ ((j ≡ length l) × (a ≡ b))
 at_snoc_at [] a b zero e = inr (refl, some-injective a b e)

@@ -109,6 +109,12 @@ pub data AreMade (key : Core) : List Operation → List Performed → Type 0 whe
   idle : (os : List Operation) (o : Operation) (steps : List Performed) → AreMade key os steps → AreMade key (os ++ o ∷ []) steps
   step : (os : List Operation) (o : Operation) (steps : List Performed) (op : Op) → AreMade key os steps → Is key o op → AreMade key (os ++ o ∷ []) (steps ++ performed o.actor op o.found ∷ [])
 
+-- The rule of the table: beside what holds of a run, that run is what the operations made which the seats carried out so far.
+pub record Runs (key : Core) (s : State (Option Contents) View) : Type 0 where
+  pub holds : Holds key s
+  pub operations : List Operation
+  pub ran : Ran key operations holds.run
+
 -- whose operations a seat makes
 abbrev pub actor_at : View → ℕ
 actor_at (Mutates t) = t.number

@@ -10,9 +10,10 @@ use std::snapshot::Snapshot;
 pub struct Running;
 
 impl TableRule<Option<Buffer>, View, Snapshot<World>> for Running {
-    ghost use Rattle.rec_table.specs.Rule.{Holds, first_view};
+    ghost use Rattle.rec_table.specs.Operations.{Runs};
+    ghost use Rattle.rec_table.specs.Rule.{first_view};
 
-    ghost holds = { λ key s. Holds key.value s };
+    ghost holds = { λ key s. Runs key.value s };
 
     ghost first = { λ key. first_view };
 }
