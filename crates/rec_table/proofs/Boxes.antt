@@ -2,7 +2,7 @@
 use Rattle.std.proofs.Common.{◌≡◌, ℕ, zero, suc, ◌+◌, ◌-◌, ◌%◌, ◌<◌, true, true≢false, cond, eq-eqb, ne_eqb, List, [], ◌∷◌, ◌++◌, length, get_or, set, Option, Some, None, refl, sym, ap, ◌∙◌, subst, arith, get_or-set_same}
 use mathlib.Core.Option.{some, none}
 use lib.ListN.{get_elem?}
-use Rattle.atomic_table.specs.Table.{Step, Allows, takes, gives}
+use Rattle.atomic_table.specs.Table.{Step, takes, gives}
 use Rattle.rec_word.specs.Op.{written}
 use Rattle.rec_word.specs.Mailbox.{crossing_word}
 use Rattle.rec_word.specs.declared.mailbox.Mailbox.TheVariants.{Retired, Spare, WithCollector, WithMutator}
@@ -27,12 +27,13 @@ use Rattle.rec_core.proofs.Words.{learns_taken, may_step}
 use Rattle.rec_world.proofs.Mailboxes.{left_log}
 use Rattle.rec_table.specs.Beats.{told, learnt}
 use Rattle.rec_table.specs.Homes.{home_of, homes_of}
+use Rattle.rec_table.specs.Operations.{Kind, Operates}
 use Rattle.rec_core.specs.Row.{index_of}
-use Rattle.rec_table.specs.Rule.{Holds, beats, TakenBy, GivenBy}
+use Rattle.rec_table.specs.Rule.{beats, TakenBy, GivenBy}
 use Rattle.rec_table.specs.declared.views.Beat.TheVariants.{Saw}
 use Rattle.rec_table.specs.declared.views.Seated.{Seated}
 use Rattle.rec_table.specs.declared.views.View.TheVariants.{Mutates}
-use Rattle.rec_table.proofs.Steps.{before, before_none, Here, here_at, goes_on, stepped_learns}
+use Rattle.rec_table.proofs.Steps.{before, before_none, Here, here_at, goes_on, grows_by, stepped_learns}
 
 pub homes_set : (ws : List ℕ) (bs : List Contents) (i c : ℕ) (b : Contents) → homes_of (set ws i c) (set bs i b) ≡ set (homes_of ws bs) i (home_of c b)
 homes_set [] bs i c b = refl
@@ -82,7 +83,7 @@ swaps p word is = subst (λ (q : Private). IsSwapping q.phase) (sym (learns_take
 
 pub takes_box : (key : Core) (slots id : ℕ) (t : Seated) (p : Private) (op : Op) (f : ℕ → ℕ) (st : Step (Option Contents))
     → p ≡ told (mutator key t.number) t.log → is_busy p ≡ true → p.phase ≡ at.Crossing → op ≡ next_of p → ((n : ℕ) → f n ≡ written op n)
-    → Allows (Holds key) slots id (Mutates t, []) (index_of (length key.words) (length key.headers) op) f (TakenBy p st (Mutates t, []))
+    → Operates key (Kind.Steps None) slots id (Mutates t, []) (index_of (length key.words) (length key.headers) op) f (TakenBy p st (Mutates t, []))
 takes_box key slots id t p op f st is_p busy crossing is_op does s h len at_id fit =
     let x : ℕ = t.number in
     let here : Here key s h t None p op = here_at key s h id t None p op at_id is_p busy is_op in
@@ -110,17 +111,19 @@ takes_box key slots id t p op f st is_p busy crossing is_op does s h len at_id f
     ∙ sym (homes_set v.crossing v.boxes (x - 1) (crossing_word (m.epoch + 1) WithMutator) (left_of (took_of m (found_by v x)) (box v x)))
     ∙ ap (λ l. homes_of l (stepped v x).boxes) (sym crossing_after) in
     let hand : (mutator (stepped v x) x).phase ≡ at.Giving → (took_of p n).log ≡ box (stepped v x) x = λ giving.
-    sym left ∙ sym (get_or-set_same v.boxes (x - 1) (left_of (took_of m (found_by v x)) (box v x)) (collectors.blank 0 0) (omega (arith, boxes_many, here.here.0, here.here.1))) in (
+    sym left ∙ sym (get_or-set_same v.boxes (x - 1) (left_of (took_of m (found_by v x)) (box v x)) (collectors.blank 0 0) (omega (arith, boxes_many, here.here.0, here.here.1))) in
+    let after = goes_on key s h id t None p op (f n) (set s.homes (p.number - 1) none) (took_of p n).log at_id here (does n) homes' hand in (
       Mutates (record t { log = t.log ++ beats None n; hand = (took_of p n).log }),
       takes (p.number - 1) (Some (spare (took_of p n))),
       home,
-      goes_on key s h id t None p op (f n) (set s.homes (p.number - 1) none) (took_of p n).log at_id here (does n) homes' hand,
+      after.0,
+      grows_by key s h t None p op f after.0.run here is_op does after.1,
       (refl, subst (λ (o : Op). IsFound p o n) is_op here.may, here.names),
     )
 
 pub gives_box : (key : Core) (slots id : ℕ) (t : Seated) (p : Private) (op : Op) (f : ℕ → ℕ) (st : Step (Option Contents))
     → p ≡ told (mutator key t.number) t.log → is_busy p ≡ true → p.phase ≡ at.Giving → op ≡ next_of p → ((n : ℕ) → f n ≡ written op n)
-    → Allows (Holds key) slots id (Mutates t, (p.number - 1, Some t.hand) ∷ []) (index_of (length key.words) (length key.headers) op) f (GivenBy p st (Mutates t, (p.number - 1, Some t.hand) ∷ []))
+    → Operates key (Kind.Steps None) slots id (Mutates t, (p.number - 1, Some t.hand) ∷ []) (index_of (length key.words) (length key.headers) op) f (GivenBy p st (Mutates t, (p.number - 1, Some t.hand) ∷ []))
 gives_box key slots id t p op f st is_p busy giving is_op does s h len at_id fit =
     let x : ℕ = t.number in
     let now : Core = after_moves key h.run in
@@ -146,10 +149,12 @@ gives_box key slots id t p op f st is_p busy giving is_op does s h len at_id fit
     ∙ ap (λ l. homes_of l (stepped v x).boxes) (sym crossing_after) in
     let learnt_is : learnt p (Saw n) ≡ crossed p = here_same p n (spare (took_of p n)) busy (subst TakesNone (sym giving) tt) ∙ crosses p n giving in
     let over : (mutator (stepped v x) x).phase ≡ at.Giving → t.hand ≡ box (stepped v x) x = λ again.
-    absurd (true≢false (ap is_giving (sym again) ∙ ap (λ (q : Private). is_giving q.phase) (stepped_learns key s h t None p op here ∙ learnt_is))) in (
+    absurd (true≢false (ap is_giving (sym again) ∙ ap (λ (q : Private). is_giving q.phase) (stepped_learns key s h t None p op here ∙ learnt_is))) in
+    let after = goes_on key s h id t None p op (f n) (set s.homes (p.number - 1) (some (Some t.hand))) t.hand at_id here (does n) homes' over in (
       Mutates (record t { log = t.log ++ beats None n }),
       gives,
       tt,
-      goes_on key s h id t None p op (f n) (set s.homes (p.number - 1) (some (Some t.hand))) t.hand at_id here (does n) homes' over,
+      after.0,
+      grows_by key s h t None p op f after.0.run here is_op does after.1,
       (refl, subst (λ (o : Op). IsFound p o n) is_op here.may, here.names),
     )

@@ -11,6 +11,7 @@ use Rattle.rec_log.specs.declared.contents.Contents.{Contents}
 use Rattle.rec_core.specs.Core.{Core, mutator}
 use Rattle.rec_table.specs.Beats.{told, gathered_all}
 use Rattle.rec_table.specs.Ends.{IsRunOf}
+use Rattle.rec_table.specs.Operations.{Runs}
 use Rattle.rec_table.specs.Rule.{Holds}
 use Rattle.rec_table.specs.declared.views.Beat.{Beat}
 use Rattle.rec_table.specs.declared.views.Crew.{Crew}
@@ -44,10 +45,10 @@ same_boxes (h ∷ homes) (x ∷ xs) len each (b ∷ bs) is =
     rest_of (y ∷ ys) = ys
 
 pub ended : (key : Core) (id : ℕ) (v : View) (c : Crew) (ws : List ℕ) (xs : List (Option Contents)) → v ≡ Collects c → c.made ≡ key.config.mutators → length c.known ≡ key.config.mutators
-    → Final (Seen (Holds key) id v) ws xs → IsRunOf key c ws xs
+    → Final (Seen (Runs key) id v) ws xs → IsRunOf key c ws xs
 ended key id v c ws xs is made known f =
     let s : State (Option Contents) View = f.0 in
-    let h : Holds key s = f.1.0 in
+    let h : Holds key s = f.1.0.holds in
     let mine = h.each id (Collects c) (subst (λ (u : View). get_elem? s.views id ≡ some u) is f.1.1) in
     record {
       run = h.run;

@@ -2,7 +2,7 @@
 use Rattle.std.proofs.Common.{◌≡◌, ℕ, ◌+◌, ◌-◌, ◌==◌, ◌<◌, arith, Bool, true, false, cond, if◌then◌else◌, eq-eqb, ne_eqb, [], ◌∷◌, length, slice_set, length-set, Option, Some, None, refl, sym, ap, ◌∙◌, subst}
 use Rattle.std.specs.Option.{IfSome}
 use Rattle.std.proofs.lemmas.Bool.{eqb-true}
-use Rattle.atomic_table.specs.Table.{Me, Step, Allows, rest}
+use Rattle.atomic_table.specs.Table.{Me, Step, rest}
 use Rattle.rec_word.specs.Op.{written}
 use Rattle.rec_word.specs.Mailbox.{crossing_word}
 use Rattle.rec_word.specs.declared.mailbox.Mailbox.TheVariants.{Retired}
@@ -41,7 +41,8 @@ use Rattle.rec_core.proofs.Trying.{loads_child}
 use Rattle.rec_core.proofs.Turning.{some_op}
 use Rattle.rec_table.specs.Beats.{gathered, gathered_all, looked}
 use Rattle.rec_core.specs.Row.{index_of}
-use Rattle.rec_table.specs.Rule.{IsReturnOp, Holds, TurnedBy, LookedBy, Looks, GlancedBy, ReturnedBy, records, crew_of, crew_more, boxes_at, boxes_out, NotLooking}
+use Rattle.rec_table.specs.Operations.{Kind as OperationKind, Operates}
+use Rattle.rec_table.specs.Rule.{IsReturnOp, TurnedBy, LookedBy, Looks, GlancedBy, ReturnedBy, records, crew_of, crew_more, boxes_at, boxes_out, NotLooking}
 use Rattle.rec_table.specs.declared.views.Beat.{Beat}
 use Rattle.rec_table.specs.declared.views.Beat.TheVariants.{Saw, Took}
 use Rattle.rec_table.specs.declared.views.Crew.{Crew}
@@ -207,7 +208,7 @@ lone_phase p op between named is = by (kind p op between named)
 
 pub allows_lone : (key : Core) (slots id i : ℕ) (me : Me (Option Contents) View) (op : Op) (p : Private) (f : ℕ → ℕ) (st : Step (Option Contents))
     → me ≡ (Collects (crew_of me.0), boxes_out p) → p ≡ gathered_all key.collector (crew_of me.0).log → IsBetween p.phase → ◌≡◌ {A = Option Op} (next_of p) (Some op) → IsLoneOp op
-    → i ≡ index_of (length key.words) (length key.headers) op → ((n : ℕ) → f n ≡ written op n) → Allows (Holds key) slots id me i f (TurnedBy p st me)
+    → i ≡ index_of (length key.words) (length key.headers) op → ((n : ℕ) → f n ≡ written op n) → Operates key OperationKind.Turns slots id me i f (TurnedBy p st me)
 allows_lone key slots id i me op p f st is is_p between named alone at does =
     let c : Crew = crew_of me.0 in
     let phase : IsLone p.phase = lone_phase p op between named alone in
@@ -215,7 +216,7 @@ allows_lone key slots id i me op p f st is is_p between named alone at does =
     (λ w n e. sees w n w.collector.phase (subst (λ (x : Private). IsLone x.phase) (sym e) phase))
     (λ w n e. stays w.collector n (box w (looked_at w.collector.phase)) w.collector.phase (subst (λ (x : Private). IsLone x.phase) (sym e) phase))
     does in
-    subst (λ (y : Me (Option Contents) View × ℕ). Allows (Holds key) slots id y.0 y.1 f (TurnedBy p st y.0)) (λ k. (sym is k, sym at k)) all
+    subst (λ (y : Me (Option Contents) View × ℕ). Operates key OperationKind.Turns slots id y.0 y.1 f (TurnedBy p st y.0)) (λ k. (sym is k, sym at k)) all
 
 pub made_lone : (p : Private) (op : Op) (word : ℕ) (me me' : Me (Option Contents) View) → me ≡ (Collects (crew_of me.0), boxes_out p) → IsBetween p.phase → ◌≡◌ {A = Option Op} (next_of p) (Some op) → IsLoneOp op
     → me' ≡ (records me.0 (Saw word), me.1) → me' ≡ (Collects (crew_more (crew_of me.0) (Saw word)), [])
@@ -241,12 +242,12 @@ returns_at p op between named is = by (kind p op between named)
 
 pub allows_return : (key : Core) (slots id i : ℕ) (me : Me (Option Contents) View) (op : Op) (p : Private) (f : ℕ → ℕ) (st : Step (Option Contents))
     → me ≡ (Collects (crew_of me.0), boxes_out p) → p ≡ gathered_all key.collector (crew_of me.0).log → IsBetween p.phase → ◌≡◌ {A = Option Op} (next_of p) (Some op) → IsReturnOp op
-    → i ≡ index_of (length key.words) (length key.headers) op → ((n : ℕ) → f n ≡ written op n) → Allows (Holds key) slots id me i f (ReturnedBy p st me)
+    → i ≡ index_of (length key.words) (length key.headers) op → ((n : ℕ) → f n ≡ written op n) → Operates key OperationKind.Turns slots id me i f (ReturnedBy p st me)
 allows_return key slots id i me op p f st is is_p between named ret at does =
     let c : Crew = crew_of me.0 in
     let (t, phase, o) = returns_at p op between named ret in
     let all = returns_box key slots id t c p f st is_p phase (λ n. does n ∙ ap (λ (x : Op). written x n) o) in
-    subst (λ (y : Me (Option Contents) View × ℕ). Allows (Holds key) slots id y.0 y.1 f (ReturnedBy p st y.0))
+    subst (λ (y : Me (Option Contents) View × ℕ). Operates key OperationKind.Turns slots id y.0 y.1 f (ReturnedBy p st y.0))
     (λ k. (sym (is ∙ (λ j. (Collects c, boxes_at p (phase j)))) k, sym (at ∙ ap (index_of (length key.words) (length key.headers)) o) k)) all
 
 pub made_return : (p : Private) (op : Op) (word : ℕ) (me me' : Me (Option Contents) View) → me ≡ (Collects (crew_of me.0), boxes_out p) → IsBetween p.phase → ◌≡◌ {A = Option Op} (next_of p) (Some op) → IsReturnOp op
@@ -265,15 +266,15 @@ module _ (key : Core) (slots id i : ℕ) (me : Me (Option Contents) View) (t epo
   its : i ≡ index_of (length key.words) (length key.headers) (ops.LookBox t p.epoch)
   its = at ∙ ap (λ (e : ℕ). index_of (length key.words) (length key.headers) (ops.LookBox t e)) (sym e_is)
 
-  pub allows_look : (f : ℕ → ℕ) → ((n : ℕ) → f n ≡ written (ops.LookBox t epoch) n) → Allows (Holds key) slots id me i f (LookedBy p number st me)
+  pub allows_look : (f : ℕ → ℕ) → ((n : ℕ) → f n ≡ written (ops.LookBox t epoch) n) → Operates key OperationKind.Turns slots id me i f (LookedBy p number st me)
   allows_look f does =
       let all = looks key slots id t (crew_of me.0) p f st is_p phase (λ n. does n ∙ ap (λ (e : ℕ). written (ops.LookBox t e) n) (sym e_is)) in
-      subst (λ (y : Me (Option Contents) View × ℕ × ℕ). Allows (Holds key) slots id y.0 y.1 f (LookedBy p y.2 st y.0)) (λ k. (sym is k, sym its k, sym n_is k)) all
+      subst (λ (y : Me (Option Contents) View × ℕ × ℕ). Operates key OperationKind.Turns slots id y.0 y.1 f (LookedBy p y.2 st y.0)) (λ k. (sym is k, sym its k, sym n_is k)) all
 
-  pub allows_glance : Allows (Holds key) slots id me i (λ n. n) (GlancedBy p number st me)
+  pub allows_glance : Operates key OperationKind.Glances slots id me i (λ n. n) (GlancedBy p number st me)
   allows_glance =
       let all = glances key slots id t (crew_of me.0) p st is_p phase in
-      subst (λ (y : Me (Option Contents) View × ℕ × ℕ). Allows (Holds key) slots id y.0 y.1 (λ n. n) (GlancedBy p y.2 st y.0)) (λ k. (sym is k, sym its k, sym n_is k)) all
+      subst (λ (y : Me (Option Contents) View × ℕ × ℕ). Operates key OperationKind.Glances slots id y.0 y.1 (λ n. n) (GlancedBy p y.2 st y.0)) (λ k. (sym is k, sym its k, sym n_is k)) all
 
 abbrev pub Hit : (p : Private) (t word : ℕ) (c : Crew) (me : Me (Option Contents) View) → Type 0
 Hit p t word c me = (b : Contents) × (me ≡ (Collects (crew_more c (Took word b)), (t - 1, Some b) ∷ [])) × IsSized p.registers p.capacity b

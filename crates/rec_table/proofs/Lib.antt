@@ -1,5 +1,6 @@
 pub mod Lists
 pub mod Beats
+pub mod Operations
 pub mod Steps
 pub mod Calls
 pub mod Within

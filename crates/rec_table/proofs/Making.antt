@@ -1,6 +1,6 @@
 -- The calls of a mutator's step, with or without a mailbox.
 use Rattle.std.proofs.Common.{◌≡◌, inl, inr, ℕ, ◌+◌, ◌-◌, ◌%◌, ◌^◌, arith, Bool, true, false, true≢false, List, [], ◌∷◌, ◌++◌, length, Option, Some, None, refl, sym, ap, ◌∙◌, subst, append-nil, append_assoc}
-use Rattle.atomic_table.specs.Table.{Me, Step, Allows, rest}
+use Rattle.atomic_table.specs.Table.{Me, Step, rest}
 use Rattle.rec_word.specs.Op.{written}
 use Rattle.rec_word.specs.declared.op.Op.{Op}
 use Rattle.rec_word.specs.declared.op.Op.TheVariants as ops
@@ -29,7 +29,8 @@ use Rattle.rec_core.specs.Core.{Core, mutator}
 use Rattle.rec_core.proofs.Words.{IsOwnOp, learns_taken, own_next}
 use Rattle.rec_table.specs.Beats.{told, learnt, births_told}
 use Rattle.rec_core.specs.Row.{index_of}
-use Rattle.rec_table.specs.Rule.{Holds, ready, MayGo, MadeBy, TakenBy, GivenBy, beats, adds, takes_view, seated_of, hands, hands_at, hand_after, taken_by, seated_after, me_after}
+use Rattle.rec_table.specs.Operations.{Kind, Operates}
+use Rattle.rec_table.specs.Rule.{ready, MayGo, MadeBy, TakenBy, GivenBy, beats, adds, takes_view, seated_of, hands, hands_at, hand_after, taken_by, seated_after, me_after}
 use Rattle.rec_table.specs.declared.views.Beat.TheVariants.{Saw}
 use Rattle.rec_table.specs.declared.views.Seated.{Seated}
 use Rattle.rec_table.specs.declared.views.View.{View}
@@ -112,11 +113,11 @@ plain_hand hand x _ is = refl
 pub allows_plain : (key : Core) (slots id i : ℕ) (me : Me (Option Contents) View) (op : Op) (wk picked : Option Start) (p : Private) (f : ℕ → ℕ) (st : Step (Option Contents))
     → me ≡ (Mutates (seated_of me.0), hands (seated_of me.0) (ready p wk)) → p ≡ told (mutator key (seated_of me.0).number) (seated_of me.0).log → picked ≡ wk → MayGo p wk → IsSettledIn (ready p wk).phase
     → op ≡ next_of (ready p wk) → i ≡ index_of (length key.words) (length key.headers) op → ((n : ℕ) → f n ≡ written op n)
-    → Allows (Holds key) slots id me i f (MadeBy p picked st me)
+    → Operates key (Kind.Steps picked) slots id me i f (MadeBy p picked st me)
 allows_plain key slots id i me op wk picked p f st is is_p picks may calm is_op at does =
     let t : Seated = seated_of me.0 in
     let all = steps key slots id t (hands t (ready p wk)) wk p op f st is_p may calm is_op does in
-    subst (λ (y : Me (Option Contents) View × ℕ × Option Start). Allows (Holds key) slots id y.0 y.1 f (MadeBy p y.2 st y.0)) (λ k. (sym is k, sym at k, sym picks k)) all
+    subst (λ (y : Me (Option Contents) View × ℕ × Option Start). Operates key (Kind.Steps y.2) slots id y.0 y.1 f (MadeBy p y.2 st y.0)) (λ k. (sym is k, sym at k, sym picks k)) all
 
 pub made_plain : (t : Seated) (p : Private) (wk picked : Option Start) (word : ℕ) (me me' : Me (Option Contents) View)
     → me ≡ (Mutates t, hands t (ready p wk)) → picked ≡ wk → IsSettledIn (ready p wk).phase → me' ≡ (adds me.0 (beats picked word), me.1) → me' ≡ me_after t (ready p wk) wk word
@@ -146,11 +147,11 @@ not_giving_begun phase e b = true≢false (sym b ∙ ap is_begun e)
 pub allows_taking : (key : Core) (slots id i : ℕ) (me : Me (Option Contents) View) (op : Op) (wk : Option Start) (p : Private) (f : ℕ → ℕ) (st : Step (Option Contents))
     → me ≡ (Mutates (seated_of me.0), hands (seated_of me.0) (ready p wk)) → p ≡ told (mutator key (seated_of me.0).number) (seated_of me.0).log → MayGo p wk → (ready p wk).phase ≡ at.Crossing
     → op ≡ next_of (ready p wk) → i ≡ index_of (length key.words) (length key.headers) op → ((n : ℕ) → f n ≡ written op n)
-    → Allows (Holds key) slots id me i f (TakenBy p st me)
+    → Operates key (Kind.Steps None) slots id me i f (TakenBy p st me)
 allows_taking key slots id i me op None p f st is is_p may crossing is_op at does =
     let t : Seated = seated_of me.0 in
     let all = takes_box key slots id t p op f st is_p may crossing is_op does in
-    subst (λ (y : Me (Option Contents) View × ℕ). Allows (Holds key) slots id y.0 y.1 f (TakenBy p st y.0)) (λ k. (sym (is ∙ (λ j. (Mutates t, hands_at t.hand p.number (crossing j)))) k, sym at k)) all
+    subst (λ (y : Me (Option Contents) View × ℕ). Operates key (Kind.Steps None) slots id y.0 y.1 f (TakenBy p st y.0)) (λ k. (sym (is ∙ (λ j. (Mutates t, hands_at t.hand p.number (crossing j)))) k, sym at k)) all
 allows_taking key slots id i me op (Some start) p f st is is_p may crossing is_op at does = absurd (not_crossing (begun_of p start.work start.from).phase crossing (begun_phase p start.work start.from))
 
 pub made_taking : (t : Seated) (p : Private) (op : Op) (wk : Option Start) (st : Step (Option Contents)) (word : ℕ) (me me' : Me (Option Contents) View)
@@ -170,11 +171,11 @@ made_taking t p op (Some start) st word me me' is crossing is_op by = absurd (no
 pub allows_giving : (key : Core) (slots id i : ℕ) (me : Me (Option Contents) View) (op : Op) (wk : Option Start) (p : Private) (f : ℕ → ℕ) (st : Step (Option Contents))
     → me ≡ (Mutates (seated_of me.0), hands (seated_of me.0) (ready p wk)) → p ≡ told (mutator key (seated_of me.0).number) (seated_of me.0).log → MayGo p wk → (ready p wk).phase ≡ at.Giving
     → op ≡ next_of (ready p wk) → i ≡ index_of (length key.words) (length key.headers) op → ((n : ℕ) → f n ≡ written op n)
-    → Allows (Holds key) slots id me i f (GivenBy p st me)
+    → Operates key (Kind.Steps None) slots id me i f (GivenBy p st me)
 allows_giving key slots id i me op None p f st is is_p may giving is_op at does =
     let t : Seated = seated_of me.0 in
     let all = gives_box key slots id t p op f st is_p may giving is_op does in
-    subst (λ (y : Me (Option Contents) View × ℕ). Allows (Holds key) slots id y.0 y.1 f (GivenBy p st y.0)) (λ k. (sym (is ∙ (λ j. (Mutates t, hands_at t.hand p.number (giving j)))) k, sym at k)) all
+    subst (λ (y : Me (Option Contents) View × ℕ). Operates key (Kind.Steps None) slots id y.0 y.1 f (GivenBy p st y.0)) (λ k. (sym (is ∙ (λ j. (Mutates t, hands_at t.hand p.number (giving j)))) k, sym at k)) all
 allows_giving key slots id i me op (Some start) p f st is is_p may giving is_op at does = absurd (not_giving_begun (begun_of p start.work start.from).phase giving (begun_phase p start.work start.from))
 
 pub made_giving : (t : Seated) (p : Private) (op : Op) (wk : Option Start) (st : Step (Option Contents)) (word : ℕ) (me me' : Me (Option Contents) View)

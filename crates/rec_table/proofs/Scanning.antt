@@ -2,7 +2,7 @@
 use Rattle.std.proofs.Common.{◌≡◌, ◌≢◌, ℕ, ◌+◌, ◌-◌, ◌<◌, ◌≤◌, ◌==◌, if◌then◌else◌, arith, Bool, true, false, cond, ne_eqb, List, [], ◌∷◌, ◌++◌, length, fold, All, Option, Some, None, refl, sym, ap, ◌∙◌, subst, append_assoc, length-append}
 use Rattle.std.proofs.lemmas.List.{map-append}
 use Rattle.std.proofs.lemmas.List.Elements.{All-nil, All-cons, All-head, All-tail, All-append}
-use Rattle.atomic_table.specs.Table.{Me, Step, Allows}
+use Rattle.atomic_table.specs.Table.{Me, Step}
 use Rattle.rec_word.specs.declared.op.Op.{Op}
 use Rattle.rec_word.specs.declared.op.Op.TheVariants as ops
 use Rattle.rec_model.specs.declared.command.Cmd.TheVariants as commands
@@ -22,7 +22,8 @@ use Rattle.rec_core.specs.Cells.{births_of}
 use Rattle.rec_core.specs.Core.{Core, mutator}
 use Rattle.rec_core.specs.Kept.{IsSettledIn}
 use Rattle.rec_table.specs.Beats.{told, learnt, births_told}
-use Rattle.rec_table.specs.Rule.{Holds, PassedBy, adds, beats, longer, seated_of, hands, hands_at}
+use Rattle.rec_table.specs.Operations.{Kind, Operates}
+use Rattle.rec_table.specs.Rule.{PassedBy, adds, beats, longer, seated_of, hands, hands_at}
 use Rattle.rec_table.specs.Scan.{Passed, ScansFrom, saw_all}
 use Rattle.rec_table.specs.declared.views.Beat.{Beat}
 use Rattle.rec_table.specs.declared.views.Beat.TheVariants.{Saw}
@@ -235,14 +236,14 @@ module _ (key : Core) (count probed slot many : ℕ) (t : Seated) (me : Me (Opti
         there = lt;
       })
 
-  pub allows_pass : (slots id i : ℕ) (st : Step (Option Contents)) → i ≡ length key.words + probe_of (told (mutator key t.number) t.log) count → Allows (Holds key) slots id me i (λ n. n) (PassedBy st me)
+  pub allows_pass : (slots id i : ℕ) (st : Step (Option Contents)) → i ≡ length key.words + probe_of (told (mutator key t.number) t.log) count → Operates key Kind.Passes slots id me i (λ n. n) (PassedBy st me)
   unfolding q
   allows_pass slots id i st at =
       let p : Private = told (mutator key t.number) t.log in
       let plain : IsSettledIn q.phase = subst IsSettledIn (sym (there_phase p scan.reg scan.label scan.before probed scan.phase count few)) tt in
       let all = probes key slots id (probe_of p count) scan.label (longer t (saw_all passed.words)) [] q (ops.ClaimHeader (probe_of p count) scan.label) st is_q (skipped_busy p scan.reg scan.label scan.before probed scan.phase count) plain
       (sym (skipped_next p scan.reg scan.label scan.before probed scan.phase count few)) refl in
-      subst (λ (y : Me (Option Contents) View × ℕ). Allows (Holds key) slots id y.0 y.1 (λ n. n) (PassedBy st y.0)) (λ k. (sym passed.grows k, sym at k)) all
+      subst (λ (y : Me (Option Contents) View × ℕ). Operates key Kind.Passes slots id y.0 y.1 (λ n. n) (PassedBy st y.0)) (λ k. (sym passed.grows k, sym at k)) all
 
 -- At the skip: what the machine and the seat are as the scan ends, or comes to a free header.
 pub record Ends (o p r : Private) (t : Seated) (me : Me (Option Contents) View) (words : List ℕ) : Type 0 where

@@ -6,7 +6,7 @@ use native.Mathlib.Decide.{ℕ_discrete}
 use lib.ListN.{get_elem?}
 use Rattle.std.proofs.Math.Seq.{get_or-append_seam}
 use Rattle.std.proofs.lemmas.List.{get_or_append_left}
-use Rattle.atomic_table.specs.Table.{Splits, Joins, opening}
+use Rattle.atomic_table.specs.Table.{opening}
 use Rattle.atomic_table.proofs.Lists.{at_set}
 use Rattle.rec_log.specs.declared.contents.Contents.{Contents}
 use Rattle.rec_mutator.specs.Private.{Private, is_busy, is_busy_at}
@@ -18,6 +18,7 @@ use Rattle.rec_core.specs.Moves.{Move, after_moves}
 use Rattle.rec_world.specs.World.{IsWorld}
 use Rattle.rec_table.specs.Beats.{beats_of, told}
 use Rattle.rec_table.specs.Homes.{homes_of}
+use Rattle.rec_table.specs.Operations.{SplitsIdly, JoinsIdly, Ran, Runs}
 use Rattle.rec_core.specs.Row.{row}
 use Rattle.rec_table.specs.Rule.{Fits, Holds, first_view, without, newcomer, joined}
 use Rattle.rec_table.specs.declared.views.Beat.{Beat}
@@ -36,26 +37,35 @@ all_home [] (b ∷ bs) e even = absurd (omega arith)
 all_home (w ∷ ws) [] e even = absurd (omega arith)
 all_home (w ∷ ws) (b ∷ bs) e even = λ i. home_even w b (even 0 0 (omega arith)) i ∷ all_home ws bs (omega arith) (λ k d lt. even (suc k) d (omega (arith, lt))) i
 
-pub opens : (key : Core) (ws : List ℕ) (xs : List (Option Contents)) → IsWorld key → ws ≡ row (cells_of key) → map some xs ≡ homes_of key.crossing key.boxes → Holds key (opening ws xs first_view)
-opens key ws xs world words home = record {
-  run = [];
-  made = 0;
-  gone = 0;
-  owner = λ _. 0;
-  world = world;
-  fit = tt;
-  offerless = tt;
-  words = words;
-  homes = home;
-  order = omega arith;
-  room = omega arith;
-  fresh = λ k le. refl;
-  each = one;
-}
+opens : (key : Core) (ws : List ℕ) (xs : List (Option Contents)) → IsWorld key → ws ≡ row (cells_of key) → map some xs ≡ homes_of key.crossing key.boxes → (h : Holds key (opening ws xs first_view)) × (h.run ≡ [])
+opens key ws xs world words home = (
+  record {
+    run = [];
+    made = 0;
+    gone = 0;
+    owner = λ _. 0;
+    world = world;
+    fit = tt;
+    offerless = tt;
+    words = words;
+    homes = home;
+    order = omega arith;
+    room = omega arith;
+    fresh = λ k le. refl;
+    each = one;
+  },
+  refl,
+)
   where
     one : (id : ℕ) (v : View) → get_elem? (first_view ∷ []) id ≡ some v → Fits key [] 0 0 (λ _. 0) id v
     one zero v e = subst (Fits key [] 0 0 (λ _. 0) 0) (some-injective first_view v e) (refl, refl, refl, refl, λ k lt. absurd (omega arith))
     one (suc id) v e = absurd (some-ne-none v (sym e))
+
+-- and no operation has been made
+pub starts : (key : Core) (ws : List ℕ) (xs : List (Option Contents)) → IsWorld key → ws ≡ row (cells_of key) → map some xs ≡ homes_of key.crossing key.boxes → Runs key (opening ws xs first_view)
+starts key ws xs world words home =
+    let h = opens key ws xs world words home in
+    record { holds = h.0; operations = []; ran = subst (Ran key []) (sym h.1) Ran.opens }
 
 at_snoc_at : (l : List View) (a b : View) (j : ℕ) → get_elem? (l ++ a ∷ []) j ≡ some b → (get_elem? l j ≡ some b) ⊎ ((j ≡ length l) × (a ≡ b))
 at_snoc_at [] a b zero e = inr (refl, some-injective a b e)
@@ -86,7 +96,7 @@ pub idle_not_giving : (p : Private) → is_busy p ≡ false → p.phase ≡ at.G
 idle_not_giving p idle giving = true≢false (sym (ap is_busy_at giving) ∙ idle)
 
 -- the first seat makes the seat of the next mutator, which was idle as the heap was started
-pub splits : (key : Core) (id : ℕ) (c : Crew) → c.made < key.config.mutators → is_busy (mutator key (c.made + 1)) ≡ false → Splits (Holds key) id (Collects c) (without (Collects c)) (newcomer (Collects c))
+pub splits : (key : Core) (id : ℕ) (c : Crew) → c.made < key.config.mutators → is_busy (mutator key (c.made + 1)) ≡ false → SplitsIdly key id (Collects c) (without (Collects c)) (newcomer (Collects c))
 splits key id c lt idle s h there =
     let mine = h.each id (Collects c) there in
     let x : ℕ = c.made + 1 in
@@ -97,31 +107,33 @@ splits key id c lt idle s h there =
     let made : c.made ≡ h.made = mine.1 in
     let none : beats_of x key h.run ≡ [] = h.fresh x (omega (arith, made)) in
     let is : IsMutator key.config x = (omega arith, omega arith) in
-    let same : mutator (after_moves key h.run) x ≡ mutator key x = mutator_after key h.run x h.world h.fit is ∙ ap (told (mutator key x)) none in
-    record {
-      run = h.run;
-      made = x;
-      gone = h.gone;
-      owner = owner';
-      world = h.world;
-      fit = h.fit;
-      offerless = h.offerless;
-      words = h.words;
-      homes = h.homes;
-      order = omega (arith, h.order, made);
-      room = omega arith;
-      fresh = λ k le. h.fresh k (omega (arith, made, le));
-      each = λ j v e. ⊎_elim
-          (λ (old : get_elem? views' j ≡ some v).
-          fits_set key h.run x h.gone owner' s.views id (without (Collects c))
-          (λ i u ne eu. fits_made key h.run h.made h.gone h.owner x new id i mine.0 (ap (λ (n : ℕ). n + 1) made) ne u (h.each i u eu))
-          (mine.0, refl, mine.2, mine.3, mine.4)
-          j v old)
-          (λ (last : (j ≡ new) × (Mutates t ≡ v)).
-          subst (λ (y : ℕ × View). Fits key h.run x h.gone owner' y.0 y.1) (λ i. (sym last.0 i, last.1 i))
-          (owns_here h.owner x new, omega (arith, h.order, made), omega arith, sym none, λ giving. absurd (idle_not_giving (mutator key x) idle (ap (λ (p : Private). p.phase) (sym same) ∙ giving))))
-          (at_snoc_at views' (Mutates t) v j e);
-    }
+    let same : mutator (after_moves key h.run) x ≡ mutator key x = mutator_after key h.run x h.world h.fit is ∙ ap (told (mutator key x)) none in (
+      record {
+        run = h.run;
+        made = x;
+        gone = h.gone;
+        owner = owner';
+        world = h.world;
+        fit = h.fit;
+        offerless = h.offerless;
+        words = h.words;
+        homes = h.homes;
+        order = omega (arith, h.order, made);
+        room = omega arith;
+        fresh = λ k le. h.fresh k (omega (arith, made, le));
+        each = λ j v e. ⊎_elim
+            (λ (old : get_elem? views' j ≡ some v).
+            fits_set key h.run x h.gone owner' s.views id (without (Collects c))
+            (λ i u ne eu. fits_made key h.run h.made h.gone h.owner x new id i mine.0 (ap (λ (n : ℕ). n + 1) made) ne u (h.each i u eu))
+            (mine.0, refl, mine.2, mine.3, mine.4)
+            j v old)
+            (λ (last : (j ≡ new) × (Mutates t ≡ v)).
+            subst (λ (y : ℕ × View). Fits key h.run x h.gone owner' y.0 y.1) (λ i. (sym last.0 i, last.1 i))
+            (owns_here h.owner x new, omega (arith, h.order, made), omega arith, sym none, λ giving. absurd (idle_not_giving (mutator key x) idle (ap (λ (p : Private). p.phase) (sym same) ∙ giving))))
+            (at_snoc_at views' (Mutates t) v j e);
+      },
+      refl,
+    )
 
 fits_gone : (key : Core) (run : List Move) (made gone : ℕ) (owner : ℕ → ℕ) (x id other j : ℕ) → id ≡ 0 → x ≡ gone + 1 → owner x ≡ other → j ≢ id → j ≢ other
     → (v : View) → Fits key run made gone owner j v → Fits key run made (gone + 1) owner j v
@@ -149,43 +161,45 @@ known_more key known log run gone x len is below here k lt =
     (λ (n : k ≢ gone). get_or_append_left known (log ∷ []) [] k (omega (arith, len)) ∙ below k (omega arith))
 
 -- the first seat takes in the list of the next mutator
-pub joins : (key : Core) (id : ℕ) (c : Crew) (other : ℕ) (t : Seated) → t.number ≡ length c.known + 1 → Joins (Holds key) id (Collects c) other (Mutates t) (joined (Collects c) (Mutates t)) Spent
+pub joins : (key : Core) (id : ℕ) (c : Crew) (other : ℕ) (t : Seated) → t.number ≡ length c.known + 1 → JoinsIdly key id (Collects c) other (Mutates t) (joined (Collects c) (Mutates t)) Spent
 joins key id c other t next s h here apart there =
     let mine = h.each id (Collects c) here in
     let w : View = joined (Collects c) (Mutates t) in
     let its : Fits key h.run h.made h.gone h.owner other (Mutates t) =
     ⊎_elim (λ (x : (other ≡ id) × (w ≡ Mutates t)). absurd (apart x.0)) (λ (x : (other ≢ id) × (get_elem? s.views other ≡ some (Mutates t))). h.each other (Mutates t) x.1) (at_set s.views id other w (Mutates t) there) in
-    let is : t.number ≡ h.gone + 1 = next ∙ ap (λ (n : ℕ). n + 1) mine.2 in
-    record {
-      run = h.run;
-      made = h.made;
-      gone = h.gone + 1;
-      owner = h.owner;
-      world = h.world;
-      fit = h.fit;
-      offerless = h.offerless;
-      words = h.words;
-      homes = h.homes;
-      order = omega (arith, its.2, is);
-      room = h.room;
-      fresh = h.fresh;
-      each = fits_set key h.run h.made (h.gone + 1) h.owner (set s.views id w) other Spent
-          (λ j v ne e. fits_set_but key h.run h.made (h.gone + 1) h.owner s.views id other w
-          (λ i u ni nm eu. fits_gone key h.run h.made h.gone h.owner t.number id other i mine.0 is its.0 ni nm u (h.each i u eu)) (
-            mine.0,
-            mine.1,
-            length-append c.known (t.log ∷ []) ∙ ap (λ (k : ℕ). k + 1) mine.2,
-            mine.3,
-            λ k lt. known_more key c.known t.log h.run h.gone t.number mine.2 is mine.4 its.3 k lt,
-          )
-          j v ne e)
-          tt;
-    }
+    let is : t.number ≡ h.gone + 1 = next ∙ ap (λ (n : ℕ). n + 1) mine.2 in (
+      record {
+        run = h.run;
+        made = h.made;
+        gone = h.gone + 1;
+        owner = h.owner;
+        world = h.world;
+        fit = h.fit;
+        offerless = h.offerless;
+        words = h.words;
+        homes = h.homes;
+        order = omega (arith, its.2, is);
+        room = h.room;
+        fresh = h.fresh;
+        each = fits_set key h.run h.made (h.gone + 1) h.owner (set s.views id w) other Spent
+            (λ j v ne e. fits_set_but key h.run h.made (h.gone + 1) h.owner s.views id other w
+            (λ i u ni nm eu. fits_gone key h.run h.made h.gone h.owner t.number id other i mine.0 is its.0 ni nm u (h.each i u eu)) (
+              mine.0,
+              mine.1,
+              length-append c.known (t.log ∷ []) ∙ ap (λ (k : ℕ). k + 1) mine.2,
+              mine.3,
+              λ k lt. known_more key c.known t.log h.run h.gone t.number mine.2 is mine.4 its.3 k lt,
+            )
+            j v ne e)
+            tt;
+      },
+      refl,
+    )
 
-pub splits_as : (key : Core) (id : ℕ) (v : View) (c : Crew) → v ≡ Collects c → c.made < key.config.mutators → is_busy (mutator key (c.made + 1)) ≡ false → Splits (Holds key) id v (without v) (newcomer v)
-splits_as key id v c is lt idle = subst (λ (u : View). Splits (Holds key) id u (without u) (newcomer u)) (sym is) (splits key id c lt idle)
+pub splits_as : (key : Core) (id : ℕ) (v : View) (c : Crew) → v ≡ Collects c → c.made < key.config.mutators → is_busy (mutator key (c.made + 1)) ≡ false → SplitsIdly key id v (without v) (newcomer v)
+splits_as key id v c is lt idle = subst (λ (u : View). SplitsIdly key id u (without u) (newcomer u)) (sym is) (splits key id c lt idle)
 
 pub joins_as : (key : Core) (id : ℕ) (v : View) (c : Crew) (other : ℕ) (u : View) (t : Seated) → v ≡ Collects c → u ≡ Mutates t → t.number ≡ length c.known + 1
-    → Joins (Holds key) id v other u (joined v u) Spent
+    → JoinsIdly key id v other u (joined v u) Spent
 joins_as key id v c other u t is is' next =
-    subst (λ (y : View × View). Joins (Holds key) id y.0 other y.1 (joined y.0 y.1) Spent) (λ i. (sym is i, sym is' i)) (joins key id c other t next)
+    subst (λ (y : View × View). JoinsIdly key id y.0 other y.1 (joined y.0 y.1) Spent) (λ i. (sym is i, sym is' i)) (joins key id c other t next)

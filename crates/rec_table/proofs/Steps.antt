@@ -3,7 +3,7 @@ use Rattle.std.proofs.Common.{◌≡◌, ◌≢◌, ⊎_elim, ℕ, ◌+◌, ◌-
 use mathlib.Core.Option as maybe
 use mathlib.Core.Option.{some}
 use lib.ListN.{get_elem?}
-use Rattle.atomic_table.specs.Table.{State, Step, Allows, keeps}
+use Rattle.atomic_table.specs.Table.{State, Step, keeps}
 use Rattle.atomic_table.proofs.Lists.{at_set}
 use Rattle.rec_word.specs.Op.{written}
 use Rattle.rec_word.specs.declared.op.Op.{Op}
@@ -40,6 +40,7 @@ use Rattle.rec_core.proofs.Words.{may_step, names_slots}
 use Rattle.std.proofs.lemmas.List.{set-get_or}
 use Rattle.rec_table.specs.Beats.{beats_of, told, learnt, Offerless}
 use Rattle.rec_table.specs.Homes.{homes_of}
+use Rattle.rec_table.specs.Operations.{Kind, Performed, Adds, Grows, Operates, moves_of, operation, performed, steps_in}
 use Rattle.rec_core.specs.Row.{row, index_of}
 use Rattle.rec_table.specs.Rule.{Fits, Holds, ready, MayGo, beats, longer, MadeBy}
 use Rattle.rec_table.specs.declared.start.Start.{Start}
@@ -50,11 +51,7 @@ use Rattle.rec_table.specs.declared.views.View.TheVariants.{Collects, Mutates, S
 use Rattle.rec_core.proofs.Row.{row_read, row_write}
 use Rattle.rec_order.proofs.Runs.{after_both, fit_both}
 use Rattle.rec_table.proofs.Beats.{beats_both, world_after, config_after, mutator_after, step_same}
-
--- the moves of a step, with the work that begins first
-moves_of : (t : ℕ) → Option Start → List Move
-moves_of t None = Move.Steps t ∷ []
-moves_of t (Some start) = Move.Begins t start.work start.from ∷ Move.Steps t ∷ []
+use Rattle.rec_table.proofs.Operations.{steps_both}
 
 -- the state in which the step is made
 pub before : Core → (t : ℕ) → Option Start → Core
@@ -104,22 +101,26 @@ before_boxes w t None = refl
 before_boxes w t (Some start) = refl
 
 all_fit : (w : Core) (t : ℕ) (wk : Option Start) → IsKept w → IsMutator w.config t → MayGo (mutator w t) wk → AllFit w (moves_of t wk)
-unfolding moves_of before
+unfolding before
 all_fit w t None kept is may = ((is, may), tt)
 all_fit w t (Some start) kept is may = ((is, may.0, may.1, may.2, starts w t start.from kept is may.3), ((is, before_busy w t (Some start) kept is may), tt))
 
 after_is : (w : Core) (t : ℕ) (wk : Option Start) → after_moves w (moves_of t wk) ≡ stepped (before w t wk) t
-unfolding moves_of before
+unfolding before
 after_is w t None = refl
 after_is w t (Some start) = refl
 
 own_beats : (w : Core) (t : ℕ) (wk : Option Start) → beats_of t w (moves_of t wk) ≡ beats wk (found_by (before w t wk) t)
-unfolding moves_of before
+unfolding before
 own_beats w t None = ap (λ b. cond b (Saw (found_by w t) ∷ []) [] ++ []) (eq-eqb t t refl)
 own_beats w t (Some start) = ap (λ b. cond b (Begins start ∷ []) [] ++ (cond b (Saw (found_by (begun_from w t start.work start.from) t) ∷ []) [] ++ [])) (eq-eqb t t refl)
 
+own_steps : (w : Core) (t : ℕ) (wk : Option Start) → steps_in w (moves_of t wk) ≡ performed t (next_of (mutator (before w t wk) t)) (found_by (before w t wk) t) ∷ []
+unfolding before
+own_steps w t None = refl
+own_steps w t (Some start) = refl
+
 no_beats : (w : Core) (t x : ℕ) (wk : Option Start) → t ≢ x → beats_of x w (moves_of t wk) ≡ []
-unfolding moves_of
 no_beats w t x None ne = ap (λ b. cond b (Saw (found_by w t) ∷ []) [] ++ []) (ne_eqb t x ne)
 no_beats w t x (Some start) ne = ap (λ b. cond b (Begins start ∷ []) [] ++ (cond b (Saw (found_by (begun_from w t start.work start.from) t) ∷ []) [] ++ [])) (ne_eqb t x ne)
 
@@ -131,7 +132,6 @@ offerless_both (Move.Turns ∷ ms) ns a b = offerless_both ms ns a b
 offerless_both (Move.Offers ∷ ms) ns a b = absurd a
 
 moves_offerless : (t : ℕ) (wk : Option Start) → Offerless (moves_of t wk)
-unfolding moves_of
 moves_offerless t None = tt
 moves_offerless t (Some start) = tt
 
@@ -333,13 +333,36 @@ here_at key s h id t wk p op fit is_p may is_op =
       names = subst NamesSlots u_is (names_slots u x (world_kept u u_world) v_here);
     }
 
+adds_one : (key : Core) (t : Seated) (wk : Option Start) (f : ℕ → ℕ) (found : ℕ) (op : Op) (was now : List Performed) → now ≡ was ++ performed t.number op found ∷ [] → ((n : ℕ) → f n ≡ written op n)
+    → Adds key (operation (Mutates t) (Kind.Steps wk) (index_of (length key.words) (length key.headers) op) f found) (moves_of t.number wk) was now
+adds_one key t None f found op was now more does = (op, more, (refl, does))
+adds_one key t (Some start) f found op was now more does = (op, more, (refl, does))
+
+-- that step alone is made, with the work that begins
+pub grows_by : (key : Core) (s : State (Option Contents) View) (h : Holds key s) (t : Seated) (wk : Option Start) (p : Private) (op : Op) (f : ℕ → ℕ) (run' : List Move)
+    → Here key s h t wk p op → op ≡ next_of (ready p wk) → ((n : ℕ) → f n ≡ written op n) → run' ≡ h.run ++ moves_of t.number wk
+    → Grows key (operation (Mutates t) (Kind.Steps wk) (index_of (length key.words) (length key.headers) op) f (get_or s.words (index_of (length key.words) (length key.headers) op) 0)) h.run run'
+grows_by key s h t wk p op f run' here is_op does more =
+    let x : ℕ = t.number in
+    let now : Core = after_moves key h.run in
+    let its : next_of (mutator (before now x wk) x) ≡ op = ap next_of here.is ∙ sym is_op in
+    record {
+      moves = more;
+      steps = adds_one key t wk f (get_or s.words (index_of (length key.words) (length key.headers) op) 0) op (steps_in key h.run) (steps_in key run')
+          (ap (steps_in key) more
+          ∙ steps_both key h.run (moves_of x wk)
+          ∙ ap (λ l. steps_in key h.run ++ l) (own_steps now x wk ∙ (λ j. performed x (its j) (sym here.found j) ∷ [])))
+          does;
+    }
+
 -- the rule after the step, with these mailboxes at home
 pub goes_on : (key : Core) (s : State (Option Contents) View) (h : Holds key s) (id : ℕ) (t : Seated) (wk : Option Start) (p : Private) (op : Op) (z : ℕ) (homes' : List (maybe.Option (Option Contents))) (hand : Contents)
     → get_elem? s.views id ≡ some (Mutates t) → (here : Here key s h t wk p op)
     → z ≡ written op (get_or s.words (index_of (length key.words) (length key.headers) op) 0)
     → homes' ≡ homes_of (stepped (before (after_moves key h.run) t.number wk) t.number).crossing (stepped (before (after_moves key h.run) t.number wk) t.number).boxes
     → ((mutator (stepped (before (after_moves key h.run) t.number wk) t.number) t.number).phase ≡ at.Giving → hand ≡ box (stepped (before (after_moves key h.run) t.number wk) t.number) t.number)
-    → Holds key (record { words = set s.words (index_of (length key.words) (length key.headers) op) z; homes = homes'; views = set s.views id (Mutates (record t { log = t.log ++ beats wk (get_or s.words (index_of (length key.words) (length key.headers) op) 0); hand = hand })) })
+    → (h' : Holds key (record { words = set s.words (index_of (length key.words) (length key.headers) op) z; homes = homes'; views = set s.views id (Mutates (record t { log = t.log ++ beats wk (get_or s.words (index_of (length key.words) (length key.headers) op) 0); hand = hand })) }))
+    × (h'.run ≡ h.run ++ moves_of t.number wk)
 goes_on key s h id t wk p op z homes' hand fit here does homes_are holds_it =
     let x : ℕ = t.number in
     let now : Core = after_moves key h.run in
@@ -351,24 +374,26 @@ goes_on key s h id t wk p op z homes' hand fit here does homes_are holds_it =
     let ends : after_moves key run' ≡ stepped v x = after_both key h.run ms ∙ after_is now x wk in
     let longer_ : t.log ++ beats wk n ≡ beats_of x key run' =
     (λ j. mine.3 j ++ beats wk (here.found j)) ∙ (ap (λ l. beats_of x key h.run ++ l) (sym (own_beats now x wk)) ∙ sym (beats_both x key h.run ms)) in
-    let t' : Seated = record t { log = t.log ++ beats wk n; hand = hand } in
-    record {
-      run = run';
-      made = h.made;
-      gone = h.gone;
-      owner = h.owner;
-      world = h.world;
-      fit = fit_both key h.run ms h.fit (all_fit now x wk (world_kept now here.now_world) here.now_here here.goes);
-      offerless = offerless_both h.run ms h.offerless (moves_offerless x wk);
-      words = here.words z does ∙ ap (λ (c : Core). row (cells_of c)) (sym ends);
-      homes = homes_are ∙ ap (λ (c : Core). homes_of c.crossing c.boxes) (sym ends);
-      order = h.order;
-      room = h.room;
-      fresh = λ k le. sym (other_beats key h.run x k wk (λ e. omega (arith, e, mine.2))) ∙ h.fresh k le;
-      each = fits_set key run' h.made h.gone h.owner s.views id (Mutates t')
-          (λ j u ne e. fits_on key h.run h.made h.gone h.owner x wk id j mine.0 mine.1 ne u (h.each j u e))
-          (mine.0, mine.1, mine.2, longer_, subst (λ (c : Core). (mutator c x).phase ≡ at.Giving → hand ≡ box c x) (sym ends) holds_it);
-    }
+    let t' : Seated = record t { log = t.log ++ beats wk n; hand = hand } in (
+      record {
+        run = run';
+        made = h.made;
+        gone = h.gone;
+        owner = h.owner;
+        world = h.world;
+        fit = fit_both key h.run ms h.fit (all_fit now x wk (world_kept now here.now_world) here.now_here here.goes);
+        offerless = offerless_both h.run ms h.offerless (moves_offerless x wk);
+        words = here.words z does ∙ ap (λ (c : Core). row (cells_of c)) (sym ends);
+        homes = homes_are ∙ ap (λ (c : Core). homes_of c.crossing c.boxes) (sym ends);
+        order = h.order;
+        room = h.room;
+        fresh = λ k le. sym (other_beats key h.run x k wk (λ e. omega (arith, e, mine.2))) ∙ h.fresh k le;
+        each = fits_set key run' h.made h.gone h.owner s.views id (Mutates t')
+            (λ j u ne e. fits_on key h.run h.made h.gone h.owner x wk id j mine.0 mine.1 ne u (h.each j u e))
+            (mine.0, mine.1, mine.2, longer_, subst (λ (c : Core). (mutator c x).phase ≡ at.Giving → hand ≡ box c x) (sym ends) holds_it);
+      },
+      refl,
+    )
 
 pub stepped_learns : (key : Core) (s : State (Option Contents) View) (h : Holds key s) (t : Seated) (wk : Option Start) (p : Private) (op : Op) → (here : Here key s h t wk p op)
     → mutator (stepped (before (after_moves key h.run) t.number wk) t.number) t.number ≡ learnt (ready p wk) (Saw (get_or s.words (index_of (length key.words) (length key.headers) op) 0))
@@ -424,7 +449,7 @@ left_plain p word plain busy giving =
 
 pub steps : (key : Core) (slots id : ℕ) (t : Seated) (hs : List (ℕ × Option Contents)) (wk : Option Start) (p : Private) (op : Op) (f : ℕ → ℕ) (st : Step (Option Contents))
     → p ≡ told (mutator key t.number) t.log → MayGo p wk → IsSettledIn (ready p wk).phase → op ≡ next_of (ready p wk) → ((n : ℕ) → f n ≡ written op n)
-    → Allows (Holds key) slots id (Mutates t, hs) (index_of (length key.words) (length key.headers) op) f (MadeBy p wk st (Mutates t, hs))
+    → Operates key (Kind.Steps wk) slots id (Mutates t, hs) (index_of (length key.words) (length key.headers) op) f (MadeBy p wk st (Mutates t, hs))
 steps key slots id t hs wk p op f st is_p may plain is_op does s h len at_id fit =
     let x : ℕ = t.number in
     let here : Here key s h t wk p op = here_at key s h id t wk p op at_id is_p may is_op in
@@ -432,10 +457,12 @@ steps key slots id t hs wk p op f st is_p may plain is_op does s h len at_id fit
     let n : ℕ = get_or s.words (index_of (length key.words) (length key.headers) op) 0 in
     let plain' : IsSettledIn (mutator v x).phase = subst (λ (q : Private). IsSettledIn q.phase) (sym here.is) plain in
     let never : (mutator (stepped v x) x).phase ≡ at.Giving → t.hand ≡ box (stepped v x) x = λ giving. absurd (left_plain (ready p wk) n plain (ap is_busy (sym here.is) ∙ here.busy)
-    (ap (λ (q : Private). q.phase) (sym (stepped_learns key s h t wk p op here)) ∙ giving)) in (
+    (ap (λ (q : Private). q.phase) (sym (stepped_learns key s h t wk p op here)) ∙ giving)) in
+    let after = goes_on key s h id t wk p op (f n) s.homes t.hand at_id here (does n) (here.homes ∙ sym (plain_homes v x here.busy plain')) never in (
       Mutates (longer t (beats wk n)),
       keeps,
       tt,
-      goes_on key s h id t wk p op (f n) s.homes t.hand at_id here (does n) (here.homes ∙ sym (plain_homes v x here.busy plain')) never,
+      after.0,
+      grows_by key s h t wk p op f after.0.run here is_op does after.1,
       (refl, subst (λ (o : Op). IsFound (ready p wk) o n) is_op here.may, here.names),
     )

@@ -6,7 +6,7 @@ use mathlib.Core.Option as maybe
 use mathlib.Core.Option.{some, none}
 use lib.ListN.{get_elem?}
 use Rattle.std.proofs.lemmas.List.{set-get_or}
-use Rattle.atomic_table.specs.Table.{State, Step, Allows, keeps, takes, gives, stepped}
+use Rattle.atomic_table.specs.Table.{State, Step, keeps, takes, gives, stepped}
 use Rattle.atomic_table.proofs.Lists.{set_again}
 use Rattle.rec_word.specs.Op.{written}
 use Rattle.rec_word.specs.Mailbox.{crossing_word}
@@ -37,6 +37,7 @@ use Rattle.rec_core.proofs.Steps.{actor_of}
 use Rattle.rec_core.proofs.Words.{may_turn}
 use Rattle.rec_table.specs.Beats.{beats_of, looked, turn_at, gathered_all}
 use Rattle.rec_table.specs.Homes.{homes_of}
+use Rattle.rec_table.specs.Operations.{Kind, Grows, Operates, operation, performed, steps_in, turned_by}
 use Rattle.rec_core.specs.Row.{row, index_of}
 use Rattle.rec_table.specs.Rule.{Fits, Holds, TurnedBy, LookedBy, GlancedBy, ReturnedBy}
 use Rattle.rec_table.specs.declared.views.Beat.{Beat}
@@ -49,6 +50,7 @@ use Rattle.rec_order.proofs.Runs.{after_both, fit_both}
 use Rattle.rec_table.proofs.Beats.{beats_both, world_after, config_after}
 use Rattle.rec_table.proofs.Boxes.{homes_set, homes_at, home_even, home_odd, even_zero, even_two, odd_three}
 use Rattle.rec_table.proofs.Collects.{collector_after}
+use Rattle.rec_table.proofs.Operations.{steps_both, glances_due, glances_early}
 use Rattle.rec_table.proofs.Steps.{IsPlainOp, plain_crossing, places_after, slots_after, fits_set, offerless_both}
 
 looks_op : (c : Private) (t : ℕ) → c.phase ≡ Looking t → ◌≡◌ {A = Option Op} (next_of c) (Some (ops.LookBox t c.epoch))
@@ -119,13 +121,32 @@ here_at key s h id c p op fit is_p next =
           ∙ sym (beats_both 0 key h.run (Move.Turns ∷ []));
     }
 
+-- that turn alone is made
+pub grows_by : (key : Core) (s : State (Option Contents) View) (h : Holds key s) (c : Crew) (p : Private) (op : Op) (f : ℕ → ℕ) (run' : List Move)
+    → Here key s h c p op → ((n : ℕ) → f n ≡ written op n) → run' ≡ h.run ++ Move.Turns ∷ []
+    → Grows key (operation (Collects c) Kind.Turns (index_of (length key.words) (length key.headers) op) f (get_or s.words (index_of (length key.words) (length key.headers) op) 0)) h.run run'
+grows_by key s h c p op f run' here does more =
+    let now : Core = after_moves key h.run in
+    record {
+      moves = more;
+      steps = (
+        op,
+        ap (steps_in key) more
+            ∙ steps_both key h.run (Move.Turns ∷ [])
+            ∙ ap (λ (x : Option Op). steps_in key h.run ++ (turned_by now x ++ [])) here.named
+            ∙ (λ j. steps_in key h.run ++ performed 0 op (sym here.found j) ∷ []),
+        (refl, does),
+      );
+    }
+
 -- the rule after the turn, with these mailboxes at home
 pub turns_on : (key : Core) (s : State (Option Contents) View) (h : Holds key s) (id : ℕ) (c : Crew) (p : Private) (op : Op) (z : ℕ) (homes' : List (maybe.Option (Option Contents))) (b : Beat)
     → get_elem? s.views id ≡ some (Collects c) → (here : Here key s h c p op)
     → z ≡ written op (get_or s.words (index_of (length key.words) (length key.headers) op) 0)
     → homes' ≡ homes_of (turned_at (after_moves key h.run) (Some op)).crossing (turned_at (after_moves key h.run) (Some op)).boxes
     → b ≡ looked (after_moves key h.run) (cell (cells_of (after_moves key h.run)) op) (after_moves key h.run).collector.phase
-    → Holds key (record { words = set s.words (index_of (length key.words) (length key.headers) op) z; homes = homes'; views = set s.views id (Collects (record c { log = c.log ++ b ∷ [] })) })
+    → (h' : Holds key (record { words = set s.words (index_of (length key.words) (length key.headers) op) z; homes = homes'; views = set s.views id (Collects (record c { log = c.log ++ b ∷ [] })) }))
+    × (h'.run ≡ h.run ++ Move.Turns ∷ [])
 turns_on key s h id c p op z homes' b fit here does homes_are beat_is =
     let now : Core = after_moves key h.run in
     let kept : IsKept now = world_kept now here.world in
@@ -133,24 +154,26 @@ turns_on key s h id c p op z homes' b fit here does homes_are beat_is =
     let run' : List Move = h.run ++ Move.Turns ∷ [] in
     let ends : after_moves key run' ≡ turned_at now (Some op) = after_both key h.run (Move.Turns ∷ []) ∙ ap (turned_at now) here.named in
     let others : (j : ℕ) (v : View) → j ≢ id → Fits key h.run h.made h.gone h.owner j v → Fits key run' h.made h.gone h.owner j v
-    = λ j v ne f. other j v ne mine.0 ends kept here.named f in
-    record {
-      run = run';
-      made = h.made;
-      gone = h.gone;
-      owner = h.owner;
-      world = h.world;
-      fit = fit_both key h.run (Move.Turns ∷ []) h.fit (tt, tt);
-      offerless = offerless_both h.run (Move.Turns ∷ []) h.offerless tt;
-      words = here.words z does ∙ ap (λ (x : Core). row (cells_of x)) (sym ends);
-      homes = homes_are ∙ ap (λ (x : Core). homes_of x.crossing x.boxes) (sym ends);
-      order = h.order;
-      room = h.room;
-      fresh = λ k le. sym (mutator_beats key h.run k (omega (arith, le))) ∙ h.fresh k le;
-      each = fits_set key run' h.made h.gone h.owner s.views id (Collects (record c { log = c.log ++ b ∷ [] }))
-          (λ j v ne e. others j v ne (h.each j v e))
-          (mine.0, mine.1, mine.2, here.beats b beat_is, λ k lt. mine.4 k lt ∙ mutator_beats key h.run (k + 1) (omega arith));
-    }
+    = λ j v ne f. other j v ne mine.0 ends kept here.named f in (
+      record {
+        run = run';
+        made = h.made;
+        gone = h.gone;
+        owner = h.owner;
+        world = h.world;
+        fit = fit_both key h.run (Move.Turns ∷ []) h.fit (tt, tt);
+        offerless = offerless_both h.run (Move.Turns ∷ []) h.offerless tt;
+        words = here.words z does ∙ ap (λ (x : Core). row (cells_of x)) (sym ends);
+        homes = homes_are ∙ ap (λ (x : Core). homes_of x.crossing x.boxes) (sym ends);
+        order = h.order;
+        room = h.room;
+        fresh = λ k le. sym (mutator_beats key h.run k (omega (arith, le))) ∙ h.fresh k le;
+        each = fits_set key run' h.made h.gone h.owner s.views id (Collects (record c { log = c.log ++ b ∷ [] }))
+            (λ j v ne e. others j v ne (h.each j v e))
+            (mine.0, mine.1, mine.2, here.beats b beat_is, λ k lt. mine.4 k lt ∙ mutator_beats key h.run (k + 1) (omega arith));
+      },
+      refl,
+    )
   where
     other : (j : ℕ) (v : View) → j ≢ id → id ≡ 0 → after_moves key (h.run ++ Move.Turns ∷ []) ≡ turned_at (after_moves key h.run) (Some op) → IsKept (after_moves key h.run)
         → ◌≡◌ {A = Option Op} (next_of (after_moves key h.run).collector) (Some op) → Fits key h.run h.made h.gone h.owner j v → Fits key (h.run ++ Move.Turns ∷ []) h.made h.gone h.owner j v
@@ -176,17 +199,19 @@ pub turns : (key : Core) (slots id : ℕ) (c : Crew) (hs : List (ℕ × Option C
     → ((w : Core) (n : ℕ) → w.collector ≡ p → looked w n w.collector.phase ≡ Saw n)
     → ((w : Core) (n : ℕ) → w.collector ≡ p → left_by w.collector n (box w (looked_at w.collector.phase)) w.collector.phase ≡ box w (looked_at w.collector.phase))
     → ((n : ℕ) → f n ≡ written op n)
-    → Allows (Holds key) slots id (Collects c, hs) (index_of (length key.words) (length key.headers) op) f (TurnedBy p st (Collects c, hs))
+    → Operates key Kind.Turns slots id (Collects c, hs) (index_of (length key.words) (length key.headers) op) f (TurnedBy p st (Collects c, hs))
 turns key slots id c hs p op f st is_p next plain sees stays does s h len at_id fit =
     let here : Here key s h c p op = here_at key s h id c p op at_id is_p next in
     let now : Core = after_moves key h.run in
     let n : ℕ = get_or s.words (index_of (length key.words) (length key.headers) op) 0 in
     let boxes : (turned_at now (Some op)).boxes ≡ now.boxes = plain_boxes now op (world_kept now here.world) (stays now (cell (cells_of now) op) here.is) in
-    let crossing : (turned_at now (Some op)).crossing ≡ now.crossing = plain_crossing (cells_of now) op plain in (
+    let crossing : (turned_at now (Some op)).crossing ≡ now.crossing = plain_crossing (cells_of now) op plain in
+    let after = turns_on key s h id c p op (f n) s.homes (Saw n) at_id here (does n) (h.homes ∙ (λ j. homes_of (sym crossing j) (sym boxes j))) (ap (λ k. Saw k) here.found ∙ sym (sees now (cell (cells_of now) op) here.is)) in (
       Collects (record c { log = c.log ++ Saw n ∷ [] }),
       keeps,
       tt,
-      turns_on key s h id c p op (f n) s.homes (Saw n) at_id here (does n) (h.homes ∙ (λ j. homes_of (sym crossing j) (sym boxes j))) (ap (λ k. Saw k) here.found ∙ sym (sees now (cell (cells_of now) op) here.is)),
+      after.0,
+      grows_by key s h c p op f after.0.run here does after.1,
       (refl, subst (λ (q : Private). IsGiven q n) here.is (subst (IsGiven now.collector) (sym here.found) here.may.given)),
     )
 
@@ -197,7 +222,7 @@ returns_op c t is = ap (next_at c) is
 -- a look at the mailbox of mutator t
 pub looks : (key : Core) (slots id t : ℕ) (c : Crew) (p : Private) (f : ℕ → ℕ) (st : Step (Option Contents))
     → p ≡ gathered_all key.collector c.log → p.phase ≡ Looking t → ((n : ℕ) → f n ≡ written (ops.LookBox t p.epoch) n)
-    → Allows (Holds key) slots id (Collects c, []) (index_of (length key.words) (length key.headers) (ops.LookBox t p.epoch)) f (LookedBy p t st (Collects c, []))
+    → Operates key Kind.Turns slots id (Collects c, []) (index_of (length key.words) (length key.headers) (ops.LookBox t p.epoch)) f (LookedBy p t st (Collects c, []))
 looks key slots id t c p f st is_p phase does s h len at_id fit =
     let op : Op = ops.LookBox t p.epoch in
     let here : Here key s h c p op = here_at key s h id c p op at_id is_p (looks_op p t phase) in
@@ -228,11 +253,13 @@ looks key slots id t c p f st is_p phase does s h len at_id fit =
     ∙ sym (homes_set now.crossing now.boxes (t - 1) (crossing_word p.epoch WithCollector) (spare now.collector))
     ∙ (λ j. homes_of (set now.crossing (t - 1) (sym writes j)) (sym boxes j)) in
     let beat : Took n b ≡ looked now word now.collector.phase = sym (ap (looked now word) at_phase ∙ ap (λ x. cond x (Took word b) (Saw word)) hits ∙ ap (λ k. Took k b) (sym here.found)) in
-    let sized : IsSized p.registers p.capacity b = subst (λ (q : Private). IsSized q.registers q.capacity b) here.is (subst (λ (g : Phase). IsSized now.collector.registers now.collector.capacity (box now (looked_at g))) at_phase here.may.sized) in (
+    let sized : IsSized p.registers p.capacity b = subst (λ (q : Private). IsSized q.registers q.capacity b) here.is (subst (λ (g : Phase). IsSized now.collector.registers now.collector.capacity (box now (looked_at g))) at_phase here.may.sized) in
+    let after = turns_on key s h id c p op (f n) (set s.homes (t - 1) none) (Took n b) at_id here (does n) homes' beat in (
       Collects (record c { log = c.log ++ Took n b ∷ [] }),
       takes (t - 1) (Some b),
       home,
-      turns_on key s h id c p op (f n) (set s.homes (t - 1) none) (Took n b) at_id here (does n) homes' beat,
+      after.0,
+      grows_by key s h c p op f after.0.run here does after.1,
       ((λ e. (b, refl, sized)), (λ ne. absurd (ne hit))),
     ))
     (λ (miss : n ≢ crossing_word p.epoch Retired).
@@ -241,43 +268,51 @@ looks key slots id t c p f st is_p phase does s h len at_id fit =
     let boxes : (turned_at now (Some op)).boxes ≡ now.boxes =
     ap (λ (g : Phase). set now.boxes (looked_at g - 1) (left_by now.collector word (box now (looked_at g)) g)) at_phase ∙ ap (λ x. set now.boxes (t - 1) (cond x (spare now.collector) (box now t))) misses ∙ same_boxes now t in
     let crossing : (turned_at now (Some op)).crossing ≡ now.crossing = ap (set now.crossing (t - 1)) writes ∙ set-get_or now.crossing (t - 1) 0 in
-    let beat : Saw n ≡ looked now word now.collector.phase = sym (ap (looked now word) at_phase ∙ ap (λ x. cond x (Took word (box now t)) (Saw word)) misses ∙ ap (λ k. Saw k) (sym here.found)) in (
+    let beat : Saw n ≡ looked now word now.collector.phase = sym (ap (looked now word) at_phase ∙ ap (λ x. cond x (Took word (box now t)) (Saw word)) misses ∙ ap (λ k. Saw k) (sym here.found)) in
+    let after = turns_on key s h id c p op (f n) s.homes (Saw n) at_id here (does n) (h.homes ∙ (λ j. homes_of (sym crossing j) (sym boxes j))) beat in (
       Collects (record c { log = c.log ++ Saw n ∷ [] }),
       keeps,
       tt,
-      turns_on key s h id c p op (f n) s.homes (Saw n) at_id here (does n) (h.homes ∙ (λ j. homes_of (sym crossing j) (sym boxes j))) beat,
+      after.0,
+      grows_by key s h c p op f after.0.run here does after.1,
       ((λ e. absurd (miss e)), (λ ne. refl)),
     ))
 
 -- A glance is a load: a look that takes no mailbox, or no turn at all.
 pub glances : (key : Core) (slots id t : ℕ) (c : Crew) (p : Private) (st : Step (Option Contents)) → p ≡ gathered_all key.collector c.log → p.phase ≡ Looking t
-    → Allows (Holds key) slots id (Collects c, []) (index_of (length key.words) (length key.headers) (ops.LookBox t p.epoch)) (λ n. n) (GlancedBy p t st (Collects c, []))
+    → Operates key Kind.Glances slots id (Collects c, []) (index_of (length key.words) (length key.headers) (ops.LookBox t p.epoch)) (λ n. n) (GlancedBy p t st (Collects c, []))
 glances key slots id t c p st is_p phase s h len at_id fit =
     let op : Op = ops.LookBox t p.epoch in
     let i : ℕ = index_of (length key.words) (length key.headers) op in
     let n : ℕ = get_or s.words i 0 in
+    let epoch : crossing_word p.epoch Retired ≡ crossing_word (after_moves key h.run).collector.epoch Retired = ap (λ (q : Private). crossing_word q.epoch Retired) (sym (here_at key s h id c p op at_id is_p (looks_op p t phase)).is) in
     dite (ℕ_discrete n (crossing_word p.epoch Retired))
-    (λ (hit : n ≡ crossing_word p.epoch Retired). (
+    (λ (hit : n ≡ crossing_word p.epoch Retired).
+    let same = subst (λ (u : State (Option Contents) View). (h' : Holds key u) × Grows key (operation (Collects c) Kind.Glances i (λ k. k) n) h.run h'.run)
+    (λ j. let u : State (Option Contents) View = record { words = sym (set-get_or s.words i 0) j; homes = s.homes; views = sym (set_again s.views id (Collects c) at_id) j } in u) (h, glances_due key (Collects c) i n h.run (hit ∙ epoch)) in (
       Collects c,
       keeps,
       tt,
-      subst (Holds key) (λ j. let u : State (Option Contents) View = record { words = sym (set-get_or s.words i 0) j; homes = s.homes; views = sym (set_again s.views id (Collects c) at_id) j } in u) h,
+      same.0,
+      same.1,
       ((λ ne. absurd (ne hit)), (λ e. refl)),
     ))
     (λ (miss : n ≢ crossing_word p.epoch Retired).
     let all = looks key slots id t c p (written op) st is_p phase (λ k. refl) s h len at_id fit in
-    let same : written op n ≡ n = ap (λ b. cond b (crossing_word p.epoch WithCollector) n) (ne_eqb n (crossing_word p.epoch Retired) miss) in (
+    let same : written op n ≡ n = ap (λ b. cond b (crossing_word p.epoch WithCollector) n) (ne_eqb n (crossing_word p.epoch Retired) miss) in
+    let after = subst (λ z. (h' : Holds key (stepped s i z id [] all.0 all.1)) × Grows key (operation (Collects c) Kind.Glances i (λ k. k) n) h.run h'.run) same (all.3, glances_early key (Collects c) i n op h.run all.3.run (λ e. miss (e ∙ sym epoch)) same all.4) in (
       all.0,
       all.1,
       all.2,
-      subst (λ z. Holds key (stepped s i z id [] all.0 all.1)) same all.3,
-      ((λ ne. all.4), (λ e. absurd (miss e))),
+      after.0,
+      after.1,
+      ((λ ne. all.5), (λ e. absurd (miss e))),
     ))
 
 -- the mailbox of mutator t is given back with a spare
 pub returns_box : (key : Core) (slots id t : ℕ) (c : Crew) (p : Private) (f : ℕ → ℕ) (st : Step (Option Contents))
     → p ≡ gathered_all key.collector c.log → p.phase ≡ Returning t → ((n : ℕ) → f n ≡ written (ops.ReturnBox t p.epoch) n)
-    → Allows (Holds key) slots id (Collects c, (t - 1, Some (spare p)) ∷ []) (index_of (length key.words) (length key.headers) (ops.ReturnBox t p.epoch)) f (ReturnedBy p st (Collects c, (t - 1, Some (spare p)) ∷ []))
+    → Operates key Kind.Turns slots id (Collects c, (t - 1, Some (spare p)) ∷ []) (index_of (length key.words) (length key.headers) (ops.ReturnBox t p.epoch)) f (ReturnedBy p st (Collects c, (t - 1, Some (spare p)) ∷ []))
 returns_box key slots id t c p f st is_p phase does s h len at_id fit =
     let op : Op = ops.ReturnBox t p.epoch in
     let here : Here key s h c p op = here_at key s h id c p op at_id is_p (returns_op p t phase) in
@@ -298,10 +333,12 @@ returns_box key slots id t c p f st is_p phase does s h len at_id fit =
     ∙ ap (set (homes_of now.crossing now.boxes) (t - 1)) (sym (home_even (crossing_word p.epoch Spare) (spare p) (even_zero p.epoch)))
     ∙ sym (homes_set now.crossing now.boxes (t - 1) (crossing_word p.epoch Spare) (spare p))
     ∙ ap (homes_of (set now.crossing (t - 1) (crossing_word p.epoch Spare))) (sym boxes) in
-    let beat : Saw n ≡ looked now word now.collector.phase = sym (ap (looked now word) at_phase ∙ ap (λ k. Saw k) (sym here.found)) in (
+    let beat : Saw n ≡ looked now word now.collector.phase = sym (ap (looked now word) at_phase ∙ ap (λ k. Saw k) (sym here.found)) in
+    let after = turns_on key s h id c p op (f n) (set s.homes (t - 1) (some (Some (spare p)))) (Saw n) at_id here (does n) homes' beat in (
       Collects (record c { log = c.log ++ Saw n ∷ [] }),
       gives,
       tt,
-      turns_on key s h id c p op (f n) (set s.homes (t - 1) (some (Some (spare p)))) (Saw n) at_id here (does n) homes' beat,
+      after.0,
+      grows_by key s h c p op f after.0.run here does after.1,
       (refl, subst (λ (q : Private). IsGiven q n) here.is (subst (IsGiven now.collector) (sym here.found) here.may.given)),
     )

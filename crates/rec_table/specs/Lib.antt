@@ -8,3 +8,4 @@ pub mod Journals
 pub mod Safe
 pub mod Answered
 pub mod Scan
+pub mod Operations

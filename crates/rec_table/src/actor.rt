@@ -15,6 +15,7 @@ ghost use Rattle.rec_core.specs.Cells.{births_of};
 ghost use Rattle.rec_world.specs.World.{IsWorld};
 
 use crate::board::Board;
+use crate::operating::{compare_exchange, load, swap};
 use crate::rule::{Doing, Gives, Makes, Takes};
 use crate::scan::first_free;
 use crate::start::Start;
@@ -76,22 +77,23 @@ fn make<W: Doing>(
     ensures names { NamesSlots (learnt (ready W.actor work) (Saw result)) }
 {
     let _ = work;
-    let shared = &board.table.shared;
     let word = board.index(op);
     match op {
         Op::LoadField(_) | Op::LoadHeader(_) | Op::LoadEpoch | Op::LoadCross(_) | Op::LoadFreed => {
-            shared.load::<Makes<W>>(seat, word)
+            load::<Makes<W>>(board, seat, word)
         }
-        Op::SwapField(_, new) => shared.swap::<Makes<W>>(seat, word, new),
+        Op::SwapField(_, new) => swap::<Makes<W>>(board, seat, word, new),
         Op::ClaimHeader(_, label) => {
-            shared.compare_exchange::<Makes<W>>(seat, word, 0, u64::from(label) + 1)
+            compare_exchange::<Makes<W>>(board, seat, word, 0, u64::from(label) + 1)
         }
-        Op::TakeBox(_, epoch) => shared.swap::<Takes<W>>(
+        Op::TakeBox(_, epoch) => swap::<Takes<W>>(
+            board,
             seat,
             word,
             crossing(epoch, Mailbox::WithMutator),
         ),
-        Op::GiveBox(_, epoch) => shared.swap::<Gives<W>>(
+        Op::GiveBox(_, epoch) => swap::<Gives<W>>(
+            board,
             seat,
             word,
             crossing(epoch, Mailbox::Retired),

@@ -23,7 +23,8 @@ ghost use Rattle.rec_world.specs.World.{IsWorld};
 use crate::actor::Actor;
 use crate::board::Board;
 use crate::heap::Heap;
-use crate::rule::{Glanced, Looked, Returned, Seats, Turned, Turning};
+use crate::operating::{compare_exchange, fetch_add, join_seat, load, split_seat, swap};
+use crate::rule::{Glanced, Looked, Returned, Turned, Turning};
 use crate::views::View;
 use atomic_table::Seat;
 use rec_collector::{Machine, Sets, Turn};
@@ -70,14 +71,14 @@ fn make_turn<W: Turning>(board: &Board, seat: &mut Seat<Option<Buffer>, View>, o
     ensures view { seat.new.me ≡ (Collects (crew_more (crew_of seat.old.me.0) (Saw result)), []) }
     ensures given { IsGiven W.actor result }
 {
-    let shared = &board.table.shared;
     let word = board.index(op);
     match op {
-        Op::LoadChild(_) => shared.load::<Turned<W>>(seat, word),
-        Op::ClearField(_) | Op::FreeHeader(_) => shared.swap::<Turned<W>>(seat, word, 0),
-        Op::StoreEpoch(epoch) => shared.swap::<Turned<W>>(seat, word, u64::from(epoch)),
-        Op::AddFreed => shared.fetch_add::<Turned<W>>(seat, word, 1),
-        Op::ReturnBox(_, epoch) => shared.swap::<Returned<W>>(
+        Op::LoadChild(_) => load::<Turned<W>>(board, seat, word),
+        Op::ClearField(_) | Op::FreeHeader(_) => swap::<Turned<W>>(board, seat, word, 0),
+        Op::StoreEpoch(epoch) => swap::<Turned<W>>(board, seat, word, u64::from(epoch)),
+        Op::AddFreed => fetch_add::<Turned<W>>(board, seat, word, 1),
+        Op::ReturnBox(_, epoch) => swap::<Returned<W>>(
+            board,
             seat,
             word,
             crossing(epoch, Mailbox::Spare),
@@ -97,14 +98,14 @@ fn find<W: Turning>(board: &Board, seat: &mut Seat<Option<Buffer>, View>, t: u8,
     ensures seat { (seat.new.table_id ≡ seat.old.table_id) × (seat.new.id ≡ seat.old.id) }
     ensures looked { Looks W.actor W.number seat.old.me result seat.new.me }
 {
-    let shared = &board.table.shared;
     let word = board.index(Op::LookBox(t, epoch));
     let due = crossing(epoch, Mailbox::Retired);
-    let seen = shared.load::<Glanced<W>>(seat, word);
+    let seen = load::<Glanced<W>>(board, seat, word);
     if seen != due {
         seen
     } else {
-        shared.compare_exchange::<Looked<W>>(
+        compare_exchange::<Looked<W>>(
+            board,
             seat,
             word,
             due,
@@ -275,7 +276,7 @@ impl Collector {
         ensures actor { result ≡ record { table = self.old.table; number = self.old.crew.made + 1; opened = opened.value; log = [] } }
         ensures is { self.new ≡ record self.old { crew = record self.old.crew { made = self.old.crew.made + 1 } } }
     {
-        let seat = board.table.shared.split_seat::<Seats>(&mut self.seat);
+        let seat = split_seat(board, &mut self.seat);
         Actor::sat(machine, opened, seat, cursor)
     }
 
@@ -290,7 +291,7 @@ impl Collector {
         ensures is { self.new ≡ record self.old { crew = record self.old.crew { known = self.old.crew.known ++ other.log ∷ [] } } }
     {
         let (machine, births, seat) = other.stood();
-        board.table.shared.join_seat::<Seats>(&mut self.seat, seat);
+        join_seat(board, &mut self.seat, seat);
         (machine, births)
     }
 }

@@ -6,10 +6,11 @@
 //! a handle, or waits. `Heap::stop` takes all ends back, and gives the world that the heap has become.
 //! The rule that the table keeps: there is one run of the core from the started world, whose last state has the table's words and
 //! mailboxes; and each end's list, of the works that it began and the words that its steps found, is its own moves in that run, each
-//! once and in order. An operation appends one move to it, whatever other threads do between.
+//! once and in order. An operation of a seat appends to that run what its kind makes and no more, whatever other threads do between:
+//! its actor's step, with the begin of its work where that begins, or nothing.
 //! The layer above may use the contracts of `Heap`, `Mutator` and `Collector` and the definitions of `specs/`: what a list makes up
-//! (`Beats`), why a command was answered so (`Answered`), which lines a list tells (`Journals`), and what the world is that stopping
-//! gives (`Ends`).
+//! (`Beats`), what an operation makes (`Operations`), why a command was answered so (`Answered`), which lines a list tells
+//! (`Journals`), and what the world is that stopping gives (`Ends`).
 //! What `stop` promises of all lists rests on the laws of `rec_core` and on the legal order of every run, in `rec_order`.
 #![tactic(auto)]
 
@@ -18,6 +19,7 @@ mod board;
 mod collector;
 mod heap;
 mod mutator;
+mod operating;
 mod rule;
 mod scan;
 mod seating;

@@ -10,11 +10,19 @@ use std::snapshot::Snapshot;
 pub struct Running;
 
 impl TableRule<Option<Buffer>, View, Snapshot<World>> for Running {
-    ghost use Rattle.rec_table.specs.Rule.{Holds, first_view};
+    ghost use Rattle.rec_table.specs.Operations.{Runs};
+    ghost use Rattle.rec_table.specs.Rule.{first_view};
 
-    ghost holds = { λ key s. Holds key.value s };
+    ghost holds = { λ key s. Runs key.value s };
 
     ghost first = { λ key. first_view };
+}
+
+/// Which kind of atomic operation a call of a seat makes, and so what it makes of the run.
+pub trait Operating: Play<Option<Buffer>, View> {
+    ghost use Rattle.rec_table.specs.Operations.{Kind};
+
+    ghost kind: { Kind };
 }
 
 /// The record with which a step is made, and the work that begins first. Each call picks them.
@@ -47,6 +55,12 @@ impl<W: Doing> Play<Option<Buffer>, View> for Makes<W> {
     ghost then = { MadeBy W.actor W.work };
 }
 
+impl<W: Doing> Operating for Makes<W> {
+    ghost use Rattle.rec_table.specs.Operations.{Kind};
+
+    ghost kind = { Kind.Steps W.work };
+}
+
 pub struct Takes<W: Doing> {
     of: PhantomData<W>,
 }
@@ -55,6 +69,13 @@ impl<W: Doing> Play<Option<Buffer>, View> for Takes<W> {
     ghost use Rattle.rec_table.specs.Rule.{TakenBy};
 
     ghost then = { TakenBy W.actor };
+}
+
+impl<W: Doing> Operating for Takes<W> {
+    ghost use Rattle.std.specs.Prelude.{None};
+    ghost use Rattle.rec_table.specs.Operations.{Kind};
+
+    ghost kind = { Kind.Steps None };
 }
 
 pub struct Gives<W: Doing> {
@@ -67,6 +88,13 @@ impl<W: Doing> Play<Option<Buffer>, View> for Gives<W> {
     ghost then = { GivenBy W.actor };
 }
 
+impl<W: Doing> Operating for Gives<W> {
+    ghost use Rattle.std.specs.Prelude.{None};
+    ghost use Rattle.rec_table.specs.Operations.{Kind};
+
+    ghost kind = { Kind.Steps None };
+}
+
 /// A load of a header that a scan has come to.
 pub struct Passes;
 
@@ -74,6 +102,12 @@ impl Play<Option<Buffer>, View> for Passes {
     ghost use Rattle.rec_table.specs.Rule.{PassedBy};
 
     ghost then = { PassedBy };
+}
+
+impl Operating for Passes {
+    ghost use Rattle.rec_table.specs.Operations.{Kind};
+
+    ghost kind = { Kind.Passes };
 }
 
 /// The collector's record with which a turn is made, and whose mailbox is looked at. Each call picks them.
@@ -104,6 +138,12 @@ impl<W: Turning> Play<Option<Buffer>, View> for Turned<W> {
     ghost then = { TurnedBy W.actor };
 }
 
+impl<W: Turning> Operating for Turned<W> {
+    ghost use Rattle.rec_table.specs.Operations.{Kind};
+
+    ghost kind = { Kind.Turns };
+}
+
 pub struct Looked<W: Turning> {
     of: PhantomData<W>,
 }
@@ -112,6 +152,12 @@ impl<W: Turning> Play<Option<Buffer>, View> for Looked<W> {
     ghost use Rattle.rec_table.specs.Rule.{LookedBy};
 
     ghost then = { LookedBy W.actor W.number };
+}
+
+impl<W: Turning> Operating for Looked<W> {
+    ghost use Rattle.rec_table.specs.Operations.{Kind};
+
+    ghost kind = { Kind.Turns };
 }
 
 pub struct Glanced<W: Turning> {
@@ -124,6 +170,12 @@ impl<W: Turning> Play<Option<Buffer>, View> for Glanced<W> {
     ghost then = { GlancedBy W.actor W.number };
 }
 
+impl<W: Turning> Operating for Glanced<W> {
+    ghost use Rattle.rec_table.specs.Operations.{Kind};
+
+    ghost kind = { Kind.Glances };
+}
+
 pub struct Returned<W: Turning> {
     of: PhantomData<W>,
 }
@@ -132,6 +184,12 @@ impl<W: Turning> Play<Option<Buffer>, View> for Returned<W> {
     ghost use Rattle.rec_table.specs.Rule.{ReturnedBy};
 
     ghost then = { ReturnedBy W.actor };
+}
+
+impl<W: Turning> Operating for Returned<W> {
+    ghost use Rattle.rec_table.specs.Operations.{Kind};
+
+    ghost kind = { Kind.Turns };
 }
 
 /// The first seat makes the seats of the mutators, and takes them in.

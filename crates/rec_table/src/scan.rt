@@ -7,6 +7,7 @@ ghost use Rattle.rec_table.specs.Scan.{Passed, ScansFrom};
 ghost use Rattle.rec_table.specs.declared.views.View.TheVariants.{Mutates};
 
 use crate::board::Board;
+use crate::operating::load;
 use crate::rule::Passes;
 use crate::views::View;
 use atomic_table::Seat;
@@ -97,10 +98,9 @@ fn first_free_of(
     ensures few { result ≤ many }
 {
     let _ = probed;
-    let shared = &board.table.shared;
     let first_header = board.places + slot;
     for index in 0..many {
-        if shared.load::<Passes>(seat, first_header + index) == 0 {
+        if load::<Passes>(board, seat, first_header + index) == 0 {
             return index;
         }
     }

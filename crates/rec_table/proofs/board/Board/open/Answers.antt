@@ -1,5 +1,5 @@
-use Rattle.rec_table.proofs.Seats.{opens}
+use Rattle.rec_table.proofs.Seats.{starts}
 use Rattle.rec_table.proofs.board.Board.open.Goals as goal
 
 pub new-requires : goal.new-requires
-new-requires c = opens c.args.was.now.value _ _ c.requires.world c.requires.words c.requires.home
+new-requires c = starts c.args.was.now.value _ _ c.requires.world c.requires.words c.requires.home
