@@ -83,9 +83,7 @@ fn make<W: Doing>(
             shared.load::<Makes<W>>(seat, word)
         }
         Op::SwapField(_, new) => shared.swap::<Makes<W>>(seat, word, new),
-        Op::ClaimHeader(_, label) => {
-            shared.compare_exchange::<Makes<W>>(seat, word, 0, u64::from(label) + 1)
-        }
+        Op::ClaimHeader(_, header) => shared.compare_exchange::<Makes<W>>(seat, word, 0, header),
         Op::TakeBox(_, epoch) => shared.swap::<Takes<W>>(
             seat,
             word,
