@@ -71,8 +71,8 @@ next_in_range : (script : Contents) (lines : List (List Line)) (t : ℕ) (cmd : 
 next_in_range script lines t cmd is next =
     let cmds : List Cmd = commands_at script (t - 1) in
     let i : ℕ = length (own lines (t - 1)) in
-    let all : AreCommands script.registers script.fields cmds =
-    All-get_or (AreCommands script.registers script.fields) script.commands (t - 1) [] (let some : 0 < t = next.some in let most : t ≤ length script.commands = next.most in omega arith) is.commands in
+    let all : AreCommands script.version script.registers script.fields cmds =
+    All-get_or (AreCommands script.version script.registers script.fields) script.commands (t - 1) [] (let some : 0 < t = next.some in let most : t ≤ length script.commands = next.most in omega arith) is.commands in
     subst (IsCommand script.registers script.fields) (get_or_from_slice_get cmds i cmd cmd next.is) (All-get_or (IsCommand script.registers script.fields) cmds i cmd (slice_get_within cmds i cmd next.is) all.in_range)
 
 -- the other mutators' lines stay, and the mutator has one more
@@ -114,6 +114,7 @@ world_kept script world lines order events n so = run_kept (config_of script) so
 -- operands in range are those of a mutator
 operands : (script : Contents) (p : Private) (cmd : Cmd) → length p.registers ≡ script.registers → p.fields ≡ script.fields → IsCommand script.registers script.fields cmd → HasOperands p cmd × HasLabel (works.Command cmd)
 operands script p (commands.New reg label) registers fields is = (subst (λ n. reg < n) (sym registers) is.0, is.1)
+operands script p (commands.Leaf reg label) registers fields is = (subst (λ n. reg < n) (sym registers) is.0, is.1)
 operands script p (commands.Null reg) registers fields is = (subst (λ n. reg < n) (sym registers) is, tt)
 operands script p (commands.Copy dst src) registers fields is = ((subst (λ n. dst < n) (sym registers) is.0, subst (λ n. src < n) (sym registers) is.1), tt)
 operands script p (commands.Get dst src f) registers fields is = ((subst (λ n. dst < n) (sym registers) is.0, subst (λ n. src < n) (sym registers) is.1, subst (λ n. f < n) (sym fields) is.2), tt)

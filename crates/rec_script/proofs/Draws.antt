@@ -17,7 +17,7 @@ use Rattle.rec_model.specs.declared.command.Cmd.{Cmd}
 use Rattle.rec_model.specs.declared.command.Cmd.TheVariants.{New, Null, Copy, Get, Put, Value, Same}
 use Rattle.rec_script.specs.Lines.{lines, spaced}
 use Rattle.rec_script.specs.Made.{generator_of, after_words, word_after, written, read, field, label, command_in, drawn, after_drawn, after_commands, commands_from, made_commands, made_script, text_of, made_text}
-use Rattle.rec_script.specs.Script.{IsCommand, AreCommands, IsScript, Spells, operands_of, header, heap_line, mutator_line, mutator_lines, command_line}
+use Rattle.rec_script.specs.Script.{Allows, IsCommand, AreCommands, IsScript, Spells, operands_of, header, heap_line, mutator_line, mutator_lines, command_line}
 use Rattle.rec_script.proofs.Written.{spells_its_text}
 
 -- ---- one command
@@ -99,36 +99,36 @@ row_same row a b c ge = grind (arith, nat_tests)
 
 -- a command within the limits of the heap, with a short line
 abbrev IsMade : Cmd → Type 0
-IsMade cmd = IsCommand 8 2 cmd × (length (spaced (command_line cmd) []) ≤ 10)
+IsMade cmd = Allows 1 cmd × IsCommand 8 2 cmd × (length (spaced (command_line cmd) []) ≤ 10)
 
 digit : (n : ℕ) → n < 8 → length (decimal n) ≤ 1
 digit n lt = length-decimal-le 1 n (omega arith) (omega arith) (omega arith)
 
 made_new : (reg number : ℕ) → reg < 8 → number < 1000 → IsMade (New reg number)
 made_new reg number r l =
-    ((r, omega arith), omega (arith, digit reg r, length-decimal-le 3 number (omega arith) (omega arith) (omega arith), length-append (decimal reg) (32 ∷ (decimal number ++ 10 ∷ [])), length-append (decimal number) (10 ∷ [])))
+    (omega arith, (r, omega arith), omega (arith, digit reg r, length-decimal-le 3 number (omega arith) (omega arith) (omega arith), length-append (decimal reg) (32 ∷ (decimal number ++ 10 ∷ [])), length-append (decimal number) (10 ∷ [])))
 
 made_null : (reg : ℕ) → reg < 8 → IsMade (Null reg)
-made_null reg r = (r, omega (arith, digit reg r, length-append (decimal reg) (10 ∷ [])))
+made_null reg r = (omega arith, r, omega (arith, digit reg r, length-append (decimal reg) (10 ∷ [])))
 
 made_copy : (dst src : ℕ) → dst < 8 → src < 8 → IsMade (Copy dst src)
-made_copy dst src d s = ((d, s), omega (arith, digit dst d, digit src s, length-append (decimal dst) (32 ∷ (decimal src ++ 10 ∷ [])), length-append (decimal src) (10 ∷ [])))
+made_copy dst src d s = (omega arith, (d, s), omega (arith, digit dst d, digit src s, length-append (decimal dst) (32 ∷ (decimal src ++ 10 ∷ [])), length-append (decimal src) (10 ∷ [])))
 
 -- three words of one byte behind a word of three
 three_short : (x y z : List ℕ) → length x ≤ 1 → length y ≤ 1 → length z ≤ 1 → length (codes "get " ++ (x ++ 32 ∷ (y ++ 32 ∷ (z ++ 10 ∷ [])))) ≤ 10
 three_short x y z xs ys zs = omega (arith, xs, ys, zs, length-append x (32 ∷ (y ++ 32 ∷ (z ++ 10 ∷ []))), length-append y (32 ∷ (z ++ 10 ∷ [])), length-append z (10 ∷ []))
 
 made_get : (dst src number : ℕ) → dst < 8 → src < 8 → number < 2 → IsMade (Get dst src number)
-made_get dst src number d s f = ((d, s, f), three_short (decimal dst) (decimal src) (decimal number) (digit dst d) (digit src s) (digit number (omega arith)))
+made_get dst src number d s f = (omega arith, (d, s, f), three_short (decimal dst) (decimal src) (decimal number) (digit dst d) (digit src s) (digit number (omega arith)))
 
 made_put : (src number val : ℕ) → src < 8 → number < 2 → val < 8 → IsMade (Put src number val)
-made_put src number val s f v = ((s, f, v), three_short (decimal src) (decimal number) (decimal val) (digit src s) (digit number (omega arith)) (digit val v))
+made_put src number val s f v = (omega arith, (s, f, v), three_short (decimal src) (decimal number) (decimal val) (digit src s) (digit number (omega arith)) (digit val v))
 
 made_value : (reg : ℕ) → reg < 8 → IsMade (Value reg)
-made_value reg r = (r, omega (arith, digit reg r, length-append (decimal reg) (10 ∷ [])))
+made_value reg r = (omega arith, r, omega (arith, digit reg r, length-append (decimal reg) (10 ∷ [])))
 
 made_same : (a b : ℕ) → a < 8 → b < 8 → IsMade (Same a b)
-made_same a b l r = ((l, r), omega (arith, digit a l, digit b r, length-append (decimal a) (32 ∷ (decimal b ++ 10 ∷ [])), length-append (decimal b) (10 ∷ [])))
+made_same a b l r = (omega arith, (l, r), omega (arith, digit a l, digit b r, length-append (decimal a) (32 ∷ (decimal b ++ 10 ∷ [])), length-append (decimal b) (10 ∷ [])))
 
 either : (t : Bool) (x y : Cmd) → IsMade x → IsMade y → IsMade (if t then x else y)
 either true x y p q = p
@@ -162,11 +162,12 @@ made_drawn g = made_in (word_after 0 g % 16) (word_after 1 g) (word_after 2 g) (
 all_made : (g : Lcg) (count : ℕ) → All IsMade (commands_from g count)
 all_made g count = All-map IsMade (λ i. drawn (after_commands i g)) (range_with_len 0 count) (λ k d lt. made_drawn (after_commands (get_or (range_with_len 0 count) k d) g))
 
-commands_are : (g : Lcg) (count : ℕ) → count ≤ 200000 → AreCommands 8 2 (commands_from g count)
+commands_are : (g : Lcg) (count : ℕ) → count ≤ 200000 → AreCommands 1 8 2 (commands_from g count)
 commands_are g count few =
     record {
       few = subst (λ (n : ℕ). n ≤ 200000) (sym (length-map-range_with_len (λ i. drawn (after_commands i g)) 0 count)) few;
-      in_range = λ k d lt. (all_made g count k d lt).0;
+      allowed = λ k d lt. (all_made g count k d lt).0;
+      in_range = λ k d lt. (all_made g count k d lt).1;
     }
 
 mutators_are : (seed mutators commands : ℕ) → length (made_commands seed mutators commands) ≡ mutators
@@ -177,10 +178,11 @@ is_script : (seed mutators commands : ℕ) → 1 ≤ mutators → mutators ≤ 8
 unfolding made_commands
 is_script seed mutators commands some most few =
     record {
+      version = record { some = omega arith; most = omega arith };
       heap = record { some_slots = omega arith; most_slots = omega arith; some_fields = omega arith; most_fields = omega arith; some_registers = omega arith; most_registers = omega arith };
       some_mutators = subst (λ (n : ℕ). 1 ≤ n) (sym (mutators_are seed mutators commands)) some;
       most_mutators = subst (λ (n : ℕ). n ≤ 8) (sym (mutators_are seed mutators commands)) most;
-      commands = All-map (AreCommands 8 2) (λ t. commands_from (after_commands (t * commands) (generator_of seed)) commands) (range_with_len 0 mutators) (λ k d lt. commands_are (after_commands (get_or (range_with_len 0 mutators) k d * commands) (generator_of seed)) commands few);
+      commands = All-map (AreCommands 1 8 2) (λ t. commands_from (after_commands (t * commands) (generator_of seed)) commands) (range_with_len 0 mutators) (λ k d lt. commands_are (after_commands (get_or (range_with_len 0 mutators) k d * commands) (generator_of seed)) commands few);
     }
 
 pub spells_made : (seed mutators commands : ℕ) → 1 ≤ mutators → mutators ≤ 8 → commands ≤ 200000 → Spells (lines (made_text seed mutators commands)) (made_script seed mutators commands)
@@ -240,7 +242,7 @@ unfolding made_commands made_text
 mutator_more seed t commands now text named more so text-is named-is more-is =
     let body : ℕ → List (List (List ℕ)) = λ n. flat_map mutator_lines (made_commands seed n commands) in
     let mine : List Cmd = commands_from (after_commands (t * commands) (generator_of seed)) commands in
-    let front : List (List (List ℕ)) = header ∷ heap_line 1024 2 8 ∷ [] in
+    let front : List (List (List ℕ)) = header 1 ∷ heap_line 1024 2 8 ∷ [] in
     let mutators : made_commands seed (t + 1) commands ≡ made_commands seed t commands ++ mine ∷ [] = map-range_with_len_more (λ t. commands_from (after_commands (t * commands) (generator_of seed)) commands) 0 t t (omega arith) in
     let grown : body (t + 1) ≡ body t ++ mutator_lines mine =
     ap (flat_map mutator_lines) mutators
@@ -268,7 +270,7 @@ short_lines : (css : List (List Cmd)) → All (λ cmds. All IsMade cmds) css →
 short_lines [] are = λ k d lt. absurd (omega arith)
 short_lines (cmds ∷ css) are =
     All-append IsShort (mutator_lines cmds) (flat_map mutator_lines css)
-    (All-cons IsShort mutator_line (map command_line cmds) (omega arith) (All-map IsShort command_line cmds (λ k d lt. (All-head (λ cmds. All IsMade cmds) cmds css are k d lt).1)))
+    (All-cons IsShort mutator_line (map command_line cmds) (omega arith) (All-map IsShort command_line cmds (λ k d lt. (All-head (λ cmds. All IsMade cmds) cmds css are k d lt).2)))
     (short_lines css (All-tail (λ cmds. All IsMade cmds) cmds css are))
 
 mutators_made : (seed mutators commands : ℕ) → All (λ cmds. All IsMade cmds) (made_commands seed mutators commands)
@@ -281,20 +283,20 @@ mutators_made seed mutators commands =
 mutator_length : (commands : ℕ) (cmds : List Cmd) → length cmds ≤ commands → length (mutator_lines cmds) ≤ 1 + commands
 mutator_length commands cmds few = omega (arith, few, length-map cmds command_line)
 
-body_length : (commands : ℕ) (css : List (List Cmd)) → All (AreCommands 8 2) css → commands ≡ 200000 → length (flat_map mutator_lines css) ≤ length css * (1 + commands)
+body_length : (commands : ℕ) (css : List (List Cmd)) → All (AreCommands 1 8 2) css → commands ≡ 200000 → length (flat_map mutator_lines css) ≤ length css * (1 + commands)
 body_length commands css are is =
     subst (λ (n : ℕ). n ≤ length css * (1 + commands)) (sym (length-flat_map mutator_lines css))
     (sum_by-le (λ cmds. length (mutator_lines cmds)) (1 + commands) css (λ k d lt. mutator_length commands (get_or css k d) (subst (λ (n : ℕ). length (get_or css k d) ≤ n) (sym is) (are k d lt).few)))
 
 -- the header and the heap have 25 bytes, and no other line more than ten
-front_length : length (text_of (header ∷ heap_line 1024 2 8 ∷ [])) ≡ 25
+front_length : length (text_of (header 1 ∷ heap_line 1024 2 8 ∷ [])) ≡ 25
 unfolding digits
 front_length = refl
 
 made_length : (seed mutators commands : ℕ) → length (made_text seed mutators commands) ≡ 25 + length (text_of (flat_map mutator_lines (made_commands seed mutators commands)))
 unfolding made_text
 made_length seed mutators commands =
-    let front : List (List (List ℕ)) = header ∷ heap_line 1024 2 8 ∷ [] in
+    let front : List (List (List ℕ)) = header 1 ∷ heap_line 1024 2 8 ∷ [] in
     let body : List (List (List ℕ)) = flat_map mutator_lines (made_commands seed mutators commands) in
     ap (length {A = ℕ}) (text_append front body) ∙ length-append (text_of front) (text_of body) ∙ ap (λ (n : ℕ). n + length (text_of body)) front_length
 

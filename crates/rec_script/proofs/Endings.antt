@@ -87,8 +87,8 @@ three_lines (cmds ∷ css) some e = omega (arith, ap length e)
 -- an open need is no script
 pub need_no_script : (before : List (List (List ℕ))) (kind : Kind) (contents : Contents) → IsNeed before kind → IsScript contents → before ≡ spelled contents → ⊥
 need_no_script before _ contents (IsNeed.of_header none) script e = omega (arith, ap length (sym none ∙ e))
-need_no_script before _ contents (IsNeed.of_heap one) script e = omega (arith, ap length (sym one ∙ e))
-need_no_script before _ contents (IsNeed.of_mutator s f r heap two) script e = three_lines contents.commands script.some_mutators (sym (ap (drop 2) (sym two ∙ e)))
+need_no_script before _ contents (IsNeed.of_heap v known one) script e = omega (arith, ap length (sym one ∙ e))
+need_no_script before _ contents (IsNeed.of_mutator v s f r known heap two) script e = three_lines contents.commands script.some_mutators (sym (ap (drop 2) (sym two ∙ e)))
 
 -- what the whole text has spelled
 pub record Ended (d : Draft) (text : List (List ℕ)) (n : ℕ) : Type 0 where

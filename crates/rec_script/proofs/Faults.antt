@@ -11,7 +11,7 @@ use Rattle.rec_script.specs.declared.heap.Heap.{Heap}
 use Rattle.rec_script.specs.declared.draft.Draft.{Draft}
 use Rattle.rec_script.specs.declared.draft.Draft.TheVariants.{Nothing, Header, Sized, Whole}
 use Rattle.rec_script.specs.Lines.{words, is_counted}
-use Rattle.rec_script.specs.Script.{Contents, IsHeap, IsScript, header, heap_line, mutator_line, spelled, last_length, IsBadCommand, Fits, IsFault, IsNeed}
+use Rattle.rec_script.specs.Script.{Contents, IsHeap, IsVersion, IsScript, header, heap_line, mutator_line, spelled, last_length, IsBadCommand, Fits, IsFault, IsNeed}
 use Rattle.rec_script.specs.Drafts.{so_far, IsDraft}
 
 -- an error that is told is the one that was made
@@ -26,33 +26,38 @@ told P r number line named kind made e h =
 pub need_nothing : (d : Draft) → d ≡ Nothing → IsNeed (so_far d) NoHeader
 need_nothing d e = subst (λ (v : Draft). IsNeed (so_far v) NoHeader) (sym e) (IsNeed.of_header refl)
 
-pub need_header : (d : Draft) → d ≡ Header → IsNeed (so_far d) BadHeap
-need_header d e = subst (λ (v : Draft). IsNeed (so_far v) BadHeap) (sym e) (IsNeed.of_heap refl)
+pub need_header : (d : Draft) (version : ℕ) → d ≡ Header version → IsDraft d → IsNeed (so_far d) BadHeap
+need_header d version e is = subst (λ (v : Draft). IsNeed (so_far v) BadHeap) (sym e) (IsNeed.of_heap version (subst IsDraft e is) refl)
 
-pub need_sized : (d : Draft) (heap : Heap) → d ≡ Sized heap → IsDraft d → IsNeed (so_far d) NoMutator
-need_sized d heap e is = subst (λ (v : Draft). IsNeed (so_far v) NoMutator) (sym e) (IsNeed.of_mutator heap.slots heap.fields heap.registers (subst IsDraft e is) refl)
+pub need_sized : (d : Draft) (version : ℕ) (heap : Heap) → d ≡ Sized version heap → IsDraft d → IsNeed (so_far d) NoMutator
+need_sized d version heap e is =
+    let so = subst IsDraft e is in
+    subst (λ (v : Draft). IsNeed (so_far v) NoMutator) (sym e) (IsNeed.of_mutator version heap.slots heap.fields heap.registers so.0 so.1 refl)
 
 -- ---- the words of a line
 
-pub fits_nothing : (d : Draft) (line : List (List ℕ)) → d ≡ Nothing → line ≢ header → Fits (so_far d) line NoHeader
+pub fits_nothing : (d : Draft) (line : List (List ℕ)) → d ≡ Nothing → ((version : ℕ) → IsVersion version → line ≢ header version) → Fits (so_far d) line NoHeader
 fits_nothing d line e other = subst (λ (v : Draft). Fits (so_far v) line NoHeader) (sym e) (Fits.no_header refl other)
 
-pub fits_header : (d : Draft) (line : List (List ℕ)) → d ≡ Header → ((slots fields registers : ℕ) → IsHeap slots fields registers → line ≢ heap_line slots fields registers) → Fits (so_far d) line BadHeap
-fits_header d line e other = subst (λ (v : Draft). Fits (so_far v) line BadHeap) (sym e) (Fits.bad_heap refl other)
+pub fits_header : (d : Draft) (version : ℕ) (line : List (List ℕ)) → d ≡ Header version → IsDraft d → ((slots fields registers : ℕ) → IsHeap slots fields registers → line ≢ heap_line slots fields registers) → Fits (so_far d) line BadHeap
+fits_header d version line e is other = subst (λ (v : Draft). Fits (so_far v) line BadHeap) (sym e) (Fits.bad_heap version (subst IsDraft e is) refl other)
 
-pub fits_sized : (d : Draft) (heap : Heap) (line : List (List ℕ)) → d ≡ Sized heap → IsDraft d → line ≢ mutator_line → Fits (so_far d) line NoMutator
-fits_sized d heap line e is other = subst (λ (v : Draft). Fits (so_far v) line NoMutator) (sym e) (Fits.no_mutator heap.slots heap.fields heap.registers (subst IsDraft e is) refl other)
+pub fits_sized : (d : Draft) (version : ℕ) (heap : Heap) (line : List (List ℕ)) → d ≡ Sized version heap → IsDraft d → line ≢ mutator_line → Fits (so_far d) line NoMutator
+fits_sized d version heap line e is other =
+    let so = subst IsDraft e is in
+    subst (λ (v : Draft). Fits (so_far v) line NoMutator) (sym e) (Fits.no_mutator version heap.slots heap.fields heap.registers so.0 so.1 refl other)
 
 pub fits_whole : (d : Draft) (script : Contents) (line : List (List ℕ)) (kind : Kind) → d ≡ Whole script → Fits (spelled script) line kind → Fits (so_far d) line kind
 fits_whole d script line kind e h = subst (λ (v : Draft). Fits (so_far v) line kind) (sym e) h
 
-pub fits_command : (contents : Contents) (registers fields count : ℕ) (line : List (List ℕ)) (kind : Kind) → IsScript contents → registers ≡ contents.registers → fields ≡ contents.fields → count ≡ last_length contents.commands
-    → line ≢ mutator_line → IsBadCommand registers fields count line kind → Fits (spelled contents) line kind
-fits_command contents registers fields count line kind script r-is f-is count-is other h =
+pub fits_command : (contents : Contents) (version registers fields count : ℕ) (line : List (List ℕ)) (kind : Kind) → IsScript contents → version ≡ contents.version → registers ≡ contents.registers → fields ≡ contents.fields → count ≡ last_length contents.commands
+    → line ≢ mutator_line → IsBadCommand version registers fields count line kind → Fits (spelled contents) line kind
+fits_command contents version registers fields count line kind script v-is r-is f-is count-is other h =
     Fits.bad_command contents kind script refl other
-    (subst (λ (n : ℕ). IsBadCommand contents.registers contents.fields n line kind) count-is
-    (subst (λ (n : ℕ). IsBadCommand contents.registers n count line kind) f-is
-    (subst (λ (n : ℕ). IsBadCommand n fields count line kind) r-is h)))
+    (subst (λ (n : ℕ). IsBadCommand contents.version contents.registers contents.fields n line kind) count-is
+    (subst (λ (n : ℕ). IsBadCommand contents.version contents.registers n count line kind) f-is
+    (subst (λ (n : ℕ). IsBadCommand contents.version n fields count line kind) r-is
+    (subst (λ (n : ℕ). IsBadCommand n registers fields count line kind) v-is h))))
 
 -- ---- a line
 

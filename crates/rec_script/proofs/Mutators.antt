@@ -5,7 +5,7 @@ use Rattle.std.proofs.lemmas.Bool.{cases_lt}
 use Rattle.std.proofs.lemmas.Option.{none-some, same_Some}
 use Rattle.std.proofs.lemmas.List.Elements.{All-push, All-cons, All-head, All-tail}
 use Rattle.rec_model.specs.declared.command.Cmd.{Cmd}
-use Rattle.rec_script.specs.Script.{Contents, IsCommand, AreCommands, IsScript, last_length}
+use Rattle.rec_script.specs.Script.{Contents, Allows, IsCommand, AreCommands, IsScript, last_length}
 
 pub last_of : (earlier : List (List Cmd)) (last : List Cmd) → last_length (earlier ++ last ∷ []) ≡ length last
 last_of [] last = refl
@@ -21,21 +21,22 @@ all_earlier P [] x h = λ k d lt. absurd (omega arith)
 all_earlier P (y ∷ ys) x h = All-cons P y ys (All-head P y (ys ++ x ∷ []) h) (all_earlier P ys x (All-tail P y (ys ++ x ∷ []) h))
 
 -- the last mutator's commands are within their limits
-pub last_within : (contents : Contents) (earlier : List (List Cmd)) (last : List Cmd) → IsScript contents → contents.commands ≡ earlier ++ last ∷ [] → AreCommands contents.registers contents.fields last
-last_within contents earlier last script e = all_last (AreCommands contents.registers contents.fields) earlier last (subst (λ (t : List (List Cmd)). All (AreCommands contents.registers contents.fields) t) e script.commands)
+pub last_within : (contents : Contents) (earlier : List (List Cmd)) (last : List Cmd) → IsScript contents → contents.commands ≡ earlier ++ last ∷ [] → AreCommands contents.version contents.registers contents.fields last
+last_within contents earlier last script e = all_last (AreCommands contents.version contents.registers contents.fields) earlier last (subst (λ (t : List (List Cmd)). All (AreCommands contents.version contents.registers contents.fields) t) e script.commands)
 
 -- one command more is within the limits
-pub one_command_more : (s f r : ℕ) (earlier : List (List Cmd)) (last more : List Cmd) (cmd : Cmd) → IsScript (record { slots = s; fields = f; registers = r; commands = earlier ++ last ∷ [] }) → IsCommand r f cmd → last_length (earlier ++ last ∷ []) < 200000 → more ≡ last ++ cmd ∷ []
-    → IsScript (record { slots = s; fields = f; registers = r; commands = earlier ++ more ∷ [] })
-one_command_more s f r earlier last more cmd script in-range room e =
-    let within : AreCommands r f last = all_last (AreCommands r f) earlier last script.commands in
+pub one_command_more : (v s f r : ℕ) (earlier : List (List Cmd)) (last more : List Cmd) (cmd : Cmd) → IsScript (record { version = v; slots = s; fields = f; registers = r; commands = earlier ++ last ∷ [] }) → Allows v cmd → IsCommand r f cmd → last_length (earlier ++ last ∷ []) < 200000 → more ≡ last ++ cmd ∷ []
+    → IsScript (record { version = v; slots = s; fields = f; registers = r; commands = earlier ++ more ∷ [] })
+one_command_more v s f r earlier last more cmd script its in-range room e =
+    let within : AreCommands v r f last = all_last (AreCommands v r f) earlier last script.commands in
     let few : length more ≤ 200000 = omega (arith, last_of earlier last, ap (length {A = Cmd}) e, length-append last (cmd ∷ [])) in
-    let grown : AreCommands r f more = record { few = few; in_range = subst (λ (t : List Cmd). All (IsCommand r f) t) (sym e) (All-push (IsCommand r f) last cmd within.in_range in-range) } in
+    let grown : AreCommands v r f more = record { few = few; allowed = subst (λ (t : List Cmd). All (Allows v) t) (sym e) (All-push (Allows v) last cmd within.allowed its); in_range = subst (λ (t : List Cmd). All (IsCommand r f) t) (sym e) (All-push (IsCommand r f) last cmd within.in_range in-range) } in
     record {
+      version = script.version;
       heap = script.heap;
       some_mutators = omega (arith, length-append earlier (more ∷ []));
       most_mutators = omega (arith, script.most_mutators, length-append earlier (more ∷ []), length-append earlier (last ∷ []));
-      commands = All-push (AreCommands r f) earlier more (all_earlier (AreCommands r f) earlier last script.commands) grown;
+      commands = All-push (AreCommands v r f) earlier more (all_earlier (AreCommands v r f) earlier last script.commands) grown;
     }
 
 -- ---- the commands of one mutator

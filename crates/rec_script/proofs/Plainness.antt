@@ -9,11 +9,11 @@ use Rattle.std.proofs.lemmas.Fmt.{IsAscii-decimal}
 use Rattle.std.proofs.lemmas.Str.{IsUtf8-from_ascii}
 use Rattle.std.proofs.lemmas.List.Elements.{All-cons, All-weaker}
 use Rattle.rec_model.specs.declared.command.Cmd.{Cmd}
-use Rattle.rec_model.specs.declared.command.Cmd.TheVariants.{New, Null, Copy, Get, Put, Value, Same}
+use Rattle.rec_model.specs.declared.command.Cmd.TheVariants.{New, Leaf, Null, Copy, Get, Put, Value, Same}
 use Rattle.rec_script.specs.declared.draft.Draft.{Draft}
 use Rattle.rec_script.specs.declared.draft.Draft.TheVariants.{Nothing, Header, Sized, Whole}
 use Rattle.rec_script.specs.Lines.{is_blank, in_front, cut, is_some_word, words}
-use Rattle.rec_script.specs.Script.{Contents, IsCommand, IsHeap, IsScript, header, heap_line, mutator_line, mutator_lines, command_line, spelled}
+use Rattle.rec_script.specs.Script.{Contents, IsCommand, IsHeap, IsVersion, IsScript, header, heap_line, mutator_line, mutator_lines, command_line, spelled}
 use Rattle.rec_script.specs.Drafts.{so_far, IsDraft}
 use Rattle.rec_script.proofs.Regrouping.{AreSmall, small}
 use Rattle.rec_script.proofs.Stopping.{IsBodyLine, body_lines, all_at}
@@ -67,8 +67,8 @@ plain_decimal n fits = from (decimal n) (IsAscii-decimal n fits)
     from [] h = tt
     from (b ∷ bs) h = (h 0, from bs (λ i. h (suc i)))
 
-plain_header : ArePlain header
-plain_header = ((omega arith, (omega arith, (omega arith, (omega arith, (omega arith, (omega arith, (omega arith, (omega arith, tt)))))))), ((omega arith, tt), tt))
+plain_header : (version : ℕ) → IsVersion version → ArePlain (header version)
+plain_header version is = ((omega arith, (omega arith, (omega arith, (omega arith, (omega arith, (omega arith, (omega arith, (omega arith, tt)))))))), (plain_decimal version (omega (arith, is.most)), tt))
 
 plain_heap : (s f r : ℕ) → IsHeap s f r → ArePlain (heap_line s f r)
 plain_heap s f r h = ((omega arith, (omega arith, (omega arith, (omega arith, tt)))), (plain_decimal s (omega (arith, h.most_slots)), (plain_decimal f (omega (arith, h.most_fields)), (plain_decimal r (omega (arith, h.most_registers)), tt))))
@@ -78,6 +78,7 @@ plain_mutator = ((omega arith, (omega arith, (omega arith, (omega arith, (omega 
 
 pub plain_command : (registers fields : ℕ) (cmd : Cmd) → AreSmall registers fields → IsCommand registers fields cmd → ArePlain (command_line cmd)
 plain_command registers fields (New reg label) h is = ((omega arith, (omega arith, (omega arith, tt))), (plain_decimal reg (omega (arith, h.registers_fit, is.0)), (plain_decimal label (omega (arith, is.1)), tt)))
+plain_command registers fields (Leaf reg label) h is = ((omega arith, (omega arith, (omega arith, (omega arith, tt)))), (plain_decimal reg (omega (arith, h.registers_fit, is.0)), (plain_decimal label (omega (arith, is.1)), tt)))
 plain_command registers fields (Null reg) h is = ((omega arith, (omega arith, (omega arith, (omega arith, tt)))), (plain_decimal reg (omega (arith, h.registers_fit, is)), tt))
 plain_command registers fields (Copy dst src) h is = ((omega arith, (omega arith, (omega arith, (omega arith, tt)))), (plain_decimal dst (omega (arith, h.registers_fit, is.0)), (plain_decimal src (omega (arith, h.registers_fit, is.1)), tt)))
 plain_command registers fields (Get dst src field) h is = ((omega arith, (omega arith, (omega arith, tt))), (plain_decimal dst (omega (arith, h.registers_fit, is.0)), (plain_decimal src (omega (arith, h.registers_fit, is.1)), (plain_decimal field (omega (arith, h.fields_fit, is.2)), tt))))
@@ -85,23 +86,23 @@ plain_command registers fields (Put src field val) h is = ((omega arith, (omega 
 plain_command registers fields (Value reg) h is = ((omega arith, (omega arith, (omega arith, (omega arith, (omega arith, tt))))), (plain_decimal reg (omega (arith, h.registers_fit, is)), tt))
 plain_command registers fields (Same a b) h is = ((omega arith, (omega arith, (omega arith, (omega arith, tt)))), (plain_decimal a (omega (arith, h.registers_fit, is.0)), (plain_decimal b (omega (arith, h.registers_fit, is.1)), tt)))
 
-plain_body : (registers fields : ℕ) → AreSmall registers fields → (line : List (List ℕ)) → IsBodyLine registers fields line → ArePlain line
-plain_body registers fields h line (inl e) = subst ArePlain (sym e) plain_mutator
-plain_body registers fields h line (inr is) = subst ArePlain (sym is.2) (plain_command registers fields is.0 h is.1)
+plain_body : (version registers fields : ℕ) → AreSmall registers fields → (line : List (List ℕ)) → IsBodyLine version registers fields line → ArePlain line
+plain_body version registers fields h line (inl e) = subst ArePlain (sym e) plain_mutator
+plain_body version registers fields h line (inr is) = subst ArePlain (sym is.3) (plain_command registers fields is.0 h is.2)
 
 pub plain_script : (contents : Contents) → IsScript contents → All ArePlain (spelled contents)
 plain_script contents script =
-    All-cons ArePlain header (heap_line contents.slots contents.fields contents.registers ∷ flat_map mutator_lines contents.commands) plain_header
+    All-cons ArePlain (header contents.version) (heap_line contents.slots contents.fields contents.registers ∷ flat_map mutator_lines contents.commands) (plain_header contents.version script.version)
     (All-cons ArePlain (heap_line contents.slots contents.fields contents.registers) (flat_map mutator_lines contents.commands) (plain_heap contents.slots contents.fields contents.registers script.heap)
-    (All-weaker (IsBodyLine contents.registers contents.fields) ArePlain (plain_body contents.registers contents.fields (small contents.slots contents.fields contents.registers script.heap)) (flat_map mutator_lines contents.commands) (body_lines contents.registers contents.fields contents.commands script.commands)))
+    (All-weaker (IsBodyLine contents.version contents.registers contents.fields) ArePlain (plain_body contents.version contents.registers contents.fields (small contents.slots contents.fields contents.registers script.heap)) (flat_map mutator_lines contents.commands) (body_lines contents.version contents.registers contents.fields contents.commands script.commands)))
 
 none_plain : All ArePlain []
 none_plain = λ k d lt. absurd (omega arith)
 
 plain_draft : (d : Draft) → IsDraft d → All ArePlain (so_far d)
 plain_draft Nothing is = none_plain
-plain_draft Header is = All-cons ArePlain header [] plain_header none_plain
-plain_draft (Sized heap) is = All-cons ArePlain header (heap_line heap.slots heap.fields heap.registers ∷ []) plain_header (All-cons ArePlain (heap_line heap.slots heap.fields heap.registers) [] (plain_heap heap.slots heap.fields heap.registers is) none_plain)
+plain_draft (Header version) is = All-cons ArePlain (header version) [] (plain_header version is) none_plain
+plain_draft (Sized version heap) is = All-cons ArePlain (header version) (heap_line heap.slots heap.fields heap.registers ∷ []) (plain_header version is.0) (All-cons ArePlain (heap_line heap.slots heap.fields heap.registers) [] (plain_heap heap.slots heap.fields heap.registers is.1) none_plain)
 plain_draft (Whole script) is = plain_script script is
 
 -- a line that a draft took is UTF-8

@@ -8,8 +8,8 @@ use Rattle.std.proofs.lemmas.Fmt.{decimal_is_IsNumeral}
 use Rattle.std.proofs.lemmas.List.{append-nil}
 use Rattle.std.proofs.lemmas.List.Elements.{All-head, All-tail}
 use Rattle.rec_model.specs.declared.command.Cmd.{Cmd}
-use Rattle.rec_model.specs.declared.command.Cmd.TheVariants.{New, Null, Copy, Get, Put, Value, Same}
-use Rattle.rec_script.specs.Script.{Contents, IsCommand, IsHeap, AreCommands, IsScript, heap_line, mutator_lines, command_line, word_of, last_length, spelled, IsShaped}
+use Rattle.rec_model.specs.declared.command.Cmd.TheVariants.{New, Leaf, Null, Copy, Get, Put, Value, Same}
+use Rattle.rec_script.specs.Script.{Contents, IsCommand, IsHeap, IsVersion, AreCommands, IsScript, header, heap_line, mutator_lines, command_line, word_of, last_length, spelled, IsShaped}
 use Rattle.rec_script.proofs.Commands.{letters, choose}
 
 -- numbers of registers and fields that numerals can name
@@ -32,6 +32,7 @@ abbrev pub command_of : List (List ℕ) → Cmd
 command_of line =
     choose (get_or line 0 [])
     (New (number_at line 1) (number_at line 2))
+    (Leaf (number_at line 1) (number_at line 2))
     (Null (number_at line 1))
     (Copy (number_at line 1) (number_at line 2))
     (Get (number_at line 1) (number_at line 2) (number_at line 3))
@@ -41,6 +42,7 @@ command_of line =
 
 pub command_again : (registers fields : ℕ) (cmd : Cmd) → AreSmall registers fields → IsCommand registers fields cmd → command_of (command_line cmd) ≡ cmd
 command_again r f (New reg label) h is = ap (λ (n : ℕ). New n (digits_value 10 (decimal label))) (value reg (omega (arith, h.registers_fit, is.0))) ∙ ap (λ (n : ℕ). New reg n) (value label (omega (arith, is.1)))
+command_again r f (Leaf reg label) h is = ap (λ (n : ℕ). Leaf n (digits_value 10 (decimal label))) (value reg (omega (arith, h.registers_fit, is.0))) ∙ ap (λ (n : ℕ). Leaf reg n) (value label (omega (arith, is.1)))
 command_again r f (Null reg) h is = ap Null (value reg (omega (arith, h.registers_fit, is)))
 command_again r f (Copy dst src) h is = ap (λ (n : ℕ). Copy n (digits_value 10 (decimal src))) (value dst (omega (arith, h.registers_fit, is.0))) ∙ ap (λ (n : ℕ). Copy dst n) (value src (omega (arith, h.registers_fit, is.1)))
 command_again r f (Get dst src field) h is =
@@ -60,6 +62,7 @@ is_mutator line = letters (get_or line 0 []) == 28021
 
 pub no_mutator_word : (cmd : Cmd) → letters (word_of cmd) == 28021 ≡ false
 no_mutator_word (New reg label) = refl
+no_mutator_word (Leaf reg label) = refl
 no_mutator_word (Null reg) = refl
 no_mutator_word (Copy dst src) = refl
 no_mutator_word (Get dst src field) = refl
@@ -100,13 +103,13 @@ regroup_commands r f (cmd ∷ cmds) more h is =
     ∙ ap (λ (g : Groups). grouped (cmd ∷ g.front) g.behind) on
 
 -- the lines of mutators in front of others
-pub regroup_mutators : (r f : ℕ) (css : List (List Cmd)) (more : List (List (List ℕ))) → AreSmall r f → All (AreCommands r f) css → regroup (flat_map mutator_lines css ++ more) ≡ glue css (regroup more)
-regroup_mutators r f [] more h are = refl
-regroup_mutators r f (cmds ∷ css) more h are =
+pub regroup_mutators : (v r f : ℕ) (css : List (List Cmd)) (more : List (List (List ℕ))) → AreSmall r f → All (AreCommands v r f) css → regroup (flat_map mutator_lines css ++ more) ≡ glue css (regroup more)
+regroup_mutators v r f [] more h are = refl
+regroup_mutators v r f (cmds ∷ css) more h are =
     let rest : List (List (List ℕ)) = flat_map mutator_lines css ++ more in
     ap (λ (t : List (List (List ℕ))). grouped [] ((regroup t).front ∷ (regroup t).behind)) (append_assoc (map command_line cmds) (flat_map mutator_lines css) more)
-    ∙ ap (λ (g : Groups). grouped [] (g.front ∷ g.behind)) (regroup_commands r f cmds rest h (All-head (AreCommands r f) cmds css are).in_range)
-    ∙ ap (λ (g : Groups). grouped [] ((cmds ++ g.front) ∷ g.behind)) (regroup_mutators r f css more h (All-tail (AreCommands r f) cmds css are))
+    ∙ ap (λ (g : Groups). grouped [] (g.front ∷ g.behind)) (regroup_commands r f cmds rest h (All-head (AreCommands v r f) cmds css are).in_range)
+    ∙ ap (λ (g : Groups). grouped [] ((cmds ++ g.front) ∷ g.behind)) (regroup_mutators v r f css more h (All-tail (AreCommands v r f) cmds css are))
 
 -- groups without commands at the front
 pub glue_nothing : (css : List (List Cmd)) → glue css (grouped [] []) ≡ grouped [] css
@@ -125,8 +128,8 @@ glue_last (cmds ∷ []) g some few = omega (arith, length-append cmds g.front, A
 glue_last (cmds ∷ more ∷ css) g some few = glue_last (more ∷ css) g (omega arith) (All-tail (λ c. length c ≤ 200000) (cmds ++ (glue (more ∷ css) g).front) (glue (more ∷ css) g).behind few)
 
 -- the lines of mutators are grouped as they were
-pub regrouped : (r f : ℕ) (css : List (List Cmd)) → AreSmall r f → All (AreCommands r f) css → regroup (flat_map mutator_lines css) ≡ grouped [] css
-regrouped r f css h are = ap regroup (sym (append-nil (flat_map mutator_lines css))) ∙ regroup_mutators r f css [] h are ∙ glue_nothing css
+pub regrouped : (v r f : ℕ) (css : List (List Cmd)) → AreSmall r f → All (AreCommands v r f) css → regroup (flat_map mutator_lines css) ≡ grouped [] css
+regrouped v r f css h are = ap regroup (sym (append-nil (flat_map mutator_lines css))) ∙ regroup_mutators v r f css [] h are ∙ glue_nothing css
 
 -- ---- heaps
 
@@ -142,6 +145,10 @@ same_heap s f r s' f' r' h h' e = record {
   registers = sym (value r (omega (arith, h.most_registers))) ∙ ap (λ (t : List (List ℕ)). digits_value 10 (get_or t 3 [])) e ∙ value r' (omega (arith, h'.most_registers));
 }
 
+-- headers of one version are alike
+pub same_version : (v v' : ℕ) → IsVersion v → IsVersion v' → header v ≡ header v' → v ≡ v'
+same_version v v' is is' e = sym (value v (omega (arith, is.most))) ∙ ap (λ (t : List (List ℕ)). digits_value 10 (get_or t 1 [])) e ∙ value v' (omega (arith, is'.most))
+
 -- what is behind the first two lines
 abbrev pub behind_heap : List (List (List ℕ)) → List (List (List ℕ))
 behind_heap [] = []
@@ -151,13 +158,15 @@ behind_heap (a ∷ b ∷ more) = more
 -- two scripts that are spelled alike are one
 pub same_script : (a b : Contents) → IsScript a → IsScript b → spelled a ≡ spelled b → a ≡ b
 same_script a b is-a is-b e =
+    let version : a.version ≡ b.version = same_version a.version b.version is-a.version is-b.version (ap (λ (t : List (List (List ℕ))). get_or t 0 []) e) in
     let heaps = same_heap a.slots a.fields a.registers b.slots b.fields b.registers is-a.heap is-b.heap (ap (λ (t : List (List (List ℕ))). get_or t 1 []) e) in
     let groups : grouped [] a.commands ≡ grouped [] b.commands =
-    sym (regrouped a.registers a.fields a.commands (small a.slots a.fields a.registers is-a.heap) is-a.commands)
+    sym (regrouped a.version a.registers a.fields a.commands (small a.slots a.fields a.registers is-a.heap) is-a.commands)
     ∙ ap (λ (t : List (List (List ℕ))). regroup (behind_heap t)) e
-    ∙ regrouped b.registers b.fields b.commands (small b.slots b.fields b.registers is-b.heap) is-b.commands in
-    let made : ℕ → ℕ → ℕ → List (List Cmd) → Contents = λ s f r c. record { slots = s; fields = f; registers = r; commands = c } in
-    ap (λ (s : ℕ). made s a.fields a.registers a.commands) heaps.slots
-    ∙ ap (λ (f : ℕ). made b.slots f a.registers a.commands) heaps.fields
-    ∙ ap (λ (r : ℕ). made b.slots b.fields r a.commands) heaps.registers
-    ∙ ap (λ (g : Groups). made b.slots b.fields b.registers g.behind) groups
+    ∙ regrouped b.version b.registers b.fields b.commands (small b.slots b.fields b.registers is-b.heap) is-b.commands in
+    let made : ℕ → ℕ → ℕ → ℕ → List (List Cmd) → Contents = λ v s f r c. record { version = v; slots = s; fields = f; registers = r; commands = c } in
+    ap (λ (v : ℕ). made v a.slots a.fields a.registers a.commands) version
+    ∙ ap (λ (s : ℕ). made b.version s a.fields a.registers a.commands) heaps.slots
+    ∙ ap (λ (f : ℕ). made b.version b.slots f a.registers a.commands) heaps.fields
+    ∙ ap (λ (r : ℕ). made b.version b.slots b.fields r a.commands) heaps.registers
+    ∙ ap (λ (g : Groups). made b.version b.slots b.fields b.registers g.behind) groups

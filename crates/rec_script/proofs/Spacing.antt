@@ -10,7 +10,7 @@ use Rattle.std.proofs.lemmas.Bool.Decides.{nat_tests}
 use Rattle.std.proofs.lemmas.Fmt.{decimal_digit, decimal_nonempty}
 use Rattle.std.proofs.lemmas.List.{get_or-take, length-take-le, take_all, take-append-drop, drop_more}
 use Rattle.rec_model.specs.declared.command.Cmd.{Cmd}
-use Rattle.rec_model.specs.declared.command.Cmd.TheVariants.{New, Null, Copy, Get, Put, Value, Same}
+use Rattle.rec_model.specs.declared.command.Cmd.TheVariants.{New, Leaf, Null, Copy, Get, Put, Value, Same}
 use Rattle.rec_script.specs.Lines.{is_end, is_blank, in_front, cut, without_cr, lines, is_some_word, words, is_counted, spaced}
 use Rattle.rec_script.specs.Script.{IsCommand, IsNumeralOf, command_line}
 use Rattle.rec_script.specs.Drafts.{IsTaken}
@@ -148,6 +148,7 @@ numeral_word n fits = (decimal_nonempty n fits, from (decimal n) (digits_of n fi
 
 pub command_words : (registers fields : ℕ) (cmd : Cmd) → AreSmall registers fields → IsCommand registers fields cmd → AreWords (command_line cmd)
 command_words registers fields (New reg label) h is = ((omega arith, (omega arith, (omega arith, (omega arith, tt)))), (numeral_word reg (omega (arith, h.registers_fit, is.0)), (numeral_word label (omega (arith, is.1)), tt)))
+command_words registers fields (Leaf reg label) h is = ((omega arith, (omega arith, (omega arith, (omega arith, (omega arith, tt))))), (numeral_word reg (omega (arith, h.registers_fit, is.0)), (numeral_word label (omega (arith, is.1)), tt)))
 command_words registers fields (Null reg) h is = ((omega arith, (omega arith, (omega arith, (omega arith, (omega arith, tt))))), (numeral_word reg (omega (arith, h.registers_fit, is)), tt))
 command_words registers fields (Copy dst src) h is = ((omega arith, (omega arith, (omega arith, (omega arith, (omega arith, tt))))), (numeral_word dst (omega (arith, h.registers_fit, is.0)), (numeral_word src (omega (arith, h.registers_fit, is.1)), tt)))
 command_words registers fields (Get dst src field) h is = ((omega arith, (omega arith, (omega arith, (omega arith, tt)))), (numeral_word dst (omega (arith, h.registers_fit, is.0)), (numeral_word src (omega (arith, h.registers_fit, is.1)), (numeral_word field (omega (arith, h.fields_fit, is.2)), tt))))
@@ -158,6 +159,7 @@ command_words registers fields (Same a b) h is = ((omega arith, (omega arith, (o
 -- the line of a command counts
 counts : (cmd : Cmd) → cond (is_counted (command_line cmd)) (command_line cmd ∷ []) [] ≡ command_line cmd ∷ []
 counts (New reg label) = refl
+counts (Leaf reg label) = refl
 counts (Null reg) = refl
 counts (Copy dst src) = refl
 counts (Get dst src field) = refl

@@ -7,13 +7,13 @@ use Rattle.std.specs.Str.{IsUtf8}
 use Rattle.std.proofs.lemmas.List.{map-append}
 use Rattle.std.proofs.lemmas.List.Elements.{All-head, All-tail, All-cons, All-append, All-map, filter-append}
 use Rattle.rec_model.specs.declared.command.Cmd.{Cmd}
-use Rattle.rec_model.specs.declared.command.Cmd.TheVariants.{New, Null, Copy, Get, Put, Value, Same}
+use Rattle.rec_model.specs.declared.command.Cmd.TheVariants.{New, Leaf, Null, Copy, Get, Put, Value, Same}
 use Rattle.rec_script.specs.declared.error.Kind.{Kind}
 use Rattle.rec_script.specs.Lines.{words, is_counted, counted, AreUtf8}
-use Rattle.rec_script.specs.Script.{Contents, IsCommand, AreCommands, IsScript, Continues, mutator_line, mutator_lines, command_line, word_of, operands_of, limits_of, last_length, spelled, IsShaped, IsWrong, AreWrong, IsBadCommand, Fits, IsFault}
+use Rattle.rec_script.specs.Script.{Contents, IsCommand, Allows, AreCommands, IsScript, Continues, mutator_line, mutator_lines, command_line, word_of, operands_of, limits_of, last_length, spelled, IsShaped, IsWrong, AreWrong, IsBadCommand, Fits, IsFault}
 use Rattle.rec_script.proofs.Numerals.{same_number}
 use Rattle.rec_script.proofs.Commands.{same_limits}
-use Rattle.rec_script.proofs.Regrouping.{Groups, grouped, command_of, no_mutator_shape, regroup, glue, regroup_mutators, regrouped, glue_length, glue_last, small, same_heap, SameHeap, behind_heap}
+use Rattle.rec_script.proofs.Regrouping.{Groups, grouped, command_of, no_mutator_shape, regroup, glue, regroup_mutators, regrouped, glue_length, glue_last, small, same_version, same_heap, SameHeap, behind_heap}
 
 -- ---- lines that count
 
@@ -32,16 +32,16 @@ all_at P (z ∷ xs) x ys h = all_at P xs x ys (All-tail P z (xs ++ x ∷ ys) h)
 
 -- ---- lines of a script behind its heap
 
--- the line of a mutator, or of a command in range
-abbrev pub IsBodyLine : (registers fields : ℕ) → List (List ℕ) → Type 0
-IsBodyLine registers fields line = (line ≡ mutator_line) ⊎ ((cmd : Cmd) × IsCommand registers fields cmd × (line ≡ command_line cmd))
+-- the line of a mutator, or of a command of the version in range
+abbrev pub IsBodyLine : (version registers fields : ℕ) → List (List ℕ) → Type 0
+IsBodyLine version registers fields line = (line ≡ mutator_line) ⊎ ((cmd : Cmd) × Allows version cmd × IsCommand registers fields cmd × (line ≡ command_line cmd))
 
-pub body_lines : (r f : ℕ) (css : List (List Cmd)) → All (AreCommands r f) css → All (IsBodyLine r f) (flat_map mutator_lines css)
-body_lines r f [] are = λ k d lt. absurd (omega arith)
-body_lines r f (cmds ∷ css) are =
-    All-append (IsBodyLine r f) (mutator_lines cmds) (flat_map mutator_lines css)
-    (All-cons (IsBodyLine r f) mutator_line (map command_line cmds) (inl refl) (All-map (IsBodyLine r f) command_line cmds (λ k d lt. inr (get_or cmds k d, (All-head (AreCommands r f) cmds css are).in_range k d lt, refl))))
-    (body_lines r f css (All-tail (AreCommands r f) cmds css are))
+pub body_lines : (v r f : ℕ) (css : List (List Cmd)) → All (AreCommands v r f) css → All (IsBodyLine v r f) (flat_map mutator_lines css)
+body_lines v r f [] are = λ k d lt. absurd (omega arith)
+body_lines v r f (cmds ∷ css) are =
+    All-append (IsBodyLine v r f) (mutator_lines cmds) (flat_map mutator_lines css)
+    (All-cons (IsBodyLine v r f) mutator_line (map command_line cmds) (inl refl) (All-map (IsBodyLine v r f) command_line cmds (λ k d lt. inr (get_or cmds k d, (All-head (AreCommands v r f) cmds css are).allowed k d lt, (All-head (AreCommands v r f) cmds css are).in_range k d lt, refl))))
+    (body_lines v r f css (All-tail (AreCommands v r f) cmds css are))
 
 -- ---- right operands aren't wrong
 
@@ -65,6 +65,7 @@ none_wrong (limit ∷ limits) (n ∷ ns) kind right (inr behind) = none_wrong li
 -- the operands of a command in range are right
 right_operands : (r f : ℕ) (cmd : Cmd) → r ≤ 64 → f ≤ 16 → IsCommand r f cmd → AreRight (limits_of r f cmd) (operands_of cmd)
 right_operands r f (New reg label) most-r most-f is = ((is.0, omega (arith, is.0)), ((is.1, is.1), tt))
+right_operands r f (Leaf reg label) most-r most-f is = ((is.0, omega (arith, is.0)), ((is.1, is.1), tt))
 right_operands r f (Null reg) most-r most-f is = ((is, omega (arith, is)), tt)
 right_operands r f (Copy dst src) most-r most-f is = ((is.0, omega (arith, is.0)), ((is.1, omega (arith, is.1)), tt))
 right_operands r f (Get dst src field) most-r most-f is = ((is.0, omega (arith, is.0)), ((is.1, omega (arith, is.1)), ((is.2, omega (arith, is.2)), tt)))
@@ -76,6 +77,7 @@ right_operands r f (Same a b) most-r most-f is = ((is.0, omega (arith, is.0)), (
 
 -- what a script says where another one is spelled in front of a line
 record Behind (mine : Contents) (line : List (List ℕ)) (rest : List (List (List ℕ))) (other : Contents) : Type 0 where
+  version : mine.version ≡ other.version
   heaps : SameHeap mine.slots mine.fields mine.registers other.slots other.fields other.registers
   body : flat_map mutator_lines mine.commands ++ line ∷ rest ≡ flat_map mutator_lines other.commands
   groups : glue mine.commands (regroup (line ∷ rest)) ≡ grouped [] other.commands
@@ -84,20 +86,22 @@ behind : (mine : Contents) (line : List (List ℕ)) (rest : List (List (List ℕ
 behind mine line rest other is-mine is-other e =
     let body : flat_map mutator_lines mine.commands ++ line ∷ rest ≡ flat_map mutator_lines other.commands = ap behind_heap e in
     record {
+      version = same_version mine.version other.version is-mine.version is-other.version (ap (λ (t : List (List (List ℕ))). get_or t 0 []) e);
       heaps = same_heap mine.slots mine.fields mine.registers other.slots other.fields other.registers is-mine.heap is-other.heap (ap (λ (t : List (List (List ℕ))). get_or t 1 []) e);
       body = body;
       groups =
-          sym (regroup_mutators mine.registers mine.fields mine.commands (line ∷ rest) (small mine.slots mine.fields mine.registers is-mine.heap) is-mine.commands)
+          sym (regroup_mutators mine.version mine.registers mine.fields mine.commands (line ∷ rest) (small mine.slots mine.fields mine.registers is-mine.heap) is-mine.commands)
           ∙ ap regroup body
-          ∙ regrouped other.registers other.fields other.commands (small other.slots other.fields other.registers is-other.heap) is-other.commands;
+          ∙ regrouped other.version other.registers other.fields other.commands (small other.slots other.fields other.registers is-other.heap) is-other.commands;
     }
 
 -- the line behind a script is of its continuation's body
-body_line : (mine : Contents) (line : List (List ℕ)) (rest : List (List (List ℕ))) (other : Contents) → IsScript other → Behind mine line rest other → IsBodyLine mine.registers mine.fields line
+body_line : (mine : Contents) (line : List (List ℕ)) (rest : List (List (List ℕ))) (other : Contents) → IsScript other → Behind mine line rest other → IsBodyLine mine.version mine.registers mine.fields line
 body_line mine line rest other is-other b =
-    let all = body_lines other.registers other.fields other.commands is-other.commands in
-    let here : IsBodyLine other.registers other.fields line = all_at (IsBodyLine other.registers other.fields) (flat_map mutator_lines mine.commands) line rest (subst (λ (t : List (List (List ℕ))). All (IsBodyLine other.registers other.fields) t) (sym b.body) all) in
-    subst (λ (r : ℕ). IsBodyLine r mine.fields line) (sym b.heaps.registers) (subst (λ (f : ℕ). IsBodyLine other.registers f line) (sym b.heaps.fields) here)
+    let all = body_lines other.version other.registers other.fields other.commands is-other.commands in
+    let here : IsBodyLine other.version other.registers other.fields line = all_at (IsBodyLine other.version other.registers other.fields) (flat_map mutator_lines mine.commands) line rest (subst (λ (t : List (List (List ℕ))). All (IsBodyLine other.version other.registers other.fields) t) (sym b.body) all) in
+    subst (λ (v : ℕ). IsBodyLine v mine.registers mine.fields line) (sym b.version)
+    (subst (λ (r : ℕ). IsBodyLine other.version r mine.fields line) (sym b.heaps.registers) (subst (λ (f : ℕ). IsBodyLine other.version other.registers f line) (sym b.heaps.fields) here))
 
 no_ninth : (mine : Contents) (line : List (List ℕ)) (rest : List (List (List ℕ))) (other : Contents) → IsScript other → Behind mine line rest other → line ≡ mutator_line → length mine.commands ≡ 8 → ⊥
 no_ninth mine line rest other is-other b is full =
@@ -121,15 +125,15 @@ no_bad_operand mine line cmd kind is-mine shape wrong other is e =
     (subst (λ (t : List (List ℕ)). AreWrong (limits_of mine.registers mine.fields other) (drop 1 t) kind) e
     (subst (λ (ls : List (ℕ × Kind)). AreWrong ls (drop 1 line) kind) (same_limits mine.registers mine.fields cmd other same) wrong))
 
-no_bad_command : (mine : Contents) (line : List (List ℕ)) (rest : List (List (List ℕ))) (other : Contents) (kind : Kind) → IsScript mine → IsScript other → Behind mine line rest other → line ≢ mutator_line → IsBadCommand mine.registers mine.fields (last_length mine.commands) line kind → ⊥
+no_bad_command : (mine : Contents) (line : List (List ℕ)) (rest : List (List (List ℕ))) (other : Contents) (kind : Kind) → IsScript mine → IsScript other → Behind mine line rest other → line ≢ mutator_line → IsBadCommand mine.version mine.registers mine.fields (last_length mine.commands) line kind → ⊥
 no_bad_command mine line rest other _ is-mine is-other b no-mutator (IsBadCommand.unknown none) = elim (body_line mine line rest other is-other b) [
   | inl is ↦ no-mutator is
-  | inr is ↦ none is.0 (ap (λ (t : List (List ℕ)). get_or t 0 []) is.2, ap length is.2)
+  | inr is ↦ none is.0 is.1 (ap (λ (t : List (List ℕ)). get_or t 0 []) is.3, ap length is.3)
 ]
-no_bad_command mine line rest other _ is-mine is-other b no-mutator (IsBadCommand.too_many cmd shape full) = no_more_commands mine line rest other cmd is-mine is-other b shape full
-no_bad_command mine line rest other kind is-mine is-other b no-mutator (IsBadCommand.operand cmd _ shape room wrong) = elim (body_line mine line rest other is-other b) [
+no_bad_command mine line rest other _ is-mine is-other b no-mutator (IsBadCommand.too_many cmd allowed shape full) = no_more_commands mine line rest other cmd is-mine is-other b shape full
+no_bad_command mine line rest other kind is-mine is-other b no-mutator (IsBadCommand.operand cmd _ allowed shape room wrong) = elim (body_line mine line rest other is-other b) [
   | inl is ↦ no-mutator is
-  | inr is ↦ no_bad_operand mine line cmd kind is-mine shape wrong is.0 is.1 is.2
+  | inr is ↦ no_bad_operand mine line cmd kind is-mine shape wrong is.0 is.2 is.3
 ]
 
 first_mutator : (line : List (List ℕ)) (rest : List (List (List ℕ))) (css : List (List Cmd)) → 1 ≤ length css → line ∷ rest ≡ flat_map mutator_lines css → line ≡ mutator_line
@@ -138,10 +142,10 @@ first_mutator line rest (cmds ∷ css) some e = ap (λ (t : List (List (List ℕ
 
 -- no script is spelled with a line that is wrong
 pub nothing_fits : (before : List (List (List ℕ))) (line : List (List ℕ)) (rest : List (List (List ℕ))) (kind : Kind) (other : Contents) → IsScript other → before ++ line ∷ rest ≡ spelled other → Fits before line kind → ⊥
-nothing_fits before line rest _ other is-other e (Fits.no_header none wrong) = wrong (ap (λ (t : List (List (List ℕ))). get_or t 0 []) (sym (ap (λ (b : List (List (List ℕ))). b ++ line ∷ rest) none) ∙ e))
-nothing_fits before line rest _ other is-other e (Fits.bad_heap one wrong) =
+nothing_fits before line rest _ other is-other e (Fits.no_header none wrong) = wrong other.version is-other.version (ap (λ (t : List (List (List ℕ))). get_or t 0 []) (sym (ap (λ (b : List (List (List ℕ))). b ++ line ∷ rest) none) ∙ e))
+nothing_fits before line rest _ other is-other e (Fits.bad_heap v is-version one wrong) =
     wrong other.slots other.fields other.registers is-other.heap (ap (λ (t : List (List (List ℕ))). get_or t 1 []) (sym (ap (λ (b : List (List (List ℕ))). b ++ line ∷ rest) one) ∙ e))
-nothing_fits before line rest _ other is-other e (Fits.no_mutator s f r heap two wrong) =
+nothing_fits before line rest _ other is-other e (Fits.no_mutator v s f r is-version heap two wrong) =
     wrong (first_mutator line rest other.commands is-other.some_mutators (ap behind_heap (sym (ap (λ (b : List (List (List ℕ))). b ++ line ∷ rest) two) ∙ e)))
 nothing_fits before line rest _ other is-other e (Fits.too_many_mutators mine is-mine spelt is full) =
     no_ninth mine line rest other is-other (behind mine line rest other is-mine is-other (sym (ap (λ (b : List (List (List ℕ))). b ++ line ∷ rest) spelt) ∙ e)) is full

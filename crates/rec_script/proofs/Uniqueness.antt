@@ -34,16 +34,16 @@ are_wrong_once (limit ∷ limits) (word ∷ operands) a b (inr x) (inr y) = are_
 
 -- ---- commands
 
-bad_command_once : (r f count : ℕ) (line : List (List ℕ)) (a b : Kind) → IsBadCommand r f count line a → IsBadCommand r f count line b → a ≡ b
-bad_command_once r f count line _ _ (IsBadCommand.unknown none) (IsBadCommand.unknown none') = refl
-bad_command_once r f count line _ _ (IsBadCommand.unknown none) (IsBadCommand.too_many cmd shape full) = absurd (none cmd shape)
-bad_command_once r f count line _ b (IsBadCommand.unknown none) (IsBadCommand.operand cmd _ shape room wrong) = absurd (none cmd shape)
-bad_command_once r f count line _ _ (IsBadCommand.too_many cmd shape full) (IsBadCommand.unknown none) = absurd (none cmd shape)
-bad_command_once r f count line _ _ (IsBadCommand.too_many cmd shape full) (IsBadCommand.too_many cmd' shape' full') = refl
-bad_command_once r f count line _ b (IsBadCommand.too_many cmd shape full) (IsBadCommand.operand cmd' _ shape' room wrong) = absurd (omega arith)
-bad_command_once r f count line a _ (IsBadCommand.operand cmd _ shape room wrong) (IsBadCommand.unknown none) = absurd (none cmd shape)
-bad_command_once r f count line a _ (IsBadCommand.operand cmd _ shape room wrong) (IsBadCommand.too_many cmd' shape' full) = absurd (omega arith)
-bad_command_once r f count line a b (IsBadCommand.operand cmd _ shape room wrong) (IsBadCommand.operand cmd' _ shape' room' wrong') =
+bad_command_once : (v r f count : ℕ) (line : List (List ℕ)) (a b : Kind) → IsBadCommand v r f count line a → IsBadCommand v r f count line b → a ≡ b
+bad_command_once v r f count line _ _ (IsBadCommand.unknown none) (IsBadCommand.unknown none') = refl
+bad_command_once v r f count line _ _ (IsBadCommand.unknown none) (IsBadCommand.too_many cmd its shape full) = absurd (none cmd its shape)
+bad_command_once v r f count line _ b (IsBadCommand.unknown none) (IsBadCommand.operand cmd _ its shape room wrong) = absurd (none cmd its shape)
+bad_command_once v r f count line _ _ (IsBadCommand.too_many cmd its shape full) (IsBadCommand.unknown none) = absurd (none cmd its shape)
+bad_command_once v r f count line _ _ (IsBadCommand.too_many cmd its shape full) (IsBadCommand.too_many cmd' its' shape' full') = refl
+bad_command_once v r f count line _ b (IsBadCommand.too_many cmd its shape full) (IsBadCommand.operand cmd' _ its' shape' room wrong) = absurd (omega arith)
+bad_command_once v r f count line a _ (IsBadCommand.operand cmd _ its shape room wrong) (IsBadCommand.unknown none) = absurd (none cmd its shape)
+bad_command_once v r f count line a _ (IsBadCommand.operand cmd _ its shape room wrong) (IsBadCommand.too_many cmd' its' shape' full) = absurd (omega arith)
+bad_command_once v r f count line a b (IsBadCommand.operand cmd _ its shape room wrong) (IsBadCommand.operand cmd' _ its' shape' room' wrong') =
     are_wrong_once (limits_of r f cmd) (drop 1 line) a b wrong (subst (λ (ls : List (ℕ × Kind)). AreWrong ls (drop 1 line) b) (same_limits r f cmd' cmd (sym shape'.0 ∙ shape.0)) wrong')
 
 -- ---- lines
@@ -61,32 +61,32 @@ lengths before x y a b = ap length (sym a ∙ b)
 
 fits_once : (before : List (List (List ℕ))) (line : List (List ℕ)) (a b : Kind) → Fits before line a → Fits before line b → a ≡ b
 fits_once before line _ _ (Fits.no_header none wrong) (Fits.no_header none' wrong') = refl
-fits_once before line _ _ (Fits.no_header none wrong) (Fits.bad_heap one' wrong') = absurd (omega (arith, lengths before ([]) (header ∷ []) none one'))
-fits_once before line _ _ (Fits.no_header none wrong) (Fits.no_mutator s' f' r' heap' two' wrong') = absurd (omega (arith, lengths before ([]) (header ∷ heap_line s' f' r' ∷ []) none two'))
+fits_once before line _ _ (Fits.no_header none wrong) (Fits.bad_heap v' known' one' wrong') = absurd (omega (arith, lengths before ([]) (header v' ∷ []) none one'))
+fits_once before line _ _ (Fits.no_header none wrong) (Fits.no_mutator v' s' f' r' known' heap' two' wrong') = absurd (omega (arith, lengths before ([]) (header v' ∷ heap_line s' f' r' ∷ []) none two'))
 fits_once before line _ _ (Fits.no_header none wrong) (Fits.too_many_mutators mine' is-mine' spelt' is' full') = absurd (omega (arith, lengths before ([]) (spelled mine') none spelt', three mine' is-mine'))
 fits_once before line _ b (Fits.no_header none wrong) (Fits.bad_command mine' _ is-mine' spelt' no-mutator' bad') = absurd (omega (arith, lengths before ([]) (spelled mine') none spelt', three mine' is-mine'))
-fits_once before line _ _ (Fits.bad_heap one wrong) (Fits.no_header none' wrong') = absurd (omega (arith, lengths before (header ∷ []) ([]) one none'))
-fits_once before line _ _ (Fits.bad_heap one wrong) (Fits.bad_heap one' wrong') = refl
-fits_once before line _ _ (Fits.bad_heap one wrong) (Fits.no_mutator s' f' r' heap' two' wrong') = absurd (omega (arith, lengths before (header ∷ []) (header ∷ heap_line s' f' r' ∷ []) one two'))
-fits_once before line _ _ (Fits.bad_heap one wrong) (Fits.too_many_mutators mine' is-mine' spelt' is' full') = absurd (omega (arith, lengths before (header ∷ []) (spelled mine') one spelt', three mine' is-mine'))
-fits_once before line _ b (Fits.bad_heap one wrong) (Fits.bad_command mine' _ is-mine' spelt' no-mutator' bad') = absurd (omega (arith, lengths before (header ∷ []) (spelled mine') one spelt', three mine' is-mine'))
-fits_once before line _ _ (Fits.no_mutator s f r heap two wrong) (Fits.no_header none' wrong') = absurd (omega (arith, lengths before (header ∷ heap_line s f r ∷ []) ([]) two none'))
-fits_once before line _ _ (Fits.no_mutator s f r heap two wrong) (Fits.bad_heap one' wrong') = absurd (omega (arith, lengths before (header ∷ heap_line s f r ∷ []) (header ∷ []) two one'))
-fits_once before line _ _ (Fits.no_mutator s f r heap two wrong) (Fits.no_mutator s' f' r' heap' two' wrong') = refl
-fits_once before line _ _ (Fits.no_mutator s f r heap two wrong) (Fits.too_many_mutators mine' is-mine' spelt' is' full') = absurd (omega (arith, lengths before (header ∷ heap_line s f r ∷ []) (spelled mine') two spelt', three mine' is-mine'))
-fits_once before line _ b (Fits.no_mutator s f r heap two wrong) (Fits.bad_command mine' _ is-mine' spelt' no-mutator' bad') = absurd (omega (arith, lengths before (header ∷ heap_line s f r ∷ []) (spelled mine') two spelt', three mine' is-mine'))
+fits_once before line _ _ (Fits.bad_heap v known one wrong) (Fits.no_header none' wrong') = absurd (omega (arith, lengths before (header v ∷ []) ([]) one none'))
+fits_once before line _ _ (Fits.bad_heap v known one wrong) (Fits.bad_heap v' known' one' wrong') = refl
+fits_once before line _ _ (Fits.bad_heap v known one wrong) (Fits.no_mutator v' s' f' r' known' heap' two' wrong') = absurd (omega (arith, lengths before (header v ∷ []) (header v' ∷ heap_line s' f' r' ∷ []) one two'))
+fits_once before line _ _ (Fits.bad_heap v known one wrong) (Fits.too_many_mutators mine' is-mine' spelt' is' full') = absurd (omega (arith, lengths before (header v ∷ []) (spelled mine') one spelt', three mine' is-mine'))
+fits_once before line _ b (Fits.bad_heap v known one wrong) (Fits.bad_command mine' _ is-mine' spelt' no-mutator' bad') = absurd (omega (arith, lengths before (header v ∷ []) (spelled mine') one spelt', three mine' is-mine'))
+fits_once before line _ _ (Fits.no_mutator v s f r known heap two wrong) (Fits.no_header none' wrong') = absurd (omega (arith, lengths before (header v ∷ heap_line s f r ∷ []) ([]) two none'))
+fits_once before line _ _ (Fits.no_mutator v s f r known heap two wrong) (Fits.bad_heap v' known' one' wrong') = absurd (omega (arith, lengths before (header v ∷ heap_line s f r ∷ []) (header v' ∷ []) two one'))
+fits_once before line _ _ (Fits.no_mutator v s f r known heap two wrong) (Fits.no_mutator v' s' f' r' known' heap' two' wrong') = refl
+fits_once before line _ _ (Fits.no_mutator v s f r known heap two wrong) (Fits.too_many_mutators mine' is-mine' spelt' is' full') = absurd (omega (arith, lengths before (header v ∷ heap_line s f r ∷ []) (spelled mine') two spelt', three mine' is-mine'))
+fits_once before line _ b (Fits.no_mutator v s f r known heap two wrong) (Fits.bad_command mine' _ is-mine' spelt' no-mutator' bad') = absurd (omega (arith, lengths before (header v ∷ heap_line s f r ∷ []) (spelled mine') two spelt', three mine' is-mine'))
 fits_once before line _ _ (Fits.too_many_mutators mine is-mine spelt is full) (Fits.no_header none' wrong') = absurd (omega (arith, lengths before (spelled mine) ([]) spelt none', three mine is-mine))
-fits_once before line _ _ (Fits.too_many_mutators mine is-mine spelt is full) (Fits.bad_heap one' wrong') = absurd (omega (arith, lengths before (spelled mine) (header ∷ []) spelt one', three mine is-mine))
-fits_once before line _ _ (Fits.too_many_mutators mine is-mine spelt is full) (Fits.no_mutator s' f' r' heap' two' wrong') = absurd (omega (arith, lengths before (spelled mine) (header ∷ heap_line s' f' r' ∷ []) spelt two', three mine is-mine))
+fits_once before line _ _ (Fits.too_many_mutators mine is-mine spelt is full) (Fits.bad_heap v' known' one' wrong') = absurd (omega (arith, lengths before (spelled mine) (header v' ∷ []) spelt one', three mine is-mine))
+fits_once before line _ _ (Fits.too_many_mutators mine is-mine spelt is full) (Fits.no_mutator v' s' f' r' known' heap' two' wrong') = absurd (omega (arith, lengths before (spelled mine) (header v' ∷ heap_line s' f' r' ∷ []) spelt two', three mine is-mine))
 fits_once before line _ _ (Fits.too_many_mutators mine is-mine spelt is full) (Fits.too_many_mutators mine' is-mine' spelt' is' full') = refl
 fits_once before line _ b (Fits.too_many_mutators mine is-mine spelt is full) (Fits.bad_command mine' _ is-mine' spelt' no-mutator' bad') = absurd (no-mutator' is)
 fits_once before line a _ (Fits.bad_command mine _ is-mine spelt no-mutator bad) (Fits.no_header none' wrong') = absurd (omega (arith, lengths before (spelled mine) ([]) spelt none', three mine is-mine))
-fits_once before line a _ (Fits.bad_command mine _ is-mine spelt no-mutator bad) (Fits.bad_heap one' wrong') = absurd (omega (arith, lengths before (spelled mine) (header ∷ []) spelt one', three mine is-mine))
-fits_once before line a _ (Fits.bad_command mine _ is-mine spelt no-mutator bad) (Fits.no_mutator s' f' r' heap' two' wrong') = absurd (omega (arith, lengths before (spelled mine) (header ∷ heap_line s' f' r' ∷ []) spelt two', three mine is-mine))
+fits_once before line a _ (Fits.bad_command mine _ is-mine spelt no-mutator bad) (Fits.bad_heap v' known' one' wrong') = absurd (omega (arith, lengths before (spelled mine) (header v' ∷ []) spelt one', three mine is-mine))
+fits_once before line a _ (Fits.bad_command mine _ is-mine spelt no-mutator bad) (Fits.no_mutator v' s' f' r' known' heap' two' wrong') = absurd (omega (arith, lengths before (spelled mine) (header v' ∷ heap_line s' f' r' ∷ []) spelt two', three mine is-mine))
 fits_once before line a _ (Fits.bad_command mine _ is-mine spelt no-mutator bad) (Fits.too_many_mutators mine' is-mine' spelt' is' full') = absurd (no-mutator is')
 fits_once before line a b (Fits.bad_command mine _ is-mine spelt no-mutator bad) (Fits.bad_command mine' _ is-mine' spelt' no-mutator' bad') =
     let same : mine' ≡ mine = same_script mine' mine is-mine' is-mine (sym spelt' ∙ spelt) in
-    bad_command_once mine.registers mine.fields (last_length mine.commands) line a b bad (subst (λ (c : Contents). IsBadCommand c.registers c.fields (last_length c.commands) line b) same bad')
+    bad_command_once mine.version mine.registers mine.fields (last_length mine.commands) line a b bad (subst (λ (c : Contents). IsBadCommand c.version c.registers c.fields (last_length c.commands) line b) same bad')
 
 fault_once : (before : List (List (List ℕ))) (line : List ℕ) (a b : Kind) → IsFault before line a → IsFault before line b → a ≡ b
 fault_once before line _ _ (IsFault.not_utf8 none) (IsFault.not_utf8 none') = refl
@@ -96,14 +96,14 @@ fault_once before line a b (IsFault.bad_words _ utf8 counts fits) (IsFault.bad_w
 
 need_once : (before : List (List (List ℕ))) (a b : Kind) → IsNeed before a → IsNeed before b → a ≡ b
 need_once before _ _ (IsNeed.of_header none) (IsNeed.of_header none') = refl
-need_once before _ _ (IsNeed.of_header none) (IsNeed.of_heap one') = absurd (omega (arith, lengths before ([]) (header ∷ []) none one'))
-need_once before _ _ (IsNeed.of_header none) (IsNeed.of_mutator s' f' r' heap' two') = absurd (omega (arith, lengths before ([]) (header ∷ heap_line s' f' r' ∷ []) none two'))
-need_once before _ _ (IsNeed.of_heap one) (IsNeed.of_header none') = absurd (omega (arith, lengths before (header ∷ []) ([]) one none'))
-need_once before _ _ (IsNeed.of_heap one) (IsNeed.of_heap one') = refl
-need_once before _ _ (IsNeed.of_heap one) (IsNeed.of_mutator s' f' r' heap' two') = absurd (omega (arith, lengths before (header ∷ []) (header ∷ heap_line s' f' r' ∷ []) one two'))
-need_once before _ _ (IsNeed.of_mutator s f r heap two) (IsNeed.of_header none') = absurd (omega (arith, lengths before (header ∷ heap_line s f r ∷ []) ([]) two none'))
-need_once before _ _ (IsNeed.of_mutator s f r heap two) (IsNeed.of_heap one') = absurd (omega (arith, lengths before (header ∷ heap_line s f r ∷ []) (header ∷ []) two one'))
-need_once before _ _ (IsNeed.of_mutator s f r heap two) (IsNeed.of_mutator s' f' r' heap' two') = refl
+need_once before _ _ (IsNeed.of_header none) (IsNeed.of_heap v' known' one') = absurd (omega (arith, lengths before ([]) (header v' ∷ []) none one'))
+need_once before _ _ (IsNeed.of_header none) (IsNeed.of_mutator v' s' f' r' known' heap' two') = absurd (omega (arith, lengths before ([]) (header v' ∷ heap_line s' f' r' ∷ []) none two'))
+need_once before _ _ (IsNeed.of_heap v known one) (IsNeed.of_header none') = absurd (omega (arith, lengths before (header v ∷ []) ([]) one none'))
+need_once before _ _ (IsNeed.of_heap v known one) (IsNeed.of_heap v' known' one') = refl
+need_once before _ _ (IsNeed.of_heap v known one) (IsNeed.of_mutator v' s' f' r' known' heap' two') = absurd (omega (arith, lengths before (header v ∷ []) (header v' ∷ heap_line s' f' r' ∷ []) one two'))
+need_once before _ _ (IsNeed.of_mutator v s f r known heap two) (IsNeed.of_header none') = absurd (omega (arith, lengths before (header v ∷ heap_line s f r ∷ []) ([]) two none'))
+need_once before _ _ (IsNeed.of_mutator v s f r known heap two) (IsNeed.of_heap v' known' one') = absurd (omega (arith, lengths before (header v ∷ heap_line s f r ∷ []) (header v' ∷ []) two one'))
+need_once before _ _ (IsNeed.of_mutator v s f r known heap two) (IsNeed.of_mutator v' s' f' r' known' heap' two') = refl
 
 -- ---- texts
 

@@ -5,10 +5,10 @@ use Rattle.std.specs.List.{flat_map}
 use Rattle.std.specs.Str.{IsUtf8}
 use Rattle.std.proofs.lemmas.List.Elements.{All-cons, All-head, All-tail, All-weaker}
 use Rattle.rec_model.specs.declared.command.Cmd.{Cmd}
-use Rattle.rec_model.specs.declared.command.Cmd.TheVariants.{New, Null, Copy, Get, Put, Value, Same}
+use Rattle.rec_model.specs.declared.command.Cmd.TheVariants.{New, Leaf, Null, Copy, Get, Put, Value, Same}
 use Rattle.rec_script.specs.Lines.{lines, words, is_counted, counted, spaced, AreUtf8}
 use Rattle.rec_script.specs.Made.{text_of}
-use Rattle.rec_script.specs.Script.{Contents, IsHeap, IsScript, Spells, header, heap_line, mutator_line, mutator_lines, command_line, spelled}
+use Rattle.rec_script.specs.Script.{Contents, IsHeap, IsVersion, IsScript, Spells, header, heap_line, mutator_line, mutator_lines, command_line, spelled}
 use Rattle.rec_script.proofs.Plainness.{ArePlain, utf8_of_words, plain_script}
 use Rattle.rec_script.proofs.Regrouping.{AreSmall, small}
 use Rattle.rec_script.proofs.Spacing.{AreWords, joined, as_joined, first_line, words_joined, numeral_word, command_words}
@@ -20,8 +20,8 @@ IsLine line = AreWords line × (is_counted line ≡ true)
 
 -- ---- the lines of a script
 
-header_is : IsLine header
-header_is = (((omega arith, (omega arith, (omega arith, (omega arith, (omega arith, (omega arith, (omega arith, (omega arith, (omega arith, tt))))))))), ((omega arith, (omega arith, tt)), tt)), refl)
+header_is : (version : ℕ) → IsVersion version → IsLine (header version)
+header_is version is = (((omega arith, (omega arith, (omega arith, (omega arith, (omega arith, (omega arith, (omega arith, (omega arith, (omega arith, tt))))))))), (numeral_word version (omega (arith, is.most)), tt)), refl)
 
 heap_is : (s f r : ℕ) → IsHeap s f r → IsLine (heap_line s f r)
 heap_is s f r h =
@@ -32,6 +32,7 @@ mutator_is = (((omega arith, (omega arith, (omega arith, (omega arith, (omega ar
 
 command_counts : (cmd : Cmd) → is_counted (command_line cmd) ≡ true
 command_counts (New reg label) = refl
+command_counts (Leaf reg label) = refl
 command_counts (Null reg) = refl
 command_counts (Copy dst src) = refl
 command_counts (Get dst src field) = refl
@@ -39,15 +40,15 @@ command_counts (Put src field val) = refl
 command_counts (Value reg) = refl
 command_counts (Same a b) = refl
 
-body_is : (registers fields : ℕ) → AreSmall registers fields → (line : List (List ℕ)) → IsBodyLine registers fields line → IsLine line
-body_is registers fields h line (inl e) = subst IsLine (sym e) mutator_is
-body_is registers fields h line (inr is) = subst IsLine (sym is.2) (command_words registers fields is.0 h is.1, command_counts is.0)
+body_is : (version registers fields : ℕ) → AreSmall registers fields → (line : List (List ℕ)) → IsBodyLine version registers fields line → IsLine line
+body_is version registers fields h line (inl e) = subst IsLine (sym e) mutator_is
+body_is version registers fields h line (inr is) = subst IsLine (sym is.3) (command_words registers fields is.0 h is.2, command_counts is.0)
 
 lines_are : (contents : Contents) → IsScript contents → All IsLine (spelled contents)
 lines_are contents script =
-    All-cons IsLine header (heap_line contents.slots contents.fields contents.registers ∷ flat_map mutator_lines contents.commands) header_is
+    All-cons IsLine (header contents.version) (heap_line contents.slots contents.fields contents.registers ∷ flat_map mutator_lines contents.commands) (header_is contents.version script.version)
     (All-cons IsLine (heap_line contents.slots contents.fields contents.registers) (flat_map mutator_lines contents.commands) (heap_is contents.slots contents.fields contents.registers script.heap)
-    (All-weaker (IsBodyLine contents.registers contents.fields) IsLine (body_is contents.registers contents.fields (small contents.slots contents.fields contents.registers script.heap)) (flat_map mutator_lines contents.commands) (body_lines contents.registers contents.fields contents.commands script.commands)))
+    (All-weaker (IsBodyLine contents.version contents.registers contents.fields) IsLine (body_is contents.version contents.registers contents.fields (small contents.slots contents.fields contents.registers script.heap)) (flat_map mutator_lines contents.commands) (body_lines contents.version contents.registers contents.fields contents.commands script.commands)))
 
 -- ---- their text
 

@@ -5,20 +5,20 @@ use Rattle.rec_script.specs.declared.error.Kind.{Kind}
 use Rattle.rec_script.specs.Lines.{lines, counted}
 use Rattle.rec_script.specs.declared.draft.Draft.{Draft}
 use Rattle.rec_script.specs.declared.draft.Draft.TheVariants.{Nothing, Header, Sized, Whole}
-use Rattle.rec_script.specs.Script.{IsFault, IsHeap, IsScript, header, heap_line, spelled}
+use Rattle.rec_script.specs.Script.{IsFault, IsHeap, IsScript, IsVersion, header, heap_line, spelled}
 
 -- the lines that count
 abbrev pub so_far : Draft → List (List (List ℕ))
 so_far Nothing = []
-so_far Header = header ∷ []
-so_far (Sized heap) = header ∷ heap_line heap.slots heap.fields heap.registers ∷ []
+so_far (Header version) = header version ∷ []
+so_far (Sized version heap) = header version ∷ heap_line heap.slots heap.fields heap.registers ∷ []
 so_far (Whole script) = spelled script
 
 -- its numbers are within their limits
 abbrev pub IsDraft : Draft → Type 0
 IsDraft Nothing = Unit {0}
-IsDraft Header = Unit {0}
-IsDraft (Sized heap) = IsHeap heap.slots heap.fields heap.registers
+IsDraft (Header version) = IsVersion version
+IsDraft (Sized version heap) = IsVersion version × IsHeap heap.slots heap.fields heap.registers
 IsDraft (Whole script) = IsScript script
 
 -- the first line of these bytes was taken behind lines of which some counted: its text, what is behind it, and what counts with it

@@ -5,4 +5,4 @@ use Rattle.rec_script.specs.Script.{Contents}
 
 -- the last mutator's commands stand apart, as they grow
 abbrev pub contents : Inside → Contents
-contents s = record { slots = s.slots; fields = s.fields; registers = s.registers; commands = map (λ v. v.items) s.earlier.items ++ s.last.items ∷ [] }
+contents s = record { version = s.version; slots = s.slots; fields = s.fields; registers = s.registers; commands = map (λ v. v.items) s.earlier.items ++ s.last.items ∷ [] }

@@ -69,9 +69,9 @@ commands_from generator count = map (λ i. drawn (after_commands i generator)) (
 unfoldable pub made_commands : (seed mutators commands : ℕ) → List (List Cmd)
 made_commands seed mutators commands = map (λ t. commands_from (after_commands (t * commands) (generator_of seed)) commands) (range_with_len 0 mutators)
 
--- the script with these commands
+-- the script with these commands, of version 1
 abbrev pub made_script : (seed mutators commands : ℕ) → Contents
-made_script seed mutators commands = record { slots = 1024; fields = 2; registers = 8; commands = made_commands seed mutators commands }
+made_script seed mutators commands = record { version = 1; slots = 1024; fields = 2; registers = 8; commands = made_commands seed mutators commands }
 
 -- lines, each with one space between each two words, and an LF behind the last one
 abbrev pub text_of : List (List (List ℕ)) → List ℕ

@@ -5,13 +5,14 @@ use Rattle.std.specs.Fmt.{decimal}
 use Rattle.std.specs.List.{flat_map}
 use Rattle.std.specs.Str.{IsUtf8}
 use Rattle.rec_model.specs.declared.command.Cmd.{Cmd}
-use Rattle.rec_model.specs.declared.command.Cmd.TheVariants.{New, Null, Copy, Get, Put, Value, Same}
+use Rattle.rec_model.specs.declared.command.Cmd.TheVariants.{New, Leaf, Null, Copy, Get, Put, Value, Same}
 use Rattle.rec_script.specs.declared.error.Kind.{Kind}
 use Rattle.rec_script.specs.declared.error.Kind.TheVariants.{TooLong, NotUtf8, NoHeader, BadHeap, NoMutator, BadCommand, TooManyMutators, TooManyCommands, BadNumber, Register, Field}
 use Rattle.rec_script.specs.Lines.{lines, words, is_counted, counted, AreUtf8}
 
--- what a script holds: the numbers of its heap, and the commands of each mutator in turn
+-- what a script holds: its version, the numbers of its heap, and the commands of each mutator in turn
 pub record Contents : Type 0 where
+  pub version : ℕ
   pub slots : ℕ
   pub fields : ℕ
   pub registers : ℕ
@@ -20,12 +21,33 @@ pub record Contents : Type 0 where
 -- the operands of a command are in range
 abbrev pub IsCommand : (registers fields : ℕ) → Cmd → Type 0
 IsCommand registers fields (New reg label) = (reg < registers) × (label < 2 ^ 32)
+IsCommand registers fields (Leaf reg label) = (reg < registers) × (label < 2 ^ 32)
 IsCommand registers fields (Null reg) = reg < registers
 IsCommand registers fields (Copy dst src) = (dst < registers) × (src < registers)
 IsCommand registers fields (Get dst src field) = (dst < registers) × (src < registers) × (field < fields)
 IsCommand registers fields (Put src field val) = (src < registers) × (field < fields) × (val < registers)
 IsCommand registers fields (Value reg) = reg < registers
 IsCommand registers fields (Same a b) = (a < registers) × (b < registers)
+
+-- the version that a command came with
+abbrev pub since : Cmd → ℕ
+since (New reg label) = 1
+since (Leaf reg label) = 2
+since (Null reg) = 1
+since (Copy dst src) = 1
+since (Get dst src field) = 1
+since (Put src field val) = 1
+since (Value reg) = 1
+since (Same a b) = 1
+
+-- a version has this command
+abbrev pub Allows : (version : ℕ) → Cmd → Type 0
+Allows version cmd = since cmd ≤ version
+
+-- the versions that there are
+pub record IsVersion (version : ℕ) : Type 0 where
+  pub some : 1 ≤ version
+  pub most : version ≤ 2
 
 -- the limits of a heap
 pub record IsHeap (slots fields registers : ℕ) : Type 0 where
@@ -37,20 +59,22 @@ pub record IsHeap (slots fields registers : ℕ) : Type 0 where
   pub most_registers : registers ≤ 64
 
 -- the limits of one mutator's commands
-pub record AreCommands (registers fields : ℕ) (cmds : List Cmd) : Type 0 where
+pub record AreCommands (version registers fields : ℕ) (cmds : List Cmd) : Type 0 where
   pub few : length cmds ≤ 200000
+  pub allowed : All (Allows version) cmds
   pub in_range : All (IsCommand registers fields) cmds
 
 -- the limits of a script
 pub record IsScript (contents : Contents) : Type 0 where
+  pub version : IsVersion contents.version
   pub heap : IsHeap contents.slots contents.fields contents.registers
   pub some_mutators : 1 ≤ length contents.commands
   pub most_mutators : length contents.commands ≤ 8
-  pub commands : All (AreCommands contents.registers contents.fields) contents.commands
+  pub commands : All (AreCommands contents.version contents.registers contents.fields) contents.commands
 
 -- the first line that counts
-abbrev pub header : List (List ℕ)
-header = codes "recycler" ∷ codes "1" ∷ []
+abbrev pub header : (version : ℕ) → List (List ℕ)
+header version = codes "recycler" ∷ decimal version ∷ []
 
 -- the second line that counts
 abbrev pub heap_line : (slots fields registers : ℕ) → List (List ℕ)
@@ -63,6 +87,7 @@ mutator_line = codes "mutator" ∷ []
 -- the first word of a command's line
 abbrev pub word_of : Cmd → List ℕ
 word_of (New reg label) = codes "new"
+word_of (Leaf reg label) = codes "leaf"
 word_of (Null reg) = codes "null"
 word_of (Copy dst src) = codes "copy"
 word_of (Get dst src field) = codes "get"
@@ -73,6 +98,7 @@ word_of (Same a b) = codes "same"
 -- the numbers behind it, from left to right
 abbrev pub operands_of : Cmd → List ℕ
 operands_of (New reg label) = reg ∷ label ∷ []
+operands_of (Leaf reg label) = reg ∷ label ∷ []
 operands_of (Null reg) = reg ∷ []
 operands_of (Copy dst src) = dst ∷ src ∷ []
 operands_of (Get dst src field) = dst ∷ src ∷ field ∷ []
@@ -90,7 +116,7 @@ mutator_lines cmds = mutator_line ∷ map command_line cmds
 
 -- the lines that count of a script, each as its words
 abbrev pub spelled : Contents → List (List (List ℕ))
-spelled contents = header ∷ heap_line contents.slots contents.fields contents.registers ∷ flat_map mutator_lines contents.commands
+spelled contents = header contents.version ∷ heap_line contents.slots contents.fields contents.registers ∷ flat_map mutator_lines contents.commands
 
 -- these lines spell this script
 pub record Spells (text : List (List ℕ)) (contents : Contents) : Type 0 where
@@ -113,6 +139,7 @@ IsShaped line cmd = (get_or line 0 [] ≡ get_or (command_line cmd) 0 []) × (le
 -- for each operand of a command, what it has to be below, and what is wrong where it isn't; there is no larger label
 abbrev pub limits_of : (registers fields : ℕ) → Cmd → List (ℕ × Kind)
 limits_of registers fields (New reg label) = (registers, Register) ∷ (2 ^ 32, BadNumber) ∷ []
+limits_of registers fields (Leaf reg label) = (registers, Register) ∷ (2 ^ 32, BadNumber) ∷ []
 limits_of registers fields (Null reg) = (registers, Register) ∷ []
 limits_of registers fields (Copy dst src) = (registers, Register) ∷ (registers, Register) ∷ []
 limits_of registers fields (Get dst src field) = (registers, Register) ∷ (registers, Register) ∷ (fields, Field) ∷ []
@@ -144,19 +171,19 @@ last_length [] = 0
 last_length (cmds ∷ []) = length cmds
 last_length (cmds ∷ more ∷ later) = last_length (more ∷ later)
 
--- what is wrong with a line behind so many commands of its mutator: it is no command's; else it is one too many; else an operand is wrong
-pub data IsBadCommand (registers fields count : ℕ) (line : List (List ℕ)) : Kind → Type 0 where
-  unknown : ((cmd : Cmd) → ¬ IsShaped line cmd) → IsBadCommand registers fields count line BadCommand
-  too_many : (cmd : Cmd) → IsShaped line cmd → count ≡ 200000 → IsBadCommand registers fields count line TooManyCommands
-  operand : (cmd : Cmd) (kind : Kind) → IsShaped line cmd → count < 200000 → AreWrong (limits_of registers fields cmd) (drop 1 line) kind → IsBadCommand registers fields count line kind
+-- what is wrong with a line behind so many commands of its mutator: it is of no command that the version has; else it is one too many; else an operand is wrong
+pub data IsBadCommand (version registers fields count : ℕ) (line : List (List ℕ)) : Kind → Type 0 where
+  unknown : ((cmd : Cmd) → Allows version cmd → ¬ IsShaped line cmd) → IsBadCommand version registers fields count line BadCommand
+  too_many : (cmd : Cmd) → Allows version cmd → IsShaped line cmd → count ≡ 200000 → IsBadCommand version registers fields count line TooManyCommands
+  operand : (cmd : Cmd) (kind : Kind) → Allows version cmd → IsShaped line cmd → count < 200000 → AreWrong (limits_of registers fields cmd) (drop 1 line) kind → IsBadCommand version registers fields count line kind
 
 -- what is wrong with the words of a line behind such lines; which place it is in, the lines before it tell
 pub data Fits (before : List (List (List ℕ))) (line : List (List ℕ)) : Kind → Type 0 where
-  no_header : before ≡ [] → line ≢ header → Fits before line NoHeader
-  bad_heap : before ≡ header ∷ [] → ((slots fields registers : ℕ) → IsHeap slots fields registers → line ≢ heap_line slots fields registers) → Fits before line BadHeap
-  no_mutator : (slots fields registers : ℕ) → IsHeap slots fields registers → before ≡ header ∷ heap_line slots fields registers ∷ [] → line ≢ mutator_line → Fits before line NoMutator
+  no_header : before ≡ [] → ((version : ℕ) → IsVersion version → line ≢ header version) → Fits before line NoHeader
+  bad_heap : (version : ℕ) → IsVersion version → before ≡ header version ∷ [] → ((slots fields registers : ℕ) → IsHeap slots fields registers → line ≢ heap_line slots fields registers) → Fits before line BadHeap
+  no_mutator : (version slots fields registers : ℕ) → IsVersion version → IsHeap slots fields registers → before ≡ header version ∷ heap_line slots fields registers ∷ [] → line ≢ mutator_line → Fits before line NoMutator
   too_many_mutators : (contents : Contents) → IsScript contents → before ≡ spelled contents → line ≡ mutator_line → length contents.commands ≡ 8 → Fits before line TooManyMutators
-  bad_command : (contents : Contents) (kind : Kind) → IsScript contents → before ≡ spelled contents → line ≢ mutator_line → IsBadCommand contents.registers contents.fields (last_length contents.commands) line kind → Fits before line kind
+  bad_command : (contents : Contents) (kind : Kind) → IsScript contents → before ≡ spelled contents → line ≢ mutator_line → IsBadCommand contents.version contents.registers contents.fields (last_length contents.commands) line kind → Fits before line kind
 
 -- what is wrong with a line behind lines of which these count: it isn't UTF-8; else it counts, and its words are wrong
 pub data IsFault (before : List (List (List ℕ))) (line : List ℕ) : Kind → Type 0 where
@@ -173,8 +200,8 @@ pub record StopsAt (text : List (List ℕ)) (n : ℕ) (kind : Kind) : Type 0 whe
 -- the need that stands open behind lines that some further lines make a script's text of
 pub data IsNeed (before : List (List (List ℕ))) : Kind → Type 0 where
   of_header : before ≡ [] → IsNeed before NoHeader
-  of_heap : before ≡ header ∷ [] → IsNeed before BadHeap
-  of_mutator : (slots fields registers : ℕ) → IsHeap slots fields registers → before ≡ header ∷ heap_line slots fields registers ∷ [] → IsNeed before NoMutator
+  of_heap : (version : ℕ) → IsVersion version → before ≡ header version ∷ [] → IsNeed before BadHeap
+  of_mutator : (version slots fields registers : ℕ) → IsVersion version → IsHeap slots fields registers → before ≡ header version ∷ heap_line slots fields registers ∷ [] → IsNeed before NoMutator
 
 -- all lines together are continued by some script, and spell none
 pub record StaysOpen (text : List (List ℕ)) (kind : Kind) : Type 0 where

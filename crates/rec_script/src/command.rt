@@ -5,7 +5,7 @@ ghost use Rattle.std.specs.Fmt.{decimal};
 ghost use Rattle.rec_model.specs.declared.command.Cmd.{Cmd};
 ghost use Rattle.rec_script.specs.Lines.{words};
 ghost use Rattle.rec_script.specs.Operands.{AreMisread};
-ghost use Rattle.rec_script.specs.Script.{IsCommand, IsBadCommand, command_line, limits_of, operands_of, word_of};
+ghost use Rattle.rec_script.specs.Script.{Allows, IsCommand, IsBadCommand, IsVersion, command_line, limits_of, operands_of, word_of};
 
 use crate::error::Kind;
 use crate::operand::{Limit, is_name, one_operand, three_operands, two_operands};
@@ -17,13 +17,17 @@ const LABEL: Limit = Limit {
     past: Kind::BadNumber,
 };
 
-/// The command that a line with this first word spells, with zeros for its operands.
-fn named(word: &[u8]) -> Option<Cmd>
-    ensures none { IfNone result ((cmd : Cmd) → word.now ≢ word_of cmd) }
+/// The command of this version that a line with this first word spells, with zeros for its operands.
+fn named(version: u32, word: &[u8]) -> Option<Cmd>
+    requires { IsVersion version }
+    ensures none { IfNone result ((cmd : Cmd) → Allows version cmd → word.now ≢ word_of cmd) }
     ensures some { IfSome result (λ cmd. word.now ≡ word_of cmd) }
+    ensures allowed { IfSome result (λ cmd. Allows version cmd) }
 {
     if is_name(word, b"new") {
         Some(Cmd::New { reg: 0, label: 0 })
+    } else if version >= 2 && is_name(word, b"leaf") {
+        Some(Cmd::Leaf { reg: 0, label: 0 })
     } else if is_name(word, b"null") {
         Some(Cmd::Null { reg: 0 })
     } else if is_name(word, b"copy") {
@@ -83,6 +87,13 @@ fn with_operands(
                 label,
             }
         }
+        Cmd::Leaf { .. } => {
+            let (reg, label) = two_operands(count, register, LABEL, rest)?;
+            Cmd::Leaf {
+                reg: reg as u8,
+                label,
+            }
+        }
         Cmd::Null { .. } => {
             let reg = one_operand(count, register, rest)?;
             Cmd::Null { reg: reg as u8 }
@@ -124,24 +135,27 @@ fn with_operands(
     })
 }
 
-/// The command of a line with this first word and what is behind it, in a mutator that has so many.
+/// The command of a line with this first word and what is behind it, in a mutator that has so many, in a script of this version.
 pub fn command(
+    version: u32,
     registers: u32,
     fields: u32,
     count: usize,
     word: &[u8],
     rest: &[u8],
 ) -> Result<Cmd, Kind>
+    requires version { IsVersion version }
     requires few { count ≤ 200000 }
     requires registers { registers ≤ 64 }
     requires fields { fields ≤ 16 }
     ensures right { IfOk result (λ cmd. word.now ∷ words rest.now ≡ command_line cmd) }
+    ensures allowed { IfOk result (λ cmd. Allows version cmd) }
     ensures in_range { IfOk result (λ cmd. IsCommand registers fields cmd) }
     ensures room { IfOk result (λ cmd. count < 200000) }
     ensures wrong { IfErr result (λ kind.
-        IsBadCommand registers fields count (word.now ∷ words rest.now) kind) }
+        IsBadCommand version registers fields count (word.now ∷ words rest.now) kind) }
 {
-    match named(word) {
+    match named(version, word) {
         Some(named) => with_operands(named, registers, fields, count, rest),
         None => Err(Kind::BadCommand),
     }

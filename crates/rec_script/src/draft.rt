@@ -3,7 +3,7 @@
 ghost use Rattle.std.specs.Prelude.{◌≡◌, ◌≢◌, ◌↔◌, ◌<◌, ◌≤◌, ℕ, List, [], ◌∷◌, ◌++◌, Err, Ok, IfErr, IfNone, IfOk, IfSome, IsTrue, length};
 ghost use Rattle.std.specs.Str.{IsUtf8};
 ghost use Rattle.rec_script.specs.Lines.{lines, words, counted};
-ghost use Rattle.rec_script.specs.Script.{Fits, IsFault, IsNeed, IsScript, header, mutator_line, spelled};
+ghost use Rattle.rec_script.specs.Script.{Fits, IsFault, IsNeed, IsScript, mutator_line, spelled};
 ghost use Rattle.rec_script.specs.Drafts.{so_far, IsDraft, IsTaken, IsWrongFirst};
 ghost use Rattle.rec_script.specs.declared.error.Kind.{Kind};
 ghost use Rattle.rec_script.specs.declared.error.ScriptError.TheVariants.{Bad};
@@ -13,9 +13,10 @@ use crate::error::{Kind, ScriptError};
 use crate::heap::{Heap, read_heap};
 use crate::limits::{MOST_COMMANDS, MOST_MUTATORS};
 use crate::line::{next_line, next_word};
-use crate::operand::{is_name, no_word, one_word};
+use crate::operand::{is_name, no_word};
 use crate::script::Script;
 use crate::spaced::spaced_command;
+use crate::version::read_version;
 use std::alloc::{AllocError, Global};
 use std::str::from_utf8;
 
@@ -23,22 +24,9 @@ use std::str::from_utf8;
 #[derive(Drop)]
 pub enum Draft {
     Nothing,
-    Header,
-    Sized(Heap),
+    Header(u32),
+    Sized(u32, Heap),
     Whole(Script),
-}
-
-/// The line is the header.
-fn is_header(word: &[u8], rest: &[u8]) -> bool
-    ensures { IsTrue result ↔ (word.now ∷ words rest.now ≡ header) }
-{
-    if !is_name(word, b"recycler") {
-        return false;
-    }
-    match one_word(rest) {
-        Some(version) => is_name(version, b"1"),
-        None => false,
-    }
 }
 
 /// The line is the one above a mutator's commands.
@@ -73,7 +61,8 @@ fn add_spaced<'b>(script: &mut Script, bytes: &'b [u8]) -> Result<Option<&'b [u8
     ensures left { IfOk result (λ found. IfNone found (script.new ≡ script.old)) }
     ensures valid { IsScript script.new }
 {
-    let Some((cmd, rest)) = spaced_command(script.registers(), script.fields(), bytes) else {
+    let Some((cmd, rest)) = spaced_command(script.version(), script.registers(), script.fields(), bytes)
+    else {
         return Ok(None);
     };
     if script.last() == MOST_COMMANDS {
@@ -104,6 +93,7 @@ fn add_to_script(
         return script.add_mutator(alloc).map_err(|_| ScriptError::NoMemory);
     }
     let cmd = match command(
+        script.version(),
         script.registers(),
         script.fields(),
         script.last(),
@@ -134,24 +124,24 @@ impl Draft {
     {
         match self {
             Draft::Nothing => {
-                if !is_header(word, rest) {
+                let Some(version) = read_version(word, rest) else {
                     return Err(bad(number, Kind::NoHeader));
-                }
-                *self = Draft::Header;
+                };
+                *self = Draft::Header(version);
                 Ok(())
             }
-            Draft::Header => {
+            Draft::Header(version) => {
                 let Some(heap) = read_heap(word, rest) else {
                     return Err(bad(number, Kind::BadHeap));
                 };
-                *self = Draft::Sized(heap);
+                *self = Draft::Sized(*version, heap);
                 Ok(())
             }
-            Draft::Sized(heap) => {
+            Draft::Sized(version, heap) => {
                 if !is_mutator(word, rest) {
                     return Err(bad(number, Kind::NoMutator));
                 }
-                let script = Script::open(alloc, *heap);
+                let script = Script::open(alloc, *version, *heap);
                 *self = Draft::Whole(script);
                 Ok(())
             }
@@ -236,8 +226,8 @@ impl Draft {
     {
         match self {
             Draft::Nothing => Err(Kind::NoHeader),
-            Draft::Header => Err(Kind::BadHeap),
-            Draft::Sized(_) => Err(Kind::NoMutator),
+            Draft::Header(_) => Err(Kind::BadHeap),
+            Draft::Sized(_, _) => Err(Kind::NoMutator),
             Draft::Whole(script) => Ok(script),
         }
     }

@@ -11,13 +11,13 @@ pub enum Kind {
     TooLong,
     /// A line isn't UTF-8, be it one that is skipped.
     NotUtf8,
-    /// The first line that counts isn't `recycler 1`.
+    /// The first line that counts isn't `recycler 1` or `recycler 2`.
     NoHeader,
     /// The second one is no heap with its numbers within their limits.
     BadHeap,
     /// The third one isn't `mutator`.
     NoMutator,
-    /// A later line has none of the first words, or another number of words.
+    /// A later line has none of the version's first words, or another number of words.
     BadCommand,
     /// The ninth mutator.
     TooManyMutators,

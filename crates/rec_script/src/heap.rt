@@ -16,7 +16,7 @@ pub struct Heap {
 }
 
 /// A number from 1 to the greatest one.
-fn size(most: u32, word: &[u8]) -> Option<u32>
+pub fn size(most: u32, word: &[u8]) -> Option<u32>
     ensures found { IfSome result (λ n. (1 ≤ n) × (n ≤ most) × (word.now ≡ decimal n)) }
     ensures none { IfNone result ((n : ℕ) → 1 ≤ n → n ≤ most → word.now ≢ decimal n) }
 {

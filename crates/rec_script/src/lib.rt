@@ -21,6 +21,7 @@ mod operand;
 mod reading;
 mod script;
 mod spaced;
+mod version;
 
 pub use error::{Kind, ScriptError};
 pub use laws::{refusals_are_unique, refused_texts_spell_nothing, texts_spell_one_script};

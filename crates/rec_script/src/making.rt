@@ -106,6 +106,7 @@ fn push_command(text: &mut String, cmd: &Cmd) -> Result<(), NoMemory>
 {
     match cmd {
         Cmd::New { reg, label } => writeln!(text, "new {reg} {label}"),
+        Cmd::Leaf { reg, label } => writeln!(text, "leaf {reg} {label}"),
         Cmd::Null { reg } => writeln!(text, "null {reg}"),
         Cmd::Copy { dst, src } => writeln!(text, "copy {dst} {src}"),
         Cmd::Get { dst, src, field } => writeln!(text, "get {dst} {src} {field}"),
@@ -127,7 +128,7 @@ fn push_commands(text: &mut String, generator: &mut Pcg32, commands: u32) -> Res
     Ok(())
 }
 
-/// A script of so many mutators with so many commands each, drawn from a seed as the profile says (`docs/PROFILE.md`,
+/// A script of version 1, of so many mutators with so many commands each, drawn from a seed as the profile says (`docs/PROFILE.md`,
 /// "Made scripts").
 pub fn make(alloc: Global, seed: u64, mutators: u8, commands: u32) -> Result<Vec<u8>, NoMemory>
     requires mutators { (1 ≤ mutators) × (mutators ≤ 8) }

@@ -1,17 +1,18 @@
 //! A script that was read, or its first mutators and commands while it grows.
 
 ghost use Rattle.std.specs.Prelude.{◌≡◌, ◌≢◌, ◌<◌, ◌≤◌, ◌+◌, ◌-◌, ℕ, List, [], ◌∷◌, ◌++◌, Err, Ok, Some, length, All, Any, IfOk, slice_get};
-ghost use Rattle.rec_script.specs.Script.{AreCommands, IsCommand, IsHeap, IsScript, command_line, last_length, mutator_line, spelled};
+ghost use Rattle.rec_script.specs.Script.{Allows, AreCommands, IsCommand, IsHeap, IsScript, IsVersion, command_line, last_length, mutator_line, spelled};
 
 use crate::heap::Heap;
 use rec_model::Cmd;
 use std::alloc::{AllocError, Global};
 use std::marker::Model;
 
-/// A script. Contracts see how large its heap is, and the commands of each mutator in turn.
+/// A script. Contracts see its version, how large its heap is, and the commands of each mutator in turn.
 // The last mutator's commands stand apart, as they grow while a text is read.
 #[derive(Drop)]
 pub struct Script {
+    version: u32,
     slots: u32,
     fields: u32,
     registers: u32,
@@ -32,10 +33,12 @@ impl Model for Script {
 }
 
 impl Script {
-    /// The script with this heap and one mutator, which has no commands.
-    pub(crate) fn open(alloc: Global, heap: Heap) -> Script
-        requires { IsHeap heap.slots heap.fields heap.registers }
+    /// The script of this version with this heap and one mutator, which has no commands.
+    pub(crate) fn open(alloc: Global, version: u32, heap: Heap) -> Script
+        requires version { IsVersion version }
+        requires heap { IsHeap heap.slots heap.fields heap.registers }
         ensures { result ≡ record {
+          version = version;
           slots = heap.slots;
           fields = heap.fields;
           registers = heap.registers;
@@ -43,12 +46,21 @@ impl Script {
         } }
     {
         Script {
+            version,
             slots: heap.slots,
             fields: heap.fields,
             registers: heap.registers,
             earlier: Vec::new(alloc),
             last: Vec::new(alloc),
         }
+    }
+
+    /// The version that the header names: 1, or 2, which has leaves.
+    pub fn version(&self) -> u32
+        ensures value { result ≡ self.now.version }
+        ensures valid { IsScript self.now }
+    {
+        self.version
     }
 
     /// How many slots the heap has, from 1 to 65,535.
@@ -88,7 +100,7 @@ impl Script {
         requires some { 1 ≤ t }
         requires most { t ≤ length self.now.commands }
         ensures value { slice_get self.now.commands (t - 1) ≡ Some result.now }
-        ensures valid { AreCommands self.now.registers self.now.fields result.now }
+        ensures valid { AreCommands self.now.version self.now.registers self.now.fields result.now }
     {
         let index = usize::from(t) - 1;
         if index < self.earlier.len() {
@@ -126,6 +138,7 @@ impl Script {
 
     /// A command more for the last mutator.
     pub(crate) fn add(&mut self, cmd: Cmd) -> Result<(), AllocError>
+        requires allowed { Allows self.old.version cmd }
         requires in_range { IsCommand self.old.registers self.old.fields cmd }
         requires room { last_length self.old.commands < 200000 }
         ensures more { IfOk result (λ x. spelled self.new ≡ spelled self.old ++ command_line cmd ∷ []) }

@@ -4,7 +4,7 @@
 ghost use Rattle.std.specs.Prelude.{◌≡◌, ◌≢◌, ℕ, ◌<◌, ◌≤◌, ◌^◌, ◌++◌, [], ◌∷◌, slice_index, IfSome};
 ghost use Rattle.std.specs.Fmt.{decimal};
 ghost use Rattle.rec_script.specs.Lines.{spaced};
-ghost use Rattle.rec_script.specs.Script.{IsCommand, command_line};
+ghost use Rattle.rec_script.specs.Script.{Allows, IsCommand, IsVersion, command_line};
 
 use rec_model::Cmd;
 
@@ -137,11 +137,18 @@ fn behind(first: u8, bytes: &[u8]) -> Option<&[u8]>
 
 /// A command at the front, spaced, and what is behind its line.
 #[inline(always)]
-pub fn spaced_command(registers: u32, fields: u32, bytes: &[u8]) -> Option<(Cmd, &[u8])>
+pub fn spaced_command(
+    version: u32,
+    registers: u32,
+    fields: u32,
+    bytes: &[u8],
+) -> Option<(Cmd, &[u8])>
+    requires version { IsVersion version }
     requires registers { registers ≤ 64 }
     requires fields { fields ≤ 16 }
     ensures found { IfSome result (λ x. bytes.now ≡ spaced (command_line x.0) x.1.now) }
     ensures in_range { IfSome result (λ x. IsCommand registers fields x.0) }
+    ensures allowed { IfSome result (λ x. Allows version x.0) }
 {
     let (name, rest) = bytes.split_first_chunk::<4>()?;
     if name == b"get " {
@@ -154,16 +161,23 @@ pub fn spaced_command(registers: u32, fields: u32, bytes: &[u8]) -> Option<(Cmd,
         let (reg, label, rest) = birth(registers, rest)?;
         Some((Cmd::New { reg, label }, rest))
     } else {
-        longer(registers, name, rest)
+        longer(version, registers, name, rest)
     }
 }
 
 /// The same of a command whose name has more than three letters, behind the first four.
 #[inline(always)]
-fn longer<'a>(registers: u32, name: &[u8; 4], rest: &'a [u8]) -> Option<(Cmd, &'a [u8])>
+fn longer<'a>(
+    version: u32,
+    registers: u32,
+    name: &[u8; 4],
+    rest: &'a [u8],
+) -> Option<(Cmd, &'a [u8])>
+    requires version { IsVersion version }
     requires registers { registers ≤ 64 }
     ensures found { IfSome result (λ x. name.now ++ rest.now ≡ spaced (command_line x.0) x.1.now) }
     ensures in_range { (fields : ℕ) → IfSome result (λ x. IsCommand registers fields x.0) }
+    ensures allowed { IfSome result (λ x. Allows version x.0) }
 {
     if name == b"null" {
         let (reg, rest) = operand(registers, behind(b' ', rest)?, b'\n')?;
@@ -178,6 +192,9 @@ fn longer<'a>(registers: u32, name: &[u8; 4], rest: &'a [u8]) -> Option<(Cmd, &'
     } else if name == b"same" {
         let (a, b, rest) = two_operands(registers, behind(b' ', rest)?)?;
         Some((Cmd::Same { a, b }, rest))
+    } else if version >= 2 && name == b"leaf" {
+        let (reg, label, rest) = birth(registers, behind(b' ', rest)?)?;
+        Some((Cmd::Leaf { reg, label }, rest))
     } else {
         None
     }

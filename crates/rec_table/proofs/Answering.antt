@@ -1,12 +1,15 @@
 -- The words that a command's steps found tell why it was answered so.
-use Rattle.std.proofs.Common.{◌≡◌, ℕ, ◌+◌, ◌<◌, ◌==◌, Bool, true, false, true≢false, if◌then◌else◌, List, [], ◌∷◌, ◌++◌, length, Option, Some, None, refl, sym, ap, ◌∙◌, subst, append_assoc, eq-eqb, ne_eqb, arith}
+use Rattle.std.proofs.Common.{◌≡◌, ◌↔◌, ℕ, ◌+◌, ◌<◌, ◌==◌, Bool, true, false, true≢false, if◌then◌else◌, List, [], ◌∷◌, ◌++◌, length, Option, Some, None, refl, sym, ap, ◌∙◌, subst, append_assoc, eq-eqb, ne_eqb, arith}
 use Rattle.std.specs.Prelude.{fold}
 use Rattle.std.proofs.lemmas.List.{length-append, map-append, nil_from_length}
 use Rattle.std.proofs.lemmas.List.Sums.{fold-append}
+use Rattle.rec_word.specs.Header.{header_word}
+use Rattle.rec_model.specs.Asking.{allocation}
 use Rattle.rec_model.specs.declared.command.Cmd.{Cmd}
 use Rattle.rec_model.specs.declared.command.Cmd.TheVariants as commands
+use Rattle.rec_model.specs.declared.answer.Answer.TheVariants as answers
 use Rattle.rec_model.specs.declared.told.Told.{Told}
-use Rattle.rec_mutator.specs.Causes.{FoundNone, FoundNoneAt, HasCause}
+use Rattle.rec_mutator.specs.Causes.{FindsLeaf, FoundNone, FoundNoneAt, HasCause}
 use Rattle.rec_mutator.specs.Private.{IsAt, IsMachine, Private, answer_at, answer_of, is_busy, is_busy_at, limit_of, work_at, work_of}
 use Rattle.rec_mutator.specs.Scans.{FailsScan, ops_along}
 use Rattle.rec_mutator.specs.Took.{begun_of, moved, spare, step_of, swapped_at, swapped_of, took_at, took_of}
@@ -66,8 +69,9 @@ busy_still p work is none = by p.phase refl
     by : (phase : phases.Phase) → p.phase ≡ phase → is_busy p ≡ true
     by at.Idle e = let bad : ◌≡◌ {A = Option Work} None (Some work) = sym (ap work_at e) ∙ is in cc
     by (at.Begun w) e = ap is_busy_at e
-    by (at.Scanning reg label b slot) e = ap is_busy_at e
-    by (at.Scanned reg label b) e = ap is_busy_at e
+    by (at.Scanning reg label leaf b slot) e = ap is_busy_at e
+    by (at.Scanned reg label leaf b) e = ap is_busy_at e
+    by (at.Storing src f val slot) e = ap is_busy_at e
     by at.Crossing e = ap is_busy_at e
     by at.Swapping e = ap is_busy_at e
     by at.Giving e = ap is_busy_at e
@@ -145,15 +149,16 @@ cmd_of d (Some (works.Command cmd)) = cmd
 cmd_of d _ = d
 
 -- a scan is over where none was found
-scanned_at : (q : Private) (cmd : Cmd) (before : ℕ) → work_of q ≡ Some (works.Command cmd) → FoundNoneAt q.phase before → (reg : ℕ) × (label : ℕ) × (cmd ≡ commands.New reg label)
+scanned_at : (q : Private) (cmd : Cmd) (before : ℕ) → work_of q ≡ Some (works.Command cmd) → FoundNoneAt q.phase before → (reg : ℕ) × (label : ℕ) × (leaf : Bool) × (cmd ≡ allocation leaf reg label)
 unfolding cmd_of
 scanned_at q cmd before work found = by q.phase refl found
   where
-    by : (phase : phases.Phase) → q.phase ≡ phase → FoundNoneAt phase before → (reg : ℕ) × (label : ℕ) × (cmd ≡ commands.New reg label)
+    by : (phase : phases.Phase) → q.phase ≡ phase → FoundNoneAt phase before → (reg : ℕ) × (label : ℕ) × (leaf : Bool) × (cmd ≡ allocation leaf reg label)
     by at.Idle e f = absurd f
     by (at.Begun w) e f = absurd f
-    by (at.Scanning reg label b slot) e f = absurd f
-    by (at.Scanned reg label b) e f = (reg, label, ap (cmd_of cmd) (sym work ∙ ap work_at e))
+    by (at.Scanning reg label leaf b slot) e f = absurd f
+    by (at.Scanned reg label leaf b) e f = (reg, label, leaf, ap (cmd_of cmd) (sym work ∙ ap work_at e))
+    by (at.Storing src field val slot) e f = absurd f
     by at.Crossing e f = absurd f
     by at.Swapping e f = absurd f
     by at.Giving e f = absurd f
@@ -162,13 +167,14 @@ scanned_at q cmd before work found = by q.phase refl found
 fails_probes : (p q : Private) (cmd : Cmd) (from before : ℕ) (words : List ℕ) → q ≡ fold took_of (begun_of p (works.Command cmd) from) words → q.slots ≡ p.slots → work_of q ≡ Some (works.Command cmd) → FoundNone q before → FailsProbes p cmd from before words
 unfolding begun_of
 fails_probes p q cmd from before words came slots work found =
-    let (reg, label, is) = scanned_at q cmd before work found.scanned in
+    let (reg, label, leaf, is) = scanned_at q cmd before work found.scanned in
     record {
       reg = reg;
       label = label;
+      leaf = leaf;
       is = is;
-      fails = subst (λ n. FailsScan label n from before (ops_along (begun_of p (works.Command cmd) from) words) words) slots
-          (found.every (begun_of p (works.Command cmd) from) words (record { reg = reg; label = label; begun = begun_at p (works.Command cmd) from ∙ ap (λ (c : Cmd). at.Begun (works.Command c)) is; came = came }));
+      fails = subst (λ n. FailsScan (header_word leaf label) n from before (ops_along (begun_of p (works.Command cmd) from) words) words) slots
+          (found.every (begun_of p (works.Command cmd) from) words (record { reg = reg; label = label; leaf = leaf; begun = begun_at p (works.Command cmd) from ∙ ap (λ (c : Cmd). at.Begun (works.Command c)) is; came = came }));
     }
 
 -- a command that goes on has steps left
@@ -181,6 +187,7 @@ steps_left p cmd machine busy work = by p.phase refl machine.now
 
     some : (cmd : Cmd) → 0 < limit_of p.slots (works.Command cmd)
     some (commands.New reg label) = omega arith
+    some (commands.Leaf reg label) = omega arith
     some (commands.Null reg) = omega arith
     some (commands.Copy dst src) = omega arith
     some (commands.Get dst src f) = omega arith
@@ -188,18 +195,42 @@ steps_left p cmd machine busy work = by p.phase refl machine.now
     some (commands.Value reg) = omega arith
     some (commands.Same a b) = omega arith
 
-    new : (reg label steps : ℕ) (phase : phases.Phase) → p.phase ≡ phase → work_at phase ≡ Some (works.Command (commands.New reg label)) → steps < p.slots + 2 → steps < limit_of p.slots (works.Command cmd)
-    new reg label steps phase e is lt = subst (λ (c : Cmd). steps < limit_of p.slots (works.Command c)) (sym (ap (cmd_of cmd) (sym work ∙ ap work_at e ∙ is))) lt
+    -- a work that goes on is this command
+    goes_on : (c : Cmd) (steps : ℕ) (phase : phases.Phase) → p.phase ≡ phase → work_at phase ≡ Some (works.Command c) → steps < limit_of p.slots (works.Command c) → steps < limit_of p.slots (works.Command cmd)
+    goes_on c steps phase e is lt = subst (λ (c : Cmd). steps < limit_of p.slots (works.Command c)) (sym (ap (cmd_of cmd) (sym work ∙ ap work_at e ∙ is))) lt
+
+    new : (leaf : Bool) (reg label steps : ℕ) → steps < p.slots + 2 → steps < limit_of p.slots (works.Command (allocation leaf reg label))
+    new true reg label steps lt = lt
+    new false reg label steps lt = lt
 
     by : (phase : phases.Phase) → p.phase ≡ phase → IsAt p p.phase → p.steps < limit_of p.slots (works.Command cmd)
     by at.Idle e now = absurd (true≢false (sym busy ∙ ap is_busy_at e))
     by (at.Begun w) e now = let none : p.steps ≡ 0 = (subst (IsAt p) e now).1 in let left = some cmd in omega (arith, none, left)
-    by (at.Scanning reg label b probed) e now = let (scan, low, steps) = subst (IsAt p) e now in new reg label p.steps (at.Scanning reg label b probed) e refl (omega (arith, low, steps))
-    by (at.Scanned reg label b) e now = let steps = (subst (IsAt p) e now).1 in new reg label p.steps (at.Scanned reg label b) e refl (omega (arith, steps))
+    by (at.Scanning reg label leaf b probed) e now =
+        let (scan, low, steps) = subst (IsAt p) e now in goes_on (allocation leaf reg label) p.steps (at.Scanning reg label leaf b probed) e refl (new leaf reg label p.steps (omega (arith, low, steps)))
+    by (at.Scanned reg label leaf b) e now = let steps = (subst (IsAt p) e now).1 in goes_on (allocation leaf reg label) p.steps (at.Scanned reg label leaf b) e refl (new leaf reg label p.steps (omega (arith, steps)))
+    by (at.Storing src f val slot) e now = let one : p.steps ≡ 1 = (subst (IsAt p) e now).1 in goes_on (commands.Put src f val) p.steps (at.Storing src f val slot) e refl (omega (arith, one))
     by at.Crossing e now = absurd (no_poll at.Crossing e refl)
     by at.Swapping e now = absurd (no_poll at.Swapping e refl)
     by at.Giving e now = absurd (no_poll at.Giving e refl)
     by (at.Finished w made) e now = absurd (true≢false (sym busy ∙ ap is_busy_at e))
+
+-- a leaf is found by the first step
+finds_first : (q : Private) (cmd : Cmd) (word : ℕ) → IsMachine q → FindsLeaf q word cmd → q.steps ≡ 0
+finds_first q (commands.Put src f val) word machine found = (subst (IsAt q) found.0 machine.now).1
+finds_first q _ word machine found = absurd found
+
+-- so it is the only step
+no_field : (p q : Private) (cmd : Cmd) (from : ℕ) (words : List ℕ) (word : ℕ) (told : Told) → IsMachine q → q.steps ≡ length words → q ≡ fold took_of (begun_of p (works.Command cmd) from) words
+    → (told.answer ≡ answers.NoField) ↔ FindsLeaf q word cmd → (told.answer ≡ answers.NoField) ↔ ((words ≡ []) × FindsLeaf (begun_of p (works.Command cmd) from) word cmd)
+no_field p q cmd from words word told machine counted came cause =
+    let its : words ≡ [] → q ≡ begun_of p (works.Command cmd) from = λ none. came ∙ ap (fold took_of (begun_of p (works.Command cmd) from)) none in (
+      (λ is.
+          let found = cause.0 is in
+          let none : words ≡ [] = nil_from_length words (sym counted ∙ finds_first q cmd word machine found) in
+          (none, subst (λ (r : Private). FindsLeaf r word cmd) (its none) found)),
+      (λ (none, found). cause.1 (subst (λ (r : Private). FindsLeaf r word cmd) (sym (its none)) found)),
+    )
 
 pub answered : (p q : Private) (cmd : Cmd) (from : ℕ) (log log' : List Beat) (told : Told) → Path (record { work = works.Command cmd; from = from }) p log log' q → answer_of q ≡ Some (makes.Answered told) → IsAnswered p cmd log log' q told
 answered p q cmd from log log' told path answer =
@@ -218,6 +249,7 @@ answered p q cmd from log log' told path answer =
           let counted = path.counted in
           omega (arith, left, counted);
       cause = subst (λ (y : Private × Private). HasCause y.0 y.1 cmd path.last told.answer) (λ i. (came i, sym took i)) cause;
+      no_field = no_field p pre cmd from path.words path.last told path.machine path.counted came cause.no_field;
       full = λ is. let (before, found, still) = cause.full.0 is in (before, fails_probes p pre cmd from before path.words came path.slots path.works_on found, still);
       busy = λ before after is. let (found, same, still) = (cause.busy before after).0 is in (fails_probes p pre cmd from before path.words came path.slots path.works_on found, same, still);
     }
@@ -315,8 +347,9 @@ polled p q from log log' result path begun answer = by path.before.phase refl pa
     by : (phase : phases.Phase) → path.before.phase ≡ phase → IsAt path.before path.before.phase → IsPolled p log log' result
     by at.Idle e now = absurd (true≢false (sym path.busy ∙ ap is_busy_at e))
     by (at.Begun w) e now = at_once (nil_from_length path.words (sym path.counted ∙ (subst (IsAt path.before) e now).1))
-    by (at.Scanning reg label b probed) e now = absurd (no_command (at.Scanning reg label b probed) e refl)
-    by (at.Scanned reg label b) e now = absurd (no_command (at.Scanned reg label b) e refl)
+    by (at.Scanning reg label leaf b probed) e now = absurd (no_command (at.Scanning reg label leaf b probed) e refl)
+    by (at.Scanned reg label leaf b) e now = absurd (no_command (at.Scanned reg label leaf b) e refl)
+    by (at.Storing src f val slot) e now = absurd (no_command (at.Storing src f val slot) e refl)
     by at.Crossing e now = absurd (not_told (answers_at path.before path.last at.Crossing e))
     by at.Swapping e now = absurd (not_told (answers_at path.before path.last at.Swapping e))
     by at.Giving e now = across e (subst (IsAt path.before) e now).0

@@ -1,13 +1,14 @@
 -- A scan on the table: the loads of taken headers are its failing probes.
-use Rattle.std.proofs.Common.{◌≡◌, ◌≢◌, ℕ, ◌+◌, ◌-◌, ◌<◌, ◌≤◌, ◌==◌, if◌then◌else◌, arith, Bool, true, false, cond, ne_eqb, List, [], ◌∷◌, ◌++◌, length, fold, All, Option, Some, None, refl, sym, ap, ◌∙◌, subst, append_assoc, length-append}
+use Rattle.std.proofs.Common.{◌≡◌, ◌≢◌, ℕ, ◌+◌, ◌-◌, ◌<◌, ◌≤◌, ◌==◌, if◌then◌else◌, arith, Bool, true, false, ne_eqb, List, [], ◌∷◌, ◌++◌, length, fold, All, Option, Some, None, refl, sym, ap, ◌∙◌, subst, append_assoc, length-append}
 use Rattle.std.proofs.lemmas.List.{map-append}
 use Rattle.std.proofs.lemmas.List.Elements.{All-nil, All-cons, All-head, All-tail, All-append}
 use Rattle.atomic_table.specs.Table.{Me, Step}
+use Rattle.rec_word.specs.Header.{header_word}
 use Rattle.rec_word.specs.declared.op.Op.{Op}
 use Rattle.rec_word.specs.declared.op.Op.TheVariants as ops
 use Rattle.rec_model.specs.declared.command.Cmd.TheVariants as commands
 use Rattle.rec_log.specs.declared.contents.Contents.{Contents}
-use Rattle.rec_mutator.specs.Next.{next_of, next_at, begun_op, own_word, read_op, write_op, label_op}
+use Rattle.rec_mutator.specs.Next.{next_of, next_at, begun_op, new_op, read_op, write_op, label_op}
 use Rattle.rec_mutator.specs.Private.{Private, IsAt, IsMachine, register, is_full, probe_of, slot_behind}
 use Rattle.rec_mutator.specs.Step.{NamesSlots}
 use Rattle.rec_mutator.specs.Took.{spare, took_of, skipped_to, skipped_at, IsBetween}
@@ -36,19 +37,20 @@ use Rattle.rec_table.proofs.Probes.{probes}
 
 -- Only a scan claims headers.
 abbrev IsClaimOp : Op → Type 0
-IsClaimOp (ops.ClaimHeader slot label) = Unit {0}
+IsClaimOp (ops.ClaimHeader slot header) = Unit {0}
 IsClaimOp _ = ⊥
 
 slot_of : Op → ℕ
-slot_of (ops.ClaimHeader slot label) = slot
+slot_of (ops.ClaimHeader slot header) = slot
 slot_of _ = 0
 
+new_claims : (p : Private) (full : Bool) → IsClaimOp (new_op p full) → ⊥
+new_claims p true is = is
+new_claims p false is = is
+
 begun_claims : (p : Private) (work : Work) → IsClaimOp (begun_op p work) → ⊥
-begun_claims p (works.Command (commands.New reg label)) is = go (is_full p) is
-  where
-    go : (b : Bool) → IsClaimOp (cond b (own_word p) ops.LoadFreed) → ⊥
-    go true x = x
-    go false x = x
+begun_claims p (works.Command (commands.New reg label)) is = new_claims p (is_full p) is
+begun_claims p (works.Command (commands.Leaf reg label)) is = new_claims p (is_full p) is
 begun_claims p (works.Command (commands.Get dst src f)) is = go (register p src) is
   where
     go : (x : Option ℕ) → IsClaimOp (read_op p f x) → ⊥
@@ -56,7 +58,7 @@ begun_claims p (works.Command (commands.Get dst src f)) is = go (register p src)
     go (Some slot) x = x
 begun_claims p (works.Command (commands.Put src f val)) is = go (register p src) (is_full p) is
   where
-    go : (x : Option ℕ) (b : Bool) → IsClaimOp (write_op p f val x b) → ⊥
+    go : (x : Option ℕ) (b : Bool) → IsClaimOp (write_op p x b) → ⊥
     go None b x = x
     go (Some slot) true x = x
     go (Some slot) false x = x
@@ -70,14 +72,15 @@ begun_claims p _ is = is
 pub record Claims (p : Private) (slot : ℕ) : Type 0 where
   pub reg : ℕ
   pub label : ℕ
+  pub leaf : Bool
   pub before : ℕ
   pub probed : ℕ
-  pub phase : p.phase ≡ at.Scanning reg label before probed
+  pub phase : p.phase ≡ at.Scanning reg label leaf before probed
   pub comes : slot ≡ probe_of p probed
 
-pub claims : (p : Private) (slot label : ℕ) → next_of p ≡ ops.ClaimHeader slot label → Claims p slot
+pub claims : (p : Private) (slot header : ℕ) → next_of p ≡ ops.ClaimHeader slot header → Claims p slot
 unfolding next_of next_at slot_of
-claims p slot label is = by p.phase refl
+claims p slot header is = by p.phase refl
   where
     no : (phase : phases.Phase) → p.phase ≡ phase → (IsClaimOp (next_at p phase) → ⊥) → Claims p slot
     no phase e never = absurd (never (subst IsClaimOp (sym (sym (ap (next_at p) e) ∙ is)) tt))
@@ -85,10 +88,11 @@ claims p slot label is = by p.phase refl
     by : (phase : phases.Phase) → p.phase ≡ phase → Claims p slot
     by at.Idle e = no at.Idle e (λ x. x)
     by (at.Begun work) e = no (at.Begun work) e (begun_claims p work)
-    by (at.Scanning reg label' before probed) e =
+    by (at.Scanning reg label leaf before probed) e =
         let same : probe_of p probed ≡ slot = ap slot_of (sym (ap (next_at p) e) ∙ is) in
-        record { reg = reg; label = label'; before = before; probed = probed; phase = e; comes = sym same }
-    by (at.Scanned reg label' before) e = no (at.Scanned reg label' before) e (λ x. x)
+        record { reg = reg; label = label; leaf = leaf; before = before; probed = probed; phase = e; comes = sym same }
+    by (at.Scanned reg label leaf before) e = no (at.Scanned reg label leaf before) e (λ x. x)
+    by (at.Storing src f val s) e = no (at.Storing src f val s) e (λ x. x)
     by at.Crossing e = no at.Crossing e (λ x. x)
     by at.Swapping e = no at.Swapping e (λ x. x)
     by at.Giving e = no at.Giving e (λ x. x)
@@ -105,19 +109,19 @@ pub record Walks (q : Private) (words : List ℕ) (r : Private) : Type 0 where
   pub learns : r ≡ fold took_of q words
   pub births : births_told q (saw_all words) ≡ 0
 
-module _ (p : Private) (reg label before from : ℕ) (scans : p.phase ≡ at.Scanning reg label before from) where
-  came_to : (slot : ℕ) → skipped_to p slot ≡ record p { phase = if slot == p.slots then at.Scanned reg label before else at.Scanning reg label before slot; steps = p.steps + (slot - from) }
+module _ (p : Private) (reg label : ℕ) (leaf : Bool) (before from : ℕ) (scans : p.phase ≡ at.Scanning reg label leaf before from) where
+  came_to : (slot : ℕ) → skipped_to p slot ≡ record p { phase = if slot == p.slots then at.Scanned reg label leaf before else at.Scanning reg label leaf before slot; steps = p.steps + (slot - from) }
   unfolding skipped_to skipped_at
   came_to slot = ap (skipped_at p slot) scans
 
-  there_phase : (slot : ℕ) → slot < p.slots → (skipped_to p slot).phase ≡ at.Scanning reg label before slot
+  there_phase : (slot : ℕ) → slot < p.slots → (skipped_to p slot).phase ≡ at.Scanning reg label leaf before slot
   there_phase slot lt =
-      ap (λ (q : Private). q.phase) (came_to slot) ∙ ap (λ (b : Bool). if b then at.Scanned reg label before else at.Scanning reg label before slot) (ne_eqb slot p.slots (λ e. omega (arith, e, lt)))
+      ap (λ (q : Private). q.phase) (came_to slot) ∙ ap (λ (b : Bool). if b then at.Scanned reg label leaf before else at.Scanning reg label leaf before slot) (ne_eqb slot p.slots (λ e. omega (arith, e, lt)))
 
   probe : (slot word : ℕ) → from ≤ slot → slot < p.slots → word ≢ 0 → learnt (skipped_to p slot) (Saw word) ≡ skipped_to p (slot + 1)
   probe slot word low lt taken =
       let q : Private = skipped_to p slot in
-      here_same q word (spare (took_of q word)) (skipped_busy p reg label before from scans slot) (subst TakesNone (sym (there_phase slot lt)) tt) ∙ skipped_further p reg label before from scans slot word low lt taken
+      here_same q word (spare (took_of q word)) (skipped_busy p reg label leaf before from scans slot) (subst TakesNone (sym (there_phase slot lt)) tt) ∙ skipped_further p reg label leaf before from scans slot word low lt taken
 
   walks : (words : List ℕ) (slot : ℕ) → from ≤ slot → slot + length words ≤ p.slots → All (λ word. 0 < word) words → Walks (skipped_to p slot) words (skipped_to p (slot + length words))
   walks [] slot low le taken = record { told = ap (skipped_to p) (omega arith); learns = ap (skipped_to p) (omega arith); births = refl }
@@ -128,18 +132,18 @@ module _ (p : Private) (reg label before from : ℕ) (scans : p.phase ≡ at.Sca
       let ne : w ≢ 0 = λ e. omega (arith, e, some) in
       let rest = walks ws (slot + 1) (omega (arith, low)) (omega (arith, le)) (All-tail (λ word. 0 < word) w ws taken) in
       let ends : skipped_to p (slot + 1 + length ws) ≡ skipped_to p (slot + length (w ∷ ws)) = ap (skipped_to p) (omega arith) in
-      let one : births_of (next_of q) w ≡ 0 = ap (λ (o : Op). births_of o w) (skipped_next p reg label before from scans slot lt) ∙ ap (λ (b : Bool). if b then 1 else 0) (ne_eqb w 0 ne) in
+      let one : births_of (next_of q) w ≡ 0 = ap (λ (o : Op). births_of o w) (skipped_next p reg label leaf before from scans slot lt) ∙ ap (λ (b : Bool). if b then 1 else 0) (ne_eqb w 0 ne) in
       let more : births_told (learnt q (Saw w)) (saw_all ws) ≡ 0 = ap (λ (r : Private). births_told r (saw_all ws)) (probe slot w low lt ne) ∙ rest.births in
       record {
         told = ap (λ (r : Private). told r (saw_all ws)) (probe slot w low lt ne) ∙ rest.told ∙ ends;
-        learns = sym ends ∙ rest.learns ∙ ap (λ (r : Private). fold took_of r ws) (sym (skipped_further p reg label before from scans slot w low lt ne));
+        learns = sym ends ∙ rest.learns ∙ ap (λ (r : Private). fold took_of r ws) (sym (skipped_further p reg label leaf before from scans slot w low lt ne));
         births = omega (arith, one, more);
       }
 
   -- all words that were passed
   pub walked : (words : List ℕ) (slot : ℕ) → from < p.slots → from + length words ≡ slot → slot ≤ p.slots → All (λ word. 0 < word) words → Walks p words (skipped_to p slot)
   walked words slot first every le taken =
-      subst (λ (y : Private × ℕ). Walks y.0 words (skipped_to p y.1)) (λ k. (skipped_none p reg label before from scans first k, every k)) (walks words from (omega arith) (omega (arith, every, le)) taken)
+      subst (λ (y : Private × ℕ). Walks y.0 words (skipped_to p y.1)) (λ k. (skipped_none p reg label leaf before from scans first k, every k)) (walks words from (omega arith) (omega (arith, every, le)) taken)
 
   -- what the machine is as the scan goes on
   pub skipped_names : (slot : ℕ) → NamesSlots p → NamesSlots (skipped_to p slot)
@@ -148,7 +152,7 @@ module _ (p : Private) (reg label before from : ℕ) (scans : p.phase ≡ at.Sca
   pub skipped_steps : (slot : ℕ) → (skipped_to p slot).steps ≡ p.steps + (slot - from)
   skipped_steps slot = ap (λ (q : Private). q.steps) (came_to slot)
 
-  goes_on : (b : Bool) (slot number : ℕ) (hand : Contents) (phase : phases.Phase) → phase ≡ (if b then at.Scanned reg label before else at.Scanning reg label before slot) → IsBetween phase × (hands_at hand number phase ≡ [])
+  goes_on : (b : Bool) (slot number : ℕ) (hand : Contents) (phase : phases.Phase) → phase ≡ (if b then at.Scanned reg label leaf before else at.Scanning reg label leaf before slot) → IsBetween phase × (hands_at hand number phase ≡ [])
   goes_on true slot number hand phase is = (subst IsBetween (sym is) tt, ap (hands_at hand number) is)
   goes_on false slot number hand phase is = (subst IsBetween (sym is) tt, ap (hands_at hand number) is)
 
@@ -198,7 +202,7 @@ module _ (key : Core) (count probed slot many : ℕ) (t : Seated) (me : Me (Opti
       let p : Private = told (mutator key t.number) t.log in
       let there = scan.there in
       let all = scan.many in
-      let w : Walks p passed.words q = walked p scan.reg scan.label scan.before probed scan.phase passed.words count (omega (arith, there, all)) passed.every (let le = few in omega (arith, le)) passed.taken in
+      let w : Walks p passed.words q = walked p scan.reg scan.label scan.leaf scan.before probed scan.phase passed.words count (omega (arith, there, all)) passed.every (let le = few in omega (arith, le)) passed.taken in
       sym w.told ∙ sym (told_both (mutator key t.number) t.log (saw_all passed.words))
 
   -- the slot that it comes to is so many slots further on
@@ -225,12 +229,13 @@ module _ (key : Core) (count probed slot many : ℕ) (t : Seated) (me : Me (Opti
   scans_on next its =
       let p : Private = told (mutator key t.number) t.log in
       let is : q ≡ told (mutator key (seated_of me.0).number) (seated_of me.0).log = is_q ∙ sym (λ k. told (mutator key (seated_of (passed.grows k).0).number) (seated_of (passed.grows k).0).log) in
-      let came = came_to p scan.reg scan.label scan.before probed scan.phase count in
+      let came = came_to p scan.reg scan.label scan.leaf scan.before probed scan.phase count in
       subst (λ (r : Private). ScansFrom r count next many) is (record {
         reg = scan.reg;
         label = scan.label;
+        leaf = scan.leaf;
         before = scan.before;
-        phase = there_phase p scan.reg scan.label scan.before probed scan.phase count few;
+        phase = there_phase p scan.reg scan.label scan.leaf scan.before probed scan.phase count few;
         comes = its ∙ sym (ap (λ (r : Private). probe_of r count) came);
         many = ap (λ (r : Private). r.slots) came ∙ scan.many;
         there = lt;
@@ -240,9 +245,10 @@ module _ (key : Core) (count probed slot many : ℕ) (t : Seated) (me : Me (Opti
   unfolding q
   allows_pass slots id i st at =
       let p : Private = told (mutator key t.number) t.log in
-      let plain : IsSettledIn q.phase = subst IsSettledIn (sym (there_phase p scan.reg scan.label scan.before probed scan.phase count few)) tt in
-      let all = probes key slots id (probe_of p count) scan.label (longer t (saw_all passed.words)) [] q (ops.ClaimHeader (probe_of p count) scan.label) st is_q (skipped_busy p scan.reg scan.label scan.before probed scan.phase count) plain
-      (sym (skipped_next p scan.reg scan.label scan.before probed scan.phase count few)) refl in
+      let header : ℕ = header_word scan.leaf scan.label in
+      let plain : IsSettledIn q.phase = subst IsSettledIn (sym (there_phase p scan.reg scan.label scan.leaf scan.before probed scan.phase count few)) tt in
+      let all = probes key slots id (probe_of p count) header (longer t (saw_all passed.words)) [] q (ops.ClaimHeader (probe_of p count) header) st is_q (skipped_busy p scan.reg scan.label scan.leaf scan.before probed scan.phase count) plain
+      (sym (skipped_next p scan.reg scan.label scan.leaf scan.before probed scan.phase count few)) refl in
       subst (λ (y : Me (Option Contents) View × ℕ). Operates key Kind.Passes slots id y.0 y.1 (λ n. n) (PassedBy st y.0)) (λ k. (sym passed.grows k, sym at k)) all
 
 -- At the skip: what the machine and the seat are as the scan ends, or comes to a free header.
@@ -259,21 +265,21 @@ pub ends : (o p r : Private) (t : Seated) (slot count : ℕ) (me : Me (Option Co
     → Ends o p r t me passed.words
 ends o p r t slot count me is k passed first few skips names =
     let bs : List Beat = saw_all passed.words in
-    let w : Walks p passed.words (skipped_to p count) = walked p k.reg k.label k.before k.probed k.phase passed.words count first passed.every few passed.taken in
+    let w : Walks p passed.words (skipped_to p count) = walked p k.reg k.label k.leaf k.before k.probed k.phase passed.words count first passed.every few passed.taken in
     let log : (seated_of me.0).log ≡ t.log ++ bs = λ j. (seated_of (passed.grows j).0).log in
-    let rests = skipped_rests p k.reg k.label k.before k.probed k.phase count (seated_of me.0) in
+    let rests = skipped_rests p k.reg k.label k.leaf k.before k.probed k.phase count (seated_of me.0) in
     let none : [] ≡ hands (seated_of me.0) r = sym (ap (hands (seated_of me.0)) skips ∙ rests.1) in
     let all = births_both o t.log bs in
     let born : births_told (told o t.log) bs ≡ 0 = ap (λ (q : Private). births_told q bs) (sym is) ∙ w.births in
     record {
       seat = passed.grows ∙ (λ j. (Mutates (seated_of (sym passed.grows j).0), none j));
       told = skips ∙ sym w.told ∙ ap (λ (q : Private). told q bs) is ∙ sym (told_both o t.log bs) ∙ ap (told o) (sym log);
-      names = subst NamesSlots (sym skips) (skipped_names p k.reg k.label k.before k.probed k.phase count names);
+      names = subst NamesSlots (sym skips) (skipped_names p k.reg k.label k.leaf k.before k.probed k.phase count names);
       between = subst (λ (q : Private). IsBetween q.phase) (sym skips) rests.0;
       births = ap (births_told o) log ∙ (let e : births_told o (t.log ++ bs) ≡ births_told o t.log = omega (arith, all, born) in e);
       learns = skips ∙ w.learns;
       steps =
-          let so : r.steps ≡ p.steps + (count - k.probed) = ap (λ (q : Private). q.steps) skips ∙ skipped_steps p k.reg k.label k.before k.probed k.phase count in
+          let so : r.steps ≡ p.steps + (count - k.probed) = ap (λ (q : Private). q.steps) skips ∙ skipped_steps p k.reg k.label k.leaf k.before k.probed k.phase count in
           let every = passed.every in
           omega (arith, so, every);
     }

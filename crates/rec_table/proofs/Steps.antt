@@ -5,17 +5,18 @@ use mathlib.Core.Option.{some}
 use lib.ListN.{get_elem?}
 use Rattle.atomic_table.specs.Table.{State, Step, keeps}
 use Rattle.atomic_table.proofs.Lists.{at_set}
+use Rattle.rec_word.specs.Header.{is_leaf}
 use Rattle.rec_word.specs.Op.{written}
 use Rattle.rec_word.specs.declared.op.Op.{Op}
 use Rattle.rec_word.specs.declared.op.Op.TheVariants as ops
 use Rattle.rec_model.specs.declared.command.Cmd.{Cmd}
 use Rattle.rec_model.specs.declared.command.Cmd.TheVariants as commands
 use Rattle.rec_log.specs.declared.contents.Contents.{Contents}
-use Rattle.rec_mutator.specs.Next.{next_of, next_at, read_op, write_op, label_op, own_word}
+use Rattle.rec_mutator.specs.Next.{next_of, next_at, read_op, write_op, label_op, new_op}
 use Rattle.rec_mutator.specs.Private.{Private, is_busy, is_full, register, probe_of}
 use Rattle.rec_mutator.specs.Step.{NamesSlots}
 use Rattle.rec_model.specs.Asking.{plain as plain_told}
-use Rattle.rec_mutator.specs.Took.{begun_of, took_of, took_at, read_by, written_by, answered, moved, born_in, spare, left_of, step_of, IsFound}
+use Rattle.rec_mutator.specs.Took.{begun_of, took_of, took_at, read_by, allowed_by, written_by, answered, moved, born_in, spare, left_of, step_of, IsFound}
 use Rattle.rec_mutator.specs.declared.phase.Phase as phases
 use Rattle.rec_mutator.specs.declared.phase.Phase.TheVariants as at
 use Rattle.rec_mutator.specs.declared.work.Work.{Work}
@@ -151,23 +152,24 @@ plain_next p plain = by p.phase plain
     read f None = tt
     read f (Some slot) = tt
 
-    wrote : (f val : ℕ) (x : Option ℕ) (full : Bool) → IsPlainOp (write_op p f val x full)
-    wrote f val None full = tt
-    wrote f val (Some slot) true = tt
-    wrote f val (Some slot) false = tt
+    wrote : (x : Option ℕ) (full : Bool) → IsPlainOp (write_op p x full)
+    wrote None full = tt
+    wrote (Some slot) true = tt
+    wrote (Some slot) false = tt
 
     labelled : (x : Option ℕ) → IsPlainOp (label_op p x)
     labelled None = tt
     labelled (Some slot) = tt
 
-    new : (b : Bool) → IsPlainOp (cond b (own_word p) ops.LoadFreed)
+    new : (full : Bool) → IsPlainOp (new_op p full)
     new true = tt
     new false = tt
 
     by : (phase : phases.Phase) → IsSettledIn phase → IsPlainOp (next_at p phase)
     by (at.Begun (works.Command (commands.New reg label))) is = new (is_full p)
+    by (at.Begun (works.Command (commands.Leaf reg label))) is = new (is_full p)
     by (at.Begun (works.Command (commands.Get dst src f))) is = read f (register p src)
-    by (at.Begun (works.Command (commands.Put src f val))) is = wrote f val (register p src) (is_full p)
+    by (at.Begun (works.Command (commands.Put src f val))) is = wrote (register p src) (is_full p)
     by (at.Begun (works.Command (commands.Value reg))) is = labelled (register p reg)
     by at.Crossing is = absurd is
     by at.Swapping is = absurd is
@@ -417,23 +419,28 @@ not_giving p word phase plain = by phase plain
     read cmd dst None = refl
     read cmd dst (Some slot) = refl
 
-    wrote : (cmd : Cmd) (f val : ℕ) (x : Option ℕ) (full : Bool) → is_giving (written_by p cmd f val word x full).phase ≡ false
-    wrote cmd f val None full = refl
-    wrote cmd f val (Some slot) true = refl
-    wrote cmd f val (Some slot) false = refl
+    allowed : (src f val slot : ℕ) (leaf : Bool) → is_giving (allowed_by p src f val slot leaf).phase ≡ false
+    allowed src f val slot true = refl
+    allowed src f val slot false = refl
+
+    wrote : (src f val : ℕ) (x : Option ℕ) (full : Bool) → is_giving (written_by p src f val word x full).phase ≡ false
+    wrote src f val None full = refl
+    wrote src f val (Some slot) true = refl
+    wrote src f val (Some slot) false = allowed src f val slot (is_leaf word)
 
     goes : (b : Bool) (x y : phases.Phase) → is_giving x ≡ false → is_giving y ≡ false → is_giving (cond b x y) ≡ false
     goes true x y a c = a
     goes false x y a c = c
 
     by : (at_phase : phases.Phase) → IsSettledIn at_phase → is_giving (took_at p word at_phase).phase ≡ false
-    by (at.Begun (works.Command (commands.New reg label))) is = new (answered p (commands.New reg label) (plain_told answers.LogFull)) (moved p (at.Scanning reg label word 0)) (is_full p) refl refl
+    by (at.Begun (works.Command (commands.New reg label))) is = new (answered p (commands.New reg label) (plain_told answers.LogFull)) (moved p (at.Scanning reg label false word 0)) (is_full p) refl refl
+    by (at.Begun (works.Command (commands.Leaf reg label))) is = new (answered p (commands.Leaf reg label) (plain_told answers.LogFull)) (moved p (at.Scanning reg label true word 0)) (is_full p) refl refl
     by (at.Begun (works.Command (commands.Get dst src f))) is = read (commands.Get dst src f) dst (register p src)
-    by (at.Begun (works.Command (commands.Put src f val))) is = wrote (commands.Put src f val) f val (register p src) (is_full p)
+    by (at.Begun (works.Command (commands.Put src f val))) is = wrote src f val (register p src) (is_full p)
     by (at.Begun works.Poll) is = goes (eqb word p.epoch) (at.Finished works.Poll (makes.Crossed None)) at.Crossing refl refl
-    by (at.Scanning reg label before_ probed) is =
-        new (born_in p reg label (probe_of p probed)) (moved p (cond (eqb (probed + 1) p.slots) (at.Scanned reg label before_) (at.Scanning reg label before_ (probed + 1)))) (eqb word 0) refl
-        (goes (eqb (probed + 1) p.slots) (at.Scanned reg label before_) (at.Scanning reg label before_ (probed + 1)) refl refl)
+    by (at.Scanning reg label leaf before_ probed) is =
+        new (born_in p reg label leaf (probe_of p probed)) (moved p (cond (eqb (probed + 1) p.slots) (at.Scanned reg label leaf before_) (at.Scanning reg label leaf before_ (probed + 1)))) (eqb word 0) refl
+        (goes (eqb (probed + 1) p.slots) (at.Scanned reg label leaf before_) (at.Scanning reg label leaf before_ (probed + 1)) refl refl)
     by at.Crossing is = absurd is
     by at.Swapping is = absurd is
     by at.Giving is = absurd is

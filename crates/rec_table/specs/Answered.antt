@@ -1,10 +1,11 @@
 -- Why a command was answered so, said of the mutator's list.
-use Rattle.std.specs.Prelude.{◌≡◌, ◌≢◌, ℕ, ◌+◌, ◌<◌, Option, None, Some, List, [], ◌∷◌, ◌++◌, fold, length, map}
+use Rattle.std.specs.Prelude.{◌≡◌, ◌≢◌, ◌↔◌, ℕ, ◌+◌, ◌<◌, Bool, Option, None, Some, List, [], ◌∷◌, ◌++◌, fold, length, map}
 use Rattle.rec_model.specs.declared.answer.Answer.TheVariants as answers
 use Rattle.rec_model.specs.declared.command.Cmd.{Cmd}
-use Rattle.rec_model.specs.declared.command.Cmd.TheVariants as commands
+use Rattle.rec_model.specs.Asking.{allocation}
 use Rattle.rec_model.specs.declared.told.Told.{Told}
-use Rattle.rec_mutator.specs.Causes.{HasCause}
+use Rattle.rec_word.specs.Header.{header_word}
+use Rattle.rec_mutator.specs.Causes.{HasCause, FindsLeaf}
 use Rattle.rec_mutator.specs.Private.{Private, limit_of}
 use Rattle.rec_mutator.specs.Scans.{FailsScan, ops_along}
 use Rattle.rec_mutator.specs.Step.{IsStill}
@@ -18,13 +19,14 @@ use Rattle.rec_table.specs.declared.views.Beat.TheVariants.{Begins, Saw}
 abbrev pub worked : Start → (words : List ℕ) → List Beat
 worked start words = Begins start ∷ map (λ word. Saw word) words
 
--- Every probe of an allocation failed: its first step found `before` in the freed word; then the header of each slot was claimed, one
--- after another, once round from slot `from` on, and each was found taken. These are all its steps but the last.
+-- Every probe of an allocation failed, of a leaf or not: its first step found `before` in the freed word; then the header of each slot was
+-- claimed, one after another, once round from slot `from` on, and each was found taken. These are all its steps but the last.
 pub record FailsProbes (p : Private) (cmd : Cmd) (from before : ℕ) (words : List ℕ) : Type 0 where
   pub reg : ℕ
   pub label : ℕ
-  pub is : cmd ≡ commands.New reg label
-  pub fails : FailsScan label p.slots from before (ops_along (begun_of p (works.Command cmd) from) words) words
+  pub leaf : Bool
+  pub is : cmd ≡ allocation leaf reg label
+  pub fails : FailsScan (header_word leaf label) p.slots from before (ops_along (begun_of p (works.Command cmd) from) words) words
 
 -- The list grew by the command and the words that its steps found, and each refusal has its cause there.
 pub record IsAnswered (p : Private) (cmd : Cmd) (log log' : List Beat) (q : Private) (told : Told) : Type 0 where
@@ -36,6 +38,8 @@ pub record IsAnswered (p : Private) (cmd : Cmd) (log log' : List Beat) (q : Priv
   -- it took no more steps than such a command takes at most
   pub few : length words < limit_of p.slots (works.Command cmd)
   pub cause : HasCause (fold took_of (begun_of p (works.Command cmd) from) words) q cmd last told.answer
+  -- NoField: a write's first step looked at the header of an object that is there, with room in the log, and found a leaf's
+  pub no_field : (told.answer ≡ answers.NoField) ↔ ((words ≡ []) × FindsLeaf (begun_of p (works.Command cmd) from) last cmd)
   -- Full: the last step found the freed word as the first one had, and it was even
   pub full : told.answer ≡ answers.Full → (before : ℕ) × FailsProbes p cmd from before words × IsStill before last
   -- Busy tells both words, where that is not so

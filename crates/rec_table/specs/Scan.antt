@@ -1,5 +1,5 @@
 -- A scan on the table: its failing probes are loads of taken headers, and the machine learns of all of them at once.
-use Rattle.std.specs.Prelude.{◌≡◌, ℕ, ◌+◌, ◌<◌, Option, List, [], ◌++◌, length, map, fold, All}
+use Rattle.std.specs.Prelude.{◌≡◌, ℕ, ◌+◌, ◌<◌, Bool, Option, List, [], ◌++◌, length, map, fold, All}
 use Rattle.atomic_table.specs.Table.{Me}
 use Rattle.rec_log.specs.declared.contents.Contents.{Contents}
 use Rattle.rec_mutator.specs.Private.{Private, probe_of}
@@ -21,8 +21,9 @@ saw_all words = map (λ word. Saw word) words
 pub record ScansFrom (p : Private) (probed slot slots : ℕ) : Type 0 where
   pub reg : ℕ
   pub label : ℕ
+  pub leaf : Bool
   pub before : ℕ
-  pub phase : p.phase ≡ Scanning reg label before probed
+  pub phase : p.phase ≡ Scanning reg label leaf before probed
   pub comes : slot ≡ probe_of p probed
   pub many : p.slots ≡ slots
   pub there : probed < slots

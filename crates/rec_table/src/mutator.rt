@@ -61,8 +61,8 @@ impl Mutator {
         ensures answer { answer_of (has self.new) ≡ Some (makes.Answered result) }
 
         // Each refusal has its cause in the list: Full and Busy come where each probe found a taken header, between the first and the
-        // last look at the freed word. The list also tells that an allocation takes at most two steps more than there are slots, and each
-        // other command one.
+        // last look at the freed word, and NoField where a write's first step found a leaf's header. The list also tells that an allocation
+        // takes at most two steps more than there are slots, a write at most two, and each other command one.
         ensures causes { IsAnswered (has self.old) cmd self.old.log self.new.log (has self.new) result }
         ensures line { Tells (has self.old) self.old.log self.new.log ((cmd, result) ∷ []) }
         ensures idle { is_busy (has self.new) ≡ false }
@@ -131,7 +131,7 @@ impl Mutator {
 fn see_label(work: Work)
     ensures { HasLabel work }
 {
-    if let Work::Command(Cmd::New { label, .. }) = work {
+    if let Work::Command(Cmd::New { label, .. } | Cmd::Leaf { label, .. }) = work {
         prove!(label <= u32::MAX);
     }
 }

@@ -107,6 +107,7 @@ commanded cmd told w v noted room some work is tells sizes = record {
 -- who has its registers and fields may be asked the same
 pub operands_kept : (p q : Private) → KeepsSizes p q → (cmd : Cmd) → HasOperands p cmd → HasOperands q cmd
 operands_kept p q k (commands.New reg label) has = subst (λ n. reg < n) (sym k.registers) has
+operands_kept p q k (commands.Leaf reg label) has = subst (λ n. reg < n) (sym k.registers) has
 operands_kept p q k (commands.Null reg) has = subst (λ n. reg < n) (sym k.registers) has
 operands_kept p q k (commands.Copy dst src) has = subst (λ n. (dst < n) × (src < n)) (sym k.registers) has
 operands_kept p q k (commands.Get dst src f) has = (subst (λ n. dst < n) (sym k.registers) has.0, subst (λ n. src < n) (sym k.registers) has.1, subst (λ n. f < n) (sym k.fields) has.2)
@@ -117,6 +118,7 @@ operands_kept p q k (commands.Same a b) has = subst (λ n. (a < n) × (b < n)) (
 -- a script's command may be asked of who has the script's registers and fields
 script_operands : (registers fields : ℕ) (p : Private) → length p.registers ≡ registers → p.fields ≡ fields → (cmd : Cmd) → IsCommand registers fields cmd → HasOperands p cmd
 script_operands registers fields p r f (commands.New reg label) is = subst (λ n. reg < n) (sym r) is.0
+script_operands registers fields p r f (commands.Leaf reg label) is = subst (λ n. reg < n) (sym r) is.0
 script_operands registers fields p r f (commands.Null reg) is = subst (λ n. reg < n) (sym r) is
 script_operands registers fields p r f (commands.Copy dst src) is = subst (λ n. (dst < n) × (src < n)) (sym r) is
 script_operands registers fields p r f (commands.Get dst src field) is = (subst (λ n. dst < n) (sym r) is.0, subst (λ n. src < n) (sym r) is.1, subst (λ n. field < n) (sym f) is.2)

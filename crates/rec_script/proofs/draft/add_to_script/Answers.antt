@@ -13,4 +13,4 @@ returns-then-mutators-eq-MOST_MUTATORS-clause-refused c = λ line kind e.
 pub returns-in-Err-clause-refused : goal.returns-in-Err-clause-refused
 returns-in-Err-clause-refused c = λ line kind e.
     told (Fits (spelled c.args.script.now) (c.args.word.now ∷ words c.args.rest.now)) c.bad-in-Err.result c.args.number line _ kind c.bad-in-Err.ensures e
-    (fits_command c.args.script.now c.registers.result c.fields.result c.last.result (c.args.word.now ∷ words c.args.rest.now) _ c.registers.ensures.valid c.registers.ensures.value c.fields.ensures.value c.last.ensures.value (is_not _ _ c.is_mutator.ensures c.if-is_mutator.false) c.in-Err.ensures.wrong)
+    (fits_command c.args.script.now c.version.result c.registers.result c.fields.result c.last.result (c.args.word.now ∷ words c.args.rest.now) _ c.registers.ensures.valid c.version.ensures.value c.registers.ensures.value c.fields.ensures.value c.last.ensures.value (is_not _ _ c.is_mutator.ensures c.if-is_mutator.false) c.in-Err.ensures.wrong)

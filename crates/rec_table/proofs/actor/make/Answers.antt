@@ -1,6 +1,5 @@
-use Rattle.std.proofs.Common.{◌+◌, ℕ, sym, ap, ◌∙◌, subst, ◌<◌, ⊎_elim}
+use Rattle.std.proofs.Common.{ℕ, sym, ap, ◌∙◌, subst, ◌<◌, ⊎_elim}
 use mathlib.Core.Option.{none}
-use prog.Atomic.{either}
 use Rattle.rec_word.specs.Op.{written}
 use Rattle.rec_word.specs.declared.op.Op.{Op}
 use Rattle.atomic_table.specs.Table.{step}
@@ -98,9 +97,9 @@ compare_exchange-requires g c =
     let key = c.args.board.now.table.shared.key.value in (
       c.requires.table,
       subst (λ (i : ℕ). i < c.args.board.now.table.shared.table_id.words) (sym c.index-word.ensures) c.requires.there,
-      allows_plain key _ _ c.index-word.result c.args.seat.now.me c.args.op c.args.work g.W.Doing.work g.W.Doing.actor (_) (step c.args.board.now.table.shared.table_id.slots c.index-word.result 0 (c.from.result + 1) none)
+      allows_plain key _ _ c.index-word.result c.args.seat.now.me c.args.op c.args.work g.W.Doing.work g.W.Doing.actor (_) (step c.args.board.now.table.shared.table_id.slots c.index-word.result 0 c.in-ClaimHeader.header none)
           c.requires.seat c.requires.actor c.requires.work.0 c.requires.work.1 (plain_phase (ready g.W.Doing.actor c.args.work) c.args.op c.requires.op c.requires.between (subst IsPlainOp (sym c.in-ClaimHeader.is) tt)) c.requires.op c.index-word.ensures
-          (λ n. ap (λ (k : ℕ). either (Rattle.std.specs.Prelude.◌==◌ n 0) (k + 1) n) c.from.ensures ∙ ap (λ (o : Op). written o n) (sym c.in-ClaimHeader.is)),
+          (λ n. ap (λ (o : Op). written o n) (sym c.in-ClaimHeader.is)),
     )
 
 pub returns-in-ClaimHeader-clause-view : goal.returns-in-ClaimHeader-clause-view

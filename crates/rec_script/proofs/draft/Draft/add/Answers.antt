@@ -6,20 +6,20 @@ use Rattle.rec_script.proofs.Commands.{is_not}
 use Rattle.rec_script.proofs.Faults.{told, fits_nothing, fits_header, fits_sized, fits_whole}
 use Rattle.rec_script.proofs.draft.Draft.add.Goals as goal
 
-pub returns-then-not-is_header-clause-refused : goal.returns-then-not-is_header-clause-refused
-returns-then-not-is_header-clause-refused c = λ line kind e.
-    told (Fits (so_far c.args.self.now) (c.args.word.now ∷ words c.args.rest.now)) c.bad.result c.args.number line _ kind c.bad.ensures e
-    (fits_nothing c.args.self.now (c.args.word.now ∷ words c.args.rest.now) c.in-Nothing.is (is_not _ _ c.is_header.ensures c.if-not-is_header.true))
-
 pub returns-in_default-clause-refused : goal.returns-in_default-clause-refused
 returns-in_default-clause-refused c = λ line kind e.
-    told (Fits (so_far c.args.self.now) (c.args.word.now ∷ words c.args.rest.now)) c.bad-in_default.result c.args.number line _ kind c.bad-in_default.ensures e
-    (fits_header c.args.self.now (c.args.word.now ∷ words c.args.rest.now) c.in-Header.is c.in_default.ensures.none)
+    told (Fits (so_far c.args.self.now) (c.args.word.now ∷ words c.args.rest.now)) c.bad.result c.args.number line _ kind c.bad.ensures e
+    (fits_nothing c.args.self.now (c.args.word.now ∷ words c.args.rest.now) c.in-Nothing.is c.in_default.ensures.none)
+
+pub returns-in_default-read_heap-clause-refused : goal.returns-in_default-read_heap-clause-refused
+returns-in_default-read_heap-clause-refused c = λ line kind e.
+    told (Fits (so_far c.args.self.now) (c.args.word.now ∷ words c.args.rest.now)) c.bad-in_default-read_heap.result c.args.number line _ kind c.bad-in_default-read_heap.ensures e
+    (fits_header c.args.self.now _ (c.args.word.now ∷ words c.args.rest.now) c.in-Header.is c.requires c.in_default-read_heap.ensures.none)
 
 pub returns-then-not-is_mutator-clause-refused : goal.returns-then-not-is_mutator-clause-refused
 returns-then-not-is_mutator-clause-refused c = λ line kind e.
     told (Fits (so_far c.args.self.now) (c.args.word.now ∷ words c.args.rest.now)) c.bad-then-not-is_mutator.result c.args.number line _ kind c.bad-then-not-is_mutator.ensures e
-    (fits_sized c.args.self.now _ (c.args.word.now ∷ words c.args.rest.now) c.in-Sized.is c.requires (is_not _ _ c.is_mutator.ensures c.if-not-is_mutator.true))
+    (fits_sized c.args.self.now _ _ (c.args.word.now ∷ words c.args.rest.now) c.in-Sized.is c.requires (is_not _ _ c.is_mutator.ensures c.if-not-is_mutator.true))
 
 pub returns-in-Whole-clause-refused : goal.returns-in-Whole-clause-refused
 returns-in-Whole-clause-refused c = λ line kind e.

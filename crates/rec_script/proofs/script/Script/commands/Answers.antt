@@ -13,8 +13,8 @@ returns-then-index-len-clause-valid c =
     let lt : c.from-index.result - 1 < length c.self.inside.earlier.items = grind (arith, common_steps) in
     let is = earlier_at (λ v. v.items) c.self.inside.earlier.items c.self.inside.last.items (c.from-index.result - 1) c.index.result.now lt c.index.ensures in
     let within : c.from-index.result - 1 < length (map (λ v. v.items) c.self.inside.earlier.items ++ c.self.inside.last.items ∷ []) = rw length-append (rw length-map (omega arith)) in
-    subst (λ (v : Contents). AreCommands v.registers v.fields c.deref.result.now) c.self.view_is
-    (subst (λ (cmds : List Cmd). AreCommands c.self.inside.registers c.self.inside.fields cmds) (is ∙ sym c.deref.ensures.value) (c.self.invariant.commands (c.from-index.result - 1) [] within))
+    subst (λ (v : Contents). AreCommands v.version v.registers v.fields c.deref.result.now) c.self.view_is
+    (subst (λ (cmds : List Cmd). AreCommands c.self.inside.version c.self.inside.registers c.self.inside.fields cmds) (is ∙ sym c.deref.ensures.value) (c.self.invariant.commands (c.from-index.result - 1) [] within))
 
 pub returns-else-index-len-clause-value : goal.returns-else-index-len-clause-value
 returns-else-index-len-clause-value c =
@@ -27,6 +27,6 @@ returns-else-index-len-clause-value c =
 
 pub returns-else-index-len-clause-valid : goal.returns-else-index-len-clause-valid
 returns-else-index-len-clause-valid c =
-    subst (λ (v : Contents). AreCommands v.registers v.fields c.deref-else-index-len.result.now) c.self.view_is
-    (subst (λ (cmds : List Cmd). AreCommands c.self.inside.registers c.self.inside.fields cmds) (sym c.deref-else-index-len.ensures.value)
+    subst (λ (v : Contents). AreCommands v.version v.registers v.fields c.deref-else-index-len.result.now) c.self.view_is
+    (subst (λ (cmds : List Cmd). AreCommands c.self.inside.version c.self.inside.registers c.self.inside.fields cmds) (sym c.deref-else-index-len.ensures.value)
     (last_within (contents c.self.inside) (map (λ v. v.items) c.self.inside.earlier.items) c.self.inside.last.items c.self.invariant refl))

@@ -82,7 +82,7 @@ first_free-count-requires-clause-scan c =
     let lt = (first a).0 in
     let all = many a in
     subst (λ (y : Private × ℕ). ScansFrom y.0 y.1 c.from.result c.args.board.now.slots) (λ j. ((c.self.invariant.1 ∙ ap (λ (p : Private). told p (seated a).log) (opened a)) j, sym (probed_is a) j))
-    (record { reg = k.reg; label = k.label; before = k.before; phase = k.phase; comes = k.comes; many = all; there = omega (arith, lt, all) })
+    (record { reg = k.reg; label = k.label; leaf = k.leaf; before = k.before; phase = k.phase; comes = k.comes; many = all; there = omega (arith, lt, all) })
 
 pub first_free-count-requires-clause-slot : goal.first_free-count-requires-clause-slot
 first_free-count-requires-clause-slot c =
