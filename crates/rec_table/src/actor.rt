@@ -83,9 +83,7 @@ fn make<W: Doing>(
             load::<Makes<W>>(board, seat, word)
         }
         Op::SwapField(_, new) => swap::<Makes<W>>(board, seat, word, new),
-        Op::ClaimHeader(_, header) => {
-            compare_exchange::<Makes<W>>(board, seat, word, 0, header)
-        }
+        Op::ClaimHeader(_, header) => { compare_exchange::<Makes<W>>(board, seat, word, 0, header) }
         Op::TakeBox(_, epoch) => swap::<Takes<W>>(
             board,
             seat,
