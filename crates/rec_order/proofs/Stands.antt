@@ -102,7 +102,7 @@ birth_header : (w : Sight) (slot t reg label : ℕ) (leaf done : Bool) → done 
 birth_header w slot t reg label leaf done birth = (header_word leaf label, omega arith, ap (λ (b : Bool). (if b then sight_with_birth w t reg slot (header_word leaf label) else w).headers) birth)
 
 -- the header that a birth leaves
-birth_headers : (w : Sight) (slot t : ℕ) (cmd : Cmd) (told : Told) → is_birth (cmd, told) ≡ true → (header : ℕ) × (0 < header) × ((sight_told w slot t cmd told).headers ≡ slice_set w.headers slot header)
+pub birth_headers : (w : Sight) (slot t : ℕ) (cmd : Cmd) (told : Told) → is_birth (cmd, told) ≡ true → (header : ℕ) × (0 < header) × ((sight_told w slot t cmd told).headers ≡ slice_set w.headers slot header)
 birth_headers w slot t (commands.New reg label) told birth = birth_header w slot t reg label false (is_done told.answer) birth
 birth_headers w slot t (commands.Leaf reg label) told birth = birth_header w slot t reg label true (is_done told.answer) birth
 birth_headers w slot t _ told birth = cc

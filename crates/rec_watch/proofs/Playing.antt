@@ -4,7 +4,6 @@ use Rattle.std.specs.List.{slice_get}
 use Rattle.std.proofs.lemmas.Bool.{cases_eq, eq-eqb, ne_eqb}
 use Rattle.std.proofs.lemmas.List.{append_assoc, length-set, get_or-set_same, get_or-set_other}
 use Rattle.rec_model.specs.declared.command.Cmd.{Cmd}
-use Rattle.rec_model.specs.declared.command.Cmd.TheVariants as commands
 use Rattle.rec_model.specs.declared.told.Told.{Told}
 use Rattle.rec_model.specs.LegalOrder.{Event, is_birth}
 use Rattle.rec_model.specs.LegalOrder.Event.{Answers}
@@ -15,13 +14,14 @@ use Rattle.rec_collector.specs.declared.turn.Turn.{Turn}
 use Rattle.rec_core.specs.Config.{IsMutator}
 use Rattle.rec_core.specs.Core.{Core, sight}
 use Rattle.rec_core.specs.Moves.{turned}
-use Rattle.rec_core.specs.Shown.{sight_told, sight_with_birth}
+use Rattle.rec_core.specs.Shown.{sight_told}
 use Rattle.rec_core.specs.Worked.{AreIdle, IsWorked}
 use Rattle.rec_core.specs.declared.config.Config.{Config}
 use Rattle.rec_core.proofs.Runs.{looked_is}
 use Rattle.rec_mutator.specs.declared.work.Work.TheVariants as works
 use Rattle.rec_order.specs.Events.{swept_by}
 use Rattle.rec_order.specs.Naming.{Naming, NamesGoOn, born_in}
+use Rattle.rec_order.proofs.Stands.{birth_headers}
 use Rattle.rec_world.specs.World.{IsLowestFree, IsWorld}
 use Rattle.rec_world.proofs.Calls.{world_kept}
 use Rattle.rec_script.specs.Script.{Contents}
@@ -36,10 +36,9 @@ use Rattle.rec_watch.proofs.Counting.{IsNext, made_more, made_same, next_turn}
 
 -- the slot of a birth is taken then
 born_taken : (w : Sight) (slot t : ℕ) (cmd : Cmd) (told : Told) → is_birth (cmd, told) ≡ true → slot < length w.headers → IsTaken (sight_told w slot t cmd told) slot
-born_taken w slot t (commands.New reg label) told birth there =
-    subst (λ (b : Bool). let s : Sight = if b then sight_with_birth w t reg slot label else w in IsTaken s slot) (sym birth)
-    (let is : slice_index_or (slice_set w.headers slot (label + 1)) slot 0 ≡ label + 1 = get_or-set_same w.headers slot (label + 1) 0 there in omega (arith, is))
-born_taken w slot t _ told birth there = cc
+born_taken w slot t cmd told birth there =
+    let (header, some, left) = birth_headers w slot t cmd told birth in
+    subst (λ n. 0 < n) (sym (ap (λ (hs : List ℕ). slice_index_or hs slot 0) left ∙ get_or-set_same w.headers slot header 0 there)) some
 
 -- How the naming goes on over a poll and the command behind it.
 pub names_go : (before mid after : Core) (slot t : ℕ) (cmd : Cmd) (told : Told) → sight mid ≡ sight before → sight after ≡ sight_told (sight mid) slot t cmd told
