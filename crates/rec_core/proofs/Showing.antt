@@ -6,11 +6,12 @@ use Rattle.rec_word.specs.Place.{place_of}
 use Rattle.rec_word.specs.Word.{target_of, stamp_of}
 use Rattle.rec_word.specs.declared.op.Op.{Op}
 use Rattle.rec_word.specs.declared.stamps.Stamp.{Stamp}
-use Rattle.rec_model.specs.Asking.{null_or_object, same, yes_or_no, plain}
+use Rattle.rec_model.specs.Asking.{allocation, is_done, null_or_object, plain, refuses_new, same, yes_or_no}
 use Rattle.rec_model.specs.Explained.{IsExplained}
 use Rattle.rec_model.specs.Heap.{register}
 use Rattle.rec_model.specs.LegalOrder.{is_birth, word_left}
 use Rattle.rec_model.specs.Sight.{Sight, IsTaken, word_at, sight_with_register, sight_with_word, sight_with_header}
+use Rattle.rec_model.specs.declared.answer.Answer.{Answer}
 use Rattle.rec_model.specs.declared.answer.Answer.TheVariants as answers
 use Rattle.rec_model.specs.declared.command.Cmd.{Cmd}
 use Rattle.rec_model.specs.declared.command.Cmd.TheVariants as commands
@@ -37,7 +38,7 @@ use Rattle.rec_core.specs.Config.{IsMutator}
 use Rattle.rec_core.specs.Core.{Core, cells_of, sight, mutator, with_mutator, log_length, box, nobody}
 use Rattle.rec_core.specs.Kept.{IsKept}
 use Rattle.rec_core.specs.Moves.{performed, stepped, found_by}
-use Rattle.rec_core.specs.Shown.{IsFilled, may_answer, entries_of, sight_told, sight_after_get, sight_after_put, Leaves, IsDecided, IsShown, probed_at}
+use Rattle.rec_core.specs.Shown.{IsBirthplace, IsFilled, may_answer, entries_of, sight_told, sight_with_birth, sight_after_get, sight_after_put, Leaves, IsDecided, IsShown, probed_at}
 use Rattle.rec_core.specs.Unfinished.{OnlyWorks, IsQuiet, HasFound}
 use Rattle.rec_core.proofs.Crossings.{takes, left_same}
 use Rattle.rec_mutator.proofs.LogStamps.{word_stamp}
@@ -147,6 +148,28 @@ tells {w = w} {t = t} {cmd = cmd} {told = told} explained seen kind full no_birt
       entered = sym (add-zero (log_length w t)) ∙ ap (λ n. log_length w t + n) (sym no_entry);
       stamp = subst (λ (x : Option ℕ). IfSome x (λ word. stamp_of word ≡ record { writer = t; epoch = (mutator w t).epoch; index = log_length w t })) (sym no_word) tt;
     }
+
+-- an allocation that is refused makes no log entry, whether a leaf was asked for or not
+refused_entries : (leaf : Bool) (reg label : ℕ) (answer : Answer) → is_done answer ≡ false → entries_of (allocation leaf reg label) answer ≡ 0
+refused_entries leaf reg label answers.Done undone = absurd (false≢true (sym undone))
+refused_entries true reg label _ undone = refl
+refused_entries false reg label _ undone = refl
+
+-- nor a birth,
+refused_telling : {w : Core} {t : ℕ} {answer : Answer} (leaf : Bool) (reg label : ℕ) → refuses_new answer ≡ true → is_done answer ≡ false → (answer ≡ answers.Full → IsFilled w)
+    → IsTelling w t (allocation leaf reg label) (plain answer) (mutator w t).log.entries w.made 0 (sight w)
+refused_telling {w = w} {t = t} {answer = answer} true reg label refuses undone full =
+    tells (birth_refused (sight w) t reg label true answer refuses undone) (rw undone refl) (rw undone refuses) full (rw undone refl) refl (refused_entries true reg label answer undone)
+refused_telling {w = w} {t = t} {answer = answer} false reg label refuses undone full =
+    tells (birth_refused (sight w) t reg label false answer refuses undone) (rw undone refl) (rw undone refuses) full (rw undone refl) refl (refused_entries false reg label answer undone)
+
+-- and one that is made makes one of each
+birth_telling : {w : Core} {t slot : ℕ} {entries : List Entry} (leaf : Bool) (reg label : ℕ) → IsExplained (sight w) t (allocation leaf reg label) (plain answers.Done) (sight_with_birth (sight w) t reg slot (header_word leaf label))
+    → IsBirthplace w t slot → length entries ≡ log_length w t + 1 → IsTelling w t (allocation leaf reg label) (plain answers.Done) entries (w.made + 1) slot (sight_with_birth (sight w) t reg slot (header_word leaf label))
+birth_telling true reg label explained place entered =
+    record { explained = explained; leaves = record { seen = refl; birth = λ _. place }; kind = refl; full = λ is. cc; births = refl; entered = entered; stamp = tt }
+birth_telling false reg label explained place entered =
+    record { explained = explained; leaves = record { seen = refl; birth = λ _. place }; kind = refl; full = λ is. cc; births = refl; entered = entered; stamp = tt }
 
 -- an answer that is no refusal
 done : {w : Core} {t : ℕ} {op : Op} {q : Private} {cmd : Cmd} {phase : phases.Phase} {its_op : Op} {registers : List (Option ℕ)} {entries : List Entry} {told : Told} {v : Core}
@@ -283,55 +306,26 @@ says {w = w} {t = t} {word = word} {op = op} {q = q} m (Step.value reg slot name
     after_header (Says w t q) w t _ word q op d.operation m.found
     (done refl d refl (decides_here m d (saw_same w t q (registers_left d))
     (tells (subst (λ n. IsExplained (sight w) t (commands.Value reg) (plain (answers.Value (label_of n))) (sight w)) (sym is_word) (value_explained (sight w) t reg slot m.kept.sound there)) refl refl (λ is. cc) refl refl refl)))
-says {w = w} {t = t} {word = word} {op = op} {q = q} m (Step.new_refused reg label true full d) =
-    after_cross (Says w t q) w t _ word q op d.operation m.found (refuses refl m d (tells (birth_refused (sight w) t reg label true answers.LogFull refl refl) refl refl (λ is. cc) refl refl refl))
-says {w = w} {t = t} {word = word} {op = op} {q = q} m (Step.new_refused reg label false full d) =
-    after_cross (Says w t q) w t _ word q op d.operation m.found (refuses refl m d (tells (birth_refused (sight w) t reg label false answers.LogFull refl refl) refl refl (λ is. cc) refl refl refl))
+says {w = w} {t = t} {word = word} {op = op} {q = q} m (Step.new_refused reg label leaf full d) =
+    after_cross (Says w t q) w t _ word q op d.operation m.found (refuses refl m d (refused_telling leaf reg label refl refl (λ is. cc)))
 says {w = w} {t = t} {word = word} {op = op} {q = q} m (Step.new_begins reg label leaf room g) =
     let freed : word ≡ w.freed = m.found ∙ ap (cell (cells_of w)) g.operation in
     after_freed (Says w t q) w t word q op g.operation m.found (going_on m refl (λ first. (first, freed, λ s below. absurd (omega (arith, below)))) g)
-says {w = w} {t = t} {word = word} {op = op} {q = q} m (Step.new_wins reg label true before probed free d) =
+says {w = w} {t = t} {word = word} {op = op} {q = q} m (Step.new_wins reg label leaf before probed free d) =
     let p : Private = mutator w t in
     let slot : ℕ = probe_of p probed in
     let headers : length w.headers ≡ w.config.slots = m.kept.headers in
     let there : slot < w.config.slots = (probes w t probed m.kept m.is).1 in
-    let header : slice_index_or w.headers slot 0 ≡ 0 = sym (probe_found w word slot (header_word true label) op m.found d.operation) ∙ free in
-    let grown : Sight = sight_with_header (sight w) slot (header_word true label) in
-    let v : Core = record (with_mutator w t q) { headers = slice_set w.headers slot (header_word true label); made = w.made + 1 } in
+    let header : slice_index_or w.headers slot 0 ≡ 0 = sym (probe_found w word slot (header_word leaf label) op m.found d.operation) ∙ free in
+    let grown : Sight = sight_with_header (sight w) slot (header_word leaf label) in
+    let v : Core = record (with_mutator w t q) { headers = slice_set w.headers slot (header_word leaf label); made = w.made + 1 } in
     let after : Sight = sight_with_register grown t reg (Some slot) in
     let saw : sight v ≡ after = ap (λ (rss : List (List (Option ℕ))). let s : Sight = record grown { registers = rss } in s) (registers_set w t reg (Some slot) q (registers_left d)) in
-    let telling : IsTelling w t (commands.Leaf reg label) (plain answers.Done) (p.log.entries ++ entries_.Born slot true ∷ []) (w.made + 1) slot after
-    = record {
-      explained = birth_explained (sight w) t reg label slot (header_word true label) true m.kept.sound (omega arith) header (header_is true label (label_at w t (at.Scanning reg label true before probed) m.kept m.is d.phase));
-      leaves = record { seen = refl; birth = λ _. record { there = there; free = header; probed = ap (probed_at p) d.phase } };
-      kind = refl;
-      full = λ is. cc;
-      births = refl;
-      entered = length_push p.log.entries _;
-      stamp = tt;
-    } in
-    after_claim (Says w t q) w t slot (header_word true label) word q op d.operation free (done refl d refl (decides v m (left_by v d refl refl refl) saw telling))
-says {w = w} {t = t} {word = word} {op = op} {q = q} m (Step.new_wins reg label false before probed free d) =
-    let p : Private = mutator w t in
-    let slot : ℕ = probe_of p probed in
-    let headers : length w.headers ≡ w.config.slots = m.kept.headers in
-    let there : slot < w.config.slots = (probes w t probed m.kept m.is).1 in
-    let header : slice_index_or w.headers slot 0 ≡ 0 = sym (probe_found w word slot (header_word false label) op m.found d.operation) ∙ free in
-    let grown : Sight = sight_with_header (sight w) slot (header_word false label) in
-    let v : Core = record (with_mutator w t q) { headers = slice_set w.headers slot (header_word false label); made = w.made + 1 } in
-    let after : Sight = sight_with_register grown t reg (Some slot) in
-    let saw : sight v ≡ after = ap (λ (rss : List (List (Option ℕ))). let s : Sight = record grown { registers = rss } in s) (registers_set w t reg (Some slot) q (registers_left d)) in
-    let telling : IsTelling w t (commands.New reg label) (plain answers.Done) (p.log.entries ++ entries_.Born slot false ∷ []) (w.made + 1) slot after
-    = record {
-      explained = birth_explained (sight w) t reg label slot (header_word false label) false m.kept.sound (omega arith) header (header_is false label (label_at w t (at.Scanning reg label false before probed) m.kept m.is d.phase));
-      leaves = record { seen = refl; birth = λ _. record { there = there; free = header; probed = ap (probed_at p) d.phase } };
-      kind = refl;
-      full = λ is. cc;
-      births = refl;
-      entered = length_push p.log.entries _;
-      stamp = tt;
-    } in
-    after_claim (Says w t q) w t slot (header_word false label) word q op d.operation free (done refl d refl (decides v m (left_by v d refl refl refl) saw telling))
+    let explained : IsExplained (sight w) t (allocation leaf reg label) (plain answers.Done) after
+    = birth_explained (sight w) t reg label slot (header_word leaf label) leaf m.kept.sound (omega arith) header (header_is leaf label (label_at w t (at.Scanning reg label leaf before probed) m.kept m.is d.phase)) in
+    let telling : IsTelling w t (allocation leaf reg label) (plain answers.Done) (p.log.entries ++ entries_.Born slot leaf ∷ []) (w.made + 1) slot after
+    = birth_telling leaf reg label explained (record { there = there; free = header; probed = ap (probed_at p) d.phase }) (length_push p.log.entries _) in
+    after_claim (Says w t q) w t slot (header_word leaf label) word q op d.operation free (done refl d refl (decides v m (left_by v d refl refl refl) saw telling))
 says {w = w} {t = t} {word = word} {op = op} {q = q} m (Step.new_goes_on reg label leaf before probed taken more g) =
     let slot : ℕ = probe_of (mutator w t) probed in
     let its : word ≡ slice_index_or w.headers slot 0 = probe_found w word slot (header_word leaf label) op m.found g.operation in
@@ -343,26 +337,15 @@ says {w = w} {t = t} {word = word} {op = op} {q = q} m (Step.new_finds_none reg 
     let all : probed + 1 ≡ w.config.slots = last ∙ own.slots in
     after_probe (Says w t q) w t slot (header_word leaf label) word q op g.operation m.found taken
     (going_on m refl (λ found. (found.1, λ s below. one_more w probed (λ is. taken (its ∙ ap (λ n. slice_index_or w.headers n 0) (in_order w t reg label leaf before probed m.kept m.is g.phase found.0) ∙ is)) found.2 s (omega (arith, below)))) g)
-says {w = w} {t = t} {word = word} {op = op} {q = q} m (Step.new_is_full reg label true before still d) =
+says {w = w} {t = t} {word = word} {op = op} {q = q} m (Step.new_is_full reg label leaf before still d) =
     let freed : word ≡ w.freed = m.found ∙ ap (cell (cells_of w)) d.operation in
     let own = (actor_of w t m.kept m.is).own in
-    let passed = scanned w t (at.Scanned reg label true before) m.kept m.is d.phase in
+    let passed = scanned w t (at.Scanned reg label leaf before) m.kept m.is d.phase in
     let filled : before ≡ w.freed → before % 2 ≡ 0 → IsFilled w = λ same even. all_round (IsTaken (sight w)) w.config.slots (mutator w t).from (subst (λ n. (mutator w t).from < n) own.slots own.machine.from) (passed.1 same even) in
     after_freed (Says w t q) w t word q op d.operation m.found
-    (refuses refl m d (tells (birth_refused (sight w) t reg label true answers.Full refl refl) refl refl (λ is. filled (still.1 ∙ freed) still.0) refl refl refl))
-says {w = w} {t = t} {word = word} {op = op} {q = q} m (Step.new_is_full reg label false before still d) =
-    let freed : word ≡ w.freed = m.found ∙ ap (cell (cells_of w)) d.operation in
-    let own = (actor_of w t m.kept m.is).own in
-    let passed = scanned w t (at.Scanned reg label false before) m.kept m.is d.phase in
-    let filled : before ≡ w.freed → before % 2 ≡ 0 → IsFilled w = λ same even. all_round (IsTaken (sight w)) w.config.slots (mutator w t).from (subst (λ n. (mutator w t).from < n) own.slots own.machine.from) (passed.1 same even) in
-    after_freed (Says w t q) w t word q op d.operation m.found
-    (refuses refl m d (tells (birth_refused (sight w) t reg label false answers.Full refl refl) refl refl (λ is. filled (still.1 ∙ freed) still.0) refl refl refl))
-says {w = w} {t = t} {word = word} {op = op} {q = q} m (Step.new_is_busy reg label true before moves d) =
-    after_freed (Says w t q) w t word q op d.operation m.found
-    (refuses refl m d (tells (birth_refused (sight w) t reg label true (answers.Busy before word) refl refl) refl refl (λ is. cc) refl refl refl))
-says {w = w} {t = t} {word = word} {op = op} {q = q} m (Step.new_is_busy reg label false before moves d) =
-    after_freed (Says w t q) w t word q op d.operation m.found
-    (refuses refl m d (tells (birth_refused (sight w) t reg label false (answers.Busy before word) refl refl) refl refl (λ is. cc) refl refl refl))
+    (refuses refl m d (refused_telling leaf reg label refl refl (λ is. filled (still.1 ∙ freed) still.0)))
+says {w = w} {t = t} {word = word} {op = op} {q = q} m (Step.new_is_busy reg label leaf before moves d) =
+    after_freed (Says w t q) w t word q op d.operation m.found (refuses refl m d (refused_telling leaf reg label refl refl (λ is. cc)))
 says {w = w} {t = t} {word = word} {op = op} {q = q} m (Step.poll_stays own g) =
     after_epoch (Says w t q) w t word q op g.operation m.found (Says.stayed (ap answer_of g.after) (ap work_at g.phase) (ap is_giving g.phase) (only_works w t q _ m.kept m.is g.after))
 says {w = w} {t = t} {word = word} {op = op} {q = q} m (Step.poll_crosses other g) =

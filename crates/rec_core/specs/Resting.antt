@@ -12,13 +12,13 @@ use Rattle.rec_sigma.specs.Prepare as preps
 use Rattle.rec_sigma.specs.Prepared.{PreparedTo}
 use Rattle.rec_trial.specs.Loaded.{Run}
 use Rattle.rec_trial.specs.Promised.{IsTrial}
-use Rattle.rec_trial.specs.Still.{AreStill}
+use Rattle.rec_trial.specs.Still.{AreStill, visible_words}
 use Rattle.rec_trial.specs.Trial.{Work}
 use Rattle.rec_collector.specs.Private.{Private}
 use Rattle.rec_collector.specs.declared.phase.Phase.{Phase}
 use Rattle.rec_collector.specs.declared.phase.Phase.TheVariants.{Idle, Looking, Swapping, Returning, Releasing, Freeing, Trying, Preparing, Opening, Sweeping, Closing}
 use Rattle.rec_core.specs.Core.{Core, sight}
-use Rattle.rec_core.specs.Settling.{word_in, heap_sum, IsReachable, IsOffered, AreEmptied, AreLoadsOf, LeadBack, AreUnheld, seen_in}
+use Rattle.rec_core.specs.Settling.{word_in, heap_sum, IsReachable, IsOffered, AreEmptied, AreLoadsOf, LeadBack, AreUnheld}
 use Rattle.rec_word.specs.Word.{target_of}
 use Rattle.rec_counts.specs.Colour.{is_green}
 
@@ -58,10 +58,10 @@ pub record TrialRests (w : Core) (words : List ℕ) (v : Work) : Type 0 where
   pub run : Run
   pub trial : IsTrial w.config.fields before loaded run
   pub at : ◌≡◌ {A = Work} run.work v
-  pub marks : AreStill (seen_in w.config.fields words before) run.marking
-  pub blacks : AreStill (seen_in w.config.fields words before) run.blackening
-  pub finds : AreStill (seen_in w.config.fields words before) run.collecting
-  pub offered : IsOffered w.config.fields (seen_in w.config.fields words before) (holds (sight w)) before
+  pub marks : AreStill (visible_words before (word_in w.config.fields words)) run.marking
+  pub blacks : AreStill (visible_words before (word_in w.config.fields words)) run.blackening
+  pub finds : AreStill (visible_words before (word_in w.config.fields words)) run.collecting
+  pub offered : IsOffered w.config.fields (word_in w.config.fields words) (holds (sight w)) before
   pub emptied : AreEmptied w.config.fields words [] before
   pub leaves : AreLeaves w.config.fields words before
 

@@ -10,7 +10,6 @@ use Rattle.rec_counts.specs.Colour.{is_green}
 use Rattle.rec_counts.specs.Counts.{State, slot_at}
 use Rattle.rec_counts.specs.Lists.{one, times}
 use Rattle.rec_counts.specs.Slot.{is_in, stays}
-use Rattle.rec_trial.specs.Rules.{visible}
 use Rattle.rec_trial.specs.Still.{IsSeed, references}
 use Rattle.rec_trial.specs.Tried.{members}
 use Rattle.rec_walk.specs.Load.{Load, place_loaded}
@@ -20,13 +19,12 @@ abbrev pub offered_slots : State → List ℕ
 offered_slots s = filter (λ n. not (stays (slot_at s n))) (range_with_len 0 (length s.slots))
 
 -- Each slot that is neither released nor Green is a seed of the trial, and its count is the number of fields of such slots that lead to
--- it, and how often it is held besides. What is held is not released. By the words that the trial sees, no field leads to a Green slot,
--- and none of a Green slot leads anywhere.
+-- it, and how often it is held besides. What is held is not released. No field of a Green slot leads anywhere.
 pub record IsOffered (fields : ℕ) (word : (slot field : ℕ) → ℕ) (holds : ℕ → ℕ) (s : State) : Type 0 where
   pub seeds : (x : ℕ) → stays (slot_at s x) ≡ false → IsSeed s x
   pub counted : (x : ℕ) → stays (slot_at s x) ≡ false → (slot_at s x).count ≡ references fields word (offered_slots s) x + holds x
   pub held : (x : ℕ) → 0 < holds x → (slot_at s x).released ≡ false
-  pub shown : (n field x : ℕ) → field < fields → target_of (word n field) ≡ Some x → (is_green (slot_at s n).colour ≡ false) × (is_green (slot_at s x).colour ≡ false)
+  pub other : (n field x : ℕ) → field < fields → target_of (word n field) ≡ Some x → is_green (slot_at s n).colour ≡ false
 
 -- on a path of fields from a slot that is held
 pub data IsReachable (fields : ℕ) (word : (slot field : ℕ) → ℕ) (holds : ℕ → ℕ) : ℕ → Type 0 where
@@ -57,10 +55,6 @@ LeadsFromMembers fields word s =
 -- The same of a heap whose words stand in one list: the word in a field of a slot,
 abbrev pub word_in : (fields : ℕ) (words : List ℕ) → (slot field : ℕ) → ℕ
 word_in fields words slot field = item_at words (place_of slot field fields) 0
-
--- what a trial sees of it,
-abbrev pub seen_in : (fields : ℕ) (words : List ℕ) (s : State) → (slot field : ℕ) → ℕ
-seen_in fields words s slot field = visible s (word_in fields words slot field)
 
 -- counted where the word leads to the slot,
 abbrev pub leading : (x word : ℕ) → ℕ

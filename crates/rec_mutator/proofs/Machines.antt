@@ -78,7 +78,7 @@ first_step p (commands.Value reg) none = omega arith
 first_step p (commands.Same a b) none = omega arith
 
 -- an allocation has as many steps as slots, and two
-allocation_limit : (slots reg label : ℕ) (leaf : Bool) → limit_of slots (works.Command (allocation leaf reg label)) ≡ slots + 2
+pub allocation_limit : (slots reg label : ℕ) (leaf : Bool) → limit_of slots (works.Command (allocation leaf reg label)) ≡ slots + 2
 allocation_limit slots reg label true = refl
 allocation_limit slots reg label false = refl
 

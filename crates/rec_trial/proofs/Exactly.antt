@@ -1,14 +1,14 @@
 -- What a trial promises on words that do not change.
 use Rattle.std.proofs.Common.{◌≡◌, ℕ, suc, ◌+◌, ◌-◌, ◌<◌, ◌≤◌, false, eqb, Some, List, [], ◌∷◌, map, refl, sym, ap, ◌∙◌, arith, ◌⊎◌, inl, inr, cond}
 use Rattle.std.proofs.lemmas.Bool.Decides.{nat_tests}
-use Rattle.rec_word.specs.Word.{target_of, predecessor, target_bits}
-use Rattle.rec_counts.specs.Counts.{State}
+use Rattle.rec_word.specs.Word.{target_of, is_slot, predecessor, target_bits}
+use Rattle.rec_counts.specs.Counts.{State, slot_at}
 use Rattle.rec_counts.specs.Lists.{one}
 use Rattle.rec_counts.specs.Lists as in_counts
-use Rattle.rec_counts.specs.Colour.{is_white}
+use Rattle.rec_counts.specs.Colour.{is_green, is_white}
 use Rattle.rec_walk.specs.Load.{Load}
 use Rattle.rec_trial.specs.Loaded.{Run, run_of}
-use Rattle.rec_trial.specs.Still.{AreStill, IsReached, IsHeld, IsExact, TrialIsExact, rest}
+use Rattle.rec_trial.specs.Still.{AreStill, IsReached, IsHeld, IsExact, TrialIsExact, rest, visible_words}
 use Rattle.rec_trial.specs.Still as still
 use Rattle.rec_trial.specs.Tried.{members}
 use Rattle.rec_trial.proofs.Course.{first_view}
@@ -17,10 +17,11 @@ use Rattle.rec_trial.proofs.Done.{all_of, within_of, no_white_left}
 use Rattle.rec_trial.proofs.Holding.{named, loaded, edges, Finished, Over, Reached, Hot}
 use Rattle.rec_trial.proofs.Holding as law
 use Rattle.rec_trial.proofs.Marks.{edge_split}
-use Rattle.rec_trial.proofs.Readings.{code_some, codes, references_read}
+use Rattle.rec_trial.proofs.Readings.{code_some, codes, fields_read, leads_code}
 use Rattle.rec_trial.proofs.Runs.{Told, told_run, seen_of, seen_in}
 use Rattle.rec_trial.proofs.Totals.{nonzero, total, total_below, same, times, occurs, first_whole}
 use Rattle.rec_trial.proofs.Views.{bits_suc, view}
+use Rattle.rec_trial.proofs.Visible.{led_where_seen, seen_leads, seen_where_led}
 use Rattle.rec_trial.proofs.Whole.{is_over, over_of}
 
 -- a load of a field of a node led to another
@@ -48,31 +49,41 @@ named_sum : (word : ℕ → ℕ → ℕ) (x : ℕ) (loads : List Load) → AreSt
 named_sum word x [] t = refl
 named_sum word x (l ∷ loads) t = omega (arith, ap (λ k. same (suc x) (target_bits k)) t.0, named_sum word x loads t.1)
 
-module _ (fields : ℕ) (word : ℕ → ℕ → ℕ) (before : State) (r : Run) (marked work : List ℕ) (f : Finished (first_view fields before) (record (view r.work) { marked = marked; work = work }) (seen_in r)) (tm : AreStill word r.marking) (tb : AreStill word r.blackening) where
+-- no slot on such a path is Green
+pub reached_other : {fields : ℕ} {word : ℕ → ℕ → ℕ} {s : State} {x : ℕ} → IsReached fields word s x → is_green (slot_at s x).colour ≡ false
+reached_other (still.IsReached.seed k) = ap is_green k.purple
+reached_other (still.IsReached.along p g l q other) = other
+
+module _ (fields : ℕ) (word : ℕ → ℕ → ℕ) (before : State) (r : Run) (marked work : List ℕ) (f : Finished (first_view fields before) (record (view r.work) { marked = marked; work = work }) (seen_in r)) (tm : AreStill (visible_words before word) r.marking) (tb : AreStill (visible_words before word) r.blackening) where
+  abbrev sees : ℕ → ℕ → ℕ
+  sees = visible_words before word
+
   width : (view r.work).fields ≡ fields
   width = f.kept.fields
 
-  -- a field of a marked slot leads to a marked slot
-  closed : (n g x : ℕ) → 0 < times n marked → g < fields → target_of (word n g) ≡ Some x → 0 < times x marked
-  closed n g x h l q =
-      let is_named : 0 < named x (map seen_of r.marking) = omega (arith, all_of f.marks_all n g (omega (arith, l, width)), named_from word n g x r.marking tm (code_some (codes word n g) x q)) in
+  -- a field of a marked slot leads to a marked slot or a Green one
+  closed : (n g x : ℕ) → 0 < times n marked → g < fields → target_of (word n g) ≡ Some x → is_green (slot_at before x).colour ≡ false → 0 < times x marked
+  closed n g x h l q other =
+      let is_named : 0 < named x (map seen_of r.marking) = omega (arith, all_of f.marks_all n g (omega (arith, l, width)), named_from sees n g x r.marking tm (code_some (codes sees n g) x (seen_where_led before (word n g) x other q))) in
       nonzero (times x marked) (λ z. omega (arith, f.fresh x z, is_named))
 
   reached_of : {x : ℕ} → Reached (first_view fields before) (map seen_of r.marking) x → IsReached fields word before x
   reached_of (law.Reached.seed {x} k) = still.IsReached.seed (record { root = omega (arith, occurs x before.roots, k.root); purple = k.is_purple; unreleased = k.live })
   reached_of (law.Reached.along {n} {x} p h) =
-      let d : Edge word n x (map seen_of r.marking) = edge_from word n x r.marking tm h in
-      still.IsReached.along (reached_of p) d.field (omega (arith, width, within_of f.marks_all n d.field d.was_loaded)) d.leads
+      let d : Edge sees n x (map seen_of r.marking) = edge_from sees n x r.marking tm h in
+      let led = led_where_seen before (word n d.field) x d.leads in
+      still.IsReached.along (reached_of p) d.field (omega (arith, width, within_of f.marks_all n d.field d.was_loaded)) led.0 led.1
 
   marked_of : {x : ℕ} → IsReached fields word before x → 0 < times x marked
   marked_of (still.IsReached.seed {x} k) = f.seeds x (record { root = omega (arith, occurs x before.roots, k.root); is_purple = k.purple; live = k.unreleased })
-  marked_of (still.IsReached.along {n} {x} p g l q) = closed n g x (marked_of p) l q
+  marked_of (still.IsReached.along {n} {x} p g l q other) = closed n g x (marked_of p) l q other
 
   rest_is : (x : ℕ) → 0 < times x marked → (view r.work).cyclic x ≡ rest fields word marked before x
   rest_is x h =
-      let a : (view r.work).cyclic x ≡ (view r.work).count x - total (λ n. total_below (λ g. same (suc x) (codes word n g)) (view r.work).fields) marked = omega (arith, f.rest x h, named_sum word x r.marking tm, f.marks_all.swept (λ n g. same (suc x) (codes word n g)), first_whole (λ n. total_below (λ g. same (suc x) (codes word n g)) (view r.work).fields) marked) in
-      let b : (view r.work).cyclic x ≡ (view r.work).count x - total (λ n. total_below (λ g. same (suc x) (codes word n g)) fields) marked = rw width at a in
-      omega (arith, b, ap (λ (g : ℕ → ℕ). g x) f.kept.count, references_read fields word marked x)
+      let leads : (n g : ℕ) → one (is_slot x (target_of (word n g))) ≡ same (suc x) (codes sees n g) = λ n g. ap one (sym (seen_leads before (word n g) x (f.no_green x h))) ∙ leads_code x (codes sees n g) in
+      let a : (view r.work).cyclic x ≡ (view r.work).count x - total (λ n. total_below (λ g. same (suc x) (codes sees n g)) (view r.work).fields) marked = omega (arith, f.rest x h, named_sum sees x r.marking tm, f.marks_all.swept (λ n g. same (suc x) (codes sees n g)), first_whole (λ n. total_below (λ g. same (suc x) (codes sees n g)) (view r.work).fields) marked) in
+      let b : (view r.work).cyclic x ≡ (view r.work).count x - total (λ n. total_below (λ g. same (suc x) (codes sees n g)) fields) marked = rw width at a in
+      omega (arith, b, ap (λ (g : ℕ → ℕ). g x) f.kept.count, fields_read fields (λ n g. is_slot x (target_of (word n g))) (λ n g. same (suc x) (codes sees n g)) leads marked)
 
   -- a marked slot is black or a member
   black_or_member : (x : ℕ) → 0 < times x marked → 1 ≡ times x work + times x (members r.work.counts)
@@ -84,17 +95,18 @@ module _ (fields : ℕ) (word : ℕ → ℕ → ℕ) (before : State) (r : Run) 
   held_of : {x : ℕ} → Hot marked (view r.work).cyclic (map seen_of r.blackening) x → IsHeld fields word marked before x
   held_of (law.Hot.warm {x} h p) = still.IsHeld.rests (omega (arith, occurs x marked, h)) (omega (arith, rest_is x h))
   held_of (law.Hot.along {n} {x} p h) =
-      let d : Edge word n x (map seen_of r.blackening) = edge_from word n x r.blackening tb h in
-      still.IsHeld.along (held_of p) d.field (omega (arith, width, within_of f.blacks_all n d.field d.was_loaded)) d.leads
+      let d : Edge sees n x (map seen_of r.blackening) = edge_from sees n x r.blackening tb h in
+      let led = led_where_seen before (word n d.field) x d.leads in
+      still.IsHeld.along (held_of p) d.field (omega (arith, width, within_of f.blacks_all n d.field d.was_loaded)) led.0 led.1
 
   worked_of : {x : ℕ} → IsHeld fields word marked before x → 0 < times x work
   worked_of (still.IsHeld.rests {x} m p) =
       let h : 0 < times x marked = omega (arith, occurs x marked, m) in
       nonzero (times x work) (λ z. omega (arith, z, rest_is x h, f.rest x h, f.enough x (omega (arith, z, black_or_member x h)), p))
-  worked_of (still.IsHeld.along {n} {x} p g l q) =
+  worked_of (still.IsHeld.along {n} {x} p g l q other) =
       let marked_here : 0 < times n marked = omega (arith, f.parts n, worked_of p) in
-      let is_named : 0 < named x (map seen_of r.blackening) = omega (arith, all_of f.blacks_all n g (omega (arith, l, width)), worked_of p, named_from word n g x r.blackening tb (code_some (codes word n g) x q)) in
-      omega (arith, black_or_member x (closed n g x marked_here l q), f.unnamed x is_named)
+      let is_named : 0 < named x (map seen_of r.blackening) = omega (arith, all_of f.blacks_all n g (omega (arith, l, width)), worked_of p, named_from sees n g x r.blackening tb (code_some (codes sees n g) x (seen_where_led before (word n g) x other q))) in
+      omega (arith, black_or_member x (closed n g x marked_here l q other), f.unnamed x is_named)
 
   is_exact : IsExact fields word before r marked
   is_exact = record {

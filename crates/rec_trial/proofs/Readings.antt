@@ -15,7 +15,7 @@ use Rattle.rec_trial.proofs.Views.{bits_suc}
 use Rattle.rec_trial.proofs.Totals.{same, total, total_below}
 
 -- a word leads to a slot exactly where its code is the slot's
-leads_code : (x code : ℕ) → one (is_slot x (predecessor code)) ≡ same (suc x) code
+pub leads_code : (x code : ℕ) → one (is_slot x (predecessor code)) ≡ same (suc x) code
 leads_code x zero = grind (arith, nat_tests)
 leads_code x (suc y) = rw (bits_suc y) (grind (arith, nat_tests))
 
@@ -61,12 +61,16 @@ range_read p f a (suc n) h =
     let next : (g : ℕ) → one (p (a + 1 + g)) ≡ f (suc g) = λ g. ap (λ k. one (p k)) (omega arith) ∙ h (suc g) in
     omega (arith, sum_by-cons (λ k. one (p k)) a (range_with_len (a + 1) n), e, range_read p (λ g. f (suc g)) (a + 1) n next, below_front f n)
 
-pub references_read : (fields : ℕ) (word : ℕ → ℕ → ℕ) (marked : List ℕ) (x : ℕ) → sum_by (λ n. count_by (λ field. is_slot x (target_of (word n field))) (range_with_len 0 fields)) marked ≡ total (λ n. total_below (λ g. same (suc x) (codes word n g)) fields) marked
-references_read fields word [] x = refl
-references_read fields word (n ∷ marked) x =
+-- how many fields of slots pass a test
+pub fields_read : (fields : ℕ) (p : ℕ → ℕ → Bool) (f : ℕ → ℕ → ℕ) → ((n g : ℕ) → one (p n g) ≡ f n g) → (marked : List ℕ) → sum_by (λ n. count_by (λ field. p n field) (range_with_len 0 fields)) marked ≡ total (λ n. total_below (λ g. f n g) fields) marked
+fields_read fields p f h [] = refl
+fields_read fields p f h (n ∷ marked) =
     omega (
       arith,
-      sum_by-cons (λ m. count_by (λ field. is_slot x (target_of (word m field))) (range_with_len 0 fields)) n marked,
-      range_read (λ field. is_slot x (target_of (word n field))) (λ g. same (suc x) (codes word n g)) 0 fields (λ g. ap (λ k. one (is_slot x (target_of (word n k)))) (omega arith) ∙ leads_code x (codes word n g)),
-      references_read fields word marked x,
+      sum_by-cons (λ m. count_by (λ field. p m field) (range_with_len 0 fields)) n marked,
+      range_read (λ field. p n field) (λ g. f n g) 0 fields (λ g. ap (λ k. one (p n k)) (omega arith) ∙ h n g),
+      fields_read fields p f h marked,
     )
+
+pub references_read : (fields : ℕ) (word : ℕ → ℕ → ℕ) (marked : List ℕ) (x : ℕ) → sum_by (λ n. count_by (λ field. is_slot x (target_of (word n field))) (range_with_len 0 fields)) marked ≡ total (λ n. total_below (λ g. same (suc x) (codes word n g)) fields) marked
+references_read fields word marked x = fields_read fields (λ n g. is_slot x (target_of (word n g))) (λ n g. same (suc x) (codes word n g)) (λ n g. leads_code x (codes word n g)) marked

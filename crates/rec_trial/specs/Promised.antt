@@ -3,7 +3,7 @@ use Rattle.std.specs.Prelude.{◌≡◌, ℕ, ◌<◌, ◌*◌, List, [], length
 use Rattle.rec_counts.specs.Counts.{State}
 use Rattle.rec_trial.specs.Loaded.{Run, run_of}
 use Rattle.rec_trial.specs.Rules.{IsReady, AllLeadToVisible}
-use Rattle.rec_trial.specs.Still.{AreStill, IsExact}
+use Rattle.rec_trial.specs.Still.{AreStill, IsExact, visible_words}
 use Rattle.rec_trial.specs.Tried.{IsCareful, IsOver}
 use Rattle.rec_trial.specs.Trial.{Work, next_of}
 use Rattle.rec_trial.specs.Witnessed.{IsWitnessed}
@@ -24,5 +24,5 @@ pub record IsTrial (fields : ℕ) (before : State) (words : List ℕ) (r : Run) 
   -- when it is over, whatever words it was given
   pub whole : IsNone (next_of r.work.machine) → (marked : List ℕ) × IsOver fields before r marked
   pub witnessed : IsNone (next_of r.work.machine) → IsWitnessed fields before r
-  -- when it is over, and two loads of a field always gave one word
-  pub exact : (word : (slot field : ℕ) → ℕ) → IsNone (next_of r.work.machine) → AreStill word r.marking → AreStill word r.blackening → (marked : List ℕ) × IsOver fields before r marked × IsExact fields word before r marked
+  -- when it is over, and two loads of a field always gave one word: what the trial sees of it
+  pub exact : (word : (slot field : ℕ) → ℕ) → IsNone (next_of r.work.machine) → AreStill (visible_words before word) r.marking → AreStill (visible_words before word) r.blackening → (marked : List ℕ) × IsOver fields before r marked × IsExact fields word before r marked

@@ -24,8 +24,9 @@ pub fn trial_is_witnessed()
     ensures { (fields : ℕ) (before : State) (words : List ℕ) → TrialIsWitnessed fields before words }
 {}
 
-/// On words that do not change, the marked slots are exactly those on a path from a Purple root that is not released, and the
-/// members exactly the marked slots that no marked slot with a rest reaches.
+/// On words that do not change, the marked slots are exactly those on a path of fields from a Purple root that is not released,
+/// on which no slot is Green, the last one included. The members are exactly the marked slots that no marked slot with a rest
+/// reaches by a path on which no slot is Green.
 pub fn trial_is_exact()
     ensures { (fields : ℕ) (word : (slot field : ℕ) → ℕ) (before : State) (words : List ℕ) → TrialIsExact fields word before words }
 {}

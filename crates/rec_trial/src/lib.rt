@@ -7,8 +7,8 @@
 //!
 //! The rule that this crate keeps: no true count changes, a set has unreleased slots alone, each slot once in all sets, and
 //! every marked slot ends as a member or Black. Where words do not change meanwhile, the members are exactly the marked slots
-//! that no marked slot with a rest reaches. Where they do change it is still known which words were loaded, and that is what
-//! the tests of a set rest on.
+//! that no marked slot with a rest reaches; a path ends before a Green slot, since a leaf is never traced. Where they do change
+//! it is still known which words were loaded, and that is what the tests of a set rest on.
 //! The layer above may use that `next`, `start` and `took` are exactly `next_of`, `started_of` and `took_of` of `specs/`,
 //! and the laws, which are the contracts of the functions in `laws`: they speak of the record of what was loaded, which
 //! proofs alone keep.

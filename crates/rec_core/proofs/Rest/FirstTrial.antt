@@ -20,8 +20,8 @@ use Rattle.rec_counts.proofs.Keeping.{no_set, some_set, unreleased_within}
 use Rattle.rec_apply.specs.Targets.{named}
 use Rattle.rec_trial.specs.Loaded.{Run, noted, noted_at}
 use Rattle.rec_trial.specs.Promised.{unloaded}
-use Rattle.rec_trial.specs.Rules.{IsReady, visible, visible_if}
-use Rattle.rec_trial.specs.Still.{AreStill, references}
+use Rattle.rec_trial.specs.Rules.{IsReady, visible}
+use Rattle.rec_trial.specs.Still.{AreStill, references, visible_words}
 use Rattle.rec_trial.specs.Trial.{Machine, Work, next_of as trial_next, op_at, started_of, took_of}
 use Rattle.rec_trial.specs.declared.phase.Phase as trial_phases
 use Rattle.rec_trial.specs.declared.phase.Phase.TheVariants as trial_at
@@ -38,20 +38,20 @@ use Rattle.rec_collector.proofs.Offering.{offers_whole, where_ready}
 use Rattle.rec_core.specs.Core.{Core, sight}
 use Rattle.rec_core.specs.Kept.{IsKept}
 use Rattle.rec_core.specs.Resting.{holds, AreCounted, AreFound, AreLeaves, AreUnnamed, TrialRests, PrepRests}
-use Rattle.rec_core.specs.Settling.{word_in, heap_sum, offered_slots, seen_in, IsOffered, IsReachable, FindsGarbage, AreEmptied, LeadBack}
+use Rattle.rec_core.specs.Settling.{word_in, heap_sum, offered_slots, IsOffered, FindsGarbage, AreEmptied, LeadBack}
 use Rattle.rec_core.proofs.Counts.{counted_slot}
 use Rattle.rec_core.proofs.Landed.{landed_pending, HasLanded}
 use Rattle.rec_core.proofs.Reach.{sight_is}
 use Rattle.rec_core.proofs.Rest.SettlingFinds.{garbage_unheld, offered_other, offered_unreleased, trial_finds_garbage}
 use Rattle.rec_core.proofs.Rest.SettlingPrepared.{loads_begun}
-use Rattle.rec_core.proofs.Rest.SettlingSets.{found_counts, found_lead_back, references_in_words, led_where_seen, seen_is_other}
+use Rattle.rec_core.proofs.Rest.SettlingSets.{found_counts, found_lead_back, references_in_words}
 use Rattle.rec_core.proofs.Steps.{fields_many, taken_slot}
 use Rattle.rec_core.proofs.Trying.{loaded_leads}
 use Rattle.rec_core.proofs.Turns.{now_at}
 use Rattle.rec_core.proofs.Zeros.{landed_empty, leaf_empty}
 use Rattle.rec_core.proofs.Rest.Rested.{named_root}
 use Rattle.rec_counts.specs.Colour.{is_green}
-use Rattle.rec_trial.proofs.Visible.{visible_leads}
+use Rattle.rec_trial.proofs.Visible.{visible_leads, visible_same}
 
 module _ {w : Core} {crossing words : List ℕ} {v : Parts} (l : HasLanded w crossing words (still v)) where
   open v use {counts as s}
@@ -122,7 +122,7 @@ module _ {w : Core} {crossing words : List ℕ} {v : Parts} (l : HasLanded w cro
 
   -- every slot is offered: these are the counts with which the trial begins
   offered_landed : v.counts.sets ≡ [] → v.offers ≡ true → AreCounted w words v.counts
-      → IsOffered w.config.fields (seen_in w.config.fields words (with_offers v).counts) (holds (sight w)) (with_offers v).counts × AreEmptied w.config.fields words [] (with_offers v).counts × AreLeaves w.config.fields words (with_offers v).counts
+      → IsOffered w.config.fields (word_in w.config.fields words) (holds (sight w)) (with_offers v).counts × AreEmptied w.config.fields words [] (with_offers v).counts × AreLeaves w.config.fields words (with_offers v).counts
   offered_landed none_sets asked counted =
       let fields : ℕ = w.config.fields in
       let t : State = (with_offers v).counts in
@@ -135,22 +135,21 @@ module _ {w : Core} {crossing words : List ℕ} {v : Parts} (l : HasLanded w cro
           seeds = λ x e. offers.seeds x (sym (keeps.rest.released x) ∙ offered_unreleased (slot_at t x) e) (sym (offers.green x) ∙ offered_other (slot_at t x) e);
           counted = λ x e.
               let there : x < w.config.slots = omega (arith, unreleased_within t x (offered_unreleased (slot_at t x) e), keeps.rest.slots, l.slots) in
-              let words_of : references fields (seen_in fields words t) (offered_slots t) x ≡ heap_sum words x = references_in_words fields words t x l.kept.config.some_fields long empty leaves (offered_other (slot_at t x) e) in
+              let words_of : references fields (word_in fields words) (offered_slots t) x ≡ heap_sum words x = references_in_words fields words t x l.kept.config.some_fields long empty leaves in
               keeps.counts x ∙ counted x there ∙ ap (λ n. n + holds (sight w) x) (sym words_of);
           held = λ x h. keeps.rest.released x ∙ held_unreleased x h;
-          shown = λ n field x within leads. (not_green n field x within leads (is_green (slot_at t n).colour) refl, seen_is_other t (word_in fields words n field) x leads);
+          other = λ n field x within leads. not_green n field x within leads (is_green (slot_at t n).colour) refl;
         },
         empty,
         leaves,
       )
     where
-      not_green : (n field x : ℕ) → field < w.config.fields → target_of (seen_in w.config.fields words (with_offers v).counts n field) ≡ Some x → (b : Bool) → is_green (slot_at (with_offers v).counts n).colour ≡ b → b ≡ false
+      not_green : (n field x : ℕ) → field < w.config.fields → target_of (word_in w.config.fields words n field) ≡ Some x → (b : Bool) → is_green (slot_at (with_offers v).counts n).colour ≡ b → b ≡ false
       not_green n field x within leads false e = refl
       not_green n field x within leads true e =
-          let raw : target_of (word_in w.config.fields words n field) ≡ Some x = led_where_seen (with_offers v).counts (word_in w.config.fields words n field) x leads in
           let none : word_in w.config.fields words n field ≡ 0 = leaf_empty l n field within (sym ((offers_whole v asked l.counts none_sets).0.green n) ∙ e) in
           let null : target_of 0 ≡ None = refl in
-          let not_so : ◌≡◌ {A = Option ℕ} None (Some x) = sym null ∙ (ap target_of (sym none) ∙ raw) in
+          let not_so : ◌≡◌ {A = Option ℕ} None (Some x) = sym null ∙ (ap target_of (sym none) ∙ leads) in
           absurd (cc)
 
 -- So where counts are true, and every slot is to be offered, the trial that begins now rests.
@@ -188,14 +187,6 @@ due_place m place named = go m.phase named
     go trial_at.Scanning is = loads (place_of m.slot m.field m.fields) is
     go trial_at.Collecting is = loads (place_of m.slot m.field m.fields) is
 
--- a trial sees a word the same where the same slots are Green
-pub seen_same : (s t : State) → ((x : ℕ) → is_green (slot_at t x).colour ≡ is_green (slot_at s x).colour) → (word : ℕ) → visible t word ≡ visible s word
-seen_same s t same word = by (target_of word)
-  where
-    by : (o : Option ℕ) → visible_if o t word ≡ visible_if o s word
-    by None = refl
-    by (Some x) = ap (λ b. if b then 0 else word) (same x)
-
 -- one load more, of the word that its field has
 module _ (word : ℕ → ℕ → ℕ) (r : Run) (found : ℕ) (is : found ≡ word r.work.machine.slot r.work.machine.field) where
   still_marks : (phase : trial_phases.Phase) → AreStill word r.marking → AreStill word (noted_at phase r found).marking
@@ -218,12 +209,12 @@ trial_rests_more w m place kept phase named h =
     let raw : ℕ = slice_index_or w.words place 0 in
     let found : ℕ = visible s raw in
     let after : Work = took_of (record { machine = m; counts = s }) found in
-    let word : ℕ → ℕ → ℕ = seen_in w.config.fields w.words h.before in
+    let word : ℕ → ℕ → ℕ = visible_words h.before (word_in w.config.fields w.words) in
     let fields : m.fields ≡ w.config.fields = (now_at w (Trying m) kept phase).fields ∙ kept.collector.fields in
     let here : place ≡ place_of m.slot m.field w.config.fields = due_place m place named ∙ ap (place_of m.slot m.field) fields in
     let same : h.run.work.machine ≡ m = ap (λ (x : Work). x.machine) h.at in
     let greens : (x : ℕ) → is_green (slot_at s x).colour ≡ is_green (slot_at h.before x).colour = λ x. ap (λ (v : Work). is_green (slot_at v.counts x).colour) (sym h.at) ∙ h.trial.careful.green x in
-    let is : found ≡ word h.run.work.machine.slot h.run.work.machine.field = seen_same h.before s greens raw ∙ ap (λ n. visible h.before (slice_index_or w.words n 0)) here ∙ ap (λ (x : Machine). word x.slot x.field) (sym same) in
+    let is : found ≡ word h.run.work.machine.slot h.run.work.machine.field = visible_same h.before s greens raw ∙ ap (λ n. visible h.before (slice_index_or w.words n 0)) here ∙ ap (λ (x : Machine). word x.slot x.field) (sym same) in
     record {
       before = h.before;
       loaded = h.loaded ++ found ∷ [];
@@ -238,24 +229,19 @@ trial_rests_more w m place kept phase named h =
       leaves = h.leaves;
     }
 
--- a path of words that the trial sees is one of words
-raw_path : (fields : ℕ) (words : List ℕ) (s : State) (held : ℕ → ℕ) {x : ℕ} → IsReachable fields (seen_in fields words s) held x → IsReachable fields (word_in fields words) held x
-raw_path fields words s held (IsReachable.held h) = IsReachable.held h
-raw_path fields words s held (IsReachable.along {n = n} {x = x} p field within leads) = IsReachable.along (raw_path fields words s held p) field within (led_where_seen s (word_in fields words n field) x leads)
-
 -- The trial is over: it found what is not within reach, and its sets are to be prepared.
 pub prep_rests_begun : {w : Core} {crossing words : List ℕ} (v : Parts) (m : Machine) → HasLanded w crossing words (still v) → TrialRests w words (record { machine = m; counts = v.counts }) → trial_next m ≡ None
     → PrepRests w words (prep_started v)
 prep_rests_begun {w} {crossing} {words} v m l h over =
     let fields : ℕ = w.config.fields in
-    let word : ℕ → ℕ → ℕ = seen_in fields words h.before in
+    let word : ℕ → ℕ → ℕ = word_in fields words in
     let after : State = h.run.work.counts in
     let same : after ≡ v.counts = ap (λ (x : Work). x.counts) h.at in
     let kept : IsKeptCounts after = subst IsKeptCounts (sym same) l.counts in
     let done : IsNone (trial_next h.run.work.machine) = subst (λ (x : Work). IsNone (trial_next x.machine)) (sym h.at) (subst (λ o. IsNone o) (sym over) refl) in
     let long : length words ≡ length h.before.slots * fields = words_landed l ∙ ap (λ (t : State). length t.slots * fields) (sym same) ∙ ap (λ n. n * fields) h.trial.careful.slots in
     let finds : FindsGarbage fields word (holds (sight w)) h.before after = trial_finds_garbage fields h.before h.loaded h.run word (holds (sight w)) h.trial done h.marks h.blacks h.offered in
-    let found : AreFound w words after = λ x e other none unheld. omega (arith, no_set kept x none, finds.all x (record { unreleased = sym (h.trial.careful.released x) ∙ e; other = sym (h.trial.careful.green x) ∙ other; unreached = λ p. unheld (raw_path fields words h.before (holds (sight w)) p) })) in
+    let found : AreFound w words after = λ x e other none unheld. omega (arith, no_set kept x none, finds.all x (record { unreleased = sym (h.trial.careful.released x) ∙ e; other = sym (h.trial.careful.green x) ∙ other; unreached = unheld })) in
     let unnamed : AreUnnamed w after = λ x i e. garbage_unheld fields word (holds (sight w)) h.before x (finds.only x (some_set kept x i e)) in
     let came : Came fields v.counts (preps.work_of fields (preps.next_set v.counts 0)) [] = came_first fields v.counts l.kept.config.some_fields l.counts.numbers in
     record {

@@ -8,7 +8,7 @@ use Rattle.rec_collector.specs.declared.phase.Phase.{Phase}
 use Rattle.rec_collector.specs.declared.phase.Phase.TheVariants.{Idle, Looking, Swapping, Returning, Releasing, Freeing, Trying, Preparing, Opening, Sweeping, Closing}
 use Rattle.rec_core.specs.Core.{Core, sight}
 use Rattle.rec_core.specs.Resting.{holds, AreFound, AreUnnamed, AreWithinReach, TrialRests, PrepRests, SetsRest, Round, RestsIn}
-use Rattle.rec_core.specs.Settling.{word_in, IsReachable, IsOffered, seen_in}
+use Rattle.rec_core.specs.Settling.{word_in, IsReachable, IsOffered}
 use Rattle.rec_core.specs.declared.config.Config.{Config}
 use Rattle.rec_counts.specs.Colour.{is_green}
 
@@ -38,7 +38,7 @@ module _ (w v : Core) (same : holds (sight v) ≡ holds (sight w)) (words : List
     marks = h.marks;
     blacks = h.blacks;
     finds = h.finds;
-    offered = subst (λ (f : ℕ → ℕ). IsOffered fields (seen_in fields words h.before) f h.before) (sym same) h.offered;
+    offered = subst (λ (f : ℕ → ℕ). IsOffered fields (word_in fields words) f h.before) (sym same) h.offered;
     emptied = h.emptied;
     leaves = h.leaves;
   }

@@ -13,10 +13,11 @@ use Rattle.rec_counts.specs.Colour.{is_green}
 use Rattle.rec_counts.proofs.Keeping.{unreleased_within}
 use Rattle.rec_trial.specs.Loaded.{Run}
 use Rattle.rec_trial.specs.Promised.{IsTrial}
-use Rattle.rec_trial.specs.Still.{AreStill, IsSeed, IsHeld, IsExact, IsReached, references, rest}
+use Rattle.rec_trial.specs.Still.{AreStill, IsHeld, IsExact, references, rest, visible_words}
 use Rattle.rec_trial.specs.Still as still
 use Rattle.rec_trial.specs.Tried.{IsOver}
 use Rattle.rec_trial.specs.Trial.{next_of}
+use Rattle.rec_trial.proofs.Exactly.{reached_other}
 use Rattle.rec_core.specs.Settling.{offered_slots, IsOffered, IsReachable, IsGarbage, FindsGarbage}
 use Rattle.rec_core.specs.Settling as settling
 use Rattle.rec_core.proofs.Rest.SettlingSums.{sum_by_alike, times-range, times-filter}
@@ -62,16 +63,9 @@ module _ {fields : ℕ} {before : State} {r : Run} {marked : List ℕ} (word : �
   pub all_greened : (n : ℕ) → stays (slot_at before n) ≡ false → 0 < times n marked
   all_greened n e = exact.reached_marked n (still.IsReached.seed (a.seeds n e))
 
-  -- and nothing else: a seed is Purple, and no word that the trial sees leads to a Green slot
-  seed_other : (n : ℕ) → IsSeed before n → is_green (slot_at before n).colour ≡ false
-  seed_other n e = ap is_green e.purple
-
+  -- and nothing else: no slot on such a path is Green
   marked_offered : (n : ℕ) → 0 < times n marked → stays (slot_at before n) ≡ false
-  marked_offered n m = offered_where (slot_at before n) (o.marked_unreleased n m) (by (exact.marked_reached n m))
-    where
-      by : {x : ℕ} → IsReached fields word before x → is_green (slot_at before x).colour ≡ false
-      by (still.IsReached.seed {x} e) = seed_other x e
-      by (still.IsReached.along {n = k} {x} p field l t) = (a.shown k field x l t).1
+  marked_offered n m = offered_where (slot_at before n) (o.marked_unreleased n m) (reached_other (exact.marked_reached n m))
 
   same_marked : (n : ℕ) → times n marked ≡ times n (offered_slots before)
   same_marked n = go (stays (slot_at before n)) refl
@@ -93,14 +87,14 @@ module _ {fields : ℕ} {before : State} {r : Run} {marked : List ℕ} (word : �
 
   reachable : {n : ℕ} → IsHeld fields word marked before n → IsReachable fields word holds n
   reachable (still.IsHeld.rests {x} m h) = settling.IsReachable.held (omega (arith, rest_is x (marked_offered x m), h))
-  reachable (still.IsHeld.along p field l t) = settling.IsReachable.along (reachable p) field l t
+  reachable (still.IsHeld.along p field l t g) = settling.IsReachable.along (reachable p) field l t
 
   -- a path to a slot that isn't Green has no Green slot on it
   held : {n : ℕ} → is_green (slot_at before n).colour ≡ false → IsReachable fields word holds n → IsHeld fields word marked before n
   held g (settling.IsReachable.held {x} h) =
       let offered : stays (slot_at before x) ≡ false = offered_where (slot_at before x) (a.held x h) g in
       still.IsHeld.rests (all_greened x offered) (omega (arith, rest_is x offered, h))
-  held g (settling.IsReachable.along {n = k} {x} p field l t) = still.IsHeld.along (held (a.shown k field x l t).0 p) field l t
+  held g (settling.IsReachable.along {n = k} {x} p field l t) = still.IsHeld.along (held (a.other k field x l t) p) field l t g
 
   found : FindsGarbage fields word holds before r.work.counts
   found = record {
@@ -111,9 +105,9 @@ module _ {fields : ℕ} {before : State} {r : Run} {marked : List ℕ} (word : �
     all = λ n g. exact.unheld_members n (all_greened n (offered_where (slot_at before n) g.unreleased g.other)) (λ p. g.unreached (reachable p));
   }
 
--- A trial on words that do not change, which was offered each slot that is not released: the members of its sets are exactly the
+-- A trial on words that do not change, which was offered each slot that is neither released nor Green: the members of its sets are exactly the
 -- slots that are on no path of fields from one that is held.
-pub trial_finds_garbage : (fields : ℕ) (before : State) (words : List ℕ) (r : Run) (word : (slot field : ℕ) → ℕ) (holds : ℕ → ℕ) → IsTrial fields before words r → IsNone (next_of r.work.machine) → AreStill word r.marking → AreStill word r.blackening → IsOffered fields word holds before → FindsGarbage fields word holds before r.work.counts
+pub trial_finds_garbage : (fields : ℕ) (before : State) (words : List ℕ) (r : Run) (word : (slot field : ℕ) → ℕ) (holds : ℕ → ℕ) → IsTrial fields before words r → IsNone (next_of r.work.machine) → AreStill (visible_words before word) r.marking → AreStill (visible_words before word) r.blackening → IsOffered fields word holds before → FindsGarbage fields word holds before r.work.counts
 trial_finds_garbage fields before words r word holds t none m b a = let e = t.exact word none m b in found word holds e.1 e.2 a
 
 -- what is garbage is not held

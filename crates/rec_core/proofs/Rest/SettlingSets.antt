@@ -1,8 +1,8 @@
 -- Where the words of the sets lead that a trial found.
-use Rattle.std.proofs.Common.{◌≡◌, inl, inr, ℕ, ◌-◌, ◌*◌, ◌/◌, ◌%◌, ◌<◌, ◌≤◌, Bool, true, false, not, eqb, cond, Option, Some, None, List, [], ◌∷◌, length, get_or, refl, sym, ap, ◌∙◌, arith, IsNone, sum_by, ◌||◌, ◌≢◌, if◌then◌else◌}
+use Rattle.std.proofs.Common.{◌≡◌, inl, inr, ℕ, ◌-◌, ◌*◌, ◌/◌, ◌%◌, ◌<◌, ◌≤◌, Bool, true, false, not, eqb, cond, Option, Some, None, List, [], ◌∷◌, length, get_or, refl, sym, ap, ◌∙◌, arith, IsNone, sum_by, ◌||◌}
 use Rattle.std.specs.List.{count_by, range_with_len}
 use Rattle.std.proofs.lemmas.Bool.Decides.{eqb_tells}
-use Rattle.std.proofs.lemmas.Bool.{eq-eqb, eqb-true, false≢true, ne_eqb}
+use Rattle.std.proofs.lemmas.Bool.{eq-eqb}
 use Rattle.std.proofs.lemmas.List.Sums.{sum_by-cons}
 use Rattle.std.proofs.lemmas.Nat.{div-add-mod'}
 use Rattle.std.proofs.Math.Nat.{mod-lt}
@@ -19,17 +19,16 @@ use Rattle.rec_counts.proofs.Times.{times-nil}
 use Rattle.rec_walk.specs.Load.{Load}
 use Rattle.rec_trial.specs.Loaded.{Run}
 use Rattle.rec_trial.specs.Promised.{IsTrial}
-use Rattle.rec_trial.specs.Still.{AreStill, IsExact, references}
+use Rattle.rec_trial.specs.Still.{AreStill, IsExact, references, visible_words}
 use Rattle.rec_trial.specs.Still as still
 use Rattle.rec_trial.specs.Tried.{IsOver, is_of, loaded, edges, members}
 use Rattle.rec_trial.specs.Trial.{next_of}
-use Rattle.rec_core.specs.Settling.{offered_slots, seen_in, IsOffered, LeadsToEarlier, LeadsFromMembers, word_in, leading, heap_sum, AreEmptied, LeadBack}
+use Rattle.rec_core.specs.Settling.{offered_slots, IsOffered, IsGarbage, LeadsToEarlier, LeadsFromMembers, word_in, leading, heap_sum, AreEmptied, LeadBack}
 use Rattle.rec_core.proofs.Rest.SettlingFinds.{all_greened, garbage_unheld, times_offered, trial_finds_garbage, offered_inside, offered_where}
 use Rattle.rec_core.proofs.Rest.SettlingSums.{sum_at_same-from_get_or, sum_of_slots}
 use Rattle.rec_counts.specs.Slot.{stays}
-use Rattle.rec_trial.specs.Rules.{visible, visible_if}
+use Rattle.rec_trial.proofs.Visible.{seen_where_led}
 use Rattle.rec_core.specs.Resting.{AreLeaves}
-use Rattle.std.proofs.lemmas.Option.{same_Some}
 
 -- what leads to a slot passes the test
 leads_yes : (x : ℕ) (target : Option ℕ) → target ≡ Some x → is_slot x target ≡ true
@@ -68,63 +67,18 @@ words_lead_to_earlier_sets fields before words r word t none c n g x i j below f
     o.none_later n x i j (omega (arith, edge_of word n g x r.collecting c leads, o.collecting n g below, from)) to is_i is_j
 
 -- Of the slots that are not released, members alone lead to members.
-only_members_lead_to_members : (fields : ℕ) (before : State) (words : List ℕ) (r : Run) (word : (slot field : ℕ) → ℕ) (holds : ℕ → ℕ) → IsTrial fields before words r → IsNone (next_of r.work.machine) → AreStill word r.marking → AreStill word r.blackening → IsOffered fields word holds before → LeadsFromMembers fields word r.work.counts
+only_members_lead_to_members : (fields : ℕ) (before : State) (words : List ℕ) (r : Run) (word : (slot field : ℕ) → ℕ) (holds : ℕ → ℕ) → IsTrial fields before words r → IsNone (next_of r.work.machine) → AreStill (visible_words before word) r.marking → AreStill (visible_words before word) r.blackening → IsOffered fields word holds before → LeadsFromMembers fields word r.work.counts
 only_members_lead_to_members fields before words r word holds t none m b a n g x below unreleased leads to =
     let e = t.exact word none m b in
+    let other : is_green (slot_at before x).colour ≡ false = ((trial_finds_garbage fields before words r word holds t none m b a).only x to).other in
     let exact : IsExact fields word before r e.0 = e.2 in
-    exact.unheld_members n (all_greened word holds e.1 exact a n (offered_where (slot_at before n) (sym (t.careful.released n) ∙ unreleased) (a.shown n g x below leads).0)) (λ p. exact.members_unheld x to (still.IsHeld.along p g below leads))
+    exact.unheld_members n (all_greened word holds e.1 exact a n (offered_where (slot_at before n) (sym (t.careful.released n) ∙ unreleased) (a.other n g x below leads))) (λ p. exact.members_unheld x to (still.IsHeld.along p g below leads other))
 
--- what a trial sees of a word leads to the same slot, where that isn't Green
-pub seen_leads : (s : State) (word x : ℕ) → is_green (slot_at s x).colour ≡ false → is_slot x (target_of (visible s word)) ≡ is_slot x (target_of word)
-seen_leads s word x other = by (target_of word) refl
-  where
-    by_colour : (y : ℕ) (b : Bool) → is_green (slot_at s y).colour ≡ b → target_of word ≡ Some y → is_slot x (target_of (if b then 0 else word)) ≡ is_slot x (target_of word)
-    by_colour y false g e = refl
-    by_colour y true g e =
-        let apart : x ≢ y = λ same. false≢true (sym other ∙ (ap (λ z. is_green (slot_at s z).colour) same ∙ g)) in
-        sym (ap (is_slot x) e ∙ ne_eqb x y apart)
-
-    by : (t : Option ℕ) → target_of word ≡ t → is_slot x (target_of (visible_if t s word)) ≡ is_slot x (target_of word)
-    by None e = refl
-    by (Some y) e = by_colour y (is_green (slot_at s y).colour) refl e
-
--- so it leads there where the word does,
-pub seen_where_led : (s : State) (word x : ℕ) → is_green (slot_at s x).colour ≡ false → target_of word ≡ Some x → target_of (visible s word) ≡ Some x
-seen_where_led s word x other e = slot_target x (target_of (visible s word)) (seen_leads s word x other ∙ leads_yes x (target_of word) e)
-  where
-    slot_target : (x : ℕ) (t : Option ℕ) → is_slot x t ≡ true → t ≡ Some x
-    slot_target x None h = absurd (false≢true h)
-    slot_target x (Some y) h = ap Some (sym (eqb-true x y h))
-
--- and the word does where it does
-pub led_where_seen : (s : State) (word x : ℕ) → target_of (visible s word) ≡ Some x → target_of word ≡ Some x
-led_where_seen s word x e = by (target_of word) refl e
-  where
-    by_colour : (y : ℕ) (b : Bool) → target_of word ≡ Some y → target_of (if b then 0 else word) ≡ Some x → target_of word ≡ Some x
-    by_colour y false g h = h
-    by_colour y true g h = let none : target_of 0 ≡ None = refl in let not_so : ◌≡◌ {A = Option ℕ} None (Some x) = sym none ∙ h in absurd (cc)
-
-    by : (t : Option ℕ) → target_of word ≡ t → target_of (visible_if t s word) ≡ Some x → target_of word ≡ Some x
-    by None g h = h
-    by (Some y) g h = by_colour y (is_green (slot_at s y).colour) g h
-
--- which isn't Green then
-pub seen_is_other : (s : State) (word x : ℕ) → target_of (visible s word) ≡ Some x → is_green (slot_at s x).colour ≡ false
-seen_is_other s word x e = by (target_of word) refl e
-  where
-    by_colour : (y : ℕ) (b : Bool) → is_green (slot_at s y).colour ≡ b → target_of word ≡ Some y → target_of (if b then 0 else word) ≡ Some x → is_green (slot_at s x).colour ≡ false
-    by_colour y false g i h = ap (λ z. is_green (slot_at s z).colour) (same_Some x y (sym h ∙ i)) ∙ g
-    by_colour y true g i h = let none : target_of 0 ≡ None = refl in let not_so : ◌≡◌ {A = Option ℕ} None (Some x) = sym none ∙ h in absurd (cc)
-
-    by : (t : Option ℕ) → target_of word ≡ t → target_of (visible_if t s word) ≡ Some x → is_green (slot_at s x).colour ≡ false
-    by None i h = let not_so : ◌≡◌ {A = Option ℕ} None (Some x) = sym i ∙ h in absurd (cc)
-    by (Some y) i h = by_colour y (is_green (slot_at s y).colour) refl i h
-
--- The number of fields of such slots that the trial sees lead to one, as a sum over the words of the heap.
-pub references_in_words : (fields : ℕ) (words : List ℕ) (s : State) (x : ℕ) → 0 < fields → length words ≡ length s.slots * fields → AreEmptied fields words [] s → AreLeaves fields words s → is_green (slot_at s x).colour ≡ false
-    → references fields (seen_in fields words s) (offered_slots s) x ≡ heap_sum words x
-references_in_words fields words s x some long empty leaves other =
-    let word : ℕ → ℕ → ℕ = seen_in fields words s in
+-- The number of fields of such slots that lead to one, as a sum over the words of the heap.
+pub references_in_words : (fields : ℕ) (words : List ℕ) (s : State) (x : ℕ) → 0 < fields → length words ≡ length s.slots * fields → AreEmptied fields words [] s → AreLeaves fields words s
+    → references fields (word_in fields words) (offered_slots s) x ≡ heap_sum words x
+references_in_words fields words s x some long empty leaves =
+    let word : ℕ → ℕ → ℕ = word_in fields words in
     let f : ℕ → ℕ = λ p. leading x (get_or words p 0) in
     let ns : List ℕ = offered_slots s in
     sum_by_same (λ n. count_by (λ g. is_slot x (target_of (word n g))) (range_with_len 0 fields)) (λ n. sum_by f (places_from fields n 0)) ns row
@@ -132,10 +86,10 @@ references_in_words fields words s x some long empty leaves other =
     ∙ sum_of_slots f fields ns words (length s.slots) some long (offered_inside s)
     ∙ sum_at_same-from_get_or (λ p (w : ℕ). times (p / fields) ns * f p) (λ p w. leading x w) words 0 (λ p l. there p l (stays (slot_at s (p / fields))) refl)
   where
-    row : (n : ℕ) → count_by (λ g. is_slot x (target_of (seen_in fields words s n g))) (range_with_len 0 fields) ≡ sum_by (λ p. leading x (get_or words p 0)) (places_from fields n 0)
+    row : (n : ℕ) → count_by (λ g. is_slot x (target_of (word_in fields words n g))) (range_with_len 0 fields) ≡ sum_by (λ p. leading x (get_or words p 0)) (places_from fields n 0)
     row n =
         let all : fields ≡ fields - 0 = omega arith in
-        sum_by_same (λ g. one (is_slot x (target_of (seen_in fields words s n g)))) (λ g. leading x (get_or words (place_of n g fields) 0)) (range_with_len 0 fields) (λ g. ap one (seen_leads s (get_or words (place_of n g fields) 0) x other))
+        sum_by_same (λ g. one (is_slot x (target_of (word_in fields words n g)))) (λ g. leading x (get_or words (place_of n g fields) 0)) (range_with_len 0 fields) (λ g. refl)
         ∙ ap (λ k. sum_by (λ g. leading x (get_or words (place_of n g fields) 0)) (range_with_len 0 k)) all
         ∙ sym (sum_by-map (λ p. leading x (get_or words p 0)) (λ g. place_of n g fields) (range_with_len 0 (fields - 0)))
 
@@ -159,7 +113,7 @@ orange_of _ h = absurd (omega arith)
 member_some : (s : State) (x : ℕ) → IsKept s → 0 < times x (members s) → (slot_at s x).set ≡ None → ⊥
 member_some s x k m e = absurd (omega (arith, m, no_set k x e))
 
-module _ (fields : ℕ) (before : State) (words : List ℕ) (heap : List ℕ) (r : Run) (holds : ℕ → ℕ) (t : IsTrial fields before words r) (none : IsNone (next_of r.work.machine)) (marks : AreStill (seen_in fields heap before) r.marking) (blacks : AreStill (seen_in fields heap before) r.blackening) (finds : AreStill (seen_in fields heap before) r.collecting) (a : IsOffered fields (seen_in fields heap before) holds before) (kept : IsKept r.work.counts) (long : length heap ≡ length before.slots * fields) (empty : AreEmptied fields heap [] before)
+module _ (fields : ℕ) (before : State) (words : List ℕ) (heap : List ℕ) (r : Run) (holds : ℕ → ℕ) (t : IsTrial fields before words r) (none : IsNone (next_of r.work.machine)) (marks : AreStill (visible_words before (word_in fields heap)) r.marking) (blacks : AreStill (visible_words before (word_in fields heap)) r.blackening) (finds : AreStill (visible_words before (word_in fields heap)) r.collecting) (a : IsOffered fields (word_in fields heap) holds before) (kept : IsKept r.work.counts) (long : length heap ≡ length before.slots * fields) (empty : AreEmptied fields heap [] before)
     (leaves : AreLeaves fields heap before) where
   abbrev after : State
   after = r.work.counts
@@ -173,11 +127,12 @@ module _ (fields : ℕ) (before : State) (words : List ℕ) (heap : List ℕ) (r
   is_member : (x i : ℕ) → (slot_at after x).set ≡ Some i → 0 < times x (members after)
   is_member x i e = some_set kept x i e
 
-  -- what leads to a member does so for the trial
-  shown : (p x i : ℕ) → (slot_at after x).set ≡ Some i → target_of (get_or heap p 0) ≡ Some x → target_of (seen_in fields heap before (p / fields) (p % fields)) ≡ Some x
-  shown p x i e h =
-      let g = (trial_finds_garbage fields before words r (seen_in fields heap before) holds t none marks blacks a).only x (is_member x i e) in
-      seen_where_led before (word_in fields heap (p / fields) (p % fields)) x g.other (ap target_of (there p) ∙ h)
+  -- a member was garbage, so it isn't Green
+  garbage : (x i : ℕ) → (slot_at after x).set ≡ Some i → IsGarbage fields (word_in fields heap) holds before x
+  garbage x i e = (trial_finds_garbage fields before words r (word_in fields heap) holds t none marks blacks a).only x (is_member x i e)
+
+  leads_in : (p x : ℕ) → target_of (get_or heap p 0) ≡ Some x → target_of (word_in fields heap (p / fields) (p % fields)) ≡ Some x
+  leads_in p x h = ap target_of (there p) ∙ h
 
   -- So once a trial is over that was offered every slot, its sets lead back.
   pub found_lead_back : LeadBack fields heap [] r.work.counts
@@ -188,12 +143,12 @@ module _ (fields : ℕ) (before : State) (words : List ℕ) (heap : List ℕ) (r
         orange = λ x i e. orange_of (slot_at after x).colour (omega (arith, o.members_orange x, is_member x i e));
         unreleased = λ x i e. t.careful.released x ∙ t.careful.sets_unreleased x (is_member x i e);
         emptied = λ p l e z. empty p l (sym (t.careful.released (p / fields)) ∙ e) z;
-        earlier = λ p x i j l e f h. words_lead_to_earlier_sets fields before words r (seen_in fields heap before) t none finds (p / fields) (p % fields) x i j (field_within p) (is_member (p / fields) i e) (is_member x j f) e f (shown p x j f h);
-        members = λ p x j l u e f h. member_some after (p / fields) kept (only_members_lead_to_members fields before words r (seen_in fields heap before) holds t none marks blacks a (p / fields) (p % fields) x (field_within p) u (shown p x j f h) (is_member x j f)) e;
+        earlier = λ p x i j l e f h. words_lead_to_earlier_sets fields before words r (visible_words before (word_in fields heap)) t none finds (p / fields) (p % fields) x i j (field_within p) (is_member (p / fields) i e) (is_member x j f) e f (seen_where_led before (word_in fields heap (p / fields) (p % fields)) x (garbage x j f).other (leads_in p x h));
+        members = λ p x j l u e f h. member_some after (p / fields) kept (only_members_lead_to_members fields before words r (word_in fields heap) holds t none marks blacks a (p / fields) (p % fields) x (field_within p) u (leads_in p x h) (is_member x j f)) e;
       }
 
   -- And the count of a member is the number of fields that lead to it.
   pub found_counts : (x i : ℕ) → (slot_at r.work.counts x).set ≡ Some i → (slot_at r.work.counts x).count ≡ heap_sum heap x
   found_counts x i e =
-      let g = (trial_finds_garbage fields before words r (seen_in fields heap before) holds t none marks blacks a).only x (is_member x i e) in
-      omega (arith, t.careful.counts x, a.counted x (offered_where (slot_at before x) g.unreleased g.other), garbage_unheld fields (seen_in fields heap before) holds before x g, references_in_words fields heap before x t.wide long empty leaves g.other)
+      let g : IsGarbage fields (word_in fields heap) holds before x = garbage x i e in
+      omega (arith, t.careful.counts x, a.counted x (offered_where (slot_at before x) g.unreleased g.other), garbage_unheld fields (word_in fields heap) holds before x g, references_in_words fields heap before x t.wide long empty leaves)
