@@ -61,15 +61,15 @@ pub(super) fn answers(
 ) -> Result<String, NoMemory>
     ensures { IfOk result (λ line. string_bytes line ≡ answers_line version (λ at. slice_index_or counts.now at 0)) }
 {
-    let [done, null, object, value, yes, no, none, full, busy, no_field] = *counts;
+    let [done, null, object, value, yes, no, none, full, busy, leaf] = *counts;
     let mut text = format!(in alloc; "done {done} null {null} object {object}")?;
     write!(text, " value {value} yes {yes} no {no}")?;
     write!(text, " none {none} full {full} busy {busy}")?;
-    end_answers(&mut text, version, no_field)?;
+    end_answers(&mut text, version, leaf)?;
     Ok(text)
 }
 
-/// Adds the end of that line.
+/// Adds the end of that line: in version 2 it tells how many puts found a leaf.
 fn end_answers(text: &mut String, version: u32, no_field: u64) -> Result<(), NoMemory>
     ensures { OnOk result (string_bytes text.new ≡ string_bytes text.old ++ (no_field_words version no_field ++ line_feed)) }
 {

@@ -67,15 +67,7 @@ impl Text {
             let first = usize::from(*slot) * usize::from(fields);
             let own = &words[first..first + usize::from(fields)];
             let count = world.count(*slot);
-            self.add(line::row(
-                alloc,
-                i + 1,
-                leaf,
-                label,
-                count,
-                own,
-                numbering,
-            )?)?;
+            self.add(line::row(alloc, i + 1, leaf, label, count, own, numbering)?)?;
         }
         Ok(())
     }

@@ -40,11 +40,7 @@ pub fn summary(
     let sets = world.sets();
     let mut text = Text::new(alloc);
     text.add(line::sizes(alloc, journals.len(), commands_of(journals))?)?;
-    text.add(line::answers(
-        alloc,
-        script.version(),
-        &tally(journals),
-    )?)?;
+    text.add(line::answers(alloc, script.version(), &tally(journals))?)?;
     text.add(line::objects(alloc, live as u64, world.made(), refusals_of(journals))?)?;
     text.add(line::collections(
         alloc,
