@@ -86,6 +86,8 @@ pub enum Fact {
     Slot(u16),
     /// The label of the object in the slot.
     Label(u16),
+    /// Whether the object in the slot is a leaf.
+    Leaf(u16),
     /// The word of the field with this place.
     Field(u32),
     /// What a register of a mutator names.

@@ -17,6 +17,7 @@ pub fn shown(alloc: Global, world: &World, fact: Fact) -> Result<String, NoMemor
     match fact {
         Fact::Slot(at) => slot(alloc, world, at),
         Fact::Label(at) => label(alloc, world, at),
+        Fact::Leaf(at) => leaf(alloc, world, at),
         Fact::Number(at) => number_of(alloc, world, at),
         Fact::Field(place) => field(alloc, world, place),
         Fact::Register(t, r) => register(alloc, world, t, r),
@@ -72,6 +73,13 @@ fn label(alloc: Global, world: &World, slot: u16) -> Result<String, NoMemory> {
         return String::from_str(alloc, ABSENT);
     }
     number(alloc, world.label(slot).map(u64::from), "none")
+}
+
+fn leaf(alloc: Global, world: &World, slot: u16) -> Result<String, NoMemory> {
+    if slot >= world.slots() {
+        return String::from_str(alloc, ABSENT);
+    }
+    yes(alloc, world.leaf(slot))
 }
 
 fn field(alloc: Global, world: &World, place: u32) -> Result<String, NoMemory> {

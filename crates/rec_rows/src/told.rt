@@ -28,6 +28,7 @@ fn word_of(answer: Answer) -> &'static str {
         Answer::NoObject => "none",
         Answer::Full => "full",
         Answer::Busy { .. } => "busy",
+        Answer::NoField => "nofield",
         Answer::LogFull => "logfull",
     }
 }

@@ -104,7 +104,8 @@ fn command(line: &[&str]) -> Result<Cmd, Wrong> {
     match line {
         ["null", reg] => Ok(Cmd::Null { reg: short(reg)? }),
         ["value", reg] => Ok(Cmd::Value { reg: short(reg)? }),
-        ["new", reg, label] => birth(reg, label),
+        ["new", reg, label] => birth(false, reg, label),
+        ["leaf", reg, label] => birth(true, reg, label),
         [name, first, second] => command_of_two(name, short(first)?, short(second)?),
         [name, first, second, third] => {
             command_of_three(name, short(first)?, short(second)?, short(third)?)
@@ -113,9 +114,13 @@ fn command(line: &[&str]) -> Result<Cmd, Wrong> {
     }
 }
 
-fn birth(reg: &str, label: &str) -> Result<Cmd, Wrong> {
+fn birth(leaf: bool, reg: &str, label: &str) -> Result<Cmd, Wrong> {
     let (reg, label) = (short(reg)?, number(label)?);
-    Ok(Cmd::New { reg, label })
+    Ok(if leaf {
+        Cmd::Leaf { reg, label }
+    } else {
+        Cmd::New { reg, label }
+    })
 }
 
 fn command_of_two(name: &str, first: u8, second: u8) -> Result<Cmd, Wrong> {
@@ -232,6 +237,7 @@ fn fact_at(name: &str, at: &str) -> Result<Fact, Wrong> {
     match name {
         "slot" => Ok(Fact::Slot(slot(at)?)),
         "label" => Ok(Fact::Label(slot(at)?)),
+        "leaf" => Ok(Fact::Leaf(slot(at)?)),
         "number" => Ok(Fact::Number(slot(at)?)),
         "field" => Ok(Fact::Field(number(at)?)),
         "busy" => Ok(Fact::Busy(short(at)?)),
