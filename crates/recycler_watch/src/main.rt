@@ -4,6 +4,7 @@
 #![tactic(auto)]
 
 mod graph;
+mod line;
 mod page_text;
 mod refusal;
 mod request;
