@@ -1,5 +1,5 @@
 -- A heap as it is seen between two moves: a function of the run there.
-use Rattle.std.specs.Prelude.{ℕ, ◌+◌, ◌-◌, ◌&&◌, zero, suc, Bool, true, false, Option, None, Some, List, [], ◌∷◌, ◌++◌, map, slice_index_or, is_none, codes}
+use Rattle.std.specs.Prelude.{ℕ, ◌&&◌, zero, suc, Bool, true, false, Option, List, [], ◌∷◌, ◌++◌, map, slice_index_or, is_none, codes}
 use Rattle.rec_word.specs.Word.{target_of}
 use Rattle.rec_model.specs.Sight.{words_of}
 use Rattle.rec_counts.specs.Counts.{slot_at}

@@ -69,7 +69,7 @@ pub record HasTold (before : Watched) (made to : ℕ) (after : Watched) (made_af
   pub text : List ℕ
   pub last : Watched
   pub run : IsTold made before moves text last
-  pub end : IsEnd last after (made + length moves) (max made to)
+  pub end : IsEnd last after (made + length moves) (max to made)
   pub count : made_after ≡ made + length moves
   pub written : Appends old new text
 
@@ -79,7 +79,7 @@ IsNext true before made after made_after old new = (move : Move) × IsMade befor
 IsNext false before made after made_after old new = IsOver after.stage × (made_after ≡ made) × (new ≡ old)
 
 -- how many moves are made before those that are told, where these words are asked
-abbrev before_of : Request → (from to : ℕ) → ℕ
+abbrev pub before_of : Request → (from to : ℕ) → ℕ
 before_of Graph from to = to
 before_of _ from to = from - 1
 

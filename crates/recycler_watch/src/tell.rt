@@ -83,13 +83,21 @@ impl Teller<'_> {
         ensures reached { self.old.asked.request ≡ Text → IfOk result (λ reached. IsTrue reached ↔ (self.old.asked.from ≤ self.new.moves)) }
     {
         self.pass();
-        match self.asked.request {
-            Request::Text | Request::Data => self.tell_moves(out, self.asked.to)?,
-            Request::Graph => self.draw(out)?,
-            Request::Page(_) => self.tell_page(out)?,
-        }
+        self.tell_window(out)?;
         out.flush()?;
         Ok(self.moves >= self.asked.from)
+    }
+
+    // Writes what is asked of the moves in the window.
+    fn tell_window<W: Write>(&mut self, out: &mut W) -> io::Result<()>
+        ensures asked { self.new.asked ≡ self.old.asked }
+        ensures told { self.old.asked.request ≡ Text → OnOk result (HasTold self.old.walk self.old.moves self.old.asked.to self.new.walk self.new.moves (W.contents out.old) (W.contents out.new)) }
+    {
+        match self.asked.request {
+            Request::Text | Request::Data => self.tell_moves(out, self.asked.to),
+            Request::Graph => self.draw(out),
+            Request::Page(_) => self.tell_page(out),
+        }
     }
 
     // Makes the moves before the window.
@@ -100,9 +108,7 @@ impl Teller<'_> {
         ensures passed { HasPassed self.old.walk (before_window self.old.asked) self.new.walk self.new.moves }
     {
         for _ in 0..before_window(self.asked) {
-            if self.make_move().is_none() {
-                break;
-            }
+            let Some(_) = self.make_move() else { break };
         }
     }
 
@@ -111,7 +117,9 @@ impl Teller<'_> {
         write_graph(out, self.alloc, &seen)
     }
 
-    fn tell_page<W: Write>(&mut self, out: &mut W) -> io::Result<()> {
+    fn tell_page<W: Write>(&mut self, out: &mut W) -> io::Result<()>
+        ensures { self.new.asked ≡ self.old.asked }
+    {
         out.write_all(HEAD.as_bytes())?;
         let most = self.moves.saturating_add(100_000);
         self.tell_moves(out, self.asked.to.min(most))?;
@@ -143,7 +151,7 @@ impl Teller<'_> {
     {
         let mut seen = State::of(self.alloc, &self.walk)?;
         self.begin(out, &seen)?;
-        for _ in self.moves..to {
+        for _ in self.moves..to.max(self.moves) {
             if !self.tell_next(out, &mut seen)? {
                 break;
             }
@@ -157,6 +165,7 @@ impl Teller<'_> {
         requires seen { seen known.old ≡ seen_of self.old.walk }
 
         ensures asked { self.new.asked ≡ self.old.asked }
+        ensures count { IfOk result (λ goes_on. IsTrue goes_on → self.new.moves ≡ self.old.moves + 1) }
         ensures seen { IfOk result (λ goes_on. IsTrue goes_on → seen known.new ≡ seen_of self.new.walk) }
         ensures told { self.old.asked.request ≡ Text → IfOk result (λ goes_on. IsNext goes_on self.old.walk self.old.moves self.new.walk self.new.moves (W.contents out.old) (W.contents out.new)) }
     {
