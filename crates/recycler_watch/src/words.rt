@@ -215,12 +215,7 @@ fn add_found(
 }
 
 // The slots of which the collector keeps something else now, each with what that is.
-fn add_changes(
-    text: &mut String,
-    alloc: Global,
-    was: &State,
-    is: &State,
-) -> Result<(), NoMemory>
+fn add_changes(text: &mut String, alloc: Global, was: &State, is: &State) -> Result<(), NoMemory>
     ensures { OnOk result (string_bytes text.new ≡ string_bytes text.old ++ changes_words (changed_slots (map slot_seen was.now.slots.items) (map slot_seen is.now.slots.items))) }
 {
     let changed = changed_slots(alloc, &was.slots, &is.slots)?;

@@ -10,11 +10,11 @@ loop-init g c = (refl, refl, c.in_ok-seen.ensures, λ is. subst (λ out. Told c.
 
 pub loop-preserved : goal.loop-preserved
 loop-preserved g c = (
-    c.in_ok-tell_next.ensures.asked ∙ c.loop.invariant.0,
-    c.in_ok-tell_next.ensures.count c.if-not-branch.false ∙ ap (λ n. n + 1) c.loop.invariant.1,
-    c.in_ok-tell_next.ensures.seen c.if-not-branch.false,
-    λ is. told_next _ _ _ _ _ _ _ _ _ _ c.if-not-branch.false (c.loop.invariant.3 is) (c.in_ok-tell_next.ensures.told (ap (λ (a : Asked). a.request) c.loop.invariant.0 ∙ is)),
-  )
+  c.in_ok-tell_next.ensures.asked ∙ c.loop.invariant.0,
+  c.in_ok-tell_next.ensures.count c.if-not-branch.false ∙ ap (λ n. n + 1) c.loop.invariant.1,
+  c.in_ok-tell_next.ensures.seen c.if-not-branch.false,
+  λ is. told_next _ _ _ _ _ _ _ _ _ _ c.if-not-branch.false (c.loop.invariant.3 is) (c.in_ok-tell_next.ensures.told (ap (λ (a : Asked). a.request) c.loop.invariant.0 ∙ is)),
+)
 
 pub returns-clause-told : goal.returns-clause-told
 returns-clause-told g c is = elim c.loop-test.branch [
