@@ -1,9 +1,11 @@
 //! See the collector work: a script is played as `recycler play` does, and what happens is shown, move by move.
 //! The run is that of `rec_watch`, which proves it to be the one that `play` and `settle` make, and `walk_asked` opens it as it is asked.
-//! Of what is written of it no more is promised than that it is written safely, and that the program ends.
+//! What `trace` writes of it is a function of its moves (`Teller::tell`). Of data, graphs and pages no more is promised than that they
+//! are written safely, and that the program ends.
 #![tactic(auto)]
 
 mod graph;
+mod line;
 mod page_text;
 mod refusal;
 mod request;
@@ -142,7 +144,9 @@ fn walk_asked<'a>(
 }
 
 // Tells a run, and says how many moves it has where it ends before the window.
-fn watch<R: Files + Print + Eprint>(rt: &R, teller: &mut Teller<'_>) -> anyhow::Result<u8> {
+fn watch<R: Files + Print + Eprint>(rt: &R, teller: &mut Teller<'_>) -> anyhow::Result<u8>
+    requires { teller.old.moves ≡ 0 }
+{
     let told = write_out(rt, teller);
     if let Some(mut terminal) = teller.terminal {
         let _ = terminal.write_all(b"\r\x1b[K"); // the note goes before anything else is said
@@ -155,7 +159,9 @@ fn watch<R: Files + Print + Eprint>(rt: &R, teller: &mut Teller<'_>) -> anyhow::
 }
 
 // Tells a run: a page to its file, everything else to standard output. The answer is whether the run came to the window.
-fn write_out<R: Files + Print>(rt: &R, teller: &mut Teller<'_>) -> anyhow::Result<bool> {
+fn write_out<R: Files + Print>(rt: &R, teller: &mut Teller<'_>) -> anyhow::Result<bool>
+    requires { teller.old.moves ≡ 0 }
+{
     if let Request::Page(output) = teller.asked.request {
         let file = fs::create(rt, output).context(output)?;
         let mut out = BufWriter::new(teller.alloc, file)?;

@@ -1,7 +1,11 @@
 //! A heap as it is seen between two moves. Text, data, graph and page are all made from it.
 
-ghost use Rattle.std.specs.Prelude.{◌<◌, length};
+ghost use Rattle.std.specs.Prelude.{◌≡◌, ◌<◌, ◌++◌, length, map, string_bytes, IfOk, OnOk};
 ghost use Rattle.rec_core.specs.Config.{IsMutator};
+ghost use Rattle.rec_counts.specs.Counts.{slot_at};
+ghost use Rattle.rec_word.specs.Word.{target_of};
+ghost use Rattle.recycler_watch.specs.Seen.{collector_of, collector_seen, colour_name, counted_slot, mutator_of, mutator_seen, mutators_of, phase_name, seen, seen_of, slot_of, slot_seen, slots_of};
+ghost use Rattle.recycler_watch.specs.Sentence.{field_words, register_of, target_words};
 
 use rec_collector::Phase;
 use rec_counts::{Colour, Counts};
@@ -80,7 +84,9 @@ pub struct State {
 
 impl State {
     /// What is seen of the heap of a run.
-    pub fn of(alloc: Global, walk: &Walk<'_>) -> Result<State, NoMemory> {
+    pub fn of(alloc: Global, walk: &Walk<'_>) -> Result<State, NoMemory>
+        ensures { IfOk result (λ state. seen state ≡ seen_of walk.now) }
+    {
         let (world, fields) = (walk.world(), walk.script().fields());
         Ok(State {
             slots: slots_of(alloc, world, fields as usize)?,
@@ -92,13 +98,17 @@ impl State {
     }
 
     /// What register `reg` of mutator `t` names.
-    pub fn register(&self, t: u8, reg: u8) -> Option<u16> {
-        let seen = self.mutators.get(usize::from(t).checked_sub(1)?)?;
+    pub fn register(&self, t: u8, reg: u8) -> Option<u16>
+        ensures { result ≡ register_of (seen self.now) t reg }
+    {
+        let seen = self.mutators.get(usize::from(t).saturating_sub(1))?;
         *seen.registers.get(usize::from(reg))?
     }
 }
 
-fn collector_of(world: &World, stage: Stage) -> Collector {
+fn collector_of(world: &World, stage: Stage) -> Collector
+    ensures { collector_seen result ≡ collector_of world.now stage }
+{
     let sets = world.sets();
     Collector {
         settles: stage != Stage::Playing,
@@ -112,20 +122,34 @@ fn collector_of(world: &World, stage: Stage) -> Collector {
     }
 }
 
-fn slots_of(alloc: Global, world: &World, fields: usize) -> Result<Vec<Slot>, NoMemory> {
-    let counts = world.collector().counts();
-    let mut words = world.words().chunks(fields.max(1));
+fn slots_of(alloc: Global, world: &World, fields: usize) -> Result<Vec<Slot>, NoMemory>
+    requires { fields ≡ world.now.config.fields }
+    ensures { IfOk result (λ slots. map slot_seen slots.items ≡ slots_of world.now world.now.config.slots) }
+{
+    let (counts, words) = (world.collector().counts(), world.words());
     let mut slots = Vec::with_capacity(alloc, usize::from(world.slots()))?;
-    for slot in 0..world.slots().min(counts.slots()) {
-        let words = words.next().unwrap_or(&[]);
-        let fields = words.iter().map(|word| target(*word)).collect(alloc)?;
-        slots.push(slot_of(counts, slot, world.label(slot), fields))?;
+    for slot in 0..world.slots() {
+        let first = usize::from(slot) * fields;
+        let leads = targets_of(alloc, &words[first..first + fields])?;
+        slots.push(slot_of(counts, slot, world.label(slot), leads))?;
     }
     Ok(slots)
 }
 
+// Where these words lead.
+fn targets_of(alloc: Global, words: &[u64]) -> Result<Vec<Option<u16>>, NoMemory>
+    ensures { IfOk result (λ targets. targets.items ≡ map target_of words.now) }
+{
+    let mut targets = Vec::with_capacity(alloc, words.len())?;
+    for word in words {
+        targets.push(target(*word))?;
+    }
+    Ok(targets)
+}
+
 fn slot_of(counts: &Counts, slot: u16, label: Option<u32>, fields: Vec<Option<u16>>) -> Slot
     requires { slot < length counts.now.slots }
+    ensures { slot_seen result ≡ counted_slot (slot_at counts.now slot) slot label fields.items }
 {
     let set = counts.set_of(slot);
     Slot {
@@ -141,16 +165,19 @@ fn slot_of(counts: &Counts, slot: u16, label: Option<u32>, fields: Vec<Option<u1
     }
 }
 
-fn mutators_of(alloc: Global, world: &World, fields: u32) -> Result<Vec<Mutator>, NoMemory> {
+fn mutators_of(alloc: Global, world: &World, fields: u32) -> Result<Vec<Mutator>, NoMemory>
+    ensures { IfOk result (λ mutators. map mutator_seen mutators.items ≡ mutators_of world.now world.now.config.mutators) }
+{
     let mut mutators = Vec::new(alloc);
-    for t in 1..=world.mutators() {
-        mutators.push(mutator_of(alloc, world, t, fields)?)?;
+    for index in 0..world.mutators() {
+        mutators.push(mutator_of(alloc, world, index + 1, fields)?)?;
     }
     Ok(mutators)
 }
 
 fn mutator_of(alloc: Global, world: &World, t: u8, fields: u32) -> Result<Mutator, NoMemory>
     requires { IsMutator world.now.config t }
+    ensures { IfOk result (λ seen. mutator_seen seen ≡ mutator_of world.now t) }
 {
     let place = usize::from(t - 1);
     let entries = world.mutator(t).entries();
@@ -203,7 +230,9 @@ fn add_entry(text: &mut String, entry: Entry, fields: u32) -> Result<(), NoMemor
 }
 
 /// An object, or null, behind some words.
-pub fn add_target(text: &mut String, words: &str, to: Option<u16>) -> Result<(), NoMemory> {
+pub fn add_target(text: &mut String, words: &str, to: Option<u16>) -> Result<(), NoMemory>
+    ensures { OnOk result (string_bytes text.new ≡ string_bytes text.old ++ (words.now ++ target_words to)) }
+{
     match to {
         None => write!(text, "{words}null"),
         Some(slot) => write!(text, "{words}#{slot}"),
@@ -211,7 +240,9 @@ pub fn add_target(text: &mut String, words: &str, to: Option<u16>) -> Result<(),
 }
 
 /// A field by its place behind some words, as `#3.0`, where objects have so many.
-pub fn add_field(text: &mut String, words: &str, place: u32, fields: u32) -> Result<(), NoMemory> {
+pub fn add_field(text: &mut String, words: &str, place: u32, fields: u32) -> Result<(), NoMemory>
+    ensures { OnOk result (string_bytes text.new ≡ string_bytes text.old ++ (words.now ++ field_words place fields)) }
+{
     let fields = fields.max(1);
     write!(text, "{words}#{}.{}", place / fields, place % fields)
 }
@@ -235,7 +266,9 @@ fn sets_of(alloc: Global, counts: &Counts) -> Result<Vec<Vec<u16>>, NoMemory> {
     Ok(sets)
 }
 
-fn phase_name(phase: &Phase) -> &'static str {
+fn phase_name(phase: &Phase) -> &'static str
+    ensures { result.now ≡ phase_name phase.now }
+{
     match phase {
         Phase::Idle => "rest",
         Phase::Looking { .. } | Phase::Swapping { .. } | Phase::Returning { .. } => "gather",
@@ -247,7 +280,9 @@ fn phase_name(phase: &Phase) -> &'static str {
     }
 }
 
-fn colour_name(colour: Colour) -> &'static str {
+fn colour_name(colour: Colour) -> &'static str
+    ensures { result.now ≡ colour_name colour }
+{
     match colour {
         Colour::Black => "Black",
         Colour::Purple => "Purple",

@@ -1,6 +1,16 @@
 //! A run that is told: as text, as data, as a graph or as a page. `docs/WATCH.md` has the forms.
+//!
+//! As text it is a function of the moves that the run makes: each has its line, once, in order (`specs/Told`).
+
+ghost use Rattle.std.specs.Prelude.{◌≡◌, ◌≢◌, ◌+◌, ◌-◌, ◌^◌, ◌<◌, ◌≤◌, ◌↔◌, ◌∷◌, ◌++◌, [], ℕ, IsTrue, List, length, max, IfOk, IfSome, IsNone, OnOk};
+ghost use Rattle.std.specs.Io.KnownBytes.{Appends};
+ghost use Rattle.rec_watch.specs.Stages.{IsOver};
+ghost use Rattle.recycler_watch.specs.Seen.{seen, seen_of};
+ghost use Rattle.recycler_watch.specs.Told.{before_window, HasPassed, HasTold, IsMade, IsNext, IsTrace, move_text};
+ghost use Rattle.recycler_watch.specs.declared.request.Request.TheVariants.{Text};
 
 use crate::graph::write_graph;
+use crate::line::move_text;
 use crate::page_text::{HEAD, TAIL};
 use crate::request::{Asked, Request};
 use crate::state::{Collector, Lists, Mutator, Slot, State};
@@ -66,27 +76,39 @@ pub struct Teller<'a> {
 
 impl Teller<'_> {
     /// Makes the moves up to the end of the window, writes what is asked of them, and tells whether the run came to the window.
-    pub fn tell<W: Write>(&mut self, out: &mut W) -> io::Result<bool> {
+    pub fn tell<W: Write>(&mut self, out: &mut W) -> io::Result<bool>
+        requires { self.old.moves ≡ 0 }
+
+        ensures trace { self.old.asked.request ≡ Text → OnOk result (IsTrace self.old.walk self.old.asked.from self.old.asked.to self.new.walk (W.contents out.old) (W.contents out.new)) }
+        ensures reached { self.old.asked.request ≡ Text → IfOk result (λ reached. IsTrue reached ↔ (self.old.asked.from ≤ self.new.moves)) }
+    {
         self.pass();
-        match self.asked.request {
-            Request::Text | Request::Data => self.tell_moves(out, self.asked.to)?,
-            Request::Graph => self.draw(out)?,
-            Request::Page(_) => self.tell_page(out)?,
-        }
+        self.tell_window(out)?;
         out.flush()?;
         Ok(self.moves >= self.asked.from)
     }
 
+    // Writes what is asked of the moves in the window.
+    fn tell_window<W: Write>(&mut self, out: &mut W) -> io::Result<()>
+        ensures asked { self.new.asked ≡ self.old.asked }
+        ensures told { self.old.asked.request ≡ Text → OnOk result (HasTold self.old.walk self.old.moves self.old.asked.to self.new.walk self.new.moves (W.contents out.old) (W.contents out.new)) }
+    {
+        match self.asked.request {
+            Request::Text | Request::Data => self.tell_moves(out, self.asked.to),
+            Request::Graph => self.draw(out),
+            Request::Page(_) => self.tell_page(out),
+        }
+    }
+
     // Makes the moves before the window.
-    fn pass(&mut self) {
-        let before = match self.asked.request {
-            Request::Graph => self.asked.to,
-            _ => self.asked.from.saturating_sub(1),
-        };
-        for _ in 0..before {
-            if self.make_move().is_none() {
-                break;
-            }
+    fn pass(&mut self)
+        requires { self.old.moves ≡ 0 }
+
+        ensures asked { self.new.asked ≡ self.old.asked }
+        ensures passed { HasPassed self.old.walk (before_window self.old.asked) self.new.walk self.new.moves }
+    {
+        for _ in 0..before_window(self.asked) {
+            let Some(_) = self.make_move() else { break };
         }
     }
 
@@ -95,7 +117,9 @@ impl Teller<'_> {
         write_graph(out, self.alloc, &seen)
     }
 
-    fn tell_page<W: Write>(&mut self, out: &mut W) -> io::Result<()> {
+    fn tell_page<W: Write>(&mut self, out: &mut W) -> io::Result<()>
+        ensures { self.new.asked ≡ self.old.asked }
+    {
         out.write_all(HEAD.as_bytes())?;
         let most = self.moves.saturating_add(100_000);
         self.tell_moves(out, self.asked.to.min(most))?;
@@ -103,9 +127,15 @@ impl Teller<'_> {
     }
 
     // Makes the next move. A terminal is told of every ten thousandth.
-    fn make_move(&mut self) -> Option<Move> {
+    fn make_move(&mut self) -> Option<Move>
+        requires { self.old.moves < 2 ^ 64 - 1 }
+
+        ensures asked { self.new.asked ≡ self.old.asked }
+        ensures made { IfSome result (λ made. IsMade self.old.walk made self.new.walk × (self.new.moves ≡ self.old.moves + 1)) }
+        ensures none { IsNone result → IsOver self.new.walk.stage × (self.new.moves ≡ self.old.moves) }
+    {
         let made = self.walk.make_move()?;
-        self.moves = self.moves.saturating_add(1);
+        self.moves += 1;
         if let Some(mut terminal) = self.terminal {
             if self.moves % 10_000 == 0 {
                 let _ = write!(terminal, "\rmove {} ", self.moves);
@@ -115,10 +145,13 @@ impl Teller<'_> {
     }
 
     // Makes the moves from here on up to this one, and tells each.
-    fn tell_moves<W: Write>(&mut self, out: &mut W, to: u64) -> io::Result<()> {
+    fn tell_moves<W: Write>(&mut self, out: &mut W, to: u64) -> io::Result<()>
+        ensures asked { self.new.asked ≡ self.old.asked }
+        ensures told { self.old.asked.request ≡ Text → OnOk result (HasTold self.old.walk self.old.moves to self.new.walk self.new.moves (W.contents out.old) (W.contents out.new)) }
+    {
         let mut seen = State::of(self.alloc, &self.walk)?;
         self.begin(out, &seen)?;
-        for _ in self.moves..to {
+        for _ in self.moves..to.max(self.moves) {
             if !self.tell_next(out, &mut seen)? {
                 break;
             }
@@ -126,19 +159,29 @@ impl Teller<'_> {
         Ok(())
     }
 
-    // Makes the next move and tells it, if there is one. The heap was seen before it, and is seen again behind it.
-    fn tell_next<W: Write>(&mut self, out: &mut W, seen: &mut State) -> io::Result<bool> {
+    // Makes the next move and tells it, if there is one. What is known of the heap before it is known again behind it.
+    fn tell_next<W: Write>(&mut self, out: &mut W, known: &mut State) -> io::Result<bool>
+        requires few { self.old.moves < 2 ^ 64 - 1 }
+        requires seen { seen known.old ≡ seen_of self.old.walk }
+
+        ensures asked { self.new.asked ≡ self.old.asked }
+        ensures count { IfOk result (λ goes_on. IsTrue goes_on → self.new.moves ≡ self.old.moves + 1) }
+        ensures seen { IfOk result (λ goes_on. IsTrue goes_on → seen known.new ≡ seen_of self.new.walk) }
+        ensures told { self.old.asked.request ≡ Text → IfOk result (λ goes_on. IsNext goes_on self.old.walk self.old.moves self.new.walk self.new.moves (W.contents out.old) (W.contents out.new)) }
+    {
         let Some(made) = self.make_move() else {
             return Ok(false);
         };
         let is = State::of(self.alloc, &self.walk)?;
-        self.write_move(out, made, seen, &is)?;
-        *seen = is;
+        self.write_move(out, made, known, &is)?;
+        *known = is;
         Ok(true)
     }
 
     // What stands before the moves: where they are data a line of what is watched, and the whole heap.
-    fn begin<W: Write>(&self, out: &mut W, is: &State) -> io::Result<()> {
+    fn begin<W: Write>(&self, out: &mut W, is: &State) -> io::Result<()>
+        ensures { self.now.asked.request ≡ Text → out.new ≡ out.old }
+    {
         if self.asked.request == Request::Text {
             return Ok(());
         }
@@ -164,25 +207,16 @@ impl Teller<'_> {
         made: Move,
         was: &State,
         is: &State,
-    ) -> io::Result<()> {
+    ) -> io::Result<()>
+        ensures { self.now.asked.request ≡ Text → OnOk result (Appends (W.contents out.old) (W.contents out.new) (move_text self.now.moves made (seen was.now) (seen is.now))) }
+    {
         match self.asked.request {
-            Request::Text => self.write_text(out, made, was, is),
+            Request::Text => {
+                let text = move_text(self.alloc, self.moves, made, was, is)?;
+                out.write_all(text.as_bytes())
+            }
             _ => self.write_data(out, made, was, is),
         }
-    }
-
-    // A move in a line, between headings for what begins with it.
-    fn write_text<W: Write>(
-        &self,
-        out: &mut W,
-        made: Move,
-        was: &State,
-        is: &State,
-    ) -> io::Result<()> {
-        write_headings(out, &was.collector, &is.collector)?;
-        let says = says(self.alloc, made, was, is)?;
-        write_sentence(out, self.moves, made, &says)?;
-        write_phase(out, was.collector.phase, is.collector.phase)
     }
 
     fn write_data<W: Write>(
@@ -244,6 +278,16 @@ impl Teller<'_> {
     }
 }
 
+// How many moves are made before those that are told.
+fn before_window(asked: Asked<'_>) -> u64
+    ensures { result ≡ before_window asked.entry }
+{
+    match asked.request {
+        Request::Graph => asked.to,
+        _ => asked.from.saturating_sub(1),
+    }
+}
+
 // Data in a line. Only memory can be short: nothing here nests deep, and nothing is a float.
 fn text_of<T: Serialize>(alloc: Global, data: &T) -> Result<String, NoMemory> {
     serde_json::to_string(alloc, data).map_err(|_| NoMemory)
@@ -278,32 +322,6 @@ fn parts_of<'a>(
         mutators: others_of(alloc, mutators, &is.mutators)?,
         lists,
     })
-}
-
-// Headings for what begins with a move.
-fn write_headings<W: Write>(out: &mut W, was: &Collector, is: &Collector) -> io::Result<()> {
-    if is.settles && !was.settles {
-        writeln!(out, "== the commands are made, the heap settles")?;
-    }
-    if is.epoch != was.epoch {
-        writeln!(out, "== epoch {}", is.epoch)?;
-    }
-    Ok(())
-}
-
-fn write_sentence<W: Write>(out: &mut W, number: u64, made: Move, says: &str) -> io::Result<()> {
-    match made {
-        Move::Command { mutator, .. } => writeln!(out, "{number:>5} mutator {mutator}  {says}"),
-        Move::Step { .. } => writeln!(out, "{number:>5} collector  {says}"),
-    }
-}
-
-// A heading behind the move that led to another phase.
-fn write_phase<W: Write>(out: &mut W, was: &str, is: &str) -> io::Result<()> {
-    if was != is && is != "rest" {
-        writeln!(out, "-- {is}")?;
-    }
-    Ok(())
 }
 
 // What isn't as it was; all, where nothing was.

@@ -1,6 +1,13 @@
 //! A move in words that a person reads. `#3` is the object in slot 3, and `#3.0` its first field.
+//! The words are a function of the move and of what was seen before and behind it (`specs/Sentence`).
 
-use crate::state::{Collector, Slot, State, add_field, add_target};
+ghost use Rattle.std.specs.Prelude.{◌≡◌, ◌++◌, codes, length, map, string_bytes, IfOk, OnOk};
+ghost use Rattle.std.specs.List.{flat_map};
+ghost use Rattle.rec_word.specs.Word.{target_of};
+ghost use Rattle.recycler_watch.specs.Seen.{collector_seen, mutator_seen, seen, slot_seen};
+ghost use Rattle.recycler_watch.specs.Sentence.{answer_words, birth_words, change_words, changed_slots, changes_words, colour_words, command_words, counts_words, crossed, crosses_words, field_words, loss_words, more_words, outcome_words, polls_words, put_words, returned_words, root_words, sentence, set_words, sets_words, step_words, target_words, turn_words};
+
+use crate::state::{Collector, Mutator, Slot, State, add_field, add_target};
 use rec_model::Answer;
 use rec_watch::Move;
 use rec_word::{Op, target};
@@ -12,7 +19,9 @@ use std::fmt::Write;
 const MOST_TOLD: usize = 6;
 
 /// A command as a script spells it.
-pub fn command_text(alloc: Global, cmd: Cmd) -> Result<String, NoMemory> {
+pub fn command_text(alloc: Global, cmd: Cmd) -> Result<String, NoMemory>
+    ensures { IfOk result (λ text. string_bytes text ≡ command_words cmd) }
+{
     match cmd {
         Cmd::New { reg, label } => format!(in alloc; "new {reg} {label}"),
         Cmd::Null { reg } => format!(in alloc; "null {reg}"),
@@ -25,7 +34,9 @@ pub fn command_text(alloc: Global, cmd: Cmd) -> Result<String, NoMemory> {
 }
 
 /// An answer as a run's text spells it.
-pub fn answer_text(alloc: Global, answer: Answer) -> Result<String, NoMemory> {
+pub fn answer_text(alloc: Global, answer: Answer) -> Result<String, NoMemory>
+    ensures { IfOk result (λ text. string_bytes text ≡ answer_words answer) }
+{
     match answer {
         Answer::Done => format!(in alloc; "done"),
         Answer::Null => format!(in alloc; "null"),
@@ -41,53 +52,61 @@ pub fn answer_text(alloc: Global, answer: Answer) -> Result<String, NoMemory> {
 }
 
 /// A move, and what it changed, in a sentence.
-pub fn says(alloc: Global, made: Move, was: &State, is: &State) -> Result<String, NoMemory> {
+pub fn says(alloc: Global, made: Move, was: &State, is: &State) -> Result<String, NoMemory>
+    ensures { IfOk result (λ text. string_bytes text ≡ sentence made (seen was.now) (seen is.now)) }
+{
     let mut text = String::new(alloc);
-    add_move(&mut text, alloc, made, was, is)?;
+    match made {
+        Move::Command { mutator, cmd, told } => {
+            add_crossing(&mut text, crossed(&was.mutators, &is.mutators))?;
+            add_answer(&mut text, alloc, cmd, told)?;
+            add_outcome(&mut text, mutator, cmd, told, is)?;
+        }
+        Move::Step { seen, turn } => {
+            add_step(&mut text, seen, is)?;
+            add_turn(&mut text, turn)?;
+            add_poll(&mut text, crossed(&was.mutators, &is.mutators))?;
+            add_sets(&mut text, &was.collector, &is.collector)?;
+            add_changes(&mut text, alloc, was, is)?;
+        }
+    }
     Ok(text)
 }
 
-fn add_move(
-    text: &mut String,
-    alloc: Global,
-    made: Move,
-    was: &State,
-    is: &State,
-) -> Result<(), NoMemory> {
-    let epoch = crossed(was, is);
-    match made {
-        Move::Command { mutator, cmd, told } => {
-            if let Some(epoch) = epoch {
-                add_number(text, "crosses into epoch ", epoch, "; ")?;
-            }
-            add_answer(text, alloc, cmd, told)?;
-            add_outcome(text, mutator, cmd, told, is)
-        }
-        Move::Step { seen, turn } => {
-            add_step(text, seen, is)?;
-            add_turn(text, turn)?;
-            if let Some(epoch) = epoch {
-                add_number(text, "; it polls, and crosses into epoch ", epoch, "")?;
-            }
-            add_sets(text, &was.collector, &is.collector)?;
-            add_changes(text, was, is)
-        }
+// The epoch into which a mutator crossed before its command.
+fn add_crossing(text: &mut String, epoch: Option<u32>) -> Result<(), NoMemory>
+    ensures { OnOk result (string_bytes text.new ≡ string_bytes text.old ++ crosses_words epoch) }
+{
+    match epoch {
+        None => Ok(()),
+        Some(epoch) => write!(text, "crosses into epoch {epoch}; "),
     }
 }
 
-// A number between words.
-fn add_number(text: &mut String, before: &str, number: u32, behind: &str) -> Result<(), NoMemory> {
-    write!(text, "{before}{number}{behind}")
+// The epoch into which a mutator crossed that was waited for.
+fn add_poll(text: &mut String, epoch: Option<u32>) -> Result<(), NoMemory>
+    ensures { OnOk result (string_bytes text.new ≡ string_bytes text.old ++ polls_words epoch) }
+{
+    match epoch {
+        None => Ok(()),
+        Some(epoch) => write!(text, "; it polls, and crosses into epoch {epoch}"),
+    }
 }
 
 // A command, and what it was told.
-fn add_answer(text: &mut String, alloc: Global, cmd: Cmd, told: Told) -> Result<(), NoMemory> {
+fn add_answer(text: &mut String, alloc: Global, cmd: Cmd, told: Told) -> Result<(), NoMemory>
+    ensures { OnOk result (string_bytes text.new ≡ string_bytes text.old ++ (command_words cmd ++ codes ": " ++ answer_words told.answer)) }
+{
     let (command, answer) = (command_text(alloc, cmd)?, answer_text(alloc, told.answer)?);
-    write!(text, "{command}: {answer}")
+    text.push_str(&command)?;
+    text.push_str(": ")?;
+    text.push_str(&answer)
 }
 
 // What came of a turn of the collector.
-fn add_turn(text: &mut String, turn: Turn) -> Result<(), NoMemory> {
+fn add_turn(text: &mut String, turn: Turn) -> Result<(), NoMemory>
+    ensures { OnOk result (string_bytes text.new ≡ string_bytes text.old ++ turn_words turn) }
+{
     match turn {
         Turn::Waiting { .. } => text.push_str(", and waits: it hasn't crossed"),
         Turn::Collected { epoch, freed } => {
@@ -101,47 +120,68 @@ fn add_turn(text: &mut String, turn: Turn) -> Result<(), NoMemory> {
 }
 
 // The epoch into which a mutator crossed with this move.
-fn crossed(was: &State, is: &State) -> Option<u32> {
-    let mut both = was.mutators.iter().zip(&is.mutators);
-    both.find(|(was, is)| was.epoch != is.epoch)
-        .map(|(_, is)| is.epoch)
+fn crossed(was: &[Mutator], is: &[Mutator]) -> Option<u32>
+    ensures { result ≡ crossed (map mutator_seen was.now) (map mutator_seen is.now) }
+{
+    for (index, before) in was.iter().enumerate() {
+        let after = is.get(index)?;
+        if before.epoch != after.epoch {
+            return Some(after.epoch);
+        }
+    }
+    None
 }
 
 // What a command of mutator `t` found or left.
-fn add_outcome(text: &mut String, t: u8, cmd: Cmd, told: Told, is: &State) -> Result<(), NoMemory> {
+fn add_outcome(text: &mut String, t: u8, cmd: Cmd, told: Told, is: &State) -> Result<(), NoMemory>
+    ensures { OnOk result (string_bytes text.new ≡ string_bytes text.old ++ outcome_words t cmd told.answer told.saw told.left (seen is.now)) }
+{
     match (cmd, told.answer) {
-        (Cmd::New { reg, .. }, Answer::Done) => {
-            add_target(text, ", ", is.register(t, reg))?;
-            text.push_str(" is born")
-        }
+        (Cmd::New { reg, .. }, Answer::Done) => add_birth(text, is.register(t, reg)),
         (Cmd::Put { src, field, .. }, Answer::Done) => {
-            add_target(text, ", ", is.register(t, src))?;
-            write!(text, ".{field}")?;
-            add_target(text, " was ", target(told.saw))?;
-            add_target(text, ", now ", target(told.left))
+            add_put(text, is.register(t, src), field, told)
         }
         (_, Answer::Object) => add_target(text, " ", target(told.saw)),
         _ => Ok(()),
     }
 }
 
+// The object that was born.
+fn add_birth(text: &mut String, born: Option<u16>) -> Result<(), NoMemory>
+    ensures { OnOk result (string_bytes text.new ≡ string_bytes text.old ++ birth_words born) }
+{
+    add_target(text, ", ", born)?;
+    text.push_str(" is born")
+}
+
+// A field of an object, with what it led to before and does now.
+fn add_put(text: &mut String, object: Option<u16>, field: u8, told: Told) -> Result<(), NoMemory>
+    ensures { OnOk result (string_bytes text.new ≡ string_bytes text.old ++ put_words object field (target_of told.saw) (target_of told.left)) }
+{
+    add_target(text, ", ", object)?;
+    write!(text, ".{field}")?;
+    add_target(text, " was ", target(told.saw))?;
+    add_target(text, ", now ", target(told.left))
+}
+
 // What the collector did: its operation, and the word that it found.
-fn add_step(text: &mut String, seen: Option<(Op, u64)>, is: &State) -> Result<(), NoMemory> {
+fn add_step(text: &mut String, seen: Option<(Op, u64)>, is: &State) -> Result<(), NoMemory>
+    ensures { OnOk result (string_bytes text.new ≡ string_bytes text.old ++ step_words seen (length is.now.mutators.items) is.now.fields) }
+{
     let Some((op, found)) = seen else {
         return text.push_str("finds the epochs spent");
     };
     match op {
-        Op::StoreEpoch(epoch) => add_number(text, "requests epoch ", epoch, ""),
-        Op::LookBox(t, _) => add_number(text, "looks at mutator ", u32::from(t), "'s mailbox"),
-        Op::ReturnBox(t, _) => add_number(text, "gives mutator ", u32::from(t), returned(t, is)),
-        Op::LoadChild(place) => add_found(text, "loads ", place, ", which is ", found, is),
-        Op::ClearField(place) => add_found(text, "clears ", place, ", which was ", found, is),
-        Op::FreeHeader(slot) => add_number(
-            text,
-            "sweeps #",
-            u32::from(slot),
-            ", whose slot is free now",
-        ),
+        Op::StoreEpoch(epoch) => write!(text, "requests epoch {epoch}"),
+        Op::LookBox(t, _) => write!(text, "looks at mutator {t}'s mailbox"),
+        Op::ReturnBox(t, _) => {
+            write!(text, "gives mutator {t}{}", returned(t, is.mutators.len()))
+        }
+        Op::LoadChild(place) => add_found(text, "loads ", place, ", which is ", found, is.fields),
+        Op::ClearField(place) => {
+            add_found(text, "clears ", place, ", which was ", found, is.fields)
+        }
+        Op::FreeHeader(slot) => write!(text, "sweeps #{slot}, whose slot is free now"),
         Op::AddFreed if found % 2 == 0 => text.push_str("begins a sweep"),
         Op::AddFreed => text.push_str("ends the sweep"),
         _ => text.push_str("makes a step"),
@@ -149,8 +189,10 @@ fn add_step(text: &mut String, seen: Option<(Op, u64)>, is: &State) -> Result<()
 }
 
 // What is said of a mailbox that is given back. Behind the last one comes the batch.
-fn returned(t: u8, is: &State) -> &'static str {
-    if usize::from(t) == is.mutators.len() {
+fn returned(t: u8, mutators: usize) -> &'static str
+    ensures { result.now ≡ returned_words t mutators }
+{
+    if usize::from(t) == mutators {
         "'s mailbox back, applies the batch"
     } else {
         "'s mailbox back"
@@ -164,29 +206,72 @@ fn add_found(
     place: u32,
     between: &str,
     found: u64,
-    is: &State,
-) -> Result<(), NoMemory> {
-    add_field(text, words, place, is.fields)?;
+    fields: u32,
+) -> Result<(), NoMemory>
+    ensures { OnOk result (string_bytes text.new ≡ string_bytes text.old ++ (words.now ++ field_words place fields ++ between.now ++ target_words (target_of found))) }
+{
+    add_field(text, words, place, fields)?;
     add_target(text, between, target(found))
 }
 
 // The slots of which the collector keeps something else now, each with what that is.
-fn add_changes(text: &mut String, was: &State, is: &State) -> Result<(), NoMemory> {
-    let mut told = 0usize;
-    for (before, after) in was.slots.iter().zip(&is.slots) {
-        if before != after && told < MOST_TOLD {
-            add_change(text, before, after)?;
-        }
-        told = told.saturating_add(usize::from(before != after));
+fn add_changes(text: &mut String, alloc: Global, was: &State, is: &State) -> Result<(), NoMemory>
+    ensures { OnOk result (string_bytes text.new ≡ string_bytes text.old ++ changes_words (changed_slots (map slot_seen was.now.slots.items) (map slot_seen is.now.slots.items))) }
+{
+    let changed = changed_slots(alloc, &was.slots, &is.slots)?;
+    add_changed(text, &changed)
+}
+
+// What changed of the first of these slots, and how many more there are.
+fn add_changed(text: &mut String, changed: &[(&Slot, &Slot)]) -> Result<(), NoMemory>
+    ensures { OnOk result (string_bytes text.new ≡ string_bytes text.old ++ changes_words (map (λ p. (slot_seen p.0.now, slot_seen p.1.now)) changed.now)) }
+{
+    add_first(text, &changed[..MOST_TOLD.min(changed.len())])?;
+    add_more(text, changed.len())
+}
+
+// How many more slots changed than a line tells.
+fn add_more(text: &mut String, changed: usize) -> Result<(), NoMemory>
+    ensures { OnOk result (string_bytes text.new ≡ string_bytes text.old ++ more_words changed) }
+{
+    if changed <= MOST_TOLD {
+        return Ok(());
     }
-    if told > MOST_TOLD {
-        write!(text, "; and {} more slots", told - MOST_TOLD)?;
+    write!(text, "; and {} more slots", changed - MOST_TOLD)
+}
+
+// The slots that aren't as they were.
+fn changed_slots<'a>(
+    alloc: Global,
+    was: &'a [Slot],
+    is: &'a [Slot],
+) -> Result<Vec<(&'a Slot, &'a Slot)>, NoMemory>
+    ensures { IfOk result (λ pairs. map (λ p. (slot_seen p.0.now, slot_seen p.1.now)) pairs.items ≡ changed_slots (map slot_seen was.now) (map slot_seen is.now)) }
+{
+    let mut changed = Vec::new(alloc);
+    for (index, before) in was.iter().enumerate() {
+        let Some(after) = is.get(index) else { break };
+        if before != after {
+            changed.push((before, after))?;
+        }
+    }
+    Ok(changed)
+}
+
+// What changed of each of these slots.
+fn add_first(text: &mut String, changed: &[(&Slot, &Slot)]) -> Result<(), NoMemory>
+    ensures { OnOk result (string_bytes text.new ≡ string_bytes text.old ++ flat_map (λ p. change_words (slot_seen p.0.now) (slot_seen p.1.now)) changed.now) }
+{
+    for (before, after) in changed {
+        add_change(text, before, after)?;
     }
     Ok(())
 }
 
 // What became of the sets, where one was tested.
-fn add_sets(text: &mut String, was: &Collector, is: &Collector) -> Result<(), NoMemory> {
+fn add_sets(text: &mut String, was: &Collector, is: &Collector) -> Result<(), NoMemory>
+    ensures { OnOk result (string_bytes text.new ≡ string_bytes text.old ++ sets_words (collector_seen was.now) (collector_seen is.now)) }
+{
     if is.sets_freed != was.sets_freed {
         text.push_str("; a set passes both tests")?;
     }
@@ -199,22 +284,21 @@ fn add_sets(text: &mut String, was: &Collector, is: &Collector) -> Result<(), No
     Ok(())
 }
 
-fn add_change(text: &mut String, before: &Slot, after: &Slot) -> Result<(), NoMemory> {
-    add_number(text, "; #", u32::from(after.slot), "")?;
+// What changed of a slot.
+fn add_change(text: &mut String, before: &Slot, after: &Slot) -> Result<(), NoMemory>
+    ensures { OnOk result (string_bytes text.new ≡ string_bytes text.old ++ change_words (slot_seen before.now) (slot_seen after.now)) }
+{
+    write!(text, "; #{}", after.slot)?;
     add_counts(text, before, after)?;
-    if before.colour != after.colour {
-        write!(text, " {} -> {}", before.colour, after.colour)?;
-    }
-    if after.released && !before.released {
-        text.push_str(" released")?;
-    }
-    if after.fields != before.fields {
-        text.push_str(" loses a reference")?;
-    }
-    add_membership(text, before, after)
+    add_colour(text, before.colour, after.colour)?;
+    add_loss(text, before, after)?;
+    add_set(text, before.set, after.set)?;
+    add_root(text, before.root, after.root)
 }
 
-fn add_counts(text: &mut String, before: &Slot, after: &Slot) -> Result<(), NoMemory> {
+fn add_counts(text: &mut String, before: &Slot, after: &Slot) -> Result<(), NoMemory>
+    ensures { OnOk result (string_bytes text.new ≡ string_bytes text.old ++ counts_words (slot_seen before.now) (slot_seen after.now)) }
+{
     if before.count != after.count {
         write!(text, " count {} -> {}", before.count, after.count)?;
     }
@@ -224,14 +308,44 @@ fn add_counts(text: &mut String, before: &Slot, after: &Slot) -> Result<(), NoMe
     Ok(())
 }
 
-// Whether the slot came into a set or among the roots, or left them.
-fn add_membership(text: &mut String, before: &Slot, after: &Slot) -> Result<(), NoMemory> {
-    match (before.set, after.set) {
-        (None, Some(set)) => add_number(text, " joins set ", u32::from(set), "")?,
-        (Some(set), None) => add_number(text, " leaves set ", u32::from(set), "")?,
-        _ => {}
+fn add_colour(text: &mut String, before: &str, after: &str) -> Result<(), NoMemory>
+    ensures { OnOk result (string_bytes text.new ≡ string_bytes text.old ++ colour_words before.now after.now) }
+{
+    if before == after {
+        return Ok(());
     }
-    match (before.root, after.root) {
+    write!(text, " {before} -> {after}")
+}
+
+// Whether the slot was released, or lost a reference.
+fn add_loss(text: &mut String, before: &Slot, after: &Slot) -> Result<(), NoMemory>
+    ensures { OnOk result (string_bytes text.new ≡ string_bytes text.old ++ loss_words (slot_seen before.now) (slot_seen after.now)) }
+{
+    if after.released && !before.released {
+        text.push_str(" released")?;
+    }
+    if after.fields != before.fields {
+        text.push_str(" loses a reference")?;
+    }
+    Ok(())
+}
+
+// Whether the slot came into a set, or left it.
+fn add_set(text: &mut String, before: Option<u16>, after: Option<u16>) -> Result<(), NoMemory>
+    ensures { OnOk result (string_bytes text.new ≡ string_bytes text.old ++ set_words before after) }
+{
+    match (before, after) {
+        (None, Some(set)) => write!(text, " joins set {set}"),
+        (Some(set), None) => write!(text, " leaves set {set}"),
+        _ => Ok(()),
+    }
+}
+
+// Whether the slot came among the roots, or left them.
+fn add_root(text: &mut String, before: bool, after: bool) -> Result<(), NoMemory>
+    ensures { OnOk result (string_bytes text.new ≡ string_bytes text.old ++ root_words before after) }
+{
+    match (before, after) {
         (false, true) => text.push_str(" becomes a root"),
         (true, false) => text.push_str(" is no root any more"),
         _ => Ok(()),

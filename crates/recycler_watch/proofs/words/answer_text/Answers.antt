@@ -1,0 +1,7 @@
+-- The pieces of the format one after another.
+use Rattle.std.proofs.Common.{append_assoc}
+use Rattle.std.proofs.lemmas.Result.{IfOk-weaker}
+use Rattle.recycler_watch.proofs.words.answer_text.Goals as goal
+
+pub returns-in-Busy : goal.returns-in-Busy
+returns-in-Busy c = rw c.in-Busy.is (IfOk-weaker c.format-in-Busy.result _ _ (λ text h. simp append_assoc h) c.format-in-Busy.ensures.ok)

@@ -1,0 +1,4 @@
+-- What the contracts of this crate cite.
+pub mod Seen
+pub mod Sentence
+pub mod Told
