@@ -1,10 +1,11 @@
 -- A heap as it is seen between two moves: a function of the run there.
 use Rattle.std.specs.Prelude.{ℕ, ◌&&◌, zero, suc, Bool, true, false, Option, List, [], ◌∷◌, ◌++◌, map, slice_index_or, is_none, codes}
+use Rattle.rec_word.specs.Header.{is_leaf}
 use Rattle.rec_word.specs.Word.{target_of}
 use Rattle.rec_model.specs.Sight.{words_of}
 use Rattle.rec_counts.specs.Counts.{slot_at}
 use Rattle.rec_counts.specs.declared.colour.Colour.{Colour}
-use Rattle.rec_counts.specs.declared.colour.Colour.TheVariants.{Black, Purple, Gray, White, Orange}
+use Rattle.rec_counts.specs.declared.colour.Colour.TheVariants.{Black, Purple, Gray, White, Orange, Green}
 use Rattle.rec_counts.specs.declared.slot.Slot as counted
 use Rattle.rec_collector.specs.declared.phase.Phase.{Phase}
 use Rattle.rec_collector.specs.declared.phase.Phase.TheVariants.{Idle, Looking, Swapping, Returning, Releasing, Freeing, Trying, Preparing, Opening, Sweeping, Closing}
@@ -18,10 +19,11 @@ use Rattle.recycler_watch.specs.declared.state.Mutator.{Mutator}
 use Rattle.recycler_watch.specs.declared.state.Collector.{Collector}
 use Rattle.recycler_watch.specs.declared.state.State.{State}
 
--- a slot: the label of its object, what the collector keeps of it, and what its fields lead to
+-- a slot: the label of its object, whether that is a leaf, what the collector keeps of it, and what its fields lead to
 pub record SeenSlot : Type 0 where
   pub slot : ℕ
   pub label : Option ℕ
+  pub leaf : Bool
   pub count : ℕ
   pub cyclic : ℕ
   pub colour : List ℕ
@@ -60,6 +62,7 @@ colour_name Purple = codes "Purple"
 colour_name Gray = codes "Gray"
 colour_name White = codes "White"
 colour_name Orange = codes "Orange"
+colour_name Green = codes "Green"
 
 abbrev pub phase_name : Phase → List ℕ
 phase_name Idle = codes "rest"
@@ -79,11 +82,12 @@ is_settling Playing = false
 is_settling _ = true
 
 -- a slot of a heap
-abbrev pub counted_slot : counted.Slot → (slot : ℕ) → Option ℕ → List (Option ℕ) → SeenSlot
-counted_slot own slot label fields =
+abbrev pub counted_slot : counted.Slot → (slot : ℕ) → Option ℕ → (leaf : Bool) → List (Option ℕ) → SeenSlot
+counted_slot own slot label leaf fields =
     record {
       slot = slot;
       label = label;
+      leaf = leaf;
       count = own.count;
       cyclic = own.cyclic;
       colour = colour_name own.colour;
@@ -94,7 +98,7 @@ counted_slot own slot label fields =
     }
 
 abbrev pub slot_of : Core → ℕ → SeenSlot
-slot_of w slot = counted_slot (slot_at w.collector.counts slot) slot (label_of (slice_index_or w.headers slot 0)) (map target_of (words_of (sight w) slot))
+slot_of w slot = counted_slot (slot_at w.collector.counts slot) slot (label_of (slice_index_or w.headers slot 0)) (is_leaf (slice_index_or w.headers slot 0)) (map target_of (words_of (sight w) slot))
 
 -- the first so many slots
 abbrev pub slots_of : Core → ℕ → List SeenSlot
@@ -138,6 +142,7 @@ slot_seen s =
     record {
       slot = s.slot;
       label = s.label;
+      leaf = s.leaf;
       count = s.count;
       cyclic = s.cyclic;
       colour = s.colour.now;

@@ -20,6 +20,7 @@ use Rattle.recycler_watch.specs.Seen.{Seen, SeenSlot, SeenMutator, SeenCollector
 -- a command as a script spells it
 abbrev pub command_words : Cmd → List ℕ
 command_words (commands.New reg label) = codes "new " ++ decimal reg ++ codes " " ++ decimal label
+command_words (commands.Leaf reg label) = codes "leaf " ++ decimal reg ++ codes " " ++ decimal label
 command_words (commands.Null reg) = codes "null " ++ decimal reg
 command_words (commands.Copy dst src) = codes "copy " ++ decimal dst ++ codes " " ++ decimal src
 command_words (commands.Get dst src field) = codes "get " ++ decimal dst ++ codes " " ++ decimal src ++ codes " " ++ decimal field
@@ -38,6 +39,7 @@ answer_words answers.No = codes "no"
 answer_words answers.NoObject = codes "none"
 answer_words answers.Full = codes "full"
 answer_words (answers.Busy before after) = codes "busy " ++ decimal before ++ codes " " ++ decimal after
+answer_words answers.NoField = codes "nofield"
 answer_words answers.LogFull = codes "logfull"
 
 -- an object, or null
@@ -78,6 +80,7 @@ put_words object field before after = codes ", " ++ target_words object ++ codes
 -- what a command of mutator `t` found or left
 abbrev pub outcome_words : (t : ℕ) → Cmd → Answer → (saw left : ℕ) → Seen → List ℕ
 outcome_words t (commands.New reg label) answers.Done saw left s = birth_words (register_of s t reg)
+outcome_words t (commands.Leaf reg label) answers.Done saw left s = birth_words (register_of s t reg)
 outcome_words t (commands.Put src field val) answers.Done saw left s = put_words (register_of s t src) field (target_of saw) (target_of left)
 outcome_words t cmd answers.Object saw left s = codes " " ++ target_words (target_of saw)
 outcome_words t cmd answer saw left s = []
@@ -128,6 +131,7 @@ abbrev pub is_same_slot : SeenSlot → SeenSlot → Bool
 is_same_slot before after =
     before.slot == after.slot
     && option_eq (λ m n. m == n) before.label after.label
+    && beq before.leaf after.leaf
     && before.count == after.count
     && before.cyclic == after.cyclic
     && bytes_eq before.colour after.colour

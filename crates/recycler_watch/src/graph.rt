@@ -52,7 +52,8 @@ fn add_slot(text: &mut String, seen: &Slot) -> Result<(), NoMemory> {
     match seen.label {
         None => writeln!(text, "  s{slot} [label=\"#{slot}\\nfree\", style=dotted];"),
         Some(label) => {
-            write!(text, "  s{slot} [label=\"#{slot} label {label}\\n")?;
+            let kind = if seen.leaf { "leaf" } else { "label" };
+            write!(text, "  s{slot} [label=\"#{slot} {kind} {label}\\n")?;
             add_object(text, seen)
         }
     }

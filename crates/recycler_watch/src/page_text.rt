@@ -35,8 +35,8 @@ table { border-collapse: collapse; width: 100%; } th, td { padding: .14rem 0; te
 th { font-weight: 400; color: var(--faint); white-space: nowrap; padding-right: .8rem; width: 7.6rem; font-size: 13px; } td { overflow-wrap: anywhere; white-space: pre-wrap; }
 .mutator + .mutator { margin-top: .7rem; padding-top: .5rem; border-top: 3px double var(--line); } .mutator b { font-size: 13.5px; } .null { color: var(--faint); }
 .box { fill: var(--card); } .edge { fill: none; stroke: var(--faint); } .free .edge { stroke-dasharray: 4 3; stroke: var(--line); } .free text { fill: var(--faint); }
-.Black .top { fill: var(--black); } .Purple .top { fill: #7b3fa0; } .Gray .top { fill: #9aa1a9; } .White .top { fill: #ffffff; } .Orange .top { fill: #e69f00; }
-.Black .head, .Purple .head { fill: #fff; } .Gray .head, .White .head, .Orange .head { fill: #111; } .free .head { fill: var(--faint); } .bold { font-weight: 700 !important; }
+.Black .top { fill: var(--black); } .Purple .top { fill: #7b3fa0; } .Gray .top { fill: #9aa1a9; } .White .top { fill: #ffffff; } .Orange .top { fill: #e69f00; } .Green .top { fill: #2e8b57; }
+.Black .head, .Purple .head, .Green .head { fill: #fff; } .Gray .head, .White .head, .Orange .head { fill: #111; } .free .head { fill: var(--faint); } .bold { font-weight: 700 !important; }
 .changed .edge { stroke: var(--mark); stroke-width: 3; } .port { fill: none; stroke: var(--line); } .flag { fill: var(--mark) !important; font-weight: 700 !important; }
 .arrow { fill: none; stroke: var(--arrow); stroke-width: 1.5; marker-end: url(#tip); }
 #legend { display: grid; grid-template-columns: repeat(auto-fit, minmax(24rem, 1fr)); gap: 0 2rem; } dl { display: grid; grid-template-columns: 7.4rem 1fr; gap: .2rem .8rem; margin: .5rem 0 0; align-content: start; } dt { font-weight: 600; display: flex; gap: .45rem; align-items: center; align-self: start; } dd { margin: 0; }
@@ -207,7 +207,7 @@ function box(slot, at, changed, registers) {
   if (!free) group.append(make("path", { d: `M${at.x} ${at.y + 24}v-17a7 7 0 0 1 7-7h${BOX.w - 14}a7 7 0 0 1 7 7v17z`, class: "top" }));
   text(9, 16.5, "#" + slot.slot, { class: "head bold" });
   text(BOX.w - 9, 16.5, free ? "free" : slot.colour, { class: "head", "text-anchor": "end" });
-  text(9, 41, free ? slot.colour : "label " + slot.label);
+  text(9, 41, free ? slot.colour : (slot.leaf ? "leaf " : "label ") + slot.label);
   text(BOX.w - 9, 41, slot.released ? "released" : slot.set !== null ? "set " + slot.set : slot.root ? "root" : "", { class: "flag", "text-anchor": "end" });
   text(9, 58, `count ${slot.count}`);
   text(BOX.w / 2 + 4, 58, `cyclic ${slot.cyclic}`);

@@ -20,11 +20,12 @@ use std::fmt::Write;
 // Where a mailbox is, by the last two bits of its mutator's crossing word.
 const MAILBOXES: [&str; 4] = ["spare", "with the mutator", "retired", "with the collector"];
 
-/// A slot: the label of its object, where it holds one, what the collector keeps of it, and what its fields lead to.
+/// A slot: the label of its object, where it holds one, whether that is a leaf, what the collector keeps of it, and what its fields lead to.
 #[derive(Drop, PartialEq, Serialize)]
 pub struct Slot {
     pub slot: u16,
     pub label: Option<u32>,
+    pub leaf: bool,
     pub count: u64,
     pub cyclic: u64,
     pub colour: &'static str,
@@ -131,7 +132,13 @@ fn slots_of(alloc: Global, world: &World, fields: usize) -> Result<Vec<Slot>, No
     for slot in 0..world.slots() {
         let first = usize::from(slot) * fields;
         let leads = targets_of(alloc, &words[first..first + fields])?;
-        slots.push(slot_of(counts, slot, world.label(slot), leads))?;
+        slots.push(slot_of(
+            counts,
+            slot,
+            world.label(slot),
+            world.leaf(slot),
+            leads,
+        ))?;
     }
     Ok(slots)
 }
@@ -147,14 +154,21 @@ fn targets_of(alloc: Global, words: &[u64]) -> Result<Vec<Option<u16>>, NoMemory
     Ok(targets)
 }
 
-fn slot_of(counts: &Counts, slot: u16, label: Option<u32>, fields: Vec<Option<u16>>) -> Slot
+fn slot_of(
+    counts: &Counts,
+    slot: u16,
+    label: Option<u32>,
+    leaf: bool,
+    fields: Vec<Option<u16>>,
+) -> Slot
     requires { slot < length counts.now.slots }
-    ensures { slot_seen result ≡ counted_slot (slot_at counts.now slot) slot label fields.items }
+    ensures { slot_seen result ≡ counted_slot (slot_at counts.now slot) slot label leaf fields.items }
 {
     let set = counts.set_of(slot);
     Slot {
         slot,
         label,
+        leaf,
         count: counts.count(slot),
         cyclic: counts.cyclic(slot),
         colour: colour_name(counts.colour(slot)),
@@ -220,7 +234,8 @@ fn entry_text(alloc: Global, entry: Entry, fields: u32) -> Result<String, NoMemo
 
 fn add_entry(text: &mut String, entry: Entry, fields: u32) -> Result<(), NoMemory> {
     match entry {
-        Entry::Born { slot } => write!(text, "#{slot} born"),
+        Entry::Born { slot, leaf: false } => write!(text, "#{slot} born"),
+        Entry::Born { slot, leaf: true } => write!(text, "#{slot} born, a leaf"),
         Entry::Put { place, new, old } => {
             add_field(text, "", place, fields)?;
             add_target(text, ": ", target(old))?;
@@ -289,5 +304,6 @@ fn colour_name(colour: Colour) -> &'static str
         Colour::Gray => "Gray",
         Colour::White => "White",
         Colour::Orange => "Orange",
+        Colour::Green => "Green",
     }
 }

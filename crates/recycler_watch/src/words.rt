@@ -24,6 +24,7 @@ pub fn command_text(alloc: Global, cmd: Cmd) -> Result<String, NoMemory>
 {
     match cmd {
         Cmd::New { reg, label } => format!(in alloc; "new {reg} {label}"),
+        Cmd::Leaf { reg, label } => format!(in alloc; "leaf {reg} {label}"),
         Cmd::Null { reg } => format!(in alloc; "null {reg}"),
         Cmd::Copy { dst, src } => format!(in alloc; "copy {dst} {src}"),
         Cmd::Get { dst, src, field } => format!(in alloc; "get {dst} {src} {field}"),
@@ -47,6 +48,7 @@ pub fn answer_text(alloc: Global, answer: Answer) -> Result<String, NoMemory>
         Answer::NoObject => format!(in alloc; "none"),
         Answer::Full => format!(in alloc; "full"),
         Answer::Busy { before, after } => format!(in alloc; "busy {before} {after}"),
+        Answer::NoField => format!(in alloc; "nofield"),
         Answer::LogFull => format!(in alloc; "logfull"),
     }
 }
@@ -137,7 +139,9 @@ fn add_outcome(text: &mut String, t: u8, cmd: Cmd, told: Told, is: &State) -> Re
     ensures { OnOk result (string_bytes text.new ≡ string_bytes text.old ++ outcome_words t cmd told.answer told.saw told.left (seen is.now)) }
 {
     match (cmd, told.answer) {
-        (Cmd::New { reg, .. }, Answer::Done) => add_birth(text, is.register(t, reg)),
+        (Cmd::New { reg, .. } | Cmd::Leaf { reg, .. }, Answer::Done) => {
+            add_birth(text, is.register(t, reg))
+        }
         (Cmd::Put { src, field, .. }, Answer::Done) => {
             add_put(text, is.register(t, src), field, told)
         }
