@@ -105,8 +105,8 @@ module _ {fields : ℕ} {before : State} {r : Run} {marked : List ℕ} (word : �
     all = λ n g. exact.unheld_members n (all_greened n (offered_where (slot_at before n) g.unreleased g.other)) (λ p. g.unreached (reachable p));
   }
 
--- A trial on words that do not change, which was offered each slot that is neither released nor Green: the members of its sets are exactly the
--- slots that are on no path of fields from one that is held.
+-- A trial on words that do not change, which was offered each slot that is neither released nor Green: the members of its sets are
+-- exactly those of these slots that are on no path of fields from one that is held.
 pub trial_finds_garbage : (fields : ℕ) (before : State) (words : List ℕ) (r : Run) (word : (slot field : ℕ) → ℕ) (holds : ℕ → ℕ) → IsTrial fields before words r → IsNone (next_of r.work.machine) → AreStill (visible_words before word) r.marking → AreStill (visible_words before word) r.blackening → IsOffered fields word holds before → FindsGarbage fields word holds before r.work.counts
 trial_finds_garbage fields before words r word holds t none m b a = let e = t.exact word none m b in found word holds e.1 e.2 a
 

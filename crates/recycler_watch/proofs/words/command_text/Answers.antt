@@ -17,3 +17,6 @@ returns-in-Put c = rw c.in-Put.is (IfOk-weaker c.format-in-Put.result _ _ (λ te
 
 pub returns-in-Same : goal.returns-in-Same
 returns-in-Same c = rw c.in-Same.is (IfOk-weaker c.format-in-Same.result _ _ (λ text h. simp append_assoc h) c.format-in-Same.ensures.ok)
+
+pub returns-in-Leaf : goal.returns-in-Leaf
+returns-in-Leaf c = rw c.in-Leaf.is (IfOk-weaker c.format-in-Leaf.result _ _ (λ text h. simp append_assoc h) c.format-in-Leaf.ensures.ok)
