@@ -82,12 +82,12 @@ is_settling Playing = false
 is_settling _ = true
 
 -- a slot of a heap
-abbrev pub counted_slot : counted.Slot → (slot : ℕ) → Option ℕ → (leaf : Bool) → List (Option ℕ) → SeenSlot
-counted_slot own slot label leaf fields =
+abbrev pub counted_slot : counted.Slot → (slot header : ℕ) → List (Option ℕ) → SeenSlot
+counted_slot own slot header fields =
     record {
       slot = slot;
-      label = label;
-      leaf = leaf;
+      label = label_of header;
+      leaf = is_leaf header;
       count = own.count;
       cyclic = own.cyclic;
       colour = colour_name own.colour;
@@ -98,7 +98,7 @@ counted_slot own slot label leaf fields =
     }
 
 abbrev pub slot_of : Core → ℕ → SeenSlot
-slot_of w slot = counted_slot (slot_at w.collector.counts slot) slot (label_of (slice_index_or w.headers slot 0)) (is_leaf (slice_index_or w.headers slot 0)) (map target_of (words_of (sight w) slot))
+slot_of w slot = counted_slot (slot_at w.collector.counts slot) slot (slice_index_or w.headers slot 0) (map target_of (words_of (sight w) slot))
 
 -- the first so many slots
 abbrev pub slots_of : Core → ℕ → List SeenSlot

@@ -1,6 +1,6 @@
 //! A heap as it is seen between two moves. Text, data, graph and page are all made from it.
 
-ghost use Rattle.std.specs.Prelude.{◌≡◌, ◌<◌, ◌++◌, length, map, string_bytes, IfOk, OnOk};
+ghost use Rattle.std.specs.Prelude.{◌≡◌, ◌<◌, ◌++◌, map, slice_index_or, string_bytes, IfOk, OnOk};
 ghost use Rattle.rec_core.specs.Config.{IsMutator};
 ghost use Rattle.rec_counts.specs.Counts.{slot_at};
 ghost use Rattle.rec_word.specs.Word.{target_of};
@@ -127,18 +127,12 @@ fn slots_of(alloc: Global, world: &World, fields: usize) -> Result<Vec<Slot>, No
     requires { fields ≡ world.now.config.fields }
     ensures { IfOk result (λ slots. map slot_seen slots.items ≡ slots_of world.now world.now.config.slots) }
 {
-    let (counts, words) = (world.collector().counts(), world.words());
+    let words = world.words();
     let mut slots = Vec::with_capacity(alloc, usize::from(world.slots()))?;
     for slot in 0..world.slots() {
         let first = usize::from(slot) * fields;
         let leads = targets_of(alloc, &words[first..first + fields])?;
-        slots.push(slot_of(
-            counts,
-            slot,
-            world.label(slot),
-            world.leaf(slot),
-            leads,
-        ))?;
+        slots.push(slot_of(world, slot, leads))?;
     }
     Ok(slots)
 }
@@ -154,21 +148,16 @@ fn targets_of(alloc: Global, words: &[u64]) -> Result<Vec<Option<u16>>, NoMemory
     Ok(targets)
 }
 
-fn slot_of(
-    counts: &Counts,
-    slot: u16,
-    label: Option<u32>,
-    leaf: bool,
-    fields: Vec<Option<u16>>,
-) -> Slot
-    requires { slot < length counts.now.slots }
-    ensures { slot_seen result ≡ counted_slot (slot_at counts.now slot) slot label leaf fields.items }
+fn slot_of(world: &World, slot: u16, fields: Vec<Option<u16>>) -> Slot
+    requires { slot < world.now.config.slots }
+    ensures { slot_seen result ≡ counted_slot (slot_at world.now.collector.counts slot) slot (slice_index_or world.now.headers slot 0) fields.items }
 {
+    let counts = world.collector().counts();
     let set = counts.set_of(slot);
     Slot {
         slot,
-        label,
-        leaf,
+        label: world.label(slot),
+        leaf: world.leaf(slot),
         count: counts.count(slot),
         cyclic: counts.cyclic(slot),
         colour: colour_name(counts.colour(slot)),

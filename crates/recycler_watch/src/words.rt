@@ -1,11 +1,11 @@
 //! A move in words that a person reads. `#3` is the object in slot 3, and `#3.0` its first field.
 //! The words are a function of the move and of what was seen before and behind it (`specs/Sentence`).
 
-ghost use Rattle.std.specs.Prelude.{◌≡◌, ◌++◌, codes, length, map, string_bytes, IfOk, OnOk};
+ghost use Rattle.std.specs.Prelude.{◌≡◌, ◌++◌, codes, length, map, not, string_bytes, IfOk, OnOk};
 ghost use Rattle.std.specs.List.{flat_map};
 ghost use Rattle.rec_word.specs.Word.{target_of};
 ghost use Rattle.recycler_watch.specs.Seen.{collector_seen, mutator_seen, seen, slot_seen};
-ghost use Rattle.recycler_watch.specs.Sentence.{answer_words, birth_words, change_words, changed_slots, changes_words, colour_words, command_words, counts_words, crossed, crosses_words, field_words, loss_words, more_words, outcome_words, polls_words, put_words, returned_words, root_words, sentence, set_words, sets_words, step_words, target_words, turn_words};
+ghost use Rattle.recycler_watch.specs.Sentence.{answer_words, birth_words, change_words, changed_slots, changes_words, colour_words, command_words, counts_words, crossed, crosses_words, field_words, is_same_slot, loss_words, more_words, outcome_words, polls_words, put_words, returned_words, root_words, sentence, set_words, sets_words, step_words, target_words, turn_words};
 
 use crate::state::{Collector, Mutator, Slot, State, add_field, add_target};
 use rec_model::Answer;
@@ -255,11 +255,18 @@ fn changed_slots<'a>(
     let mut changed = Vec::new(alloc);
     for (index, before) in was.iter().enumerate() {
         let Some(after) = is.get(index) else { break };
-        if before != after {
+        if differ(before, after) {
             changed.push((before, after))?;
         }
     }
     Ok(changed)
+}
+
+// Whether anything that is seen of a slot changed.
+fn differ(before: &Slot, after: &Slot) -> bool
+    ensures { result ≡ not (is_same_slot (slot_seen before.now) (slot_seen after.now)) }
+{
+    before != after
 }
 
 // What changed of each of these slots.
