@@ -2,7 +2,8 @@
 //!
 //! The rule that this crate keeps: the lines of a text are a stated function of the journals, the order, the listing of
 //! the settled heap, and the births.
-//! A summary has four lines in their place, a function of the journals, the live objects, the births and the collections.
+//! A summary has four lines in their place, a function of the script's version, the journals, the live objects, the births and
+//! the collections.
 //! The layer above may use the clauses of `text` and `summary`, `Text::lines` and `Text::bytes`.
 //! The form of a text is this project's profile (`docs/PROFILE.md`).
 #![tactic(auto)]
