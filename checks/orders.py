@@ -17,14 +17,18 @@ from scripts import numeral
 NEVER = 1 << 60
 WORDS = {
     "new": ("done", "full", "busy"),
+    "leaf": ("done", "full", "busy"),
     "null": ("done",),
     "copy": ("done",),
     "get": ("none", "null", "object"),
-    "put": ("none", "done"),
+    "put": ("none", "nofield", "done"),
     "value": ("none", "value"),
     "same": ("yes", "no"),
 }
 NUMBERS = {"value": 1, "busy": 2}
+BIRTHS = ("new", "leaf")
+# What is told where nothing was read or written, whatever the fields hold.
+REFUSALS = ("none", "nofield")
 
 
 class Illegal(Exception):
@@ -39,7 +43,7 @@ class Text:
     """What a text tells: each mutator's answers, the order in which they stand, and the lines behind them."""
 
     def __init__(self, script, text):
-        _, mutators = script
+        _, _, mutators = script
         *lines, rest = text.split("\n")
         if rest:
             raise Illegal(f"{rest}: a line without its end")
@@ -121,7 +125,7 @@ class Judge:
     """Asks for a legal order of a text. Where `frees` is false nothing may be freed, as in a run without turns of the collector."""
 
     def __init__(self, script, text, frees=True):
-        (self.slots, self.fields, self.registers), self.commands = script
+        _, (self.slots, self.fields, self.registers), self.commands = script
         self.text, self.frees = text, frees
         self.answers = text.answers
         self.mutators = range(len(self.commands))
@@ -138,7 +142,7 @@ class Judge:
         self.furthest, self.why, self.visited = [0] * len(self.commands), "", 0
 
     def is_birth(self, t, i):
-        return self.commands[t][i][0] == "new" and self.answers[t][i][0] == "done"
+        return self.commands[t][i][0] in BIRTHS and self.answers[t][i][0] == "done"
 
     def limits_of(self, t):
         """For each place of a mutator the most marks there may be: no busy answer ahead may be missed."""
@@ -167,16 +171,24 @@ class Judge:
         """For each field number the place of the last command of these names that isn't refused."""
         last = [-1] * self.fields
         for i, (name, operands) in enumerate(self.commands[t]):
-            if name in names and self.answers[t][i][0] != "none":
+            if name in names and self.answers[t][i][0] not in REFUSALS:
                 last[operands[2] if name == "get" else operands[1]] = i
         return last
 
-    def label(self, it):
-        """The label of an object: it has the number of the command that made it."""
+    def maker(self, it):
+        """The command that made an object, which has its number."""
         if it == 0:
-            return 0
+            return "new", [0, 0]
         t = max(t for t in self.mutators if self.bases[t] <= it)
-        return self.commands[t][it - self.bases[t]][1][1]
+        return self.commands[t][it - self.bases[t]]
+
+    def label(self, it):
+        """The label of an object."""
+        return self.maker(it)[1][1]
+
+    def is_leaf(self, it):
+        """Whether the fields of an object are null for good."""
+        return self.maker(it)[0] == "leaf"
 
     # One command.
 
@@ -187,7 +199,7 @@ class Judge:
         told, row = self.answers[t][i], moment.registers[t]
         if told[0] in ("full", "busy"):
             answer = told
-        elif name == "new":
+        elif name in BIRTHS:
             it = self.bases[t] + i
             moment.children[it] = (None,) * self.fields
             row[operands[0]] = it
@@ -225,6 +237,8 @@ class Judge:
             it = row[source]
             if it is None:
                 return ("none",)
+            if self.is_leaf(it):
+                return ("nofield",)
             old = moment.children[it]
             moment.children[it] = old[:field] + (row[value],) + old[field + 1 :]
             if it in moment.shared:
@@ -309,9 +323,9 @@ class Judge:
         """
         i = moment.places[t]
         (name, operands), told = self.commands[t][i], self.answers[t][i]
-        if name not in ("new", "get", "put") or told[0] in ("none", "full", "busy"):
+        if name not in (*BIRTHS, "get", "put") or told[0] in (*REFUSALS, "full", "busy"):
             return True
-        if name == "new":
+        if name in BIRTHS:
             return moment.unfreed + self.made - moment.births <= self.slots
         source, field, last = (operands[1], operands[2], self.last_put) if name == "get" else (operands[0], operands[1], self.last_use)
         if moment.registers[t][source] not in moment.shared:
@@ -422,6 +436,9 @@ class Judge:
                 holders[it] += 1
         rows = [f"live {len(live)}"]
         for it in live:
+            if self.is_leaf(it):
+                rows.append(f"#{number[it]} leaf {self.label(it)} count {holders[it]}")
+                continue
             targets = " ".join("-" if child is None else f"#{number[child]}" for child in moment.children[it])
             rows.append(f"#{number[it]} label {self.label(it)} count {holders[it]} fields {targets}")
         return rows + [f"made {self.made} refused {self.refused} freed {self.made - len(live)}"]

@@ -38,7 +38,7 @@ def judged_threads(script, text, most=200_000):
 
 def is_met(script, told):
     """Whether no order is legal in which each mutator has all its commands in one go: so the mutators met."""
-    lengths = list(map(len, script[1]))
+    lengths = list(map(len, script[2]))
     for mutators in itertools.permutations(range(len(lengths))):
         try:
             Judge(script, told).walk([t for t in mutators for _ in range(lengths[t])])

@@ -2,6 +2,8 @@
 
 MOST_BYTES, MOST_COMMANDS, MOST_MUTATORS, MOST_NUMERAL = 16_777_216, 200_000, 8, 4_294_967_295
 OPERANDS = {"new": "RL", "null": "R", "copy": "RR", "get": "RRF", "put": "RFR", "value": "R", "same": "RR"}
+# The commands of each version, by their operands.
+VERSIONS = {"1": OPERANDS, "2": {**OPERANDS, "leaf": "RL"}}
 
 
 class Refused(Exception):
@@ -17,13 +19,13 @@ def numeral(word):
 
 
 def read(data):
-    """The numbers of the heap and the commands of each mutator, or Refused."""
+    """The version, the numbers of the heap, and the commands of each mutator, or Refused."""
     if len(data) > MOST_BYTES:
         raise Refused(0, "TooLong")
     lines = data.split(b"\n")
     if lines[-1] == b"":
         lines.pop()
-    needs, heap, mutators = "header", None, []
+    needs, version, heap, mutators = "header", None, None, []
     for number, line in enumerate(lines, 1):
         line = line[:-1] if line.endswith(b"\r") else line
         try:
@@ -33,8 +35,9 @@ def read(data):
         if not words or words[0].startswith("#"):
             continue
         if needs == "header":
-            if words != ["recycler", "1"]:
+            if len(words) != 2 or words[0] != "recycler" or words[1] not in VERSIONS:
                 raise Refused(number, "NoHeader")
+            version = words[1]
             needs = "heap"
         elif needs == "heap":
             heap = [numeral(it) for it in words[1:]]
@@ -50,15 +53,15 @@ def read(data):
         elif needs == "mutator":
             raise Refused(number, "NoMutator")
         else:
-            mutators[-1].append(command(number, words, heap, len(mutators[-1])))
+            mutators[-1].append(command(number, words, VERSIONS[version], heap, len(mutators[-1])))
     for need, kind in (("header", "NoHeader"), ("heap", "BadHeap"), ("mutator", "NoMutator")):
         if needs == need:
             raise Refused(len(lines) + 1, kind)
-    return heap, mutators
+    return version, heap, mutators
 
 
-def command(number, words, heap, already):
-    kinds = OPERANDS.get(words[0])
+def command(number, words, known, heap, already):
+    kinds = known.get(words[0])
     if kinds is None or len(words) != len(kinds) + 1:
         raise Refused(number, "BadCommand")
     if already == MOST_COMMANDS:
@@ -76,9 +79,9 @@ def command(number, words, heap, already):
     return words[0], operands
 
 
-def spelled(heap, mutators):
+def spelled(version, heap, mutators):
     """The bytes of a script."""
-    lines = ["recycler 1", "heap " + " ".join(map(str, heap))]
+    lines = [f"recycler {version}", "heap " + " ".join(map(str, heap))]
     for commands in mutators:
         lines.append("mutator")
         lines += [" ".join([name, *map(str, operands)]) for name, operands in commands]
@@ -88,14 +91,16 @@ def spelled(heap, mutators):
 def drawn(draw, mutators=8, lengths=(0, 1, 5, 20, 80, 300)):
     """The bytes of a script with any commands, for so many mutators at most, each with one of these numbers of commands."""
     heap = [draw.choice((1, 2, 3, 5, 8, 13, 40, 200, 65535)), draw.randint(1, 3), draw.randint(1, 6)]
-    weights = [draw.random() for _ in OPERANDS]
+    version = draw.choice(list(VERSIONS))
+    known = VERSIONS[version]
+    weights = [draw.random() for _ in known]
     ranges = {"R": heap[2] - 1, "F": heap[1] - 1, "L": draw.choice((9, 999, MOST_NUMERAL))}
 
     def one():
-        name = draw.choices(list(OPERANDS), weights)[0]
-        return name, [draw.randint(0, ranges[it]) for it in OPERANDS[name]]
+        name = draw.choices(list(known), weights)[0]
+        return name, [draw.randint(0, ranges[it]) for it in known[name]]
 
-    return spelled(heap, [[one() for _ in range(draw.choice(lengths))] for _ in range(draw.randint(1, mutators))])
+    return spelled(version, heap, [[one() for _ in range(draw.choice(lengths))] for _ in range(draw.randint(1, mutators))])
 
 
 def contended(draw):
@@ -104,17 +109,19 @@ def contended(draw):
     Register 0 keeps that object, and no two births have one label. Commands that nobody else sees stand between those that meet, so
     that workers that start one after the other still meet.
     """
+    version = draw.choice(list(VERSIONS))
+    births = [it for it in ("new", "new", "leaf") if it in VERSIONS[version]]
     heap = [draw.choice((2, 3, 4, 6, 8, 12, 40)), draw.randint(1, 2), draw.randint(3, 4)]
     aside = draw.choice((0, 20, 100, 400))
     weights = [draw.randint(1, 4) for _ in range(7)]
 
     def one(t, i):
         written, read, field = draw.randint(1, heap[2] - 1), draw.randint(0, heap[2] - 1), draw.randint(0, heap[1] - 1)
-        source = draw.choice((0, 0, read))
+        source, birth = draw.choice((0, 0, read)), draw.choice(births)
         return draw.choices(
             [
-                [("new", [written, 1000 * t + i])],
-                [("new", [written, 1000 * t + i]), ("put", [source, field, written]), ("null", [written])],
+                [(birth, [written, 1000 * t + i])],
+                [(birth, [written, 1000 * t + i]), ("put", [source, field, written]), ("null", [written])],
                 [("get", [written, source, field]), ("value", [written])],
                 [("get", [written, source, field]), ("put", [source, field, read])],
                 [("put", [source, field, written]), ("get", [written, source, field])],
@@ -131,4 +138,4 @@ def contended(draw):
             row += [("same", [0, 0])] * aside
         return row
 
-    return spelled(heap, [commands(t) for t in range(1, draw.randint(2, 4) + 1)])
+    return spelled(version, heap, [commands(t) for t in range(1, draw.randint(2, 4) + 1)])

@@ -1,9 +1,10 @@
 -- The rows of a settled world's listing, one after another.
-use Rattle.std.proofs.Common.{◌≡◌, inl, inr, ℕ, ◌+◌, ◌-◌, ◌*◌, ◌<◌, ◌≤◌, ◌++◌, true, List, [], ◌∷◌, Option, None, Some, map, take, length, get_or, refl, sym, ◌∙◌, ap, subst, arith, append_assoc}
+use Rattle.std.proofs.Common.{◌≡◌, inl, inr, ℕ, ◌+◌, ◌*◌, ◌<◌, ◌≤◌, ◌++◌, Bool, true, List, [], ◌∷◌, Option, None, Some, map, take, length, get_or, refl, sym, ◌∙◌, ap, subst, arith, append_assoc}
 use Rattle.std.specs.Prelude.{option_map, slice_range, unwrap_or}
 use Rattle.std.proofs.lemmas.Bool.{cases_eq, ne_eqb}
 use Rattle.std.proofs.lemmas.List.{get_or-map, length-map, take-map}
 use Rattle.std.proofs.lemmas.List.Elements.{All-get_or}
+use Rattle.rec_word.specs.Header.{is_leaf, label_of as label_in}
 use Rattle.rec_word.specs.Word.{target_of}
 use Rattle.rec_model.specs.Reach.{named, is_in}
 use Rattle.rec_model.specs.Reach.IsReached.{child}
@@ -45,7 +46,7 @@ slot_fields w list slot numbers reached =
     ∙ fields_numbered list (map target_of (words_of w slot)) (λ n there. (lists_reached (roots w.registers) (targets_of w) list numbers n).0 (child slot n reached there))
     ∙ sym (by_targets (option_map (number_in list)) (words_of w slot))
 
-header_label : (header : ℕ) → unwrap_or (label_of header) 0 ≡ header - 1
+header_label : (header : ℕ) → unwrap_or (label_of header) 0 ≡ label_in header
 header_label header = elim (cases_eq header 0) [
   | inl e ↦ rw e refl
   | inr apart ↦ rw (ne_eqb header 0 apart) refl
@@ -71,13 +72,16 @@ own_words : (w : Core) (fields slot wide again : ℕ) (words : List ℕ) → fie
 own_words w fields slot wide again words size e f all = rw (e, f, size, all) refl
 
 -- the row that is read off a listed slot, with its true count
-read_row : (w : Core) (fields : ℕ) (n : Numbered) (i slot wide again label count : ℕ) (found : Option ℕ) (words : List ℕ) → IsWorld w → IsSettled w → IsNumbered w fields n → i < length n.list → slot ≡ get_or n.list i 0 → wide ≡ fields → again ≡ fields → words ≡ w.words → found ≡ label_of (get_or w.headers slot 0) → label ≡ unwrap_or found 0 → count ≡ (slot_at w.collector.counts slot).count → row_of label count (map (λ word. field_number n.list (target_of word)) (slice_range words (slot * wide) (slot * wide + again))) ≡ slot_row (sight w) n.list (get_or n.list i 0)
-read_row w fields n i slot wide again label count found words world settled numbered within at e f all look opened counted =
+read_row : (w : Core) (fields : ℕ) (n : Numbered) (i slot wide again label : ℕ) (leaf : Bool) (count : ℕ) (found : Option ℕ) (words : List ℕ) → IsWorld w → IsSettled w → IsNumbered w fields n → i < length n.list → slot ≡ get_or n.list i 0 → wide ≡ fields → again ≡ fields → words ≡ w.words → found ≡ label_of (get_or w.headers slot 0) → label ≡ unwrap_or found 0 → leaf ≡ is_leaf (get_or w.headers slot 0) → count ≡ (slot_at w.collector.counts slot).count → row_of label leaf count (map (λ word. field_number n.list (target_of word)) (slice_range words (slot * wide) (slot * wide + again))) ≡ slot_row (sight w) n.list (get_or n.list i 0)
+read_row w fields n i slot wide again label leaf count found words world settled numbered within at e f all look opened marked counted =
+    let header : ℕ = get_or w.headers slot 0 in
     let reached : Reaches (sight w) slot = subst (Reaches (sight w)) (sym at) (All-get_or (Reaches (sight w)) n.list i 0 within numbered.numbers.reached) in
     let listed : is_in slot n.list ≡ true = (lists_reached (roots (sight w).registers) (targets_of (sight w)) n.list numbered.numbers slot).0 reached in
-    ap (λ k. row_of k count (map (λ word. field_number n.list (target_of word)) (slice_range words (slot * wide) (slot * wide + again)))) (opened ∙ ap (λ x. unwrap_or x 0) look ∙ header_label (get_or w.headers slot 0))
-    ∙ ap (λ k. row_of (get_or w.headers slot 0 - 1) k (map (λ word. field_number n.list (target_of word)) (slice_range words (slot * wide) (slot * wide + again)))) (counted ∙ counted_holders w n.list world settled numbered.numbers slot listed)
-    ∙ ap (row_of (get_or w.headers slot 0 - 1) (holders_of (sight w) n.list slot)) (
+    let fields_read : List (Option ℕ) = map (λ word. field_number n.list (target_of word)) (slice_range words (slot * wide) (slot * wide + again)) in
+    ap (λ k. row_of k leaf count fields_read) (opened ∙ ap (λ x. unwrap_or x 0) look ∙ header_label header)
+    ∙ ap (λ b. row_of (label_in header) b count fields_read) marked
+    ∙ ap (λ k. row_of (label_in header) (is_leaf header) k fields_read) (counted ∙ counted_holders w n.list world settled numbered.numbers slot listed)
+    ∙ ap (row_of (label_in header) (is_leaf header) (holders_of (sight w) n.list slot)) (
     ap (map (λ word. field_number n.list (target_of word))) (own_words w fields slot wide again words numbered.same_fields e f all)
     ∙ slot_fields (sight w) n.list slot numbered.numbers reached)
     ∙ ap (slot_row (sight w) n.list) at
@@ -98,10 +102,10 @@ row_step first so_far more line w list i row within e f is g =
     ∙ ap (λ l. row_lines (map (slot_row (sight w) list) (take i list)) ++ l ∷ []) (sym f))
 
 -- the same where the slot was read off the list
-pub row_read : (w : Core) (fields : ℕ) (n : Numbered) (i slot wide again label count : ℕ) (found : Option ℕ) (words now : List ℕ) → IsWorld w → IsSettled w → IsNumbered w fields n → now ≡ n.list → i < length n.list → slot ≡ get_or now i 0 → wide ≡ fields → again ≡ fields → words ≡ w.words → found ≡ label_of (get_or w.headers (get_or now i 0) 0) → label ≡ unwrap_or found 0 → count ≡ (slot_at w.collector.counts (get_or now i 0)).count → row_of label count (map (λ word. field_number n.list (target_of word)) (slice_range words (slot * wide) (slot * wide + again))) ≡ slot_row (sight w) n.list (get_or n.list i 0)
-row_read w fields n i slot wide again label count found words now world settled numbered same within at e f all look opened counted =
-    read_row w fields n i slot wide again label count found words world settled numbered within (at ∙ ap (λ ns. get_or ns i 0) same) e f all
-    (look ∙ ap (λ s. label_of (get_or w.headers s 0)) (sym at)) opened (counted ∙ ap (λ s. (slot_at w.collector.counts s).count) (sym at))
+pub row_read : (w : Core) (fields : ℕ) (n : Numbered) (i slot wide again label : ℕ) (leaf : Bool) (count : ℕ) (found : Option ℕ) (words now : List ℕ) → IsWorld w → IsSettled w → IsNumbered w fields n → now ≡ n.list → i < length n.list → slot ≡ get_or now i 0 → wide ≡ fields → again ≡ fields → words ≡ w.words → found ≡ label_of (get_or w.headers (get_or now i 0) 0) → label ≡ unwrap_or found 0 → leaf ≡ is_leaf (get_or w.headers (get_or now i 0) 0) → count ≡ (slot_at w.collector.counts (get_or now i 0)).count → row_of label leaf count (map (λ word. field_number n.list (target_of word)) (slice_range words (slot * wide) (slot * wide + again))) ≡ slot_row (sight w) n.list (get_or n.list i 0)
+row_read w fields n i slot wide again label leaf count found words now world settled numbered same within at e f all look opened marked counted =
+    read_row w fields n i slot wide again label leaf count found words world settled numbered within (at ∙ ap (λ ns. get_or ns i 0) same) e f all
+    (look ∙ ap (λ s. label_of (get_or w.headers s 0)) (sym at)) opened (marked ∙ ap (λ s. is_leaf (get_or w.headers s 0)) (sym at)) (counted ∙ ap (λ s. (slot_at w.collector.counts s).count) (sym at))
 
 -- a listing behind the number of its rows
 pub listed : (w : Core) (n : Numbered) (list : List ℕ) (live : ℕ) (first line more : List (List ℕ)) (head : List ℕ) → NumbersSlots (sight w) n.list → list ≡ n.list → live ≡ length list → head ≡ live_line live → line ≡ first ++ head ∷ [] → more ≡ line ++ row_lines (map (slot_row (sight w) n.list) n.list) → (rows : List Row) × ListsSlots (sight w) rows × (live ≡ length rows) × (more ≡ first ++ live_line live ∷ row_lines rows)

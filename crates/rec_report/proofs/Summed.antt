@@ -8,9 +8,9 @@ use Rattle.rec_world.specs.Numbering.{Numbered}
 use Rattle.rec_world.specs.World.{Core, sight}
 use Rattle.rec_report.specs.Summary.{answers_line, summary_lines}
 
--- the second line is made from nine numbers
-pub answers_line-same : (f g : ℕ → ℕ) → ((at : ℕ) → at < 9 → f at ≡ g at) → answers_line f ≡ answers_line g
-answers_line-same f g same =
+-- the second line is made from ten numbers
+pub answers_line-same : (version : ℕ) (f g : ℕ → ℕ) → ((at : ℕ) → at < 10 → f at ≡ g at) → answers_line version f ≡ answers_line version g
+answers_line-same version f g same =
     rw (
       same 0 (omega arith),
       same 1 (omega arith),
@@ -21,6 +21,7 @@ answers_line-same f g same =
       same 6 (omega arith),
       same 7 (omega arith),
       same 8 (omega arith),
+      same 9 (omega arith),
     ) refl
 
 -- four lines one after the other
@@ -28,15 +29,15 @@ pub four_lines : (none one two three four : List (List ℕ)) (a b c d : List ℕ
 four_lines none one two three four a b c d e f g h i = rw (i, h, g, f, e) refl
 
 -- what was numbered is what the listing lists
-pub summed : (w : Core) (n : Numbered) (list : List ℕ) (journals : List (List Line)) (more : List (List ℕ)) → NumbersSlots (sight w) n.list → list ≡ n.list
-    → more ≡ summary_lines journals (length list) w.made w.collector.collections w.collector.sets
-    → (rows : List Row) × ListsSlots (sight w) rows × (more ≡ summary_lines journals (length rows) w.made w.collector.collections w.collector.sets)
-summed w n list journals more numbers same is =
+pub summed : (version : ℕ) (w : Core) (n : Numbered) (list : List ℕ) (journals : List (List Line)) (more : List (List ℕ)) → NumbersSlots (sight w) n.list → list ≡ n.list
+    → more ≡ summary_lines version journals (length list) w.made w.collector.collections w.collector.sets
+    → (rows : List Row) × ListsSlots (sight w) rows × (more ≡ summary_lines version journals (length rows) w.made w.collector.collections w.collector.sets)
+summed version w n list journals more numbers same is =
     let rows : List Row = map (slot_row (sight w) n.list) n.list in
     let live : length list ≡ length rows = ap length same ∙ sym (length-map n.list (slot_row (sight w) n.list)) in (
       rows,
       (n.list, numbers, refl),
-      is ∙ ap (λ k. summary_lines journals k w.made w.collector.collections w.collector.sets) live,
+      is ∙ ap (λ k. summary_lines version journals k w.made w.collector.collections w.collector.sets) live,
     )
 
 -- six pieces behind what there was

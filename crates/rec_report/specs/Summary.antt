@@ -1,7 +1,7 @@
 -- The summary of a run: four lines in the place of its whole text.
-use Rattle.std.specs.Prelude.{◌≢◌, ℕ, ◌-◌, ◌==◌, List, [], ◌∷◌, ◌++◌, codes, length, count_by}
+use Rattle.std.specs.Prelude.{ℕ, ◌-◌, ◌==◌, nat_le, if◌then◌else◌, List, [], ◌∷◌, ◌++◌, codes, length, count_by}
 use Rattle.std.specs.Fmt.{decimal}
-use Rattle.std.specs.List.{All, flat_map, sum_by}
+use Rattle.std.specs.List.{flat_map, sum_by}
 use Rattle.rec_model.specs.declared.answer.Answer.{Answer}
 use Rattle.rec_model.specs.declared.answer.Answer.TheVariants as answers
 use Rattle.rec_model.specs.LegalOrder.{Line}
@@ -28,7 +28,8 @@ place_of answers.No = 5
 place_of answers.NoObject = 6
 place_of answers.Full = 7
 place_of (answers.Busy before after) = 8
-place_of answers.LogFull = 9
+place_of answers.NoField = 9
+place_of answers.LogFull = 10
 
 -- how many of a mutator's answers have this place
 abbrev pub own_answers : (place : ℕ) → List Line → ℕ
@@ -38,12 +39,16 @@ own_answers place journal = count_by (λ line. place_of line.1.answer == place) 
 abbrev pub answers_at : List (List Line) → (place : ℕ) → ℕ
 answers_at journals place = sum_by (own_answers place) journals
 
--- how many answers there are of each kind, by their places
-abbrev pub answers_line : (ℕ → ℕ) → List ℕ
-answers_line at =
+-- how many puts found a leaf, which a script of version 1 has not
+abbrev pub no_field_words : (version count : ℕ) → List ℕ
+no_field_words version count = if nat_le 2 version then codes " nofield " ++ decimal count else []
+
+-- how many answers there are of each kind, by their places, to a script of this version
+abbrev pub answers_line : (version : ℕ) → (ℕ → ℕ) → List ℕ
+answers_line version at =
     codes "done " ++ decimal (at 0) ++ codes " null " ++ decimal (at 1) ++ codes " object " ++ decimal (at 2)
     ++ codes " value " ++ decimal (at 3) ++ codes " yes " ++ decimal (at 4) ++ codes " no " ++ decimal (at 5)
-    ++ codes " none " ++ decimal (at 6) ++ codes " full " ++ decimal (at 7) ++ codes " busy " ++ decimal (at 8) ++ line_feed
+    ++ codes " none " ++ decimal (at 6) ++ codes " full " ++ decimal (at 7) ++ codes " busy " ++ decimal (at 8) ++ no_field_words version (at 9) ++ line_feed
 
 -- live objects, births with the opening one, refusals, and how many objects are live no more
 abbrev pub objects_line : (live made refused : ℕ) → List ℕ
@@ -57,15 +62,15 @@ collections_line collections cycles delta sigma =
     codes "epochs " ++ decimal collections ++ codes " cycles " ++ decimal cycles ++ codes " delta " ++ decimal delta
     ++ codes " sigma " ++ decimal sigma ++ line_feed
 
--- the four lines
-abbrev pub summary_lines : List (List Line) → (live made collections : ℕ) → Sets → List (List ℕ)
-summary_lines journals live made collections sets =
+-- the four lines, of a script of this version
+abbrev pub summary_lines : (version : ℕ) → List (List Line) → (live made collections : ℕ) → Sets → List (List ℕ)
+summary_lines version journals live made collections sets =
     sizes_line (length journals) (commands_of journals)
-    ∷ answers_line (answers_at journals)
+    ∷ answers_line version (answers_at journals)
     ∷ objects_line live made (refusals journals)
     ∷ collections_line collections sets.freed sets.delta sets.sigma
     ∷ []
 
 -- the summary as a whole
-abbrev pub summary_text : List (List Line) → (live made collections : ℕ) → Sets → List ℕ
-summary_text journals live made collections sets = flat_map (λ line. line) (summary_lines journals live made collections sets)
+abbrev pub summary_text : (version : ℕ) → List (List Line) → (live made collections : ℕ) → Sets → List ℕ
+summary_text version journals live made collections sets = flat_map (λ line. line) (summary_lines version journals live made collections sets)

@@ -20,6 +20,7 @@ answer_word answers.No = codes "no"
 answer_word answers.NoObject = codes "none"
 answer_word answers.Full = codes "full"
 answer_word (answers.Busy before after) = codes "busy " ++ decimal before ++ codes " " ++ decimal after
+answer_word answers.NoField = codes "nofield"
 answer_word answers.LogFull = codes "logfull"
 
 -- the end of a line
@@ -70,13 +71,23 @@ abbrev pub field_number : List ℕ → Option ℕ → Option ℕ
 field_number slots None = None
 field_number slots (Some slot) = number_of slots slot
 
+-- what stands before a live object's label
+abbrev pub label_word : (leaf : Bool) → List ℕ
+label_word true = codes " leaf "
+label_word false = codes " label "
+
 -- the number of a live object, its label and its count
-abbrev pub row_head : (n label count : ℕ) → List ℕ
-row_head n label count = codes "#" ++ decimal n ++ codes " label " ++ decimal label ++ codes " count " ++ decimal count ++ codes " fields"
+abbrev pub row_head : (n : ℕ) → (leaf : Bool) → (label count : ℕ) → List ℕ
+row_head n leaf label count = codes "#" ++ decimal n ++ label_word leaf ++ decimal label ++ codes " count " ++ decimal count
+
+-- what the fields lead to; those of a leaf aren't told, since they are null for good
+abbrev pub field_words : (leaf : Bool) → List (Option ℕ) → List ℕ
+field_words true fields = []
+field_words false fields = codes " fields" ++ flat_map field_word fields
 
 -- the live object with this number
 abbrev pub row_line : ℕ → Row → List ℕ
-row_line n row = row_head n row.label row.count ++ flat_map field_word row.fields ++ line_feed
+row_line n row = row_head n row.leaf row.label row.count ++ field_words row.leaf row.fields ++ line_feed
 
 -- the listing
 abbrev pub row_lines : List Row → List (List ℕ)

@@ -39,6 +39,7 @@ fn write_word(answer: Answer, buffer: &mut [u8; LONGEST]) -> usize
         Answer::NoObject => write_last(b" none\n", buffer),
         Answer::Full => write_last(b" full\n", buffer),
         Answer::Busy { before, after } => write_busy(before, after, buffer),
+        Answer::NoField => write_last(b" nofield\n", buffer),
         Answer::LogFull => write_last(b" logfull\n", buffer),
     }
 }

@@ -1,9 +1,9 @@
 //! The lines of a report.
 
-ghost use Rattle.std.specs.Prelude.{◌≡◌, ◌-◌, ◌++◌, map, slice_index_or, IfOk, OnOk, string_bytes};
+ghost use Rattle.std.specs.Prelude.{◌≡◌, ◌-◌, ◌++◌, false, map, slice_index_or, IfOk, OnOk, string_bytes};
 ghost use Rattle.rec_word.specs.Word.{target_of};
-ghost use Rattle.rec_report.specs.Summary.{answers_line, collections_line, objects_line, sizes_line};
-ghost use Rattle.rec_report.specs.Text.{field_number, field_word, live_line, row_head as head_of, row_line, totals_line};
+ghost use Rattle.rec_report.specs.Summary.{answers_line, collections_line, no_field_words, objects_line, sizes_line};
+ghost use Rattle.rec_report.specs.Text.{field_number, field_word, field_words, line_feed, live_line, row_head as head_of, row_line, totals_line};
 
 use crate::tally::PLACES;
 use rec_word::target;
@@ -22,16 +22,17 @@ pub(super) fn live(alloc: Global, live: usize) -> Result<String, NoMemory>
 pub(super) fn row(
     alloc: Global,
     number: usize,
+    leaf: bool,
     label: u32,
     count: u64,
     words: &[u64],
     numbering: &Numbering,
 ) -> Result<String, NoMemory>
-    ensures { IfOk result (λ line. string_bytes line ≡ row_line number (record { label = label; count = count; fields = map (λ word. field_number numbering.now.list (target_of word)) words.now })) }
+    ensures { IfOk result (λ line. string_bytes line ≡ row_line number (record { label = label; leaf = leaf; count = count; fields = map (λ word. field_number numbering.now.list (target_of word)) words.now })) }
 {
-    let mut text = row_head(alloc, number, label, count)?;
-    for word in words {
-        push_field(&mut text, number_of_field(numbering, *word))?;
+    let mut text = row_head(alloc, number, leaf, label, count)?;
+    if !leaf {
+        push_fields(&mut text, words, numbering)?;
     }
     text.push('\n')?;
     Ok(text)
@@ -52,15 +53,31 @@ pub(super) fn sizes(alloc: Global, mutators: usize, commands: u64) -> Result<Str
     format!(in alloc; "mutators {mutators} commands {commands}\n")
 }
 
-/// How many answers there are of each kind, by their places.
-pub(super) fn answers(alloc: Global, counts: &[u64; PLACES]) -> Result<String, NoMemory>
-    ensures { IfOk result (λ line. string_bytes line ≡ answers_line (λ at. slice_index_or counts.now at 0)) }
+/// How many answers there are of each kind, by their places, to a script of this version.
+pub(super) fn answers(
+    alloc: Global,
+    version: u32,
+    counts: &[u64; PLACES],
+) -> Result<String, NoMemory>
+    ensures { IfOk result (λ line. string_bytes line ≡ answers_line version (λ at. slice_index_or counts.now at 0)) }
 {
-    let [done, null, object, value, yes, no, none, full, busy] = *counts;
+    let [done, null, object, value, yes, no, none, full, busy, leaf] = *counts;
     let mut text = format!(in alloc; "done {done} null {null} object {object}")?;
     write!(text, " value {value} yes {yes} no {no}")?;
-    writeln!(text, " none {none} full {full} busy {busy}")?;
+    write!(text, " none {none} full {full} busy {busy}")?;
+    end_answers(&mut text, version, leaf)?;
     Ok(text)
+}
+
+/// Adds the end of that line: in version 2 it tells how many puts found a leaf.
+fn end_answers(text: &mut String, version: u32, no_field: u64) -> Result<(), NoMemory>
+    ensures { OnOk result (string_bytes text.new ≡ string_bytes text.old ++ (no_field_words version no_field ++ line_feed)) }
+{
+    if version >= 2 {
+        writeln!(text, " nofield {no_field}")
+    } else {
+        text.push('\n')
+    }
 }
 
 /// Live objects, births, refusals, and how many objects are live no more.
@@ -92,10 +109,20 @@ fn freed(made: u64, live: u64) -> u64
 }
 
 /// The line of a live object without its fields.
-fn row_head(alloc: Global, number: usize, label: u32, count: u64) -> Result<String, NoMemory>
-    ensures { IfOk result (λ text. string_bytes text ≡ head_of number label count) }
+fn row_head(
+    alloc: Global,
+    number: usize,
+    leaf: bool,
+    label: u32,
+    count: u64,
+) -> Result<String, NoMemory>
+    ensures { IfOk result (λ text. string_bytes text ≡ head_of number leaf label count) }
 {
-    format!(in alloc; "#{number} label {label} count {count} fields")
+    if leaf {
+        format!(in alloc; "#{number} leaf {label} count {count}")
+    } else {
+        format!(in alloc; "#{number} label {label} count {count}")
+    }
 }
 
 /// The number of the slot that a field's word leads to.
@@ -103,6 +130,17 @@ fn number_of_field(numbering: &Numbering, word: u64) -> Option<u16>
     ensures { result ≡ field_number numbering.now.list (target_of word) }
 {
     numbering.number(target(word)?)
+}
+
+/// Adds what the fields with these words lead to.
+fn push_fields(text: &mut String, words: &[u64], numbering: &Numbering) -> Result<(), NoMemory>
+    ensures { OnOk result (string_bytes text.new ≡ string_bytes text.old ++ field_words false (map (λ word. field_number numbering.now.list (target_of word)) words.now)) }
+{
+    text.push_str(" fields")?;
+    for word in words {
+        push_field(text, number_of_field(numbering, *word))?;
+    }
+    Ok(())
 }
 
 /// Adds what a field leads to, behind a space.

@@ -63,10 +63,11 @@ impl Text {
         let words = world.words();
         for (i, slot) in numbering.list().iter().enumerate() {
             let label = world.label(*slot).unwrap_or(0);
+            let leaf = world.leaf(*slot);
             let first = usize::from(*slot) * usize::from(fields);
             let own = &words[first..first + usize::from(fields)];
             let count = world.count(*slot);
-            self.add(line::row(alloc, i + 1, label, count, own, numbering)?)?;
+            self.add(line::row(alloc, i + 1, leaf, label, count, own, numbering)?)?;
         }
         Ok(())
     }

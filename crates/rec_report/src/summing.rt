@@ -33,14 +33,14 @@ pub fn summary(
     requires room { NoLogFull (map (λ journal. journal.lines) journals.now) }
 
     // The live objects are those that `text` lists.
-    ensures lines { IfOk result (λ text. (rows : List Row) × ListsSlots (sight world.now) rows × (text ≡ summary_lines (map (λ journal. journal.lines) journals.now) (length rows) world.now.made world.now.collector.collections world.now.collector.sets)) }
+    ensures lines { IfOk result (λ text. (rows : List Row) × ListsSlots (sight world.now) rows × (text ≡ summary_lines script.now.version (map (λ journal. journal.lines) journals.now) (length rows) world.now.made world.now.collector.collections world.now.collector.sets)) }
 {
     let numbering = number_live(alloc, script, world)?;
     let live = numbering.list().len();
     let sets = world.sets();
     let mut text = Text::new(alloc);
     text.add(line::sizes(alloc, journals.len(), commands_of(journals))?)?;
-    text.add(line::answers(alloc, &tally(journals))?)?;
+    text.add(line::answers(alloc, script.version(), &tally(journals))?)?;
     text.add(line::objects(alloc, live as u64, world.made(), refusals_of(journals))?)?;
     text.add(line::collections(
         alloc,

@@ -227,7 +227,7 @@ if_ok (Err e) P Q step held = held
 pub answers_script : (script : Contents) (how : How) (journals : List (List Line)) (events : List Event) (end world : Core) (rows : List Row) (text : List ℕ)
     → HasRun script how journals events end → IsSettling end world → IsSettled world → StandsFor (last_moment script events).heap (sight world)
     → length world.headers ≡ script.slots → ListsSlots (sight world) rows
-    → text ≡ printed (is_summary how) journals (printed_order how (actors events)) rows (length (last_moment script events).heap.objects) world → Answers script how text
+    → text ≡ printed script.version (is_summary how) journals (printed_order how (actors events)) rows (length (last_moment script events).heap.objects) world → Answers script how text
 answers_script script how journals events end world rows text has_run settles settled stands room listed written =
     record {
       journals = journals;

@@ -84,11 +84,11 @@ abbrev pub printed_order : How → (order : List ℕ) → Option (List ℕ)
 printed_order (hows.Play play) order = Some order
 printed_order hows.Threads order = None
 
--- What is printed of a run whose heap is settled: the whole text, or the summary, with the numbers of the settled heap. Without an
--- order the answers stand mutator by mutator.
-abbrev pub printed : (summary : Bool) → List (List Line) → (order : Option (List ℕ)) → List Row → (made : ℕ) → Core → List ℕ
-printed false journals order rows made world = play_text journals order rows made
-printed true journals order rows made world = summary_text journals (length rows) made world.collector.collections world.collector.sets
+-- What is printed of a run whose heap is settled: the whole text, or the summary of a script of this version, with the numbers of the
+-- settled heap. Without an order the answers stand mutator by mutator.
+abbrev pub printed : (version : ℕ) → (summary : Bool) → List (List Line) → (order : Option (List ℕ)) → List Row → (made : ℕ) → Core → List ℕ
+printed version false journals order rows made world = play_text journals order rows made
+printed version true journals order rows made world = summary_text version journals (length rows) made world.collector.collections world.collector.sets
 
 -- The text answers the script: each printed answer is the one that the heap that never frees gives to the script's commands in one order
 -- that keeps each mutator's own; an allocation is answered full only where no slot was free; and after settling just the objects that
@@ -102,7 +102,7 @@ pub record Answers (script : Contents) (how : How) (text : List ℕ) : Type 0 wh
   pub has_run : HasRun script how journals events end
   pub rows : List Row
   pub settled : IsSettledAs end (last_moment script events).heap script.slots rows
-  pub written : text ≡ printed (is_summary how) journals (printed_order how (actors events)) rows (length (last_moment script events).heap.objects) settled.world
+  pub written : text ≡ printed script.version (is_summary how) journals (printed_order how (actors events)) rows (length (last_moment script events).heap.objects) settled.world
 
 -- The bytes are the text of a script within the limits, and the answer is the script's, run so.
 pub record AnswersTo (bytes : List ℕ) (how : How) (text : List ℕ) : Type 0 where

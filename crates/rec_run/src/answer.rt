@@ -89,7 +89,7 @@ fn write_text(
     requires room { NoLogFull (lines_of outcome.now.journals.items) }
 
     ensures { IfOk result (λ text. (rows : List Row) × ListsSlots (sight outcome.now.world) rows
-        × (flat_map (λ line. line) text ≡ printed is_summary (lines_of outcome.now.journals.items) (option_map (λ order. order.list) outcome.now.order) rows outcome.now.world.made outcome.now.world)) }
+        × (flat_map (λ line. line) text ≡ printed script.now.version is_summary (lines_of outcome.now.journals.items) (option_map (λ order. order.list) outcome.now.order) rows outcome.now.world.made outcome.now.world)) }
 {
     let journals = outcome.journals.as_slice();
     let order = outcome.order.as_ref();

@@ -61,8 +61,12 @@ fn add_spaced<'b>(script: &mut Script, bytes: &'b [u8]) -> Result<Option<&'b [u8
     ensures left { IfOk result (λ found. IfNone found (script.new ≡ script.old)) }
     ensures valid { IsScript script.new }
 {
-    let Some((cmd, rest)) = spaced_command(script.version(), script.registers(), script.fields(), bytes)
-    else {
+    let Some((cmd, rest)) = spaced_command(
+        script.version(),
+        script.registers(),
+        script.fields(),
+        bytes,
+    ) else {
         return Ok(None);
     };
     if script.last() == MOST_COMMANDS {

@@ -16,14 +16,14 @@ returns c =
     let live : ℕ = length c.list-live.result.now in
     let sizes : string_bytes c.in_ok-sizes.field-0 ≡ sizes_line (length journals) (commands_of journals) =
     c.in_ok-sizes.ensures ∙ ap (λ n. sizes_line n c.commands_of.result) (sym (length-map c.args.journals.now (λ journal. journal.lines))) ∙ ap (sizes_line (length journals)) c.commands_of.ensures in
-    let answers : string_bytes c.in_ok-answers.field-0 ≡ answers_line (answers_at journals) =
-    c.in_ok-answers.ensures ∙ answers_line-same (λ at. get_or c.tally.result at 0) (answers_at journals) c.tally.ensures in
+    let answers : string_bytes c.in_ok-answers.field-0 ≡ answers_line c.args.script.now.version (answers_at journals) =
+    c.in_ok-answers.ensures ∙ ap (λ v. answers_line v (λ at. get_or c.tally.result at 0)) c.version.ensures.value ∙ answers_line-same c.args.script.now.version (λ at. get_or c.tally.result at 0) (answers_at journals) c.tally.ensures in
     let objects : string_bytes c.in_ok-objects.field-0 ≡ objects_line live w.made (refusals journals) =
     c.in_ok-objects.ensures ∙ ap (λ n. objects_line live n c.refusals_of.result) c.made.ensures.made ∙ ap (objects_line live w.made) c.refusals_of.ensures in
     let collections : string_bytes c.in_ok-collections.field-0 ≡ collections_line w.collector.collections w.collector.sets.freed w.collector.sets.delta w.collector.sets.sigma =
     c.in_ok-collections.ensures ∙ rw (c.collections.ensures.collections, c.sets-sets.ensures.sets) refl in
     record {
-      lines = summed w c.in_ok-numbering.numbering c.list-live.result.now journals c.add-4.new.self c.in_ok-numbering.ensures c.list-live.ensures.list
+      lines = summed c.args.script.now.version w c.in_ok-numbering.numbering c.list-live.result.now journals c.add-4.new.self c.in_ok-numbering.ensures c.list-live.ensures.list
           (four_lines c.new-text.result c.add.new.self c.add-2.new.self c.add-3.new.self c.add-4.new.self _ _ _ _ c.new-text.ensures c.in_ok-add.ensures c.in_ok-add-2.ensures c.in_ok-add-3.ensures c.in_ok-add-4.ensures
           ∙ rw (sizes, answers, objects, collections) refl);
     }

@@ -45,7 +45,7 @@ returns g c =
     c.in-Ok.ensures.settles c.in-Ok.ensures.settled (number, c.settle.ensures.stands (last_moment script is.events).heap number by)
     (c.settle.ensures.kept.shaped.headers ∙ ap (λ (k : Config). k.slots) (c.settle.ensures.config ∙ is.config))
     listed
-    (told ∙ ap (λ (s : Bool). printed s journals (option_map (λ (turns : Turns). turns.list) o.order) rows world.made world) c.wants_summary.ensures
-    ∙ ap (λ (order : Option (List ℕ)). printed (is_summary how) journals order rows world.made world) is.order
-    ∙ ap (λ (n : ℕ). printed (is_summary how) journals (printed_order how (actors is.events)) rows n world) (c.settle.ensures.made ∙ is.made)))
+    (told ∙ ap (λ (s : Bool). printed script.version s journals (option_map (λ (turns : Turns). turns.list) o.order) rows world.made world) c.wants_summary.ensures
+    ∙ ap (λ (order : Option (List ℕ)). printed script.version (is_summary how) journals order rows world.made world) is.order
+    ∙ ap (λ (n : ℕ). printed script.version (is_summary how) journals (printed_order how (actors is.events)) rows n world) (c.settle.ensures.made ∙ is.made)))
     c.write_text.ensures
