@@ -101,7 +101,8 @@ typedef enum recycler_answer {
     RECYCLER_FULL = 7,      /* recycler_new: every slot was taken */
     RECYCLER_BUSY = 8,      /* recycler_new: no free slot was found, but a sweep ran. `before` and `after` have the freed word, which is odd
                               * within a sweep and greater after it */
-    RECYCLER_LOG_FULL = 9   /* the mutator's log has no room: let the collector turn, poll until the poll crosses, and ask again */
+    RECYCLER_LOG_FULL = 9,  /* the mutator's log has no room: let the collector turn, poll until the poll crosses, and ask again */
+    RECYCLER_NO_FIELD = 10  /* recycler_put: the object is a leaf, whose fields are null for good. No call below makes leaves yet */
 } recycler_answer;
 
 /* `label`, `before` and `after` are 0 where the answer says nothing of them. */
@@ -205,7 +206,7 @@ uint32_t recycler_copy(recycler_handle *mutator, uint32_t dst, uint32_t src, rec
 /* Lets `dst` name what the field of the object in `src` leads to. Answers: NULL, OBJECT, NO_OBJECT. */
 uint32_t recycler_get(recycler_handle *mutator, uint32_t dst, uint32_t src, uint32_t field, recycler_asked *told);
 
-/* Lets the field of the object in `src` lead to what `val` names, null too. Answers: DONE, NO_OBJECT, LOG_FULL. */
+/* Lets the field of the object in `src` lead to what `val` names, null too. Answers: DONE, NO_OBJECT, LOG_FULL, NO_FIELD. */
 uint32_t recycler_put(recycler_handle *mutator, uint32_t src, uint32_t field, uint32_t val, recycler_asked *told);
 
 /* Tells the label of the object in `reg`. Answers: VALUE, NO_OBJECT. */

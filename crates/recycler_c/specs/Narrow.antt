@@ -9,6 +9,7 @@ byte n = nat_lt n 256
 -- whether each register and field of the command fits a byte
 abbrev pub is_narrow : Cmd → Bool
 is_narrow (commands.New reg label) = byte reg
+is_narrow (commands.Leaf reg label) = byte reg
 is_narrow (commands.Null reg) = byte reg
 is_narrow (commands.Copy dst src) = byte dst && byte src
 is_narrow (commands.Get dst src f) = byte dst && byte src && byte f

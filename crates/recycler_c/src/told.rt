@@ -104,6 +104,10 @@ pub fn show_answer(answer: Answer) -> Asked
             ..plain
         },
         Answer::LogFull => Asked { answer: 9, ..plain },
+        Answer::NoField => Asked {
+            answer: 10,
+            ..plain
+        },
     }
 }
 
