@@ -1,3 +1,4 @@
 -- The lemmas of this crate.
+mod Lines
 mod Pieces
 mod Running

@@ -130,15 +130,15 @@ same_targets = pointwise (option_eq (λ m n. m == n))
 abbrev pub is_same_slot : SeenSlot → SeenSlot → Bool
 is_same_slot before after =
     before.slot == after.slot
-    && option_eq (λ m n. m == n) before.label after.label
-    && beq before.leaf after.leaf
-    && before.count == after.count
-    && before.cyclic == after.cyclic
-    && bytes_eq before.colour after.colour
-    && beq before.root after.root
-    && beq before.released after.released
-    && option_eq (λ m n. m == n) before.set after.set
-    && same_targets before.fields after.fields
+    && (option_eq (λ m n. m == n) before.label after.label
+    && (beq before.leaf after.leaf
+    && (before.count == after.count
+    && (before.cyclic == after.cyclic
+    && (bytes_eq before.colour after.colour
+    && (beq before.root after.root
+    && (beq before.released after.released
+    && (option_eq (λ m n. m == n) before.set after.set
+    && same_targets before.fields after.fields))))))))
 
 -- the counts that changed: the true one, and the cyclic one
 abbrev pub counts_words : (before after : SeenSlot) → List ℕ

@@ -2,10 +2,11 @@
 //!
 //! As text it is a function of the moves that the run makes: each has its line, once, in order (`specs/Told`).
 
-ghost use Rattle.std.specs.Prelude.{◌≡◌, ◌≢◌, ◌+◌, ◌-◌, ◌^◌, ◌<◌, ◌≤◌, ◌↔◌, ◌∷◌, ◌++◌, [], ℕ, IsTrue, List, length, max, IfOk, IfSome, IsNone, OnOk};
+ghost use Rattle.std.specs.Prelude.{◌≡◌, ◌≢◌, ◌+◌, ◌-◌, ◌^◌, ◌<◌, ◌≤◌, ◌↔◌, ◌∷◌, ◌++◌, [], ℕ, IsTrue, List, length, max, IfOk, IfSome, IsNone, OnOk, map, option_map, string_bytes};
 ghost use Rattle.std.specs.Io.KnownBytes.{Appends};
 ghost use Rattle.rec_watch.specs.Stages.{IsOver};
 ghost use Rattle.recycler_watch.specs.Seen.{seen, seen_of};
+ghost use Rattle.recycler_watch.specs.Data.{answered_words, asked_words, asker, data_line, first_line, line_seen, others};
 ghost use Rattle.recycler_watch.specs.Told.{before_window, HasPassed, HasTold, IsMade, IsNext, IsTrace, move_text};
 ghost use Rattle.recycler_watch.specs.declared.request.Request.TheVariants.{Text};
 
@@ -39,9 +40,9 @@ struct Line<'a> {
     #[serde(rename = "move")]
     number: u64,
     mutator: Option<u8>,
-    command: &'a Option<String>,
-    answer: &'a Option<String>,
-    says: &'a str,
+    command: Option<String>,
+    answer: Option<String>,
+    says: String,
     collector: Collector,
     slots: Vec<&'a Slot>,
     mutators: Vec<&'a Mutator>,
@@ -54,14 +55,6 @@ struct Asking {
     mutator: Option<u8>,
     command: Option<String>,
     answer: Option<String>,
-}
-
-// The parts of a heap that are told.
-#[derive(Drop)]
-struct Parts<'a> {
-    slots: Vec<&'a Slot>,
-    mutators: Vec<&'a Mutator>,
-    lists: Option<&'a Lists>,
 }
 
 /// A run, what is asked of it, and how many moves are made. A terminal is told how far a long one has come.
@@ -186,19 +179,7 @@ impl Teller<'_> {
             return Ok(());
         }
         self.write_head(out)?;
-        let nobody = Asking {
-            mutator: None,
-            command: None,
-            answer: None,
-        };
-        let whole = parts_of(self.alloc, &[], &[], Some(&is.lists), is)?;
-        self.write_line(
-            out,
-            &nobody,
-            "the whole heap as it is here",
-            is.collector,
-            whole,
-        )
+        self.write_line(out, &whole_line(self.alloc, self.moves, is)?)
     }
 
     fn write_move<W: Write>(
@@ -215,22 +196,8 @@ impl Teller<'_> {
                 let text = move_text(self.alloc, self.moves, made, was, is)?;
                 out.write_all(text.as_bytes())
             }
-            _ => self.write_data(out, made, was, is),
+            _ => self.write_line(out, &line_of(self.alloc, self.moves, made, was, is)?),
         }
-    }
-
-    fn write_data<W: Write>(
-        &self,
-        out: &mut W,
-        made: Move,
-        was: &State,
-        is: &State,
-    ) -> io::Result<()> {
-        let says = says(self.alloc, made, was, is)?;
-        let asking = asking_of(self.alloc, made)?;
-        let lists = (was.lists != is.lists).then_some(&is.lists);
-        let changed = parts_of(self.alloc, &was.slots, &was.mutators, lists, is)?;
-        self.write_line(out, &asking, &says, is.collector, changed)
     }
 
     fn write_head<W: Write>(&self, out: &mut W) -> io::Result<()> {
@@ -249,33 +216,51 @@ impl Teller<'_> {
         writeln!(out, "{}", text.replace(self.alloc, '<', "\\u003c")?)
     }
 
-    fn write_line<'l, W: Write>(
-        &self,
-        out: &mut W,
-        asking: &'l Asking,
-        says: &'l str,
-        collector: Collector,
-        told: Parts<'l>,
-    ) -> io::Result<()> {
-        let Parts {
-            slots,
-            mutators,
-            lists,
-        } = told;
-        let line = Line {
-            number: self.moves,
-            mutator: asking.mutator,
-            command: &asking.command,
-            answer: &asking.answer,
-            says,
-            collector,
-            slots,
-            mutators,
-            lists,
-        };
-        let text = text_of(self.alloc, &line)?;
+    fn write_line<W: Write>(&self, out: &mut W, line: &Line<'_>) -> io::Result<()> {
+        let text = text_of(self.alloc, line)?;
         writeln!(out, "{text}")
     }
+}
+
+// The line of a move: what was asked and answered, its words, and what it changed.
+fn line_of<'l>(
+    alloc: Global,
+    number: u64,
+    made: Move,
+    was: &State,
+    is: &'l State,
+) -> Result<Line<'l>, NoMemory>
+    ensures { IfOk result (λ line. line_seen line ≡ data_line number made (seen was.now) (seen is.now)) }
+{
+    let asking = asking_of(alloc, made)?;
+    Ok(Line {
+        number,
+        mutator: asking.mutator,
+        command: asking.command,
+        answer: asking.answer,
+        says: says(alloc, made, was, is)?,
+        collector: is.collector,
+        slots: others_of(alloc, &was.slots, &is.slots)?,
+        mutators: others_of(alloc, &was.mutators, &is.mutators)?,
+        lists: (was.lists != is.lists).then_some(&is.lists),
+    })
+}
+
+// The line before the first move.
+fn whole_line<'l>(alloc: Global, number: u64, is: &'l State) -> Result<Line<'l>, NoMemory>
+    ensures { IfOk result (λ line. line_seen line ≡ first_line number (seen is.now)) }
+{
+    Ok(Line {
+        number,
+        mutator: None,
+        command: None,
+        answer: None,
+        says: format!(in alloc; "the whole heap as it is here")?,
+        collector: is.collector,
+        slots: others_of(alloc, &[], &is.slots)?,
+        mutators: others_of(alloc, &[], &is.mutators)?,
+        lists: Some(&is.lists),
+    })
 }
 
 // How many moves are made before those that are told.
@@ -294,7 +279,9 @@ fn text_of<T: Serialize>(alloc: Global, data: &T) -> Result<String, NoMemory> {
 }
 
 // What a mutator asked with a move, and was told.
-fn asking_of(alloc: Global, made: Move) -> Result<Asking, NoMemory> {
+fn asking_of(alloc: Global, made: Move) -> Result<Asking, NoMemory>
+    ensures { IfOk result (λ asking. (asking.mutator ≡ asker made) × (option_map string_bytes asking.command ≡ asked_words made) × (option_map string_bytes asking.answer ≡ answered_words made)) }
+{
     match made {
         Move::Command { mutator, cmd, told } => Ok(Asking {
             mutator: Some(mutator),
@@ -309,32 +296,20 @@ fn asking_of(alloc: Global, made: Move) -> Result<Asking, NoMemory> {
     }
 }
 
-// The slots and mutators that aren't as these are, and these lists.
-fn parts_of<'a>(
-    alloc: Global,
-    slots: &[Slot],
-    mutators: &[Mutator],
-    lists: Option<&'a Lists>,
-    is: &'a State,
-) -> Result<Parts<'a>, NoMemory> {
-    Ok(Parts {
-        slots: others_of(alloc, slots, &is.slots)?,
-        mutators: others_of(alloc, mutators, &is.mutators)?,
-        lists,
-    })
-}
-
 // What isn't as it was; all, where nothing was.
 fn others_of<'a, T: PartialEq>(
     alloc: Global,
     was: &[T],
     is: &'a [T],
-) -> Result<Vec<&'a T>, NoMemory> {
-    let mut others = Vec::new(alloc);
+) -> Result<Vec<&'a T>, NoMemory>
+    ensures { IfOk result (λ found. map (λ one. one.now) found.items ≡ others T.eq was.now is.now) }
+{
+    let mut found = Vec::new(alloc);
     for (index, seen) in is.iter().enumerate() {
-        if was.get(index) != Some(seen) {
-            others.push(seen)?;
+        match was.get(index) {
+            Some(known) if known == seen => {}
+            _ => found.push(seen)?,
         }
     }
-    Ok(others)
+    Ok(found)
 }
