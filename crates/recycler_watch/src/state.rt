@@ -127,14 +127,22 @@ fn slots_of(alloc: Global, world: &World, fields: usize) -> Result<Vec<Slot>, No
     requires { fields ≡ world.now.config.fields }
     ensures { IfOk result (λ slots. map slot_seen slots.items ≡ slots_of world.now world.now.config.slots) }
 {
-    let words = world.words();
     let mut slots = Vec::with_capacity(alloc, usize::from(world.slots()))?;
     for slot in 0..world.slots() {
-        let first = usize::from(slot) * fields;
-        let leads = targets_of(alloc, &words[first..first + fields])?;
-        slots.push(slot_of(world, slot, leads))?;
+        slots.push(slot_of(alloc, world, slot, fields)?)?;
     }
     Ok(slots)
+}
+
+fn slot_of(alloc: Global, world: &World, slot: u16, fields: usize) -> Result<Slot, NoMemory>
+    requires fields { fields ≡ world.now.config.fields }
+    requires there { slot < world.now.config.slots }
+    ensures { IfOk result (λ seen. slot_seen seen ≡ slot_of world.now slot) }
+{
+    let words = world.words();
+    let first = usize::from(slot) * fields;
+    let leads = targets_of(alloc, &words[first..first + fields])?;
+    Ok(slot_with(world, slot, leads))
 }
 
 // Where these words lead.
@@ -148,7 +156,8 @@ fn targets_of(alloc: Global, words: &[u64]) -> Result<Vec<Option<u16>>, NoMemory
     Ok(targets)
 }
 
-fn slot_of(world: &World, slot: u16, fields: Vec<Option<u16>>) -> Slot
+// The slot whose fields lead to these.
+fn slot_with(world: &World, slot: u16, fields: Vec<Option<u16>>) -> Slot
     requires { slot < world.now.config.slots }
     ensures { slot_seen result ≡ counted_slot (slot_at world.now.collector.counts slot) slot (slice_index_or world.now.headers slot 0) fields.items }
 {
