@@ -37,9 +37,13 @@ fn draw_command(generator: &mut Pcg32) -> Cmd {
     let read = draw(generator, 3);
     let field = draw(generator, 2);
     match draw(generator, 12) {
-        0..=2 => Cmd::New {
+        0..=1 => Cmd::New {
             reg: written,
             label: 7,
+        },
+        2 => Cmd::Leaf {
+            reg: written,
+            label: 8,
         },
         3 => Cmd::Null { reg: written },
         4 => Cmd::Copy {
