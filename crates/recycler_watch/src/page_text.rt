@@ -69,6 +69,7 @@ summary { cursor: pointer; } :focus-visible { outline: 2px solid var(--mark); ou
 <dt><i class="swatch" style="background:#9aa1a9"></i>Gray</dt><dd>a trial marked it (MarkGray)</dd>
 <dt><i class="swatch" style="background:#fff"></i>White</dt><dd>possibly garbage, by the scan (Scan)</dd>
 <dt><i class="swatch" style="background:#e69f00"></i>Orange</dt><dd>a member of a set, which was collected (CollectWhite)</dd>
+<dt><i class="swatch" style="background:#2e8b57"></i>Green</dt><dd>a leaf, which has no fields in use: counted, and never traced</dd>
 <dt>count</dt><dd>the true count (RC): references that were counted, an epoch or two late</dd>
 <dt>cyclic</dt><dd>the cyclic count (CRC): what trial deletion left of the count; of a set's member its references from outside</dd>
 <dt>set</dt><dd>a candidate cycle in the cycle buffer; the Delta test asks whether it was touched, the Sigma test whether anything outside names it</dd>

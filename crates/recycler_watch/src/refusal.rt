@@ -93,7 +93,7 @@ fn sentence_on(kind: Kind) -> &'static str {
     match kind {
         Kind::TooLong => "a script has 16,777,216 bytes at most; split it, or leave commands out",
         Kind::NotUtf8 => "this line isn't UTF-8",
-        Kind::NoHeader => "the first line that counts has to be `recycler 1`",
+        Kind::NoHeader => "the first line that counts has to be `recycler 1` or `recycler 2`",
         Kind::BadHeap =>
             "the second one has to be `heap`, 1 to 65535 slots, 1 to 16 fields, 1 to 64 registers",
         Kind::NoMutator => "the third line that counts has to be `mutator`",
