@@ -137,12 +137,12 @@ tidy_all_down s (t ∷ ts) at c r i = tidy_all_down (counted_down s t) ts at (fa
 pub batched_clear : (fields : ℕ) (s : State) (newer older : List Contents) → CanFall (all_up (greened_by s newer) (flat_map up_targets newer)) (flat_map down_targets older) → IsTidy fields s None → AreCounted s → IsReady s → s.work ≡ [] →
     IsTidy fields (batch s newer older) None × IsReady (batch s newer older)
 batched_clear fields s newer older c tidy counted r none =
-    let marked : State = greened_by s newer in
-    let up : State = all_up marked (flat_map up_targets newer) in
+    let greened : State = greened_by s newer in
+    let up : State = all_up greened (flat_map up_targets newer) in
     let k : KeepsRest s (batch s newer older) = batch_rests s newer older in
     let released : AreReleased s = record { free = r.free; work = λ x h. nowhere s.work x none h } in (
-      tidy_all_down up (flat_map down_targets older) None c (released_rests marked up (rest_all_up marked (flat_map up_targets newer)) (released_rests s marked (rest_all_greened s (flat_map leaf_targets newer)) released))
-          (tidy_all_up marked (flat_map up_targets newer) None (tidy_all_greened s (flat_map leaf_targets newer) tidy counted)),
+      tidy_all_down up (flat_map down_targets older) None c (released_rests greened up (rest_all_up greened (flat_map up_targets newer)) (released_rests s greened (rest_all_greened s (flat_map leaf_targets newer)) released))
+          (tidy_all_up greened (flat_map up_targets newer) None (tidy_all_greened s (flat_map leaf_targets newer) tidy counted)),
       record { zeros = fall_zeros_all up (flat_map down_targets older) c.zeros; free = (released_rests s (batch s newer older) k released).free },
     )
 

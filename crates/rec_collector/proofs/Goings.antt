@@ -166,11 +166,6 @@ last_sets w some = last_by (λ b. length b.parts.counts.sets + 1 ≡ length w.co
     fewer : length (earlier_sets w.counts.sets) ≡ min (length w.counts.sets - 1) (length w.counts.sets)
     fewer = length-take (length w.counts.sets - 1) w.counts.sets
 
--- the work list, once the first of the zeros is released
-pub first_work : (zs : List ℕ) (s : State) → (without_first zs s).work ≡ s.work
-first_work [] s = refl
-first_work (z ∷ zs) s = refl
-
 -- a slot that is emptied stays, and so does the work list
 pub emptied_same : (s : State) (y : ℕ) → ((x : ℕ) → slot_at (emptied s y) x ≡ slot_at s x) × ((emptied s y).work ≡ s.work)
 emptied_same s y = elim (slot_at s y).buffered as (λ b. ((x : ℕ) → slot_at (releases.listed_if b s y) x ≡ slot_at s x) × ((releases.listed_if b s y).work ≡ s.work)) [ true ↦ (λ x. refl, refl) | false ↦ (λ x. refl, refl) ]

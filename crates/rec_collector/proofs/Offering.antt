@@ -1,7 +1,7 @@
 -- Every slot is offered to a trial, one after another: what that leaves of the counts, and that a trial may begin.
 use Rattle.std.proofs.Common.{◌||◌, ◌≡◌, ◌≢◌, ℕ, zero, suc, ◌+◌, ◌<◌, ◌≤◌, Bool, true, false, eqb, cond, List, [], ◌∷◌, length, filter, refl, arith, sym, ◌∙◌, ap, subst, inl, inr, ◌-◌, ◌++◌, map, take, drop, set, get_or}
 use Rattle.std.specs.List.{concat, range_with_len}
-use Rattle.std.proofs.lemmas.Bool.{cases_Bool, cases_eq, cases_lt, eq-eqb, false≢true, ne_eqb}
+use Rattle.std.proofs.lemmas.Bool.{cases_Bool, cases_eq, cases_lt, eq-eqb, ne_eqb}
 use Rattle.std.proofs.lemmas.List.FromFn.{filter_of_map_range_with_len_more}
 use Rattle.std.proofs.lemmas.List.{map-id, get_or_past, length-map, append-nil, append_assoc, drop_all, get_or-append_right, get_or-drop, get_or-set_same, get_or_default, length-append, length-drop, length-take, set-set, take_all}
 use Rattle.std.proofs.lemmas.List.Edits.{map_over_more}
@@ -12,7 +12,7 @@ use Rattle.rec_counts.specs.Counts.{State, IsKept, slot_at, with_slot}
 use Rattle.rec_counts.specs.Lists.{one, times}
 use Rattle.rec_counts.specs.Slot.{absent, is_in, stays as keeps_colour}
 use Rattle.rec_counts.specs.Colour.{is_gray, is_white, is_green}
-use Rattle.rec_counts.proofs.Decrementing.{rest_same}
+use Rattle.rec_counts.proofs.Decrementing.{rest_same, stays_green}
 use Rattle.rec_counts.proofs.Times.{times-append, times-cons, times-nil}
 use Rattle.rec_counts.proofs.Keeping.{map_at}
 use Rattle.rec_trial.specs.Rules.{IsReady}
@@ -186,12 +186,8 @@ green_by : (b : Bool) (v : Slot) → (b ≡ false → is_green v.colour ≡ fals
 green_by true v h = refl
 green_by false v h = sym (h refl)
 
-not_green : (r : Bool) (v : Slot) → (r || is_green v.colour) ≡ false → is_green v.colour ≡ false
-not_green true v e = absurd (false≢true (sym e))
-not_green false v e = e
-
 offered_green : (s : State) (x : ℕ) → is_green (slot_at (offered s) x).colour ≡ is_green (slot_at s x).colour
-offered_green s x = ap (λ (v : Slot). is_green v.colour) (offered_at s x) ∙ green_by (keeps_colour (slot_at s x)) (slot_at s x) (not_green (slot_at s x).released (slot_at s x))
+offered_green s x = ap (λ (v : Slot). is_green v.colour) (offered_at s x) ∙ green_by (keeps_colour (slot_at s x)) (slot_at s x) (stays_green (slot_at s x).released (slot_at s x))
 
 pub where_green : (offers : Bool) (s : State) (x : ℕ) → is_green (slot_at (offered_where offers s) x).colour ≡ is_green (slot_at s x).colour
 where_green true s x = offered_green s x

@@ -249,7 +249,7 @@ written_names s x v y h = elim (eqb_tells y x) [
   }
 ]
 
-raised_unlike : (v : Slot) → (raised v).colour ≢ Orange
+pub raised_unlike : (v : Slot) → (raised v).colour ≢ Orange
 raised_unlike v o = in_use_orange v.colour o
 
 lessened_unlike : (b l : Bool) (v : Slot) → stays v ≡ b → v.released ≡ false → (lessened_if b l v).colour ≢ Orange

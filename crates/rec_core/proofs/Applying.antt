@@ -31,6 +31,7 @@ use Rattle.rec_collector.specs.Given.{IsCovered}
 use Rattle.rec_collector.specs.Private as collectors
 use Rattle.rec_collector.specs.Kept as collector_kept
 use Rattle.rec_collector.specs.declared.phase.Phase.TheVariants.{Returning}
+use Rattle.rec_word.proofs.Headers.{leaf_taken}
 use Rattle.rec_core.specs.Config.{IsMutator}
 use Rattle.rec_core.specs.Core.{Core, mutator, box, crossing_of, spare_of, nobody}
 use Rattle.rec_core.specs.Kept.{IsBufferOf, Stand, stand_at, HasCrossed, IsHandshake, IsKept}
@@ -43,7 +44,6 @@ use Rattle.rec_core.proofs.Moves.{spare_names}
 use Rattle.rec_core.proofs.Sums.{share, log_share, buffers_sum}
 use Rattle.rec_core.proofs.Turns.{now_at, returned_home}
 use Rattle.rec_word.specs.Header.{is_leaf}
-use Rattle.rec_core.proofs.Steps.{leaf_some}
 
 -- a spare adds nothing, and takes nothing
 gain_spare : (config : Config) (epoch node of : ℕ) → gain epoch node of (spare_of config) ≡ 0
@@ -263,7 +263,7 @@ module _ (w : Core) (t : ℕ) (kept : IsKept w) (phase : w.collector.phase ≡ R
     | inr none ↦ omega (arith, none)
     | inl some ↦
         let headers : length w.headers ≡ w.config.slots = kept.headers in
-        absurd (omega (arith, leaf_some (slice_index_or w.headers x 0) (leaves_are x some), get_or_past w.headers x 0 (omega (arith, past, headers))))
+        absurd (omega (arith, leaf_taken (slice_index_or w.headers x 0) (leaves_are x some), get_or_past w.headers x 0 (omega (arith, past, headers))))
   ]
 
   -- the count of a slot, by its node

@@ -22,13 +22,11 @@ use Rattle.rec_apply.specs.Batch.{all_counted, all_down, all_greened, all_up, ba
 use Rattle.rec_apply.proofs.Naming.{added_is, named-nil, named-cons}
 use Rattle.rec_release.proofs.Orange.{not_orange_at}
 use Rattle.rec_core.specs.Cycles.{is_member, is_member_of, word_loaded, word_seen, SetsWait, SetsTest}
-use Rattle.rec_core.proofs.CyclesLess.{TestsLess, in_use_other, member_before, less_same, less_on, less_slot, less_decremented}
+use Rattle.rec_core.proofs.CyclesLess.{TestsLess, member_before, less_same, less_on, less_slot, less_decremented}
 use Rattle.rec_core.proofs.CyclesTest.{counted_less}
 use Rattle.rec_apply.specs.declared.way.Way.TheVariants.{Leaves}
 use Rattle.rec_apply.proofs.Whole.{greened_by}
-
-raised_black : (v : Slot) → (raised v).colour ≡ Orange → ⊥
-raised_black v o = in_use_other v.colour o
+use Rattle.rec_collector.proofs.Outside.{raised_unlike}
 
 -- a leaf is not Orange
 green_first : (s : State) (t : Option ℕ) (y : ℕ) → (slot_at (counted Leaves s t) y).colour ≡ Orange → slot_at (counted Leaves s t) y ≡ slot_at s y
@@ -62,7 +60,7 @@ up_first s None y o = (refl, refl)
 up_first s (Some x) y o =
     let v : Slot = raised (slot_at s x) in
     elim (eqb_tells y x) [
-      | inl q ↦ absurd (not_orange_at s x v (raised_black (slot_at s x)) (ap (λ z. (slot_at (with_slot s x v) z).colour) (sym q.1) ∙ o))
+      | inl q ↦ absurd (not_orange_at s x v (raised_unlike (slot_at s x)) (ap (λ z. (slot_at (with_slot s x v) z).colour) (sym q.1) ∙ o))
       | inr q ↦ (q.0, get_or-set_other s.slots x y v absent q.1)
     ]
 
@@ -76,7 +74,7 @@ up_unnamed s (t ∷ ts) y o =
 
 up_eases : (s : State) (t : Option ℕ) → TestsLess s (counted_up s t)
 up_eases s None = less_same s
-up_eases s (Some x) = less_slot s x (raised (slot_at s x)) (record { set = refl; orange = λ o. absurd (raised_black (slot_at s x) o); exact = λ o r. absurd (raised_black (slot_at s x) o) })
+up_eases s (Some x) = less_slot s x (raised (slot_at s x)) (record { set = refl; orange = λ o. absurd (raised_unlike (slot_at s x) o); exact = λ o r. absurd (raised_unlike (slot_at s x) o) })
 
 down_eases : (s : State) (t : Option ℕ) → TestsLess s (counted_down s t)
 down_eases s None = less_same s
@@ -94,16 +92,16 @@ less_down s (t ∷ ts) = less_on (down_eases s t) (less_down (counted_down s t) 
 
 less_batch : (s : State) (newer older : List Contents) → TestsLess s (batch s newer older)
 less_batch s newer older =
-    let marked : State = greened_by s newer in
-    less_on (less_on (less_marked s (flat_map leaf_targets newer)) (less_up marked (flat_map up_targets newer))) (less_down (all_up marked (flat_map up_targets newer)) (flat_map down_targets older))
+    let greened : State = greened_by s newer in
+    less_on (less_on (less_marked s (flat_map leaf_targets newer)) (less_up greened (flat_map up_targets newer))) (less_down (all_up greened (flat_map up_targets newer)) (flat_map down_targets older))
 
 -- a slot that is Orange after a batch was so before, and was named by none of its increments
 batch_unadded : (s : State) (newer older : List Contents) (x : ℕ) → (slot_at (batch s newer older) x).colour ≡ Orange → (added x newer ≡ 0) × (slot_at (all_up (greened_by s newer) (flat_map up_targets newer)) x ≡ slot_at s x)
 batch_unadded s newer older x o =
     let ups : List (Option ℕ) = flat_map up_targets newer in
-    let marked : State = greened_by s newer in
-    let u : (named x ups ≡ 0) × (slot_at (all_up marked ups) x ≡ slot_at marked x) = up_unnamed marked ups x ((less_down (all_up marked ups) (flat_map down_targets older)).orange x o) in
-    let still : (slot_at marked x).colour ≡ Orange = ap (λ (w : Slot). w.colour) (sym u.1) ∙ (less_down (all_up marked ups) (flat_map down_targets older)).orange x o in
+    let greened : State = greened_by s newer in
+    let u : (named x ups ≡ 0) × (slot_at (all_up greened ups) x ≡ slot_at greened x) = up_unnamed greened ups x ((less_down (all_up greened ups) (flat_map down_targets older)).orange x o) in
+    let still : (slot_at greened x).colour ≡ Orange = ap (λ (w : Slot). w.colour) (sym u.1) ∙ (less_down (all_up greened ups) (flat_map down_targets older)).orange x o in
     (sym (added_is x newer) ∙ u.0, u.1 ∙ green_same s (flat_map leaf_targets newer) x still)
 
 -- What the next batch of `w` makes of the counts: less is left to be tested, and it adds nothing to a slot that is Orange after it.

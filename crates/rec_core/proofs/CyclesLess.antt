@@ -4,7 +4,7 @@ use Rattle.std.specs.List.{concat}
 use Rattle.std.proofs.lemmas.List.{get_or-set_same, get_or-set_other, set_past}
 use Rattle.std.proofs.lemmas.Bool.{cases_lt, eq-eqb, ne_eqb, false≢true, cases_Bool}
 use Rattle.std.proofs.lemmas.Bool.Decides.{eqb_tells}
-use Rattle.rec_counts.specs.declared.colour.Colour.TheVariants.{Orange, Green}
+use Rattle.rec_counts.specs.declared.colour.Colour.TheVariants.{Orange}
 use Rattle.rec_counts.specs.declared.slot.Slot.{Slot}
 use Rattle.rec_counts.specs.declared.slot.Due.{Due}
 use Rattle.rec_counts.specs.declared.slot.Due.TheVariants.{Nothing, Zero, Root}
@@ -21,8 +21,8 @@ use Rattle.rec_sigma.proofs.Cyclics.{in_set, own_set}
 use Rattle.rec_release.specs.CycleFree.{given_up, given_up_slot}
 use Rattle.rec_release.specs.TakenOff.{down_if, is_lowered, taken_off}
 use Rattle.rec_release.specs.Release.{without_first}
-use Rattle.rec_counts.specs.Colour.{is_green, in_use}
-use Rattle.rec_counts.specs.declared.colour.Colour.{Colour}
+use Rattle.rec_counts.specs.Colour.{is_green}
+use Rattle.rec_collector.proofs.Outside.{in_use_orange}
 
 -- it was not released, and if its cyclic count was its true count less so many, so it is still
 abbrev pub StaysExact : (u v : Slot) → Type 0
@@ -155,16 +155,11 @@ less_given_up s =
       exact = λ x o r. subst (λ (v : Slot). StaysExact (slot_at s x) v) (sym (at x)) ((given_eases n (slot_at s x) _ refl).1 (ap (λ (v : Slot). v.colour) (sym (at x)) ∙ o) (ap (λ (v : Slot). v.released) (sym (at x)) ∙ r));
     }
 
--- what is in use is not Orange
-pub in_use_other : (c : Colour) → in_use c ≡ Orange → ⊥
-in_use_other Green o = cc
-in_use_other _ o = cc
-
 -- a member that is refurbished is in no set, and Orange only where it was
 refurbished_eases : (f : Fate) (v : Slot) → ((refurbished f v).set ≡ None) × ((refurbished f v).colour ≡ Orange → v.colour ≡ Orange) × ((refurbished f v).colour ≡ Orange → (refurbished f v).released ≡ false → StaysExact v (refurbished f v))
 refurbished_eases fates.Free v = (refl, (λ o. o), (λ o r. (r, λ k q. q)))
 refurbished_eases fates.Root v = (refl, (λ o. cc), (λ o r. cc))
-refurbished_eases _ v = (refl, (λ o. absurd (in_use_other v.colour o)), (λ o r. absurd (in_use_other v.colour o)))
+refurbished_eases _ v = (refl, (λ o. absurd (in_use_orange v.colour o)), (λ o r. absurd (in_use_orange v.colour o)))
 
 -- the members of the last set are refurbished
 pub less_refurbished : (s t : State) → IsKept s → LastRefurbished s t → TestsLess s t

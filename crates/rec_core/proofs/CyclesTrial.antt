@@ -101,10 +101,6 @@ same_cell fields slot g p h = elim (eqb_tells p (place_of slot g fields)) [
 word_more : (fields : ℕ) (l : Load) (loads : List Load) (p : ℕ) → l.field < fields → word_loaded fields (l ∷ loads) p ≡ with_load (word_loaded fields loads) (place_of l.slot l.field fields) l.word p
 word_more fields l loads p h = ap (λ b. cond b l.word (word_loaded fields loads p)) (same_cell fields l.slot l.field p h)
 
--- what was loaded is known by its targets
-has_same_loads : (w : Pending) (load more : ℕ → ℕ) → ((p : ℕ) → more p ≡ load p) → HasLoaded w load → HasLoaded w more
-has_same_loads w load more e h p z inside pos = rw (e p) (h p z inside pos)
-
 target_named : (raw node : ℕ) → 0 < node → node_of raw ≡ node → target_of raw ≡ Some (node - 1)
 target_named raw node pos is = by (target_of raw) (code_target raw)
   where

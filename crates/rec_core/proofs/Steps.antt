@@ -39,6 +39,7 @@ use Rattle.rec_mutator.specs.declared.phase.Phase as phases
 use Rattle.rec_mutator.specs.declared.phase.Phase.TheVariants as at
 use Rattle.rec_mutator.specs.declared.work.Work.TheVariants as works
 use Rattle.rec_mutator.proofs.Steps.{TakesNone}
+use Rattle.rec_word.proofs.Headers.{leaf_taken}
 use Rattle.rec_core.specs.Cells.{cell}
 use Rattle.rec_core.specs.Config.{IsMutator}
 use Rattle.rec_core.specs.Core.{Core, cells_of, sight, mutator, box, crossing_of, nobody, with_mutator}
@@ -51,7 +52,6 @@ use Rattle.rec_core.proofs.Cycling.{cycles_moved, machine_alive}
 use Rattle.rec_mutator.proofs.Machines.{IsBox}
 use Rattle.rec_core.proofs.Moves.{same_pending, register_moves}
 use Rattle.rec_word.specs.Header.{is_leaf}
-use Rattle.std.proofs.lemmas.Bool.Decides.{nat_tests}
 use Rattle.rec_mutator.proofs.Refusals.{at_phase}
 
 -- A step of mutator `t` that takes no mailbox, of a heap with its collector.
@@ -191,10 +191,6 @@ pub record HasAccounts (w : Core) (v : Pending) : Type 0 where
   pub uncounted : freeing_due w.collector.phase ≡ None → HasUncountedReleased v
   pub cycles : HasCyclesAt v w.collector w.collector.phase
 
--- a leaf's header is one of a taken slot
-pub leaf_some : (header : ℕ) → is_leaf header ≡ true → 0 < header
-leaf_some header leaf = grind (arith, nat_tests, leaf)
-
 -- A heap in which a mutator has moved, with headers, words and births, is kept where each part of it is.
 pub changed_kept : (w : Core) (t : ℕ) (q : Private) (headers words : List ℕ) (births : ℕ) → IsKept w → IsMutator w.config t → IsActor w.config w.epoch w.collector.phase t q (crossing_of w t) (box w t)
     → length headers ≡ length w.headers → All IsHeader headers → HasCollector w.config w.epoch words w.collector
@@ -214,7 +210,7 @@ changed_kept w t q headers words births kept is actor same labels collector lear
       learnt = learnt_stays w t q headers kept is learnt still;
       made = entries_stay w t births q kept is entries;
       sound = sound;
-      greens = λ x green. ap is_leaf (still x (leaf_some (slice_index_or w.headers x 0) (kept.greens x green))) ∙ kept.greens x green;
+      greens = λ x green. ap is_leaf (still x (leaf_taken (slice_index_or w.headers x 0) (kept.greens x green))) ∙ kept.greens x green;
       accounted = accounts.accounted;
       uncounted = accounts.uncounted;
       cycles = accounts.cycles;

@@ -216,7 +216,7 @@ decremented_kept s x h z k = go (due_of (slot_at s x)) refl
     go Root e = keep_root k x (slot_at s x) (in_range_counted s x h) (to_roots (slot_at s x) e) refl
 
 -- a slot that does not keep its colour isn't Green
-stays_green : (r : Bool) (v : Slot) → (r || is_green v.colour) ≡ false → is_green v.colour ≡ false
+pub stays_green : (r : Bool) (v : Slot) → (r || is_green v.colour) ≡ false → is_green v.colour ≡ false
 stays_green true v e = absurd (false≢true (sym e))
 stays_green false v e = e
 

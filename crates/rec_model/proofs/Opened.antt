@@ -6,12 +6,13 @@ use Rattle.std.proofs.lemmas.List.{get_or_past, get_or-replicate, length-replica
 use Rattle.std.specs.Option.{option_map}
 use Rattle.rec_word.specs.Header.{is_leaf, IsHeaderOf}
 use Rattle.rec_word.specs.Word.{target_of}
+use Rattle.rec_word.proofs.Headers.{leaf_taken}
 use Rattle.rec_model.specs.Reach.{named, is_in}
 use Rattle.rec_model.specs.Heap.{opening, roots}
 use Rattle.rec_model.specs.Sight.{Sight, IsTaken, words_of, targets_of, field_of, StandsBy, StandsFor, IsSound, opening_sight}
 use Rattle.rec_model.specs.Unfreed.{AreUnfreed}
 use Rattle.rec_model.proofs.Members.{is_in-head, is_in-cons, is_in-cases}
-use Rattle.rec_model.proofs.Standing.{reached_is_taken, leaf_taken}
+use Rattle.rec_model.proofs.Standing.{reached_is_taken}
 use Rattle.rec_model.proofs.Words.{named-nulls, null_fields}
 
 -- nulls name nothing

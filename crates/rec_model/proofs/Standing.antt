@@ -21,10 +21,6 @@ use Rattle.rec_model.proofs.Members.{is_in-left, is_in-right, is_in-head, is_in-
 pub reached_is_taken : (w : Sight) → IsSound w → (slot : ℕ) → Reaches w slot → IsTaken w slot
 reached_is_taken w sound = all_reached (IsTaken w) (roots w.registers) (targets_of w) sound.registers (λ m n from taken there. sound.fields m n taken there)
 
--- a leaf is taken
-pub leaf_taken : (header : ℕ) → is_leaf header ≡ true → 0 < header
-leaf_taken header leaf = grind arith
-
 -- what a register may be set to: null, what is reached, or a slot whose fields agree and are all null
 abbrev pub MayName : Heap → Sight → (ℕ → ℕ) → Option ℕ → Type 0
 MayName heap w number x = (n : ℕ) → x ≡ Some n → Reaches w n ⊎ (((object heap (number n)).fields ≡ map (field_of number) (words_of w n)) × (targets_of w n ≡ []))

@@ -1,7 +1,7 @@
 -- The header of a new object.
 use Rattle.std.proofs.Common.{◌≡◌, ℕ, ◌^◌, ◌<◌, Bool, true, false, arith}
 use Rattle.std.proofs.lemmas.Bool.Decides.{nat_tests}
-use Rattle.rec_word.specs.Header.{header_word, is_leaf, label_of, IsHeaderOf, IsTakenHeader}
+use Rattle.rec_word.specs.Header.{header_word, is_leaf, IsHeaderOf, IsTakenHeader}
 
 -- it tells what it is made of
 pub header_is : (leaf : Bool) (label : ℕ) → label < 2 ^ 32 → IsHeaderOf leaf label (header_word leaf label)
@@ -13,7 +13,6 @@ pub header_taken : (leaf : Bool) (label : ℕ) → label < 2 ^ 32 → IsTakenHea
 header_taken true label fits = record { some = omega (arith, fits); few = omega (arith, fits); small = omega (arith, fits) }
 header_taken false label fits = record { some = omega (arith, fits); few = omega (arith, fits); small = omega (arith, fits) }
 
--- no other header tells that
-pub header_only : (leaf : Bool) (label word : ℕ) → IsTakenHeader word → label_of word ≡ label → is_leaf word ≡ leaf → word ≡ header_word leaf label
-header_only true label word taken its marked = grind (arith, nat_tests, taken.some, taken.few, taken.small, its, marked)
-header_only false label word taken its marked = grind (arith, nat_tests, taken.some, taken.few, taken.small, its, marked)
+-- a leaf's header is one of a taken slot
+pub leaf_taken : (header : ℕ) → is_leaf header ≡ true → 0 < header
+leaf_taken header leaf = grind (arith, nat_tests, leaf)

@@ -2,8 +2,9 @@
 use Rattle.std.specs.Prelude.{ℕ, Bool, if◌then◌else◌, Option, None, Some, option_map, List, [], ◌∷◌, map, codes, string_bytes}
 use Rattle.rec_watch.specs.declared.moves.Move.{Move}
 use Rattle.rec_watch.specs.declared.moves.Move.TheVariants.{Command, Step}
+use Rattle.rec_report.specs.Text.{answer_word}
 use Rattle.recycler_watch.specs.Seen.{Seen, SeenCollector, SeenSlot, collector_seen, slot_seen}
-use Rattle.recycler_watch.specs.Sentence.{answer_words, command_words, is_same_slot, sentence}
+use Rattle.recycler_watch.specs.Sentence.{command_words, is_same_slot, sentence}
 use Rattle.recycler_watch.specs.declared.tell.Line.{Line}
 
 -- its number; who made it, what that mutator asked and was answered; its words; how far the collector is, and the slots that are told
@@ -25,7 +26,7 @@ asked_words (Command t cmd told) = Some (command_words cmd)
 asked_words (Step found turn) = None
 
 abbrev pub answered_words : Move → Option (List ℕ)
-answered_words (Command t cmd told) = Some (answer_words told.answer)
+answered_words (Command t cmd told) = Some (answer_word told.answer)
 answered_words (Step found turn) = None
 
 -- what isn't as it was; all, where nothing was

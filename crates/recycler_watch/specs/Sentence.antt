@@ -15,6 +15,7 @@ use Rattle.rec_collector.specs.declared.turn.Turn.{Turn}
 use Rattle.rec_collector.specs.declared.turn.Turn.TheVariants as turns
 use Rattle.rec_watch.specs.declared.moves.Move.{Move}
 use Rattle.rec_watch.specs.declared.moves.Move.TheVariants.{Command, Step}
+use Rattle.rec_report.specs.Text.{answer_word}
 use Rattle.recycler_watch.specs.Seen.{Seen, SeenSlot, SeenMutator, SeenCollector}
 
 -- a command as a script spells it
@@ -27,20 +28,6 @@ command_words (commands.Get dst src field) = codes "get " ++ decimal dst ++ code
 command_words (commands.Put src field val) = codes "put " ++ decimal src ++ codes " " ++ decimal field ++ codes " " ++ decimal val
 command_words (commands.Value reg) = codes "value " ++ decimal reg
 command_words (commands.Same a b) = codes "same " ++ decimal a ++ codes " " ++ decimal b
-
--- an answer as a run's text spells it
-abbrev pub answer_words : Answer → List ℕ
-answer_words answers.Done = codes "done"
-answer_words answers.Null = codes "null"
-answer_words answers.Object = codes "object"
-answer_words (answers.Value label) = codes "value " ++ decimal label
-answer_words answers.Yes = codes "yes"
-answer_words answers.No = codes "no"
-answer_words answers.NoObject = codes "none"
-answer_words answers.Full = codes "full"
-answer_words (answers.Busy before after) = codes "busy " ++ decimal before ++ codes " " ++ decimal after
-answer_words answers.NoField = codes "nofield"
-answer_words answers.LogFull = codes "logfull"
 
 -- an object, or null
 abbrev pub target_words : Option ℕ → List ℕ
@@ -190,7 +177,7 @@ changes_words changed = flat_map (λ p. change_words p.0 p.1) (take 6 changed) +
 abbrev pub sentence : Move → (was is : Seen) → List ℕ
 sentence (Command t cmd told) was is =
     crosses_words (crossed was.mutators is.mutators)
-    ++ command_words cmd ++ codes ": " ++ answer_words told.answer
+    ++ command_words cmd ++ codes ": " ++ answer_word told.answer
     ++ outcome_words t cmd told.answer told.saw told.left is
 sentence (Step found turn) was is =
     step_words found (length is.mutators) is.fields

@@ -3,9 +3,10 @@
 
 ghost use Rattle.std.specs.Prelude.{◌≡◌, ◌++◌, codes, length, map, not, string_bytes, IfOk, OnOk};
 ghost use Rattle.std.specs.List.{flat_map};
+ghost use Rattle.rec_report.specs.Text.{answer_word};
 ghost use Rattle.rec_word.specs.Word.{target_of};
 ghost use Rattle.recycler_watch.specs.Seen.{collector_seen, mutator_seen, seen, slot_seen};
-ghost use Rattle.recycler_watch.specs.Sentence.{answer_words, birth_words, change_words, changed_slots, changes_words, colour_words, command_words, counts_words, crossed, crosses_words, field_words, is_same_slot, loss_words, more_words, outcome_words, polls_words, put_words, returned_words, root_words, sentence, set_words, sets_words, step_words, target_words, turn_words};
+ghost use Rattle.recycler_watch.specs.Sentence.{birth_words, change_words, changed_slots, changes_words, colour_words, command_words, counts_words, crossed, crosses_words, field_words, is_same_slot, loss_words, more_words, outcome_words, polls_words, put_words, returned_words, root_words, sentence, set_words, sets_words, step_words, target_words, turn_words};
 
 use crate::state::{Collector, Mutator, Slot, State, add_field, add_target};
 use rec_model::Answer;
@@ -36,7 +37,7 @@ pub fn command_text(alloc: Global, cmd: Cmd) -> Result<String, NoMemory>
 
 /// An answer as a run's text spells it.
 pub fn answer_text(alloc: Global, answer: Answer) -> Result<String, NoMemory>
-    ensures { IfOk result (λ text. string_bytes text ≡ answer_words answer) }
+    ensures { IfOk result (λ text. string_bytes text ≡ answer_word answer) }
 {
     match answer {
         Answer::Done => format!(in alloc; "done"),
@@ -97,7 +98,7 @@ fn add_poll(text: &mut String, epoch: Option<u32>) -> Result<(), NoMemory>
 
 // A command, and what it was told.
 fn add_answer(text: &mut String, alloc: Global, cmd: Cmd, told: Told) -> Result<(), NoMemory>
-    ensures { OnOk result (string_bytes text.new ≡ string_bytes text.old ++ (command_words cmd ++ codes ": " ++ answer_words told.answer)) }
+    ensures { OnOk result (string_bytes text.new ≡ string_bytes text.old ++ (command_words cmd ++ codes ": " ++ answer_word told.answer)) }
 {
     let (command, answer) = (command_text(alloc, cmd)?, answer_text(alloc, told.answer)?);
     text.push_str(&command)?;

@@ -4,10 +4,9 @@ use Rattle.std.proofs.Common.{◌≡◌, ℕ, ◌+◌, ◌-◌, ◌<◌, Bool, t
 use Rattle.std.proofs.lemmas.Bool.{false≢true}
 use Rattle.rec_word.specs.Place.{places_of}
 use Rattle.rec_counts.specs.declared.slot.Slot.{Slot}
-use Rattle.rec_counts.specs.Counts.{State, IsKept, slot_at}
+use Rattle.rec_counts.specs.Counts.{IsKept, slot_at}
 use Rattle.rec_counts.specs.Groups.{last_set}
 use Rattle.rec_counts.specs.Slot.{is_in}
-use Rattle.rec_counts.proofs.Keeping.{set_there}
 use Rattle.rec_walk.specs.declared.member.Member.{Member}
 use Rattle.rec_walk.specs.Walk.{first_member}
 use Rattle.rec_release.specs.CycleFree.{given_up, started_of}
@@ -87,11 +86,6 @@ module _ (w : Core) (words : List ℕ) (v : Parts) (fields : 0 < w.config.fields
   tested_rests b (IsTested.passes orange none is) = subst (FreesOn w words) (sym is) (given_rests (record v.sets { freed = v.sets.freed + 1 }))
   tested_rests b (IsTested.fails_delta t touched last is) = absurd (touched passes.0)
   tested_rests b (IsTested.fails_sigma t orange some last is) = absurd (omega (arith, some, passes.1))
-
--- no slot is in a set where there is none
-none_in : (s : State) (x : ℕ) → IsKept s → s.sets ≡ [] → (set : Option ℕ) → (slot_at s x).set ≡ set → (slot_at s x).set ≡ None
-none_in s x k none None is = is
-none_in s x k none (Some i) is = absurd (omega (arith, set_there s i x k is, ap length none))
 
 -- the freeing of a set goes on
 frees_in : (w : Core) (words : List ℕ) (v : Parts) (phase : Phase) → FreesIn w words v (Some phase) → RestsIn Round.Second w words (moved (with_parts w.collector v) phase) phase
