@@ -2,7 +2,13 @@
 use Rattle.std.specs.Prelude.{◌≡◌, ◌⊎◌, ℕ, ◌+◌, ◌-◌, ◌^◌, ◌≤◌, ◌==◌, ◌&&◌, Bool, true, false, if◌then◌else◌, Option, List, [], ◌∷◌, ◌++◌, length, max, not, codes, decimal, bytes_eq}
 use Rattle.std.specs.Io.KnownBytes.{Appends}
 use Rattle.std.specs.Fmt.{styled_decimal, format_spec}
+use Rattle.rec_core.specs.Core.{opened}
+use Rattle.rec_script.specs.Script.{Contents}
+use Rattle.rec_play.specs.Numbers.{config_of}
+use Rattle.rec_play.specs.Played.{lengths_of}
+use Rattle.rec_play.specs.Playing.{generator_of}
 use Rattle.rec_watch.specs.Watched.{Watched, IsWatched, Tells}
+use Rattle.rec_watch.specs.declared.stage.Stage.TheVariants.{Playing}
 use Rattle.rec_watch.specs.Stages.{IsOver}
 use Rattle.rec_watch.specs.declared.moves.Move.{Move}
 use Rattle.rec_watch.specs.declared.moves.Move.TheVariants.{Command, Step}
@@ -11,6 +17,15 @@ use Rattle.recycler_watch.specs.Sentence.{sentence}
 use Rattle.recycler_watch.specs.declared.request.Asked.{Asked}
 use Rattle.recycler_watch.specs.declared.request.Request.{Request}
 use Rattle.recycler_watch.specs.declared.request.Request.TheVariants.{Graph}
+
+-- The walk that is asked: the run of the script at its opening, with the seed and the most drawn turns that the words name.
+pub record IsAsked (script : Contents) (asked : Asked) (walk : Watched) : Type 0 where
+  pub script : walk.script ≡ script
+  pub rule : walk.rule ≡ record { left = lengths_of script; generator = generator_of asked.seed; turns = asked.turns }
+  pub rest : walk.rest ≡ walk.rule
+  pub stage : walk.stage ≡ Playing
+  pub world : walk.world ≡ opened (config_of script)
+  pub watched : IsWatched walk
 
 -- a number in five places, or as many more as it takes
 abbrev pub placed : ℕ → List ℕ

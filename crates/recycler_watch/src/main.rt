@@ -1,5 +1,6 @@
 //! See the collector work: a script is played as `recycler play` does, and what happens is shown, move by move.
-//! The run is that of `rec_watch`, which proves it to be the one that `play` and `settle` make, and `walk_asked` opens it as it is asked.
+//! The run is that of `rec_watch`, which proves it to be the one that `play` and `settle` make, and `Teller::open` opens it as it is
+//! asked.
 //! What `trace` writes of it is a function of its moves (`Teller::tell`). Of data, graphs and pages no more is promised than that they
 //! are written safely, and that the program ends.
 #![tactic(auto)]
@@ -13,19 +14,11 @@ mod state;
 mod tell;
 mod words;
 
-ghost use Rattle.std.specs.Prelude.{◌≡◌, IfOk};
-ghost use Rattle.rec_core.specs.Core.{opened};
-ghost use Rattle.rec_play.specs.Numbers.{config_of};
-ghost use Rattle.rec_play.specs.Played.{lengths_of};
-ghost use Rattle.rec_play.specs.Playing.{generator_of};
-ghost use Rattle.rec_watch.specs.Watched.{IsWatched};
-ghost use Rattle.rec_watch.specs.declared.stage.Stage.TheVariants.{Playing};
+ghost use Rattle.std.specs.Prelude.{◌≡◌};
 
 use anyhow::Context;
 use clap::ArgMatches;
 use rec_script::{MOST_BYTES, Script, ScriptError, read};
-use rec_watch::Walk;
-use rec_world::OpenError;
 use refusal::refusal;
 use request::{Asked, Request, command, what_is_asked};
 use std::alloc::Global;
@@ -112,35 +105,10 @@ fn tell_script<R: Files + Print + Eprint>(
     script: &Script,
     terminal: Option<Stderr>,
 ) -> anyhow::Result<u8> {
-    match walk_asked(alloc, asked, script) {
-        Ok(walk) => {
-            let mut teller = Teller {
-                alloc,
-                asked,
-                walk,
-                moves: 0,
-                terminal,
-            };
-            watch(rt, &mut teller)
-        }
+    match Teller::open(alloc, asked, script, terminal) {
+        Ok(mut teller) => watch(rt, &mut teller),
         Err(error) => Err(error.into()),
     }
-}
-
-// The walk that is asked: the run of the script at its opening, with the seed and the most drawn turns that the words name.
-fn walk_asked<'a>(
-    alloc: Global,
-    asked: Asked<'_>,
-    script: &'a Script,
-) -> Result<Walk<'a>, OpenError>
-    ensures script { IfOk result (λ walk. walk.script ≡ script.now) }
-    ensures rule { IfOk result (λ walk. walk.rule ≡ record { left = lengths_of script.now; generator = generator_of asked.entry.seed; turns = asked.entry.turns }) }
-    ensures rest { IfOk result (λ walk. walk.rest ≡ walk.rule) }
-    ensures stage { IfOk result (λ walk. walk.stage ≡ Playing) }
-    ensures world { IfOk result (λ walk. walk.world ≡ opened (config_of script.now)) }
-    ensures watched { IfOk result IsWatched }
-{
-    Walk::open(alloc, script, asked.seed, asked.turns)
 }
 
 // Tells a run, and says how many moves it has where it ends before the window.

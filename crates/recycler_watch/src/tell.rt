@@ -7,7 +7,7 @@ ghost use Rattle.std.specs.Io.KnownBytes.{Appends};
 ghost use Rattle.rec_watch.specs.Stages.{IsOver};
 ghost use Rattle.recycler_watch.specs.Seen.{seen, seen_of};
 ghost use Rattle.recycler_watch.specs.Data.{answered_words, asked_words, asker, data_line, first_line, line_seen, others};
-ghost use Rattle.recycler_watch.specs.Told.{before_window, HasPassed, HasTold, IsMade, IsNext, IsTrace, move_text};
+ghost use Rattle.recycler_watch.specs.Told.{before_window, HasPassed, HasTold, IsAsked, IsMade, IsNext, IsTrace, move_text};
 ghost use Rattle.recycler_watch.specs.declared.request.Request.TheVariants.{Text};
 
 use crate::graph::write_graph;
@@ -16,7 +16,9 @@ use crate::page_text::{HEAD, TAIL};
 use crate::request::{Asked, Request};
 use crate::state::{Collector, Lists, Mutator, Slot, State};
 use crate::words::{answer_text, command_text, says};
+use rec_script::Script;
 use rec_watch::{Move, Walk};
+use rec_world::OpenError;
 use serde::Serialize;
 use std::alloc::{AllocError as NoMemory, Global};
 use std::io::{self, Write};
@@ -65,6 +67,29 @@ pub struct Teller<'a> {
     pub walk: Walk<'a>,
     pub moves: u64,
     pub terminal: Option<Stderr>,
+}
+
+impl<'a> Teller<'a> {
+    /// The run of the script at its opening, with the seed and the most drawn turns that are asked. No move is made yet.
+    pub fn open(
+        alloc: Global,
+        asked: Asked<'a>,
+        script: &'a Script,
+        terminal: Option<Stderr>,
+    ) -> Result<Teller<'a>, OpenError>
+        ensures walk { IfOk result (λ teller. IsAsked script.now asked.entry teller.walk) }
+        ensures asked { IfOk result (λ teller. teller.asked ≡ asked.entry) }
+        ensures begins { IfOk result (λ teller. teller.moves ≡ 0) }
+    {
+        let walk = Walk::open(alloc, script, asked.seed, asked.turns)?;
+        Ok(Teller {
+            alloc,
+            asked,
+            walk,
+            moves: 0,
+            terminal,
+        })
+    }
 }
 
 impl Teller<'_> {
