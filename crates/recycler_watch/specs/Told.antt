@@ -19,12 +19,12 @@ use Rattle.recycler_watch.specs.declared.request.Request.{Request}
 use Rattle.recycler_watch.specs.declared.request.Request.TheVariants.{Graph}
 
 -- The walk that is asked: the run of the script at its opening, with the seed and the most drawn turns that the words name.
-pub record IsAsked (script : Contents) (asked : Asked) (walk : Watched) : Type 0 where
-  pub script : walk.script ≡ script
-  pub rule : walk.rule ≡ record { left = lengths_of script; generator = generator_of asked.seed; turns = asked.turns }
+pub record IsAsked (contents : Contents) (asked : Asked) (walk : Watched) : Type 0 where
+  pub script : walk.script ≡ contents
+  pub rule : walk.rule ≡ record { left = lengths_of contents; generator = generator_of asked.seed; turns = asked.turns }
   pub rest : walk.rest ≡ walk.rule
   pub stage : walk.stage ≡ Playing
-  pub world : walk.world ≡ opened (config_of script)
+  pub world : walk.world ≡ opened (config_of contents)
   pub watched : IsWatched walk
 
 -- a number in five places, or as many more as it takes
