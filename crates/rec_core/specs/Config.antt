@@ -1,7 +1,7 @@
 -- The numbers that a heap can have, and the commands that fit them.
-use Rattle.std.specs.Prelude.{ℕ, ◌<◌, ◌≤◌, ◌^◌}
+use Rattle.std.specs.Prelude.{ℕ, ◌<◌, ◌≤◌}
 use Rattle.rec_model.specs.declared.command.Cmd.{Cmd}
-use Rattle.rec_model.specs.declared.command.Cmd.TheVariants as commands
+use Rattle.rec_model.specs.Operands as operands
 use Rattle.rec_mutator.specs.declared.work.Work.{Work}
 use Rattle.rec_mutator.specs.declared.work.Work.TheVariants as works
 use Rattle.rec_core.specs.declared.config.Config.{Config}
@@ -48,14 +48,7 @@ pub record IsFirstWrong (config : Config) (part : Part) : Type 0 where
 
 -- the registers and the field that a command names are there
 abbrev pub HasOperands : Config → Cmd → Type 0
-HasOperands config (commands.New reg label) = reg < config.registers
-HasOperands config (commands.Leaf reg label) = reg < config.registers
-HasOperands config (commands.Null reg) = reg < config.registers
-HasOperands config (commands.Copy dst src) = (dst < config.registers) × (src < config.registers)
-HasOperands config (commands.Get dst src f) = (dst < config.registers) × (src < config.registers) × (f < config.fields)
-HasOperands config (commands.Put src f val) = (src < config.registers) × (f < config.fields) × (val < config.registers)
-HasOperands config (commands.Value reg) = reg < config.registers
-HasOperands config (commands.Same a b) = (a < config.registers) × (b < config.registers)
+HasOperands config cmd = operands.HasOperands config.registers config.fields cmd
 
 -- a mutator's number: they are numbered from 1
 abbrev pub IsMutator : Config → ℕ → Type 0
@@ -72,6 +65,5 @@ IsWork config works.Poll = Unit {0}
 
 -- the label of an allocation fits a header
 abbrev pub HasLabel : Work → Type 0
-HasLabel (works.Command (commands.New reg label)) = label < 2 ^ 32
-HasLabel (works.Command (commands.Leaf reg label)) = label < 2 ^ 32
-HasLabel _ = Unit {0}
+HasLabel (works.Command cmd) = operands.HasLabel cmd
+HasLabel works.Poll = Unit {0}

@@ -49,30 +49,7 @@ impl Config {
     pub fn has_operands(&self, cmd: &Cmd) -> bool
         ensures { IsTrue result ↔ HasOperands self.now cmd.now }
     {
-        match *cmd {
-            Cmd::New { reg, .. } | Cmd::Leaf { reg, .. } | Cmd::Null { reg } | Cmd::Value { reg } =>
-                self.has_register(reg),
-            Cmd::Copy { dst, src } => self.has_register(dst) && self.has_register(src),
-            Cmd::Get { dst, src, field } => {
-                self.has_register(dst) && self.has_register(src) && self.has_field(field)
-            }
-            Cmd::Put { src, field, val } => {
-                self.has_register(src) && self.has_field(field) && self.has_register(val)
-            }
-            Cmd::Same { a, b } => self.has_register(a) && self.has_register(b),
-        }
-    }
-
-    fn has_register(&self, r: u8) -> bool
-        ensures { IsTrue result ↔ (r < self.now.registers) }
-    {
-        u32::from(r) < self.registers
-    }
-
-    fn has_field(&self, field: u8) -> bool
-        ensures { IsTrue result ↔ (field < self.now.fields) }
-    {
-        u32::from(field) < self.fields
+        cmd.has_operands(self.registers as usize, self.fields as usize)
     }
 }
 

@@ -23,6 +23,7 @@ pub mod Names
 pub mod Naming
 pub mod Numbered
 pub mod Opened
+pub mod Operands
 pub mod Places
 pub mod Positions
 pub mod Reaching

@@ -7,6 +7,7 @@ pub mod Listing
 pub mod Moves
 pub mod Numbering
 pub mod Opened
+pub mod Operands
 pub mod Pending
 pub mod Reach
 pub mod References

@@ -1,3 +1,6 @@
+ghost use Rattle.std.specs.Prelude.{◌↔◌, IsTrue};
+ghost use Rattle.rec_model.specs.Operands.{HasOperands};
+
 /// What a mutator asks of the heap. Registers are numbered from 0, and so are the fields of an object.
 #[derive(Clone, Copy, Debug, PartialEq, Eq)]
 pub enum Cmd {
@@ -17,4 +20,26 @@ pub enum Cmd {
     Value { reg: u8 },
     /// Tell whether both registers name one object, or both are null.
     Same { a: u8, b: u8 },
+}
+
+impl Cmd {
+    /// Whether the registers and the field that it names are there, where there are so many.
+    #[inline(always)]
+    pub fn has_operands(&self, registers: usize, fields: usize) -> bool
+        ensures { IsTrue result ↔ HasOperands registers fields self.now }
+    {
+        let is_register = |r: u8| usize::from(r) < registers;
+        match *self {
+            Cmd::New { reg, .. } | Cmd::Leaf { reg, .. } | Cmd::Null { reg } | Cmd::Value { reg } =>
+                is_register(reg),
+            Cmd::Copy { dst, src } => is_register(dst) && is_register(src),
+            Cmd::Get { dst, src, field } => is_register(dst)
+                && is_register(src)
+                && usize::from(field) < fields,
+            Cmd::Put { src, field, val } => is_register(src)
+                && usize::from(field) < fields
+                && is_register(val),
+            Cmd::Same { a, b } => is_register(a) && is_register(b),
+        }
+    }
 }

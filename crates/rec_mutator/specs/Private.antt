@@ -5,6 +5,7 @@ use Rattle.rec_word.specs.declared.stamps.Stamp.{Stamp}
 use Rattle.rec_model.specs.declared.command.Cmd.{Cmd}
 use Rattle.rec_model.specs.declared.command.Cmd.TheVariants as commands
 use Rattle.rec_model.specs.Asking.{allocation}
+use Rattle.rec_model.specs.Operands as operands
 use Rattle.rec_log.specs.declared.contents.Contents.{Contents}
 use Rattle.rec_mutator.specs.declared.made.Made.{Made}
 use Rattle.rec_mutator.specs.declared.phase.Phase.{Phase}
@@ -107,14 +108,7 @@ answer_of p = answer_at p.phase
 
 -- the registers and fields that a command names are there
 abbrev pub HasOperands : Private → Cmd → Type 0
-HasOperands p (commands.New reg label) = reg < length p.registers
-HasOperands p (commands.Leaf reg label) = reg < length p.registers
-HasOperands p (commands.Null reg) = reg < length p.registers
-HasOperands p (commands.Copy dst src) = (dst < length p.registers) × (src < length p.registers)
-HasOperands p (commands.Get dst src f) = (dst < length p.registers) × (src < length p.registers) × (f < p.fields)
-HasOperands p (commands.Put src f val) = (src < length p.registers) × (f < p.fields) × (val < length p.registers)
-HasOperands p (commands.Value reg) = reg < length p.registers
-HasOperands p (commands.Same a b) = (a < length p.registers) × (b < length p.registers)
+HasOperands p cmd = operands.HasOperands (length p.registers) p.fields cmd
 
 -- a poll, or a command whose operands are there
 abbrev pub IsValid : Private → Work → Type 0

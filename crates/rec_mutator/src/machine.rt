@@ -296,30 +296,7 @@ impl Machine {
     pub fn valid(&self, cmd: &Cmd) -> bool
         ensures { IsTrue result ↔ HasOperands self.now cmd.now }
     {
-        match *cmd {
-            Cmd::New { reg, .. } | Cmd::Leaf { reg, .. } | Cmd::Null { reg } | Cmd::Value { reg } =>
-                self.has_register(reg),
-            Cmd::Copy { dst, src } => self.has_register(dst) && self.has_register(src),
-            Cmd::Get { dst, src, field } => {
-                self.has_register(dst) && self.has_register(src) && self.has_field(field)
-            }
-            Cmd::Put { src, field, val } => {
-                self.has_register(src) && self.has_field(field) && self.has_register(val)
-            }
-            Cmd::Same { a, b } => self.has_register(a) && self.has_register(b),
-        }
-    }
-
-    fn has_register(&self, r: u8) -> bool
-        ensures { IsTrue result ↔ (r < length self.now.registers) }
-    {
-        usize::from(r) < self.frame.registers().len()
-    }
-
-    fn has_field(&self, field: u8) -> bool
-        ensures { IsTrue result ↔ (field < self.now.fields) }
-    {
-        field < self.fields
+        cmd.has_operands(self.frame.registers().len(), usize::from(self.fields))
     }
 
     // The operation of a work's first step.

@@ -9,12 +9,12 @@ use Rattle.std.proofs.lemmas.Option.{get_or_from_slice_get, slice_get_within}
 use Rattle.rec_word.specs.declared.op.Op.{Op}
 use Rattle.rec_word.specs.declared.op.Op.TheVariants as ops
 use Rattle.rec_model.specs.declared.command.Cmd.{Cmd}
-use Rattle.rec_model.specs.declared.command.Cmd.TheVariants as commands
 use Rattle.rec_model.specs.declared.told.Told.{Told}
 use Rattle.rec_model.specs.LegalOrder.{actor, actors, Line, Event, line_by}
 use Rattle.rec_model.specs.LegalOrder.Event.{Answers, Frees, Marks}
 use Rattle.rec_model.specs.Numbering.{times}
 use Rattle.rec_model.proofs.Growing.{with_line}
+use Rattle.rec_model.proofs.Operands.{operands_same}
 use Rattle.rec_mutator.specs.Private.{Private, is_busy, HasOperands}
 use Rattle.rec_mutator.specs.declared.work.Work.TheVariants as works
 use Rattle.rec_collector.specs.Next.{next_of}
@@ -113,14 +113,7 @@ world_kept script world lines order events n so = run_kept (config_of script) so
 
 -- operands in range are those of a mutator
 operands : (script : Contents) (p : Private) (cmd : Cmd) → length p.registers ≡ script.registers → p.fields ≡ script.fields → IsCommand script.registers script.fields cmd → HasOperands p cmd × HasLabel (works.Command cmd)
-operands script p (commands.New reg label) registers fields is = (subst (λ n. reg < n) (sym registers) is.0, is.1)
-operands script p (commands.Leaf reg label) registers fields is = (subst (λ n. reg < n) (sym registers) is.0, is.1)
-operands script p (commands.Null reg) registers fields is = (subst (λ n. reg < n) (sym registers) is, tt)
-operands script p (commands.Copy dst src) registers fields is = ((subst (λ n. dst < n) (sym registers) is.0, subst (λ n. src < n) (sym registers) is.1), tt)
-operands script p (commands.Get dst src f) registers fields is = ((subst (λ n. dst < n) (sym registers) is.0, subst (λ n. src < n) (sym registers) is.1, subst (λ n. f < n) (sym fields) is.2), tt)
-operands script p (commands.Put src f val) registers fields is = ((subst (λ n. src < n) (sym registers) is.0, subst (λ n. f < n) (sym fields) is.1, subst (λ n. val < n) (sym registers) is.2), tt)
-operands script p (commands.Value reg) registers fields is = (subst (λ n. reg < n) (sym registers) is, tt)
-operands script p (commands.Same a b) registers fields is = ((subst (λ n. a < n) (sym registers) is.0, subst (λ n. b < n) (sym registers) is.1), tt)
+operands script p cmd registers fields is = (operands_same cmd (sym registers) (sym fields) is.0, is.1)
 
 -- the moves go on by a run that tells these events
 runs_on : (script : Contents) (before after : Core) (lines more : List (List Line)) (order longer : List ℕ) (events told : List Event) (n k : Naming) → Runs before after told n k → length more ≡ length script.commands

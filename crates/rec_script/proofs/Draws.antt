@@ -109,26 +109,26 @@ made_new reg number r l =
     (omega arith, (r, omega arith), omega (arith, digit reg r, length-decimal-le 3 number (omega arith) (omega arith) (omega arith), length-append (decimal reg) (32 ∷ (decimal number ++ 10 ∷ [])), length-append (decimal number) (10 ∷ [])))
 
 made_null : (reg : ℕ) → reg < 8 → IsMade (Null reg)
-made_null reg r = (omega arith, r, omega (arith, digit reg r, length-append (decimal reg) (10 ∷ [])))
+made_null reg r = (omega arith, (r, tt), omega (arith, digit reg r, length-append (decimal reg) (10 ∷ [])))
 
 made_copy : (dst src : ℕ) → dst < 8 → src < 8 → IsMade (Copy dst src)
-made_copy dst src d s = (omega arith, (d, s), omega (arith, digit dst d, digit src s, length-append (decimal dst) (32 ∷ (decimal src ++ 10 ∷ [])), length-append (decimal src) (10 ∷ [])))
+made_copy dst src d s = (omega arith, ((d, s), tt), omega (arith, digit dst d, digit src s, length-append (decimal dst) (32 ∷ (decimal src ++ 10 ∷ [])), length-append (decimal src) (10 ∷ [])))
 
 -- three words of one byte behind a word of three
 three_short : (x y z : List ℕ) → length x ≤ 1 → length y ≤ 1 → length z ≤ 1 → length (codes "get " ++ (x ++ 32 ∷ (y ++ 32 ∷ (z ++ 10 ∷ [])))) ≤ 10
 three_short x y z xs ys zs = omega (arith, xs, ys, zs, length-append x (32 ∷ (y ++ 32 ∷ (z ++ 10 ∷ []))), length-append y (32 ∷ (z ++ 10 ∷ [])), length-append z (10 ∷ []))
 
 made_get : (dst src number : ℕ) → dst < 8 → src < 8 → number < 2 → IsMade (Get dst src number)
-made_get dst src number d s f = (omega arith, (d, s, f), three_short (decimal dst) (decimal src) (decimal number) (digit dst d) (digit src s) (digit number (omega arith)))
+made_get dst src number d s f = (omega arith, ((d, s, f), tt), three_short (decimal dst) (decimal src) (decimal number) (digit dst d) (digit src s) (digit number (omega arith)))
 
 made_put : (src number val : ℕ) → src < 8 → number < 2 → val < 8 → IsMade (Put src number val)
-made_put src number val s f v = (omega arith, (s, f, v), three_short (decimal src) (decimal number) (decimal val) (digit src s) (digit number (omega arith)) (digit val v))
+made_put src number val s f v = (omega arith, ((s, f, v), tt), three_short (decimal src) (decimal number) (decimal val) (digit src s) (digit number (omega arith)) (digit val v))
 
 made_value : (reg : ℕ) → reg < 8 → IsMade (Value reg)
-made_value reg r = (omega arith, r, omega (arith, digit reg r, length-append (decimal reg) (10 ∷ [])))
+made_value reg r = (omega arith, (r, tt), omega (arith, digit reg r, length-append (decimal reg) (10 ∷ [])))
 
 made_same : (a b : ℕ) → a < 8 → b < 8 → IsMade (Same a b)
-made_same a b l r = (omega arith, (l, r), omega (arith, digit a l, digit b r, length-append (decimal a) (32 ∷ (decimal b ++ 10 ∷ [])), length-append (decimal b) (10 ∷ [])))
+made_same a b l r = (omega arith, ((l, r), tt), omega (arith, digit a l, digit b r, length-append (decimal a) (32 ∷ (decimal b ++ 10 ∷ [])), length-append (decimal b) (10 ∷ [])))
 
 either : (t : Bool) (x y : Cmd) → IsMade x → IsMade y → IsMade (if t then x else y)
 either true x y p q = p

@@ -79,12 +79,12 @@ plain_mutator = ((omega arith, (omega arith, (omega arith, (omega arith, (omega 
 pub plain_command : (registers fields : ℕ) (cmd : Cmd) → AreSmall registers fields → IsCommand registers fields cmd → ArePlain (command_line cmd)
 plain_command registers fields (New reg label) h is = ((omega arith, (omega arith, (omega arith, tt))), (plain_decimal reg (omega (arith, h.registers_fit, is.0)), (plain_decimal label (omega (arith, is.1)), tt)))
 plain_command registers fields (Leaf reg label) h is = ((omega arith, (omega arith, (omega arith, (omega arith, tt)))), (plain_decimal reg (omega (arith, h.registers_fit, is.0)), (plain_decimal label (omega (arith, is.1)), tt)))
-plain_command registers fields (Null reg) h is = ((omega arith, (omega arith, (omega arith, (omega arith, tt)))), (plain_decimal reg (omega (arith, h.registers_fit, is)), tt))
-plain_command registers fields (Copy dst src) h is = ((omega arith, (omega arith, (omega arith, (omega arith, tt)))), (plain_decimal dst (omega (arith, h.registers_fit, is.0)), (plain_decimal src (omega (arith, h.registers_fit, is.1)), tt)))
-plain_command registers fields (Get dst src field) h is = ((omega arith, (omega arith, (omega arith, tt))), (plain_decimal dst (omega (arith, h.registers_fit, is.0)), (plain_decimal src (omega (arith, h.registers_fit, is.1)), (plain_decimal field (omega (arith, h.fields_fit, is.2)), tt))))
-plain_command registers fields (Put src field val) h is = ((omega arith, (omega arith, (omega arith, tt))), (plain_decimal src (omega (arith, h.registers_fit, is.0)), (plain_decimal field (omega (arith, h.fields_fit, is.1)), (plain_decimal val (omega (arith, h.registers_fit, is.2)), tt))))
-plain_command registers fields (Value reg) h is = ((omega arith, (omega arith, (omega arith, (omega arith, (omega arith, tt))))), (plain_decimal reg (omega (arith, h.registers_fit, is)), tt))
-plain_command registers fields (Same a b) h is = ((omega arith, (omega arith, (omega arith, (omega arith, tt)))), (plain_decimal a (omega (arith, h.registers_fit, is.0)), (plain_decimal b (omega (arith, h.registers_fit, is.1)), tt)))
+plain_command registers fields (Null reg) h is = ((omega arith, (omega arith, (omega arith, (omega arith, tt)))), (plain_decimal reg (omega (arith, h.registers_fit, is.0)), tt))
+plain_command registers fields (Copy dst src) h is = ((omega arith, (omega arith, (omega arith, (omega arith, tt)))), (plain_decimal dst (omega (arith, h.registers_fit, is.0.0)), (plain_decimal src (omega (arith, h.registers_fit, is.0.1)), tt)))
+plain_command registers fields (Get dst src field) h is = ((omega arith, (omega arith, (omega arith, tt))), (plain_decimal dst (omega (arith, h.registers_fit, is.0.0)), (plain_decimal src (omega (arith, h.registers_fit, is.0.1)), (plain_decimal field (omega (arith, h.fields_fit, is.0.2)), tt))))
+plain_command registers fields (Put src field val) h is = ((omega arith, (omega arith, (omega arith, tt))), (plain_decimal src (omega (arith, h.registers_fit, is.0.0)), (plain_decimal field (omega (arith, h.fields_fit, is.0.1)), (plain_decimal val (omega (arith, h.registers_fit, is.0.2)), tt))))
+plain_command registers fields (Value reg) h is = ((omega arith, (omega arith, (omega arith, (omega arith, (omega arith, tt))))), (plain_decimal reg (omega (arith, h.registers_fit, is.0)), tt))
+plain_command registers fields (Same a b) h is = ((omega arith, (omega arith, (omega arith, (omega arith, tt)))), (plain_decimal a (omega (arith, h.registers_fit, is.0.0)), (plain_decimal b (omega (arith, h.registers_fit, is.0.1)), tt)))
 
 plain_body : (version registers fields : ℕ) → AreSmall registers fields → (line : List (List ℕ)) → IsBodyLine version registers fields line → ArePlain line
 plain_body version registers fields h line (inl e) = subst ArePlain (sym e) plain_mutator

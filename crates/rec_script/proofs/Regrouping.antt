@@ -43,18 +43,18 @@ command_of line =
 pub command_again : (registers fields : ℕ) (cmd : Cmd) → AreSmall registers fields → IsCommand registers fields cmd → command_of (command_line cmd) ≡ cmd
 command_again r f (New reg label) h is = ap (λ (n : ℕ). New n (digits_value 10 (decimal label))) (value reg (omega (arith, h.registers_fit, is.0))) ∙ ap (λ (n : ℕ). New reg n) (value label (omega (arith, is.1)))
 command_again r f (Leaf reg label) h is = ap (λ (n : ℕ). Leaf n (digits_value 10 (decimal label))) (value reg (omega (arith, h.registers_fit, is.0))) ∙ ap (λ (n : ℕ). Leaf reg n) (value label (omega (arith, is.1)))
-command_again r f (Null reg) h is = ap Null (value reg (omega (arith, h.registers_fit, is)))
-command_again r f (Copy dst src) h is = ap (λ (n : ℕ). Copy n (digits_value 10 (decimal src))) (value dst (omega (arith, h.registers_fit, is.0))) ∙ ap (λ (n : ℕ). Copy dst n) (value src (omega (arith, h.registers_fit, is.1)))
+command_again r f (Null reg) h is = ap Null (value reg (omega (arith, h.registers_fit, is.0)))
+command_again r f (Copy dst src) h is = ap (λ (n : ℕ). Copy n (digits_value 10 (decimal src))) (value dst (omega (arith, h.registers_fit, is.0.0))) ∙ ap (λ (n : ℕ). Copy dst n) (value src (omega (arith, h.registers_fit, is.0.1)))
 command_again r f (Get dst src field) h is =
-    ap (λ (n : ℕ). Get n (digits_value 10 (decimal src)) (digits_value 10 (decimal field))) (value dst (omega (arith, h.registers_fit, is.0)))
-    ∙ ap (λ (n : ℕ). Get dst n (digits_value 10 (decimal field))) (value src (omega (arith, h.registers_fit, is.1)))
-    ∙ ap (λ (n : ℕ). Get dst src n) (value field (omega (arith, h.fields_fit, is.2)))
+    ap (λ (n : ℕ). Get n (digits_value 10 (decimal src)) (digits_value 10 (decimal field))) (value dst (omega (arith, h.registers_fit, is.0.0)))
+    ∙ ap (λ (n : ℕ). Get dst n (digits_value 10 (decimal field))) (value src (omega (arith, h.registers_fit, is.0.1)))
+    ∙ ap (λ (n : ℕ). Get dst src n) (value field (omega (arith, h.fields_fit, is.0.2)))
 command_again r f (Put src field val) h is =
-    ap (λ (n : ℕ). Put n (digits_value 10 (decimal field)) (digits_value 10 (decimal val))) (value src (omega (arith, h.registers_fit, is.0)))
-    ∙ ap (λ (n : ℕ). Put src n (digits_value 10 (decimal val))) (value field (omega (arith, h.fields_fit, is.1)))
-    ∙ ap (λ (n : ℕ). Put src field n) (value val (omega (arith, h.registers_fit, is.2)))
-command_again r f (Value reg) h is = ap Value (value reg (omega (arith, h.registers_fit, is)))
-command_again r f (Same a b) h is = ap (λ (n : ℕ). Same n (digits_value 10 (decimal b))) (value a (omega (arith, h.registers_fit, is.0))) ∙ ap (λ (n : ℕ). Same a n) (value b (omega (arith, h.registers_fit, is.1)))
+    ap (λ (n : ℕ). Put n (digits_value 10 (decimal field)) (digits_value 10 (decimal val))) (value src (omega (arith, h.registers_fit, is.0.0)))
+    ∙ ap (λ (n : ℕ). Put src n (digits_value 10 (decimal val))) (value field (omega (arith, h.fields_fit, is.0.1)))
+    ∙ ap (λ (n : ℕ). Put src field n) (value val (omega (arith, h.registers_fit, is.0.2)))
+command_again r f (Value reg) h is = ap Value (value reg (omega (arith, h.registers_fit, is.0)))
+command_again r f (Same a b) h is = ap (λ (n : ℕ). Same n (digits_value 10 (decimal b))) (value a (omega (arith, h.registers_fit, is.0.0))) ∙ ap (λ (n : ℕ). Same a n) (value b (omega (arith, h.registers_fit, is.0.1)))
 
 -- a line begins with the letters of `mutator`
 abbrev pub is_mutator : List (List ℕ) → Bool

@@ -149,12 +149,12 @@ numeral_word n fits = (decimal_nonempty n fits, from (decimal n) (digits_of n fi
 pub command_words : (registers fields : ℕ) (cmd : Cmd) → AreSmall registers fields → IsCommand registers fields cmd → AreWords (command_line cmd)
 command_words registers fields (New reg label) h is = ((omega arith, (omega arith, (omega arith, (omega arith, tt)))), (numeral_word reg (omega (arith, h.registers_fit, is.0)), (numeral_word label (omega (arith, is.1)), tt)))
 command_words registers fields (Leaf reg label) h is = ((omega arith, (omega arith, (omega arith, (omega arith, (omega arith, tt))))), (numeral_word reg (omega (arith, h.registers_fit, is.0)), (numeral_word label (omega (arith, is.1)), tt)))
-command_words registers fields (Null reg) h is = ((omega arith, (omega arith, (omega arith, (omega arith, (omega arith, tt))))), (numeral_word reg (omega (arith, h.registers_fit, is)), tt))
-command_words registers fields (Copy dst src) h is = ((omega arith, (omega arith, (omega arith, (omega arith, (omega arith, tt))))), (numeral_word dst (omega (arith, h.registers_fit, is.0)), (numeral_word src (omega (arith, h.registers_fit, is.1)), tt)))
-command_words registers fields (Get dst src field) h is = ((omega arith, (omega arith, (omega arith, (omega arith, tt)))), (numeral_word dst (omega (arith, h.registers_fit, is.0)), (numeral_word src (omega (arith, h.registers_fit, is.1)), (numeral_word field (omega (arith, h.fields_fit, is.2)), tt))))
-command_words registers fields (Put src field val) h is = ((omega arith, (omega arith, (omega arith, (omega arith, tt)))), (numeral_word src (omega (arith, h.registers_fit, is.0)), (numeral_word field (omega (arith, h.fields_fit, is.1)), (numeral_word val (omega (arith, h.registers_fit, is.2)), tt))))
-command_words registers fields (Value reg) h is = ((omega arith, (omega arith, (omega arith, (omega arith, (omega arith, (omega arith, tt)))))), (numeral_word reg (omega (arith, h.registers_fit, is)), tt))
-command_words registers fields (Same a b) h is = ((omega arith, (omega arith, (omega arith, (omega arith, (omega arith, tt))))), (numeral_word a (omega (arith, h.registers_fit, is.0)), (numeral_word b (omega (arith, h.registers_fit, is.1)), tt)))
+command_words registers fields (Null reg) h is = ((omega arith, (omega arith, (omega arith, (omega arith, (omega arith, tt))))), (numeral_word reg (omega (arith, h.registers_fit, is.0)), tt))
+command_words registers fields (Copy dst src) h is = ((omega arith, (omega arith, (omega arith, (omega arith, (omega arith, tt))))), (numeral_word dst (omega (arith, h.registers_fit, is.0.0)), (numeral_word src (omega (arith, h.registers_fit, is.0.1)), tt)))
+command_words registers fields (Get dst src field) h is = ((omega arith, (omega arith, (omega arith, (omega arith, tt)))), (numeral_word dst (omega (arith, h.registers_fit, is.0.0)), (numeral_word src (omega (arith, h.registers_fit, is.0.1)), (numeral_word field (omega (arith, h.fields_fit, is.0.2)), tt))))
+command_words registers fields (Put src field val) h is = ((omega arith, (omega arith, (omega arith, (omega arith, tt)))), (numeral_word src (omega (arith, h.registers_fit, is.0.0)), (numeral_word field (omega (arith, h.fields_fit, is.0.1)), (numeral_word val (omega (arith, h.registers_fit, is.0.2)), tt))))
+command_words registers fields (Value reg) h is = ((omega arith, (omega arith, (omega arith, (omega arith, (omega arith, (omega arith, tt)))))), (numeral_word reg (omega (arith, h.registers_fit, is.0)), tt))
+command_words registers fields (Same a b) h is = ((omega arith, (omega arith, (omega arith, (omega arith, (omega arith, tt))))), (numeral_word a (omega (arith, h.registers_fit, is.0.0)), (numeral_word b (omega (arith, h.registers_fit, is.0.1)), tt)))
 
 -- the line of a command counts
 counts : (cmd : Cmd) → cond (is_counted (command_line cmd)) (command_line cmd ∷ []) [] ≡ command_line cmd ∷ []

@@ -66,12 +66,12 @@ none_wrong (limit ∷ limits) (n ∷ ns) kind right (inr behind) = none_wrong li
 right_operands : (r f : ℕ) (cmd : Cmd) → r ≤ 64 → f ≤ 16 → IsCommand r f cmd → AreRight (limits_of r f cmd) (operands_of cmd)
 right_operands r f (New reg label) most-r most-f is = ((is.0, omega (arith, is.0)), ((is.1, is.1), tt))
 right_operands r f (Leaf reg label) most-r most-f is = ((is.0, omega (arith, is.0)), ((is.1, is.1), tt))
-right_operands r f (Null reg) most-r most-f is = ((is, omega (arith, is)), tt)
-right_operands r f (Copy dst src) most-r most-f is = ((is.0, omega (arith, is.0)), ((is.1, omega (arith, is.1)), tt))
-right_operands r f (Get dst src field) most-r most-f is = ((is.0, omega (arith, is.0)), ((is.1, omega (arith, is.1)), ((is.2, omega (arith, is.2)), tt)))
-right_operands r f (Put src field val) most-r most-f is = ((is.0, omega (arith, is.0)), ((is.1, omega (arith, is.1)), ((is.2, omega (arith, is.2)), tt)))
-right_operands r f (Value reg) most-r most-f is = ((is, omega (arith, is)), tt)
-right_operands r f (Same a b) most-r most-f is = ((is.0, omega (arith, is.0)), ((is.1, omega (arith, is.1)), tt))
+right_operands r f (Null reg) most-r most-f is = ((is.0, omega (arith, is.0)), tt)
+right_operands r f (Copy dst src) most-r most-f is = ((is.0.0, omega (arith, is.0.0)), ((is.0.1, omega (arith, is.0.1)), tt))
+right_operands r f (Get dst src field) most-r most-f is = ((is.0.0, omega (arith, is.0.0)), ((is.0.1, omega (arith, is.0.1)), ((is.0.2, omega (arith, is.0.2)), tt)))
+right_operands r f (Put src field val) most-r most-f is = ((is.0.0, omega (arith, is.0.0)), ((is.0.1, omega (arith, is.0.1)), ((is.0.2, omega (arith, is.0.2)), tt)))
+right_operands r f (Value reg) most-r most-f is = ((is.0, omega (arith, is.0)), tt)
+right_operands r f (Same a b) most-r most-f is = ((is.0.0, omega (arith, is.0.0)), ((is.0.1, omega (arith, is.0.1)), tt))
 
 -- ---- a script's text has no such line
 

@@ -6,6 +6,7 @@ use Rattle.std.specs.List.{flat_map}
 use Rattle.std.specs.Str.{IsUtf8}
 use Rattle.rec_model.specs.declared.command.Cmd.{Cmd}
 use Rattle.rec_model.specs.declared.command.Cmd.TheVariants.{New, Leaf, Null, Copy, Get, Put, Value, Same}
+use Rattle.rec_model.specs.Operands.{HasOperands, HasLabel}
 use Rattle.rec_script.specs.declared.error.Kind.{Kind}
 use Rattle.rec_script.specs.declared.error.Kind.TheVariants.{TooLong, NotUtf8, NoHeader, BadHeap, NoMutator, BadCommand, TooManyMutators, TooManyCommands, BadNumber, Register, Field}
 use Rattle.rec_script.specs.Lines.{lines, words, is_counted, counted, AreUtf8}
@@ -20,14 +21,7 @@ pub record Contents : Type 0 where
 
 -- the operands of a command are in range
 abbrev pub IsCommand : (registers fields : ℕ) → Cmd → Type 0
-IsCommand registers fields (New reg label) = (reg < registers) × (label < 2 ^ 32)
-IsCommand registers fields (Leaf reg label) = (reg < registers) × (label < 2 ^ 32)
-IsCommand registers fields (Null reg) = reg < registers
-IsCommand registers fields (Copy dst src) = (dst < registers) × (src < registers)
-IsCommand registers fields (Get dst src field) = (dst < registers) × (src < registers) × (field < fields)
-IsCommand registers fields (Put src field val) = (src < registers) × (field < fields) × (val < registers)
-IsCommand registers fields (Value reg) = reg < registers
-IsCommand registers fields (Same a b) = (a < registers) × (b < registers)
+IsCommand registers fields cmd = HasOperands registers fields cmd × HasLabel cmd
 
 -- the version that a command came with
 abbrev pub since : Cmd → ℕ

@@ -4,8 +4,8 @@ use Rattle.std.proofs.lemmas.List.{append-nil, append_cancel_left, length-append
 use Rattle.std.proofs.lemmas.Grind.{flat_map-append}
 use Rattle.rec_model.specs.LegalOrder.{Line}
 use Rattle.rec_model.specs.declared.command.Cmd.{Cmd}
-use Rattle.rec_model.specs.declared.command.Cmd.TheVariants as commands
 use Rattle.rec_model.specs.declared.told.Told.{Told}
+use Rattle.rec_model.proofs.Operands.{operands_same}
 use Rattle.rec_mutator.specs.Private.{HasOperands, KeepsSizes, Private}
 use Rattle.rec_mutator.specs.declared.work.Work.{Work}
 use Rattle.rec_mutator.specs.declared.work.Work.TheVariants as works
@@ -106,25 +106,8 @@ commanded cmd told w v noted room some work is tells sizes = record {
 
 -- who has its registers and fields may be asked the same
 pub operands_kept : (p q : Private) → KeepsSizes p q → (cmd : Cmd) → HasOperands p cmd → HasOperands q cmd
-operands_kept p q k (commands.New reg label) has = subst (λ n. reg < n) (sym k.registers) has
-operands_kept p q k (commands.Leaf reg label) has = subst (λ n. reg < n) (sym k.registers) has
-operands_kept p q k (commands.Null reg) has = subst (λ n. reg < n) (sym k.registers) has
-operands_kept p q k (commands.Copy dst src) has = subst (λ n. (dst < n) × (src < n)) (sym k.registers) has
-operands_kept p q k (commands.Get dst src f) has = (subst (λ n. dst < n) (sym k.registers) has.0, subst (λ n. src < n) (sym k.registers) has.1, subst (λ n. f < n) (sym k.fields) has.2)
-operands_kept p q k (commands.Put src f val) has = (subst (λ n. src < n) (sym k.registers) has.0, subst (λ n. f < n) (sym k.fields) has.1, subst (λ n. val < n) (sym k.registers) has.2)
-operands_kept p q k (commands.Value reg) has = subst (λ n. reg < n) (sym k.registers) has
-operands_kept p q k (commands.Same a b) has = subst (λ n. (a < n) × (b < n)) (sym k.registers) has
+operands_kept p q k cmd has = operands_same cmd (sym k.registers) (sym k.fields) has
 
--- a script's command may be asked of who has the script's registers and fields
-script_operands : (registers fields : ℕ) (p : Private) → length p.registers ≡ registers → p.fields ≡ fields → (cmd : Cmd) → IsCommand registers fields cmd → HasOperands p cmd
-script_operands registers fields p r f (commands.New reg label) is = subst (λ n. reg < n) (sym r) is.0
-script_operands registers fields p r f (commands.Leaf reg label) is = subst (λ n. reg < n) (sym r) is.0
-script_operands registers fields p r f (commands.Null reg) is = subst (λ n. reg < n) (sym r) is
-script_operands registers fields p r f (commands.Copy dst src) is = subst (λ n. (dst < n) × (src < n)) (sym r) is
-script_operands registers fields p r f (commands.Get dst src field) is = (subst (λ n. dst < n) (sym r) is.0, subst (λ n. src < n) (sym r) is.1, subst (λ n. field < n) (sym f) is.2)
-script_operands registers fields p r f (commands.Put src field val) is = (subst (λ n. src < n) (sym r) is.0, subst (λ n. field < n) (sym f) is.1, subst (λ n. val < n) (sym r) is.2)
-script_operands registers fields p r f (commands.Value reg) is = subst (λ n. reg < n) (sym r) is
-script_operands registers fields p r f (commands.Same a b) is = subst (λ n. (a < n) × (b < n)) (sym r) is
-
+-- a script's commands may be asked of who has the script's registers and fields
 pub all_operands : (registers fields : ℕ) (p : Private) (cmds : List Cmd) → length p.registers ≡ registers → p.fields ≡ fields → All (IsCommand registers fields) cmds → All (HasOperands p) cmds
-all_operands registers fields p cmds r f all = λ k d lt. script_operands registers fields p r f _ (all k d lt)
+all_operands registers fields p cmds r f all = λ k d lt. operands_same _ (sym r) (sym f) (all k d lt).0

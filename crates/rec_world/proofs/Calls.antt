@@ -13,13 +13,12 @@ use Rattle.rec_word.specs.declared.op.Op.{Op}
 use Rattle.rec_word.specs.declared.op.Op.TheVariants as ops
 use Rattle.rec_word.specs.Mailbox.{crossing_word}
 use Rattle.rec_word.specs.declared.mailbox.Mailbox.TheVariants.{Spare}
-use Rattle.rec_model.specs.declared.command.Cmd.{Cmd}
-use Rattle.rec_model.specs.declared.command.Cmd.TheVariants as commands
 use Rattle.rec_log.specs.declared.contents.Contents.{Contents}
 use Rattle.rec_model.proofs.Opened.{map-replicate}
+use Rattle.rec_model.proofs.Operands.{operands_same}
 use Rattle.rec_mutator.specs.Causes.{is_giving}
 use Rattle.rec_mutator.specs.Next.{next_of}
-use Rattle.rec_mutator.specs.Private.{Private, is_busy, IsValid, HasOperands as HasOwnOperands}
+use Rattle.rec_mutator.specs.Private.{Private, is_busy, IsValid}
 use Rattle.rec_mutator.specs.Took.{begun_of, took_of, step_of, swapped_of, left_of}
 use Rattle.rec_mutator.specs.declared.made.Made.{Made}
 use Rattle.rec_mutator.specs.declared.phase.Phase as phases
@@ -27,7 +26,7 @@ use Rattle.rec_mutator.specs.declared.work.Work.{Work}
 use Rattle.rec_mutator.specs.declared.work.Work.TheVariants as works
 use Rattle.rec_collector.specs.Private as collectors
 use Rattle.rec_core.specs.Cells.{Cells, cell, with_cell, births_of}
-use Rattle.rec_core.specs.Config.{IsConfig, IsMutator, HasOperands, IsWork}
+use Rattle.rec_core.specs.Config.{IsConfig, IsMutator, IsWork}
 use Rattle.rec_core.specs.Core.{Core, cells_of, mutator, box, nobody, opened, opened_mutators, spare_of}
 use Rattle.rec_core.specs.Kept.{IsKept, entries_made}
 use Rattle.rec_core.specs.Moves.{Move, after_move, Fits, begun, stepped, found_by, looked_at}
@@ -73,17 +72,9 @@ mutator_read w t i p shaped is at read =
     let all : length w.mutators ≡ w.config.mutators = shaped.mutators in
     read ∙ ap (λ n. slice_index_or w.mutators (n - 1) p) at ∙ get_or_default w.mutators (t - 1) p nobody (omega (arith, is.0, is.1))
 
--- the operands of a command that fits these numbers
-operands_fit : (p : Private) (config : Config) (cmd : Cmd) → length p.registers ≡ config.registers → p.fields ≡ config.fields → HasOperands config cmd → HasOwnOperands p cmd
-operands_fit p config (commands.Copy dst src) registers fields is = (omega (arith, is.0), omega (arith, is.1))
-operands_fit p config (commands.Get dst src f) registers fields is = (omega (arith, is.0), omega (arith, is.1), omega (arith, is.2))
-operands_fit p config (commands.Put src f val) registers fields is = (omega (arith, is.0), omega (arith, is.1), omega (arith, is.2))
-operands_fit p config (commands.Same a b) registers fields is = (omega (arith, is.0), omega (arith, is.1))
-operands_fit p config _ registers fields is = omega (arith, is)
-
 -- a work that fits the heap fits the mutator
 pub own_work : (w : Core) (t : ℕ) (work : Work) → IsKept w → IsMutator w.config t → IsWork w.config work → IsValid (mutator w t) work
-own_work w t (works.Command cmd) kept is fits = let own = (actor_of w t kept is).own in operands_fit (mutator w t) w.config cmd own.registers own.fields fits
+own_work w t (works.Command cmd) kept is fits = let own = (actor_of w t kept is).own in operands_same cmd (sym own.registers) (sym own.fields) fits
 own_work w t works.Poll kept is fits = tt
 
 -- what the begin of a work leaves
