@@ -22,7 +22,7 @@ green_first s (Some x) ts k =
     elim (cases_lt x (length s.slots)) [ inl l ↦ l | inr l ↦ absurd (omega (arith, k x l, n)) ]
 
 -- nothing but the colour changes
-rest_green : (s : State) (t : Option ℕ) → KeepsRest s (counted Leaves s t)
+pub rest_green : (s : State) (t : Option ℕ) → KeepsRest s (counted Leaves s t)
 rest_green s None = rest_same s
 rest_green s (Some x) = rest_slot s x (record (slot_at s x) { colour = Green }) refl refl refl
 

@@ -18,7 +18,7 @@ pub rest_up : (s : State) (t : Option ℕ) → KeepsRest s (counted_up s t)
 rest_up s None = rest_same s
 rest_up s (Some x) = rest_slot s x (raised (slot_at s x)) refl refl refl
 
-rest_down : (s : State) (t : Option ℕ) → KeepsRest s (counted_down s t)
+pub rest_down : (s : State) (t : Option ℕ) → KeepsRest s (counted_down s t)
 rest_down s None = rest_same s
 rest_down s (Some x) = rest_decremented s x
 

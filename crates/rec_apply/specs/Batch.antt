@@ -1,14 +1,16 @@
 -- What a batch makes of the counts: all leaves become Green, then all increments in order, and then all decrements in order.
-use Rattle.std.specs.Prelude.{◌≡◌, ℕ, ◌+◌, ◌<◌, ◌≤◌, ◌^◌, Option, None, Some, List, [], ◌++◌, map, length, flat_map, fold}
-use Rattle.rec_counts.specs.declared.colour.Colour.TheVariants.{Green}
-use Rattle.rec_counts.specs.Counts.{State, slot_at, with_slot, decremented}
-use Rattle.rec_counts.specs.Rest.{AreZeros}
+use Rattle.std.specs.Prelude.{◌≡◌, ℕ, ◌+◌, ◌<◌, ◌≤◌, ◌^◌, Bool, true, false, Option, None, Some, List, [], ◌++◌, map, length, flat_map, fold}
+use Rattle.rec_counts.specs.declared.colour.Colour.{Colour}
+use Rattle.rec_counts.specs.declared.colour.Colour.TheVariants.{Black, Purple, Green}
+use Rattle.rec_counts.specs.Colour.{is_green}
+use Rattle.rec_counts.specs.Counts.{IsKept, State, slot_at, with_slot, decremented}
+use Rattle.rec_counts.specs.Rest.{AllZeros, AreZeros, KeepsRest}
 use Rattle.rec_counts.specs.Slot.{raised}
 use Rattle.rec_apply.specs.declared.way.Way.{Way}
 use Rattle.rec_apply.specs.declared.way.Way.TheVariants.{Up, Down, Leaves}
 use Rattle.rec_counts.specs.Lists.{times}
 use Rattle.rec_log.specs.declared.contents.Contents.{Contents}
-use Rattle.rec_apply.specs.Targets.{entry_target, named}
+use Rattle.rec_apply.specs.Targets.{added, entry_target, leaves, named, taken}
 
 -- an increment of this slot, or a decrement, or it becomes Green
 abbrev pub changed : Way → State → ℕ → State
@@ -63,6 +65,40 @@ all_greened s targets = all_counted Leaves s targets
 -- the newer buffers' leaves, then their increments in order of mutator, and then the older buffers' decrements
 abbrev pub batch : State → (newer older : List Contents) → State
 batch s newer older = all_down (all_up (all_greened s (flat_map leaf_targets newer)) (flat_map up_targets newer)) (flat_map down_targets older)
+
+-- these buffers name slots that are there, and no count passes the greatest or falls below zero
+pub record IsCovered (s : State) (newer older : List Contents) : Type 0 where
+  pub in_range : (x : ℕ) → length s.slots ≤ x → added x newer + taken x older ≡ 0
+  pub born : (x : ℕ) → length s.slots ≤ x → leaves x newer ≡ 0
+  pub fits : (x : ℕ) → (slot_at s x).count + added x newer < 2 ^ 64
+  pub covered : (x : ℕ) → taken x older ≤ (slot_at s x).count + added x newer
+
+-- how often a batch names a slot
+abbrev pub names : ℕ → (newer older : List Contents) → ℕ
+names x newer older = added x newer + taken x older + leaves x newer
+
+-- what is touched has one of these colours
+abbrev pub is_touched : Colour → Bool
+is_touched Black = true
+is_touched Purple = true
+is_touched Green = true
+is_touched _ = false
+
+-- What is known of the counts after a batch. Each true count is the old one, plus what is added, less what is taken off. A slot that the
+-- batch names is touched, unless it is released, and any other is as it was. Leaves become Green, and no other slot does. Of an unreleased
+-- slot that isn't Green, and of which something is taken off, a count that is left makes a candidate root. The zeros are slots without a
+-- count, each once, and all of them if there was none before; the buffered slots are those of the root buffer and of the sets.
+pub record IsBatch (s : State) (newer older : List Contents) (t : State) : Type 0 where
+  pub count : (x : ℕ) → (slot_at t x).count + taken x older ≡ (slot_at s x).count + added x newer
+  pub touched : (x : ℕ) → (slot_at s x).released ≡ false → 0 < names x newer older → is_touched (slot_at t x).colour ≡ true
+  pub same : (x : ℕ) → names x newer older ≡ 0 → slot_at t x ≡ slot_at s x
+  pub greens : (x : ℕ) → leaves x newer ≡ 0 → is_green (slot_at t x).colour ≡ is_green (slot_at s x).colour
+  pub born : (x : ℕ) → 0 < leaves x newer → is_green (slot_at t x).colour ≡ true
+  pub roots : (x : ℕ) → (slot_at s x).released ≡ false → 0 < taken x older → is_green (slot_at t x).colour ≡ false → 0 < (slot_at t x).count → ((slot_at t x).colour ≡ Purple) × ((slot_at t x).buffered ≡ true)
+  pub zeros : AreZeros t
+  pub all_zeros : AllZeros s → AllZeros t
+  pub lists : IsKept s → IsKept t
+  pub rest : KeepsRest s t
 
 -- these increments name slots that are there, and no count passes the greatest
 pub record CanRise (s : State) (targets : List (Option ℕ)) : Type 0 where

@@ -5,8 +5,8 @@
 //! falls to zero for a moment only.
 //! The rule that this crate keeps: each true count afterwards is the old one, plus the slot's occurrences among new targets
 //! and snapshots, less those among replaced targets, births and snapshots.
-//! The layer above may use that formula, and that colours, roots and zeros are those of all increments in order, followed
-//! by all decrements in order.
+//! The layer above may use what `IsBatch` says: that formula, which slots are touched, become Green, roots or zeros, and that all
+//! else stays. In which order roots and zeros are listed, `batch` says: that of all increments, followed by all decrements.
 //! That increments of an epoch are applied with the decrements of the epoch before is the idea of the paper "Java without
 //! the Coffee Breaks" (2001); that a batch is applied whole is this project's profile (`docs/PROFILE.md`).
 #![tactic(auto)]

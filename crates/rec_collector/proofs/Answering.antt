@@ -20,13 +20,12 @@ use Rattle.rec_collector.proofs.Goings.{last_sets, still, with_counts}
 use Rattle.rec_collector.proofs.Steps.{prep_next, release_next, freeing_next}
 use Rattle.rec_collector.proofs.Testing.{last_clear}
 use Rattle.rec_log.specs.declared.contents.Contents.{Contents}
-use Rattle.rec_collector.specs.Given.{IsCovered}
 use Rattle.rec_counts.specs.Rest.{KeepsRest}
 use Rattle.rec_walk.specs.declared.member.Member.{Member}
 use Rattle.rec_collector.specs.Kept.{NoneReleased}
-use Rattle.rec_apply.specs.Batch.{batch}
+use Rattle.rec_apply.specs.Batch.{batch, IsCovered}
 use Rattle.rec_collector.proofs.Following.{batch_clears}
-use Rattle.rec_apply.proofs.Whole.{batch_rests}
+use Rattle.rec_apply.proofs.Whole.{is_batch}
 use Rattle.rec_collector.proofs.Freeing.{freed_clears}
 use Rattle.rec_release.specs.CycleFree as frees
 use Rattle.rec_release.specs.Release as releases
@@ -116,7 +115,7 @@ pub batch_clear : (w : Parts) (newer older : List Contents) → 0 < w.fields →
 batch_clear w newer older wide k covered c none counted few =
     let v : Parts = record w { counts = batch w.counts newer older } in
     let on : Clears (zeros_released false v) 0 = batch_clears w newer older wide k covered c none counted in
-    let rests : KeepsRest w.counts v.counts = batch_rests w.counts newer older in
+    let rests : KeepsRest w.counts v.counts = (is_batch w.counts newer older c.zeros covered).rest in
     let told : KeepsTold w (zeros_released false v).parts = told_on (same_told w v.counts rests.slots rests.sets) (zeros_told false v) in
     record { clearing = on.clearing; exchanged = 0; exchanges = on.exchanges; few = omega (arith, few, told.told) }
 

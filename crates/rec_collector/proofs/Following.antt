@@ -1,32 +1,24 @@
 -- Slots are released and sets tested, from a batch, which leaves the counts tidy, to the next trial: what holds after each word, and what
 -- follows it.
-use Rattle.std.proofs.Common.{◌≡◌, ℕ, ◌<◌, true, false, Option, None, Some, List, [], ◌∷◌, refl, arith, sym, ◌∙◌, ap, subst, inl, inr, ◌+◌, ◌*◌, ◌^◌, ◌≤◌, length}
-use Rattle.std.specs.List.{flat_map}
-use Rattle.std.proofs.lemmas.List.{length-set}
-use Rattle.std.proofs.lemmas.Bool.{cases_Bool}
+use Rattle.std.proofs.Common.{◌≡◌, ℕ, ◌<◌, true, false, Option, None, Some, List, [], refl, arith, sym, ◌∙◌, ap, subst, inl, inr, ◌+◌, ◌*◌, ◌^◌, ◌≤◌, length}
+use Rattle.std.specs.List.{concat}
+use Rattle.std.proofs.lemmas.List.{get_or_past}
+use Rattle.std.proofs.lemmas.Bool.{cases_Bool, cases_lt, false≢true}
 use Rattle.rec_log.specs.declared.contents.Contents.{Contents}
 use Rattle.rec_counts.specs.declared.slot.Slot.{Slot}
-use Rattle.rec_counts.specs.Counts.{IsKept, State, slot_at, with_slot}
+use Rattle.rec_counts.specs.Counts.{IsKept, State, slot_at}
 use Rattle.rec_counts.specs.Lists.{times}
 use Rattle.rec_counts.specs.Rest.{KeepsRest}
-use Rattle.rec_counts.specs.Slot.{raised}
-use Rattle.rec_counts.proofs.Decrementing.{rest_decremented}
-use Rattle.rec_counts.proofs.Keeping.{field_kept}
+use Rattle.rec_counts.specs.Slot.{absent}
 use Rattle.rec_counts.proofs.Times.{times-nil}
-use Rattle.rec_apply.specs.Batch.{all_counted, CanFall, all_down, all_up, batch, counted_down, counted_up, down_targets, up_targets, CanRise, all_greened, counted, leaf_targets}
-use Rattle.rec_apply.proofs.Falling.{fall_first, fall_right, fall_zeros_all}
-use Rattle.rec_apply.proofs.Resting.{rest_all_up, all_keep}
-use Rattle.rec_apply.proofs.Whole.{batch_rests, batch_falls, batch_rises, greened_by}
-use Rattle.rec_apply.proofs.Kept.{batch_kept}
+use Rattle.rec_apply.specs.Batch.{batch, IsBatch, IsCovered}
+use Rattle.rec_apply.proofs.Whole.{is_batch}
 use Rattle.rec_release.specs.Release.{IsReady}
-use Rattle.rec_release.specs.TakenOff.{AllZerosButOrange}
-use Rattle.rec_release.specs.declared.at.At.{At}
-use Rattle.rec_release.proofs.TakenOff.{written}
+use Rattle.rec_release.specs.TakenOff.{IsMember}
 use Rattle.rec_collector.specs.Clearing.{IsTidy, HasExchanged, IsCleared, IsClearingIn}
 use Rattle.rec_collector.specs.Kept.{AreResting, IsAtRest, NoneReleased, IsAt, IsMachine, IsTesting}
 use Rattle.rec_collector.specs.Parts.{Parts}
 use Rattle.rec_collector.specs.Followed.{followed, next_in, trial_started, with_freed, with_offers, with_released, going_on}
-use Rattle.rec_collector.specs.Given.{IsCovered}
 use Rattle.rec_collector.specs.Offered.{KeepsOffered}
 use Rattle.rec_collector.specs.Private.{Private, parts_of}
 use Rattle.rec_collector.specs.Testing.{tested, told, zeros_released, Begun}
@@ -34,8 +26,7 @@ use Rattle.rec_collector.specs.Took.{batched}
 use Rattle.rec_collector.specs.declared.phase.Phase.{Phase}
 use Rattle.rec_collector.specs.declared.phase.Phase.TheVariants.{Returning, Releasing, Freeing}
 use Rattle.rec_collector.proofs.Clearing.{Clears, released_clears, zeros_clear}
-use Rattle.rec_collector.proofs.Outside.{apart_on, in_use_orange, marked_lowers, unlike_was, untried_moved, outside_on, raised_lowers}
-use Rattle.rec_collector.proofs.Tidy.{tidy_off}
+use Rattle.rec_collector.proofs.Outside.{Lowers, batch_lowers, batch_same, outside_on, untried_moved}
 use Rattle.rec_collector.proofs.Counting.{Counted, KeepsTold, released_told, same_told, tested_told, told_on, zeros_told, freed_told}
 use Rattle.rec_collector.proofs.Exchanging.{exchanged_few, none_exchanged}
 use Rattle.rec_collector.proofs.Landing.{Fits, Lands, fits_all, now_at, told_at}
@@ -48,102 +39,38 @@ use Rattle.rec_collector.proofs.Testing.{tested_clear, clear_counted, clear_list
 use Rattle.rec_release.specs.CycleFree as frees
 use Rattle.rec_release.specs.Release as releases
 use Rattle.rec_trial.specs.Trial as trials
-use Rattle.rec_apply.specs.declared.way.Way.TheVariants.{Leaves}
-use Rattle.rec_apply.proofs.Greening.{rest_all_greened}
-use Rattle.rec_counts.specs.declared.colour.Colour.TheVariants.{Green}
 use Rattle.rec_collector.specs.Zeros.{AreCounted}
-
--- a slot that was incremented has a count
-raised_zeros : (s : State) (x : ℕ) → AllZerosButOrange s → AllZerosButOrange (with_slot s x (raised (slot_at s x)))
-raised_zeros s x a y u n o = elim (written s x (raised (slot_at s x)) y) [
-  | inl q ↦ absurd (omega (arith, n, ap (λ (v : Slot). v.count) q.1))
-  | inr q ↦ a y (ap (λ (v : Slot). v.released) (sym q) ∙ u) (ap (λ (v : Slot). v.count) (sym q) ∙ n) (λ p. o (ap (λ (v : Slot). v.colour) q ∙ p))
-]
-
-tidy_up : {fields : ℕ} → (s : State) (t : Option ℕ) (at : Option At) → IsTidy fields s at → IsTidy fields (counted_up s t) at
-tidy_up s None at i = i
-tidy_up s (Some x) at i =
-    let v : Slot = raised (slot_at s x) in
-    let buffered : (y : ℕ) → (slot_at (with_slot s x v) y).buffered ≡ (slot_at s y).buffered = field_kept (λ (w : Slot). w.buffered) s.slots x v refl in
-    let released : (y : ℕ) → (slot_at (with_slot s x v) y).released ≡ (slot_at s y).released = field_kept (λ (w : Slot). w.released) s.slots x v refl in
-    record {
-      untried = untried_moved s (with_slot s x v) refl (raised_lowers s x) i.untried;
-      apart = apart_on s (with_slot s x v) refl refl (unlike_was s x v (in_use_orange (slot_at s x).colour)) i.apart;
-      all_zeros = raised_zeros s x i.all_zeros;
-      outside = outside_on s (with_slot s x v) (raised_lowers s x) i.outside;
-      listed = λ y l r b. i.listed y (omega (arith, l, length-set s.slots x v)) (sym (released y) ∙ r) (sym (buffered y) ∙ b);
-      unbuffered = λ y l. buffered y ∙ i.unbuffered y l;
-      held = λ y l. buffered y ∙ i.held y l;
-    }
-
--- A leaf becomes Green, where each slot has a count.
-tidy_greened : {fields : ℕ} → (s : State) (t : Option ℕ) → IsTidy fields s None × AreCounted s → IsTidy fields (counted Leaves s t) None × AreCounted (counted Leaves s t)
-tidy_greened s None i = i
-tidy_greened s (Some x) (i, c) =
-    let v : Slot = record (slot_at s x) { colour = Green } in
-    let buffered : (y : ℕ) → (slot_at (with_slot s x v) y).buffered ≡ (slot_at s y).buffered = field_kept (λ (w : Slot). w.buffered) s.slots x v refl in
-    let released : (y : ℕ) → (slot_at (with_slot s x v) y).released ≡ (slot_at s y).released = field_kept (λ (w : Slot). w.released) s.slots x v refl in
-    let count : (y : ℕ) → (slot_at (with_slot s x v) y).count ≡ (slot_at s y).count = field_kept (λ (w : Slot). w.count) s.slots x v refl in
-    let counted_still : AreCounted (with_slot s x v) = λ y r. omega (arith, count y, c y (sym (released y) ∙ r)) in (
-      record {
-        untried = untried_moved s (with_slot s x v) refl (marked_lowers s x) i.untried;
-        apart = apart_on s (with_slot s x v) refl refl (unlike_was s x v (λ o. cc)) i.apart;
-        all_zeros = λ y r n o. absurd (omega (arith, n, counted_still y r));
-        outside = outside_on s (with_slot s x v) (marked_lowers s x) i.outside;
-        listed = λ y l r b. i.listed y (omega (arith, l, length-set s.slots x v)) (sym (released y) ∙ r) (sym (buffered y) ∙ b);
-        unbuffered = λ y l. buffered y ∙ i.unbuffered y l;
-        held = λ y l. buffered y ∙ i.held y l;
-      },
-      counted_still,
-    )
-
-tidy_all_greened : {fields : ℕ} → (s : State) (ts : List (Option ℕ)) → IsTidy fields s None → AreCounted s → IsTidy fields (all_greened s ts) None
-tidy_all_greened {fields} s ts i c = (all_keep Leaves (λ u. IsTidy fields u None × AreCounted u) tidy_greened s ts (i, c)).0
-
-tidy_all_up : {fields : ℕ} → (s : State) (ts : List (Option ℕ)) (at : Option At) → IsTidy fields s at → IsTidy fields (all_up s ts) at
-unfolding all_counted
-tidy_all_up s [] at i = i
-tidy_all_up s (t ∷ ts) at i = tidy_all_up (counted_up s t) ts at (tidy_up s t at i)
 
 -- nothing stands in an empty list
 nowhere : {P : Type 0} (xs : List ℕ) (x : ℕ) → xs ≡ [] → 0 < times x xs → P
 nowhere xs x e h = absurd (omega (arith, h, ap (times x) e, times-nil x))
 
--- what is in the free list, or in the work list, is released
-record AreReleased (s : State) : Type 0 where
-  pub free : (x : ℕ) → 0 < times x s.free → (slot_at s x).released ≡ true
-  pub work : (x : ℕ) → 0 < times x s.work → (slot_at s x).released ≡ true
-
-released_rests : (s t : State) → KeepsRest s t → AreReleased s → AreReleased t
-released_rests s t k r = record {
-  free = λ x h. k.released x ∙ r.free x (subst (λ xs. 0 < times x xs) k.free h);
-  work = λ x h. k.released x ∙ r.work x (subst (λ xs. 0 < times x xs) k.work h);
-}
-
-tidy_down : {fields : ℕ} → (s : State) (t : Option ℕ) (ts : List (Option ℕ)) (at : Option At) → CanFall s (t ∷ ts) → AreReleased s → IsTidy fields s at → IsTidy fields (counted_down s t) at
-tidy_down s None ts at c r i = i
-tidy_down s (Some x) ts at c r i = tidy_off false s (Some x) at (fall_first s (Some x) ts c).0 (record { zeros = c.zeros; free = r.free }) r.work i
-
-released_down : (s : State) (t : Option ℕ) → AreReleased s → AreReleased (counted_down s t)
-released_down s None r = r
-released_down s (Some x) r = released_rests s (counted_down s (Some x)) (rest_decremented s x) r
-
-tidy_all_down : {fields : ℕ} → (s : State) (ts : List (Option ℕ)) (at : Option At) → CanFall s ts → AreReleased s → IsTidy fields s at → IsTidy fields (all_down s ts) at
-unfolding all_counted
-tidy_all_down s [] at c r i = i
-tidy_all_down s (t ∷ ts) at c r i = tidy_all_down (counted_down s t) ts at (fall_right s (t ∷ []) ts c) (released_down s t r) (tidy_down s t ts at c r i)
-
 -- counts that are tidy stay so, where nothing is at work
-pub batched_clear : (fields : ℕ) (s : State) (newer older : List Contents) → CanFall (all_up (greened_by s newer) (flat_map up_targets newer)) (flat_map down_targets older) → IsTidy fields s None → AreCounted s → IsReady s → s.work ≡ [] →
-    IsTidy fields (batch s newer older) None × IsReady (batch s newer older)
-batched_clear fields s newer older c tidy counted r none =
-    let greened : State = greened_by s newer in
-    let up : State = all_up greened (flat_map up_targets newer) in
-    let k : KeepsRest s (batch s newer older) = batch_rests s newer older in
-    let released : AreReleased s = record { free = r.free; work = λ x h. nowhere s.work x none h } in (
-      tidy_all_down up (flat_map down_targets older) None c (released_rests greened up (rest_all_up greened (flat_map up_targets newer)) (released_rests s greened (rest_all_greened s (flat_map leaf_targets newer)) released))
-          (tidy_all_up greened (flat_map up_targets newer) None (tidy_all_greened s (flat_map leaf_targets newer) tidy counted)),
-      record { zeros = fall_zeros_all up (flat_map down_targets older) c.zeros; free = (released_rests s (batch s newer older) k released).free },
+pub batched_clear : {fields : ℕ} {s t : State} {newer older : List Contents} → IsBatch s newer older t → NoneReleased s → IsTidy fields s None → AreCounted s → IsReady s → s.work ≡ [] → IsTidy fields t None × IsReady t
+batched_clear {fields} {s} {t} b unreleased tidy counted r none =
+    let lowers : Lowers s t = batch_lowers b unreleased in
+    let released : (x : ℕ) → x < length s.slots → (slot_at s x).released ≡ true → ⊥ = λ x l is. false≢true (sym (unreleased x l) ∙ is) in
+    let free : (x : ℕ) → 0 < times x t.free → 0 < times x s.free = λ x l. subst (λ xs. 0 < times x xs) b.rest.free l in (
+      record {
+        untried = untried_moved s t b.rest.marked lowers tidy.untried;
+        apart = λ x o.
+            let same : slot_at t x ≡ slot_at s x = (batch_same b unreleased x o).0 in
+            let was : IsMember s x = tidy.apart x (ap (λ (v : Slot). v.colour) (sym same) ∙ o) in
+            record {
+              member = subst (λ xss. 0 < times x (concat xss)) (sym b.rest.sets) was.member;
+              no_zero = elim (cases_lt 0 (times x t.zeros)) [ inl l ↦ absurd (omega (arith, b.zeros.none x l, counted x was.unreleased, ap (λ (v : Slot). v.count) same)) | inr l ↦ omega (arith, l) ];
+              unreleased = b.rest.released x ∙ was.unreleased;
+            };
+        all_zeros = λ x u n o. b.all_zeros (λ y v z. absurd (omega (arith, counted y v, z))) x u n;
+        outside = outside_on s t lowers tidy.outside;
+        listed = λ x l is u. absurd (released x (omega (arith, l, b.rest.slots)) (sym (b.rest.released x) ∙ is));
+        unbuffered = λ x l. elim (cases_lt x (length s.slots)) [
+          | inl there ↦ absurd (released x there (r.free x (free x l)))
+          | inr past ↦ ap (λ (v : Slot). v.buffered) (get_or_past t.slots x absent (omega (arith, past, b.rest.slots)))
+        ];
+        held = λ x l. nowhere t.work x (b.rest.work ∙ none) l;
+      },
+      record { zeros = b.zeros; free = λ x l. b.rest.released x ∙ r.free x (free x l) },
     )
 
 -- at rest no slot is released
@@ -268,28 +195,19 @@ freed_has p m word k e c =
       few_told = omega (arith, told_at p (Freeing m) k e, keeps.told);
     }
 
--- a batch can be applied, and the counts are then tidy
-covered_falls : (s : State) (newer older : List Contents) → s.zeros ≡ [] → IsCovered s newer older → CanFall (all_up (greened_by s newer) (flat_map up_targets newer)) (flat_map down_targets older)
-covered_falls s newer older z c =
-    let rises : CanRise (greened_by s newer) (flat_map up_targets newer) = batch_rises s newer older c.in_range c.fits in
-    batch_falls s newer older z rises c.covered
-
--- its zeros are to be released
-pub batch_clears : (w : Parts) (newer older : List Contents) → 0 < w.fields → IsKept w.counts → IsCovered w.counts newer older → IsCleared w → ((x : ℕ) → x < length w.counts.slots → (slot_at w.counts x).released ≡ false) → AreCounted w.counts →
-    Clears (zeros_released false (record w { counts = batch w.counts newer older })) 0
+-- the zeros of a batch are to be released
+pub batch_clears : (w : Parts) (newer older : List Contents) → 0 < w.fields → IsKept w.counts → IsCovered w.counts newer older → IsCleared w → NoneReleased w.counts → AreCounted w.counts → Clears (zeros_released false (record w { counts = batch w.counts newer older })) 0
 batch_clears w newer older wide k covered c none counted =
-    let s : State = w.counts in
-    let falls = covered_falls s newer older c.zeros covered in
-    let rests : KeepsRest s (batch s newer older) = batch_rests s newer older in
-    let tidy = batched_clear w.fields s newer older falls c.tidy counted c.ready c.work in
-    zeros_clear false (record w { counts = batch s newer older }) 0 wide (batch_kept s newer older falls k) tidy.0 tidy.1 (rests.work ∙ c.work)
-    (none_exchanged (record w { counts = batch s newer older }) (λ x l. rests.released x ∙ none x (omega (arith, l, rests.slots))))
+    let v : Parts = record w { counts = batch w.counts newer older } in
+    let b : IsBatch w.counts newer older v.counts = is_batch w.counts newer older c.zeros covered in
+    let tidy = batched_clear b none c.tidy counted c.ready c.work in
+    zeros_clear false v 0 wide (b.lists k) tidy.0 tidy.1 (b.rest.work ∙ c.work) (none_exchanged v (λ x l. b.rest.released x ∙ none x (omega (arith, l, b.rest.slots))))
 
 pub begun_has : (p : Private) (t : ℕ) → IsMachine p → p.phase ≡ Returning t → t ≡ length p.newer → IsCovered p.counts p.newer p.older → HasCleared p (zeros_released false (batched p))
 begun_has p t k e last c =
     let a : IsAt p (Returning t) = now_at p (Returning t) k e in
     let w : Parts = batched p in
-    let rests : KeepsRest p.counts w.counts = batch_rests p.counts p.newer p.older in
+    let rests : KeepsRest p.counts w.counts = (is_batch p.counts p.newer p.older a.rest.zeros c).rest in
     let keeps : KeepsTold (parts_of p) (zeros_released false w).parts = told_on (same_told (parts_of p) w.counts rests.slots rests.sets) (zeros_told false w) in
     record {
       exchanged = 0;

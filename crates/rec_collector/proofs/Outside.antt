@@ -1,13 +1,11 @@
 -- What each move leaves of the outside counts: an orange member is as it was, or was lowered. A batch takes its colour from every
 -- orange slot that it names, and leaves every slot that it does not name as it was.
-use Rattle.std.proofs.Common.{◌≡◌, ℕ, ◌+◌, ◌-◌, ◌<◌, Bool, true, false, eqb, Option, None, Some, IfSome, List, [], ◌∷◌, length, refl, arith, sym, ◌∙◌, ap, subst, inl, inr, ◌≢◌, ◌↔◌, flat_map}
+use Rattle.std.proofs.Common.{◌≡◌, ℕ, ◌+◌, ◌-◌, ◌<◌, Bool, true, false, eqb, Option, None, Some, IfSome, List, [], ◌∷◌, length, refl, arith, sym, ◌∙◌, ap, subst, inl, inr, ◌≢◌}
 use Rattle.std.specs.List.{concat}
 use Rattle.std.proofs.lemmas.Bool.{cases_lt, false≢true}
-use Rattle.std.proofs.lemmas.List.{append-nil, get_or-set_other}
+use Rattle.std.proofs.lemmas.List.{append-nil, get_or_past}
 use Rattle.std.proofs.lemmas.Option.{none-some}
-use Rattle.std.proofs.lemmas.Bool.Decides.{eqb_tells}
 use Rattle.rec_word.specs.Place.{places_of}
-use Rattle.rec_word.specs.Word.{is_slot}
 use Rattle.rec_log.specs.declared.contents.Contents.{Contents}
 use Rattle.rec_counts.specs.declared.colour.Colour.TheVariants.{Black, Orange, Purple, Green}
 use Rattle.rec_counts.specs.declared.colour.Colour.{Colour}
@@ -17,34 +15,29 @@ use Rattle.rec_counts.specs.declared.slot.Due.{Due}
 use Rattle.rec_counts.specs.declared.slot.Due.TheVariants.{Nothing, Zero, Root}
 use Rattle.rec_counts.specs.Counts.{State, IsKept, slot_at, with_slot, sent}
 use Rattle.rec_counts.specs.Groups.{last_set}
-use Rattle.rec_counts.specs.Lists.{times, one}
-use Rattle.rec_counts.specs.Slot.{is_in, lessened, lessened_if, lowered, due_of, raised, swept_clean, unbuffered_if, absent, stays}
+use Rattle.rec_counts.specs.Lists.{times}
+use Rattle.rec_counts.specs.Slot.{is_in, lessened, lessened_if, lowered, due_of, swept_clean, unbuffered_if, absent, stays}
 use Rattle.rec_counts.proofs.Keeping.{set_there}
-use Rattle.rec_counts.proofs.Decrementing.{rest_decremented, stays_released}
+use Rattle.rec_counts.proofs.Decrementing.{stays_released}
 use Rattle.rec_walk.specs.Load.{Load}
-use Rattle.rec_apply.specs.Batch.{all_counted, all_down, all_up, batch, counted_down, counted_up, down_targets, up_targets, all_greened, counted, leaf_targets}
-use Rattle.rec_apply.specs.Targets.{added, named, taken, leaves}
-use Rattle.rec_apply.proofs.Naming.{added_is, named-cons, named-nil, taken_is, leaves_is}
-use Rattle.rec_apply.proofs.Resting.{rest_all_up}
+use Rattle.rec_apply.specs.Batch.{is_touched, names, IsBatch}
+use Rattle.rec_apply.proofs.Touching.{touched_orange}
 use Rattle.rec_release.specs.CycleFree.{dead_if, given_up}
 use Rattle.rec_release.specs.Release.{without_first, listed_if, next_from}
 use Rattle.rec_release.specs.Sweep.{swept}
 use Rattle.rec_release.specs.TakenOff.{down_if, is_lowered, taken_off, IsApart, IsMember}
 use Rattle.rec_release.proofs.Giving.{given_slot}
 use Rattle.rec_release.proofs.TakenOff.{written}
-use Rattle.rec_release.proofs.Orange.{not_orange_at}
 use Rattle.rec_sigma.specs.declared.fate.Fate.{Fate}
 use Rattle.rec_sigma.specs.declared.fate.Fate.TheVariants as fates
 use Rattle.rec_sigma.specs.Refurbish.{refurbished, LastRefurbished}
 use Rattle.rec_sigma.specs.Prepared.{PreparedTo, seen}
 use Rattle.rec_collector.specs.Clearing.{IsUntried}
 use Rattle.rec_collector.specs.Outside.{AreOutside, IsOutside, HasSets}
-use Rattle.rec_collector.specs.Kept.{IsAt, IsMachine}
+use Rattle.rec_collector.specs.Kept.{IsAt, IsMachine, NoneReleased}
 use Rattle.rec_collector.specs.Private.{Private}
 use Rattle.rec_collector.specs.declared.phase.Phase.{Phase}
 use Rattle.rec_collector.specs.declared.phase.Phase.TheVariants.{Looking, Swapping, Returning, Releasing, Freeing, Trying, Preparing}
-use Rattle.rec_apply.specs.declared.way.Way.TheVariants.{Leaves}
-use Rattle.rec_apply.proofs.Greening.{rest_all_greened}
 use Rattle.rec_release.proofs.Keeping.{each_zero}
 
 -- the member was one before, and so many references were taken off its counts
@@ -129,14 +122,6 @@ in_use_orange _ o = cc
 in_use_colour : (f : Colour → Bool) (c : Colour) → f Black ≡ false → f c ≡ false → f (in_use c) ≡ false
 in_use_colour f Green black h = h
 in_use_colour f _ black h = black
-
--- a slot is incremented
-pub raised_lowers : (s : State) (x : ℕ) → Lowers s (with_slot s x (raised (slot_at s x)))
-raised_lowers s x = written_lowers s x (raised (slot_at s x)) (record { member = λ number i o. absurd (in_use_orange (slot_at s x).colour o); colours = λ f black purple green h. in_use_colour f (slot_at s x).colour black h })
-
--- a slot becomes Green
-pub marked_lowers : (s : State) (x : ℕ) → Lowers s (with_slot s x (record (slot_at s x) { colour = Green }))
-marked_lowers s x = written_lowers s x (record (slot_at s x) { colour = Green }) (record { member = λ number i o. cc; colours = λ f black purple green h. green })
 
 -- a reference is taken off: the slot is decremented
 lessened_member : (b l : Bool) (u : Slot) → stays u ≡ b → (u.colour ≡ Orange → u.released ≡ false) → Moved u (lessened_if b l u)
@@ -232,119 +217,33 @@ prepared_outside fields before s loads k p = record {
       record { member = was; fewer = omega (arith, same); cyclic = omega (arith, p.members number x (set_there before number x k was) was, same) };
 }
 
--- of one slot: what it names loses the colour, and nothing else changes
-pub record Names (s t : State) (name : Option ℕ) (y : ℕ) : Type 0 where
-  pub lost : is_slot y name ≡ true → (slot_at t y).colour ≢ Orange
-  pub kept : is_slot y name ≡ false → slot_at t y ≡ slot_at s y
-
-written_names : (s : State) (x : ℕ) (v : Slot) (y : ℕ) → (y ≡ x → v.colour ≢ Orange) → Names s (with_slot s x v) (Some x) y
-written_names s x v y h = elim (eqb_tells y x) [
-  | inl q ↦ record {
-    lost = λ _ o. not_orange_at s x v (h q.1) (ap (λ z. (slot_at (with_slot s x v) z).colour) (sym q.1) ∙ o);
-    kept = λ e. absurd (false≢true (sym e ∙ q.0));
-  }
-  | inr q ↦ record {
-    lost = λ e. absurd (false≢true (sym q.0 ∙ e));
-    kept = λ _. get_or-set_other s.slots x y v absent q.1;
-  }
+-- A batch of counts of which none is released: a slot that is Orange after it is as it was, and nothing of the batch names it.
+pub batch_same : {s t : State} {newer older : List Contents} → IsBatch s newer older t → NoneReleased s → (x : ℕ) → (slot_at t x).colour ≡ Orange → (slot_at t x ≡ slot_at s x) × (names x newer older ≡ 0)
+batch_same {s} {t} {newer} {older} b none x o = elim (cases_lt x (length s.slots)) [
+  | inl there ↦ elim (cases_lt 0 (names x newer older)) [
+    | inl l ↦ absurd (touched_orange (slot_at t x).colour (b.touched x (none x there) l) o)
+    | inr l ↦ (b.same x (omega (arith, l)), omega (arith, l))
+  ]
+  | inr past ↦ let black : Black ≡ Orange = ap (λ (v : Slot). v.colour) (sym (get_or_past t.slots x absent (omega (arith, past, b.rest.slots)))) ∙ o in absurd (cc)
 ]
 
-pub raised_unlike : (v : Slot) → (raised v).colour ≢ Orange
-raised_unlike v o = in_use_orange v.colour o
+touched_colour : (f : Colour → Bool) (c : Colour) → f Black ≡ false → f Purple ≡ false → f Green ≡ false → is_touched c ≡ true → f c ≡ false
+touched_colour f Black black purple green h = black
+touched_colour f Purple black purple green h = purple
+touched_colour f Green black purple green h = green
+touched_colour f _ black purple green h = absurd (false≢true h)
 
-lessened_unlike : (b l : Bool) (v : Slot) → stays v ≡ b → v.released ≡ false → (lessened_if b l v).colour ≢ Orange
-lessened_unlike true l v e r o = absurd (false≢true (sym r ∙ stays_released v e o))
-lessened_unlike false true v e r o = cc
-lessened_unlike false false v e r o = cc
-
-leaf_names : (s : State) (name : Option ℕ) (y : ℕ) → Names s (counted Leaves s name) name y
-leaf_names s None y = record { lost = λ e. absurd (false≢true e); kept = λ _. refl }
-leaf_names s (Some x) y = written_names s x (record (slot_at s x) { colour = Green }) y (λ _ o. cc)
-
-up_names : (s : State) (name : Option ℕ) (y : ℕ) → Names s (counted_up s name) name y
-up_names s None y = record { lost = λ e. absurd (false≢true e); kept = λ _. refl }
-up_names s (Some x) y = written_names s x (raised (slot_at s x)) y (λ _. raised_unlike (slot_at s x))
-
-sent_names : (d : Due) (s t : State) (x : ℕ) (name : Option ℕ) (y : ℕ) → Names s t name y → Names s (sent d t x) name y
-sent_names Nothing s t x name y n = n
-sent_names Zero s t x name y n = record { lost = n.lost; kept = n.kept }
-sent_names Root s t x name y n = record { lost = n.lost; kept = n.kept }
-
-pub down_names : (s : State) (name : Option ℕ) (y : ℕ) → (slot_at s y).released ≡ false → Names s (counted_down s name) name y
-down_names s None y r = record { lost = λ e. absurd (false≢true e); kept = λ _. refl }
-down_names s (Some x) y r =
-    let v : Slot = slot_at s x in
-    sent_names (due_of v) s (with_slot s x (lessened v)) x (Some x) y
-    (written_names s x (lessened v) y (λ e. lessened_unlike (stays v) (eqb v.count 1) v refl (ap (λ z. (slot_at s z).released) (sym e) ∙ r)))
-
-down_released : (s : State) (name : Option ℕ) (y : ℕ) → (slot_at (counted_down s name) y).released ≡ (slot_at s y).released
-down_released s None y = refl
-down_released s (Some x) y = (rest_decremented s x).released y
-
--- Of many of them: it is Orange after them exactly where it was before, and none of them names it. Then it is as it was.
-pub record Spares (s t : State) (times y : ℕ) : Type 0 where
-  pub before : (slot_at t y).colour ≡ Orange → (times ≡ 0)
-  pub same : times ≡ 0 → slot_at t y ≡ slot_at s y
-
-first_spares : (s t u : State) (name : Option ℕ) (n m y : ℕ) → Names s t name y → Spares t u n y → m ≡ one (is_slot y name) + n → Spares s u m y
-first_spares s t u name n m y f r e = go (is_slot y name) refl
-  where
-    go : (b : Bool) → is_slot y name ≡ b → Spares s u m y
-    go true q = record {
-      before = λ o. absurd (f.lost q (ap (λ (w : Slot). w.colour) (sym (r.same (r.before o))) ∙ o));
-      same = λ z. let w : one (is_slot y name) ≡ 1 = ap one q in absurd (omega (arith, z, e, w));
-    }
-    go false q =
-        let w : one (is_slot y name) ≡ 0 = ap one q in
-        record { before = λ o. omega (arith, e, w, r.before o); same = λ z. r.same (omega (arith, z, e, w)) ∙ f.kept q }
-
-leaves_spare : (s : State) (names : List (Option ℕ)) (y : ℕ) → Spares s (all_greened s names) (named y names) y
-unfolding all_counted
-leaves_spare s [] y = record { before = λ o. named-nil y; same = λ _. refl }
-leaves_spare s (t ∷ ts) y = first_spares s (counted Leaves s t) (all_greened (counted Leaves s t) ts) t (named y ts) (named y (t ∷ ts)) y (leaf_names s t y) (leaves_spare (counted Leaves s t) ts y) (named-cons y t ts)
-
-ups_spare : (s : State) (names : List (Option ℕ)) (y : ℕ) → Spares s (all_up s names) (named y names) y
-unfolding all_counted
-ups_spare s [] y = record { before = λ o. named-nil y; same = λ _. refl }
-ups_spare s (t ∷ ts) y = first_spares s (counted_up s t) (all_up (counted_up s t) ts) t (named y ts) (named y (t ∷ ts)) y (up_names s t y) (ups_spare (counted_up s t) ts y) (named-cons y t ts)
-
-downs_spare : (s : State) (names : List (Option ℕ)) (y : ℕ) → (slot_at s y).released ≡ false → Spares s (all_down s names) (named y names) y
-unfolding all_counted
-downs_spare s [] y r = record { before = λ o. named-nil y; same = λ _. refl }
-downs_spare s (t ∷ ts) y r =
-    first_spares s (counted_down s t) (all_down (counted_down s t) ts) t (named y ts) (named y (t ∷ ts)) y (down_names s t y r) (downs_spare (counted_down s t) ts y (down_released s t y ∙ r)) (named-cons y t ts)
-
--- a whole batch
-module _ (s : State) (newer older : List Contents) (y : ℕ) (r : (slot_at s y).released ≡ false) where
-  abbrev marked : State
-  marked = all_greened s (flat_map leaf_targets newer)
-
-  abbrev up : State
-  up = all_up marked (flat_map up_targets newer)
-
-  marks : Spares s marked (named y (flat_map leaf_targets newer)) y
-  marks = leaves_spare s (flat_map leaf_targets newer) y
-
-  ups : Spares marked up (named y (flat_map up_targets newer)) y
-  ups = ups_spare marked (flat_map up_targets newer) y
-
-  downs : Spares up (batch s newer older) (named y (flat_map down_targets older)) y
-  downs = downs_spare up (flat_map down_targets older) y ((rest_all_up marked (flat_map up_targets newer)).released y ∙ (rest_all_greened s (flat_map leaf_targets newer)).released y ∙ r)
-
-  -- a slot that is Orange after a batch is as it was, and nothing of the batch names it
-  pub batch_same : (slot_at (batch s newer older) y).colour ≡ Orange → (slot_at (batch s newer older) y ≡ slot_at s y) × (added y newer + taken y older + leaves y newer ≡ 0)
-  batch_same o =
-      let none_down : named y (flat_map down_targets older) ≡ 0 = downs.before o in
-      let after_ups : (slot_at up y).colour ≡ Orange = ap (λ (w : Slot). w.colour) (sym (downs.same none_down)) ∙ o in
-      let none_up : named y (flat_map up_targets newer) ≡ 0 = ups.before after_ups in
-      let none_marked : named y (flat_map leaf_targets newer) ≡ 0 = marks.before (ap (λ (w : Slot). w.colour) (sym (ups.same none_up)) ∙ after_ups) in
-      (downs.same none_down ∙ ups.same none_up ∙ marks.same none_marked, omega (arith, none_up, none_down, none_marked, added_is y newer, taken_is y older, leaves_is y newer))
-
-  pub batch_touches : ((slot_at (batch s newer older) y).colour ≡ Orange) ↔ (((slot_at s y).colour ≡ Orange) × (added y newer + taken y older + leaves y newer ≡ 0))
-  batch_touches = (
-    λ o. (ap (λ (w : Slot). w.colour) (sym (batch_same o).0) ∙ o, (batch_same o).1),
-    λ q. ap (λ (w : Slot). w.colour) (downs.same (omega (arith, q.1, taken_is y older)) ∙ ups.same (omega (arith, q.1, added_is y newer)) ∙ marks.same (omega (arith, q.1, leaves_is y newer))) ∙ q.0,
-  )
+pub batch_lowers : {s t : State} {newer older : List Contents} → IsBatch s newer older t → NoneReleased s → Lowers s t
+batch_lowers {s} {t} {newer} {older} b none x = record {
+  member = λ number i o. (was_same (slot_at s x) (slot_at t x) (batch_same b none x o).0).member number i o;
+  colours = λ f black purple green h. elim (cases_lt x (length s.slots)) [
+    | inl there ↦ elim (cases_lt 0 (names x newer older)) [
+      | inl l ↦ touched_colour f (slot_at t x).colour black purple green (b.touched x (none x there) l)
+      | inr l ↦ ap (λ (v : Slot). f v.colour) (b.same x (omega (arith, l))) ∙ h
+    ]
+    | inr past ↦ ap (λ (v : Slot). f v.colour) (get_or_past t.slots x absent (omega (arith, past, b.rest.slots))) ∙ black
+  ];
+}
 
 -- the members of the sets of a machine
 outside_at : (p : Private) (phase : Phase) → IsAt p phase → HasSets phase → AreOutside p.fields p.counts

@@ -14,7 +14,8 @@ use Rattle.rec_sigma.specs.Settling.{refurbished_of}
 use Rattle.rec_sigma.proofs.Renewals.{refurbished_last}
 use Rattle.rec_trial.specs.Trial.{next_of as trial_next}
 use Rattle.rec_collector.specs.Followed.{Next, followed, next_in, prep_started, prepared, prepared_at, sweep_phase, tried, tried_at, with_freed, with_released, going_on, gone_on, with_offers}
-use Rattle.rec_collector.specs.Given.{IsCovered, IsGiven, IsGivenAt}
+use Rattle.rec_apply.specs.Batch.{IsCovered}
+use Rattle.rec_collector.specs.Given.{IsGiven, IsGivenAt}
 use Rattle.rec_collector.specs.Kept.{IsMachine, swept_at, IsAt}
 use Rattle.rec_collector.specs.Next.{is_spent, next_at, next_of}
 use Rattle.rec_collector.specs.Parts.{Parts}

@@ -1,19 +1,19 @@
 -- A step leaves an orange member as it was, or lowers it, and names it nowhere.
 use Rattle.std.proofs.Common.{◌≡◌, ◌⊎◌, ℕ, ◌+◌, ◌-◌, ◌<◌, ◌==◌, ◌&&◌, not, Bool, true, false, Option, None, Some, IfSome, IsSome, List, length, refl, sym, ap, subst, ◌∙◌, arith, inl, inr}
-use Rattle.std.proofs.lemmas.Bool.{cases_lt, cond-true, cond-false, eq-eqb, ne_eqb}
+use Rattle.std.proofs.lemmas.Bool.{cond-true, cond-false, eq-eqb, ne_eqb}
 use Rattle.std.proofs.lemmas.Bool.Decides.{eqb_tells}
-use Rattle.std.proofs.lemmas.List.{get_or_past}
 use Rattle.rec_word.specs.Word.{target_of}
 use Rattle.rec_word.specs.declared.op.Op.{Op}
 use Rattle.rec_log.specs.declared.contents.Contents.{Contents}
-use Rattle.rec_apply.specs.Batch.{batch}
+use Rattle.rec_apply.specs.Batch.{batch, counted_down, names, IsBatch, IsCovered}
+use Rattle.rec_apply.specs.declared.way.Way.TheVariants.{Down}
 use Rattle.rec_apply.specs.Targets.{added, taken, named, leaves as leaf_births}
-use Rattle.rec_apply.proofs.Whole.{batch_rests}
+use Rattle.rec_apply.proofs.Touching.{counted_touches, touched_orange}
+use Rattle.rec_apply.proofs.Whole.{is_batch}
 use Rattle.rec_counts.specs.declared.colour.Colour.TheVariants.{Orange}
 use Rattle.rec_counts.specs.declared.slot.Slot.{Slot}
 use Rattle.rec_counts.specs.Counts.{State, slot_at}
 use Rattle.rec_counts.specs.Lists.{one}
-use Rattle.rec_counts.specs.Slot.{absent}
 use Rattle.rec_release.specs.Release.{emptied, next_from}
 use Rattle.rec_release.specs.TakenOff.{down_if, IsApart, is_lowered, taken_off}
 use Rattle.rec_walk.specs.Load.{Load}
@@ -32,7 +32,7 @@ use Rattle.rec_collector.specs.declared.phase.Phase.TheVariants.{Returning, Rele
 use Rattle.rec_collector.specs.declared.turn.Turn.{Turn}
 use Rattle.rec_collector.proofs.Following.{none_released}
 use Rattle.rec_collector.proofs.Goings.{emptied_same, freed_by, freed_off, released_by, released_off, freed_listed}
-use Rattle.rec_collector.proofs.Outside.{Lowers, next_lowers, given_lowers, off_lowers, refurbished_lowers, same_lowers, swept_lowers, batch_same, down_names}
+use Rattle.rec_collector.proofs.Outside.{Lowers, next_lowers, given_lowers, off_lowers, refurbished_lowers, same_lowers, swept_lowers, batch_same}
 use Rattle.rec_collector.proofs.Steps.{prepared_on, step_made, tried_on}
 use Rattle.rec_collector.proofs.Landing.{now_at}
 use Rattle.rec_release.specs.declared.at.At.{At}
@@ -89,7 +89,7 @@ off_spares lowers s (Some y) x a h = record {
         let here : y ≡ x = elim (eqb_tells x y) [ inl q ↦ sym q.1 | inr q ↦ let n : true ≡ false = sym e ∙ q.0 in absurd (cc) ] in
         let plain : is_lowered lowers (slot_at s y).colour ≡ false = ap (λ z. is_lowered lowers (slot_at s z).colour) here ∙ f in
         let down : taken_off lowers s (Some y) ≡ down_if false s y = ap (λ b. down_if b s y) plain in
-        absurd ((down_names s (Some y) x (a x c).unreleased).lost e (ap (λ t. (slot_at t x).colour) (sym down) ∙ o))
+        absurd (touched_orange (slot_at (counted_down s (Some y)) x).colour ((counted_touches Down s (Some y) x).touched (a x c).unreleased (omega (arith, ap one e))) (ap (λ t. (slot_at t x).colour) (sym down) ∙ o))
 
 -- the zeros are to be released
 zeros_spares : (lowers : Bool) (w : Parts) (x : ℕ) → Spares w.counts (zeros_released lowers w).parts.counts x 0
@@ -170,26 +170,20 @@ clears_leave p q turn x {b} has (ClearsOn.works phase at g) early = (same_spares
 clears_leave p q turn x {b} has (ClearsOn.tests v none some tested on) early = let more = clears_leave p q turn x (tested_setting b.parts v tested) on early in (spares_then (tested_spares b.parts v x tested) more.0, more.1)
 clears_leave p q turn x has (ClearsOn.tries none empty on) early = absurd (early (tries_late p q _ _ turn on))
 
--- at rest no member is released
-rest_unreleased : (p : Private) (number x : ℕ) → IsAtRest (parts_of p) → (slot_at p.counts x).set ≡ Some number → (slot_at p.counts x).released ≡ false
-rest_unreleased p number x r is = elim (cases_lt x (length p.counts.slots)) [
-  | inl below ↦ none_released r x below
-  | inr past ↦ let none : None ≡ Some number = ap (λ (v : Slot). v.set) (sym (get_or_past p.counts.slots x absent past)) ∙ is in absurd (cc)
-]
-
-batched_spares : (p : Private) (x : ℕ) → IsAtRest (parts_of p) → Spares p.counts (batch p.counts p.newer p.older) x (added x p.newer + taken x p.older + leaf_births x p.newer)
-batched_spares p x r = record {
-  each = λ number o.
-      let was : (slot_at p.counts x).set ≡ Some number = sym ((batch_rests p.counts p.newer p.older).set x) ∙ o.0 in
-      let b = batch_same p.counts p.newer p.older x (rest_unreleased p number x r was) o.1 in
-      record {
-        orange = (was, ap (λ (v : Slot). v.colour) (sym b.0) ∙ o.1);
-        lowered = 0;
-        count = omega (arith, ap (λ (v : Slot). v.count) b.0);
-        cyclic = omega (arith, ap (λ (v : Slot). v.cyclic) b.0);
-        unnamed = b.1;
-      };
-}
+batched_spares : (p : Private) (x : ℕ) → IsAtRest (parts_of p) → IsCovered p.counts p.newer p.older → Spares p.counts (batch p.counts p.newer p.older) x (names x p.newer p.older)
+batched_spares p x r c =
+    let is : IsBatch p.counts p.newer p.older (batch p.counts p.newer p.older) = is_batch p.counts p.newer p.older r.zeros c in
+    record {
+      each = λ number o.
+          let b = batch_same is (none_released r) x o.1 in
+          record {
+            orange = (sym (is.rest.set x) ∙ o.0, ap (λ (v : Slot). v.colour) (sym b.0) ∙ o.1);
+            lowered = 0;
+            count = omega (arith, ap (λ (v : Slot). v.count) b.0);
+            cyclic = omega (arith, ap (λ (v : Slot). v.cyclic) b.0);
+            unnamed = b.1;
+          };
+    }
 
 counts_started : (p : Private) → (sweeps.started_of p.counts).counts ≡ p.counts
 unfolding sweeps.started_of
@@ -227,7 +221,7 @@ module _ (p q : Private) (word x : ℕ) (turn : Turn) (k : IsMachine p) (same : 
       let w : Parts = record (parts_of p) { counts = batch p.counts p.newer p.older } in
       let n : ℕ = added x p.newer + taken x p.older + leaf_births x p.newer in
       clears (zeros_setting false w) on (ap under_way at) (ap (tried_at p.epoch) at)
-      (spares_then (batched_spares p x (now_at p (Returning t) k at).rest) (zeros_spares false w x))
+      (spares_then (batched_spares p x (now_at p (Returning t) k at).rest (subst (IsGivenAt p word) at given last)) (zeros_spares false w x))
       (named_as at ∙ cond-true (t == length p.newer) n 0 (eq-eqb t (length p.newer) last))
   step_leaves given has (Step.release m at is on) =
       let now = now_at p (Releasing m) k at in

@@ -1,20 +1,13 @@
 -- What a machine may be given: the word that a step finds, and the buffer of a mailbox.
-use Rattle.std.specs.Prelude.{◌≡◌, ℕ, ◌+◌, ◌<◌, ◌≤◌, ◌^◌, Option, None, Some, IfSome, List, length}
+use Rattle.std.specs.Prelude.{◌≡◌, ℕ, ◌<◌, Option, None, Some, IfSome, length}
 use Rattle.rec_word.specs.Word.{target_of}
 use Rattle.rec_log.specs.declared.contents.Contents.{Contents}
-use Rattle.rec_counts.specs.Counts.{State, slot_at}
-use Rattle.rec_apply.specs.Targets.{added, leaves, taken}
+use Rattle.rec_counts.specs.Counts.{slot_at}
+use Rattle.rec_apply.specs.Batch.{IsCovered}
 use Rattle.rec_trial.specs.Rules.{LeadsToUnreleased}
 use Rattle.rec_collector.specs.Private.{Private}
 use Rattle.rec_collector.specs.declared.phase.Phase.{Phase}
 use Rattle.rec_collector.specs.declared.phase.Phase.TheVariants.{Swapping, Returning, Releasing, Freeing, Trying, Preparing, Sweeping}
-
--- these buffers name slots that are there, and no count passes the greatest or falls below zero
-pub record IsCovered (s : State) (newer older : List Contents) : Type 0 where
-  pub in_range : (x : ℕ) → length s.slots ≤ x → added x newer + taken x older ≡ 0
-  pub born : (x : ℕ) → length s.slots ≤ x → leaves x newer ≡ 0
-  pub fits : (x : ℕ) → (slot_at s x).count + added x newer < 2 ^ 64
-  pub covered : (x : ℕ) → taken x older ≤ (slot_at s x).count + added x newer
 
 -- what the word found has to be, by phase: with the last mailbox given back the batch is covered; what comes out of a field
 -- is counted; what is loaded for a trial leads to no released slot, and for a preparation to a slot that is there; a mailbox that

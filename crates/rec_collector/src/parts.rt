@@ -1,5 +1,5 @@
 ghost use Rattle.std.specs.Prelude.{◌≡◌, ◌+◌, ◌<◌, None, Some, length, false, true};
-ghost use Rattle.rec_apply.specs.Batch.{batch};
+ghost use Rattle.rec_apply.specs.Batch.{batch, IsCovered};
 ghost use Rattle.rec_release.specs.CycleFree.{IsFreeable, started_of};
 ghost use Rattle.rec_release.specs.Release.{IsReady};
 ghost use Rattle.rec_trial.specs.Rules.{IsReady as IsReadyForTrial};
@@ -7,7 +7,6 @@ ghost use Rattle.rec_collector.specs.Clearing.{IsClear, IsCleared, IsFewTold};
 ghost use Rattle.rec_collector.specs.Followed.{followed, prep_started, prepared, sweep_phase, trial_started, with_offers, worked};
 ghost use Rattle.rec_collector.specs.Kept.{NoneReleased};
 ghost use Rattle.rec_collector.specs.Zeros.{AreCounted};
-ghost use Rattle.rec_collector.specs.Given.{IsCovered};
 ghost use Rattle.rec_collector.specs.Parts.{new_freeing, new_parts};
 ghost use Rattle.rec_collector.specs.Works.{MayWork};
 ghost use Rattle.rec_collector.specs.Testing.{last_tested, with_freeing, zeros_released};

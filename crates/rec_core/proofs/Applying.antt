@@ -1,6 +1,6 @@
 -- The batch: with the last mailbox given back, what the buffers name is counted, and the accounts are those of the next epoch.
 use Rattle.std.proofs.Common.{◌≡◌, ◌⊎◌, inl, inr, ℕ, ◌+◌, ◌-◌, ◌*◌, ◌<◌, ◌≤◌, ◌==◌, nat_lt, if◌then◌else◌, Bool, true, List, [], ◌∷◌, ◌++◌, suc, Option, None, Some, length, map, slice_index_or, refl, sym, ap, subst, ◌∙◌, arith}
-use Rattle.std.specs.List.{sum_by, flat_map}
+use Rattle.std.specs.List.{sum_by}
 use Rattle.std.proofs.Math.Nat.{suc-mul, mul-le-mul}
 use Rattle.std.proofs.lemmas.Bool.{cases_eq, cases_lt, eq-eqb, lt-ltb, lt-leb, cond-true}
 use Rattle.std.proofs.lemmas.List.{get_or_past, get_or_default}
@@ -19,15 +19,12 @@ use Rattle.rec_log.specs.declared.contents.Contents.{Contents}
 use Rattle.rec_log.specs.declared.entry.Entry.{Entry}
 use Rattle.rec_log.specs.declared.entry.Entry.TheVariants as entries
 use Rattle.rec_counts.specs.Counts.{State, slot_at}
-use Rattle.rec_counts.specs.Rest.{KeepsRest, AreZeros}
 use Rattle.rec_counts.specs.Slot.{fresh, absent}
 use Rattle.rec_counts.specs.declared.slot.Slot.{Slot}
-use Rattle.rec_apply.specs.Batch.{batch, up_targets, down_targets, all_up, CanRise, CanFall}
+use Rattle.rec_apply.specs.Batch.{batch, IsBatch, IsCovered}
 use Rattle.rec_apply.specs.Targets as targets
-use Rattle.rec_apply.proofs.Falling.{fall_zeros_all}
-use Rattle.rec_apply.proofs.Whole.{batch_rises, batch_falls, batch_counts, batch_rests, greened_by}
+use Rattle.rec_apply.proofs.Whole.{is_batch}
 use Rattle.rec_mutator.specs.Private.{Private}
-use Rattle.rec_collector.specs.Given.{IsCovered}
 use Rattle.rec_collector.specs.Private as collectors
 use Rattle.rec_collector.specs.Kept as collector_kept
 use Rattle.rec_collector.specs.declared.phase.Phase.TheVariants.{Returning}
@@ -354,20 +351,11 @@ module _ (w : Core) (t : ℕ) (kept : IsKept w) (phase : w.collector.phase ≡ R
   abbrev pub counted : State
   counted = batch c.counts c.newer c.older
 
-  rises : CanRise (greened_by c.counts c.newer) (flat_map up_targets c.newer)
-  rises = batch_rises c.counts c.newer c.older covered.in_range covered.fits
-
   zeros_before : c.counts.zeros ≡ []
   zeros_before = (now_at w (Returning t) kept phase).rest.zeros
 
-  pub falls : CanFall (all_up (greened_by c.counts c.newer) (flat_map up_targets c.newer)) (flat_map down_targets c.older)
-  falls = batch_falls c.counts c.newer c.older zeros_before rises covered.covered
-
-  pub counted_rest : KeepsRest c.counts counted
-  counted_rest = batch_rests c.counts c.newer c.older
-
-  pub counted_zeros : AreZeros counted
-  counted_zeros = fall_zeros_all (all_up (greened_by c.counts c.newer) (flat_map up_targets c.newer)) (flat_map down_targets c.older) falls.zeros
+  pub is_counted : IsBatch c.counts c.newer c.older counted
+  is_counted = is_batch c.counts c.newer c.older zeros_before covered
 
   -- no register is of an epoch that is applied
   all_crossed : sum_by (is_up_to (applied_at w.epoch c.phase + 1)) (registers_of w) ≡ 0
@@ -397,11 +385,11 @@ module _ (w : Core) (t : ℕ) (kept : IsKept w) (phase : w.collector.phase ≡ R
     released = λ x _. elim (cases_lt (x - 1) w.config.slots) [
       | inl below ↦
           let old : slot_in c.counts x ≡ slot_at c.counts (x - 1) = get_or_default c.counts.slots (x - 1) fresh absent (omega (arith, slots_are)) in
-          let new : slot_in counted x ≡ slot_at counted (x - 1) = get_or_default counted.slots (x - 1) fresh absent (omega (arith, slots_are, counted_rest.slots)) in
-          ap (λ (v : Slot). v.released) new ∙ counted_rest.released (x - 1) ∙ ap (λ (v : Slot). v.released) (sym old)
+          let new : slot_in counted x ≡ slot_at counted (x - 1) = get_or_default counted.slots (x - 1) fresh absent (omega (arith, slots_are, is_counted.rest.slots)) in
+          ap (λ (v : Slot). v.released) new ∙ is_counted.rest.released (x - 1) ∙ ap (λ (v : Slot). v.released) (sym old)
       | inr past ↦
           let old : slot_in c.counts x ≡ fresh = get_or_past c.counts.slots (x - 1) fresh (omega (arith, past, slots_are)) in
-          let new : slot_in counted x ≡ fresh = get_or_past counted.slots (x - 1) fresh (omega (arith, past, slots_are, counted_rest.slots)) in
+          let new : slot_in counted x ≡ fresh = get_or_past counted.slots (x - 1) fresh (omega (arith, past, slots_are, is_counted.rest.slots)) in
           ap (λ (v : Slot). v.released) (new ∙ sym old)
     ];
     leaf = λ x _. refl;
@@ -414,13 +402,13 @@ module _ (w : Core) (t : ℕ) (kept : IsKept w) (phase : w.collector.phase ≡ R
           elim (cases_lt x w.config.slots) [
             | inl below ↦ omega (
               arith,
-              batch_counts c.counts c.newer c.older rises falls x,
+              is_counted.count x,
               ap (taken (pending w)) is,
               ap (added (pending w)) is,
               taken_is x,
               added_is x,
               ap (λ (v : Slot). v.count) (get_or_default c.counts.slots x fresh absent (omega (arith, slots_are))),
-              ap (λ (v : Slot). v.count) (get_or_default counted.slots x fresh absent (omega (arith, slots_are, counted_rest.slots))),
+              ap (λ (v : Slot). v.count) (get_or_default counted.slots x fresh absent (omega (arith, slots_are, is_counted.rest.slots))),
             )
             | inr past ↦ omega (
               arith,
@@ -431,6 +419,6 @@ module _ (w : Core) (t : ℕ) (kept : IsKept w) (phase : w.collector.phase ≡ R
               taken_is x,
               added_is x,
               ap (λ (v : Slot). v.count) (get_or_past c.counts.slots x fresh (omega (arith, past, slots_are))),
-              ap (λ (v : Slot). v.count) (get_or_past counted.slots x fresh (omega (arith, past, slots_are, counted_rest.slots))),
+              ap (λ (v : Slot). v.count) (get_or_past counted.slots x fresh (omega (arith, past, slots_are, is_counted.rest.slots))),
             )
           ]

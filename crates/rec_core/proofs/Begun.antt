@@ -13,7 +13,8 @@ use Rattle.rec_counts.specs.Lists.{one, times}
 use Rattle.rec_counts.specs.Slot.{absent}
 use Rattle.rec_counts.specs.declared.slot.Slot.{Slot}
 use Rattle.rec_counts.proofs.Times.{times-nil}
-use Rattle.rec_apply.proofs.Kept.{batch_kept}
+use Rattle.rec_apply.specs.Batch.{IsBatch}
+use Rattle.rec_apply.specs.Targets.{leaves}
 use Rattle.rec_release.specs.Release.{IsReady}
 use Rattle.rec_collector.specs.Clearing.{IsCleared}
 use Rattle.rec_collector.specs.Kept as collector_kept
@@ -30,13 +31,12 @@ use Rattle.rec_core.specs.Core.{Core}
 use Rattle.rec_core.specs.CyclesAt.{HasCyclesAt}
 use Rattle.rec_core.specs.Kept.{freeing_due, Stand, stand_at, one_if_sweeping, IsKept}
 use Rattle.rec_core.specs.Pending.{older_at, pending}
-use Rattle.rec_core.proofs.Applying.{last_is, counted, counted_rest, counted_zeros, falls, added_is, applies, leaves_are}
+use Rattle.rec_core.proofs.Applying.{last_is, counted, is_counted, added_is, applies, leaves_are}
 use Rattle.rec_core.proofs.Counts.{counted_slot}
 use Rattle.rec_core.proofs.CyclesBatch.{is_batch_of, sets_test_begun}
 use Rattle.rec_core.proofs.Landed.{landed_pending, HasCleared}
 use Rattle.rec_core.proofs.Turns.{now_at, returned_mutators}
 use Rattle.rec_core.proofs.Zeros.{HasCome, cleared, zeros_come}
-use Rattle.rec_collector.proofs.Greens.{batch_greens}
 
 -- a member of a set is a slot that is there
 member_there : (s : State) (x : ℕ) → IsKeptCounts s → 0 < times x (concat s.sets) → x < length s.slots
@@ -59,11 +59,14 @@ module _ (w : Core) (t : ℕ) (kept : IsKept w) (phase : w.collector.phase ≡ R
   -- nothing was at work before
   open (now_at w (Returning t) kept phase) use {rest}
 
+  is : IsBatch c.counts c.newer c.older s
+  is = is_counted w t kept phase last
+
   ready : IsReady s
-  ready = record { zeros = counted_zeros w t kept phase last; free = λ x there. absurd (omega (arith, there, ap (times x) ((counted_rest w t kept phase last).free ∙ rest.free), times-nil x)) }
+  ready = record { zeros = is.zeros; free = λ x there. absurd (omega (arith, there, ap (times x) (is.rest.free ∙ rest.free), times-nil x)) }
 
   unreleased : (x : ℕ) → x < w.config.slots → (slot_at s x).released ≡ true → ⊥
-  unreleased x below is = false≢true (sym (none_released rest x (omega (arith, below, slots))) ∙ sym ((counted_rest w t kept phase last).released x) ∙ is)
+  unreleased x below gone = false≢true (sym (none_released rest x (omega (arith, below, slots))) ∙ sym (is.rest.released x) ∙ gone)
 
   -- the members of the sets are not released
   alive : (x : ℕ) → 0 < times x (concat c.counts.sets) → (pending w).released (x + 1) ≡ false
@@ -73,7 +76,7 @@ module _ (w : Core) (t : ℕ) (kept : IsKept w) (phase : w.collector.phase ≡ R
 
   pub batch_comes : HasCome w (slice_set w.crossing (t - 1) (crossing_word w.epoch Spare)) w.words (still batched)
   batch_comes =
-      let is : IsMutator w.config t = last_is w t kept phase last in
+      let there : IsMutator w.config t = last_is w t kept phase last in
       let move = Move.batch (applies w t kept phase last) in
       let many : length c.newer ≡ w.config.mutators = kept.collector.mutators in
       record {
@@ -82,21 +85,21 @@ module _ (w : Core) (t : ℕ) (kept : IsKept w) (phase : w.collector.phase ≡ R
           way = ap collector_kept.under_way phase;
           still = ap one_if_sweeping phase;
           older = ap (older_at w.epoch) phase;
-          mutators = returned_mutators w t kept phase is {next = Opening} refl (λ s_ there other.
-              let up : s_ ≤ t = omega (arith, there.1, many) in
+          mutators = returned_mutators w t kept phase there {next = Opening} refl (λ s_ own other.
+              let up : s_ ≤ t = omega (arith, own.1, many) in
               sym (ap (λ q. stand_at q s_) phase ∙ cond-true (nat_lt s_ t) Stand.Done (if s_ == t then Stand.Held else Stand.Due) (lt-ltb s_ t (omega arith))));
           accounted = move_accounted move kept.accounted;
           uncounted = λ _. move_uncounted move kept.accounted (kept.uncounted (ap freeing_due phase));
           sound = kept.sound;
-          greens = λ x green. elim (batch_greens c.counts c.newer c.older x green) [ inl old ↦ kept.greens x old | inr born ↦ leaves_are w t kept phase last x born ];
+          greens = λ x green. elim (cases_lt 0 (leaves x c.newer)) [ inl born ↦ leaves_are w t kept phase last x born | inr none ↦ kept.greens x (sym (is.greens x (omega (arith, none))) ∙ green) ];
           many_words = refl;
-          slots = (counted_rest w t kept phase last).slots ∙ slots;
+          slots = is.rest.slots ∙ slots;
           fields = kept.collector.fields;
-          counts = batch_kept c.counts c.newer c.older (falls w t kept phase last) kept.collector.machine.counts;
+          counts = is.lists kept.collector.machine.counts;
           listed = ready.free;
           emptied = λ x f below within released. absurd (unreleased x below released);
         };
-        tests = sets_test_begun (pending w) (landed_pending w w.words s) c.counts s kept.accounted (applies w t kept phase last) alive (is_batch_of (pending w) c.counts c.newer c.older (added_is w t kept phase last))
+        tests = sets_test_begun (pending w) (landed_pending w w.words s) c.counts s kept.accounted (applies w t kept phase last) alive (is_batch_of (pending w) is (none_released rest) (added_is w t kept phase last))
             (subst (HasCyclesAt (pending w) c) phase kept.cycles);
       }
 
@@ -104,9 +107,9 @@ module _ (w : Core) (t : ℕ) (kept : IsKept w) (phase : w.collector.phase ≡ R
   batch_clears : Clears (zeros_released false batched) 0
   batch_clears =
       let before : IsCleared (parts_of c) = resting_cleared (parts_of c) rest in
-      let tidy = batched_clear c.fields c.counts c.newer c.older (falls w t kept phase last) before.tidy rest.counted before.ready before.work in
-      zeros_clear false batched 0 kept.collector.machine.some_fields (batch_kept c.counts c.newer c.older (falls w t kept phase last) kept.collector.machine.counts) tidy.0 tidy.1 ((counted_rest w t kept phase last).work ∙ before.work)
-      (none_exchanged batched (λ x l. (counted_rest w t kept phase last).released x ∙ none_released rest x (omega (arith, l, (counted_rest w t kept phase last).slots))))
+      let tidy = batched_clear is (none_released rest) before.tidy rest.counted before.ready before.work in
+      zeros_clear false batched 0 kept.collector.machine.some_fields (is.lists kept.collector.machine.counts) tidy.0 tidy.1 (is.rest.work ∙ before.work)
+      (none_exchanged batched (λ x l. is.rest.released x ∙ none_released rest x (omega (arith, l, is.rest.slots))))
 
   -- The batch is applied, and the first of its zeros is released.
   pub applied_lands : HasCleared w (slice_set w.crossing (t - 1) (crossing_word w.epoch Spare)) w.words (zeros_released false batched)

@@ -1,15 +1,13 @@
 -- The batch of a heap at rest: it counts what registers name, and no register names a member of a set. So nothing holds the sets still.
-use Rattle.std.proofs.Common.{◌≡◌, ℕ, ◌+◌, ◌-◌, ◌<◌, Bool, false, Option, None, Some, List, [], length, map, sym, ap, subst, ◌∙◌, arith, ◌/◌, ◌≢◌, ◌∷◌, ◌++◌, true, inl, inr, refl, slice_index_or, suc}
-use Rattle.std.specs.List.{flat_map}
+use Rattle.std.proofs.Common.{◌≡◌, ℕ, ◌+◌, ◌-◌, ◌<◌, Bool, false, Option, None, Some, List, [], length, map, sym, ap, subst, ◌∙◌, arith, ◌/◌, ◌≢◌, ◌∷◌, true, inl, inr, refl, slice_index_or}
 use Rattle.std.proofs.lemmas.List.Sums.{get_or-le-sum_by}
 use Rattle.rec_model.proofs.Sums.{sum_by-map}
 use Rattle.rec_log.specs.declared.contents.Contents.{Contents}
 use Rattle.rec_log.specs.declared.entry.Entry.{Entry}
 use Rattle.rec_counts.specs.Counts.{State, slot_at}
-use Rattle.rec_counts.specs.Rest.{KeepsRest}
-use Rattle.rec_apply.specs.Batch.{batch, down_targets, up_targets, all_counted, all_down, all_greened, all_up, leaf_targets}
-use Rattle.rec_apply.specs.Targets.{new_target, old_target, named, leaf_born}
-use Rattle.rec_apply.proofs.Naming.{named-nil, added_is, taken_is}
+use Rattle.rec_apply.specs.Batch.{batch, names, IsBatch}
+use Rattle.rec_apply.specs.Targets.{added, leaf_born, leaves, named, new_target, old_target, taken}
+use Rattle.rec_apply.proofs.Naming.{named-nil}
 use Rattle.rec_release.specs.Release.{started_of, IsReady, emptied, next_from, without_first}
 use Rattle.rec_mutator.specs.Private.{Private}
 use Rattle.rec_collector.specs.Clearing.{IsCleared}
@@ -20,16 +18,16 @@ use Rattle.rec_collector.specs.Testing.{Begun, zeros_released, releasing_at}
 use Rattle.rec_collector.specs.Took.{batched}
 use Rattle.rec_collector.specs.declared.phase.Phase.{Phase}
 use Rattle.rec_collector.specs.declared.phase.Phase.TheVariants.{Returning, Freeing}
-use Rattle.rec_collector.proofs.Following.{batched_clear, resting_cleared}
+use Rattle.rec_collector.proofs.Following.{batched_clear, none_released, resting_cleared}
 use Rattle.rec_core.specs.Config.{IsMutator}
 use Rattle.rec_core.specs.Core.{Core, mutator, nobody, sight}
 use Rattle.rec_core.specs.Kept.{IsKept}
 use Rattle.rec_core.specs.Quiet.{IsRetired}
 use Rattle.rec_core.specs.Resting.{AreCounted, FreesRest, SetsRest, holds, AreLeaves}
-use Rattle.rec_core.proofs.Applying.{counted_rest, counted_zeros, falls}
+use Rattle.rec_core.proofs.Applying.{is_counted}
 use Rattle.rec_core.proofs.Batches.{none_of}
 use Rattle.rec_core.proofs.Rest.SecondReach.{green_zeros_rest}
-use Rattle.rec_core.proofs.Rest.SettlingBetween.{AreOutside, unheld_batch, same_counted}
+use Rattle.rec_core.proofs.Rest.SettlingBetween.{unheld_batch}
 use Rattle.rec_core.proofs.Turns.{now_at}
 use Rattle.std.proofs.lemmas.Bool.{cases_eq, cases_lt, false≢true}
 use Rattle.std.proofs.lemmas.List.{get_or_past}
@@ -123,13 +121,6 @@ greens_released w words lowers v ready leaves zeros rest =
     by None e r = r
     by (Some a) e r = let not_so : ◌≡◌ {A = Option At} (Some a) None = e in absurd (cc)
 
--- buffers without entries bear no leaves
-nothing_born : (bs : List Contents) → ((i : ℕ) → i < length bs → (buffer_at bs i).entries ≡ []) → flat_map leaf_targets bs ≡ []
-nothing_born [] none = refl
-nothing_born (b ∷ bs) none =
-    let first : b.entries ≡ [] = none 0 (omega arith) in
-    ap (λ (es : List Entry). (map leaf_born es ++ []) ++ flat_map leaf_targets bs) first ∙ nothing_born bs (λ i below. none (suc i) (omega (arith, below)))
-
 -- what a buffer without entries adds and takes off is what its snapshot names
 added_by : (x : ℕ) (registers : List (Option ℕ)) (b : Contents) → IsRetired registers b → named x registers ≡ 0 → named x (map new_target b.entries) + named x b.snapshot ≡ 0
 added_by x registers b retired none = omega (arith, ap (λ (es : List Entry). named x (map new_target es)) retired.entries, named-nil x, ap (named x) retired.snapshot, none)
@@ -155,49 +146,43 @@ module _ (w : Core) (t : ℕ) (kept : IsKept w) (phase : w.collector.phase ≡ R
       let none : holds (sight w) x ≡ 0 = rested.unnamed x i is in
       omega (arith, none, get_or-le-sum_by (λ (p : Private). named x p.registers) w.mutators (m - 1) nobody within, sum_by-map (named x) (λ (p : Private). p.registers) w.mutators)
 
-  numbered : (place : ℕ) → place < w.config.mutators → IsMutator w.config (place + 1)
-  numbered place below = (omega arith, omega arith)
-
-  outside_up : AreOutside c.counts (flat_map up_targets c.newer)
-  outside_up x i is = added_is x c.newer ∙ none_of (λ (b : Contents). named x (map new_target b.entries) + named x b.snapshot) c.newer (collectors.blank 0 0) (λ place below.
-      let there : IsMutator w.config (place + 1) = numbered place (omega (arith, below, kept.collector.mutators)) in
+  -- the buffers of the mutator with this place
+  own : (place : ℕ) → place < w.config.mutators → IsMutator w.config (place + 1) × IsRetired (mutator w (place + 1)).registers (buffer_at c.newer place) × IsRetired (mutator w (place + 1)).registers (buffer_at c.older place)
+  own place below =
+      let there : IsMutator w.config (place + 1) = (omega arith, omega arith) in
       let at : place + 1 - 1 ≡ place = omega arith in
-      let own : IsRetired (mutator w (place + 1)).registers (buffer_at c.newer place) = subst (λ n. IsRetired (mutator w (place + 1)).registers (buffer_at c.newer n)) at (retired (place + 1) there).0 in
-      added_by x (mutator w (place + 1)).registers (buffer_at c.newer place) own (unnamed x i (place + 1) is there))
-
-  outside_down : AreOutside c.counts (flat_map down_targets c.older)
-  outside_down x i is = taken_is x c.older ∙ none_of (λ (b : Contents). named x (map old_target b.entries) + named x b.snapshot) c.older (collectors.blank 0 0) (λ place below.
-      let both : length c.older ≡ length c.newer = kept.collector.machine.both in
-      let there : IsMutator w.config (place + 1) = numbered place (omega (arith, below, both, kept.collector.mutators)) in
-      let at : place + 1 - 1 ≡ place = omega arith in
-      let own : IsRetired (mutator w (place + 1)).registers (buffer_at c.older place) = subst (λ n. IsRetired (mutator w (place + 1)).registers (buffer_at c.older n)) at (retired (place + 1) there).1 in
-      taken_by x (mutator w (place + 1)).registers (buffer_at c.older place) own (unnamed x i (place + 1) is there))
+      let both = subst (λ n. IsRetired (mutator w (place + 1)).registers (buffer_at c.newer n) × IsRetired (mutator w (place + 1)).registers (buffer_at c.older n)) at (retired (place + 1) there) in
+      (there, both.0, both.1)
 
   -- nothing was born
-  no_leaves : s ≡ all_down (all_up c.counts (flat_map up_targets c.newer)) (flat_map down_targets c.older)
-  unfolding all_counted
-  no_leaves = ap (λ ts. all_down (all_up (all_greened c.counts ts) (flat_map up_targets c.newer)) (flat_map down_targets c.older)) (nothing_born c.newer (λ place below.
-      let there : IsMutator w.config (place + 1) = numbered place (omega (arith, below, kept.collector.mutators)) in
-      let at : place + 1 - 1 ≡ place = omega arith in
-      subst (λ n. (buffer_at c.newer n).entries ≡ []) at (retired (place + 1) there).0.entries))
+  unborn : (x : ℕ) → leaves x c.newer ≡ 0
+  unborn x = none_of (λ (b : Contents). named x (map leaf_born b.entries)) c.newer (collectors.blank 0 0) (λ place below.
+      ap (λ (es : List Entry). named x (map leaf_born es)) (own place (omega (arith, below, kept.collector.mutators))).1.entries ∙ named-nil x)
 
-  same_green : (x : ℕ) → is_green (slot_at s x).colour ≡ is_green (slot_at c.counts x).colour
-  same_green x = ap (λ t. is_green (slot_at t x).colour) no_leaves ∙ same_counted c.counts (flat_map up_targets c.newer) (flat_map down_targets c.older) x
+  -- and the batch names no member
+  spared : (x i : ℕ) → (slot_at c.counts x).set ≡ Some i → names x c.newer c.older ≡ 0
+  spared x i is =
+      let up : added x c.newer ≡ 0 = none_of (λ (b : Contents). named x (map new_target b.entries) + named x b.snapshot) c.newer (collectors.blank 0 0) (λ place below.
+      let o = own place (omega (arith, below, kept.collector.mutators)) in
+      added_by x (mutator w (place + 1)).registers (buffer_at c.newer place) o.1 (unnamed x i (place + 1) is o.0)) in
+      let down : taken x c.older ≡ 0 = none_of (λ (b : Contents). named x (map old_target b.entries) + named x b.snapshot) c.older (collectors.blank 0 0) (λ place below.
+      let o = own place (omega (arith, below, kept.collector.machine.both, kept.collector.mutators)) in
+      taken_by x (mutator w (place + 1)).registers (buffer_at c.older place) o.2 (unnamed x i (place + 1) is o.0)) in
+      omega (arith, up, down, unborn x)
 
-  keeps : KeepsRest c.counts s
-  keeps = counted_rest w t kept phase last
+  is : IsBatch c.counts c.newer c.older s
+  is = is_counted w t kept phase last
 
   rested_then : SetsRest w w.words [] s
   rested_then = record {
-    unheld = subst (AreUnheld w.config.fields w.words []) (sym no_leaves) (unheld_batch w.config.fields w.words [] c.counts (flat_map up_targets c.newer) (flat_map down_targets c.older) outside_up outside_down rested.unheld);
-    found = λ x unreleased other none. rested.found x (sym (keeps.released x) ∙ unreleased) (sym (same_green x) ∙ other) (sym (keeps.set x) ∙ none);
-    unnamed = λ x i is. rested.unnamed x i (sym (keeps.set x) ∙ is);
+    unheld = unheld_batch w.config.fields w.words [] is spared rested.unheld;
+    found = λ x unreleased other none. rested.found x (sym (is.rest.released x) ∙ unreleased) (sym (is.greens x (unborn x)) ∙ other) (sym (is.rest.set x) ∙ none);
+    unnamed = λ x i e. rested.unnamed x i (sym (is.rest.set x) ∙ e);
   }
 
   -- The batch is applied. All zeros that it leaves are Green, as the counts come to what fields and registers name.
   pub frees_rest_applied : AreCounted w w.words (batch w.collector.counts w.collector.newer w.collector.older) → FreesOn w w.words (zeros_released false (batched w.collector))
   frees_rest_applied counted =
       let before : IsCleared (parts_of c) = resting_cleared (parts_of c) rest in
-      let tidy = batched_clear c.fields c.counts c.newer c.older (falls w t kept phase last) before.tidy rest.counted before.ready before.work in
-      let ready : IsReady s = record { zeros = counted_zeros w t kept phase last; free = tidy.1.free } in
-      greens_released w w.words false (batched c) ready (leaves_landed (batch_comes w t kept phase last).landed) (green_zeros_rest w w.words [] s (keeps.slots ∙ kept.collector.slots) (counted_zeros w t kept phase last) tidy.0.apart counted rested_then) rested_then
+      let tidy = batched_clear is (none_released rest) before.tidy rest.counted before.ready before.work in
+      greens_released w w.words false (batched c) tidy.1 (leaves_landed (batch_comes w t kept phase last).landed) (green_zeros_rest w w.words [] s (is.rest.slots ∙ kept.collector.slots) is.zeros tidy.0.apart counted rested_then) rested_then

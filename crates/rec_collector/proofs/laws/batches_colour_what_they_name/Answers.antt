@@ -1,5 +1,6 @@
-use Rattle.rec_collector.proofs.Outside.{batch_touches}
+-- Touched slots aren't Orange, and others stay.
+use Rattle.rec_apply.proofs.Touching.{batch_orange}
 use Rattle.rec_collector.proofs.laws.batches_colour_what_they_name.Goals as goal
 
 pub returns : goal.returns
-returns c = batch_touches
+returns c = batch_orange
