@@ -2,10 +2,13 @@
 use Rattle.std.proofs.Common.{◌≡◌, ℕ, zero, suc, ◌+◌, ◌-◌, ◌<◌, ◌≤◌, List, [], ◌∷◌, ◌++◌, length, get_or, set, take, drop, length-set, refl, sym, ap, ◌∙◌, subst, arith}
 use Rattle.std.proofs.Math.Seq.{take-append_seam, drop-append_seam, drop-append-add, drop-nil}
 use Rattle.std.proofs.lemmas.List.{get_or_append_left, get_or-append-add, set-append_left, length-take-le, length-drop, take-append-drop}
+use Rattle.rec_word.specs.Op.{cell_of}
+use Rattle.rec_word.specs.declared.cell.Cell.{Cell}
+use Rattle.rec_word.specs.declared.cell.Cell.TheVariants.{Field, Header, Epoch, Freed, Crossing}
 use Rattle.rec_word.specs.declared.op.Op.{Op}
 use Rattle.rec_word.specs.declared.op.Op.TheVariants as ops
-use Rattle.rec_core.specs.Cells.{Cells, IsWithin, cell, with_cell}
-use Rattle.rec_core.specs.Row.{row, index_of, cells_of_row}
+use Rattle.rec_core.specs.Cells.{Cells, IsThere, IsWithin, cell, with_cell, with_word, word_at}
+use Rattle.rec_core.specs.Row.{row, index_at, index_of, cells_of_row}
 
 -- a number behind the first of two lists, read and written
 get_behind : (l m : List ℕ) (i j : ℕ) → j ≡ length l + i → get_or (l ++ m) j 0 ≡ get_or m i 0
@@ -44,24 +47,13 @@ module _ (cells : Cells) where
       read_tail (t + 1) (length cells.words + length cells.headers + 1 + t) (omega arith)
       ∙ get_third cells.epoch cells.freed cells.crossing (t - 1) (t + 1) (omega (arith, le))
 
-  -- the word that an operation names
-  pub row_read : (op : Op) → IsWithin cells op → get_or (row cells) (index_of (length cells.words) (length cells.headers) op) 0 ≡ cell cells op
-  row_read (ops.LoadField place) is = get_or_append_left cells.words _ 0 place is
-  row_read (ops.SwapField place word) is = get_or_append_left cells.words _ 0 place is
-  row_read (ops.LoadChild place) is = get_or_append_left cells.words _ 0 place is
-  row_read (ops.ClearField place) is = get_or_append_left cells.words _ 0 place is
-  row_read (ops.LoadHeader slot) is = read_header slot is
-  row_read (ops.ClaimHeader slot header) is = read_header slot is.0
-  row_read (ops.FreeHeader slot) is = read_header slot is
-  row_read ops.LoadEpoch is = read_tail 0 (length cells.words + length cells.headers) (omega arith)
-  row_read (ops.StoreEpoch e) is = read_tail 0 (length cells.words + length cells.headers) (omega arith)
-  row_read ops.LoadFreed is = read_tail 1 (length cells.words + length cells.headers + 1) refl
-  row_read ops.AddFreed is = read_tail 1 (length cells.words + length cells.headers + 1) refl
-  row_read (ops.LoadCross t) is = read_crossing t is.0
-  row_read (ops.TakeBox t e) is = read_crossing t is.0
-  row_read (ops.GiveBox t e) is = read_crossing t is.0
-  row_read (ops.LookBox t e) is = read_crossing t is.0
-  row_read (ops.ReturnBox t e) is = read_crossing t is.0
+  -- a word of the heap
+  read_at : (cell : Cell) → IsThere cells cell → get_or (row cells) (index_at (length cells.words) (length cells.headers) cell) 0 ≡ word_at cells cell
+  read_at (Field place) is = get_or_append_left cells.words _ 0 place is
+  read_at (Header slot) is = read_header slot is
+  read_at Epoch is = read_tail 0 (length cells.words + length cells.headers) (omega arith)
+  read_at Freed is = read_tail 1 (length cells.words + length cells.headers + 1) refl
+  read_at (Crossing t) is = read_crossing t is.0
 
   write_header : (slot x : ℕ) → slot < length cells.headers → set (row cells) (length cells.words + slot) x ≡ row (record cells { headers = set cells.headers slot x })
   write_header slot x lt =
@@ -79,37 +71,33 @@ module _ (cells : Cells) where
       ∙ ap (λ k. cells.words ++ (cells.headers ++ k)) (set_third cells.epoch cells.freed cells.crossing (t - 1) (t + 1) x (omega (arith, le)))
 
   -- and the row with it replaced
-  pub row_write : (op : Op) (x : ℕ) → IsWithin cells op → set (row cells) (index_of (length cells.words) (length cells.headers) op) x ≡ row (with_cell cells op x)
-  row_write (ops.LoadField place) x is = set-append_left cells.words _ place x is
-  row_write (ops.SwapField place word) x is = set-append_left cells.words _ place x is
-  row_write (ops.LoadChild place) x is = set-append_left cells.words _ place x is
-  row_write (ops.ClearField place) x is = set-append_left cells.words _ place x is
-  row_write (ops.LoadHeader slot) x is = write_header slot x is
-  row_write (ops.ClaimHeader slot header) x is = write_header slot x is.0
-  row_write (ops.FreeHeader slot) x is = write_header slot x is
-  row_write ops.LoadEpoch x is = write_tail 0 (length cells.words + length cells.headers) x (omega arith)
-  row_write (ops.StoreEpoch e) x is = write_tail 0 (length cells.words + length cells.headers) x (omega arith)
-  row_write ops.LoadFreed x is = write_tail 1 (length cells.words + length cells.headers + 1) x refl
-  row_write ops.AddFreed x is = write_tail 1 (length cells.words + length cells.headers + 1) x refl
-  row_write (ops.LoadCross t) x is = write_crossing t x is.0
-  row_write (ops.TakeBox t e) x is = write_crossing t x is.0
-  row_write (ops.GiveBox t e) x is = write_crossing t x is.0
-  row_write (ops.LookBox t e) x is = write_crossing t x is.0
-  row_write (ops.ReturnBox t e) x is = write_crossing t x is.0
+  write_at : (cell : Cell) (x : ℕ) → IsThere cells cell → set (row cells) (index_at (length cells.words) (length cells.headers) cell) x ≡ row (with_word cells cell x)
+  write_at (Field place) x is = set-append_left cells.words _ place x is
+  write_at (Header slot) x is = write_header slot x is
+  write_at Epoch x is = write_tail 0 (length cells.words + length cells.headers) x (omega arith)
+  write_at Freed x is = write_tail 1 (length cells.words + length cells.headers + 1) x refl
+  write_at (Crossing t) x is = write_crossing t x is.0
 
   -- and it is there
+  within_at : (cell : Cell) → IsThere cells cell → index_at (length cells.words) (length cells.headers) cell < length cells.words + length cells.headers + 2 + length cells.crossing
+  within_at (Field place) is = omega (arith, is)
+  within_at (Header slot) is = omega (arith, is)
+  within_at (Crossing t) is = omega (arith, is.0, is.1)
+  within_at _ is = omega arith
+
+  -- so it is of the word that an operation names
+  there : (op : Op) → IsWithin cells op → IsThere cells (cell_of op)
+  there (ops.ClaimHeader slot header) is = is.0
+  there _ is = is
+
+  pub row_read : (op : Op) → IsWithin cells op → get_or (row cells) (index_of (length cells.words) (length cells.headers) op) 0 ≡ cell cells op
+  row_read op is = read_at (cell_of op) (there op is)
+
+  pub row_write : (op : Op) (x : ℕ) → IsWithin cells op → set (row cells) (index_of (length cells.words) (length cells.headers) op) x ≡ row (with_cell cells op x)
+  row_write op x is = write_at (cell_of op) x (there op is)
+
   pub row_within : (op : Op) → IsWithin cells op → index_of (length cells.words) (length cells.headers) op < length cells.words + length cells.headers + 2 + length cells.crossing
-  row_within ops.LoadEpoch is = omega arith
-  row_within (ops.StoreEpoch e) is = omega arith
-  row_within ops.LoadFreed is = omega arith
-  row_within ops.AddFreed is = omega arith
-  row_within (ops.LoadCross t) is = omega (arith, is.0, is.1)
-  row_within (ops.TakeBox t e) is = omega (arith, is.0, is.1)
-  row_within (ops.GiveBox t e) is = omega (arith, is.0, is.1)
-  row_within (ops.LookBox t e) is = omega (arith, is.0, is.1)
-  row_within (ops.ReturnBox t e) is = omega (arith, is.0, is.1)
-  row_within (ops.ClaimHeader slot header) is = omega (arith, is.0)
-  row_within _ is = omega (arith, is)
+  row_within op is = within_at (cell_of op) (there op is)
 
 -- what a row holds that was laid out
 pub cells_row : (c : Cells) → cells_of_row (length c.words) (length c.headers) (row c) ≡ c
@@ -144,17 +132,12 @@ row_cells f s r le =
     let tail : drop s (drop f r) ≡ get_or r (f + s) 0 ∷ get_or r (f + s + 1) 0 ∷ drop (f + s + 2) r = drop_drop f s r ∙ two_first (f + s) r le in
     ap (λ k. take f r ++ (take s (drop f r) ++ k)) (sym tail) ∙ ap (λ k. take f r ++ k) (take-append-drop s (drop f r)) ∙ take-append-drop f r
 
-words_long : (c : Cells) (op : Op) (x : ℕ) → length (with_cell c op x).words ≡ length c.words
-words_long c (ops.LoadField place) x = length-set c.words place x
-words_long c (ops.SwapField place word) x = length-set c.words place x
-words_long c (ops.LoadChild place) x = length-set c.words place x
-words_long c (ops.ClearField place) x = length-set c.words place x
+words_long : (c : Cells) (cell : Cell) (x : ℕ) → length (with_word c cell x).words ≡ length c.words
+words_long c (Field place) x = length-set c.words place x
 words_long c _ x = refl
 
-headers_long : (c : Cells) (op : Op) (x : ℕ) → length (with_cell c op x).headers ≡ length c.headers
-headers_long c (ops.LoadHeader slot) x = length-set c.headers slot x
-headers_long c (ops.ClaimHeader slot header) x = length-set c.headers slot x
-headers_long c (ops.FreeHeader slot) x = length-set c.headers slot x
+headers_long : (c : Cells) (cell : Cell) (x : ℕ) → length (with_word c cell x).headers ≡ length c.headers
+headers_long c (Header slot) x = length-set c.headers slot x
 headers_long c _ x = refl
 
 module _ (f s : ℕ) (r : List ℕ) (long : f + s + 2 ≤ length r) where
@@ -175,4 +158,4 @@ module _ (f s : ℕ) (r : List ℕ) (long : f + s + 2 ≤ length r) where
       let c : Cells = cells_of_row f s r in
       let d : Cells = with_cell c op x in
       let laid : set r (index_of f s op) x ≡ row d = (λ i. set (sym (row_cells f s r long) i) (index_of (sym places_are i) (sym slots_are i) op) x) ∙ row_write c op x is in
-      ap (cells_of_row f s) laid ∙ (λ i. cells_of_row (sym (words_long c op x ∙ places_are) i) (sym (headers_long c op x ∙ slots_are) i) (row d)) ∙ cells_row d
+      ap (cells_of_row f s) laid ∙ (λ i. cells_of_row (sym (words_long c (cell_of op) x ∙ places_are) i) (sym (headers_long c (cell_of op) x ∙ slots_are) i) (row d)) ∙ cells_row d

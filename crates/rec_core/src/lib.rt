@@ -8,10 +8,10 @@
 //! when. From it follow the laws: nothing in reach is freed, true counts are the count formula, sets that pass both tests are
 //! garbage, and a command is answered as asking a heap that never frees gives it.
 //! What two whole collections make of a heap at rest, in which no mutator asks anything, is said here too.
-//! Where each shared word stands in a row of all, for whatever heap keeps one, is said in `specs/Row`.
-//! There is no heap here: no list of words in memory, and no code but the ranges of `Config`. A heap whose steps and turns are
+//! Where each shared word stands in a row of all, for whatever heap keeps one, is said in `specs/Row`, and told by `Layout`.
+//! There is no heap here: no list of words in memory, and no code but the ranges of `Config` and the numbers of `Layout`. A heap whose steps and turns are
 //! those of a core has all the laws.
-//! The layer above may use `Config` and `Part`, the definitions of `specs/`, the laws, which are the contracts of the
+//! The layer above may use `Config`, `Layout` and `Part`, the definitions of `specs/`, the laws, which are the contracts of the
 //! functions in `laws`, and the lemmas of `proofs/` on moves and runs, and of `proofs/Rest` on a heap at rest.
 //! That mutators run beside each other with a log each is the idea of the paper "Java without the Coffee Breaks" (2001);
 //! the commands, their refusals and the words are this project's profile (`docs/PROFILE.md`).
@@ -19,6 +19,7 @@
 
 mod config;
 mod laws;
+mod layout;
 mod part;
 
 pub use config::Config;
@@ -28,4 +29,5 @@ pub use laws::{
     orange_members_stay_untouched, outside_counts_are_of_the_run, runs_go_on, runs_keep,
     sets_that_pass_are_garbage, true_counts_are_the_formula, zeros_are_exact,
 };
+pub use layout::Layout;
 pub use part::Part;

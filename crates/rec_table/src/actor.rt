@@ -273,7 +273,7 @@ impl Actor {
         ensures from { result.from < (has self.now).slots }
     {
         let _steps = self.machine.steps();
-        if usize::from(self.cursor) < board.slots {
+        if usize::from(self.cursor) < board.layout.slots {
             return Start {
                 work,
                 from: self.cursor,

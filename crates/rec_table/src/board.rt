@@ -6,7 +6,7 @@ ghost use Rattle.rec_table.specs.Held.{gathers_now, IsOwn};
 ghost use mathlib.Core.Option.{some};
 ghost use Rattle.rec_collector.specs.Step.{IsBetween};
 ghost use Rattle.rec_table.specs.Homes.{homes_of};
-ghost use Rattle.rec_core.specs.Row.{row, index_of};
+ghost use Rattle.rec_core.specs.Row.{row, index_of, IsLayout};
 ghost use Rattle.rec_table.specs.Rule.{boxes_out, first_view};
 ghost use Rattle.rec_core.specs.Core.{cells_of};
 ghost use Rattle.rec_world.specs.World.{IsWorld};
@@ -16,8 +16,9 @@ use crate::rule::Running;
 use crate::views::View;
 use atomic_table::{Refused, Table};
 use rec_collector::Machine;
+use rec_core::Layout;
 use rec_log::Buffer;
-use rec_word::Op;
+use rec_word::{Cell, Op};
 use rec_world::World;
 use std::alloc::Global;
 use std::snapshot::Snapshot;
@@ -25,9 +26,8 @@ use std::snapshot::Snapshot;
 #[derive(Drop)]
 pub struct Board {
     pub(crate) table: Table<Option<Buffer>, View, Snapshot<World>, Running, Global>,
-    pub(crate) places: usize,
-    pub(crate) slots: usize,
-    pub ghost wide: { (places ≡ length table.shared.key.value.words) × (slots ≡ length table.shared.key.value.headers) × (table.shared.table_id.words ≡ places + slots + 2 + length table.shared.key.value.crossing) × (table.shared.table_id.words < 2 ^ 63) },
+    pub(crate) layout: Layout,
+    pub ghost wide: { (layout.places ≡ length table.shared.key.value.words) × (layout.slots ≡ length table.shared.key.value.headers) × (table.shared.table_id.words ≡ layout.places + layout.slots + 2 + length table.shared.key.value.crossing) × (table.shared.table_id.words < 2 ^ 63) × IsLayout layout },
 }
 
 impl Board {
@@ -35,31 +35,18 @@ impl Board {
     pub(crate) fn index(&self, op: Op) -> usize
         ensures { result ≡ index_of (length self.now.table.shared.key.value.words) (length self.now.table.shared.key.value.headers) op }
     {
-        let places = self.places;
-        let slots = self.slots;
-        match op {
-            Op::LoadField(place)
-            | Op::SwapField(place, _)
-            | Op::LoadChild(place)
-            | Op::ClearField(place) => place as usize,
-            Op::LoadHeader(slot) | Op::ClaimHeader(slot, _) | Op::FreeHeader(slot) => places
-                + usize::from(slot),
-            Op::LoadEpoch | Op::StoreEpoch(_) => places + slots,
-            Op::LoadFreed | Op::AddFreed => places + slots + 1,
-            Op::LoadCross(t)
-            | Op::TakeBox(t, _)
-            | Op::GiveBox(t, _)
-            | Op::LookBox(t, _)
-            | Op::ReturnBox(t, _) => places + slots + 1 + usize::from(t),
-        }
+        self.layout.index(op.cell())
     }
 
     // Whether the header of a slot is found free, by a look that is no step and tells nothing.
     #[inline(always)]
     pub(crate) fn finds_free(&self, slot: u16) -> bool
-        requires { slot < self.now.slots }
+        requires { slot < self.now.layout.slots }
     {
-        self.table.shared.peek(self.places + usize::from(slot)) == 0
+        self.table
+            .shared
+            .peek(self.layout.index(Cell::Header(slot)))
+            == 0
     }
 
     /// Puts the words and the mailboxes of a world on a table. Where memory is short all comes back.
@@ -67,8 +54,7 @@ impl Board {
         alloc: Global,
         words: &[u64],
         boxes: Vec<Option<Buffer>>,
-        places: usize,
-        slots: usize,
+        layout: Layout,
         machine: Machine,
         opened: Snapshot<Machine>,
         was: &Snapshot<World>,
@@ -76,7 +62,8 @@ impl Board {
         requires world { IsWorld was.now.value }
         requires words { words.now ≡ row (cells_of was.now.value) }
         requires home { map some boxes.items ≡ homes_of was.now.value.crossing was.now.value.boxes }
-        requires sizes { (places ≡ length was.now.value.words) × (slots ≡ length was.now.value.headers) × (length words.now < 2 ^ 63) }
+        requires layout { (layout.places ≡ length was.now.value.words) × (layout.slots ≡ length was.now.value.headers) × IsLayout layout }
+        requires few { length words.now < 2 ^ 63 }
         requires collector { (machine ≡ opened.value) × (opened.value ≡ was.now.value.collector) × (boxes_out machine ≡ []) × IsBetween machine.phase }
 
         ensures ok { IfOk result (λ r. (r.0.table.shared.key ≡ was.now) × (r.1 ≡ record { table = r.0.table.shared.table_id; opened = was.now.value.collector; crew = record { log = []; made = 0; known = [] } })) }
@@ -85,11 +72,7 @@ impl Board {
     {
         match Table::new(alloc, words, boxes, was) {
             Ok((table, seat)) => Ok((
-                Board {
-                    table,
-                    places,
-                    slots,
-                },
+                Board { table, layout },
                 Collector::sat(machine, opened, seat),
             )),
             Err(Refused { slots }) => Err((slots, machine)),
@@ -115,11 +98,7 @@ impl Board {
         let count = self.table.word_count();
         let slots = self.table.slot_count();
         let (machine, seat) = collector.stood();
-        let Board {
-            table,
-            places: _,
-            slots: _,
-        } = self;
+        let Board { table, layout: _ } = self;
         let mut closed = table.close_with(seat);
         for i in 0..count {
             words.push_reserved(closed.word(i));

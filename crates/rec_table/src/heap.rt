@@ -11,6 +11,7 @@ use crate::collector::Collector;
 use crate::mutator::Mutator;
 use crate::seating::seat_all;
 use crate::spare::Spare;
+use rec_core::Layout;
 use rec_log::Buffer;
 use rec_world::{Parts, World};
 use std::alloc::{AllocError as NoMemory, Global};
@@ -138,17 +139,8 @@ fn run(
     } = parts;
     let opened = Snapshot::of(&collector);
     let slots = config.slots as usize;
-    let places = slots * config.fields as usize;
-    match Board::open(
-        alloc,
-        row.as_slice(),
-        full,
-        places,
-        slots,
-        collector,
-        opened,
-        was,
-    ) {
+    let layout = Layout::new(slots * config.fields as usize, slots);
+    match Board::open(alloc, row.as_slice(), full, layout, collector, opened, was) {
         Ok((board, mut collector)) => {
             let machines = seat_all(&board, &mut collector, machines, &mut mutators);
             row.clear();

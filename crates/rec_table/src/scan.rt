@@ -29,15 +29,15 @@ pub(crate) fn first_free(
 ) -> usize
     requires table { seat.old.table_id ≡ board.now.table.shared.table_id }
     requires seat { seat.old.me ≡ (Mutates (seated_of seat.old.me.0), []) }
-    requires scan { ScansFrom (told (mutator board.now.table.shared.key.value (seated_of seat.old.me.0).number) (seated_of seat.old.me.0).log) probed slot board.now.slots }
-    requires slot { slot < board.now.slots }
+    requires scan { ScansFrom (told (mutator board.now.table.shared.key.value (seated_of seat.old.me.0).number) (seated_of seat.old.me.0).log) probed slot board.now.layout.slots }
+    requires slot { slot < board.now.layout.slots }
 
     ensures seat { (seat.new.table_id ≡ seat.old.table_id) × (seat.new.id ≡ seat.old.id) }
     ensures passed { Passed (seated_of seat.old.me.0) probed result seat.new.me }
-    ensures few { result ≤ board.now.slots }
+    ensures few { result ≤ board.now.layout.slots }
 {
-    let left = board.slots - probed;
-    let ahead = board.slots - slot;
+    let left = board.layout.slots - probed;
+    let ahead = board.layout.slots - slot;
     if left <= ahead {
         return probed + first_free_of_run(board, seat, probed, slot, left);
     }
@@ -58,10 +58,10 @@ fn first_free_of_run(
 ) -> usize
     requires table { seat.old.table_id ≡ board.now.table.shared.table_id }
     requires seat { seat.old.me ≡ (Mutates (seated_of seat.old.me.0), []) }
-    requires scan { ScansFrom (told (mutator board.now.table.shared.key.value (seated_of seat.old.me.0).number) (seated_of seat.old.me.0).log) probed slot board.now.slots }
+    requires scan { ScansFrom (told (mutator board.now.table.shared.key.value (seated_of seat.old.me.0).number) (seated_of seat.old.me.0).log) probed slot board.now.layout.slots }
     requires some { 0 < many }
-    requires slots { slot + many ≤ board.now.slots }
-    requires probes { probed + many ≤ board.now.slots }
+    requires slots { slot + many ≤ board.now.layout.slots }
+    requires probes { probed + many ≤ board.now.layout.slots }
 
     ensures seat { (seat.new.table_id ≡ seat.old.table_id) × (seat.new.id ≡ seat.old.id) }
     ensures passed { Passed (seated_of seat.old.me.0) probed (probed + result) seat.new.me }
@@ -89,16 +89,16 @@ fn first_free_of(
 ) -> usize
     requires table { seat.old.table_id ≡ board.now.table.shared.table_id }
     requires seat { seat.old.me ≡ (Mutates (seated_of seat.old.me.0), []) }
-    requires scan { ScansFrom (told (mutator board.now.table.shared.key.value (seated_of seat.old.me.0).number) (seated_of seat.old.me.0).log) probed slot board.now.slots }
-    requires slots { slot + many ≤ board.now.slots }
-    requires probes { probed + many ≤ board.now.slots }
+    requires scan { ScansFrom (told (mutator board.now.table.shared.key.value (seated_of seat.old.me.0).number) (seated_of seat.old.me.0).log) probed slot board.now.layout.slots }
+    requires slots { slot + many ≤ board.now.layout.slots }
+    requires probes { probed + many ≤ board.now.layout.slots }
 
     ensures seat { (seat.new.table_id ≡ seat.old.table_id) × (seat.new.id ≡ seat.old.id) }
     ensures passed { Passed (seated_of seat.old.me.0) probed (probed + result) seat.new.me }
     ensures few { result ≤ many }
 {
     let _ = probed;
-    let first_header = board.places + slot;
+    let first_header = board.layout.places + slot;
     for index in 0..many {
         if load::<Passes>(board, seat, first_header + index) == 0 {
             return index;

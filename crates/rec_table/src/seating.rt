@@ -33,7 +33,7 @@ pub fn seat_all(
     ensures collector { collector.new ≡ record collector.old { crew = record collector.old.crew { made = length machines.items } } }
 {
     // Each mutator's first scan begins with a share of the slots of its own.
-    let share = (board.slots / machines.len().max(1)) as u16;
+    let share = (board.layout.slots / machines.len().max(1)) as u16;
     while !machines.is_empty() {
         let machine = machines.remove(0);
         let opened = Snapshot::of(&machine);

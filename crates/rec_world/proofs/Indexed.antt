@@ -12,35 +12,35 @@ use Rattle.rec_world.specs.declared.memory.Memory.TheInside.{Inside}
 
 module _ (m : Inside) (laid : IsLaidOut m) where
   -- the row is long enough, with a header for each slot
-  pub long : m.places + m.slots + 2 ≤ length m.row.items
-  long = omega (arith, laid.freed, laid.long)
+  pub long : m.layout.places + m.layout.slots + 2 ≤ length m.row.items
+  long = omega (arith, laid.layout, laid.long)
 
-  pub headers_many : length (cells m).headers ≡ m.slots
-  headers_many = slots_are m.places m.slots m.row.items long
+  pub headers_many : length (cells m).headers ≡ m.layout.slots
+  headers_many = slots_are m.layout.places m.layout.slots m.row.items long
 
-  module _ (now : Cells) (view : cells m ≡ now) (op : Op) (within : IsWithin now op) (i : ℕ) (at : i ≡ index_of m.places m.slots op) where
+  module _ (now : Cells) (view : cells m ≡ now) (op : Op) (within : IsWithin now op) (i : ℕ) (at : i ≡ index_of m.layout.places m.layout.slots op) where
     is : IsWithin (cells m) op
     is = subst (λ (c : Cells). IsWithin c op) (sym view) within
 
     -- what a write of the operation's word leaves
-    pub written_is : (x : ℕ) → cells_of_row m.places m.slots (set m.row.items i x) ≡ with_cell (cells m) op x
-    written_is x = ap (λ n. cells_of_row m.places m.slots (set m.row.items n x)) at ∙ left_at m.places m.slots m.row.items long op x is
+    pub written_is : (x : ℕ) → cells_of_row m.layout.places m.layout.slots (set m.row.items i x) ≡ with_cell (cells m) op x
+    written_is x = ap (λ n. cells_of_row m.layout.places m.layout.slots (set m.row.items n x)) at ∙ left_at m.layout.places m.layout.slots m.row.items long op x is
 
-    pub left_is : (x found : ℕ) → x ≡ written op found → cells_of_row m.places m.slots (set m.row.items i x) ≡ with_cell now op (written op found)
+    pub left_is : (x found : ℕ) → x ≡ written op found → cells_of_row m.layout.places m.layout.slots (set m.row.items i x) ≡ with_cell now op (written op found)
     left_is x found leaves = written_is x ∙ (λ j. with_cell (view j) op (leaves j))
 
     -- a load leaves all as it was
     pub loaded_is : (found : ℕ) → written op found ≡ found → found ≡ get_or m.row.items i found → now ≡ with_cell now op (written op found)
     loaded_is found leaves read =
-        let there : i < length m.row.items = subst (λ n. n < length m.row.items) (sym at) (in_row m.places m.slots m.row.items long op is) in
+        let there : i < length m.row.items = subst (λ n. n < length m.row.items) (sym at) (in_row m.layout.places m.layout.slots m.row.items long op is) in
         let same : set m.row.items i found ≡ m.row.items = ap (set m.row.items i) (read ∙ get_or_default m.row.items i found 0 there) ∙ set-get_or m.row.items i 0 in
-        sym view ∙ ap (cells_of_row m.places m.slots) (sym same) ∙ left_is found found (sym leaves)
+        sym view ∙ ap (cells_of_row m.layout.places m.layout.slots) (sym same) ∙ left_is found found (sym leaves)
 
     -- the row is laid out as before where the index goes with the headers
     pub laid_again : (x : ℕ) (free : List ℕ) → Finds (with_cell (cells m) op x).headers free → IsLaidOut (record m { row = with_item m.row i x; free = free })
     laid_again x free finds =
         record {
-          freed = laid.freed;
+          layout = laid.layout;
           long = omega (arith, laid.long, length-set m.row.items i x);
           few = laid.few;
           free = subst (λ (c : Cells). Finds c.headers free) (sym (written_is x)) finds;

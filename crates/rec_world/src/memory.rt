@@ -1,13 +1,16 @@
 ghost use Rattle.std.specs.Prelude.{◌≡◌, ℕ, ◌+◌, ◌-◌, ◌*◌, ◌^◌, ◌<◌, ◌≤◌, length, ◌∷◌, replicate, slice_index_or, IfOk};
-ghost use Rattle.rec_word.specs.Op.{written};
+ghost use Rattle.rec_word.specs.Op.{atom_of, cell_of, written};
+ghost use Rattle.rec_word.specs.declared.atom.Atom.TheVariants.{Load};
+ghost use Rattle.rec_word.specs.declared.op.Op.TheVariants as ops;
 ghost use Rattle.rec_word.specs.Mailbox.{crossing_word};
 ghost use Rattle.rec_word.specs.declared.mailbox.Mailbox.TheVariants.{Spare};
 ghost use Rattle.rec_core.specs.Cells.{IsWithin, cell, with_cell};
-ghost use Rattle.rec_core.specs.Row.{row, cells_of_row};
-ghost use Rattle.rec_world.specs.Indexed.{Finds};
+ghost use Rattle.rec_core.specs.Row.{row, cells_of_row, IsLayout};
+ghost use Rattle.rec_world.specs.Indexed.{Finds, IsNoHeader};
 
+use rec_core::Layout;
 use rec_index::Index;
-use rec_word::{Mailbox, Op, crossing};
+use rec_word::{Cell, Mailbox, Op, crossing};
 use std::alloc::{AllocError as NoMemory, Global};
 use std::marker::Model;
 
@@ -16,10 +19,7 @@ use std::marker::Model;
 #[derive(Drop)]
 pub struct Memory {
     row: Vec<u64>,
-    places: usize,
-    slots: usize,
-    // Where the freed word stands: just behind the epoch word, and a mutator's crossing word as far behind it as its number says.
-    freed: usize,
+    layout: Layout,
     // The slots whose headers are 0.
     free: Index,
 }
@@ -67,23 +67,18 @@ impl Memory {
         row.push(0)?;
         row.resize(words, crossing(epoch, Mailbox::Spare))?;
         let free = Index::open(alloc)?;
-        Ok(Memory::of_row(row, places, slots, free))
+        Ok(Memory::of_row(row, Layout::new(places, slots), free))
     }
 
     /// The words that such a row holds. What the index has as its members is of no account.
-    pub fn of_row(row: Vec<u64>, places: usize, slots: usize, mut free: Index) -> Memory
-        requires few_slots { slots < 2 ^ 16 }
-        requires long { places + slots + 2 ≤ length row.items }
-        ensures { result ≡ cells_of_row places slots row.items }
+    pub fn of_row(row: Vec<u64>, layout: Layout, mut free: Index) -> Memory
+        requires layout { IsLayout layout }
+        requires few_slots { layout.slots < 2 ^ 16 }
+        requires long { layout.freed < length row.items }
+        ensures { result ≡ cells_of_row layout.places layout.slots row.items }
     {
-        list_free(&mut free, &row[places..places + slots]);
-        Memory {
-            row,
-            places,
-            slots,
-            freed: places + slots + 1,
-            free,
-        }
+        list_free(&mut free, &row[layout.places..layout.places + layout.slots]);
+        Memory { row, layout, free }
     }
 
     /// The row, and the index for whoever makes these words anew.
@@ -102,63 +97,104 @@ impl Memory {
         ensures left { self.new ≡ with_cell self.old op (written op result) }
     {
         match op {
-            Op::LoadField(place) | Op::LoadChild(place) => self.row[place as usize],
-            Op::SwapField(place, _) | Op::ClearField(place) => {
-                exchange(&mut self.row[place as usize], op)
-            }
-            Op::LoadHeader(slot) => self.row[self.places + usize::from(slot)],
-            Op::ClaimHeader(slot, _) => {
-                let header = &mut self.row[self.places + usize::from(slot)];
-                let found = *header;
-                if found == 0 {
-                    *header = op.written(0);
-                    self.free.remove(slot);
-                }
-                found
-            }
-            Op::FreeHeader(slot) => {
-                self.free.insert(slot);
-                exchange(&mut self.row[self.places + usize::from(slot)], op)
-            }
-            Op::LoadEpoch => self.row[self.freed - 1],
-            Op::StoreEpoch(_) => exchange(&mut self.row[self.freed - 1], op),
-            Op::LoadFreed => self.row[self.freed],
-            Op::AddFreed => exchange(&mut self.row[self.freed], op),
-            Op::LoadCross(t) => self.row[self.freed + usize::from(t)],
-            Op::TakeBox(t, _) | Op::GiveBox(t, _) => {
-                exchange(&mut self.row[self.freed + usize::from(t)], op)
-            }
-            Op::LookBox(t, _) => exchange(&mut self.row[self.freed + usize::from(t)], op),
-            Op::ReturnBox(t, _) => exchange(&mut self.row[self.freed + usize::from(t)], op),
+            Op::LoadField(_) | Op::LoadChild(_) => self.load(op),
+            Op::SwapField(_, _) | Op::ClearField(_) => self.exchange(op),
+            Op::LoadHeader(_) => self.load(op),
+            Op::ClaimHeader(slot, header) => self.claim(slot, header),
+            Op::FreeHeader(slot) => self.clear(slot),
+            Op::LoadEpoch => self.load(op),
+            Op::StoreEpoch(_) => self.exchange(op),
+            Op::LoadFreed => self.load(op),
+            Op::AddFreed => self.exchange(op),
+            Op::LoadCross(_) => self.load(op),
+            Op::TakeBox(_, _) | Op::GiveBox(_, _) => self.exchange(op),
+            Op::LookBox(_, _) => self.exchange(op),
+            Op::ReturnBox(_, _) => self.exchange(op),
         }
+    }
+
+    // The word that a load names, which it leaves.
+    #[inline(always)]
+    fn load(&self, op: Op) -> u64
+        requires within { IsWithin self.now op }
+        requires load { atom_of op ≡ Load }
+
+        ensures found { result ≡ cell self.now op }
+        ensures left { self.now ≡ with_cell self.now op (written op result) }
+    {
+        self.row[self.layout.index(op.cell())]
+    }
+
+    // Carries out an operation on a word that is no header.
+    #[inline(always)]
+    fn exchange(&mut self, op: Op) -> u64
+        requires within { IsWithin self.old op }
+        requires other { IsNoHeader (cell_of op) }
+
+        ensures found { result ≡ cell self.old op }
+        ensures left { self.new ≡ with_cell self.old op (written op result) }
+    {
+        exchange(&mut self.row[self.layout.index(op.cell())], op)
+    }
+
+    // Claims a slot, where it is free.
+    #[inline(always)]
+    fn claim(&mut self, slot: u16, header: u64) -> u64
+        requires { IsWithin self.old (ops.ClaimHeader slot header) }
+
+        ensures found { result ≡ cell self.old (ops.ClaimHeader slot header) }
+        ensures left { self.new ≡ with_cell self.old (ops.ClaimHeader slot header) (written (ops.ClaimHeader slot header) result) }
+    {
+        let word = &mut self.row[self.layout.index(Cell::Header(slot))];
+        let found = *word;
+        if found == 0 {
+            *word = header;
+            self.free.remove(slot);
+        }
+        found
+    }
+
+    // Frees a slot.
+    #[inline(always)]
+    fn clear(&mut self, slot: u16) -> u64
+        requires { IsWithin self.old (ops.FreeHeader slot) }
+
+        ensures found { result ≡ cell self.old (ops.FreeHeader slot) }
+        ensures left { self.new ≡ with_cell self.old (ops.FreeHeader slot) (written (ops.FreeHeader slot) result) }
+    {
+        self.free.insert(slot);
+        exchange(
+            &mut self.row[self.layout.index(Cell::Header(slot))],
+            Op::FreeHeader(slot),
+        )
     }
 
     /// The words of all fields, by place.
     pub fn words(&self) -> &[u64]
         ensures { result.now ≡ self.now.words }
     {
-        &self.row[..self.places]
+        &self.row[..self.layout.places]
     }
 
     /// The epoch word.
     pub fn epoch(&self) -> u64
         ensures { result ≡ self.now.epoch }
     {
-        self.row[self.freed - 1]
+        self.row[self.layout.index(Cell::Epoch)]
     }
 
     /// The freed word.
     pub fn freed(&self) -> u64
         ensures { result ≡ self.now.freed }
     {
-        self.row[self.freed]
+        self.row[self.layout.freed]
     }
 
     /// The crossing words of the mutators, in order.
     pub fn crossing(&self) -> &[u64]
         ensures { result.now ≡ self.now.crossing }
     {
-        &self.row[self.freed + 1..]
+        &self.row[self.layout.freed + 1..]
     }
 
     /// The lowest slot whose header is 0, or how many slots there are where no header is.
@@ -171,7 +207,7 @@ impl Memory {
     {
         match self.free.lowest() {
             Some(slot) => slot,
-            None => self.slots as u16,
+            None => self.layout.slots as u16,
         }
     }
 
@@ -180,7 +216,7 @@ impl Memory {
         requires { slot < length self.now.headers }
         ensures { result ≡ slice_index_or self.now.headers slot 0 }
     {
-        self.row[self.places + usize::from(slot)]
+        self.row[self.layout.index(Cell::Header(slot))]
     }
 }
 

@@ -40,6 +40,7 @@ use crate::mailbox::{gather, open_boxes, swap_own};
 use crate::memory::Memory;
 use crate::{Config, Numbering, OpenError, Parts};
 use rec_collector::{Machine as Collector, Sets, Turn};
+use rec_core::Layout;
 use rec_log::Buffer;
 use rec_model::{Cmd, Told};
 use rec_mutator::{Machine, Made, Work};
@@ -120,10 +121,10 @@ impl World {
         ensures kept { IsWorld result }
     {
         let slots = parts.config.slots as usize;
-        let places = slots * parts.config.fields as usize;
+        let layout = Layout::new(slots * parts.config.fields as usize, slots);
         World {
             config: parts.config,
-            memory: Memory::of_row(parts.row, places, slots, parts.free),
+            memory: Memory::of_row(parts.row, layout, parts.free),
             boxes: parts.boxes,
             machines: parts.machines,
             collector: parts.collector,

@@ -11,7 +11,7 @@ first_free_of_run-requires-2-clause-scan c =
     let few = e.few in
     let t = seated_of c.args.seat.now.me.0 in
     let key = c.args.board.now.table.shared.key.value in
-    let slots : ℕ = c.args.board.now.slots in
+    let slots : ℕ = c.args.board.now.layout.slots in
     let count : ℕ = c.args.probed + (slots - c.args.slot) in
     let all : c.first_free_of_run-count.result ≡ slots - c.args.slot = omega (arith, few, c.if-count-ahead.false) in
     let passed : Passed t c.args.probed count c.first_free_of_run-count.new.seat.me = subst (λ (n : ℕ). Passed t c.args.probed (c.args.probed + n) c.first_free_of_run-count.new.seat.me) all e.passed in
@@ -24,7 +24,7 @@ returns-clause-passed c =
     let e = c.first_free_of_run-count.ensures in
     let few = e.few in
     let t = seated_of c.args.seat.now.me.0 in
-    let ahead : ℕ = c.args.board.now.slots - c.args.slot in
+    let ahead : ℕ = c.args.board.now.layout.slots - c.args.slot in
     let all : c.first_free_of_run-count.result ≡ ahead = omega (arith, few, c.if-count-ahead.false) in
     let passed : Passed t c.args.probed (c.args.probed + ahead) c.first_free_of_run-count.new.seat.me = subst (λ (n : ℕ). Passed t c.args.probed (c.args.probed + n) c.first_free_of_run-count.new.seat.me) all e.passed in
     passed_both t c.args.probed (c.args.probed + ahead) (c.args.probed + ahead + c.first_free_of_run-2.result) c.first_free_of_run-count.new.seat.me c.first_free_of_run-2.new.seat.me passed c.first_free_of_run-2.ensures.passed

@@ -16,14 +16,14 @@ load-requires c =
     let key = c.args.board.now.table.shared.key.value in
     let t = seated_of c.args.seat.now.me.0 in
     let count : ℕ = c.args.probed + c.loop-index.index in
-    let lt : count < c.args.board.now.slots = omega (arith, c.loop-index-test.true, c.requires.probes) in
+    let lt : count < c.args.board.now.layout.slots = omega (arith, c.loop-index-test.true, c.requires.probes) in
     let on : c.args.slot + (count - c.args.probed) ≡ c.args.slot + c.loop-index.index = omega arith in
-    let near : c.args.slot + (count - c.args.probed) < c.args.board.now.slots = omega (arith, c.loop-index-test.true, c.requires.slots) in
-    let comes : c.args.slot + c.loop-index.index ≡ probe_of (told (mutator key t.number) t.log) count = sym on ∙ comes_to key count c.args.probed c.args.slot c.args.board.now.slots t c.loop-index.seat.me i.passed c.requires.scan lt near in (
+    let near : c.args.slot + (count - c.args.probed) < c.args.board.now.layout.slots = omega (arith, c.loop-index-test.true, c.requires.slots) in
+    let comes : c.args.slot + c.loop-index.index ≡ probe_of (told (mutator key t.number) t.log) count = sym on ∙ comes_to key count c.args.probed c.args.slot c.args.board.now.layout.slots t c.loop-index.seat.me i.passed c.requires.scan lt near in (
       i.table ∙ c.requires.table,
       omega (arith, wide.0, wide.1, wide.2, near),
-      allows_pass key count c.args.probed c.args.slot c.args.board.now.slots t c.loop-index.seat.me i.passed c.requires.scan lt _ _ _
-          (step c.args.board.now.table.shared.table_id.slots (c.args.board.now.places + c.args.slot + c.loop-index.index) 0 0 none) (omega (arith, wide.0, comes)),
+      allows_pass key count c.args.probed c.args.slot c.args.board.now.layout.slots t c.loop-index.seat.me i.passed c.requires.scan lt _ _ _
+          (step c.args.board.now.table.shared.table_id.slots (c.args.board.now.layout.places + c.args.slot + c.loop-index.index) 0 0 none) (omega (arith, wide.0, comes)),
     )
 
 pub loop-index-preserved : goal.loop-index-preserved

@@ -25,11 +25,11 @@ first_free_of-count-requires-clause-scan c =
     let key = c.args.board.now.table.shared.key.value in
     let t = seated_of c.args.seat.now.me.0 in
     let count : ℕ = c.args.probed + c.loop-done.done in
-    let lt : count < c.args.board.now.slots = omega (arith, i.few, c.requires.probes) in
+    let lt : count < c.args.board.now.layout.slots = omega (arith, i.few, c.requires.probes) in
     let on : c.args.slot + (count - c.args.probed) ≡ c.args.slot + c.loop-done.done = omega arith in
-    let near : c.args.slot + (count - c.args.probed) < c.args.board.now.slots = omega (arith, i.few, c.requires.slots) in
-    scans_on key count c.args.probed c.args.slot c.args.board.now.slots t c.loop-done.seat.me i.passed c.requires.scan lt (c.args.slot + c.loop-done.done)
-    (sym on ∙ comes_to key count c.args.probed c.args.slot c.args.board.now.slots t c.loop-done.seat.me i.passed c.requires.scan lt near)
+    let near : c.args.slot + (count - c.args.probed) < c.args.board.now.layout.slots = omega (arith, i.few, c.requires.slots) in
+    scans_on key count c.args.probed c.args.slot c.args.board.now.layout.slots t c.loop-done.seat.me i.passed c.requires.scan lt (c.args.slot + c.loop-done.done)
+    (sym on ∙ comes_to key count c.args.probed c.args.slot c.args.board.now.layout.slots t c.loop-done.seat.me i.passed c.requires.scan lt near)
 
 pub first_free_of-requires-clause-scan : goal.first_free_of-requires-clause-scan
 first_free_of-requires-clause-scan c =
@@ -37,11 +37,11 @@ first_free_of-requires-clause-scan c =
     let key = c.args.board.now.table.shared.key.value in
     let t = seated_of c.args.seat.now.me.0 in
     let count : ℕ = c.args.probed + c.loop-done.done in
-    let lt : count < c.args.board.now.slots = omega (arith, i.few, c.requires.probes) in
+    let lt : count < c.args.board.now.layout.slots = omega (arith, i.few, c.requires.probes) in
     let on : c.args.slot + (count - c.args.probed) ≡ c.args.slot + c.loop-done.done = omega arith in
-    let near : c.args.slot + (count - c.args.probed) < c.args.board.now.slots = omega (arith, i.few, c.requires.slots) in
-    scans_on key count c.args.probed c.args.slot c.args.board.now.slots t c.loop-done.seat.me i.passed c.requires.scan lt (c.args.slot + c.loop-done.done)
-    (sym on ∙ comes_to key count c.args.probed c.args.slot c.args.board.now.slots t c.loop-done.seat.me i.passed c.requires.scan lt near)
+    let near : c.args.slot + (count - c.args.probed) < c.args.board.now.layout.slots = omega (arith, i.few, c.requires.slots) in
+    scans_on key count c.args.probed c.args.slot c.args.board.now.layout.slots t c.loop-done.seat.me i.passed c.requires.scan lt (c.args.slot + c.loop-done.done)
+    (sym on ∙ comes_to key count c.args.probed c.args.slot c.args.board.now.layout.slots t c.loop-done.seat.me i.passed c.requires.scan lt near)
 
 pub returns-then-count-lt-STRIDE-clause-passed : goal.returns-then-count-lt-STRIDE-clause-passed
 returns-then-count-lt-STRIDE-clause-passed c =

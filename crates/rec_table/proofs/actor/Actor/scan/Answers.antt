@@ -42,7 +42,7 @@ probed_is c =
     let counted = (first c).1 in
     omega (arith, counted, c.steps-steps.ensures.steps)
 
-many : (c : After-from) → c.self.inside.machine.slots ≡ c.args.board.now.slots
+many : (c : After-from) → c.self.inside.machine.slots ≡ c.args.board.now.layout.slots
 many c =
     let is : IsMutator (key c).config (seated c).number = subst (λ (n : ℕ). IsMutator (key c).config n) (sym (ap (λ (x : Held). x.number) c.self.view_is)) c.requires.own.1 in
     let kept = world_kept (key c) c.requires.world in
@@ -58,7 +58,7 @@ finds_free-requires c =
     let is : IsMutator key.config t.number = subst (λ (n : ℕ). IsMutator key.config n) (sym (ap (λ (x : Held). x.number) c.self.view_is)) c.requires.own.1 in
     let kept = world_kept key c.requires.world in
     let own = (actor_of key t.number kept is).own in
-    let many : c.self.inside.machine.slots ≡ c.args.board.now.slots = c.self.invariant.3.slots ∙ ap (λ (p : Private). p.slots) opened ∙ own.slots ∙ sym kept.headers ∙ sym c.args.board.now.wide.1 in
+    let many : c.self.inside.machine.slots ≡ c.args.board.now.layout.slots = c.self.invariant.3.slots ∙ ap (λ (p : Private). p.slots) opened ∙ own.slots ∙ sym kept.headers ∙ sym c.args.board.now.wide.1 in
     let k : Claims c.self.inside.machine c.in-ClaimHeader.slot = claims c.self.inside.machine c.in-ClaimHeader.slot c.in-ClaimHeader.field-1 (sym c.next.ensures ∙ c.in-ClaimHeader.is) in
     let there = (claims_slot c.self.inside.machine c.in-ClaimHeader.slot c.steps-steps.ensures.kept k).2 in
     omega (arith, many, there)
@@ -81,7 +81,7 @@ first_free-count-requires-clause-scan c =
     let k = claiming a in
     let lt = (first a).0 in
     let all = many a in
-    subst (λ (y : Private × ℕ). ScansFrom y.0 y.1 c.from.result c.args.board.now.slots) (λ j. ((c.self.invariant.1 ∙ ap (λ (p : Private). told p (seated a).log) (opened a)) j, sym (probed_is a) j))
+    subst (λ (y : Private × ℕ). ScansFrom y.0 y.1 c.from.result c.args.board.now.layout.slots) (λ j. ((c.self.invariant.1 ∙ ap (λ (p : Private). told p (seated a).log) (opened a)) j, sym (probed_is a) j))
     (record { reg = k.reg; label = k.label; leaf = k.leaf; before = k.before; phase = k.phase; comes = k.comes; many = all; there = omega (arith, lt, all) })
 
 pub first_free-count-requires-clause-slot : goal.first_free-count-requires-clause-slot
@@ -106,7 +106,7 @@ skip_to-requires-clause-slots c =
     omega (arith, all, few)
 
 -- as the machine has made so many probes
-ended : (c : After-from) (r : Private) (count : ℕ) (me : Me (Option Contents) View) → (passed : Passed (seated c) (c.steps-steps.result - 1) count me) → count ≤ c.args.board.now.slots → r ≡ skipped_to c.self.inside.machine count → Ends c.self.inside.opened.value c.self.inside.machine r (seated c) me passed.words
+ended : (c : After-from) (r : Private) (count : ℕ) (me : Me (Option Contents) View) → (passed : Passed (seated c) (c.steps-steps.result - 1) count me) → count ≤ c.args.board.now.layout.slots → r ≡ skipped_to c.self.inside.machine count → Ends c.self.inside.opened.value c.self.inside.machine r (seated c) me passed.words
 ended c r count me passed few skips =
     let all = many c in
     let every = passed.every in

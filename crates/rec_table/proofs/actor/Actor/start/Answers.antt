@@ -20,6 +20,6 @@ returns-then-from-board-clause-from c =
     let kept = world_kept key c.requires.world in
     let own = (actor_of key t.number kept is).own in
     let was : c.self.inside.machine ≡ has c.args.self.now = c.self.invariant.1 ∙ ap has c.self.view_is in
-    let many : (has c.args.self.now).slots ≡ c.args.board.now.slots
+    let many : (has c.args.self.now).slots ≡ c.args.board.now.layout.slots
     = sym (ap (λ (p : Private). p.slots) was) ∙ c.self.invariant.3.slots ∙ ap (λ (p : Private). p.slots) opened ∙ own.slots ∙ sym kept.headers ∙ sym c.args.board.now.wide.1 in
     omega (arith, many, c.from.ensures, c.if-from-board.true)

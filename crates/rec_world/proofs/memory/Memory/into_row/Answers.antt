@@ -6,4 +6,4 @@ use Rattle.rec_world.proofs.Indexed.{long}
 use Rattle.rec_world.proofs.memory.Memory.into_row.Goals as goal
 
 pub returns : goal.returns
-returns c = sym (row_cells c.self.inside.places c.self.inside.slots c.self.inside.row.items (long c.self.inside c.self.invariant)) ∙ ap row c.self.view_is
+returns c = sym (row_cells c.self.inside.layout.places c.self.inside.layout.slots c.self.inside.row.items (long c.self.inside c.self.invariant)) ∙ ap row c.self.view_is

@@ -33,4 +33,4 @@ returns c =
     c.in_ok-resize-3.ensures.items
     ∙ filled_up (places + slots + 2 + mutators) _ _ mutators _ behind five (omega (arith, many_behind)) (omega (arith, long))
     ∙ ap (λ w. behind ++ replicate mutators w) c.crossing.ensures in
-    c.of_row.ensures ∙ ap (cells_of_row places slots) six ∙ opened_cells places slots mutators c.args.epoch word c.requires.some_slots
+    c.of_row.ensures ∙ (λ i. cells_of_row (c.new.ensures.parts.0 i) (c.new.ensures.parts.1 i) (six i)) ∙ opened_cells places slots mutators c.args.epoch word c.requires.some_slots
