@@ -46,12 +46,15 @@ use Rattle.rec_core.specs.Freed.{Passes}
 use Rattle.rec_core.specs.Kept.{IsKept}
 use Rattle.rec_core.specs.Loads.{BeginsPreparing, fields_loaded, IsPreparing, IsTrying, load_of, Loaded, loaded_by, loaded_in, loaded_over, named_by_op, named_in, named_over, tried_in}
 use Rattle.rec_core.specs.Moves.{AllFit, Fits, Move, after_move, after_moves, looked_at, turned, turned_at, turned_by}
+use Rattle.rec_core.specs.Run.{Step, steps_of}
 use Rattle.rec_core.specs.declared.config.Config.{Config}
 use Rattle.rec_core.proofs.CyclesTest.{none_of}
 use Rattle.rec_core.proofs.Landed.{HasLanded}
 use Rattle.rec_core.proofs.Trials.{BeginsNoTrial, tried_of}
 use Rattle.rec_core.proofs.Preparing.{loads_due}
 use Rattle.rec_core.proofs.Runs.{given_is, move_kept, move_stays, moves_kept}
+use Rattle.rec_core.proofs.Turning.{turn_case}
+use Rattle.std.proofs.lemmas.List.Sums.{sum_by-cons}
 use Rattle.rec_core.proofs.Trying.{loads_child, trying_lands}
 use Rattle.rec_core.proofs.Turns.{now_at}
 use Rattle.rec_trial.specs.Rules.{visible}
@@ -90,11 +93,7 @@ turn_untouched w number x kept later has same o = go (next_of w.collector) refl 
     go (Some op) e later same o = op_untouched w op kept later e number x has same o
 
 turn_has : (w : Core) → IsKept w → IsKept (turned w) → HasSets w.collector.phase → tried_in (turned w) ≡ tried_in w → HasSets (turned w).collector.phase
-turn_has w kept later has same = go (next_of w.collector) refl later same
-  where
-    go : (y : Option Op) → next_of w.collector ≡ y → IsKept (turned_at w y) → tried_in (turned_at w y) ≡ tried_in w → HasSets (turned_at w y).collector.phase
-    go None e later same = has
-    go (Some op) e later same = op_has w op kept later e has same
+turn_has w kept later has same = turn_case w (λ v. IsKept v → tried_in v ≡ tried_in w → HasSets v.collector.phase) (λ later same. has) (λ op named later same. op_has w op kept later named has same) later same
 
 -- each move
 move_untouched : (w : Core) (m : Move) (number x : ℕ) → IsKept w → Fits w m → HasSets w.collector.phase → tried_in (after_move w m) ≡ tried_in w → IsOrangeIn (after_move w m).collector.counts number x → WasUntouched w.collector.counts (after_move w m).collector.counts number x (named_in w m x)
@@ -114,7 +113,8 @@ pub all_untouched : (w : Core) (ms : List Move) (number x : ℕ) → IsKept w �
 all_untouched w [] number x kept has fit within o = untouched_same o
 all_untouched w (m ∷ ms) number x kept has fit within o =
     let rest = all_untouched (after_move w m) ms number x (move_kept w m kept fit.0) (move_has w m kept fit.0 has within.0) fit.1 within.1 o in
-    untouched_on (named_over w (m ∷ ms) x) (move_untouched w m number x kept fit.0 has within.0 rest.orange) rest refl
+    let named : Step → ℕ = λ s. named_in s.before s.move x in
+    untouched_on (named_over w (m ∷ ms) x) (move_untouched w m number x kept fit.0 has within.0 rest.orange) rest (sum_by-cons named (record { before = w; move = m }) (steps_of (after_move w m) ms))
 
 -- what the run has loaded since the preparation of these sets began: the preparation goes on, or is done
 data Stage (fields : ℕ) (before : State) (w : Core) (loads : List Load) : Type 0 where
