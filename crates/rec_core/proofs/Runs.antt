@@ -29,7 +29,7 @@ use Rattle.rec_core.specs.Cells.{cell}
 use Rattle.rec_core.specs.Config.{IsConfig, IsMutator}
 use Rattle.rec_core.specs.Core.{Core, cells_of, box, mutator, nobody, opened}
 use Rattle.rec_core.specs.Kept.{IsKept}
-use Rattle.rec_core.specs.Moves.{looked_at, found_by, turned, Move, after_move, after_moves, Fits, AllFit, IsRun, EndsRun}
+use Rattle.rec_core.specs.Moves.{looked_at, found_by, turned, Move, after_move, after_moves, Fits, AllFit, IsStart, IsRun, EndsRun}
 use Rattle.rec_core.specs.Run.{by_actor, Every, maker, over, steps_of}
 use Rattle.rec_core.specs.Run as step
 use Rattle.rec_core.specs.declared.config.Config.{Config}
@@ -120,13 +120,13 @@ pub moves_kept : (w : Core) (ms : List Move) → IsKept w → AllFit w ms → Is
 moves_kept w [] kept fit = kept
 moves_kept w (m ∷ ms) kept fit = moves_kept (after_move w m) ms (move_kept w m kept fit.0) fit.1
 
--- the end of a run keeps it
-pub run_kept : (config : Config) (moves : List Move) (end : Core) → IsConfig config → IsRun config moves end → IsKept end
-run_kept config moves end is run = subst IsKept run.ends (moves_kept (opened config) moves (opened_kept config is) run.fit)
+-- so does every start
+start_kept : (start : Core) → IsConfig start.config → IsStart start → IsKept start
+start_kept start is (IsStart.opens opens) = subst IsKept (sym opens) (opened_kept start.config is)
 
--- so does a state that some run ends in
-pub end_kept : (w : Core) → IsConfig w.config → EndsRun w → IsKept w
-end_kept w is (moves, run) = run_kept w.config moves w is run
+-- and the end of every run
+pub run_kept : (start : Core) (moves : List Move) (end : Core) → IsConfig start.config → IsRun start moves end → IsKept end
+run_kept start moves end is run = subst IsKept run.ends (moves_kept start moves (start_kept start is run.starts) run.fit)
 
 -- where the moves of two lists lead, one after the other
 pub after_both : (w : Core) (ms ns : List Move) → after_moves w (ms ++ ns) ≡ after_moves (after_moves w ms) ns
@@ -185,15 +185,31 @@ mutator_stays w (Move.Steps t) x fits is other = get_or-set_other w.mutators (t 
 mutator_stays w Move.Turns x fits is other = ap (λ ps. slice_index_or ps (x - 1) nobody) (turned_mutators w)
 mutator_stays w Move.Offers x fits is other = refl
 
+-- a state that some run ends in keeps it, which has the numbers of its start
+pub end_kept : (w : Core) → IsConfig w.config → EndsRun w → IsKept w
+end_kept w is (start, moves, run) = run_kept start moves w (subst IsConfig (ap (λ (v : Core). v.config) (sym run.ends) ∙ config_after start moves) is) run
+
 -- a run that ends there goes on with a move that fits
 pub run_more : (w : Core) (m : Move) → EndsRun w → Fits w m → EndsRun (after_move w m)
-run_more w m (moves, run) fits =
-    let longer : IsRun w.config (moves ++ m ∷ []) (after_move w m) = record {
-      fit = fit_both (opened w.config) moves (m ∷ []) run.fit (subst (λ v. Fits v m) (sym run.ends) fits, tt);
-      ends = after_both (opened w.config) moves (m ∷ []) ∙ ap (λ v. after_move v m) run.ends;
-    } in
-    (moves ++ m ∷ [], subst (λ c. IsRun c (moves ++ m ∷ []) (after_move w m)) (sym (move_stays w m)) longer)
+run_more w m (start, moves, run) fits = (
+  start,
+  moves ++ m ∷ [],
+  record {
+    starts = run.starts;
+    fit = fit_both start moves (m ∷ []) run.fit (subst (λ v. Fits v m) (sym run.ends) fits, tt);
+    ends = after_both start moves (m ∷ []) ∙ ap (λ v. after_move v m) run.ends;
+  },
+)
 
 -- the opening is the end of the run without moves
 pub run_opened : (config : Config) → EndsRun (opened config)
-run_opened config = ([], record { fit = tt; ends = refl })
+run_opened config = (opened config, [], record { starts = IsStart.opens refl; fit = tt; ends = refl })
+
+-- a run began as a heap is opened with the numbers of its end
+pub run_opens : (w : Core) → EndsRun w → (moves : List Move) × AllFit (opened w.config) moves × (after_moves (opened w.config) moves ≡ w)
+run_opens w (start, moves, run) = by run.starts
+  where
+    by : IsStart start → (moves : List Move) × AllFit (opened w.config) moves × (after_moves (opened w.config) moves ≡ w)
+    by (IsStart.opens opens) =
+        let same : start ≡ opened w.config = opens ∙ ap opened (sym (config_after start moves) ∙ ap (λ (v : Core). v.config) run.ends) in
+        (moves, subst (λ v. AllFit v moves) same run.fit, ap (λ v. after_moves v moves) (sym same) ∙ run.ends)
