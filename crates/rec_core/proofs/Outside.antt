@@ -86,14 +86,12 @@ module _ (w : Core) (op : Op) (kept : IsKept w) (later : IsKept (turned_by w op 
 
 -- each turn
 turn_untouched : (w : Core) (number x : ℕ) → IsKept w → IsKept (turned w) → HasSets w.collector.phase → tried_in (turned w) ≡ tried_in w → IsOrangeIn (turned w).collector.counts number x → WasUntouched w.collector.counts (turned w).collector.counts number x (named_by_op w (next_of w.collector) x)
-turn_untouched w number x kept later has same o = go (next_of w.collector) refl later same o
-  where
-    go : (y : Option Op) → next_of w.collector ≡ y → IsKept (turned_at w y) → tried_in (turned_at w y) ≡ tried_in w → IsOrangeIn (turned_at w y).collector.counts number x → WasUntouched w.collector.counts (turned_at w y).collector.counts number x (named_by_op w y x)
-    go None e later same o = untouched_same o
-    go (Some op) e later same o = op_untouched w op kept later e number x has same o
+turn_untouched w number x kept later has same o =
+    turn_case w (λ y v. IsKept v → tried_in v ≡ tried_in w → IsOrangeIn v.collector.counts number x → WasUntouched w.collector.counts v.collector.counts number x (named_by_op w y x)) (λ none later same o. untouched_same o)
+    (λ op named later same o. op_untouched w op kept later named number x has same o) later same o
 
 turn_has : (w : Core) → IsKept w → IsKept (turned w) → HasSets w.collector.phase → tried_in (turned w) ≡ tried_in w → HasSets (turned w).collector.phase
-turn_has w kept later has same = turn_case w (λ v. IsKept v → tried_in v ≡ tried_in w → HasSets v.collector.phase) (λ later same. has) (λ op named later same. op_has w op kept later named has same) later same
+turn_has w kept later has same = turn_case w (λ o v. IsKept v → tried_in v ≡ tried_in w → HasSets v.collector.phase) (λ none later same. has) (λ op named later same. op_has w op kept later named has same) later same
 
 -- each move
 move_untouched : (w : Core) (m : Move) (number x : ℕ) → IsKept w → Fits w m → HasSets w.collector.phase → tried_in (after_move w m) ≡ tried_in w → IsOrangeIn (after_move w m).collector.counts number x → WasUntouched w.collector.counts (after_move w m).collector.counts number x (named_in w m x)
@@ -203,22 +201,18 @@ module _ (w : Core) (before : State) (loads : List Load) (tells : IsKeptCounts b
 
   loading_on : (m : preps.Machine) → w.collector.phase ≡ Preparing m → Came fields before (record { machine = m; counts = w.collector.counts }) loads → Stage fields before (turned w) more
   unfolding next_of next_at
-  loading_on m at came = go (next_of w.collector) refl
-    where
-      go : (y : Option Op) → next_of w.collector ≡ y → Stage fields before (turned_at w y) (loads ++ fields_loaded fields (loaded_by w y))
-      go None none = subst (Stage fields before w) (sym (append-nil loads)) (Stage.loading m at came)
-      go (Some op) named =
-          let c : collectors.Private = w.collector in
-          let word : ℕ = cell (cells_of w) op in
-          let u : preps.Work = preps.took_of (record { machine = m; counts = c.counts }) word in
-          let on : LoadsOn u (step_of c word (box w (looked_at c.phase))) = loads_on c m word (box w (looked_at c.phase)) kept.collector.machine kept.collector.between (given_is w op kept named) at in
-          let (a, due, its) = loads_due m op (ap (next_at c) (sym at) ∙ named) in
-          let its_fields : m.fields ≡ fields = came.fields_kept in
-          let below : a.member.field < fields = subst (λ n. a.member.field < n) its_fields (subst (λ (o : Option At). IfSome o (λ (b : At). b.member.field < m.fields)) due (now_at w (Preparing m) kept at).kept.field) in
-          let further : List Load = loads ++ loaded_at m.at word in
-          let whole : further ≡ loads ++ fields_loaded fields (loaded_by w (Some op)) = ap (λ o. loads ++ loaded_at o word) due ∙ ap (λ ls. loads ++ ls) (load_same w op a fields (its ∙ ap (λ n. ops.LoadChild (place_of a.member.slot a.member.field n)) its_fields) below) in
-          let took : Came fields before u further = came_on fields before (record { machine = m; counts = c.counts }) loads word tells.numbers came in
-          subst (Stage fields before (turned_by w op word)) whole (stage_of fields before (turned_by w op word) further u tells on took)
+  loading_on m at came = turn_case w (λ y v. Stage fields before v (loads ++ fields_loaded fields (loaded_by w y))) (λ none. subst (Stage fields before w) (sym (append-nil loads)) (Stage.loading m at came)) (λ op named.
+      let c : collectors.Private = w.collector in
+      let word : ℕ = cell (cells_of w) op in
+      let u : preps.Work = preps.took_of (record { machine = m; counts = c.counts }) word in
+      let on : LoadsOn u (step_of c word (box w (looked_at c.phase))) = loads_on c m word (box w (looked_at c.phase)) kept.collector.machine kept.collector.between (given_is w op kept named) at in
+      let (a, due, its) = loads_due m op (ap (next_at c) (sym at) ∙ named) in
+      let its_fields : m.fields ≡ fields = came.fields_kept in
+      let below : a.member.field < fields = subst (λ n. a.member.field < n) its_fields (subst (λ (o : Option At). IfSome o (λ (b : At). b.member.field < m.fields)) due (now_at w (Preparing m) kept at).kept.field) in
+      let further : List Load = loads ++ loaded_at m.at word in
+      let whole : further ≡ loads ++ fields_loaded fields (loaded_by w (Some op)) = ap (λ o. loads ++ loaded_at o word) due ∙ ap (λ ls. loads ++ ls) (load_same w op a fields (its ∙ ap (λ n. ops.LoadChild (place_of a.member.slot a.member.field n)) its_fields) below) in
+      let took : Came fields before u further = came_on fields before (record { machine = m; counts = c.counts }) loads word tells.numbers came in
+      subst (Stage fields before (turned_by w op word)) whole (stage_of fields before (turned_by w op word) further u tells on took))
 
   turn_stage : Stage fields before w loads → Stage fields before (turned w) more
   turn_stage (Stage.loading m at came) = loading_on m at came

@@ -97,16 +97,21 @@ pub given_is : (w : Core) (op : Op) → IsKept w → ◌≡◌ {A = Option Op} (
 unfolding IsGiven next_of
 given_is w op kept named = given_at w op w.collector.phase kept refl named
 
--- the collector's turn
-pub turned_kept : (w : Core) → IsKept w → IsKept (turned w)
-turned_kept w kept = turn_case w IsKept kept (λ op named.
+-- an operation of the collector is carried out by the rules of its step
+pub rule_of : (w : Core) (op : Op) → IsKept w → ◌≡◌ {A = Option Op} (next_of w.collector) (Some op)
+    → Step w.collector (cell (cells_of w) op) (box w (looked_at w.collector.phase)) (Some op) (step_of w.collector (cell (cells_of w) op) (box w (looked_at w.collector.phase))) (turn_of w.collector (cell (cells_of w) op))
+rule_of w op kept named =
     let word : ℕ = cell (cells_of w) op in
     let b : Contents = box w (looked_at w.collector.phase) in
-    let given : IsGiven w.collector word = given_is w op kept named in
-    let machine : collector_kept.IsMachine (step_of w.collector word b) = machine_kept w.collector word b kept.collector.machine kept.collector.between given (sized_is w kept) in
-    let step : Step w.collector word b (Some op) (step_of w.collector word b) (turn_of w.collector word)
-    = subst (λ (x : Option Op). Step w.collector word b x (step_of w.collector word b) (turn_of w.collector word)) named (step_made w.collector word b kept.collector.machine kept.collector.between given) in
-    rule_kept w op word (step_of w.collector word b) (turn_of w.collector word) (record { kept = kept; found = refl; machine = machine }) step)
+    subst (λ (x : Option Op). Step w.collector word b x (step_of w.collector word b) (turn_of w.collector word)) named (step_made w.collector word b kept.collector.machine kept.collector.between (given_is w op kept named))
+
+-- the collector's turn
+pub turned_kept : (w : Core) → IsKept w → IsKept (turned w)
+turned_kept w kept = turn_case w (λ o v. IsKept v) (λ none. kept) (λ op named.
+    let word : ℕ = cell (cells_of w) op in
+    let b : Contents = box w (looked_at w.collector.phase) in
+    let machine : collector_kept.IsMachine (step_of w.collector word b) = machine_kept w.collector word b kept.collector.machine kept.collector.between (given_is w op kept named) (sized_is w kept) in
+    rule_kept w op word (step_of w.collector word b) (turn_of w.collector word) (record { kept = kept; found = refl; machine = machine }) (rule_of w op kept named))
 
 -- a move
 pub move_kept : (w : Core) (m : Move) → IsKept w → Fits w m → IsKept (after_move w m)
@@ -170,7 +175,7 @@ other_gives x f w m other = cond-false (maker m == x) (f w m) [] (ne_eqb (maker 
 pub move_stays : (w : Core) (m : Move) → (after_move w m).config ≡ w.config
 move_stays w (Move.Begins t work from) = refl
 move_stays w (Move.Steps t) = refl
-move_stays w Move.Turns = turn_case w (λ v. v.config ≡ w.config) refl (λ op named. refl)
+move_stays w Move.Turns = turn_case w (λ o v. v.config ≡ w.config) (λ none. refl) (λ op named. refl)
 move_stays w Move.Offers = refl
 
 -- so do all

@@ -210,13 +210,14 @@ rule_kept w op word q turn m (Step.end_sweep swept closing named e) =
     (subst (λ n. IsKept (record w { freed = n; collector = q })) (sym more) (subst (λ x. IsKept (record w { freed = w.freed + 1; collector = x })) (sym e.after) whole)))
 
 -- what holds of a turn without an operation, and of each with one, holds of the turn that comes next
-pub turn_case : (w : Core) (P : Core → Type 0) → P w → ((op : Op) → ◌≡◌ {A = Option Op} (collector_next.next_of w.collector) (Some op) → P (turned_by w op (cell (cells_of w) op))) → P (turned w)
+pub turn_case : (w : Core) (P : Option Op → Core → Type 0) → (collector_next.next_of w.collector ≡ None → P None w) → ((op : Op) → ◌≡◌ {A = Option Op} (collector_next.next_of w.collector) (Some op) → P (Some op) (turned_by w op (cell (cells_of w) op)))
+    → P (collector_next.next_of w.collector) (turned w)
 turn_case w P none some = go (collector_next.next_of w.collector) refl
   where
-    go : (x : Option Op) → collector_next.next_of w.collector ≡ x → P (turned_at w x)
-    go None named = none
+    go : (x : Option Op) → collector_next.next_of w.collector ≡ x → P x (turned_at w x)
+    go None named = none named
     go (Some op) named = some op named
 
 -- a turn leaves the mutators
 pub turned_mutators : (w : Core) → (turned w).mutators ≡ w.mutators
-turned_mutators w = turn_case w (λ v. v.mutators ≡ w.mutators) refl (λ op named. refl)
+turned_mutators w = turn_case w (λ o v. v.mutators ≡ w.mutators) (λ none. refl) (λ op named. refl)

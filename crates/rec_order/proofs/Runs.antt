@@ -57,7 +57,7 @@ named_next n _ found = omega arith
 
 -- a turn of the collector counts no birth
 pub turned_made : (w : Core) → (turned w).made ≡ w.made
-turned_made w = turn_case w (λ v. v.made ≡ w.made) refl (λ op named. refl)
+turned_made w = turn_case w (λ o v. v.made ≡ w.made) (λ none. refl) (λ op named. refl)
 
 -- a move counts as many births as it names
 move_made : (n : Naming) (w : Core) (m : Move) → (named_after n w m).next + w.made ≡ n.next + (after_move w m).made

@@ -39,9 +39,9 @@ use Rattle.rec_core.proofs.Crossings.{left_same}
 use Rattle.rec_core.proofs.Steps.{actor_of, in_list, fields_many}
 use Rattle.rec_core.proofs.Words.{may_step, names_slots}
 use Rattle.std.proofs.lemmas.List.{set-get_or}
-use Rattle.rec_table.specs.Beats.{beats_of, told, learnt, Offerless}
+use Rattle.rec_table.specs.Beats.{beats_of, told, learnt, OffersNone, Offerless}
 use Rattle.rec_table.specs.Homes.{homes_of}
-use Rattle.rec_table.specs.Operations.{Kind, Performed, Adds, Grows, Operates, moves_of, operation, performed, steps_in}
+use Rattle.rec_table.specs.Operations.{Kind, Performed, Adds, Grows, Operates, moves_of, operation, performed, step_in, steps_in}
 use Rattle.rec_core.specs.Row.{row, index_of}
 use Rattle.rec_table.specs.Rule.{Fits, Holds, ready, MayGo, beats, longer, MadeBy}
 use Rattle.rec_table.specs.declared.start.Start.{Start}
@@ -50,9 +50,8 @@ use Rattle.rec_table.specs.declared.views.Seated.{Seated}
 use Rattle.rec_table.specs.declared.views.View.{View}
 use Rattle.rec_table.specs.declared.views.View.TheVariants.{Collects, Mutates, Spent}
 use Rattle.rec_core.proofs.Row.{row_read, row_write}
-use Rattle.rec_order.proofs.Runs.{after_both, fit_both}
-use Rattle.rec_table.proofs.Beats.{beats_both, world_after, config_after, mutator_after, step_same}
-use Rattle.rec_table.proofs.Operations.{steps_both}
+use Rattle.rec_core.proofs.Runs.{after_both, config_after, every_both, fit_both, over_both}
+use Rattle.rec_table.proofs.Beats.{beats_both, world_after, mutator_after, step_same}
 
 -- the state in which the step is made
 pub before : Core → (t : ℕ) → Option Start → Core
@@ -125,16 +124,9 @@ no_beats : (w : Core) (t x : ℕ) (wk : Option Start) → t ≢ x → beats_of x
 no_beats w t x None ne = ap (λ b. cond b (Saw (found_by w t) ∷ []) [] ++ []) (ne_eqb t x ne)
 no_beats w t x (Some start) ne = ap (λ b. cond b (Begins start ∷ []) [] ++ (cond b (Saw (found_by (begun_from w t start.work start.from) t) ∷ []) [] ++ [])) (ne_eqb t x ne)
 
-pub offerless_both : (ms ns : List Move) → Offerless ms → Offerless ns → Offerless (ms ++ ns)
-offerless_both [] ns a b = b
-offerless_both (Move.Begins t work from ∷ ms) ns a b = offerless_both ms ns a b
-offerless_both (Move.Steps t ∷ ms) ns a b = offerless_both ms ns a b
-offerless_both (Move.Turns ∷ ms) ns a b = offerless_both ms ns a b
-offerless_both (Move.Offers ∷ ms) ns a b = absurd a
-
 moves_offerless : (t : ℕ) (wk : Option Start) → Offerless (moves_of t wk)
-moves_offerless t None = tt
-moves_offerless t (Some start) = tt
+moves_offerless t None = (tt, tt)
+moves_offerless t (Some start) = (tt, (tt, tt))
 
 -- an operation that moves no mailbox
 abbrev pub IsPlainOp : Op → Type 0
@@ -352,7 +344,7 @@ grows_by key s h t wk p op f run' here is_op does more =
       moves = more;
       steps = adds_one key t wk f (get_or s.words (index_of (length key.words) (length key.headers) op) 0) op (steps_in key h.run) (steps_in key run')
           (ap (steps_in key) more
-          ∙ steps_both key h.run (moves_of x wk)
+          ∙ over_both step_in key h.run (moves_of x wk)
           ∙ ap (λ l. steps_in key h.run ++ l) (own_steps now x wk ∙ (λ j. performed x (its j) (sym here.found j) ∷ [])))
           does;
     }
@@ -384,7 +376,7 @@ goes_on key s h id t wk p op z homes' hand fit here does homes_are holds_it =
         owner = h.owner;
         world = h.world;
         fit = fit_both key h.run ms h.fit (all_fit now x wk (world_kept now here.now_world) here.now_here here.goes);
-        offerless = offerless_both h.run ms h.offerless (moves_offerless x wk);
+        offerless = every_both OffersNone h.run ms h.offerless (moves_offerless x wk);
         words = here.words z does ∙ ap (λ (c : Core). row (cells_of c)) (sym ends);
         homes = homes_are ∙ ap (λ (c : Core). homes_of c.crossing c.boxes) (sym ends);
         order = h.order;
