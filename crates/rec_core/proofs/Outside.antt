@@ -95,16 +95,12 @@ turn_has w kept later has same = turn_case w (λ o v. IsKept v → tried_in v �
 
 -- each move
 move_untouched : (w : Core) (m : Move) (number x : ℕ) → IsKept w → Fits w m → HasSets w.collector.phase → tried_in (after_move w m) ≡ tried_in w → IsOrangeIn (after_move w m).collector.counts number x → WasUntouched w.collector.counts (after_move w m).collector.counts number x (named_in w m x)
-move_untouched w (Move.Begins t work from) number x kept fits has same o = untouched_same o
-move_untouched w (Move.Steps t) number x kept fits has same o = untouched_same o
 move_untouched w Move.Turns number x kept fits has same o = turn_untouched w number x kept (move_kept w Move.Turns kept fits) has same o
-move_untouched w Move.Offers number x kept fits has same o = untouched_same o
+move_untouched w _ number x kept fits has same o = untouched_same o
 
 move_has : (w : Core) (m : Move) → IsKept w → Fits w m → HasSets w.collector.phase → tried_in (after_move w m) ≡ tried_in w → HasSets (after_move w m).collector.phase
-move_has w (Move.Begins t work from) kept fits has same = has
-move_has w (Move.Steps t) kept fits has same = has
 move_has w Move.Turns kept fits has same = turn_has w kept (move_kept w Move.Turns kept fits) has same
-move_has w Move.Offers kept fits has same = has
+move_has w _ kept fits has same = has
 
 -- all moves
 pub all_untouched : (w : Core) (ms : List Move) (number x : ℕ) → IsKept w → HasSets w.collector.phase → AllFit w ms → BeginsNoTrial w ms → IsOrangeIn (after_moves w ms).collector.counts number x → WasUntouched w.collector.counts (after_moves w ms).collector.counts number x (named_over w ms x)
@@ -230,10 +226,8 @@ alike_stage {fields} {before} {w} {v} {loads} phase counts (Stage.done has place
     Stage.done (subst HasSets (sym phase) has) places (subst (λ s. (number x : ℕ) → IsOrangeIn s number x → IsOutside before s loads number x) (sym counts) members)
 
 move_stage : (w : Core) (m : Move) (before : State) (loads : List Load) → IsKeptCounts before → IsKept w → Fits w m → tried_in (after_move w m) ≡ tried_in w → Stage w.config.fields before w loads → Stage w.config.fields before (after_move w m) (loads ++ fields_loaded w.config.fields (loaded_in w m))
-move_stage w (Move.Begins t work from) before loads tells kept fits same s = still_stage w.config.fields before (after_move w (Move.Begins t work from)) loads (alike_stage refl refl s)
-move_stage w (Move.Steps t) before loads tells kept fits same s = still_stage w.config.fields before (after_move w (Move.Steps t)) loads (alike_stage refl refl s)
 move_stage w Move.Turns before loads tells kept fits same s = turn_stage w before loads tells kept (move_kept w Move.Turns kept fits) same s
-move_stage w Move.Offers before loads tells kept fits same s = still_stage w.config.fields before (after_move w Move.Offers) loads (alike_stage refl refl s)
+move_stage w m before loads tells kept fits same s = still_stage w.config.fields before (after_move w m) loads (alike_stage refl refl s)
 
 -- all moves
 moves_stage : (w : Core) (ms : List Move) (before : State) (loads : List Load) → IsKeptCounts before → IsKept w → AllFit w ms → BeginsNoTrial w ms → Stage w.config.fields before w loads → Stage w.config.fields before (after_moves w ms) (loads ++ fields_loaded w.config.fields (loaded_over w ms))

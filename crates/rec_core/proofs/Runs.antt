@@ -173,10 +173,8 @@ other_gives x f w m other = cond-false (maker m == x) (f w m) [] (ne_eqb (maker 
 
 -- every move keeps the numbers of the heap
 pub move_stays : (w : Core) (m : Move) → (after_move w m).config ≡ w.config
-move_stays w (Move.Begins t work from) = refl
-move_stays w (Move.Steps t) = refl
 move_stays w Move.Turns = turn_case w (λ o v. v.config ≡ w.config) (λ none. refl) (λ op named. refl)
-move_stays w Move.Offers = refl
+move_stays w _ = refl
 
 -- so do all
 pub config_after : (w : Core) (ms : List Move) → (after_moves w ms).config ≡ w.config

@@ -76,10 +76,9 @@ turn_rises w kept later = turn_case w (λ o v. IsKept v → tried_in w ≤ tried
     (λ op named later. omega (arith, step_rises (rule_of w op kept named), tried_of w kept, tried_of (turned_by w op (cell (cells_of w) op)) later)) later
 
 move_rises : (w : Core) (m : Move) → IsKept w → Fits w m → tried_in w ≤ tried_in (after_move w m)
-move_rises w (Move.Begins t work from) kept fits = omega arith
 move_rises w (Move.Steps t) kept fits = omega (arith, step_tried w t kept fits.0 fits.1)
 move_rises w Move.Turns kept fits = turn_rises w kept (move_kept w Move.Turns kept fits)
-move_rises w Move.Offers kept fits = omega arith
+move_rises w _ kept fits = omega arith
 
 moves_rise : (w : Core) (ms : List Move) → IsKept w → AllFit w ms → tried_in w ≤ tried_in (after_moves w ms)
 moves_rise w [] kept fit = omega arith

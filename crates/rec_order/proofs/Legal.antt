@@ -100,10 +100,8 @@ swept_lines t n _ = refl
 
 -- the lines of a mutator are those of the answers of one move
 lines_in : (t : ℕ) (n : Naming) (w : Core) (m : Move) → filter_map (line_by t) (events_in n w m) ≡ filter_map (line_by t) (told_in w m)
-lines_in t n w (Move.Begins u work from) = refl
-lines_in t n w (Move.Steps u) = refl
 lines_in t n w Move.Turns = swept_lines t n (next_of w.collector)
-lines_in t n w Move.Offers = refl
+lines_in t n w _ = refl
 
 -- and of all moves
 pub lines_of : (t : ℕ) (n : Naming) (w : Core) (ms : List Move) → filter_map (line_by t) (events_of n w ms) ≡ filter_map (line_by t) (told_in_all w ms)
