@@ -109,11 +109,7 @@ unheld_batch fields words left s up down no_up no_down u =
 -- no increment and no decrement makes a slot Green, or takes it from one that is
 in_use_same : (c : Colour) → is_green (in_use c) ≡ is_green c
 in_use_same Green = refl
-in_use_same Black = refl
-in_use_same Gray = refl
-in_use_same White = refl
-in_use_same Purple = refl
-in_use_same Orange = refl
+in_use_same _ = refl
 
 abbrev SameGreens : (s t : State) → Type 0
 SameGreens s t = (x : ℕ) → is_green (slot_at t x).colour ≡ is_green (slot_at s x).colour
