@@ -15,7 +15,10 @@ use Rattle.recycler_c.specs.declared.handle.Handle.{Handle}
 
 pub rests_is : (h : Option End) (w : Core) → rests_in h ≡ Some w → h ≡ Some (ends.Resting w)
 rests_is None w e = cc
-rests_is _ w e = cc
+rests_is (Some ends.Vacant) w e = cc
+rests_is (Some (ends.Resting v)) w e = cc
+rests_is (Some (ends.Collecting c)) w e = cc
+rests_is (Some (ends.Mutating m)) w e = cc
 
 -- an option has a value or none
 none_some : {A : Type 0} (x : A) → None ≡ Some x → ⊥
@@ -65,7 +68,10 @@ rests_where_not_runs (ends.Mutating m) can not = absurd (cc)
 -- a seat that stands for nothing is closed
 pub seat_closed : (h : Option End) → seat_in h ≡ None → h ≡ None
 seat_closed None e = refl
-seat_closed _ e = cc
+seat_closed (Some ends.Vacant) e = cc
+seat_closed (Some (ends.Resting v)) e = cc
+seat_closed (Some (ends.Collecting c)) e = cc
+seat_closed (Some (ends.Mutating m)) e = cc
 
 -- and any other is open
 pub seat_open : (h : Option End) (o : Option Out) → seat_in h ≡ Some o → IsSome h
@@ -90,8 +96,11 @@ pub record HasOut (h : Option End) (o : Out) : Type 0 where
 
 pub seat_out : (h : Option End) (o : Out) → seat_in h ≡ Some (Some o) → HasOut h o
 unfolding heap_in number_in
+seat_out None o e = absurd (cc)
+seat_out (Some ends.Vacant) o e = absurd (cc)
+seat_out (Some (ends.Resting v)) o e = absurd (cc)
+seat_out (Some (ends.Collecting c)) o e = absurd (cc)
 seat_out (Some (ends.Mutating m)) o e = record { mutating = m; is = refl; heap = ap (λ (x : Option (Option Out)). heap_in x o.heap) e; number = ap number_in e }
-seat_out _ o e = absurd (cc)
 
 -- and the seat of such a handle
 pub out_seat : (s : Started) (x : Held) (h : Option End) → IsOut s x h → seat_in h ≡ Some (Some (record { heap = s; number = x.number }))
